@@ -1,0 +1,51 @@
+-- The items of a list of elements.
+use Rattle.std.proofs.Common.{◌≡◌, ℕ, zero, suc, ◌<◌, ◌≤◌, List, [], ◌∷◌, ◌++◌, length, Ok, Err, Result, refl, ap, ◌∙◌, arith}
+use Rattle.std.specs.Prelude.{map}
+use Rattle.std.specs.List.{AllByRecursion}
+use Rattle.ber_core.specs.declared.fault.BerFault.{BerFault}
+use Rattle.ber_core.specs.Element.{Parts, IsElement, joined}
+use Rattle.ber_core.specs.ElementReading.{element_at}
+use Rattle.ber_core.specs.ListReading.{items_by, items_of, items_from}
+use Rattle.ber_core.proofs.ElementGrammar.{element_takes, element_again, IsElement-longer}
+
+shorter : (bytes rest : List ℕ) (e : Parts) → element_at 32 bytes ≡ Ok (e, rest) → length rest < length bytes
+shorter bytes rest e is = let t = element_takes 32 bytes (e, rest) is in IsElement-longer 32 e rest bytes t.0 t.1
+
+abbrev from_is : (others : List ℕ → List (Result Parts BerFault)) (more : List ℕ → List (Result Parts BerFault)) (bytes : List ℕ) → ((rest : List ℕ) → length rest < length bytes → others rest ≡ more rest) → (r : Result (Parts × List ℕ) BerFault) → element_at 32 bytes ≡ r → items_from others r ≡ items_from more r
+from_is others more bytes same (Ok r) e = ap (λ (w : List (Result Parts BerFault)). Ok r.0 ∷ w) (same r.1 (shorter bytes r.1 r.0 e))
+from_is others more bytes same (Err f) e = refl
+
+-- more fuel changes nothing
+pub items_by-enough : (n m : ℕ) (bytes : List ℕ) → length bytes ≤ n → length bytes ≤ m → items_by n bytes ≡ items_by m bytes
+unfolding items_by
+items_by-enough n m [] p q = refl
+items_by-enough zero m (b ∷ bytes) p q = absurd (omega arith)
+items_by-enough (suc n) zero (b ∷ bytes) p q = absurd (omega arith)
+items_by-enough (suc n) (suc m) (b ∷ bytes) p q =
+    from_is (items_by n) (items_by m) (b ∷ bytes) (λ rest lt. items_by-enough n m rest (omega arith) (omega arith)) (element_at 32 (b ∷ bytes)) refl
+
+pub items_of-empty : items_of [] ≡ []
+unfolding items_by
+items_of-empty = refl
+
+pub items_of-next : (bytes rest : List ℕ) (e : Parts) → element_at 32 bytes ≡ Ok (e, rest) → items_of bytes ≡ Ok e ∷ items_of rest
+unfolding items_by
+items_of-next [] rest e is = let lt : length rest < 0 = shorter [] rest e is in absurd (omega arith)
+items_of-next (b ∷ bytes) rest e is =
+    let lt : length rest < length (b ∷ bytes) = shorter (b ∷ bytes) rest e is in
+    rw is (ap (λ (w : List (Result Parts BerFault)). Ok e ∷ w) (items_by-enough (length bytes) (length rest) rest (omega arith) (omega arith)))
+
+pub items_of-fault : (bytes : List ℕ) (f : BerFault) → 0 < length bytes → element_at 32 bytes ≡ Err f → items_of bytes ≡ Err f ∷ []
+unfolding items_by
+items_of-fault [] f lt is = absurd (omega arith)
+items_of-fault (b ∷ bytes) f lt is = rw is refl
+
+pub items_of-none : (bytes : List ℕ) → length bytes ≡ 0 → items_of bytes ≡ []
+unfolding items_by
+items_of-none [] e = refl
+items_of-none (b ∷ bytes) e = absurd (omega arith)
+
+-- a list of elements is read whole
+pub items_of-list : (es : List Parts) → AllByRecursion (IsElement 32) es → items_of (joined es) ≡ map (λ (e : Parts). Ok e) es
+items_of-list [] h = items_of-empty
+items_of-list (e ∷ es) h = items_of-next (e.whole ++ joined es) (joined es) e (element_again 32 e (joined es) h.0) ∙ ap (λ (w : List (Result Parts BerFault)). Ok e ∷ w) (items_of-list es h.1)

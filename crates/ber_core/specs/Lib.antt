@@ -1,0 +1,16 @@
+pub mod Element
+pub mod ElementList
+pub mod ElementReading
+pub mod Fault
+pub mod Head
+pub mod HeadReading
+pub mod Length
+pub mod ListReading
+pub mod ObjectIdentifier
+pub mod Options
+pub mod Results
+pub mod Sequence
+pub mod SequenceReading
+pub mod Tag
+pub mod Views
+pub mod Written

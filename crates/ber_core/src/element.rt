@@ -1,0 +1,57 @@
+ghost use Rattle.std.specs.Prelude.{◌≡◌, ℕ, ◌++◌, List, IsOkAnd, IfOk, IfErr, Ok};
+ghost use Rattle.ber_core.specs.Results.{Gives};
+ghost use Rattle.ber_core.specs.Tag.{is_constructor};
+ghost use Rattle.ber_core.specs.Element.{IsElement, Parts, depth_limit};
+ghost use Rattle.ber_core.specs.Fault.{ElementFault};
+ghost use Rattle.ber_core.specs.ElementReading.{element_at};
+ghost use Rattle.ber_core.specs.Views.{parts};
+
+use crate::fault::BerFault;
+use crate::head::read_head;
+use crate::scan::{MAX_DEPTH, split_body};
+
+/// An element and its parts (X.690, Structure of an encoding).
+#[derive(Clone, Copy, Debug, PartialEq, Eq)]
+pub struct Element<'a> {
+    /// The tag's octets, 1 to 5.
+    pub tag: &'a [u8],
+    /// Whether the encoding is constructed: bit 6 of the tag's first octet.
+    pub constructed: bool,
+    /// The contents octets, without the end `00 00` of the indefinite form.
+    pub content: &'a [u8],
+    /// All octets of the element, with the end of the indefinite form.
+    pub whole: &'a [u8],
+}
+
+/// The first element and what follows it, in exact form.
+fn split_element<'a>(bytes: &'a [u8]) -> Result<(Element<'a>, &'a [u8]), BerFault>
+    ensures value { Gives (λ r. (parts r.0, r.1.now)) result (element_at depth_limit bytes.now) }
+    ensures constructed { IfOk result (λ r. r.0.constructed ≡ is_constructor r.0.tag.now) }
+{
+    let head = read_head(bytes)?;
+    let (content, rest) = split_body(head.length, head.rest, MAX_DEPTH)?;
+    let (whole, _) = bytes.split_at(bytes.len() - rest.len());
+    let element = Element {
+        tag: head.tag,
+        constructed: head.constructed,
+        content,
+        whole,
+    };
+    Ok((element, rest))
+}
+
+/// Reads the first element, and gives what follows it.
+pub fn read_element<'a>(bytes: &'a [u8]) -> Result<(Element<'a>, &'a [u8]), BerFault>
+    // What is read is an element, and what follows it.
+    ensures found { IfOk result (λ r. IsElement depth_limit (parts r.0) × (bytes.now ≡ r.0.whole.now ++ r.1.now)) }
+    ensures constructed { IfOk result (λ r. r.0.constructed ≡ is_constructor r.0.tag.now) }
+    // Each element is read.
+    ensures only { (e : Parts) (rest : List ℕ) → IsElement depth_limit e → bytes.now ≡ e.whole ++ rest →
+        IsOkAnd result (λ r. (parts r.0 ≡ e) × (r.1.now ≡ rest)) }
+    // Which fault, the first from the left.
+    ensures fault { IfErr result (λ f. ElementFault depth_limit bytes.now f) }
+    // The same, computed: what the layers above cite.
+    ensures exact { Gives (λ r. (parts r.0, r.1.now)) result (element_at depth_limit bytes.now) }
+{
+    split_element(bytes)
+}

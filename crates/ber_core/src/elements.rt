@@ -1,0 +1,65 @@
+ghost use Rattle.std.specs.Prelude.{◌≡◌, ◌↔◌, IsTrue, is_ok, map, Ok};
+ghost use Rattle.std.specs.List.{AllPass, list_all};
+ghost use Rattle.ber_core.specs.ListReading.{items_of};
+
+use crate::element::{Element, read_element};
+use crate::fault::BerFault;
+
+/// The elements of a list, one after the other; after a fault it ends (X.690, Contents octets).
+#[derive(Clone, Copy, Debug)]
+pub struct Elements<'a> {
+    rest: &'a [u8],
+}
+
+impl<'a> Elements<'a> {
+    ghost use Rattle.ber_core.specs.ListReading.{items_of};
+    ghost use Rattle.ber_core.specs.Views.{items_left};
+
+    /// The elements that the bytes are.
+    pub fn new(bytes: &'a [u8]) -> Elements<'a>
+        ensures { items_left result ≡ items_of bytes.now }
+    {
+        Elements { rest: bytes }
+    }
+}
+
+impl<'a> Iterator for Elements<'a> {
+    ghost use Rattle.std.specs.Iterator.{YieldsFirstBy, item_count};
+    ghost use Rattle.ber_core.specs.Views.{item_view, items_left};
+
+    type Item = Result<Element<'a>, BerFault>;
+
+    ghost next_gives = { YieldsFirstBy item_view items_left };
+
+    ghost remaining = { item_count items_left };
+
+    fn next(&mut self) -> Option<Result<Element<'a>, BerFault>> {
+        if self.rest.is_empty() {
+            return None;
+        }
+        match read_element(self.rest) {
+            Ok((element, rest)) => {
+                self.rest = rest;
+                Some(Ok(element))
+            }
+            Err(fault) => {
+                self.rest = &[];
+                Some(Err(fault))
+            }
+        }
+    }
+}
+
+/// Whether all items are elements.
+fn are_elements(bytes: &[u8]) -> bool
+    ensures { IsTrue result ↔ AllPass is_ok (items_of bytes.now) }
+{
+    Elements::new(bytes).all(|item| item.is_ok())
+}
+
+/// Whether the bytes are a list of elements.
+pub fn is_element_list(bytes: &[u8]) -> bool
+    ensures { result ≡ list_all is_ok (items_of bytes.now) }
+{
+    are_elements(bytes)
+}

@@ -1,0 +1,28 @@
+//! BER elements (X.690): reading and writing heads, elements, lists of elements and listed sequences.
+//!
+//! Stands on no other crate of this repository. Begin at `read_element`; what an element is stands in
+//! specs/Element.antt, which faults there are in specs/Fault.antt. Readers take no memory and copy
+//! nothing; writers append the shortest definite form or nothing.
+#![tactic(auto)]
+
+mod element;
+mod elements;
+mod fault;
+mod head;
+pub mod laws;
+mod object_identifier;
+mod scan;
+mod sequence;
+mod write;
+
+pub use element::{Element, read_element};
+pub use elements::{Elements, is_element_list};
+pub use fault::{BerFault, OutOfMemory};
+pub use head::{Head, MAX_LENGTH, read_head};
+pub use object_identifier::is_oid;
+pub use scan::MAX_DEPTH;
+pub use sequence::{read_alone, take_any, take_content, take_only, take_tagged};
+pub use write::{write_element, write_head};
+
+#[cfg(test)]
+mod tests;

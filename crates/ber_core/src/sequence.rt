@@ -1,0 +1,64 @@
+ghost use Rattle.std.specs.Prelude.{◌≡◌, option_copied, option_map};
+ghost use Rattle.ber_core.specs.SequenceReading.{tagged, content_at, first_whole, only_at, alone_at};
+ghost use Rattle.ber_core.specs.Views.{parts};
+
+use crate::element::{Element, read_element};
+
+/// The content of the first element, if it has this tag of one octet, and what follows it; else
+/// nothing and all bytes.
+#[tactic(auto, unfolding(crate::specs::SequenceReading::tagged))]
+pub fn take_tagged<'a>(bytes: &'a [u8], tag: u8) -> (Option<&'a [u8]>, &'a [u8])
+    ensures { (option_copied result.0, result.1.now) ≡ tagged tag bytes.now }
+{
+    match read_element(bytes) {
+        Ok((element, rest)) => match element.tag {
+            [only] if *only == tag => (Some(element.content), rest),
+            _ => (None, bytes),
+        },
+        Err(_) => (None, bytes),
+    }
+}
+
+/// The content of the first element, which has to have this tag, and what follows it.
+pub fn take_content<'a>(bytes: &'a [u8], tag: u8) -> Option<(&'a [u8], &'a [u8])>
+    ensures { option_map (λ r. (r.0.now, r.1.now)) result ≡ content_at tag bytes.now }
+{
+    match take_tagged(bytes, tag) {
+        (Some(content), rest) => Some((content, rest)),
+        (None, _) => None,
+    }
+}
+
+/// The octets of the first element, whatever its tag, and what follows it; else nothing and all bytes.
+#[tactic(auto, unfolding(crate::specs::SequenceReading::first_whole))]
+pub fn take_any<'a>(bytes: &'a [u8]) -> (Option<&'a [u8]>, &'a [u8])
+    ensures { (option_copied result.0, result.1.now) ≡ first_whole bytes.now }
+{
+    match read_element(bytes) {
+        Ok((element, rest)) => (Some(element.whole), rest),
+        Err(_) => (None, bytes),
+    }
+}
+
+/// The content of the one element that the bytes are, which has to have this tag.
+#[tactic(auto, unfolding(crate::specs::SequenceReading::only_at))]
+pub fn take_only<'a>(bytes: &'a [u8], tag: u8) -> Option<&'a [u8]>
+    ensures { option_copied result ≡ only_at tag bytes.now }
+{
+    let (content, rest) = take_content(bytes, tag)?;
+    if !rest.is_empty() {
+        return None;
+    }
+    Some(content)
+}
+
+/// The element, if the bytes are one element and nothing after it.
+#[tactic(auto, unfolding(crate::specs::SequenceReading::alone_at))]
+pub fn read_alone<'a>(bytes: &'a [u8]) -> Option<Element<'a>>
+    ensures { option_map parts result ≡ alone_at bytes.now }
+{
+    match read_element(bytes) {
+        Ok((element, [])) => Some(element),
+        _ => None,
+    }
+}

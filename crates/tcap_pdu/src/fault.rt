@@ -1,0 +1,39 @@
+use ber_core::OutOfMemory;
+
+/// Why bytes are no message, by the P-Abort cause that answers it (Q.773, P-Abort cause).
+#[derive(Clone, Copy, Debug, PartialEq, Eq)]
+pub enum FrameFault {
+    /// One element, but its tag is no message type's: cause 0.
+    Unknown = 1,
+    /// Not one element and nothing after it, or its contents are no list of elements: cause 2.
+    BadlyFormatted = 2,
+    /// The contents are not the listed sequence of the message type: cause 3.
+    Incorrect = 3,
+}
+
+/// Why the contents of a dialogue portion are not read (our own).
+#[derive(Clone, Copy, Debug, PartialEq, Eq)]
+pub enum DialogueFault {
+    /// No dialogue PDU is spelled by the bytes.
+    Faulty = 1,
+}
+
+/// Why a message or a dialogue portion is not written (our own). Of several the first in the order
+/// BadOid, BadInfo, TooLong, OutOfMemory is answered.
+#[derive(Clone, Copy, Debug, PartialEq, Eq)]
+pub enum PduFault {
+    /// Memory was refused.
+    OutOfMemory = 1,
+    /// More than 65,535 bytes.
+    TooLong = 2,
+    /// The application context name is no object identifier.
+    BadOid = 3,
+    /// The user information is no list of EXTERNALs, or a foreign portion is not one.
+    BadInfo = 4,
+}
+
+impl From<OutOfMemory> for PduFault {
+    fn from(_error: OutOfMemory) -> PduFault {
+        PduFault::OutOfMemory
+    }
+}

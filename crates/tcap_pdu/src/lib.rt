@@ -1,0 +1,9 @@
+//! Messages of the transaction sublayer and the dialogue portion (Q.773): read and written.
+//!
+//! Stands on `ber_core` for elements and on `arrayvec` for transaction identifiers. Begin at
+//! `read_frame`.
+#![tactic(auto)]
+
+mod fault;
+
+pub use fault::{DialogueFault, FrameFault, PduFault};
