@@ -1,8 +1,154 @@
-use crate::{BerFault, read_element};
+use crate::{
+    BerFault, Elements, MAX_DEPTH, OutOfMemory, is_element_list, is_oid, read_alone, read_element,
+    read_head, take_any, take_content, take_only, take_tagged, write_element, write_head,
+};
+use std::alloc::Global;
 use std::test::Fail;
 
+/// The fault of the first element, `None` where one is read.
+fn fault_of(bytes: &[u8]) -> Option<BerFault> {
+    read_element(bytes).err()
+}
+
+/// The lengths of the first element's content and of what follows it.
+fn lengths_of(bytes: &[u8]) -> Option<(usize, usize)> {
+    let (element, rest) = read_element(bytes).ok()?;
+    Some((element.content.len(), rest.len()))
+}
+
 #[test]
-fn one(rt: HostRuntime) -> Result<(), Fail> {
-    assert!(rt; read_element(&[0x04, 0x80]).is_err());
+fn elements_and_faults(rt: HostRuntime) -> Result<(), Fail> {
+    // octets that end too early
+    assert_eq!(rt; fault_of(&[]), Some(BerFault::Short));
+    assert_eq!(rt; fault_of(&[0x30, 0x80, 0x00]), Some(BerFault::Short));
+    assert_eq!(rt; fault_of(&[0x04, 0x84, 0x00, 0x01]), Some(BerFault::Short));
+    assert_eq!(rt;
+        fault_of(&[0x04, 0x84, 0x01, 0x00, 0x00]),
+        Some(BerFault::Short)
+    );
+    assert_eq!(rt; fault_of(&[0x04, 0x83, 0x01]), Some(BerFault::Short));
+    // tags
+    assert_eq!(rt; fault_of(&[0x00, 0x00]), Some(BerFault::BadTag));
+    assert_eq!(rt; fault_of(&[0x1f, 0x80, 0x01, 0x00]), Some(BerFault::BadTag));
+    assert_eq!(rt; fault_of(&[0x30, 0x80, 0x00, 0x01]), Some(BerFault::BadTag));
+    assert_eq!(rt;
+        fault_of(&[0x1f, 0x81, 0x81, 0x81, 0x81]),
+        Some(BerFault::BadTag)
+    );
+    assert_eq!(rt;
+        lengths_of(&[0x1f, 0x81, 0x81, 0x81, 0x01, 0x00]),
+        Some((0, 0))
+    );
+    // lengths
+    assert_eq!(rt; fault_of(&[0x04, 0xff]), Some(BerFault::BadLength));
+    assert_eq!(rt;
+        fault_of(&[0x04, 0x84, 0x00, 0x01, 0x00, 0x00]),
+        Some(BerFault::BadLength)
+    );
+    assert_eq!(rt;
+        fault_of(&[0x04, 0x84, 0x01, 0x00, 0x00, 0x00]),
+        Some(BerFault::BadLength)
+    );
+    assert_eq!(rt;
+        fault_of(&[0x04, 0x80]),
+        Some(BerFault::IndefinitePrimitive)
+    );
+    assert_eq!(rt;
+        lengths_of(&[0x04, 0x83, 0x00, 0x00, 0x01, 0xaa, 0x05]),
+        Some((1, 1))
+    );
+    assert_eq!(rt;
+        lengths_of(&[0x30, 0x80, 0x04, 0x00, 0x00, 0x00, 0x05]),
+        Some((2, 1))
+    );
+    Ok(())
+}
+
+/// Openings of indefinite elements, one in another, around an element of 60,000 content octets.
+fn nested(alloc: Global, depth: u8) -> Result<Vec<u8>, OutOfMemory> {
+    let mut bytes = Vec::new(alloc);
+    for _ in 0..depth {
+        bytes.extend_from_slice(&[0x30, 0x80])?;
+    }
+    let content = vec![in alloc; 0u8; 60_000]?;
+    write_element(&mut bytes, &[0x04], content.as_slice())?;
+    for _ in 0..depth {
+        bytes.extend_from_slice(&[0x00, 0x00])?;
+    }
+    Ok(bytes)
+}
+
+#[test]
+fn elements_one_in_another(rt: HostRuntime) -> Result<(), Fail> {
+    let deepest = nested(rt.alloc(), MAX_DEPTH)?;
+    assert_eq!(rt; lengths_of(deepest.as_slice()), Some((60_128, 0)));
+    let too_deep = nested(rt.alloc(), 33)?;
+    assert_eq!(rt; fault_of(too_deep.as_slice()), Some(BerFault::TooDeep));
+    Ok(())
+}
+
+#[test]
+fn heads(rt: HostRuntime) -> Result<(), Fail> {
+    let head = read_head(&[0x62, 0x82, 0x00, 0x15, 0x48])?;
+    assert_eq!(rt; head.length, Some(0x15));
+    assert!(rt; head.constructed);
+    assert_eq!(rt; head.rest.len(), 1);
+    let head = read_head(&[0x30, 0x80])?;
+    assert_eq!(rt; head.length, None);
+    assert_eq!(rt;
+        read_head(&[0x04, 0x80]).err(),
+        Some(BerFault::IndefinitePrimitive)
+    );
+    Ok(())
+}
+
+#[test]
+fn lists(rt: HostRuntime) -> Result<(), Fail> {
+    let mut items = Elements::new(&[0x04, 0x01, 0xaa, 0x05, 0x00, 0xff]);
+    assert!(rt; matches!(items.next(), Some(Ok(_))));
+    assert!(rt; matches!(items.next(), Some(Ok(_))));
+    assert!(rt; matches!(items.next(), Some(Err(BerFault::Short))));
+    assert!(rt; items.next().is_none());
+    assert!(rt; is_element_list(&[]));
+    assert!(rt; is_element_list(&[0x04, 0x01, 0xaa, 0x05, 0x00]));
+    assert!(rt; !is_element_list(&[0x04, 0x01, 0xaa, 0x05]));
+    Ok(())
+}
+
+#[test]
+fn parts_of_a_sequence(rt: HostRuntime) -> Result<(), Fail> {
+    let bytes = [0x48, 0x01, 0x07, 0x49, 0x00];
+    assert!(rt; take_tagged(&bytes, 0x49).0.is_none());
+    assert!(rt; take_content(&bytes, 0x48).is_some());
+    assert!(rt; take_content(&bytes, 0x49).is_none());
+    assert_eq!(rt; take_any(&bytes).1.len(), 2);
+    assert!(rt; take_only(&bytes, 0x48).is_none());
+    assert!(rt; take_only(&[0x48, 0x01, 0x07], 0x48).is_some());
+    assert!(rt; read_alone(&bytes).is_none());
+    assert!(rt; read_alone(&[0x48, 0x01, 0x07]).is_some());
+    Ok(())
+}
+
+#[test]
+fn object_identifiers(rt: HostRuntime) -> Result<(), Fail> {
+    assert!(rt; is_oid(&[0x04, 0x00, 0x00, 0x01, 0x00, 0x01, 0x03]));
+    assert!(rt; is_oid(&[0x2a, 0x86, 0x48]));
+    assert!(rt; !is_oid(&[]));
+    assert!(rt; !is_oid(&[0x80]));
+    assert!(rt; !is_oid(&[0x2a, 0x80, 0x01]));
+    assert!(rt; !is_oid(&[0x2a, 0x86]));
+    assert!(rt; is_oid(&[0x01; 255]));
+    assert!(rt; !is_oid(&[0x01; 256]));
+    Ok(())
+}
+
+#[test]
+fn heads_and_elements_written(rt: HostRuntime) -> Result<(), Fail> {
+    let mut bytes = Vec::new(rt.alloc());
+    write_head(&mut bytes, &[0x6c], 200)?;
+    write_element(&mut bytes, &[0x04], &[0xaa])?;
+    write_head(&mut bytes, &[0x62], 65_531)?;
+    let wanted = [0x6c, 0x81, 0xc8, 0x04, 0x01, 0xaa, 0x62, 0x82, 0xff, 0xfb];
+    assert_eq!(rt; bytes.as_slice(), wanted.as_slice());
     Ok(())
 }
