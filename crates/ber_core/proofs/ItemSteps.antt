@@ -1,11 +1,15 @@
 -- The items of a list of elements.
-use Rattle.std.proofs.Common.{◌≡◌, ℕ, zero, suc, ◌<◌, ◌≤◌, List, [], ◌∷◌, ◌++◌, length, Ok, Err, Result, refl, ap, ◌∙◌, arith}
-use Rattle.std.specs.Prelude.{map}
+use Rattle.std.proofs.Common.{◌≡◌, ℕ, zero, suc, ◌<◌, ◌≤◌, List, [], ◌∷◌, ◌++◌, length, Ok, Err, Result, refl, sym, ap, ◌∙◌, arith, eqb, inl, inr}
+use Rattle.std.specs.Prelude.{map, option_map, MatchOption, Option, Some, None}
+use Rattle.std.specs.Iterator.{YieldsFirstBy, MakesProgress, item_count}
+use Rattle.std.proofs.lemmas.Bool.{eqb-true, eqb-false}
+use Rattle.ber_core.proofs.Steps.{chosen}
+use Rattle.ber_core.proofs.OptionSteps.{some_is}
 use Rattle.std.specs.List.{AllByRecursion}
 use Rattle.ber_core.specs.declared.fault.BerFault.{BerFault}
 use Rattle.ber_core.specs.Element.{Parts, IsElement, joined}
 use Rattle.ber_core.specs.ElementReading.{element_at}
-use Rattle.ber_core.specs.ListReading.{items_by, items_of, items_from}
+use Rattle.ber_core.specs.ListReading.{items_by, items_of, items_from, item_of, no_item, item_at}
 use Rattle.ber_core.proofs.ElementGrammar.{element_takes, element_again, IsElement-longer}
 
 shorter : (bytes rest : List ℕ) (e : Parts) → element_at 32 bytes ≡ Ok (e, rest) → length rest < length bytes
@@ -44,6 +48,40 @@ pub items_of-none : (bytes : List ℕ) → length bytes ≡ 0 → items_of bytes
 unfolding items_by
 items_of-none [] e = refl
 items_of-none (b ∷ bytes) e = absurd (omega arith)
+
+module _ {X : Type 0} (view : X → Result Parts BerFault) where
+  abbrev pub ItemSteps : List ℕ → Option X → List ℕ → Type 0
+  ItemSteps bytes o rest = MatchOption o ((items_of bytes ≡ []) × (items_of rest ≡ [])) (λ x. items_of bytes ≡ view x ∷ items_of rest)
+
+  abbrev seen : Option X → List ℕ → Option (Result Parts BerFault) × List ℕ
+  seen o rest = (option_map view o, rest)
+
+  empty_steps : (bytes : List ℕ) (o : Option X) (rest : List ℕ) → length bytes ≡ 0 → seen o rest ≡ no_item → ItemSteps bytes o rest
+  empty_steps bytes None rest e is = (items_of-none bytes e, ap items_of (ap (λ p. p.1) is) ∙ items_of-empty)
+  empty_steps bytes (Some x) rest e is = let first = ap (λ p. p.0) is in absurd cc
+
+  filled_steps : (bytes : List ℕ) (o : Option X) (rest : List ℕ) (r : Result (Parts × List ℕ) BerFault) → 0 < length bytes → element_at 32 bytes ≡ r → seen o rest ≡ item_of r → ItemSteps bytes o rest
+  filled_steps bytes None rest (Ok p) lt e is = let first = ap (λ p. p.0) is in absurd cc
+  filled_steps bytes None rest (Err f) lt e is = let first = ap (λ p. p.0) is in absurd cc
+  filled_steps bytes (Some x) rest (Ok p) lt e is =
+      let same : view x ≡ Ok p.0 = some_is (view x) (Ok p.0) (ap (λ q. q.0) is) in
+      rw (items_of-next bytes p.1 p.0 e, same, ap (λ q. q.1) is) refl
+  filled_steps bytes (Some x) rest (Err f) lt e is =
+      let same : view x ≡ Err f = some_is (view x) (Err f) (ap (λ q. q.0) is) in
+      rw (items_of-fault bytes f lt e, same, ap (λ q. q.1) is) (rw items_of-empty refl)
+
+  -- the first item, and the items behind it
+  pub item_steps : (bytes : List ℕ) (o : Option X) (rest : List ℕ) → seen o rest ≡ item_at bytes → ItemSteps bytes o rest
+  unfolding item_at
+  item_steps bytes o rest is = elim (chosen (eqb (length bytes) 0) no_item (item_of (element_at 32 bytes)) (seen o rest) (sym is)) [
+    | inl e ↦ empty_steps bytes o rest (eqb-true (length bytes) 0 e.0) (sym e.1)
+    | inr e ↦ let filled = eqb-false (length bytes) 0 e.0 in filled_steps bytes o rest (element_at 32 bytes) (omega (arith, filled)) refl (sym e.1)
+  ]
+
+-- each item leaves fewer
+pub item_progress : {S X : Type 0} (view : X → Result Parts BerFault) (left : S → List (Result Parts BerFault)) (s t : S) (o : Option X) → YieldsFirstBy view left s o t → MakesProgress (λ _. Unit {0}) (item_count left) s o t
+item_progress view left s t None h = record { on = λ _. tt; keeps = tt; rests = λ _. tt }
+item_progress view left s t (Some x) h = record { on = λ _. (tt, tt, omega (arith, ap length h)); keeps = tt; rests = λ _. tt }
 
 -- a list of elements is read whole
 pub items_of-list : (es : List Parts) → AllByRecursion (IsElement 32) es → items_of (joined es) ≡ map (λ (e : Parts). Ok e) es

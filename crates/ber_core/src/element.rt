@@ -23,13 +23,14 @@ pub struct Element<'a> {
     pub whole: &'a [u8],
 }
 
-/// The first element and what follows it, in exact form.
-fn split_element<'a>(bytes: &'a [u8]) -> Result<(Element<'a>, &'a [u8]), BerFault>
-    ensures value { Gives (λ r. (parts r.0, r.1.now)) result (element_at depth_limit bytes.now) }
+/// The first element, in which `depth` indefinite elements may stand one in another, and what follows
+/// it.
+fn split_within<'a>(bytes: &'a [u8], depth: u8) -> Result<(Element<'a>, &'a [u8]), BerFault>
+    ensures value { Gives (λ r. (parts r.0, r.1.now)) result (element_at depth bytes.now) }
     ensures constructed { IfOk result (λ r. r.0.constructed ≡ is_constructor r.0.tag.now) }
 {
     let head = read_head(bytes)?;
-    let (content, rest) = split_body(head.length, head.rest, MAX_DEPTH)?;
+    let (content, rest) = split_body(head.length, head.rest, depth)?;
     let (whole, _) = bytes.split_at(bytes.len() - rest.len());
     let element = Element {
         tag: head.tag,
@@ -38,6 +39,14 @@ fn split_element<'a>(bytes: &'a [u8]) -> Result<(Element<'a>, &'a [u8]), BerFaul
         whole,
     };
     Ok((element, rest))
+}
+
+/// The first element and what follows it, in exact form.
+fn split_element<'a>(bytes: &'a [u8]) -> Result<(Element<'a>, &'a [u8]), BerFault>
+    ensures value { Gives (λ r. (parts r.0, r.1.now)) result (element_at depth_limit bytes.now) }
+    ensures constructed { IfOk result (λ r. r.0.constructed ≡ is_constructor r.0.tag.now) }
+{
+    split_within(bytes, MAX_DEPTH)
 }
 
 /// Reads the first element, and gives what follows it.

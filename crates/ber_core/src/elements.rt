@@ -1,6 +1,7 @@
-ghost use Rattle.std.specs.Prelude.{◌≡◌, ◌↔◌, IsTrue, is_ok, map, Ok};
+ghost use Rattle.std.specs.Prelude.{◌≡◌, ◌↔◌, IsTrue, is_ok, map, option_map, Ok};
 ghost use Rattle.std.specs.List.{AllPass, list_all};
-ghost use Rattle.ber_core.specs.ListReading.{items_of};
+ghost use Rattle.ber_core.specs.ListReading.{items_of, item_at};
+ghost use Rattle.ber_core.specs.Views.{item_view};
 
 use crate::element::{Element, read_element};
 use crate::fault::BerFault;
@@ -34,19 +35,23 @@ impl<'a> Iterator for Elements<'a> {
     ghost remaining = { item_count items_left };
 
     fn next(&mut self) -> Option<Result<Element<'a>, BerFault>> {
-        if self.rest.is_empty() {
-            return None;
-        }
-        match read_element(self.rest) {
-            Ok((element, rest)) => {
-                self.rest = rest;
-                Some(Ok(element))
-            }
-            Err(fault) => {
-                self.rest = &[];
-                Some(Err(fault))
-            }
-        }
+        let (item, rest) = split_item(self.rest);
+        self.rest = rest;
+        item
+    }
+}
+
+/// The first item, and what is left behind it: after a fault, nothing.
+#[tactic(auto, unfolding(crate::specs::ListReading::item_at))]
+fn split_item<'a>(bytes: &'a [u8]) -> (Option<Result<Element<'a>, BerFault>>, &'a [u8])
+    ensures { (option_map item_view result.0, result.1.now) ≡ item_at bytes.now }
+{
+    if bytes.is_empty() {
+        return (None, &[]);
+    }
+    match read_element(bytes) {
+        Ok((element, rest)) => (Some(Ok(element)), rest),
+        Err(fault) => (Some(Err(fault)), &[]),
     }
 }
 

@@ -1,27 +1,9 @@
-use Rattle.std.proofs.Common.{◌≢◌, arith, length, ap, sym, ◌∙◌}
-use Rattle.std.proofs.lemmas.Bool.{eqb-true, eqb-false}
-use Rattle.ber_core.proofs.ItemSteps.{items_of-none, items_of-next, items_of-fault, items_of-empty}
+use Rattle.ber_core.specs.Views.{item_view, items_left}
+use Rattle.ber_core.proofs.ItemSteps.{item_steps, item_progress}
 use Rattle.ber_core.proofs.elements.ElementsIterator.next.Goals as goal
 
-pub returns-then-is_empty-clause-steps : goal.returns-then-is_empty-clause-steps
-returns-then-is_empty-clause-steps c =
-    let none = items_of-none c.args.self.now.rest.now (eqb-true _ 0 (sym c.is_empty.ensures ∙ c.if-is_empty.true)) in (none, none)
+pub returns-clause-steps : goal.returns-clause-steps
+returns-clause-steps c = item_steps item_view c.args.self.now.rest.now _ _ c.split_item.ensures
 
-pub returns-in-Ok-clause-steps : goal.returns-in-Ok-clause-steps
-returns-in-Ok-clause-steps c = items_of-next c.args.self.now.rest.now c.in-Ok.rest.now _ c.in-Ok.ensures.exact
-
-pub returns-in-Ok-clause-goes : goal.returns-in-Ok-clause-goes
-returns-in-Ok-clause-goes c =
-    let e = items_of-next c.args.self.now.rest.now c.in-Ok.rest.now _ c.in-Ok.ensures.exact in
-    record { on = λ _. (tt, tt, omega (arith, ap length e)); keeps = tt; rests = λ _. tt }
-
-pub returns-in-Err-clause-steps : goal.returns-in-Err-clause-steps
-returns-in-Err-clause-steps c =
-    let filled : length c.args.self.now.rest.now ≢ 0 = eqb-false _ 0 (sym c.is_empty.ensures ∙ c.if-is_empty.false) in
-    rw items_of-empty (items_of-fault c.args.self.now.rest.now c.in-Err.fault (omega (arith, filled)) c.in-Err.ensures.exact)
-
-pub returns-in-Err-clause-goes : goal.returns-in-Err-clause-goes
-returns-in-Err-clause-goes c =
-    let filled : length c.args.self.now.rest.now ≢ 0 = eqb-false _ 0 (sym c.is_empty.ensures ∙ c.if-is_empty.false) in
-    let e = items_of-fault c.args.self.now.rest.now c.in-Err.fault (omega (arith, filled)) c.in-Err.ensures.exact in
-    record { on = λ _. (tt, tt, omega (arith, ap length e, ap length items_of-empty)); keeps = tt; rests = λ _. tt }
+pub returns-clause-goes : goal.returns-clause-goes
+returns-clause-goes c = item_progress item_view items_left _ _ _ (item_steps item_view c.args.self.now.rest.now _ _ c.split_item.ensures)
