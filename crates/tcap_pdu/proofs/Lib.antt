@@ -1,0 +1,4 @@
+pub mod CallerLemmas
+pub mod FrameGrammar
+pub mod FrontGrammar
+pub mod MessageGrammar

@@ -1,3 +1,8 @@
+ghost use Rattle.std.specs.Prelude.{◌≡◌};
+
+use crate::tag::{
+    BADLY_FORMATTED_TRANSACTION_PORTION, INCORRECT_TRANSACTION_PORTION, UNRECOGNIZED_MESSAGE_TYPE,
+};
 use ber_core::OutOfMemory;
 
 /// Why bytes are no message, by the P-Abort cause that answers it (Q.773, P-Abort cause).
@@ -9,6 +14,21 @@ pub enum FrameFault {
     BadlyFormatted = 2,
     /// The contents are not the listed sequence of the message type: cause 3.
     Incorrect = 3,
+}
+
+impl FrameFault {
+    ghost use Rattle.tcap_pdu.specs.FrameFaults.{cause_of};
+
+    /// The P-Abort cause that answers the fault: 0, 2 or 3 (Q.773, P-Abort cause).
+    pub fn cause(self) -> u8
+        ensures { result ≡ cause_of self }
+    {
+        match self {
+            FrameFault::Unknown => UNRECOGNIZED_MESSAGE_TYPE,
+            FrameFault::BadlyFormatted => BADLY_FORMATTED_TRANSACTION_PORTION,
+            FrameFault::Incorrect => INCORRECT_TRANSACTION_PORTION,
+        }
+    }
 }
 
 /// Why the contents of a dialogue portion are not read (our own).

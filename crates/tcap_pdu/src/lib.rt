@@ -5,5 +5,10 @@
 #![tactic(auto)]
 
 mod fault;
+mod frame;
+pub mod tag;
+mod trans_id;
 
 pub use fault::{DialogueFault, FrameFault, PduFault};
+pub use frame::{AbortPart, Frame, front_ids, read_frame};
+pub use trans_id::TransId;

@@ -1,0 +1,208 @@
+ghost use Rattle.std.specs.Prelude.{◌≡◌, IfOk, IfErr, IsOkAnd, option_map};
+ghost use Rattle.ber_core.specs.Results.{Gives};
+ghost use Rattle.tcap_pdu.specs.FrameSpelling.{Message, SpellsFrame};
+ghost use Rattle.tcap_pdu.specs.FrameFaults.{IsFrameFault};
+ghost use Rattle.tcap_pdu.specs.FrameReading.{frame_at, begin_at, end_at, go_on_at, abort_at, unidirectional_at, cause_at, reason_at, type_at, message_at, id_at, portions_at, pair};
+ghost use Rattle.tcap_pdu.specs.FrameViews.{message, reason};
+ghost use Rattle.std.specs.Option.{option_copied};
+
+use super::{AbortPart, Frame};
+use crate::fault::FrameFault;
+use crate::tag;
+use crate::trans_id::TransId;
+use ber_core::{is_element_list, read_alone, take_content, take_tagged};
+
+/// The message types (Q.773, Message type tag).
+#[derive(Clone, Copy, Debug, PartialEq, Eq)]
+pub enum MessageType {
+    Uni,
+    Begin,
+    End,
+    Continue,
+    Abort,
+}
+
+/// The message type that a tag names.
+#[tactic(auto, unfolding(crate::specs::FrameReading::type_at))]
+fn message_type(tag: &[u8]) -> Option<MessageType>
+    ensures { result ≡ type_at tag.now }
+{
+    match tag {
+        [tag::UNIDIRECTIONAL] => Some(MessageType::Uni),
+        [tag::BEGIN] => Some(MessageType::Begin),
+        [tag::END] => Some(MessageType::End),
+        [tag::CONTINUE] => Some(MessageType::Continue),
+        [tag::ABORT] => Some(MessageType::Abort),
+        _ => None,
+    }
+}
+
+/// A transaction identifier with this tag, and what follows it.
+#[tactic(auto, unfolding(crate::specs::FrameReading::id_at))]
+fn take_id<'a>(bytes: &'a [u8], tag: u8) -> Option<(TransId, &'a [u8])>
+    ensures { option_map (λ r. (r.0, r.1.now)) result ≡ id_at tag bytes.now }
+{
+    let (octets, rest) = take_content(bytes, tag)?;
+    let id = TransId::new(octets)?;
+    Some((id, rest))
+}
+
+/// The contents of 6B and 6C where they stand, with nothing after them.
+#[tactic(auto, unfolding(crate::specs::FrameReading::portions_at))]
+fn take_portions<'a>(bytes: &'a [u8]) -> Option<(Option<&'a [u8]>, &'a [u8])>
+    ensures { option_map (λ r. pair (option_copied r.0) r.1.now) result ≡ portions_at bytes.now }
+{
+    let (dialogue, rest) = take_tagged(bytes, tag::DIALOGUE_PORTION);
+    let (components, rest) = take_tagged(rest, tag::COMPONENT_PORTION);
+    if !rest.is_empty() {
+        return None;
+    }
+    Some((dialogue, components.unwrap_or(&[])))
+}
+
+/// Unidirectional: [6B], 6C.
+#[tactic(auto, unfolding(crate::specs::FrameReading::unidirectional_at))]
+fn read_unidirectional<'a>(content: &'a [u8]) -> Option<Frame<'a>>
+    ensures { option_map message result ≡ unidirectional_at content.now }
+{
+    let (dialogue, rest) = take_tagged(content, tag::DIALOGUE_PORTION);
+    let (components, rest) = take_content(rest, tag::COMPONENT_PORTION)?;
+    if !rest.is_empty() {
+        return None;
+    }
+    Some(Frame::Uni {
+        dialogue,
+        components,
+    })
+}
+
+/// Begin: 48, [6B], [6C].
+#[tactic(auto, unfolding(crate::specs::FrameReading::begin_at))]
+fn read_begin<'a>(content: &'a [u8]) -> Option<Frame<'a>>
+    ensures { option_map message result ≡ begin_at content.now }
+{
+    let (otid, rest) = take_id(content, tag::ORIGIN)?;
+    let (dialogue, components) = take_portions(rest)?;
+    Some(Frame::Begin {
+        otid,
+        dialogue,
+        components,
+    })
+}
+
+/// End: 49, [6B], [6C].
+#[tactic(auto, unfolding(crate::specs::FrameReading::end_at))]
+fn read_end<'a>(content: &'a [u8]) -> Option<Frame<'a>>
+    ensures { option_map message result ≡ end_at content.now }
+{
+    let (dtid, rest) = take_id(content, tag::DESTINATION)?;
+    let (dialogue, components) = take_portions(rest)?;
+    Some(Frame::End {
+        dtid,
+        dialogue,
+        components,
+    })
+}
+
+/// Continue: 48, 49, [6B], [6C].
+#[tactic(auto, unfolding(crate::specs::FrameReading::go_on_at))]
+fn read_continue<'a>(content: &'a [u8]) -> Option<Frame<'a>>
+    ensures { option_map message result ≡ go_on_at content.now }
+{
+    let (otid, rest) = take_id(content, tag::ORIGIN)?;
+    let (dtid, rest) = take_id(rest, tag::DESTINATION)?;
+    let (dialogue, components) = take_portions(rest)?;
+    Some(Frame::Continue {
+        otid,
+        dtid,
+        dialogue,
+        components,
+    })
+}
+
+/// The P-Abort cause that a content of one octet is, 0 to 127.
+#[tactic(auto, unfolding(crate::specs::FrameReading::cause_at))]
+fn read_cause(content: &[u8]) -> Option<AbortPart<'static>>
+    ensures { option_map reason result ≡ cause_at content.now }
+{
+    match content {
+        [cause] if *cause <= tag::MAX_CAUSE => Some(AbortPart::Cause(*cause)),
+        _ => None,
+    }
+}
+
+/// What follows the destination of an Abort: 4A or 6B or nothing.
+#[tactic(auto, unfolding(crate::specs::FrameReading::reason_at))]
+fn read_reason<'a>(bytes: &'a [u8]) -> Option<AbortPart<'a>>
+    ensures { option_map reason result ≡ reason_at bytes.now }
+{
+    if bytes.is_empty() {
+        return Some(AbortPart::Nothing);
+    }
+    let (part, rest) = match take_tagged(bytes, tag::P_ABORT_CAUSE) {
+        (Some(cause), rest) => (read_cause(cause)?, rest),
+        (None, _) => {
+            let (dialogue, rest) = take_content(bytes, tag::DIALOGUE_PORTION)?;
+            (AbortPart::Dialogue(dialogue), rest)
+        }
+    };
+    if !rest.is_empty() {
+        return None;
+    }
+    Some(part)
+}
+
+/// Abort: 49, then 4A or 6B or nothing.
+#[tactic(auto, unfolding(crate::specs::FrameReading::abort_at))]
+fn read_abort<'a>(content: &'a [u8]) -> Option<Frame<'a>>
+    ensures { option_map message result ≡ abort_at content.now }
+{
+    let (dtid, rest) = take_id(content, tag::DESTINATION)?;
+    let reason = read_reason(rest)?;
+    Some(Frame::Abort { dtid, reason })
+}
+
+/// The message of this type that a content is.
+fn read_content<'a>(kind: MessageType, content: &'a [u8]) -> Option<Frame<'a>>
+    ensures { option_map message result ≡ message_at kind content.now }
+{
+    match kind {
+        MessageType::Uni => read_unidirectional(content),
+        MessageType::Begin => read_begin(content),
+        MessageType::End => read_end(content),
+        MessageType::Continue => read_continue(content),
+        MessageType::Abort => read_abort(content),
+    }
+}
+
+/// The message that the bytes are, in exact form.
+#[tactic(auto, unfolding(crate::specs::FrameReading::frame_at))]
+fn split_frame<'a>(bytes: &'a [u8]) -> Result<Frame<'a>, FrameFault>
+    ensures { Gives message result (frame_at bytes.now) }
+{
+    let Some(element) = read_alone(bytes) else {
+        return Err(FrameFault::BadlyFormatted);
+    };
+    let Some(kind) = message_type(element.tag) else {
+        return Err(FrameFault::Unknown);
+    };
+    if !is_element_list(element.content) {
+        return Err(FrameFault::BadlyFormatted);
+    }
+    read_content(kind, element.content).ok_or(FrameFault::Incorrect)
+}
+
+/// Reads the message that the bytes are, all of them, of any length. It takes no memory: the slices
+/// of the message are parts of the bytes (Q.773, Structure of TC messages).
+pub fn read_frame<'a>(bytes: &'a [u8]) -> Result<Frame<'a>, FrameFault>
+    // What is read is spelled by the bytes.
+    ensures found { IfOk result (λ frame. SpellsFrame (message frame) bytes.now) }
+    // Each message is read.
+    ensures only { (m : Message) → SpellsFrame m bytes.now → IsOkAnd result (λ frame. message frame ≡ m) }
+    // Which fault, the first in their order.
+    ensures fault { IfErr result (λ f. IsFrameFault bytes.now f) }
+    // The same, computed: what the layers above cite.
+    ensures exact { Gives message result (frame_at bytes.now) }
+{
+    split_frame(bytes)
+}
