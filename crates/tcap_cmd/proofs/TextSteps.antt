@@ -1,0 +1,10 @@
+-- Texts added one after the other.
+use Rattle.std.proofs.Common.{◌≡◌, ℕ, List, ◌++◌, Result, OnOk, ap, ◌∙◌, append_assoc}
+use Rattle.std.proofs.lemmas.Result.{on_ok_weaker}
+
+module _ {T E : Type 0} (r : Result T E) where
+  pub after_one : (old first new a b : List ℕ) → first ≡ old ++ a → OnOk r (new ≡ first ++ b) → OnOk r (new ≡ old ++ (a ++ b))
+  after_one old first new a b p h = on_ok_weaker r (λ q. q ∙ (ap (λ (w : List ℕ). w ++ b) p ∙ append_assoc old a b)) h
+
+  pub after_two : (old first second new a b c : List ℕ) → first ≡ old ++ a → second ≡ first ++ b → OnOk r (new ≡ second ++ c) → OnOk r (new ≡ old ++ (a ++ (b ++ c)))
+  after_two old first second new a b c p q h = after_one old first new a (b ++ c) p (on_ok_weaker r (λ s. s ∙ (ap (λ (w : List ℕ). w ++ c) q ∙ append_assoc first b c)) h)

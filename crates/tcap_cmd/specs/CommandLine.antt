@@ -1,0 +1,51 @@
+-- The words of the command, as `clap` takes them: which ask for something, and for what.
+use Rattle.std.specs.Prelude.{◌≡◌, ℕ, ◌⊎◌, true, List, [], Option, Some, None, codes, option_map, option_and_then, bytes_eq, if◌then◌else◌}
+use Rattle.clap.specs.Words.{App, Rule, Row, Text, new_app, new_rule, with_rule, with_subcommand, fault_of, subcommand_of, first_of}
+use Rattle.clap.specs.declared.builder.ArgAction.TheVariants.{Set}
+use Rattle.tcap_cmd.specs.declared.request.Request.{Request}
+use Rattle.tcap_cmd.specs.declared.request.Request.TheVariants as request
+
+-- HEX, which is required (own).
+abbrev pub hex_rule : Rule
+hex_rule = record (new_rule (codes "hex")) { required = true; action = Some Set }
+
+-- A command without `--help` (own).
+abbrev pub without_help : App → App
+without_help app = record app { top = record app.top { disable_help_flag = true } }
+
+-- A subcommand with HEX (own).
+abbrev pub with_hex : Text → App
+with_hex name = with_rule (without_help (new_app name)) hex_rule
+
+-- The command itself: a subcommand is required, and `help` is none (own).
+abbrev pub bare_app : App
+bare_app = record (new_app (codes "tcap")) { top = record (new_app (codes "tcap")).top { disable_help_flag = true; disable_help_subcommand = true; subcommand_required = true; no_binary_name = true } }
+
+-- The command `tcap` with its subcommands (own).
+abbrev pub tcap_app : App
+tcap_app = with_subcommand bare_app (with_hex (codes "show")).top
+
+-- What words ask for, by their octets (own).
+pub data Asked : Type 0 where
+  -- the text of the message that HEX spells
+  show : (hex : List ℕ) → Asked
+
+-- What a subcommand and its arguments ask for (own).
+abbrev pub asked_by : Text × List Row → Option Asked
+asked_by p = if bytes_eq p.0 (codes "show") then option_map (λ hex. show hex) (first_of (codes "hex") p.1) else None
+
+-- What the words ask for (own).
+abbrev pub asked_of : List Text → Option Asked
+asked_of words = option_and_then asked_by (subcommand_of tcap_app words)
+
+-- `clap` refuses nothing in the words, and this is what they ask for (own).
+abbrev pub Ask : List Text → Asked → Type 0
+Ask words asked = (fault_of tcap_app words ≡ []) × (asked_of words ≡ Some asked)
+
+-- `clap` refuses something in the words, or they ask for nothing (own).
+abbrev pub AskNothing : List Text → Type 0
+AskNothing words = (fault_of tcap_app words ≡ [] → ⊥) ⊎ (asked_of words ≡ None)
+
+-- What a request asks for (own).
+abbrev pub asked : Request → Asked
+asked (request.Show hex) = show hex.now

@@ -1,0 +1,5 @@
+pub mod Command
+pub mod CommandLine
+pub mod Show
+pub mod Text
+pub mod Verdict

@@ -1,0 +1,23 @@
+//! The command `tcap`: what it prints of a message, and its status.
+//!
+//! Stands on all other crates. Begin at `run_command`; what `show` prints is `show_text`.
+#![tactic(auto)]
+
+mod command;
+mod refusal;
+mod request;
+mod show;
+mod shown;
+mod text;
+mod verdict;
+mod words;
+
+pub use command::{answer, report, run_command};
+pub use refusal::Refusal;
+pub use request::Request;
+pub use show::show_text;
+pub use shown::Shown;
+pub use verdict::Verdict;
+
+#[cfg(test)]
+mod tests;

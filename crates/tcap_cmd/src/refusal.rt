@@ -1,0 +1,37 @@
+use ber_core::OutOfMemory;
+
+/// Why a run of the command came to no verdict: the line on standard error, and status 2.
+#[derive(Clone, Copy, Debug, PartialEq, Eq)]
+pub enum Refusal {
+    /// The words ask for nothing.
+    BadCommand,
+    /// HEX is no hexadecimal.
+    BadHex,
+    /// Memory was refused.
+    OutOfMemory,
+    /// A write to standard output failed.
+    WriteFailed,
+}
+
+impl Refusal {
+    /// The words of the line on standard error.
+    pub fn words(self) -> &'static str {
+        match self {
+            Refusal::BadCommand => "bad command",
+            Refusal::BadHex => "bad hex",
+            Refusal::OutOfMemory => "out of memory",
+            Refusal::WriteFailed => "write failed",
+        }
+    }
+}
+
+impl From<OutOfMemory> for Refusal {
+    ghost use Rattle.std.specs.Prelude.{◌≡◌};
+    ghost use Rattle.tcap_cmd.specs.declared.refusal.Refusal.TheVariants as refusal;
+
+    ghost from_gives = { λ _ r. r ≡ refusal.OutOfMemory };
+
+    fn from(_error: OutOfMemory) -> Refusal {
+        Refusal::OutOfMemory
+    }
+}
