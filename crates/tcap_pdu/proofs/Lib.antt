@@ -1,4 +1,5 @@
 pub mod CallerLemmas
 pub mod FrameGrammar
 pub mod FrontGrammar
+pub mod LengthGrammar
 pub mod MessageGrammar

@@ -1,5 +1,5 @@
 -- How many bytes a written message has, by the lengths of its parts.
-use Rattle.std.specs.Prelude.{◌≡◌, ℕ, zero, suc, ◌+◌, List, [], ◌∷◌, length, Option, Some, None, nat_lt, if◌then◌else◌}
+use Rattle.std.specs.Prelude.{◌≡◌, ℕ, zero, suc, ◌+◌, List, length, Option, Some, None, nat_lt, if◌then◌else◌}
 use Rattle.tcap_pdu.specs.FrameSpelling.{Reason, Message}
 use Rattle.tcap_pdu.specs.FrameSpelling.Reason.{nothing, cause, portion}
 use Rattle.tcap_pdu.specs.FrameSpelling.Message.{unidirectional, begin, end, go_on, abort}
@@ -52,7 +52,7 @@ CanHold (abort t (portion d)) n = Unit {0}
 
 -- The bytes of an element of this content length: a tag of one octet, the shortest length octets and
 -- the content (X.690, Length octets).
-abbrev pub element_length : ℕ → ℕ
+unfoldable pub element_length : ℕ → ℕ
 element_length n = if nat_lt n 0x80 then n + 2 else if nat_lt n 0x100 then n + 3 else n + 4
 
 -- The bytes of an optional element (Q.773, tables of information elements).
@@ -84,5 +84,5 @@ content_length d (abort t r) = element_length (length t) + reason_length d r
 
 -- The bytes of a written message, with 6B contents of this length in place of its own, or without 6B
 -- (Q.773, Structure of TC messages).
-unfoldable pub frame_length : Option ℕ → Message → ℕ
+abbrev pub frame_length : Option ℕ → Message → ℕ
 frame_length d m = element_length (content_length d m)
