@@ -3,3 +3,4 @@ pub mod FrameGrammar
 pub mod FrontGrammar
 pub mod LengthGrammar
 pub mod MessageGrammar
+pub mod WrittenFrameGrammar

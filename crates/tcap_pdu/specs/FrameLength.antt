@@ -1,5 +1,5 @@
 -- How many bytes a written message has, by the lengths of its parts.
-use Rattle.std.specs.Prelude.{◌≡◌, ℕ, zero, suc, ◌+◌, List, length, Option, Some, None, nat_lt, if◌then◌else◌}
+use Rattle.std.specs.Prelude.{◌≡◌, ℕ, zero, suc, ◌+◌, List, [], length, unwrap_or, Option, Some, None, nat_lt, if◌then◌else◌}
 use Rattle.tcap_pdu.specs.FrameSpelling.{Reason, Message}
 use Rattle.tcap_pdu.specs.FrameSpelling.Reason.{nothing, cause, portion}
 use Rattle.tcap_pdu.specs.FrameSpelling.Message.{unidirectional, begin, end, go_on, abort}
@@ -34,6 +34,10 @@ dialogue_of (begin o d c) = d
 dialogue_of (end t d c) = d
 dialogue_of (go_on o t d c) = d
 dialogue_of (abort t r) = reason_dialogue r
+
+-- How many bytes the contents of 6B have, 0 where there is no 6B (own).
+abbrev pub dialogue_length : Message → ℕ
+dialogue_length m = length (unwrap_or (dialogue_of m) [])
 
 -- The length of the contents of 6B that a number stands for: 0 is a message without 6B (own).
 abbrev pub dialogue_size : ℕ → Option ℕ

@@ -6,6 +6,7 @@
 
 mod fault;
 mod frame;
+pub mod laws;
 pub mod tag;
 mod trans_id;
 

@@ -3,8 +3,9 @@ ghost use Rattle.ber_core.specs.Length.{length_limit};
 ghost use Rattle.ber_core.specs.Sequence.Field.{must, may, filled};
 ghost use Rattle.ber_core.specs.Written.{CanWrite, CanWriteAll, written_field, written_fields};
 ghost use Rattle.tcap_pdu.specs.declared.fault.PduFault.TheVariants.{TooLong};
-ghost use Rattle.tcap_pdu.specs.FrameSpelling.{fields, reason_fields, message_tag};
-ghost use Rattle.tcap_pdu.specs.FrameWritten.{HasCause, IsWriteFault, message_limit, written_frame};
+ghost use Rattle.tcap_pdu.specs.TransId.{IsTransId};
+ghost use Rattle.tcap_pdu.specs.FrameSpelling.{HasCause, HasIds, SpellsFrame, fields, message_tag, reason_fields};
+ghost use Rattle.tcap_pdu.specs.FrameWritten.{IsWriteFault, message_limit, written_frame};
 ghost use Rattle.tcap_pdu.specs.FrameLength.{CanHold, content_length, dialogue_of, dialogue_size, element_length, filled_length, frame_length, may_length, reason_length, with_dialogue};
 ghost use Rattle.tcap_pdu.specs.FrameViews.{message, reason_of};
 
@@ -61,6 +62,7 @@ fn filled_len(content: usize) -> u128
 fn id_len(id: &TransId) -> u128
     ensures value { result ≡ element_length (length id.now) }
     ensures small { result ≤ 8 }
+    ensures within { IsTransId id.now }
 {
     element_len(id.octets().len() as u128)
 }
@@ -81,6 +83,7 @@ fn reason_len(reason: &AbortPart<'_>, dialogue: Option<usize>) -> u128
 fn content_len(frame: &Frame<'_>, dialogue: Option<usize>) -> u128
     ensures value { result ≡ content_length dialogue (message frame.now) }
     ensures small { result < 2 ^ 68 }
+    ensures ids { HasIds (message frame.now) }
 {
     match frame {
         Frame::Uni { components, .. } => may_len(dialogue) + element_len(components.len() as u128),
@@ -291,6 +294,8 @@ pub fn write_frame<A: Allocator + Copy>(
 ) -> Result<Vec<u8, A>, PduFault>
     requires { HasCause (message frame.now) }
     ensures written { IfOk result (λ bytes. bytes.items ≡ written_frame (message frame.now)) }
+    // What is written spells the message, so that reading it gives the message back.
+    ensures spelled { IfOk result (λ bytes. SpellsFrame (message frame.now) bytes.items) }
     // TooLong exactly above the limit, OutOfMemory only up to it, and no other fault.
     ensures too_long { message_limit < length (written_frame (message frame.now)) → IsErrOf result TooLong }
     ensures fault { IfErr result (λ fault. IsWriteFault (message frame.now) fault) }

@@ -1,5 +1,7 @@
-use Rattle.std.proofs.Common.{arith}
+use Rattle.std.proofs.Common.{arith, sym, subst}
 use Rattle.tcap_pdu.specs.FrameViews.{message}
+use Rattle.tcap_pdu.specs.FrameSpelling.{SpellsFrame}
+use Rattle.tcap_pdu.proofs.WrittenFrameGrammar.{written_spelled}
 use Rattle.tcap_pdu.proofs.LengthGrammar.{sizes, parts-can}
 use Rattle.tcap_pdu.proofs.frame.write.write_frame.Goals as goal
 
@@ -42,3 +44,9 @@ pub returns-in-Err-clause-fault : goal.returns-in-Err-clause-fault
 returns-in-Err-clause-fault g c =
     let s = sizes (message c.args.frame.now) c.dialogue_len.result c.content_len-content.result c.element_len.result c.dialogue_len.ensures c.content_len-content.ensures.value c.element_len.ensures.value in
     omega (arith, s.1)
+
+pub returns-in-Ok-clause-spelled : goal.returns-in-Ok-clause-spelled
+returns-in-Ok-clause-spelled g c =
+    let m = message c.args.frame.now in
+    let s = sizes (message c.args.frame.now) c.dialogue_len.result c.content_len-content.result c.element_len.result c.dialogue_len.ensures c.content_len-content.ensures.value c.element_len.ensures.value in
+    subst (SpellsFrame m) (sym c.in-Ok.ensures) (written_spelled m c.content_len-content.ensures.ids c.requires (omega (arith, s.1)))
