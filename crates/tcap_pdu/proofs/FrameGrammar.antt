@@ -75,6 +75,7 @@ is_frame e k m t h =
       is_tag = type_takes e.tag k t ∙ sym (type_takes (message_tag m ∷ []) k s.0);
       in_sequence = s.1;
       has_ids = s.2;
+      has_cause = s.3;
     }
 
 frame_reads : (m : Message) (e : Parts) → IsFrame m e → (type_at e.tag ≡ Some (kind_of m)) × (list_all is_ok (items_of e.content) ≡ true) × (message_at (kind_of m) e.content ≡ Some m)
@@ -82,7 +83,7 @@ frame_reads m e h =
     let s = h.in_sequence in
     (ap type_at h.is_tag ∙ type_again m,
      list_again s.elements e.content s.is_list,
-     message_again m e.content s h.has_ids)
+     message_again m e.content s h.has_ids h.has_cause)
 
 alone : (bytes : List ℕ) (e : Parts) → IsElement 32 e → bytes ≡ e.whole → alone_at bytes ≡ Some e
 alone bytes e i is = ap alone_at is ∙ alone_again e i

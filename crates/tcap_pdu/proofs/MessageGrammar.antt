@@ -8,7 +8,7 @@ use Rattle.ber_core.specs.Sequence.Field.{must, may, filled}
 use Rattle.ber_core.specs.SequenceReading.{tagged, content_at, ending}
 use Rattle.ber_core.proofs.CallerLemmas.{some, some_is, not_some, bind_some, guard_some, test_some, ending-is, ending-again, may_takes, filled_takes, must_takes, end_takes, may_again, must_again, filled_again, end_again, content_at-is, must-longer, other_first}
 use Rattle.tcap_pdu.specs.TransId.{IsTransId, id_of}
-use Rattle.tcap_pdu.specs.FrameSpelling.{Reason, Message, message_tag, fields, reason_fields, IsReason, HasIds}
+use Rattle.tcap_pdu.specs.FrameSpelling.{Reason, Message, message_tag, fields, reason_fields, IsReason, HasIds, HasCause}
 use Rattle.tcap_pdu.specs.FrameSpelling.Reason.{nothing, cause, portion}
 use Rattle.tcap_pdu.specs.FrameSpelling.Message.{unidirectional, begin, end, go_on, abort}
 use Rattle.tcap_pdu.specs.FrameReading.{with_rest, id_at, pair, portions_at, cause_at, reason_by, reason_at, unidirectional_at, begin_at, end_at, go_on_at, abort_at, message_at, type_at}
@@ -123,7 +123,7 @@ reason_again (portion d) bytes k l =
 -- ---- the messages
 
 abbrev Stands : MessageType → List ℕ → Message → Type 0
-Stands k bytes m = (type_at (message_tag m ∷ []) ≡ Some k) × SpellsSequence (fields m) bytes × HasIds m
+Stands k bytes m = (type_at (message_tag m ∷ []) ≡ Some k) × SpellsSequence (fields m) bytes × HasIds m × HasCause m
 
 unidirectional_takes : (bytes : List ℕ) (m : Message) → unidirectional_at bytes ≡ Some m → Stands kind.Uni bytes m
 unfolding unidirectional_at type_at
@@ -131,7 +131,7 @@ unidirectional_takes bytes m e =
     let rest = (tagged 0x6b bytes).1 in
     let c = bind_some (content_at 0x6c rest) (λ c. ending (unidirectional (tagged 0x6b bytes).0 c.0) c.1) m e in
     let z = ending-is (unidirectional (tagged 0x6b bytes).0 c.0.0) m c.0.1 c.2 in
-    subst (Stands kind.Uni bytes) z.1 (refl, may_takes 0x6b _ bytes (must_takes 0x6c [] rest c.0 c.1 (end_takes c.0.1 z.0)), tt)
+    subst (Stands kind.Uni bytes) z.1 (refl, may_takes 0x6b _ bytes (must_takes 0x6c [] rest c.0 c.1 (end_takes c.0.1 z.0)), tt, tt)
 
 begin_takes : (bytes : List ℕ) (m : Message) → begin_at bytes ≡ Some m → Stands kind.Begin bytes m
 unfolding begin_at type_at
@@ -139,7 +139,7 @@ begin_takes bytes m e =
     let o = bind_some (id_at 0x48 bytes) (λ o. portions_at o.1 >>= (λ p. some (begin o.0 p.0 p.1))) m e in
     let p = bind_some (portions_at o.0.1) (λ p. some (begin o.0.0 p.0 p.1)) m o.2 in
     let i = id_takes 0x48 bytes o.0 o.1 in
-    subst (Stands kind.Begin bytes) (some_is (begin o.0.0 p.0.0 p.0.1) m p.2) (refl, must_takes 0x48 _ bytes o.0 i.0 (portions_takes o.0.1 p.0 p.1), i.1)
+    subst (Stands kind.Begin bytes) (some_is (begin o.0.0 p.0.0 p.0.1) m p.2) (refl, must_takes 0x48 _ bytes o.0 i.0 (portions_takes o.0.1 p.0 p.1), i.1, tt)
 
 end_message_takes : (bytes : List ℕ) (m : Message) → end_at bytes ≡ Some m → Stands kind.End bytes m
 unfolding end_at type_at
@@ -147,7 +147,7 @@ end_message_takes bytes m e =
     let t = bind_some (id_at 0x49 bytes) (λ o. portions_at o.1 >>= (λ p. some (end o.0 p.0 p.1))) m e in
     let p = bind_some (portions_at t.0.1) (λ p. some (end t.0.0 p.0 p.1)) m t.2 in
     let i = id_takes 0x49 bytes t.0 t.1 in
-    subst (Stands kind.End bytes) (some_is (end t.0.0 p.0.0 p.0.1) m p.2) (refl, must_takes 0x49 _ bytes t.0 i.0 (portions_takes t.0.1 p.0 p.1), i.1)
+    subst (Stands kind.End bytes) (some_is (end t.0.0 p.0.0 p.0.1) m p.2) (refl, must_takes 0x49 _ bytes t.0 i.0 (portions_takes t.0.1 p.0 p.1), i.1, tt)
 
 go_on_takes : (bytes : List ℕ) (m : Message) → go_on_at bytes ≡ Some m → Stands kind.Continue bytes m
 unfolding go_on_at type_at
@@ -157,7 +157,7 @@ go_on_takes bytes m e =
     let p = bind_some (portions_at t.0.1) (λ p. some (go_on o.0.0 t.0.0 p.0 p.1)) m t.2 in
     let i = id_takes 0x48 bytes o.0 o.1 in
     let j = id_takes 0x49 o.0.1 t.0 t.1 in
-    subst (Stands kind.Continue bytes) {x = go_on o.0.0 t.0.0 p.0.0 p.0.1} (some_is (go_on o.0.0 t.0.0 p.0.0 p.0.1) m p.2) (refl, must_takes 0x48 _ bytes o.0 i.0 (must_takes 0x49 _ o.0.1 t.0 j.0 (portions_takes t.0.1 p.0 p.1)), (i.1, j.1))
+    subst (Stands kind.Continue bytes) {x = go_on o.0.0 t.0.0 p.0.0 p.0.1} (some_is (go_on o.0.0 t.0.0 p.0.0 p.0.1) m p.2) (refl, must_takes 0x48 _ bytes o.0 i.0 (must_takes 0x49 _ o.0.1 t.0 j.0 (portions_takes t.0.1 p.0 p.1)), (i.1, j.1), tt)
 
 abort_takes : (bytes : List ℕ) (m : Message) → abort_at bytes ≡ Some m → Stands kind.Abort bytes m
 unfolding abort_at type_at
@@ -166,7 +166,7 @@ abort_takes bytes m e =
     let r = bind_some (reason_at t.0.1) (λ r. some (abort t.0.0 r)) m t.2 in
     let i = id_takes 0x49 bytes t.0 t.1 in
     let s = reason_takes t.0.1 r.0 r.1 in
-    subst (Stands kind.Abort bytes) (some_is (abort t.0.0 r.0) m r.2) (refl, must_takes 0x49 _ bytes t.0 i.0 s.0, (i.1, s.1))
+    subst (Stands kind.Abort bytes) (some_is (abort t.0.0 r.0) m r.2) (refl, must_takes 0x49 _ bytes t.0 i.0 s.0, i.1, s.1)
 
 pub message_takes : (k : MessageType) (bytes : List ℕ) (m : Message) → message_at k bytes ≡ Some m → Stands k bytes m
 message_takes kind.Uni bytes m e = unidirectional_takes bytes m e
@@ -182,25 +182,25 @@ kind_of (end t d c) = kind.End
 kind_of (go_on o t d c) = kind.Continue
 kind_of (abort t r) = kind.Abort
 
-pub message_again : (m : Message) (bytes : List ℕ) → SpellsSequence (fields m) bytes → HasIds m → message_at (kind_of m) bytes ≡ Some m
+pub message_again : (m : Message) (bytes : List ℕ) → SpellsSequence (fields m) bytes → HasIds m → HasCause m → message_at (kind_of m) bytes ≡ Some m
 unfolding kind_of unidirectional_at begin_at end_at go_on_at abort_at
-message_again (unidirectional d c) bytes l k =
+message_again (unidirectional d c) bytes l k j =
     let r = may_again 0x6b d (must 0x6c c ∷ []) bytes refl l in
     let s = must_again 0x6c c [] (tagged 0x6b bytes).1 r.1 in
     rw (r.0, s.1) (ending-again (unidirectional d c) s.0 (end_again s.0 s.2))
-message_again (begin o d c) bytes l k =
+message_again (begin o d c) bytes l k j =
     let r = must_again 0x48 o _ bytes l in
     rw (id_again 0x48 bytes o r.0 r.1 k, portions_again d c r.0 r.2) refl
-message_again (end t d c) bytes l k =
+message_again (end t d c) bytes l k j =
     let r = must_again 0x49 t _ bytes l in
     rw (id_again 0x49 bytes t r.0 r.1 k, portions_again d c r.0 r.2) refl
-message_again (go_on o t d c) bytes l k =
+message_again (go_on o t d c) bytes l k j =
     let r = must_again 0x48 o _ bytes l in
     let s = must_again 0x49 t _ r.0 r.2 in
     rw (id_again 0x48 bytes o r.0 r.1 k.0, id_again 0x49 r.0 t s.0 s.1 k.1, portions_again d c s.0 s.2) refl
-message_again (abort t x) bytes l k =
+message_again (abort t x) bytes l k j =
     let r = must_again 0x49 t _ bytes l in
-    rw (id_again 0x49 bytes t r.0 r.1 k.0, reason_again x r.0 k.1 r.2) refl
+    rw (id_again 0x49 bytes t r.0 r.1 k, reason_again x r.0 j r.2) refl
 
 pub type_again : (m : Message) → type_at (message_tag m ∷ []) ≡ Some (kind_of m)
 unfolding kind_of type_at

@@ -1,5 +1,5 @@
 -- How many bytes a written message has, by the lengths of its parts.
-use Rattle.std.specs.Prelude.{◌≡◌, ℕ, zero, suc, ◌+◌, List, [], ◌∷◌, length, Option, Some, None, nat_lt, if◌then◌else◌}
+use Rattle.std.specs.Prelude.{◌≡◌, ℕ, zero, suc, ◌+◌, List, [], length, unwrap_or, Option, Some, None, nat_lt, if◌then◌else◌}
 use Rattle.tcap_pdu.specs.FrameSpelling.{Reason, Message}
 use Rattle.tcap_pdu.specs.FrameSpelling.Reason.{nothing, cause, portion}
 use Rattle.tcap_pdu.specs.FrameSpelling.Message.{unidirectional, begin, end, go_on, abort}
@@ -35,6 +35,10 @@ dialogue_of (end t d c) = d
 dialogue_of (go_on o t d c) = d
 dialogue_of (abort t r) = reason_dialogue r
 
+-- How many bytes the contents of 6B have, 0 where there is no 6B (own).
+abbrev pub dialogue_length : Message → ℕ
+dialogue_length m = length (unwrap_or (dialogue_of m) [])
+
 -- The length of the contents of 6B that a number stands for: 0 is a message without 6B (own).
 abbrev pub dialogue_size : ℕ → Option ℕ
 dialogue_size zero = None
@@ -52,7 +56,7 @@ CanHold (abort t (portion d)) n = Unit {0}
 
 -- The bytes of an element of this content length: a tag of one octet, the shortest length octets and
 -- the content (X.690, Length octets).
-abbrev pub element_length : ℕ → ℕ
+unfoldable pub element_length : ℕ → ℕ
 element_length n = if nat_lt n 0x80 then n + 2 else if nat_lt n 0x100 then n + 3 else n + 4
 
 -- The bytes of an optional element (Q.773, tables of information elements).
@@ -84,5 +88,5 @@ content_length d (abort t r) = element_length (length t) + reason_length d r
 
 -- The bytes of a written message, with 6B contents of this length in place of its own, or without 6B
 -- (Q.773, Structure of TC messages).
-unfoldable pub frame_length : Option ℕ → Message → ℕ
+abbrev pub frame_length : Option ℕ → Message → ℕ
 frame_length d m = element_length (content_length d m)

@@ -58,14 +58,21 @@ IsReason nothing = Unit {0}
 IsReason (cause n) = n ≤ cause_limit
 IsReason (portion d) = Unit {0}
 
--- Each transaction identifier has one to four octets, and a cause is in its range
--- (Q.773, Transaction ID; Q.773, P-Abort cause).
+-- Each transaction identifier has one to four octets (Q.773, Transaction ID).
 abbrev pub HasIds : Message → Type 0
 HasIds (unidirectional d c) = Unit {0}
 HasIds (begin o d c) = IsTransId o
 HasIds (end t d c) = IsTransId t
 HasIds (go_on o t d c) = IsTransId o × IsTransId t
-HasIds (abort t r) = IsTransId t × IsReason r
+HasIds (abort t r) = IsTransId t
+
+-- A P-Abort cause, where there is one, is in its range (Q.773, P-Abort cause; the range is own).
+abbrev pub HasCause : Message → Type 0
+HasCause (unidirectional d c) = Unit {0}
+HasCause (begin o d c) = Unit {0}
+HasCause (end t d c) = Unit {0}
+HasCause (go_on o t d c) = Unit {0}
+HasCause (abort t r) = IsReason r
 
 -- The element is this message: its tag is that of the message type, and its contents are a list of
 -- elements in the listed sequence (Q.773, Structure of TC messages).
@@ -73,6 +80,7 @@ pub record IsFrame (m : Message) (e : Parts) : Type 0 where
   pub is_tag : e.tag ≡ message_tag m ∷ []
   pub in_sequence : SpellsSequence (fields m) e.content
   pub has_ids : HasIds m
+  pub has_cause : HasCause m
 
 -- The bytes are one element and nothing after it, and the element is this message
 -- (Q.773, Structure of TC messages).

@@ -1,8 +1,7 @@
 -- The one spelling of a message in the canonical form, and the faults of writing it.
 use Rattle.std.specs.Prelude.{◌≡◌, ℕ, ◌<◌, ◌≤◌, List, [], ◌∷◌, length}
 use Rattle.ber_core.specs.Written.{written, written_fields}
-use Rattle.tcap_pdu.specs.FrameSpelling.{Message, message_tag, fields, IsReason}
-use Rattle.tcap_pdu.specs.FrameSpelling.Message.{unidirectional, begin, end, go_on, abort}
+use Rattle.tcap_pdu.specs.FrameSpelling.{Message, message_tag, fields}
 use Rattle.tcap_pdu.specs.declared.fault.PduFault.{PduFault}
 use Rattle.tcap_pdu.specs.declared.fault.PduFault.TheVariants.{OutOfMemory, TooLong, BadOid, BadInfo}
 
@@ -16,14 +15,6 @@ message_limit = 65535
 -- (Q.773, Structure of TC messages; the shortest form is own).
 abbrev pub written_frame : Message → List ℕ
 written_frame m = written (message_tag m ∷ []) (written_fields (fields m))
-
--- A cause, where there is one, is at most 127 (own).
-abbrev pub HasCause : Message → Type 0
-HasCause (unidirectional d c) = Unit {0}
-HasCause (begin o d c) = Unit {0}
-HasCause (end t d c) = Unit {0}
-HasCause (go_on o t d c) = Unit {0}
-HasCause (abort t r) = IsReason r
 
 -- Why the message is not written: it is above the limit, or it is not and memory is wanting. No
 -- other fault of writing speaks of a message (own).

@@ -6,9 +6,10 @@
 
 mod fault;
 mod frame;
+pub mod laws;
 pub mod tag;
 mod trans_id;
 
 pub use fault::{DialogueFault, FrameFault, PduFault};
-pub use frame::{AbortPart, Frame, front_ids, read_frame};
+pub use frame::{AbortPart, Frame, MAX_MESSAGE, frame_fits, front_ids, read_frame, write_frame};
 pub use trans_id::TransId;

@@ -3,7 +3,7 @@ ghost use Rattle.ber_core.specs.Results.{Gives};
 ghost use Rattle.tcap_pdu.specs.FrameSpelling.{Message, SpellsFrame};
 ghost use Rattle.tcap_pdu.specs.FrameFaults.{IsFrameFault};
 ghost use Rattle.tcap_pdu.specs.FrameReading.{frame_at, begin_at, end_at, go_on_at, abort_at, unidirectional_at, cause_at, reason_at, type_at, message_at, id_at, portions_at, pair};
-ghost use Rattle.tcap_pdu.specs.FrameViews.{message, reason};
+ghost use Rattle.tcap_pdu.specs.FrameViews.{message, reason_of};
 ghost use Rattle.std.specs.Option.{option_copied};
 
 use super::{AbortPart, Frame};
@@ -123,7 +123,7 @@ fn read_continue<'a>(content: &'a [u8]) -> Option<Frame<'a>>
 /// The P-Abort cause that a content of one octet is, 0 to 127.
 #[tactic(auto, unfolding(crate::specs::FrameReading::cause_at))]
 fn read_cause(content: &[u8]) -> Option<AbortPart<'static>>
-    ensures { option_map reason result ≡ cause_at content.now }
+    ensures { option_map reason_of result ≡ cause_at content.now }
 {
     match content {
         [cause] if *cause <= tag::MAX_CAUSE => Some(AbortPart::Cause(*cause)),
@@ -134,7 +134,7 @@ fn read_cause(content: &[u8]) -> Option<AbortPart<'static>>
 /// What follows the destination of an Abort: 4A or 6B or nothing.
 #[tactic(auto, unfolding(crate::specs::FrameReading::reason_at))]
 fn read_reason<'a>(bytes: &'a [u8]) -> Option<AbortPart<'a>>
-    ensures { option_map reason result ≡ reason_at bytes.now }
+    ensures { option_map reason_of result ≡ reason_at bytes.now }
 {
     if bytes.is_empty() {
         return Some(AbortPart::Nothing);

@@ -1,0 +1,33 @@
+//! Laws of the definitions, each the contract of a function that does nothing.
+
+ghost use Rattle.std.specs.Prelude.{◌≡◌, ◌≢◌, ◌≤◌, ℕ, List, [], Some, length, option_map, Ok};
+ghost use Rattle.tcap_pdu.specs.declared.fault.FrameFault.{FrameFault};
+ghost use Rattle.tcap_pdu.specs.FrameSpelling.{Message, HasIds, HasCause, SpellsFrame};
+ghost use Rattle.tcap_pdu.specs.FrameFaults.{IsFrameFault};
+ghost use Rattle.tcap_pdu.specs.FrameReading.{frame_at};
+ghost use Rattle.tcap_pdu.specs.FrameWritten.{message_limit, written_frame};
+ghost use Rattle.tcap_pdu.specs.FrameLength.{dialogue_of, dialogue_length, dialogue_size, frame_length};
+
+/// Bytes spell at most one message (Q.773, Structure of TC messages).
+pub fn one_frame()
+    ensures { (m n : Message) (bytes : List ℕ) → SpellsFrame m bytes → SpellsFrame n bytes → m ≡ n }
+{}
+
+/// Bytes have at most one fault, and where they have one they spell no message (our own).
+pub fn one_frame_fault()
+    ensures one { (bytes : List ℕ) (f g : FrameFault) → IsFrameFault bytes f → IsFrameFault bytes g → f ≡ g }
+    ensures no_frame { (m : Message) (bytes : List ℕ) (f : FrameFault) → SpellsFrame m bytes → IsFrameFault bytes f → ⊥ }
+{}
+
+/// What is written spells the message, and reading it gives the message back and leaves nothing
+/// (Q.773, Structure of TC messages).
+pub fn written_frame()
+    ensures spelled { (m : Message) → HasIds m → HasCause m → length (written_frame m) ≤ message_limit → SpellsFrame m (written_frame m) }
+    ensures read { (m : Message) → HasIds m → HasCause m → length (written_frame m) ≤ message_limit → frame_at (written_frame m) ≡ Ok m }
+{}
+
+/// The length that `frame_fits` goes by is that of what `write_frame` writes, where the message's
+/// contents of 6B are not empty or it has no 6B (our own).
+pub fn frame_length()
+    ensures { (m : Message) → dialogue_of m ≢ Some [] → length (written_frame m) ≡ frame_length (dialogue_size (dialogue_length m)) m }
+{}
