@@ -14,3 +14,21 @@ octets_line name octets = name ++ (codes " " ++ (encode_lower octets ++ codes "\
 -- A line of a name and a decimal number (own).
 abbrev pub number_line : List ℕ → ℕ → List ℕ
 number_line name number = name ++ (codes " " ++ (decimal number ++ codes "\n"))
+
+-- A line under a portion (own).
+abbrev pub inner_line : List ℕ → List ℕ
+inner_line words = codes "    " ++ (words ++ codes "\n")
+
+-- Octets in hexadecimal, `-` where there are none (own).
+abbrev pub octets_words : List ℕ → List ℕ
+octets_words octets = if length octets == 0 then codes "-" else encode_lower octets
+
+-- The same, where they may be absent (own).
+abbrev pub optional_octets_words : Option (List ℕ) → List ℕ
+optional_octets_words None = codes "-"
+optional_octets_words (Some octets) = octets_words octets
+
+-- yes or no (own).
+abbrev pub answer_words : Bool → List ℕ
+answer_words true = codes "yes"
+answer_words false = codes "no"

@@ -1,6 +1,6 @@
 ghost use Rattle.std.specs.Prelude.{◌≡◌, ◌++◌, OnOk, IfOk, Ok, string_bytes, option_copied};
 ghost use Rattle.ber_core.specs.Results.{Gives};
-ghost use Rattle.tcap_pdu.specs.FrameViews.{message, reason};
+ghost use Rattle.tcap_pdu.specs.FrameViews.{message, reason_of};
 ghost use Rattle.tcap_cmd.specs.Verdict.{verdict_of_fault, message_of};
 ghost use Rattle.tcap_cmd.specs.Show.{origin_line, destination_line, dialogue_lines, component_lines, portion_lines, reason_lines, message_lines, show_text_of, show_is_good};
 
@@ -104,7 +104,7 @@ fn add_reason<A: Allocator + Copy>(
     text: &mut String<A>,
     part: &AbortPart<'_>,
 ) -> Result<(), OutOfMemory>
-    ensures { OnOk result (string_bytes text.new ≡ string_bytes text.old ++ reason_lines (reason part.now)) }
+    ensures { OnOk result (string_bytes text.new ≡ string_bytes text.old ++ reason_lines (reason_of part.now)) }
 {
     match part {
         AbortPart::Nothing => Ok(()),

@@ -1,0 +1,5 @@
+//! What no clause says: the printed texts, the words on standard error, refused growths and failing
+//! writers.
+
+mod growth;
+mod rows;
