@@ -80,10 +80,11 @@ is_frame e k m t h =
 
 frame_reads : (m : Message) (e : Parts) → IsFrame m e → (type_at e.tag ≡ Some (kind_of m)) × (list_all is_ok (items_of e.content) ≡ true) × (message_at (kind_of m) e.content ≡ Some m)
 frame_reads m e h =
-    let s = h.in_sequence in
-    (ap type_at h.is_tag ∙ type_again m,
-     list_again s.elements e.content s.is_list,
-     message_again m e.content s h.has_ids h.has_cause)
+    let s = h.in_sequence in (
+      ap type_at h.is_tag ∙ type_again m,
+      list_again s.elements e.content s.is_list,
+      message_again m e.content s h.has_ids h.has_cause,
+    )
 
 alone : (bytes : List ℕ) (e : Parts) → IsElement 32 e → bytes ≡ e.whole → alone_at bytes ≡ Some e
 alone bytes e i is = ap alone_at is ∙ alone_again e i
@@ -105,8 +106,8 @@ contents_read e k i t = elim (cases_Bool (list_all is_ok (items_of e.content))) 
       let es = list_takes e.content l in
       elim (by_option (message_at k e.content)) [
         | inl n ↦ rw (l, n) (no_sequence e es.0 i (has_tag e k t) es.1 (λ m f. let r = frame_reads m e f in
-              let same : some k ≡ some (kind_of m) = sym t ∙ r.0 in
-              not_some m (sym n ∙ (ap (λ (j : MessageType). message_at j e.content) (some_is k (kind_of m) same) ∙ r.2))))
+            let same : some k ≡ some (kind_of m) = sym t ∙ r.0 in
+            not_some m (sym n ∙ (ap (λ (j : MessageType). message_at j e.content) (some_is k (kind_of m) same) ∙ r.2))))
         | inr m ↦ rw (l, m.1) (record { element = e; is_element = i; is_whole = refl; is_frame = is_frame e k m.0 t m.1 })
       ]
   | inr l ↦ rw l (no_list e i (has_tag e k t) (λ es h. let both : true ≡ false = sym (list_again es e.content h) ∙ l in absurd cc))

@@ -201,8 +201,8 @@ sizes m d n t own content total =
 within : (r n k : ℕ) → r ≡ k → n ≡ k → (IsTrue (leb r 65535) ↔ (n ≤ 65535))
 within r n k p q = let s = p ∙ sym q in subst (λ (x : ℕ). IsTrue (leb x 65535) ↔ (n ≤ 65535)) (sym s) (both n)
   where
-  both : (x : ℕ) → (IsTrue (leb x 65535) ↔ (x ≤ 65535))
-  both x = search rules
+    both : (x : ℕ) → (IsTrue (leb x 65535) ↔ (x ≤ 65535))
+    both x = search rules
 
 pub fits : (m : Message) (d : Option (List ℕ)) (e : Option ℕ) (r : ℕ) → option_map length d ≡ e → r ≡ frame_length e m → (IsTrue (leb r 65535) ↔ (length (written_frame (with_dialogue d m)) ≤ 65535))
 fits m d e r same is = within r (length (written_frame (with_dialogue d m))) (frame_length e m) is (length-with d m ∙ ap (λ (x : Option ℕ). frame_length x m) same)

@@ -1,14 +1,15 @@
 //! The five messages of the transaction sublayer (Q.773, Structure of TC messages).
 
 mod front;
+mod length;
 mod read;
 mod write;
 
-pub use front::front_ids;
-pub use read::read_frame;
-pub use write::{MAX_MESSAGE, frame_fits, write_frame};
-
 use crate::trans_id::TransId;
+pub use front::front_ids;
+pub use length::{MAX_MESSAGE, frame_fits};
+pub use read::read_frame;
+pub use write::write_frame;
 
 /// What an Abort has behind its destination (Q.773, Abort message).
 #[derive(Clone, Copy, Debug, PartialEq, Eq)]
