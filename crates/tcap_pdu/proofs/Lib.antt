@@ -1,0 +1,2 @@
+pub mod DialogueParts
+pub mod DialogueGrammar

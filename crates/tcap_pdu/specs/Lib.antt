@@ -1,0 +1,3 @@
+pub mod DialogueSpelling
+pub mod DialogueReading
+pub mod DialogueViews

@@ -4,6 +4,9 @@
 //! `read_frame`.
 #![tactic(auto)]
 
+mod dialogue_pdu;
+pub mod dialogue_tag;
 mod fault;
 
+pub use dialogue_pdu::{DialoguePdu, Diagnostic};
 pub use fault::{DialogueFault, FrameFault, PduFault};
