@@ -20,7 +20,7 @@ use Rattle.tcap_pdu.proofs.DialogueParts.{some, information_at_takes, informatio
 
 -- ---- the contents
 
-request_takes : (bytes : List ℕ) (r : Opening) → request_at bytes ≡ Some r → SpellsRequest r.0 r.1 r.2 bytes
+pub request_takes : (bytes : List ℕ) (r : Opening) → request_at bytes ≡ Some r → SpellsRequest r.0 r.1 r.2 bytes
 unfolding request_at
 request_takes bytes r e =
     let o = bind_some (opening_at bytes) (λ o. information_at o.2 >>= (λ info. some (opening o.0 o.1 info))) r e in
@@ -37,7 +37,7 @@ request_takes bytes r e =
       is_information = t.1;
     })
 
-request_again : (version1 : Bool) (context info bytes : List ℕ) → SpellsRequest version1 context info bytes → request_at bytes ≡ Some (opening version1 context info)
+pub request_again : (version1 : Bool) (context info bytes : List ℕ) → SpellsRequest version1 context info bytes → request_at bytes ≡ Some (opening version1 context info)
 unfolding request_at
 request_again version1 context info bytes s =
     let o = opening_again (filled 0xbe info ∷ []) version1 context bytes (record { version = s.version; name = s.name; in_sequence = s.in_sequence; says_version = s.says_version; holds_context = s.holds_context; is_context = s.is_context }) in
@@ -74,14 +74,14 @@ by_provider_again true = refl
 by_provider_again false = refl
 
 -- the PDU is an AARE with these contents
-abbrev IsResponse : List ℕ → PduValue → Type 0
+abbrev pub IsResponse : List ℕ → PduValue → Type 0
 IsResponse bytes (aarq v c i) = ⊥
 IsResponse bytes (audt v c i) = ⊥
 IsResponse bytes (aare v c a d i) = SpellsResponse v c a d i bytes
 IsResponse bytes (abrt b i) = ⊥
 IsResponse bytes (foreign x) = ⊥
 
-response_takes : (bytes : List ℕ) (p : PduValue) → response_at bytes ≡ Some p → IsResponse bytes p
+pub response_takes : (bytes : List ℕ) (p : PduValue) → response_at bytes ≡ Some p → IsResponse bytes p
 unfolding response_at
 response_takes bytes p e =
     let last = λ (o : Opening) (a : Bool) (d : Source) (i : List ℕ). some (aare o.0 o.1 a d i) in
@@ -109,7 +109,7 @@ response_takes bytes p e =
       is_information = t.1;
     })
 
-response_again : (version1 : Bool) (context : List ℕ) (accepted : Bool) (diagnostic : Source) (info bytes : List ℕ) → SpellsResponse version1 context accepted diagnostic info bytes → response_at bytes ≡ Some (aare version1 context accepted diagnostic info)
+pub response_again : (version1 : Bool) (context : List ℕ) (accepted : Bool) (diagnostic : Source) (info bytes : List ℕ) → SpellsResponse version1 context accepted diagnostic info bytes → response_at bytes ≡ Some (aare version1 context accepted diagnostic info)
 unfolding response_at
 response_again version1 context accepted diagnostic info bytes s =
     let o = opening_again (must 0xa2 s.result ∷ must 0xa3 s.source ∷ filled 0xbe info ∷ []) version1 context bytes (record { version = s.version; name = s.name; in_sequence = s.in_sequence; says_version = s.says_version; holds_context = s.holds_context; is_context = s.is_context }) in
@@ -118,14 +118,14 @@ response_again version1 context accepted diagnostic info bytes s =
     rw (o.1, r.1) (rw (number_again s.result (result_number accepted) s.holds_result) (rw (accepted_again accepted) (rw (d.1, diagnostic_again s.source diagnostic s.is_diagnostic) (rw (information_at_again d.0 info d.2 s.is_information) refl))))
 
 -- the PDU is an ABRT with these contents
-abbrev IsAbort : List ℕ → PduValue → Type 0
+abbrev pub IsAbort : List ℕ → PduValue → Type 0
 IsAbort bytes (aarq v c i) = ⊥
 IsAbort bytes (audt v c i) = ⊥
 IsAbort bytes (aare v c a d i) = ⊥
 IsAbort bytes (abrt b i) = SpellsAbort b i bytes
 IsAbort bytes (foreign x) = ⊥
 
-abort_takes : (bytes : List ℕ) (p : PduValue) → abort_at bytes ≡ Some p → IsAbort bytes p
+pub abort_takes : (bytes : List ℕ) (p : PduValue) → abort_at bytes ≡ Some p → IsAbort bytes p
 unfolding abort_at
 abort_takes bytes p e =
     let s = bind_some (content_at 0x80 bytes) (λ s. one_octet s.0 >>= (λ n. by_provider_of n >>= (λ b. information_at s.1 >>= (λ i. some (abrt b i))))) p e in
@@ -139,7 +139,7 @@ abort_takes bytes p e =
       is_information = t.1;
     })
 
-abort_again : (by_provider : Bool) (info bytes : List ℕ) → SpellsAbort by_provider info bytes → abort_at bytes ≡ Some (abrt by_provider info)
+pub abort_again : (by_provider : Bool) (info bytes : List ℕ) → SpellsAbort by_provider info bytes → abort_at bytes ≡ Some (abrt by_provider info)
 unfolding abort_at
 abort_again by_provider info bytes s =
     let m = must_again 0x80 (abort_source by_provider ∷ []) (filled 0xbe info ∷ []) bytes s.in_sequence in

@@ -1,2 +1,4 @@
 pub mod DialogueParts
 pub mod DialogueGrammar
+pub mod PortionGrammar
+pub mod DialogueAgreement
