@@ -9,3 +9,4 @@ pub use Rattle.ber_core.proofs.SequenceGrammar.{Apart, is_tag-one, is_tag-is, li
 pub use Rattle.ber_core.proofs.AloneGrammar.{only_takes, only_again, alone_takes, alone_again, list_takes, list_again}
 pub use Rattle.ber_core.proofs.ObjectIdentifierGrammar.{object_identifier_takes, object_identifier_again}
 pub use Rattle.ber_core.proofs.WrittenGrammar.{length_is, part_is, fields_spelled, element_spelled, element_written}
+pub use Rattle.ber_core.proofs.LengthOfWritten.{element_length-least, element_length-most, length-written}

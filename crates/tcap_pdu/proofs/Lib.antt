@@ -2,3 +2,4 @@ pub mod DialogueParts
 pub mod DialogueGrammar
 pub mod PortionGrammar
 pub mod DialogueAgreement
+pub mod DialogueLength

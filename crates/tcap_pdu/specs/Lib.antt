@@ -1,3 +1,5 @@
 pub mod DialogueSpelling
 pub mod DialogueReading
 pub mod DialogueViews
+pub mod DialogueWritten
+pub mod DialogueDue
