@@ -3,3 +3,5 @@ pub mod DialogueGrammar
 pub mod PortionGrammar
 pub mod DialogueAgreement
 pub mod DialogueLength
+pub mod DueSteps
+pub mod WriteAgreement

@@ -4,6 +4,7 @@ ghost use Rattle.ber_core.specs.Length.{length_limit};
 ghost use Rattle.ber_core.specs.ObjectIdentifier.{object_identifier_limit};
 ghost use Rattle.ber_core.specs.Results.{Gives};
 ghost use Rattle.ber_core.specs.Sequence.Field.{filled};
+ghost use Rattle.ber_core.specs.Tag.{IsTag};
 ghost use Rattle.ber_core.specs.Written.{written, written_field, written_fields};
 ghost use Rattle.ber_core.specs.WrittenLength.{element_length};
 ghost use Rattle.tcap_pdu.specs.DialogueSpelling.{abort_source};
@@ -143,4 +144,130 @@ fn portion_len(pdu: &DialoguePdu<'_>) -> usize
         DialoguePdu::Abrt { info, .. } => external_len(element_len(1) + information_len(info.len())),
         DialoguePdu::Foreign { external } => external.len(),
     }
+}
+
+/// The length that is written, or the first fault that is due, want of memory apart.
+fn checked_len(pdu: &DialoguePdu<'_>) -> Result<usize, PduFault>
+    ensures { Gives (λ n. n) result (length_at (pdu_value pdu.now)) }
+{
+    if !has_context(pdu) {
+        return Err(PduFault::BadOid);
+    }
+    if !has_information(pdu) {
+        return Err(PduFault::BadInfo);
+    }
+    if body_of(pdu).len() > MAX_PORTION {
+        return Err(PduFault::TooLong);
+    }
+    let len = portion_len(pdu);
+    if len > MAX_PORTION {
+        return Err(PduFault::TooLong);
+    }
+    Ok(len)
+}
+
+/// How many octets `write_dialogue` gives, and `None` where it refuses for another cause than want of
+/// memory. It takes no memory.
+pub fn dialogue_len(pdu: &DialoguePdu<'_>) -> Option<usize>
+    ensures len { IfSome result (λ len. IsWritable (pdu_value pdu.now) × (len ≡ length (written_dialogue (pdu_value pdu.now)))) }
+    ensures none { IfNone result (IsWritable (pdu_value pdu.now) → ⊥) }
+    // The same, computed: what the layers above cite.
+    ensures exact { result ≡ result_ok (length_at (pdu_value pdu.now)) }
+{
+    match checked_len(pdu) {
+        Ok(len) => Some(len),
+        Err(_) => None,
+    }
+}
+
+/// Appends what begins an EXTERNAL, up to the contents of the PDU, which have this length.
+#[tactic(auto, using(crate::proofs::DialogueLength::element_least))]
+fn append_front<A: Allocator + Copy>(
+    out: &mut Vec<u8, A>,
+    syntax: &[u8],
+    tag: u8,
+    contents: usize,
+) -> Result<(), OutOfMemory>
+    requires syntax { length syntax.now ≡ 7 }
+    requires tag { IsTag (tag ∷ []) }
+    requires short { external_length contents ≤ portion_limit }
+    ensures { OnOk result (out.new.items ≡ out.old.items ++ external_front syntax.now tag contents) }
+{
+    write_head(out, &[EXTERNAL], held_len(contents))?;
+    write_element(out, &[OBJECT_IDENTIFIER], syntax)?;
+    write_head(out, &[SINGLE_ASN1_TYPE], element_len(contents))?;
+    write_head(out, &[tag], contents)
+}
+
+/// Appends a protocol version, which is always written, and an application context name.
+#[tactic(auto, using(crate::proofs::DialogueLength::element_most))]
+fn append_opening<A: Allocator + Copy>(
+    out: &mut Vec<u8, A>,
+    version1: bool,
+    context: &[u8],
+) -> Result<(), OutOfMemory>
+    requires { length context.now ≤ object_identifier_limit }
+    ensures { OnOk result (out.new.items ≡ out.old.items ++ written_fields (opening_fields version1 context.now [])) }
+{
+    let version = if version1 { VERSION_1 } else { NO_VERSION };
+    write_element(out, &[PROTOCOL_VERSION], &version)?;
+    write_head(out, &[APPLICATION_CONTEXT_NAME], element_len(context.len()))?;
+    write_element(out, &[OBJECT_IDENTIFIER], context)
+}
+
+/// Appends an element that holds an integer of one octet.
+#[tactic(auto, using(crate::proofs::DialogueLength::element_most))]
+fn append_number<A: Allocator + Copy>(
+    out: &mut Vec<u8, A>,
+    tag: u8,
+    number: u8,
+) -> Result<(), OutOfMemory>
+    requires { IsTag (tag ∷ []) }
+    ensures { OnOk result (out.new.items ≡ out.old.items ++ written (tag ∷ []) (written (0x02 ∷ []) (number ∷ []))) }
+{
+    write_head(out, &[tag], element_len(1))?;
+    write_element(out, &[INTEGER], &[number])
+}
+
+/// Appends a result.
+fn append_result<A: Allocator + Copy>(
+    out: &mut Vec<u8, A>,
+    accepted: bool,
+) -> Result<(), OutOfMemory>
+    ensures { OnOk result (out.new.items ≡ out.old.items ++ written_field (result_field accepted)) }
+{
+    if accepted {
+        append_number(out, RESULT, ACCEPTED)
+    } else {
+        append_number(out, RESULT, REJECT_PERMANENT)
+    }
+}
+
+/// Appends a result source diagnostic.
+#[tactic(auto, using(crate::proofs::DialogueLength::element_most))]
+fn append_diagnostic<A: Allocator + Copy>(
+    out: &mut Vec<u8, A>,
+    diagnostic: Diagnostic,
+) -> Result<(), OutOfMemory>
+    ensures { OnOk result (out.new.items ≡ out.old.items ++ written_field (diagnostic_field (source diagnostic))) }
+{
+    write_head(out, &[RESULT_SOURCE_DIAGNOSTIC], element_len(element_len(1)))?;
+    match diagnostic {
+        Diagnostic::User(number) => append_number(out, DIALOGUE_SERVICE_USER, number),
+        Diagnostic::Provider(number) => append_number(out, DIALOGUE_SERVICE_PROVIDER, number),
+    }
+}
+
+/// Appends user information; it is left out where it is empty.
+fn append_information<A: Allocator + Copy>(
+    out: &mut Vec<u8, A>,
+    info: &[u8],
+) -> Result<(), OutOfMemory>
+    requires { length info.now ≤ portion_limit }
+    ensures { OnOk result (out.new.items ≡ out.old.items ++ written_fields (filled 0xbe info.now ∷ [])) }
+{
+    if info.is_empty() {
+        return Ok(());
+    }
+    write_element(out, &[USER_INFORMATION], info)
 }
