@@ -55,24 +55,24 @@ length-answer a d fs =
     let second = length-written 0xa3 source ∙ ap element_length (length-written (source_tag d) (written (0x02 ∷ []) (source_number d ∷ []))) in
     omega (arith, x, y, first, second)
 
-length-request : (v : Bool) (c i : List ℕ) → length (written_fields (request_fields v c i)) ≡ opening_length (length c) + information_length (length i)
+pub length-request : (v : Bool) (c i : List ℕ) → length (written_fields (request_fields v c i)) ≡ opening_length (length c) + information_length (length i)
 length-request v c i = length-opening v c (filled 0xbe i ∷ []) ∙ ap (λ n. opening_length (length c) + n) (length-last i)
 
-length-response : (v : Bool) (c : List ℕ) (a : Bool) (d : Source) (i : List ℕ) → length (written_fields (response_fields v c a d i)) ≡ opening_length (length c) + answer_length + information_length (length i)
+pub length-response : (v : Bool) (c : List ℕ) (a : Bool) (d : Source) (i : List ℕ) → length (written_fields (response_fields v c a d i)) ≡ opening_length (length c) + answer_length + information_length (length i)
 length-response v c a d i =
     let x = length-opening v c (result_field a ∷ diagnostic_field d ∷ filled 0xbe i ∷ []) in
     let y = length-answer a d (filled 0xbe i ∷ []) in
     let z = length-last i in
     omega (arith, x, y, z)
 
-length-abort : (b : Bool) (i : List ℕ) → length (written_fields (abort_fields b i)) ≡ element_length 1 + information_length (length i)
+pub length-abort : (b : Bool) (i : List ℕ) → length (written_fields (abort_fields b i)) ≡ element_length 1 + information_length (length i)
 length-abort b i =
     let x = length-append (written (0x80 ∷ []) (abort_source b ∷ [])) (written_fields (filled 0xbe i ∷ [])) in
     let y = length-written 0x80 (abort_source b ∷ []) in
     let z = length-last i in
     omega (arith, x, y, z)
 
-length-held : (syntax : List ℕ) (tag : ℕ) (fs : List Field) → length syntax ≡ 7 → length (written_fields (must 0x06 syntax ∷ must 0xa0 (written (tag ∷ []) (written_fields fs)) ∷ [])) ≡ held_length (length (written_fields fs))
+pub length-held : (syntax : List ℕ) (tag : ℕ) (fs : List Field) → length syntax ≡ 7 → length (written_fields (must 0x06 syntax ∷ must 0xa0 (written (tag ∷ []) (written_fields fs)) ∷ [])) ≡ held_length (length (written_fields fs))
 length-held syntax tag fs is =
     let pdu = written (tag ∷ []) (written_fields fs) in
     let x = length-append (written (0x06 ∷ []) syntax) (written (0xa0 ∷ []) pdu ++ []) in
@@ -81,6 +81,7 @@ length-held syntax tag fs is =
     omega (arith, x, y, z)
 
 length-external : (syntax : List ℕ) (tag : ℕ) (fs : List Field) (n : ℕ) → length syntax ≡ 7 → length (written_fields fs) ≡ n → length (written_external syntax tag fs) ≡ external_length n
+unfolding written_external
 length-external syntax tag fs n is len =
     length-written 0x28 (written_fields (must 0x06 syntax ∷ must 0xa0 (written (tag ∷ []) (written_fields fs)) ∷ []))
     ∙ (ap element_length (length-held syntax tag fs is) ∙ ap external_length len)

@@ -5,3 +5,4 @@ pub mod DialogueAgreement
 pub mod DialogueLength
 pub mod DueSteps
 pub mod WriteAgreement
+pub mod AppendedGrammar

@@ -109,6 +109,6 @@ portion_length (foreign external) = length external
 
 -- What begins an EXTERNAL: its head, the abstract syntax, and the heads of A0 and of the PDU, whose
 -- contents have this length (Q.773, Dialogue portion).
-abbrev pub external_front : List ℕ → ℕ → ℕ → List ℕ
+unfoldable pub external_front : List ℕ → ℕ → ℕ → List ℕ
 external_front syntax tag contents =
     written_head (0x28 ∷ []) (held_length contents) ++ (written (0x06 ∷ []) syntax ++ (written_head (0xa0 ∷ []) (element_length contents) ++ written_head (tag ∷ []) contents))

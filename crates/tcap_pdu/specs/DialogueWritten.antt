@@ -47,7 +47,7 @@ abort_fields by_provider info = must 0x80 (abort_source by_provider ∷ []) ∷ 
 
 -- An EXTERNAL of this abstract syntax with a PDU of this tag and these contents
 -- (Q.773, Dialogue portion).
-abbrev pub written_external : List ℕ → ℕ → List Field → List ℕ
+unfoldable pub written_external : List ℕ → ℕ → List Field → List ℕ
 written_external syntax tag fields = written (0x28 ∷ []) (written_fields (must 0x06 syntax ∷ must 0xa0 (written (tag ∷ []) (written_fields fields)) ∷ []))
 
 -- The contents of a dialogue portion in the canonical form: the shortest definite lengths; a foreign

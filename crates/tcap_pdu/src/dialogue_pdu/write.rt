@@ -7,10 +7,10 @@ ghost use Rattle.ber_core.specs.Sequence.Field.{filled};
 ghost use Rattle.ber_core.specs.Tag.{IsTag};
 ghost use Rattle.ber_core.specs.Written.{written, written_field, written_fields};
 ghost use Rattle.ber_core.specs.WrittenLength.{element_length};
-ghost use Rattle.tcap_pdu.specs.DialogueSpelling.{abort_source};
+ghost use Rattle.tcap_pdu.specs.DialogueSpelling.{abort_source, structured_syntax};
 ghost use Rattle.tcap_pdu.specs.DialogueReading.{pdu_at};
 ghost use Rattle.tcap_pdu.specs.DialogueViews.{source, pdu_value};
-ghost use Rattle.tcap_pdu.specs.DialogueWritten.{portion_limit, opening_fields, request_fields, result_field, diagnostic_field, response_fields, abort_fields, written_dialogue, HasDiagnostic, IsWritable, WriteFault};
+ghost use Rattle.tcap_pdu.specs.DialogueWritten.{portion_limit, opening_fields, request_fields, result_field, diagnostic_field, response_fields, abort_fields, written_external, written_dialogue, HasDiagnostic, IsWritable, WriteFault};
 ghost use Rattle.tcap_pdu.specs.DialogueDue.{body_of, is_foreign, context_of, is_context, has_information, due_fault, length_at, information_length, opening_length, answer_length, contents_length, held_length, external_length, portion_length, external_front};
 
 use crate::dialogue_pdu::read::{is_user_information, read_pdu};
@@ -181,7 +181,7 @@ pub fn dialogue_len(pdu: &DialoguePdu<'_>) -> Option<usize>
 }
 
 /// Appends what begins an EXTERNAL, up to the contents of the PDU, which have this length.
-#[tactic(auto, using(crate::proofs::DialogueLength::element_least))]
+#[tactic(auto, using(crate::proofs::DialogueLength::element_least), unfolding(crate::specs::DialogueDue::external_front))]
 fn append_front<A: Allocator + Copy>(
     out: &mut Vec<u8, A>,
     syntax: &[u8],
@@ -270,4 +270,81 @@ fn append_information<A: Allocator + Copy>(
         return Ok(());
     }
     write_element(out, &[USER_INFORMATION], info)
+}
+
+/// Appends an AARQ or an AUDT, by syntax and tag, with its EXTERNAL.
+#[tactic(auto, using(crate::proofs::DialogueLength::element_most, crate::proofs::DialogueLength::information_most))]
+fn append_request<A: Allocator + Copy>(
+    out: &mut Vec<u8, A>,
+    syntax: &[u8],
+    tag: u8,
+    version1: bool,
+    context: &[u8],
+    info: &[u8],
+) -> Result<(), OutOfMemory>
+    requires syntax { length syntax.now ≡ 7 }
+    requires tag { IsTag (tag ∷ []) }
+    requires context { length context.now ≤ object_identifier_limit }
+    requires info { length info.now ≤ portion_limit }
+    requires short { external_length (opening_length (length context.now) + information_length (length info.now)) ≤ portion_limit }
+    ensures { OnOk result (out.new.items ≡ out.old.items ++ written_external syntax.now tag (request_fields version1 context.now info.now)) }
+{
+    let contents = opening_len(context.len()) + information_len(info.len());
+    append_front(out, syntax, tag, contents)?;
+    append_opening(out, version1, context)?;
+    append_information(out, info)
+}
+
+/// Appends an AARE with its EXTERNAL.
+#[tactic(auto, using(crate::proofs::DialogueLength::element_most, crate::proofs::DialogueLength::information_most))]
+fn append_response<A: Allocator + Copy>(
+    out: &mut Vec<u8, A>,
+    version1: bool,
+    context: &[u8],
+    accepted: bool,
+    diagnostic: Diagnostic,
+    info: &[u8],
+) -> Result<(), OutOfMemory>
+    requires context { length context.now ≤ object_identifier_limit }
+    requires info { length info.now ≤ portion_limit }
+    requires short { external_length (opening_length (length context.now) + answer_length + information_length (length info.now)) ≤ portion_limit }
+    ensures { OnOk result (out.new.items ≡ out.old.items ++ written_external structured_syntax 0x61 (response_fields version1 context.now accepted (source diagnostic) info.now)) }
+{
+    let contents = opening_len(context.len()) + answer_len() + information_len(info.len());
+    append_front(out, &STRUCTURED, DIALOGUE_RESPONSE, contents)?;
+    append_opening(out, version1, context)?;
+    append_result(out, accepted)?;
+    append_diagnostic(out, diagnostic)?;
+    append_information(out, info)
+}
+
+/// Appends an abort source.
+fn append_source<A: Allocator + Copy>(
+    out: &mut Vec<u8, A>,
+    by_provider: bool,
+) -> Result<(), OutOfMemory>
+    ensures { OnOk result (out.new.items ≡ out.old.items ++ written (0x80 ∷ []) (abort_source by_provider ∷ [])) }
+{
+    if by_provider {
+        write_element(out, &[ABORT_SOURCE], &[ABORT_BY_PROVIDER])
+    } else {
+        write_element(out, &[ABORT_SOURCE], &[ABORT_BY_USER])
+    }
+}
+
+/// Appends an ABRT with its EXTERNAL.
+#[tactic(auto, using(crate::proofs::DialogueLength::element_most, crate::proofs::DialogueLength::information_most))]
+fn append_abort<A: Allocator + Copy>(
+    out: &mut Vec<u8, A>,
+    by_provider: bool,
+    info: &[u8],
+) -> Result<(), OutOfMemory>
+    requires info { length info.now ≤ portion_limit }
+    requires short { external_length (element_length 1 + information_length (length info.now)) ≤ portion_limit }
+    ensures { OnOk result (out.new.items ≡ out.old.items ++ written_external structured_syntax 0x64 (abort_fields by_provider info.now)) }
+{
+    let contents = element_len(1) + information_len(info.len());
+    append_front(out, &STRUCTURED, DIALOGUE_ABORT, contents)?;
+    append_source(out, by_provider)?;
+    append_information(out, info)
 }
