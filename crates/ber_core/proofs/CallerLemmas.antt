@@ -7,4 +7,6 @@ pub use Rattle.ber_core.proofs.ElementGrammar.{element_takes, element_again, IsE
 pub use Rattle.ber_core.proofs.ItemSteps.{items_of-empty, items_of-none, items_of-next, items_of-fault, items_of-list}
 pub use Rattle.ber_core.proofs.SequenceGrammar.{Apart, is_tag-one, is_tag-is, list_from, content_at-is, may_takes, filled_takes, must_takes, any_takes, end_takes, may_again, must_again, filled_again, any_again, end_again, must-longer, other_first}
 pub use Rattle.ber_core.proofs.AloneGrammar.{only_takes, only_again, alone_takes, alone_again, list_takes, list_again}
+pub use Rattle.ber_core.proofs.ObjectIdentifierGrammar.{object_identifier_takes, object_identifier_again}
 pub use Rattle.ber_core.proofs.WrittenGrammar.{length_is, part_is, fields_spelled, element_spelled, element_written}
+pub use Rattle.ber_core.proofs.LengthOfWritten.{element_length-least, element_length-most, length-written}

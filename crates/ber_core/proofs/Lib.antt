@@ -16,3 +16,4 @@ pub mod ResultSteps
 pub mod SequenceGrammar
 pub mod Steps
 pub mod WrittenGrammar
+pub mod LengthOfWritten

@@ -14,3 +14,4 @@ pub mod SequenceReading
 pub mod Tag
 pub mod Views
 pub mod Written
+pub mod WrittenLength

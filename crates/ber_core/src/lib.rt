@@ -14,6 +14,7 @@ mod object_identifier;
 mod scan;
 mod sequence;
 mod write;
+mod written_len;
 
 pub use element::{Element, read_element};
 pub use elements::{Elements, is_element_list};
@@ -23,6 +24,7 @@ pub use object_identifier::is_oid;
 pub use scan::MAX_DEPTH;
 pub use sequence::{read_alone, take_any, take_content, take_only, take_tagged};
 pub use write::{write_element, write_head};
+pub use written_len::element_len;
 
 #[cfg(test)]
 mod tests;

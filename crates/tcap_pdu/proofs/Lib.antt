@@ -1,6 +1,14 @@
+pub mod AppendedGrammar
 pub mod CallerLemmas
+pub mod DialogueAgreement
+pub mod DialogueGrammar
+pub mod DialogueLength
+pub mod DialogueParts
+pub mod DueSteps
 pub mod FrameGrammar
 pub mod FrontGrammar
 pub mod LengthGrammar
 pub mod MessageGrammar
+pub mod PortionGrammar
+pub mod WriteAgreement
 pub mod WrittenFrameGrammar

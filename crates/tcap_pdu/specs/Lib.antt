@@ -1,3 +1,8 @@
+pub mod DialogueDue
+pub mod DialogueReading
+pub mod DialogueSpelling
+pub mod DialogueViews
+pub mod DialogueWritten
 pub mod FrameFaults
 pub mod FrameLength
 pub mod FrameReading

@@ -4,12 +4,15 @@
 //! `read_frame`.
 #![tactic(auto)]
 
+mod dialogue_pdu;
+pub mod dialogue_tag;
 mod fault;
 mod frame;
 pub mod laws;
 pub mod tag;
 mod trans_id;
 
+pub use dialogue_pdu::{Diagnostic, DialoguePdu};
 pub use fault::{DialogueFault, FrameFault, PduFault};
 pub use frame::{AbortPart, Frame, MAX_MESSAGE, frame_fits, front_ids, read_frame, write_frame};
 pub use trans_id::TransId;

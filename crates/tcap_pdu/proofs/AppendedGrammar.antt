@@ -1,0 +1,65 @@
+-- What is appended part by part is the written PDU.
+use Rattle.std.proofs.Common.{◌≡◌, ℕ, ◌+◌, Bool, List, [], ◌∷◌, ◌++◌, length, Ok, Err, Result, refl, sym, ap, ◌∙◌, append_assoc, append-nil}
+use Rattle.std.specs.Prelude.{OnOk}
+use Rattle.ber_core.specs.Sequence.{Field}
+use Rattle.ber_core.specs.Sequence.Field.{must, may, filled}
+use Rattle.ber_core.specs.Written.{written, written_head, written_field, written_fields}
+use Rattle.ber_core.specs.WrittenLength.{element_length}
+use Rattle.ber_core.proofs.CallerLemmas.{length-written}
+use Rattle.tcap_pdu.specs.DialogueSpelling.{Source, abort_source}
+use Rattle.tcap_pdu.specs.DialogueWritten.{opening_fields, request_fields, result_field, diagnostic_field, response_fields, abort_fields, written_external}
+use Rattle.tcap_pdu.specs.DialogueDue.{information_length, opening_length, answer_length, held_length, external_front}
+use Rattle.tcap_pdu.proofs.DialogueLength.{length-held, length-request, length-response, length-abort}
+
+pub by_ok : {A E : Type 0} (P Q : Type 0) (r : Result A E) → OnOk r P → (P → Q) → OnOk r Q
+by_ok P Q (Ok x) h f = f h
+by_ok P Q (Err e) h f = h
+
+written_fields-append : (fs gs : List Field) → written_fields (fs ++ gs) ≡ written_fields fs ++ written_fields gs
+written_fields-append [] gs = refl
+written_fields-append (f ∷ fs) gs = ap (λ (w : List ℕ). written_field f ++ w) (written_fields-append fs gs) ∙ sym (append_assoc (written_field f) (written_fields fs) (written_fields gs))
+
+heads : (a s b t f : List ℕ) → (a ++ (s ++ (b ++ t))) ++ f ≡ a ++ (s ++ ((b ++ (t ++ f)) ++ []))
+heads a s b t f =
+    append_assoc a (s ++ (b ++ t)) f
+    ∙ ap (λ (w : List ℕ). a ++ w) (append_assoc s (b ++ t) f
+    ∙ ap (λ (w : List ℕ). s ++ w) (append_assoc b t f ∙ sym (append-nil (b ++ (t ++ f)))))
+
+front-is : (syntax : List ℕ) (tag : ℕ) (fs : List Field) → length syntax ≡ 7 → external_front syntax tag (length (written_fields fs)) ++ written_fields fs ≡ written_external syntax tag fs
+unfolding written_external external_front
+front-is syntax tag fs is =
+    let f = written_fields fs in
+    let s = written (0x06 ∷ []) syntax in
+    let t = written_head (tag ∷ []) (length f) in
+    let held = written_fields (must 0x06 syntax ∷ must 0xa0 (written (tag ∷ []) f) ∷ []) in
+    ap (λ (n : ℕ). (written_head (0x28 ∷ []) n ++ (s ++ (written_head (0xa0 ∷ []) (element_length (length f)) ++ t))) ++ f) (sym (length-held syntax tag fs is))
+    ∙ (ap (λ (n : ℕ). (written_head (0x28 ∷ []) (length held) ++ (s ++ (written_head (0xa0 ∷ []) n ++ t))) ++ f) (sym (length-written tag f))
+    ∙ heads (written_head (0x28 ∷ []) (length held)) s (written_head (0xa0 ∷ []) (length (written (tag ∷ []) f))) t f)
+
+-- behind a front, contents of the length that it tells
+behind : (old syntax contents : List ℕ) (tag n : ℕ) (fs : List Field) → length syntax ≡ 7 → length (written_fields fs) ≡ n → contents ≡ written_fields fs → old ++ (external_front syntax tag n ++ contents) ≡ old ++ written_external syntax tag fs
+behind old syntax contents tag n fs is len same =
+    ap (λ (w : List ℕ). old ++ (external_front syntax tag n ++ w)) same
+    ∙ (ap (λ (m : ℕ). old ++ (external_front syntax tag m ++ written_fields fs)) (sym len)
+    ∙ ap (λ (w : List ℕ). old ++ w) (front-is syntax tag fs is))
+
+two : (a b c d : List ℕ) → ((a ++ b) ++ c) ++ d ≡ a ++ (b ++ (c ++ d))
+two a b c d = append_assoc (a ++ b) c d ∙ append_assoc a b (c ++ d)
+
+four : (a b c d e f : List ℕ) → ((((a ++ b) ++ c) ++ d) ++ e) ++ f ≡ a ++ (b ++ (c ++ (d ++ (e ++ f))))
+four a b c d e f = append_assoc (((a ++ b) ++ c) ++ d) e f ∙ two (a ++ b) c d (e ++ f) ∙ append_assoc a b (c ++ (d ++ (e ++ f)))
+
+pub request-appended : (old syntax : List ℕ) (tag n : ℕ) (v : Bool) (c i : List ℕ) → length syntax ≡ 7 → n ≡ opening_length (length c) + information_length (length i) → ((old ++ external_front syntax tag n) ++ written_fields (opening_fields v c [])) ++ written_fields (filled 0xbe i ∷ []) ≡ old ++ written_external syntax tag (request_fields v c i)
+request-appended old syntax tag n v c i is len =
+    two old (external_front syntax tag n) (written_fields (opening_fields v c [])) (written_fields (filled 0xbe i ∷ []))
+    ∙ behind old syntax (written_fields (opening_fields v c []) ++ written_fields (filled 0xbe i ∷ [])) tag n (request_fields v c i) is (length-request v c i ∙ sym len) (sym (written_fields-append (opening_fields v c []) (filled 0xbe i ∷ [])))
+
+pub response-appended : (old syntax : List ℕ) (tag n : ℕ) (v : Bool) (c : List ℕ) (a : Bool) (d : Source) (i : List ℕ) → length syntax ≡ 7 → n ≡ opening_length (length c) + answer_length + information_length (length i) → ((((old ++ external_front syntax tag n) ++ written_fields (opening_fields v c [])) ++ written_field (result_field a)) ++ written_field (diagnostic_field d)) ++ written_fields (filled 0xbe i ∷ []) ≡ old ++ written_external syntax tag (response_fields v c a d i)
+response-appended old syntax tag n v c a d i is len =
+    four old (external_front syntax tag n) (written_fields (opening_fields v c [])) (written_field (result_field a)) (written_field (diagnostic_field d)) (written_fields (filled 0xbe i ∷ []))
+    ∙ behind old syntax (written_fields (opening_fields v c []) ++ written_fields (result_field a ∷ diagnostic_field d ∷ filled 0xbe i ∷ [])) tag n (response_fields v c a d i) is (length-response v c a d i ∙ sym len) (sym (written_fields-append (opening_fields v c []) (result_field a ∷ diagnostic_field d ∷ filled 0xbe i ∷ [])))
+
+pub abort-appended : (old syntax : List ℕ) (tag n : ℕ) (b : Bool) (i : List ℕ) → length syntax ≡ 7 → n ≡ element_length 1 + information_length (length i) → ((old ++ external_front syntax tag n) ++ written (0x80 ∷ []) (abort_source b ∷ [])) ++ written_fields (filled 0xbe i ∷ []) ≡ old ++ written_external syntax tag (abort_fields b i)
+abort-appended old syntax tag n b i is len =
+    two old (external_front syntax tag n) (written (0x80 ∷ []) (abort_source b ∷ [])) (written_fields (filled 0xbe i ∷ []))
+    ∙ behind old syntax (written_fields (abort_fields b i)) tag n (abort_fields b i) is (length-abort b i ∙ sym len) refl
