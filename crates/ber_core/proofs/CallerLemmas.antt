@@ -8,5 +8,6 @@ pub use Rattle.ber_core.proofs.ItemSteps.{items_of-empty, items_of-none, items_o
 pub use Rattle.ber_core.proofs.SequenceGrammar.{Apart, is_tag-one, is_tag-is, list_from, content_at-is, may_takes, filled_takes, must_takes, any_takes, end_takes, may_again, must_again, filled_again, any_again, end_again, must-longer, other_first}
 pub use Rattle.ber_core.proofs.AloneGrammar.{only_takes, only_again, alone_takes, alone_again, list_takes, list_again}
 pub use Rattle.ber_core.proofs.WrittenGrammar.{length_is, part_is, fields_spelled, element_spelled, element_written}
-pub use Rattle.ber_core.proofs.IntegerGrammar.{integer_takes, integer_again, integer-octets, integer_spelled}
+pub use Rattle.ber_core.proofs.IntegerGrammar.{integer_takes, integer_again, integer-octets, integer_spelled, integer-fits}
+pub use Rattle.ber_core.proofs.ObjectIdentifierGrammar.{object_identifier_takes, object_identifier_again}
 pub use Rattle.ber_core.proofs.IntegerOctets.{octet_of-signed_octet, signed_octet-octet_of, octet_of-below, signed_octet-fits, cast_signed-is, cast_unsigned-is}

@@ -1,5 +1,5 @@
 -- What is read is an integer, each integer is read, and its octets are those that are written for it.
-use Rattle.std.proofs.Common.{◌≡◌, ℕ, zero, suc, ◌+◌, ◌-◌, ◌*◌, ◌/◌, ◌%◌, ◌<◌, ◌≤◌, ℤ, pos, negsuc, Bool, true, false, ltb, eqb, List, [], ◌∷◌, length, map, Option, Some, None, refl, sym, ap, ◌∙◌, inl, inr, arith}
+use Rattle.std.proofs.Common.{◌≡◌, ℕ, zero, suc, ◌+◌, ◌-◌, ◌*◌, ◌/◌, ◌%◌, ◌<◌, ◌≤◌, ℤ, pos, negsuc, Bool, true, false, ltb, eqb, List, [], ◌∷◌, length, map, Option, Some, None, refl, sym, ap, subst, ◌∙◌, inl, inr, arith}
 use Rattle.std.specs.Prelude.{IfSome}
 use Rattle.std.specs.List.{AllByRecursion, list_all}
 use Rattle.std.specs.Prelude.{FitsSigned}
@@ -209,3 +209,31 @@ found xs (Some z) e = integer_takes xs z (sym e)
 pub fewest : (xs : List ℕ) (o : Option ℤ) → o ≡ integer_at xs → IfSome o (λ z. xs ≡ integer_octets z)
 fewest xs None e = tt
 fewest xs (Some z) e = integer-octets z xs (integer_takes xs z (sym e))
+
+-- ---- an integer of at most four octets is one of 32 bits
+
+number-fits : (xs : List ℕ) → AllByRecursion IsOctet xs → length xs ≤ 4 → FitsSigned w32 (signed_number xs)
+unfolding signed_after
+number-fits [] o le = let small : 0 < 2147483648 = omega arith in record { sfits = small }
+number-fits (a ∷ []) o le = elim (cases_Bool (ltb a 128)) [
+  | inl y ↦ let low = ltb-true a 128 y in let small : a < 2147483648 = omega arith in rw y (record { sfits = small })
+  | inr n ↦ let small : 255 - a < 2147483648 = omega arith in rw n (record { sfits = small })
+]
+number-fits (a ∷ b ∷ []) o le = elim (cases_Bool (ltb a 128)) [
+  | inl y ↦ let low = ltb-true a 128 y in let small : a * 256 + b < 2147483648 = omega (arith, o.1.0) in rw y (record { sfits = small })
+  | inr n ↦ let small : (255 - a) * 256 + (255 - b) < 2147483648 = omega arith in rw n (record { sfits = small })
+]
+number-fits (a ∷ b ∷ c ∷ []) o le = elim (cases_Bool (ltb a 128)) [
+  | inl y ↦ let low = ltb-true a 128 y in let small : (a * 256 + b) * 256 + c < 2147483648 = omega (arith, o.1.0, o.1.1.0) in rw y (record { sfits = small })
+  | inr n ↦ let small : ((255 - a) * 256 + (255 - b)) * 256 + (255 - c) < 2147483648 = omega arith in rw n (record { sfits = small })
+]
+number-fits (a ∷ b ∷ c ∷ d ∷ []) o le = elim (cases_Bool (ltb a 128)) [
+  | inl y ↦ let low = ltb-true a 128 y in let small : ((a * 256 + b) * 256 + c) * 256 + d < 2147483648 = omega (arith, o.1.0, o.1.1.0, o.1.1.1.0) in rw y (record { sfits = small })
+  | inr n ↦
+      let high = ltb-false a 128 n in
+      let small : (((255 - a) * 256 + (255 - b)) * 256 + (255 - c)) * 256 + (255 - d) < 2147483648 = omega arith in rw n (record { sfits = small })
+]
+number-fits (a ∷ b ∷ c ∷ d ∷ e ∷ xs) o le = absurd (omega arith)
+
+pub integer-fits : (z : ℤ) (xs : List ℕ) → IsInteger z xs → FitsSigned w32 z
+integer-fits z xs h = subst (FitsSigned w32) (sym h.is_number) (number-fits xs h.are_octets h.is_short)
