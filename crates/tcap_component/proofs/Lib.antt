@@ -1,1 +1,4 @@
+pub mod ContentsGrammar
+pub mod FaultGrammar
+pub mod ComponentGrammar
 pub mod PartGrammar

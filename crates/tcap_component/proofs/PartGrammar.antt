@@ -8,15 +8,12 @@ use Rattle.ber_core.specs.ObjectIdentifier.{IsObjectIdentifier, is_object_identi
 use Rattle.ber_core.specs.Sequence.{Field, SpellsSequence}
 use Rattle.ber_core.specs.Sequence.Field.{must, may, any}
 use Rattle.ber_core.specs.SequenceReading.{tagged, content_at, first_whole, ending}
-use Rattle.ber_core.proofs.CallerLemmas.{Apart, some_is, bind_some, test_some, ending-is, ending-again, content_at-is, must_takes, must_again, may_takes, may_again, any_takes, any_again, end_takes, end_again, other_first, integer_takes, integer_again, integer-octets, integer_spelled, integer-fits, octet_of-signed_octet, signed_octet-octet_of, octet_of-below, signed_octet-fits, object_identifier_takes, object_identifier_again}
+use Rattle.ber_core.proofs.CallerLemmas.{Apart, some, some_is, bind_some, test_some, ending-is, ending-again, content_at-is, must_takes, must_again, may_takes, may_again, any_takes, any_again, end_takes, end_again, other_first, integer_takes, integer_again, integer-octets, integer_spelled, integer-fits, octet_of-signed_octet, signed_octet-octet_of, octet_of-below, signed_octet-fits, object_identifier_takes, object_identifier_again}
 use Rattle.tcap_component.specs.declared.problem.Kind.{Kind}
 use Rattle.tcap_component.specs.declared.problem.Kind.TheVariants as kind
 use Rattle.tcap_component.specs.Component.{CodeParts, BodyParts, identifier, code_field, rejected_field, body_fields, IsIdentifier, IsIdentifierIfAny, IsCode}
 use Rattle.tcap_component.specs.Component.CodeParts.{local, global}
 use Rattle.tcap_component.specs.ComponentReading.{with_rest, identifier_of, identifier_at, some_identifier, linked_from, linked_at, global_from, code_from, code_at, coded, body_at, null_from, rejected_from, rejected_at}
-
-abbrev some : {A : Type 0} → A → Option A
-some x = Some x
 
 -- ---- identifiers
 
