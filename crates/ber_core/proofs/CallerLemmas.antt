@@ -10,3 +10,5 @@ pub use Rattle.ber_core.proofs.AloneGrammar.{only_takes, only_again, alone_takes
 pub use Rattle.ber_core.proofs.ObjectIdentifierGrammar.{object_identifier_takes, object_identifier_again}
 pub use Rattle.ber_core.proofs.WrittenGrammar.{length_is, part_is, fields_spelled, element_spelled, element_written}
 pub use Rattle.ber_core.proofs.LengthOfWritten.{element_length-least, element_length-most, length-written}
+pub use Rattle.ber_core.proofs.IntegerGrammar.{integer_takes, integer_again, integer-octets, integer_spelled, integer-fits}
+pub use Rattle.ber_core.proofs.IntegerOctets.{octet_of-signed_octet, signed_octet-octet_of, octet_of-below, signed_octet-fits, cast_signed-is, cast_unsigned-is}

@@ -8,6 +8,9 @@ pub mod FaultAgain
 pub mod HeadAgreement
 pub mod HeadFaults
 pub mod HeadGrammar
+pub mod IntegerGrammar
+pub mod IntegerOctets
+pub mod IntegerSteps
 pub mod ItemSteps
 pub mod ObjectIdentifierGrammar
 pub mod Octets

@@ -4,6 +4,7 @@ pub mod ElementReading
 pub mod Fault
 pub mod Head
 pub mod HeadReading
+pub mod Integer
 pub mod Length
 pub mod ListReading
 pub mod ObjectIdentifier

@@ -1,0 +1,7 @@
+pub mod Component
+pub mod ComponentFault
+pub mod ComponentList
+pub mod ComponentReading
+pub mod Problem
+pub mod Views
+pub mod Written

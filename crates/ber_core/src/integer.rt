@@ -1,0 +1,128 @@
+ghost use Rattle.std.specs.Prelude.{◌≡◌, ◌++◌, [], ◌∷◌, ℤ, Some, IfSome, OnOk, OnErr};
+ghost use Rattle.std.specs.Int.{w32, cast_signed};
+ghost use Rattle.ber_core.specs.Tag.{IsTag};
+ghost use Rattle.ber_core.specs.Integer.{IsInteger, is_padded, sign_octet, word_of, integer_at, integer_octets};
+ghost use Rattle.ber_core.specs.Written.{written};
+
+use crate::fault::OutOfMemory;
+use crate::write::write_element;
+use std::alloc::Allocator;
+
+/// Whether the first octet and bit 8 of the second are nine equal bits, so that one octet less would do.
+fn starts_padded(first: u8, second: u8) -> bool
+    ensures { result ≡ is_padded first second }
+{
+    if first == 0x00 {
+        second < 0x80
+    } else {
+        first == 0xff && second >= 0x80
+    }
+}
+
+/// The octet of eight bits equal to bit 8 of the first octet.
+fn sign_of(first: u8) -> u8
+    ensures { result ≡ sign_octet first }
+{
+    if first < 0x80 { 0x00 } else { 0xff }
+}
+
+/// The number of four octets in two's complement, most significant first.
+fn signed_word(a: u8, b: u8, c: u8, d: u8) -> i32
+    ensures { result ≡ cast_signed w32 (word_of a b c d) }
+{
+    let word = ((u32::from(a) * 0x100 + u32::from(b)) * 0x100 + u32::from(c)) * 0x100
+        + u32::from(d);
+    word.cast_signed()
+}
+
+/// The number that contents octets are, in exact form: fewer than four are filled up by their sign.
+fn integer(content: &[u8]) -> Option<i32>
+    ensures { result ≡ integer_at content.now }
+{
+    match *content {
+        [a] => Some(i32::from(a.cast_signed())),
+        [a, b] if !starts_padded(a, b) => {
+            let sign = sign_of(a);
+            Some(signed_word(sign, sign, a, b))
+        }
+        [a, b, c] if !starts_padded(a, b) => Some(signed_word(sign_of(a), a, b, c)),
+        [a, b, c, d] if !starts_padded(a, b) => Some(signed_word(a, b, c, d)),
+        _ => None,
+    }
+}
+
+/// The number that contents octets are: one to four octets, two's complement, in the fewest octets
+/// (X.690, Encoding of an integer value; the limit is our own).
+pub fn read_int(content: &[u8]) -> Option<i32>
+    // What is read is the number of the octets, and these are the ones that are written for it.
+    ensures found { IfSome result (λ z. IsInteger z content.now) }
+    ensures fewest { IfSome result (λ z. content.now ≡ integer_octets z) }
+    // Each integer is read.
+    ensures only { (z : ℤ) → IsInteger z content.now → result ≡ Some z }
+    // The same, computed: what the layers above cite.
+    ensures exact { result ≡ integer_at content.now }
+{
+    integer(content)
+}
+
+/// Appends an integer in the shortest definite form, or nothing. `tag` is one octet that `read_head`
+/// reads as a tag (X.690, Encoding of an integer value).
+pub fn write_int<A: Allocator + Copy>(
+    out: &mut Vec<u8, A>,
+    tag: u8,
+    value: i32,
+) -> Result<(), OutOfMemory>
+    requires { IsTag (tag ∷ []) }
+    ensures ok { OnOk result (out.new.items ≡ out.old.items ++ written (tag ∷ []) (integer_octets value)) }
+    ensures err { OnErr result (out.new.items ≡ out.old.items) }
+    // What is written is the number.
+    ensures spelled { IsInteger value (integer_octets value) }
+{
+    let word = value.cast_unsigned();
+    let a = (word / 0x100_0000) as u8;
+    let b = (word / 0x1_0000 % 0x100) as u8;
+    let c = (word / 0x100 % 0x100) as u8;
+    let d = (word % 0x100) as u8;
+    if -0x80 <= value && value < 0x80 {
+        write_element(out, &[tag], &[d])
+    } else if -0x8000 <= value && value < 0x8000 {
+        write_element(out, &[tag], &[c, d])
+    } else if -0x80_0000 <= value && value < 0x80_0000 {
+        write_element(out, &[tag], &[b, c, d])
+    } else {
+        write_element(out, &[tag], &[a, b, c, d])
+    }
+}
+
+#[cfg(test)]
+mod tests {
+    use crate::{read_int, write_int};
+    use std::test::Fail;
+
+    #[test]
+    fn integers_read(rt: HostRuntime) -> Result<(), Fail> {
+        let rows: [(&[u8], Option<i32>); 9] = [
+            (&[0x00, 0x80], Some(128)),
+            (&[0x80], Some(-128)),
+            (&[0xff, 0x7f], Some(-129)),
+            (&[0x80, 0x00, 0x00, 0x00], Some(i32::MIN)),
+            (&[0x7f, 0xff, 0xff, 0xff], Some(i32::MAX)),
+            (&[0x00, 0x7f], None),
+            (&[0xff, 0x80], None),
+            (&[], None),
+            (&[0x01, 0x00, 0x00, 0x00, 0x00], None),
+        ];
+        for (content, value) in rows {
+            assert_eq!(rt; read_int(content), value);
+        }
+        Ok(())
+    }
+
+    #[test]
+    fn integer_written(rt: HostRuntime) -> Result<(), Fail> {
+        let mut out = Vec::new(rt.alloc());
+        assert_eq!(rt; write_int(&mut out, 0x02, 128), Ok(()));
+        assert_eq!(rt; out.as_slice(), [0x02, 0x02, 0x00, 0x80].as_slice());
+        Ok(())
+    }
+}

@@ -1,0 +1,350 @@
+//! Components read, each by its line of the table in Q.773.
+
+ghost use Rattle.std.specs.Prelude.{◌≡◌, ℕ, List, ◌++◌, option_copied, IfOk, IfErr, IsOkAnd};
+ghost use Rattle.std.specs.Option.{option_map};
+ghost use Rattle.ber_core.specs.Results.{Gives};
+ghost use Rattle.ber_core.specs.Tag.{is_constructor};
+ghost use Rattle.ber_core.specs.Views.{parts};
+ghost use Rattle.tcap_component.specs.Problem.{IsProblem, general_problem, problem_tag};
+ghost use Rattle.tcap_component.specs.Component.{ComponentParts, SpellsComponent};
+ghost use Rattle.tcap_component.specs.ComponentFault.{fault, IsComponentFault};
+ghost use Rattle.tcap_component.specs.ComponentReading.{identifier_of, identifier_at, linked_at, code_at, body_at, result_at, rejected_at, problem_kind, problem_code, problem_at, invoke_at, result_last_at, error_at, reject_at, result_more_at, contents_at, form_at, is_result, second_is_listed, is_structured, verdict_by, front_identifier, component_at};
+ghost use Rattle.tcap_component.specs.Views.{code_parts, body_parts, component_parts};
+
+use crate::component::{Body, Code, Component, Form};
+use crate::fault::ComponentFault;
+use crate::problem::general_problem::{
+    BADLY_STRUCTURED_COMPONENT, MISTYPED_COMPONENT, UNRECOGNIZED_COMPONENT,
+};
+use crate::problem::{Kind, Problem};
+use crate::tag;
+use ber_core::{
+    Element, is_element_list, is_oid, read_element, read_int, take_any, take_content, take_tagged,
+};
+
+/// The identifier that one octet is.
+#[tactic(auto, unfolding(crate::specs::ComponentReading::identifier_of))]
+fn identifier(content: &[u8]) -> Option<i8>
+    ensures { result ≡ identifier_of content.now }
+{
+    match content {
+        [octet] => Some(octet.cast_signed()),
+        _ => None,
+    }
+}
+
+/// 02 identifier, and what follows it.
+#[tactic(auto, unfolding(crate::specs::ComponentReading::identifier_at))]
+fn take_identifier(bytes: &[u8]) -> Option<(i8, &[u8])>
+    ensures { option_map (λ r. (r.0, r.1.now)) result ≡ identifier_at bytes.now }
+{
+    let (content, rest) = take_content(bytes, tag::INTEGER)?;
+    let id = identifier(content)?;
+    Some((id, rest))
+}
+
+/// [80 linked identifier], and what follows it.
+#[tactic(auto, unfolding(crate::specs::ComponentReading::linked_at))]
+fn take_linked(bytes: &[u8]) -> Option<(Option<i8>, &[u8])>
+    ensures { option_map (λ r. (r.0, r.1.now)) result ≡ linked_at bytes.now }
+{
+    match take_tagged(bytes, tag::LINKED_ID) {
+        (None, rest) => Some((None, rest)),
+        (Some(content), rest) => {
+            let id = identifier(content)?;
+            Some((Some(id), rest))
+        }
+    }
+}
+
+/// A code: 02 integer or 06 object identifier, and what follows it.
+#[tactic(auto, unfolding(crate::specs::ComponentReading::code_at))]
+fn take_code<'a>(bytes: &'a [u8]) -> Option<(Code<'a>, &'a [u8])>
+    ensures { option_map (λ r. (code_parts r.0, r.1.now)) result ≡ code_at bytes.now }
+{
+    if let (Some(content), rest) = take_tagged(bytes, tag::INTEGER) {
+        let number = read_int(content)?;
+        return Some((Code::Local(number), rest));
+    }
+    let (octets, rest) = take_content(bytes, tag::OBJECT_IDENTIFIER)?;
+    if !is_oid(octets) {
+        return None;
+    }
+    Some((Code::Global(octets), rest))
+}
+
+/// Code, [parameter].
+#[tactic(auto, unfolding(crate::specs::ComponentReading::body_at))]
+fn read_body<'a>(bytes: &'a [u8]) -> Option<Body<'a>>
+    ensures { option_map body_parts result ≡ body_at bytes.now }
+{
+    let (code, rest) = take_code(bytes)?;
+    let (parameter, rest) = take_any(rest);
+    if !rest.is_empty() {
+        return None;
+    }
+    Some(Body { code, parameter })
+}
+
+/// A result: 02 identifier, [30 { code, [parameter] }].
+#[tactic(auto, unfolding(crate::specs::ComponentReading::result_at))]
+fn read_result<'a>(bytes: &'a [u8]) -> Option<(i8, Option<Body<'a>>)>
+    ensures { option_map (λ r. (r.0, option_map body_parts r.1)) result ≡ result_at bytes.now }
+{
+    let (id, rest) = take_identifier(bytes)?;
+    let (inner, rest) = take_tagged(rest, tag::SEQUENCE);
+    let body = match inner {
+        Some(inner) => Some(read_body(inner)?),
+        None => None,
+    };
+    if !rest.is_empty() {
+        return None;
+    }
+    Some((id, body))
+}
+
+/// 02 identifier or 05 with nothing, and what follows it.
+#[tactic(auto, unfolding(crate::specs::ComponentReading::rejected_at))]
+fn take_rejected(bytes: &[u8]) -> Option<(Option<i8>, &[u8])>
+    ensures { option_map (λ r. (r.0, r.1.now)) result ≡ rejected_at bytes.now }
+{
+    if let (Some(content), rest) = take_tagged(bytes, tag::INTEGER) {
+        let id = identifier(content)?;
+        return Some((Some(id), rest));
+    }
+    let (content, rest) = take_content(bytes, tag::NULL)?;
+    if !content.is_empty() {
+        return None;
+    }
+    Some((None, rest))
+}
+
+/// The kind of problem that the first octet is the tag of.
+#[tactic(auto, unfolding(crate::specs::ComponentReading::problem_kind))]
+fn kind_of(bytes: &[u8]) -> Option<Kind>
+    ensures { result ≡ problem_kind bytes.now }
+{
+    match bytes {
+        [tag::GENERAL_PROBLEM, ..] => Some(Kind::General),
+        [tag::INVOKE_PROBLEM, ..] => Some(Kind::Invoke),
+        [tag::RETURN_RESULT_PROBLEM, ..] => Some(Kind::Result),
+        [tag::RETURN_ERROR_PROBLEM, ..] => Some(Kind::Error),
+        _ => None,
+    }
+}
+
+/// The tag of a problem of this kind.
+pub fn tag_of(kind: Kind) -> u8
+    ensures { result ≡ problem_tag kind }
+{
+    match kind {
+        Kind::General => tag::GENERAL_PROBLEM,
+        Kind::Invoke => tag::INVOKE_PROBLEM,
+        Kind::Result => tag::RETURN_RESULT_PROBLEM,
+        Kind::Error => tag::RETURN_ERROR_PROBLEM,
+    }
+}
+
+/// 80, 81, 82 or 83 with a problem's code, 00 to 7F.
+#[tactic(auto, unfolding(crate::specs::ComponentReading::problem_at, crate::specs::ComponentReading::problem_code))]
+fn read_problem(bytes: &[u8]) -> Option<Problem>
+    ensures { result ≡ problem_at bytes.now }
+{
+    let kind = kind_of(bytes)?;
+    let (content, rest) = take_content(bytes, tag_of(kind))?;
+    let [code] = content else {
+        return None;
+    };
+    let problem = Problem::new(kind, *code)?;
+    if !rest.is_empty() {
+        return None;
+    }
+    Some(problem)
+}
+
+/// Invoke: 02 identifier, [80 linked identifier], code, [parameter].
+#[tactic(auto, unfolding(crate::specs::ComponentReading::invoke_at))]
+fn read_invoke<'a>(content: &'a [u8]) -> Option<Component<'a>>
+    ensures { option_map component_parts result ≡ invoke_at content.now }
+{
+    let (id, rest) = take_identifier(content)?;
+    let (linked, rest) = take_linked(rest)?;
+    let Body { code, parameter } = read_body(rest)?;
+    Some(Component::Invoke {
+        id,
+        linked,
+        code,
+        parameter,
+    })
+}
+
+/// Return Result Last: 02 identifier, [30 { code, [parameter] }].
+#[tactic(auto, unfolding(crate::specs::ComponentReading::result_last_at))]
+fn read_result_last<'a>(content: &'a [u8]) -> Option<Component<'a>>
+    ensures { option_map component_parts result ≡ result_last_at content.now }
+{
+    let (id, body) = read_result(content)?;
+    Some(Component::ResultLast { id, body })
+}
+
+/// Return Error: 02 identifier, code, [parameter].
+#[tactic(auto, unfolding(crate::specs::ComponentReading::error_at))]
+fn read_error<'a>(content: &'a [u8]) -> Option<Component<'a>>
+    ensures { option_map component_parts result ≡ error_at content.now }
+{
+    let (id, rest) = take_identifier(content)?;
+    let Body { code, parameter } = read_body(rest)?;
+    Some(Component::ErrorBack {
+        id,
+        code,
+        parameter,
+    })
+}
+
+/// Reject: 02 identifier or 05 00, then the problem.
+#[tactic(auto, unfolding(crate::specs::ComponentReading::reject_at))]
+fn read_reject<'a>(content: &'a [u8]) -> Option<Component<'a>>
+    ensures { option_map component_parts result ≡ reject_at content.now }
+{
+    let (id, rest) = take_rejected(content)?;
+    let problem = read_problem(rest)?;
+    Some(Component::RejectBack { id, problem })
+}
+
+/// Return Result Not Last: 02 identifier, [30 { code, [parameter] }].
+#[tactic(auto, unfolding(crate::specs::ComponentReading::result_more_at))]
+fn read_result_more<'a>(content: &'a [u8]) -> Option<Component<'a>>
+    ensures { option_map component_parts result ≡ result_more_at content.now }
+{
+    let (id, body) = read_result(content)?;
+    Some(Component::ResultMore { id, body })
+}
+
+/// The component that the contents are, by its form.
+fn read_contents<'a>(form: Form, content: &'a [u8]) -> Option<Component<'a>>
+    ensures { option_map component_parts result ≡ contents_at form content.now }
+{
+    match form {
+        Form::Invoke => read_invoke(content),
+        Form::ResultLast => read_result_last(content),
+        Form::ErrorBack => read_error(content),
+        Form::RejectBack => read_reject(content),
+        Form::ResultMore => read_result_more(content),
+    }
+}
+
+/// The form that a tag names.
+#[tactic(auto, unfolding(crate::specs::ComponentReading::form_at))]
+fn form_of(octets: &[u8]) -> Option<Form>
+    ensures { result ≡ form_at octets.now }
+{
+    match octets {
+        [tag::INVOKE] => Some(Form::Invoke),
+        [tag::RETURN_RESULT_LAST] => Some(Form::ResultLast),
+        [tag::RETURN_ERROR] => Some(Form::ErrorBack),
+        [tag::REJECT] => Some(Form::RejectBack),
+        [tag::RETURN_RESULT_NOT_LAST] => Some(Form::ResultMore),
+        _ => None,
+    }
+}
+
+/// Whether a 30 that stands second holds a list of elements, whatever stands first.
+#[tactic(auto, unfolding(crate::specs::ComponentReading::second_is_listed))]
+fn second_listed(content: &[u8]) -> bool
+    ensures { result ≡ second_is_listed content.now }
+{
+    let (_, rest) = take_any(content);
+    match take_tagged(rest, tag::SEQUENCE) {
+        (Some(inner), _) => is_element_list(inner),
+        (None, _) => true,
+    }
+}
+
+/// Whether the contents are a list of elements, and so those of a 30 that stands second in a result.
+#[tactic(auto, unfolding(crate::specs::ComponentReading::is_structured))]
+fn structured(form: Form, content: &[u8]) -> bool
+    ensures { result ≡ is_structured form content.now }
+{
+    if !is_element_list(content) {
+        return false;
+    }
+    match form {
+        Form::ResultLast | Form::ResultMore => second_listed(content),
+        Form::Invoke | Form::ErrorBack | Form::RejectBack => true,
+    }
+}
+
+/// The component that an element is, or the code of the general problem.
+fn judge<'a>(octets: &[u8], content: &'a [u8]) -> Result<Component<'a>, u8>
+    ensures value { Gives component_parts result (verdict_by (form_at octets.now) content.now) }
+    ensures within { IfErr result (λ code. IsProblem (general_problem code)) }
+{
+    let Some(form) = form_of(octets) else {
+        return Err(UNRECOGNIZED_COMPONENT);
+    };
+    if !structured(form, content) {
+        return Err(BADLY_STRUCTURED_COMPONENT);
+    }
+    match read_contents(form, content) {
+        Some(component) => Ok(component),
+        None => Err(MISTYPED_COMPONENT),
+    }
+}
+
+/// The identifier that a constructed element begins with.
+#[tactic(auto, unfolding(crate::specs::ComponentReading::front_identifier))]
+fn front_id(element: &Element<'_>) -> Option<i8>
+    requires { element.now.constructed ≡ is_constructor element.now.tag.now }
+    ensures { result ≡ front_identifier (parts element.now) }
+{
+    if !element.constructed {
+        return None;
+    }
+    match take_tagged(element.content, tag::INTEGER) {
+        (Some(content), _) => identifier(content),
+        (None, _) => None,
+    }
+}
+
+/// The fault of a component with these octets.
+fn general_fault(code: u8, id: Option<i8>, octets: &[u8]) -> ComponentFault
+    requires { IsProblem (general_problem code) }
+    ensures { result ≡ fault code id octets.now }
+{
+    ComponentFault {
+        problem: Problem::general(code),
+        id,
+        was_reject: matches!(octets, [tag::REJECT, ..]),
+    }
+}
+
+/// The first component and what follows it, in exact form.
+#[tactic(auto, unfolding(crate::specs::ComponentReading::component_at))]
+fn split_component<'a>(bytes: &'a [u8]) -> Result<(Component<'a>, &'a [u8]), ComponentFault>
+    ensures { Gives (λ r. (component_parts r.0, r.1.now)) result (component_at bytes.now) }
+{
+    let Ok((element, rest)) = read_element(bytes) else {
+        return Err(general_fault(BADLY_STRUCTURED_COMPONENT, None, bytes));
+    };
+    match judge(element.tag, element.content) {
+        Ok(component) => Ok((component, rest)),
+        Err(code) => Err(general_fault(code, front_id(&element), bytes)),
+    }
+}
+
+/// Reads the first component, and gives what follows it. A component that can't be read has the
+/// first of four faults: its element can't be read, its tag isn't a component's, its contents aren't a
+/// list of elements, they aren't the listed sequence.
+pub fn read_component<'a>(bytes: &'a [u8]) -> Result<(Component<'a>, &'a [u8]), ComponentFault>
+    // What is read is spelled by the bytes before the rest.
+    ensures found { IfOk result (λ r. (whole : List ℕ) × SpellsComponent (component_parts r.0) whole × (bytes.now ≡ whole ++ r.1.now)) }
+    // Each component is read.
+    ensures only { (c : ComponentParts) (whole rest : List ℕ) → SpellsComponent c whole → bytes.now ≡ whole ++ rest →
+        IsOkAnd result (λ r. (component_parts r.0 ≡ c) × (r.1.now ≡ rest)) }
+    // Which fault, the first case that holds.
+    ensures fault { IfErr result (λ f. IsComponentFault bytes.now f) }
+    // The same, computed: what the layers above cite.
+    ensures exact { Gives (λ r. (component_parts r.0, r.1.now)) result (component_at bytes.now) }
+{
+    split_component(bytes)
+}

@@ -1,0 +1,61 @@
+ghost use Rattle.std.specs.Prelude.{◌≡◌, List, Option};
+ghost use Rattle.tcap_component.specs.Component.{ComponentParts};
+
+use crate::component::Component;
+use crate::component::read::read_component;
+use crate::fault::ComponentFault;
+
+/// The components of a component portion, one after the other; after the first fault it ends, and what
+/// follows a faulty component is not read (Q.773, Component portion; Q.774, Component related abnormal
+/// conditions).
+#[derive(Clone, Copy, Debug)]
+pub struct Components<'a> {
+    rest: &'a [u8],
+}
+
+impl<'a> Components<'a> {
+    ghost use Rattle.tcap_component.specs.declared.fault.ComponentFault.{ComponentFault};
+    ghost use Rattle.tcap_component.specs.ComponentList.{FirstFault, items};
+    ghost use Rattle.tcap_component.specs.ComponentReading.{components_of};
+    ghost use Rattle.tcap_component.specs.Views.{components_left};
+
+    /// The components in the contents of 6C. It gives exactly the components before the first fault,
+    /// then that fault, and then ends.
+    pub fn new(content: &'a [u8]) -> Components<'a>
+        // The components before the first fault, and then that fault.
+        ensures first_fault { (cs : List ComponentParts) (f : Option ComponentFault) → FirstFault cs f content.now → components_left result ≡ items cs f }
+        // There are such components and such a fault, or none.
+        ensures is { (cs : List ComponentParts) × (f : Option ComponentFault) × FirstFault cs f content.now × (components_left result ≡ items cs f) }
+        // The same, computed.
+        ensures exact { components_left result ≡ components_of content.now }
+    {
+        Components { rest: content }
+    }
+}
+
+impl<'a> Iterator for Components<'a> {
+    ghost use Rattle.std.specs.Iterator.{YieldsFirstBy, item_count};
+    ghost use Rattle.tcap_component.specs.Views.{item_view, components_left};
+
+    type Item = Result<Component<'a>, ComponentFault>;
+
+    ghost next_gives = { YieldsFirstBy item_view components_left };
+
+    ghost remaining = { item_count components_left };
+
+    fn next(&mut self) -> Option<Result<Component<'a>, ComponentFault>> {
+        if self.rest.is_empty() {
+            return None;
+        }
+        match read_component(self.rest) {
+            Ok((component, rest)) => {
+                self.rest = rest;
+                Some(Ok(component))
+            }
+            Err(fault) => {
+                self.rest = &[];
+                Some(Err(fault))
+            }
+        }
+    }
+}
