@@ -3,9 +3,15 @@ use Rattle.std.specs.Prelude.{ℕ, Bool, true, false, List, [], ◌++◌, codes,
 use Rattle.tcap_pdu.specs.FrameSpelling.{Reason, Message}
 use Rattle.tcap_pdu.specs.FrameSpelling.Reason.{nothing, cause, portion}
 use Rattle.tcap_pdu.specs.FrameSpelling.Message.{unidirectional, begin, end, go_on, abort}
-use Rattle.tcap_cmd.specs.Text.{line, octets_line, number_line}
+use Rattle.std.specs.List.{flat_map}
+use Rattle.tcap_component.specs.declared.fault.ComponentFault.{ComponentFault}
+use Rattle.tcap_component.specs.Component.{ComponentParts}
+use Rattle.tcap_component.specs.ComponentReading.{components_of}
+use Rattle.tcap_cmd.specs.Text.{line, octets_line, number_line, inner_line}
+use Rattle.tcap_cmd.specs.DialogueText.{portion_words}
+use Rattle.tcap_cmd.specs.ComponentText.{item_words}
 use Rattle.tcap_cmd.specs.declared.verdict.Verdict.{Verdict}
-use Rattle.tcap_cmd.specs.Verdict.{message_of, verdict_words}
+use Rattle.tcap_cmd.specs.Verdict.{message_of, verdict_of, is_good, verdict_words}
 
 -- The line of an originating transaction identifier (own).
 abbrev pub origin_line : List ℕ → List ℕ
@@ -15,14 +21,20 @@ origin_line id = octets_line (codes "  otid") id
 abbrev pub destination_line : List ℕ → List ℕ
 destination_line id = octets_line (codes "  dtid") id
 
--- The line of a dialogue portion, where there is one: the number of its content bytes (own).
+-- The lines of a dialogue portion, where there is one: the number of its content bytes, and its PDU
+-- (own).
 abbrev pub dialogue_lines : Option (List ℕ) → List ℕ
 dialogue_lines None = []
-dialogue_lines (Some d) = number_line (codes "  dialogue") (length d)
+dialogue_lines (Some d) = number_line (codes "  dialogue") (length d) ++ inner_line (portion_words d)
 
--- The line of a component portion, where it has contents: the number of their bytes (own).
+-- A line for each component up to the first fault, and one for that fault (own).
+abbrev pub item_lines : List (Result ComponentParts ComponentFault) → List ℕ
+item_lines items = flat_map (λ i. inner_line (item_words i)) items
+
+-- The lines of a component portion, where it has contents: the number of their bytes, and the
+-- components (own).
 abbrev pub component_lines : List ℕ → List ℕ
-component_lines c = if length c == 0 then [] else number_line (codes "  components") (length c)
+component_lines c = if length c == 0 then [] else number_line (codes "  components") (length c) ++ item_lines (components_of c)
 
 -- The lines of both portions (own).
 abbrev pub portion_lines : Option (List ℕ) → List ℕ → List ℕ
@@ -47,15 +59,14 @@ abbrev pub shown_lines : Result Message Verdict → List ℕ
 shown_lines (Ok m) = message_lines m
 shown_lines (Err v) = line (verdict_words v)
 
--- Whether the verdict on what is shown is good (own).
-abbrev pub is_good_by : Result Message Verdict → Bool
-is_good_by (Ok m) = true
-is_good_by (Err v) = false
-
 -- The text of `show` (own).
 abbrev pub show_text_of : List ℕ → List ℕ
 show_text_of bytes = shown_lines (message_of bytes)
 
 -- Whether the verdict of `show` is good (own).
 abbrev pub show_is_good : List ℕ → Bool
-show_is_good bytes = is_good_by (message_of bytes)
+show_is_good bytes = is_good (verdict_of bytes)
+
+-- The text of `check` (own).
+abbrev pub check_text_of : List ℕ → List ℕ
+check_text_of bytes = line (verdict_words (verdict_of bytes))

@@ -4,6 +4,9 @@
 #![tactic(auto)]
 
 mod command;
+mod component_text;
+mod dialogue_text;
+mod judge;
 mod refusal;
 mod request;
 mod show;
@@ -13,9 +16,10 @@ mod verdict;
 mod words;
 
 pub use command::{answer, report, run_command};
+pub use judge::judge;
 pub use refusal::Refusal;
 pub use request::Request;
-pub use show::show_text;
+pub use show::{check_text, show_text};
 pub use shown::Shown;
 pub use verdict::Verdict;
 

@@ -1,43 +1,20 @@
-ghost use Rattle.std.specs.Prelude.{◌≡◌, ◌++◌, OnOk, IfOk, Ok, string_bytes, option_copied};
-ghost use Rattle.ber_core.specs.Results.{Gives};
+ghost use Rattle.std.specs.Prelude.{◌≡◌, ◌++◌, OnOk, IfOk, string_bytes, option_copied};
 ghost use Rattle.tcap_pdu.specs.FrameViews.{message, reason_of};
-ghost use Rattle.tcap_cmd.specs.Verdict.{verdict_of_fault, message_of};
-ghost use Rattle.tcap_cmd.specs.Show.{origin_line, destination_line, dialogue_lines, component_lines, portion_lines, reason_lines, message_lines, show_text_of, show_is_good};
+ghost use Rattle.tcap_component.specs.ComponentReading.{components_of};
+ghost use Rattle.tcap_component.specs.Views.{item_view};
+ghost use Rattle.tcap_cmd.specs.Text.{inner_line};
+ghost use Rattle.tcap_cmd.specs.ComponentText.{item_words};
+ghost use Rattle.tcap_cmd.specs.Show.{origin_line, destination_line, dialogue_lines, item_lines, component_lines, portion_lines, reason_lines, message_lines, show_text_of, show_is_good, check_text_of};
 
+use crate::component_text::{component_text, fault_text};
+use crate::dialogue_text::add_portion;
+use crate::judge::{add_verdict, judge, read_message};
 use crate::shown::Shown;
 use crate::text::{add_line, add_number, add_octets};
-use crate::verdict::Verdict;
 use ber_core::OutOfMemory;
 use std::alloc::Allocator;
-use tcap_pdu::{AbortPart, Frame, FrameFault, TransId, read_frame};
-
-/// The greatest message, in bytes: 65,535 (our own).
-const MAX_MESSAGE: usize = 65_535;
-
-/// The verdict on bytes that are no message.
-fn verdict_of(fault: FrameFault) -> Verdict
-    ensures { result ≡ verdict_of_fault fault }
-{
-    match fault {
-        FrameFault::Unknown => Verdict::UnknownType,
-        FrameFault::BadlyFormatted => Verdict::BadlyFormatted,
-        FrameFault::Incorrect => Verdict::Incorrect,
-    }
-}
-
-/// The message that the bytes spell, or the verdict on bytes that spell none.
-#[tactic(auto, unfolding(crate::specs::Verdict::message_of))]
-pub fn read_message<'a>(bytes: &'a [u8]) -> Result<Frame<'a>, Verdict>
-    ensures { Gives message result (message_of bytes.now) }
-{
-    if bytes.len() > MAX_MESSAGE {
-        return Err(Verdict::TooLong);
-    }
-    match read_frame(bytes) {
-        Ok(frame) => Ok(frame),
-        Err(fault) => Err(verdict_of(fault)),
-    }
-}
+use tcap_component::{Component, ComponentFault, Components};
+use tcap_pdu::{AbortPart, Frame, TransId};
 
 /// Adds the line of an originating transaction identifier.
 fn add_origin<A: Allocator + Copy>(
@@ -61,21 +38,56 @@ fn add_destination<A: Allocator + Copy>(
     add_octets(alloc, text, "  dtid", id.octets())
 }
 
-/// Adds the line of a dialogue portion, where there is one.
+/// Adds the lines of a dialogue portion, where there is one.
 fn add_dialogue<A: Allocator + Copy>(
+    alloc: A,
     text: &mut String<A>,
     dialogue: Option<&[u8]>,
 ) -> Result<(), OutOfMemory>
     ensures { OnOk result (string_bytes text.new ≡ string_bytes text.old ++ dialogue_lines (option_copied dialogue.entry)) }
 {
     match dialogue {
-        Some(content) => add_number(text, "  dialogue", content.len()),
+        Some(content) => {
+            add_number(text, "  dialogue", content.len())?;
+            add_portion(alloc, text, content)
+        }
         None => Ok(()),
     }
 }
 
-/// Adds the line of a component portion, where it has contents.
+/// Adds the line of a component or of a fault.
+fn add_item<A: Allocator + Copy>(
+    alloc: A,
+    text: &mut String<A>,
+    item: Result<Component<'_>, ComponentFault>,
+) -> Result<(), OutOfMemory>
+    ensures { OnOk result (string_bytes text.new ≡ string_bytes text.old ++ inner_line (item_words (item_view item.entry))) }
+{
+    let words = match item {
+        Ok(component) => component_text(alloc, &component)?,
+        Err(fault) => fault_text(alloc, fault)?,
+    };
+    write!(text, "    {words}\n")?;
+    Ok(())
+}
+
+/// Adds a line for each component up to the first fault, and one for that fault.
+fn add_items<A: Allocator + Copy>(
+    alloc: A,
+    text: &mut String<A>,
+    components: &[u8],
+) -> Result<(), OutOfMemory>
+    ensures { OnOk result (string_bytes text.new ≡ string_bytes text.old ++ item_lines (components_of components.now)) }
+{
+    for item in Components::new(components) {
+        add_item(alloc, text, item)?;
+    }
+    Ok(())
+}
+
+/// Adds the lines of a component portion, where it has contents.
 fn add_components<A: Allocator + Copy>(
+    alloc: A,
     text: &mut String<A>,
     components: &[u8],
 ) -> Result<(), OutOfMemory>
@@ -84,23 +96,26 @@ fn add_components<A: Allocator + Copy>(
     if components.is_empty() {
         return Ok(());
     }
-    add_number(text, "  components", components.len())
+    add_number(text, "  components", components.len())?;
+    add_items(alloc, text, components)
 }
 
 /// Adds the lines of both portions.
 fn add_portions<A: Allocator + Copy>(
+    alloc: A,
     text: &mut String<A>,
     dialogue: Option<&[u8]>,
     components: &[u8],
 ) -> Result<(), OutOfMemory>
     ensures { OnOk result (string_bytes text.new ≡ string_bytes text.old ++ portion_lines (option_copied dialogue.entry) components.now) }
 {
-    add_dialogue(text, dialogue)?;
-    add_components(text, components)
+    add_dialogue(alloc, text, dialogue)?;
+    add_components(alloc, text, components)
 }
 
 /// Adds the lines of an Abort's reason.
 fn add_reason<A: Allocator + Copy>(
+    alloc: A,
     text: &mut String<A>,
     part: &AbortPart<'_>,
 ) -> Result<(), OutOfMemory>
@@ -109,7 +124,7 @@ fn add_reason<A: Allocator + Copy>(
     match part {
         AbortPart::Nothing => Ok(()),
         AbortPart::Cause(cause) => add_number(text, "  cause", usize::from(*cause)),
-        AbortPart::Dialogue(content) => add_dialogue(text, Some(*content)),
+        AbortPart::Dialogue(content) => add_dialogue(alloc, text, Some(*content)),
     }
 }
 
@@ -127,7 +142,7 @@ fn add_message<A: Allocator + Copy>(
             components,
         } => {
             add_line(text, "unidirectional")?;
-            add_portions(text, *dialogue, *components)
+            add_portions(alloc, text, *dialogue, *components)
         }
         Frame::Begin {
             otid,
@@ -136,7 +151,7 @@ fn add_message<A: Allocator + Copy>(
         } => {
             add_line(text, "begin")?;
             add_origin(alloc, text, otid)?;
-            add_portions(text, *dialogue, *components)
+            add_portions(alloc, text, *dialogue, *components)
         }
         Frame::Continue {
             otid,
@@ -147,7 +162,7 @@ fn add_message<A: Allocator + Copy>(
             add_line(text, "continue")?;
             add_origin(alloc, text, otid)?;
             add_destination(alloc, text, dtid)?;
-            add_portions(text, *dialogue, *components)
+            add_portions(alloc, text, *dialogue, *components)
         }
         Frame::End {
             dtid,
@@ -156,12 +171,12 @@ fn add_message<A: Allocator + Copy>(
         } => {
             add_line(text, "end")?;
             add_destination(alloc, text, dtid)?;
-            add_portions(text, *dialogue, *components)
+            add_portions(alloc, text, *dialogue, *components)
         }
         Frame::Abort { dtid, reason } => {
             add_line(text, "abort")?;
             add_destination(alloc, text, dtid)?;
-            add_reason(text, reason)
+            add_reason(alloc, text, reason)
         }
     }
 }
@@ -172,18 +187,26 @@ pub fn show_text<A: Allocator + Copy>(alloc: A, bytes: &[u8]) -> Result<Shown<A>
     ensures good { IfOk result (λ shown. shown.good ≡ show_is_good bytes.now) }
 {
     let mut text = String::new(alloc);
-    let good = match read_message(bytes) {
-        Ok(frame) => {
-            add_message(alloc, &mut text, &frame)?;
-            true
-        }
-        Err(verdict) => {
-            add_line(&mut text, verdict.words())?;
-            false
-        }
-    };
+    match read_message(bytes) {
+        Ok(frame) => add_message(alloc, &mut text, &frame)?,
+        Err(verdict) => add_verdict(&mut text, verdict)?,
+    }
     Ok(Shown {
         text: text.into_bytes(),
-        good,
+        good: judge(bytes).is_good(),
+    })
+}
+
+/// The text of `check`: the verdict on the bytes.
+pub fn check_text<A: Allocator + Copy>(alloc: A, bytes: &[u8]) -> Result<Shown<A>, OutOfMemory>
+    ensures text { IfOk result (λ shown. shown.text.items ≡ check_text_of bytes.now) }
+    ensures good { IfOk result (λ shown. shown.good ≡ show_is_good bytes.now) }
+{
+    let verdict = judge(bytes);
+    let mut text = String::new(alloc);
+    add_verdict(&mut text, verdict)?;
+    Ok(Shown {
+        text: text.into_bytes(),
+        good: verdict.is_good(),
     })
 }

@@ -9,24 +9,30 @@ pub enum Verdict {
     BadlyFormatted,
     /// The contents are not the listed sequence.
     Incorrect,
+    /// The dialogue portion can't be read, or is a foreign one outside an Abort.
+    Dialogue,
+    /// The number of the first faulty component, from 1.
+    Component(usize),
     /// None of these.
     Good,
 }
 
 impl Verdict {
     ghost use Rattle.std.specs.Prelude.{◌≡◌};
-    ghost use Rattle.tcap_cmd.specs.Verdict.{verdict_words};
+    ghost use Rattle.tcap_cmd.specs.Verdict.{is_good};
 
-    /// The words of the verdict's line.
-    pub fn words(self) -> &'static str
-        ensures { result.now ≡ verdict_words self }
+    /// Whether it is `Good`.
+    pub fn is_good(self) -> bool
+        ensures { result ≡ is_good self }
     {
         match self {
-            Verdict::TooLong => "fault too long",
-            Verdict::UnknownType => "fault unknown type",
-            Verdict::BadlyFormatted => "fault badly formatted",
-            Verdict::Incorrect => "fault incorrect",
-            Verdict::Good => "good",
+            Verdict::Good => true,
+            Verdict::TooLong
+            | Verdict::UnknownType
+            | Verdict::BadlyFormatted
+            | Verdict::Incorrect
+            | Verdict::Dialogue
+            | Verdict::Component(_) => false,
         }
     }
 }
