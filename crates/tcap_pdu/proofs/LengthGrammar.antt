@@ -9,7 +9,7 @@ use Rattle.tcap_pdu.specs.FrameSpelling.{Reason, Message, message_tag, fields, r
 use Rattle.tcap_pdu.specs.FrameSpelling.Reason.{nothing, cause, portion}
 use Rattle.tcap_pdu.specs.FrameSpelling.Message.{unidirectional, begin, end, go_on, abort}
 use Rattle.tcap_pdu.specs.FrameWritten.{written_frame}
-use Rattle.tcap_pdu.specs.FrameLength.{reason_with, with_dialogue, reason_dialogue, dialogue_of, dialogue_length, dialogue_size, element_length, may_length, filled_length, reason_length, content_length, frame_length}
+use Rattle.tcap_pdu.specs.FrameLength.{reason_with, with_dialogue, reason_dialogue, dialogue_of, dialogue_length, nonzero, element_length, may_length, filled_length, reason_length, content_length, frame_length}
 
 pub content-fits : (n : ℕ) → n + 2 ≤ element_length n
 unfolding element_length
@@ -207,11 +207,11 @@ within r n k p q = let s = p ∙ sym q in subst (λ (x : ℕ). IsTrue (leb x 655
 pub fits : (m : Message) (d : Option (List ℕ)) (e : Option ℕ) (r : ℕ) → option_map length d ≡ e → r ≡ frame_length e m → (IsTrue (leb r 65535) ↔ (length (written_frame (with_dialogue d m)) ≤ 65535))
 fits m d e r same is = within r (length (written_frame (with_dialogue d m))) (frame_length e m) is (length-with d m ∙ ap (λ (x : Option ℕ). frame_length x m) same)
 
-size-own : (d : Option (List ℕ)) → d ≢ Some [] → option_map length d ≡ dialogue_size (length (unwrap_or d []))
+size-own : (d : Option (List ℕ)) → d ≢ Some [] → option_map length d ≡ nonzero (length (unwrap_or d []))
 size-own None h = refl
 size-own (Some []) h = absurd (h refl)
 size-own (Some (b ∷ d)) h = refl
 
 -- the length that a number of bytes gives is that of the message with its own contents of 6B
-pub length-sized : (m : Message) → dialogue_of m ≢ Some [] → length (written_frame m) ≡ frame_length (dialogue_size (dialogue_length m)) m
+pub length-sized : (m : Message) → dialogue_of m ≢ Some [] → length (written_frame m) ≡ frame_length (nonzero (dialogue_length m)) m
 length-sized m h = length-own m ∙ ap (λ (d : Option ℕ). frame_length d m) (size-own (dialogue_of m) h)

@@ -15,7 +15,7 @@ abbrev pub HasMessageTag : Parts → Type 0
 HasMessageTag e = (m : Message) × (e.tag ≡ message_tag m ∷ [])
 
 -- The fault of bytes that are no message. The first of four tests that fails decides, and each says
--- that those before it passed (Q.774, Receipt of a message with a syntax error; the order is own).
+-- that those before it passed (Q.773, P-Abort cause; the order is own).
 pub data IsFrameFault : List ℕ → FrameFault → Type 0 where
   -- BadlyFormatted: the bytes are not one element and nothing after it.
   no_element : (bytes : List ℕ) → (IsOneElement bytes → ⊥) → IsFrameFault bytes BadlyFormatted

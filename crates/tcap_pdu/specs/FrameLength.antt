@@ -39,10 +39,10 @@ dialogue_of (abort t r) = reason_dialogue r
 abbrev pub dialogue_length : Message → ℕ
 dialogue_length m = length (unwrap_or (dialogue_of m) [])
 
--- The length of the contents of 6B that a number stands for: 0 is a message without 6B (own).
-abbrev pub dialogue_size : ℕ → Option ℕ
-dialogue_size zero = None
-dialogue_size (suc n) = Some (suc n)
+-- A length of contents, none where it is 0: the part is left out (own).
+abbrev pub nonzero : ℕ → Option ℕ
+nonzero zero = None
+nonzero (suc n) = Some (suc n)
 
 -- An Abort with a P-Abort cause has no 6B (Q.773, Abort message).
 abbrev pub CanHold : Message → ℕ → Type 0
@@ -67,8 +67,7 @@ may_length (Some n) = element_length n
 -- The bytes of an optional element that is left out where it is empty
 -- (Q.773, tables of information elements).
 abbrev pub filled_length : ℕ → ℕ
-filled_length zero = 0
-filled_length (suc n) = element_length (suc n)
+filled_length n = may_length (nonzero n)
 
 -- The bytes of an Abort's reason, with 6B contents of this length in place of its own
 -- (Q.773, Abort message).

@@ -6,7 +6,7 @@ ghost use Rattle.tcap_pdu.specs.FrameSpelling.{Message, HasIds, HasCause, Spells
 ghost use Rattle.tcap_pdu.specs.FrameFaults.{IsFrameFault};
 ghost use Rattle.tcap_pdu.specs.FrameReading.{frame_at};
 ghost use Rattle.tcap_pdu.specs.FrameWritten.{message_limit, written_frame};
-ghost use Rattle.tcap_pdu.specs.FrameLength.{dialogue_of, dialogue_length, dialogue_size, frame_length};
+ghost use Rattle.tcap_pdu.specs.FrameLength.{dialogue_length, dialogue_of, frame_length, nonzero};
 
 /// Bytes spell at most one message (Q.773, Structure of TC messages).
 pub fn one_frame()
@@ -29,5 +29,5 @@ pub fn written_frame()
 /// The length that `frame_fits` goes by is that of what `write_frame` writes, where the message's
 /// contents of 6B are not empty or it has no 6B (our own).
 pub fn frame_length()
-    ensures { (m : Message) → dialogue_of m ≢ Some [] → length (written_frame m) ≡ frame_length (dialogue_size (dialogue_length m)) m }
+    ensures { (m : Message) → dialogue_of m ≢ Some [] → length (written_frame m) ≡ frame_length (nonzero (dialogue_length m)) m }
 {}

@@ -73,7 +73,7 @@ impl TransId {
         ensures found { IsSome result ↔ (length self.now ≡ 4) }
         ensures value { IfSome result (λ number. number ≡ from_be_bytes w32 self.now) }
     {
-        let octets: [u8; 4] = self.octets.as_slice().try_into().ok()?;
+        let octets: [u8; 4] = self.octets().try_into().ok()?;
         Some(u32::from_be_bytes(octets))
     }
 

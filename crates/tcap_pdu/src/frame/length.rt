@@ -2,7 +2,7 @@ ghost use Rattle.std.specs.Prelude.{◌≡◌, ◌↔◌, ◌+◌, ◌^◌, ◌<
 ghost use Rattle.tcap_pdu.specs.TransId.{IsTransId};
 ghost use Rattle.tcap_pdu.specs.FrameSpelling.{HasIds};
 ghost use Rattle.tcap_pdu.specs.FrameWritten.{message_limit, written_frame};
-ghost use Rattle.tcap_pdu.specs.FrameLength.{CanHold, content_length, dialogue_of, dialogue_size, element_length, filled_length, frame_length, may_length, reason_length, with_dialogue};
+ghost use Rattle.tcap_pdu.specs.FrameLength.{CanHold, content_length, dialogue_of, nonzero, element_length, frame_length, may_length, reason_length, with_dialogue};
 ghost use Rattle.tcap_pdu.specs.FrameViews.{message, reason_of};
 
 use super::{AbortPart, Frame};
@@ -39,16 +39,11 @@ fn may_len(content: Option<usize>) -> u128
     }
 }
 
-/// The bytes of an element that is left out where it is empty.
-fn filled_len(content: usize) -> u128
-    ensures value { result ≡ filled_length content }
-    ensures small { result < 2 ^ 65 }
+/// A length of contents, `None` where it is 0: the part is left out.
+fn nonzero(len: usize) -> Option<usize>
+    ensures { result ≡ nonzero len }
 {
-    if content == 0 {
-        0
-    } else {
-        element_len(content as u128)
-    }
+    if len == 0 { None } else { Some(len) }
 }
 
 /// The bytes of a transaction identifier.
@@ -84,18 +79,18 @@ pub(super) fn content_len(frame: &Frame<'_>, dialogue: Option<usize>) -> u128
             otid,
             components,
             ..
-        } => id_len(otid) + may_len(dialogue) + filled_len(components.len()),
+        } => id_len(otid) + may_len(dialogue) + may_len(nonzero(components.len())),
         Frame::Continue {
             otid,
             dtid,
             components,
             ..
-        } => id_len(otid) + id_len(dtid) + may_len(dialogue) + filled_len(components.len()),
+        } => id_len(otid) + id_len(dtid) + may_len(dialogue) + may_len(nonzero(components.len())),
         Frame::End {
             dtid,
             components,
             ..
-        } => id_len(dtid) + may_len(dialogue) + filled_len(components.len()),
+        } => id_len(dtid) + may_len(dialogue) + may_len(nonzero(components.len())),
         Frame::Abort { dtid, reason } => id_len(dtid) + reason_len(reason, dialogue),
     }
 }
@@ -123,23 +118,16 @@ fn frame_len(frame: &Frame<'_>, dialogue: Option<usize>) -> u128
     element_len(content_len(frame, dialogue))
 }
 
-/// The length of 6B contents that a number stands for: 0 is a message without 6B.
-fn size_of_dialogue(dialogue: usize) -> Option<usize>
-    ensures { result ≡ dialogue_size dialogue }
-{
-    if dialogue == 0 { None } else { Some(dialogue) }
-}
-
 /// Whether the written message, with 6B contents of `dialogue` bytes in place of its own, or without
 /// 6B where `dialogue` is 0, is at most 65,535 bytes. For an Abort with a P-Abort cause, which has no
 /// 6B, `dialogue` has to be 0. It takes no memory (our own).
 pub fn frame_fits(frame: &Frame<'_>, dialogue: usize) -> bool
     requires { CanHold (message frame.now) dialogue }
     // The message written with any such contents of 6B.
-    ensures written { (own : Option (List ℕ)) → option_map length own ≡ dialogue_size dialogue →
+    ensures written { (own : Option (List ℕ)) → option_map length own ≡ nonzero dialogue →
         (IsTrue result ↔ (length (written_frame (with_dialogue own (message frame.now))) ≤ message_limit)) }
     // The same by lengths, computed: what the layers above cite.
-    ensures exact { IsTrue result ↔ (frame_length (dialogue_size dialogue) (message frame.now) ≤ message_limit) }
+    ensures exact { IsTrue result ↔ (frame_length (nonzero dialogue) (message frame.now) ≤ message_limit) }
 {
-    frame_len(frame, size_of_dialogue(dialogue)) <= MAX_MESSAGE as u128
+    frame_len(frame, nonzero(dialogue)) <= MAX_MESSAGE as u128
 }

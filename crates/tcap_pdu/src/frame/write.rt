@@ -1,4 +1,4 @@
-ghost use Rattle.std.specs.Prelude.{◌≡◌, ◌<◌, ◌≤◌, ◌++◌, length, option_copied, IfOk, OnOk, IfErr, IsErrOf};
+ghost use Rattle.std.specs.Prelude.{◌≡◌, ◌<◌, ◌≤◌, ◌++◌, [], ◌∷◌, length, option_copied, IfOk, OnOk, IfErr, IsErrOf};
 ghost use Rattle.ber_core.specs.Length.{length_limit};
 ghost use Rattle.ber_core.specs.Sequence.Field.{must, may, filled};
 ghost use Rattle.ber_core.specs.Written.{CanWrite, CanWriteAll, written_field, written_fields};
@@ -43,17 +43,20 @@ fn write_dialogue_portion<A: Allocator + Copy>(
     }
 }
 
-/// Appends 6C, unless it is empty.
-fn write_component_portion<A: Allocator + Copy>(
+/// Appends 6B, if the message has it, and 6C, unless it is empty.
+fn write_portions<A: Allocator + Copy>(
     out: &mut Vec<u8, A>,
-    content: &[u8],
+    dialogue: &Option<&[u8]>,
+    components: &[u8],
 ) -> Result<(), OutOfMemory>
-    requires { CanWrite (filled 0x6c content.now) }
-    ensures { OnOk result (out.new.items ≡ out.old.items ++ written_field (filled 0x6c content.now)) }
+    requires { CanWriteAll (may 0x6b (option_copied dialogue.now) ∷ filled 0x6c components.now ∷ []) }
+    ensures { OnOk result (out.new.items ≡ out.old.items
+        ++ written_fields (may 0x6b (option_copied dialogue.now) ∷ filled 0x6c components.now ∷ [])) }
 {
-    match content {
+    write_dialogue_portion(out, dialogue)?;
+    match components {
         [] => Ok(()),
-        [_, ..] => write_part(out, tag::COMPONENT_PORTION, content),
+        [_, ..] => write_part(out, tag::COMPONENT_PORTION, components),
     }
 }
 
@@ -94,8 +97,7 @@ fn write_content<A: Allocator + Copy>(
             components,
         } => {
             write_part(out, tag::ORIGIN, otid.octets())?;
-            write_dialogue_portion(out, dialogue)?;
-            write_component_portion(out, components)
+            write_portions(out, dialogue, components)
         }
         Frame::Continue {
             otid,
@@ -105,8 +107,7 @@ fn write_content<A: Allocator + Copy>(
         } => {
             write_part(out, tag::ORIGIN, otid.octets())?;
             write_part(out, tag::DESTINATION, dtid.octets())?;
-            write_dialogue_portion(out, dialogue)?;
-            write_component_portion(out, components)
+            write_portions(out, dialogue, components)
         }
         Frame::End {
             dtid,
@@ -114,8 +115,7 @@ fn write_content<A: Allocator + Copy>(
             components,
         } => {
             write_part(out, tag::DESTINATION, dtid.octets())?;
-            write_dialogue_portion(out, dialogue)?;
-            write_component_portion(out, components)
+            write_portions(out, dialogue, components)
         }
         Frame::Abort { dtid, reason } => {
             write_part(out, tag::DESTINATION, dtid.octets())?;

@@ -4,4 +4,4 @@ use Rattle.tcap_pdu.proofs.LengthGrammar.{fits}
 use Rattle.tcap_pdu.proofs.frame.length.frame_fits.Goals as goal
 
 pub returns-clause-written : goal.returns-clause-written
-returns-clause-written c = λ own same. fits (message c.args.frame.now) own c.size_of_dialogue.result c.frame_len.result (same ∙ sym c.size_of_dialogue.ensures) c.frame_len.ensures
+returns-clause-written c = λ own same. fits (message c.args.frame.now) own c.nonzero.result c.frame_len.result (same ∙ sym c.nonzero.ensures) c.frame_len.ensures
