@@ -6,3 +6,4 @@ pub mod DialogueLength
 pub mod DueSteps
 pub mod WriteAgreement
 pub mod AppendedGrammar
+pub mod WrittenSpelling

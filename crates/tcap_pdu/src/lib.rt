@@ -7,6 +7,7 @@
 mod dialogue_pdu;
 pub mod dialogue_tag;
 mod fault;
+pub mod laws;
 
-pub use dialogue_pdu::{DialoguePdu, Diagnostic};
+pub use dialogue_pdu::{DialoguePdu, Diagnostic, dialogue_len, read_dialogue, write_dialogue};
 pub use fault::{DialogueFault, FrameFault, PduFault};
