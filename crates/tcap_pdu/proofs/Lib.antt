@@ -12,3 +12,4 @@ pub mod MessageGrammar
 pub mod PortionGrammar
 pub mod WriteAgreement
 pub mod WrittenFrameGrammar
+pub mod WrittenSpelling

@@ -1,5 +1,6 @@
 -- From the first fault that is due to the faults of writing.
-use Rattle.std.proofs.Common.{◌≡◌, ℕ, ◌≤◌, ◌<◌, ltb, Bool, true, false, List, length, Option, Some, None, Ok, Err, Result, refl, sym, ap, subst, ◌∙◌, ◌⊎◌, inl, inr}
+use Rattle.std.proofs.Common.{◌≡◌, ℕ, ◌≤◌, ◌<◌, ltb, Bool, true, false, List, length, Option, Some, None, Ok, Err, Result, refl, sym, ap, subst, ◌∙◌, ◌⊎◌, inl, inr, arith}
+use Rattle.std.specs.Prelude.{IfSome}
 use Rattle.std.proofs.lemmas.Bool.{cases_Bool, false≢true, lt-ltb, le-ltb, ltb-true, ltb-false}
 use Rattle.ber_core.specs.ObjectIdentifier.{IsObjectIdentifier, is_object_identifier}
 use Rattle.ber_core.proofs.CallerLemmas.{some_is, not_some, refused, refused_is, read, read_is, not_read, not_refused, object_identifier_takes, object_identifier_again}
@@ -9,7 +10,9 @@ use Rattle.tcap_pdu.specs.DialogueSpelling.{PduValue, IsForeign, SpellsDialogue}
 use Rattle.tcap_pdu.specs.DialogueSpelling.PduValue.{aarq, audt, aare, abrt, foreign}
 use Rattle.tcap_pdu.specs.DialogueReading.{pdu_at}
 use Rattle.tcap_pdu.specs.DialogueWritten.{written_dialogue, HasContext, HasInformation, IsWritable, WriteFault}
-use Rattle.tcap_pdu.specs.DialogueDue.{context_of, is_context, is_foreign, has_information, due_fault, unless, length_at}
+use Rattle.tcap_pdu.specs.DialogueDue.{context_of, is_context, is_foreign, has_information, due_fault, unless, length_at, body_of, portion_length}
+use Rattle.tcap_pdu.proofs.DialogueLength.{length-dialogue, portion-body}
+use Rattle.tcap_pdu.proofs.DueSteps.{context_short}
 use Rattle.tcap_pdu.proofs.DialogueParts.{information_takes, information_again}
 use Rattle.tcap_pdu.proofs.PortionGrammar.{pdu_takes, pdu_again}
 
@@ -94,3 +97,13 @@ fault_told p f e = by_refused p f (due_fault p) (due_is p) e
 
 pub not_writable : (p : PduValue) (f : PduFault) → length_at p ≡ Err f → IsWritable p → ⊥
 not_writable p f e w = let e = e in not_refused f (length (written_dialogue p)) (rw (due_none p w) at e)
+
+-- what a PDU that can be written says of its lengths
+pub context_within : (p : PduValue) → IsWritable p → IfSome (context_of p) (λ c. length c ≤ 255)
+context_within p w = context_short (context_of p) (context_again p w.has_context)
+
+pub short_within : (p : PduValue) → IsWritable p → portion_length p ≤ 65535
+short_within p w = let l = length-dialogue p in let s = w.is_short in omega (arith, l, s)
+
+pub body_within : (p : PduValue) → IsWritable p → length (body_of p) ≤ 65535
+body_within p w = let b = portion-body p in let s = short_within p w in omega (arith, b, s)

@@ -1,5 +1,12 @@
+mod append;
+mod len;
+mod parts;
 mod read;
 mod write;
+
+pub use len::dialogue_len;
+pub use read::read_dialogue;
+pub use write::write_dialogue;
 
 /// A result source diagnostic: who gives it, and its number, 0 to 127; the named ones stand in
 /// `dialogue_tag` (Q.773, Dialogue portion).

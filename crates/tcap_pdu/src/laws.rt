@@ -7,6 +7,9 @@ ghost use Rattle.tcap_pdu.specs.FrameFaults.{IsFrameFault};
 ghost use Rattle.tcap_pdu.specs.FrameReading.{frame_at};
 ghost use Rattle.tcap_pdu.specs.FrameWritten.{message_limit, written_frame};
 ghost use Rattle.tcap_pdu.specs.FrameLength.{dialogue_length, dialogue_of, frame_length, nonzero};
+ghost use Rattle.tcap_pdu.specs.DialogueSpelling.{PduValue, SpellsDialogue};
+ghost use Rattle.tcap_pdu.specs.DialogueReading.{dialogue_at};
+ghost use Rattle.tcap_pdu.specs.DialogueWritten.{written_dialogue, HasDiagnostic, IsWritable};
 
 /// Bytes spell at most one message (Q.773, Structure of TC messages).
 pub fn one_frame()
@@ -30,4 +33,15 @@ pub fn written_frame()
 /// contents of 6B are not empty or it has no 6B (our own).
 pub fn frame_length()
     ensures { (m : Message) → dialogue_of m ≢ Some [] → length (written_frame m) ≡ frame_length (nonzero (dialogue_length m)) m }
+{}
+
+/// Bytes spell at most one dialogue PDU (Q.773, Dialogue portion).
+pub fn one_dialogue()
+    ensures { (p q : PduValue) (bytes : List ℕ) → SpellsDialogue p bytes → SpellsDialogue q bytes → p ≡ q }
+{}
+
+/// What is written spells the PDU, and reading it gives the PDU back (Q.773, Dialogue portion).
+pub fn written_dialogue()
+    ensures spelled { (p : PduValue) → IsWritable p → HasDiagnostic p → SpellsDialogue p (written_dialogue p) }
+    ensures read { (p : PduValue) → IsWritable p → HasDiagnostic p → dialogue_at (written_dialogue p) ≡ Ok p }
 {}

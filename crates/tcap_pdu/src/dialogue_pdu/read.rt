@@ -1,123 +1,20 @@
-ghost use Rattle.std.specs.Prelude.{◌≡◌, ◌↔◌, IsTrue, IfOk, IfErr, IsOkAnd, option_map};
-ghost use Rattle.std.specs.List.{AllPass};
+ghost use Rattle.std.specs.Prelude.{◌≡◌, IfOk, IfErr, IsOkAnd, option_map};
 ghost use Rattle.ber_core.specs.Results.{Gives};
-ghost use Rattle.ber_core.specs.ListReading.{items_of};
 ghost use Rattle.tcap_pdu.specs.DialogueSpelling.{PduValue, SpellsDialogue};
-ghost use Rattle.tcap_pdu.specs.DialogueReading.{one_octet, tag_and, one_at, is_external, is_information, information_at, version_of, version_at, context_at, opening, opening_at, request_at, number_at, accepted_of, by_provider_of, source_of, diagnostic_at, response_at, abort_at, structured_at, unstructured_at, foreign_by, pdu_by, pdu_at, dialogue_at};
-ghost use Rattle.tcap_pdu.specs.DialogueViews.{source, pdu_value};
+ghost use Rattle.tcap_pdu.specs.DialogueReading.{opening, request_at, accepted_of, by_provider_of, response_at, abort_at, structured_at, unstructured_at, foreign_by, pdu_by, pdu_at, dialogue_at};
+ghost use Rattle.tcap_pdu.specs.DialogueViews.{pdu_value};
 
-use crate::dialogue_pdu::{Diagnostic, DialoguePdu};
+use crate::dialogue_pdu::DialoguePdu;
+use crate::dialogue_pdu::parts::{
+    only_octet, read_diagnostic, read_information, read_number, read_opening, take_one,
+};
 use crate::dialogue_tag::{
-    ABORT_BY_PROVIDER, ABORT_BY_USER, ABORT_SOURCE, ACCEPTED, APPLICATION_CONTEXT_NAME,
-    DIALOGUE_ABORT, DIALOGUE_REQUEST, DIALOGUE_RESPONSE, DIALOGUE_SERVICE_PROVIDER,
-    DIALOGUE_SERVICE_USER, EXTERNAL, FIRST_BIT, INTEGER, MAX_DIAGNOSTIC, MAX_UNUSED,
-    OBJECT_IDENTIFIER, PROTOCOL_VERSION, REJECT_PERMANENT, RESULT, RESULT_SOURCE_DIAGNOSTIC,
-    SINGLE_ASN1_TYPE, STRUCTURED, UNIDIRECTIONAL_DIALOGUE, UNSTRUCTURED, USER_INFORMATION,
+    ABORT_BY_PROVIDER, ABORT_BY_USER, ABORT_SOURCE, ACCEPTED, DIALOGUE_ABORT, DIALOGUE_REQUEST,
+    DIALOGUE_RESPONSE, EXTERNAL, OBJECT_IDENTIFIER, REJECT_PERMANENT, RESULT,
+    RESULT_SOURCE_DIAGNOSTIC, SINGLE_ASN1_TYPE, STRUCTURED, UNIDIRECTIONAL_DIALOGUE, UNSTRUCTURED,
 };
 use crate::fault::DialogueFault;
-use ber_core::{
-    Elements, is_element_list, is_oid, read_alone, take_content, take_only, take_tagged,
-};
-
-/// The one octet that a content is.
-#[tactic(auto, unfolding(crate::specs::DialogueReading::one_octet))]
-fn only_octet(content: &[u8]) -> Option<u8>
-    ensures { result ≡ one_octet content.now }
-{
-    match content {
-        [octet] => Some(*octet),
-        _ => None,
-    }
-}
-
-/// The tag, of one octet, and the content of the one element that the bytes are.
-#[tactic(auto, unfolding(crate::specs::DialogueReading::one_at))]
-fn take_one<'a>(bytes: &'a [u8]) -> Option<(u8, &'a [u8])>
-    ensures { option_map (λ r. tag_and r.0 r.1.now) result ≡ one_at bytes.now }
-{
-    let element = read_alone(bytes)?;
-    let tag = only_octet(element.tag)?;
-    Some((tag, element.content))
-}
-
-/// Whether the bytes are user information: EXTERNALs one after the other.
-fn are_externals(bytes: &[u8]) -> bool
-    ensures { IsTrue result ↔ AllPass is_external (items_of bytes.now) }
-{
-    Elements::new(bytes).all(|item| match item {
-        Ok(element) => match element.tag {
-            [tag] => *tag == EXTERNAL,
-            _ => false,
-        },
-        Err(_) => false,
-    })
-}
-
-/// The same, computed.
-pub fn is_user_information(bytes: &[u8]) -> bool
-    ensures { result ≡ is_information bytes.now }
-{
-    are_externals(bytes)
-}
-
-/// [BE user information], and nothing after it.
-#[tactic(auto, unfolding(crate::specs::DialogueReading::information_at))]
-fn read_information<'a>(bytes: &'a [u8]) -> Option<&'a [u8]>
-    ensures { option_map (λ info. info.now) result ≡ information_at bytes.now }
-{
-    let (info, rest) = take_tagged(bytes, USER_INFORMATION);
-    let info = info.unwrap_or(&[]);
-    if !is_user_information(info) {
-        return None;
-    }
-    if !rest.is_empty() {
-        return None;
-    }
-    Some(info)
-}
-
-/// Whether the octets of a protocol version, or none, say version 1.
-#[tactic(auto, unfolding(crate::specs::DialogueReading::version_of))]
-fn says_version1(octets: &[u8]) -> Option<bool>
-    ensures { result ≡ version_of (Some octets.now) }
-{
-    match octets {
-        [0] => Some(false),
-        [unused, bits, ..] if *unused <= MAX_UNUSED => Some(*bits >= FIRST_BIT),
-        _ => None,
-    }
-}
-
-/// [80 protocol version]: whether it is absent or says version 1; and what follows it.
-#[tactic(auto, unfolding(crate::specs::DialogueReading::version_at, crate::specs::DialogueReading::version_of))]
-fn read_version<'a>(bytes: &'a [u8]) -> Option<(bool, &'a [u8])>
-    ensures { option_map (λ r. (r.0, r.1.now)) result ≡ version_at bytes.now }
-{
-    match take_tagged(bytes, PROTOCOL_VERSION) {
-        (Some(octets), rest) => Some((says_version1(octets)?, rest)),
-        (None, rest) => Some((true, rest)),
-    }
-}
-
-/// The application context name that is held: one element 06, an object identifier.
-#[tactic(auto, unfolding(crate::specs::DialogueReading::context_at))]
-fn read_context<'a>(bytes: &'a [u8]) -> Option<&'a [u8]>
-    ensures { option_map (λ context. context.now) result ≡ context_at bytes.now }
-{
-    let context = take_only(bytes, OBJECT_IDENTIFIER)?;
-    if is_oid(context) { Some(context) } else { None }
-}
-
-/// [80 protocol version], A1 application context name; and what follows them.
-#[tactic(auto, unfolding(crate::specs::DialogueReading::opening_at))]
-fn read_opening<'a>(bytes: &'a [u8]) -> Option<(bool, &'a [u8], &'a [u8])>
-    ensures { option_map (λ r. opening r.0 r.1.now r.2.now) result ≡ opening_at bytes.now }
-{
-    let (version1, rest) = read_version(bytes)?;
-    let (name, rest) = take_content(rest, APPLICATION_CONTEXT_NAME)?;
-    let context = read_context(name)?;
-    Some((version1, context, rest))
-}
+use ber_core::{is_element_list, is_oid, take_content, take_only};
 
 /// AARQ and AUDT: [80 protocol version], A1 application context name, [BE user information].
 #[tactic(auto, unfolding(crate::specs::DialogueReading::request_at))]
@@ -127,14 +24,6 @@ fn read_request<'a>(content: &'a [u8]) -> Option<(bool, &'a [u8], &'a [u8])>
     let (version1, context, rest) = read_opening(content)?;
     let info = read_information(rest)?;
     Some((version1, context, info))
-}
-
-/// The integer of one octet that is held: one element 02.
-#[tactic(auto, unfolding(crate::specs::DialogueReading::number_at))]
-fn read_number(bytes: &[u8]) -> Option<u8>
-    ensures { result ≡ number_at bytes.now }
-{
-    only_octet(take_only(bytes, INTEGER)?)
 }
 
 /// Whether a result says accepted.
@@ -157,30 +46,6 @@ fn by_provider_of(number: u8) -> Option<bool>
         ABORT_BY_PROVIDER => Some(true),
         _ => None,
     }
-}
-
-/// The diagnostic of this number in an element with this tag.
-fn diagnostic_of(tag: u8, number: u8) -> Option<Diagnostic>
-    ensures { option_map source result ≡ source_of tag number }
-{
-    if number > MAX_DIAGNOSTIC {
-        return None;
-    }
-    match tag {
-        DIALOGUE_SERVICE_USER => Some(Diagnostic::User(number)),
-        DIALOGUE_SERVICE_PROVIDER => Some(Diagnostic::Provider(number)),
-        _ => None,
-    }
-}
-
-/// The result source diagnostic that is held: one element A1 or A2, which holds one element 02.
-#[tactic(auto, unfolding(crate::specs::DialogueReading::diagnostic_at))]
-fn read_diagnostic(bytes: &[u8]) -> Option<Diagnostic>
-    ensures { option_map source result ≡ diagnostic_at bytes.now }
-{
-    let (tag, held) = take_one(bytes)?;
-    let number = read_number(held)?;
-    diagnostic_of(tag, number)
 }
 
 /// AARE: [80 protocol version], A1 application context name, A2 result, A3 result source diagnostic,

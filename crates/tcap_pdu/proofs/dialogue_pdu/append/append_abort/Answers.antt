@@ -3,7 +3,7 @@ use Rattle.ber_core.specs.Sequence.Field.{filled}
 use Rattle.ber_core.specs.Written.{written, written_fields}
 use Rattle.tcap_pdu.specs.DialogueSpelling.{structured_syntax, abort_source}
 use Rattle.tcap_pdu.proofs.AppendedGrammar.{by_ok, abort-appended}
-use Rattle.tcap_pdu.proofs.dialogue_pdu.write.append_abort.Goals as goal
+use Rattle.tcap_pdu.proofs.dialogue_pdu.append.append_abort.Goals as goal
 
 pub returns : goal.returns
 returns g c =

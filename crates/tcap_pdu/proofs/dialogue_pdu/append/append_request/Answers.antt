@@ -3,7 +3,7 @@ use Rattle.ber_core.specs.Sequence.Field.{filled}
 use Rattle.ber_core.specs.Written.{written_fields}
 use Rattle.tcap_pdu.specs.DialogueWritten.{opening_fields}
 use Rattle.tcap_pdu.proofs.AppendedGrammar.{by_ok, request-appended}
-use Rattle.tcap_pdu.proofs.dialogue_pdu.write.append_request.Goals as goal
+use Rattle.tcap_pdu.proofs.dialogue_pdu.append.append_request.Goals as goal
 
 pub returns : goal.returns
 returns g c =

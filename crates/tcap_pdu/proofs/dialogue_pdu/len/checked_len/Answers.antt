@@ -3,7 +3,7 @@ use Rattle.tcap_pdu.specs.DialogueViews.{pdu_value}
 use Rattle.tcap_pdu.specs.DialogueDue.{context_of, body_of, portion_length}
 use Rattle.tcap_pdu.proofs.DialogueLength.{portion-body}
 use Rattle.tcap_pdu.proofs.DueSteps.{due-context, due-information, due-long, due-none, context_short}
-use Rattle.tcap_pdu.proofs.dialogue_pdu.write.checked_len.Goals as goal
+use Rattle.tcap_pdu.proofs.dialogue_pdu.len.checked_len.Goals as goal
 
 pub returns-then-not-has_context : goal.returns-then-not-has_context
 returns-then-not-has_context c = due-context (pdu_value c.args.pdu.now) (sym c.has_context.ensures ∙ c.if-not-has_context.true)

@@ -1,6 +1,6 @@
 use Rattle.tcap_pdu.specs.DialogueViews.{pdu_value}
 use Rattle.tcap_pdu.proofs.WriteAgreement.{length_told, not_writable}
-use Rattle.tcap_pdu.proofs.dialogue_pdu.write.dialogue_len.Goals as goal
+use Rattle.tcap_pdu.proofs.dialogue_pdu.len.dialogue_len.Goals as goal
 
 pub returns-in-Ok-clause-len : goal.returns-in-Ok-clause-len
 returns-in-Ok-clause-len c = length_told (pdu_value c.args.pdu.now) c.in-Ok.len c.in-Ok.ensures

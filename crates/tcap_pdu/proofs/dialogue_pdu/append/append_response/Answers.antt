@@ -5,7 +5,7 @@ use Rattle.tcap_pdu.specs.DialogueSpelling.{structured_syntax}
 use Rattle.tcap_pdu.specs.DialogueViews.{source}
 use Rattle.tcap_pdu.specs.DialogueWritten.{opening_fields, result_field, diagnostic_field}
 use Rattle.tcap_pdu.proofs.AppendedGrammar.{by_ok, response-appended}
-use Rattle.tcap_pdu.proofs.dialogue_pdu.write.append_response.Goals as goal
+use Rattle.tcap_pdu.proofs.dialogue_pdu.append.append_response.Goals as goal
 
 pub returns : goal.returns
 returns g c =
