@@ -1,2 +1,3 @@
+pub mod ItemLines
 pub mod TextSteps
 pub mod WordRows

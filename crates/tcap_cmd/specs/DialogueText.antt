@@ -34,7 +34,7 @@ pdu_words (foreign external) = codes "foreign " ++ encode_lower external
 -- The words under a dialogue portion (own).
 abbrev pub portion_words_by : Result PduValue DialogueFault → List ℕ
 portion_words_by (Ok pdu) = pdu_words pdu
-portion_words_by (Err fault) = codes "faulty"
+portion_words_by (Err f) = codes "faulty"
 
 -- The words under a dialogue portion with these contents (own).
 abbrev pub portion_words : List ℕ → List ℕ

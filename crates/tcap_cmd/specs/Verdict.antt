@@ -1,5 +1,6 @@
 -- The verdict on a message.
-use Rattle.std.specs.Prelude.{ℕ, ◌+◌, Bool, true, false, List, [], ◌++◌, codes, length, position, is_err, Option, Some, None, Result, Ok, Err, nat_lt, if◌then◌else◌}
+use Rattle.std.specs.Prelude.{ℕ, ◌+◌, Bool, true, false, List, [], ◌++◌, codes, length, is_err, Option, Some, None, Result, Ok, Err, nat_lt, if◌then◌else◌}
+use Rattle.std.specs.List.{position_from}
 use Rattle.std.specs.Fmt.{decimal}
 use Rattle.tcap_pdu.specs.FrameSpelling.{Reason, Message}
 use Rattle.tcap_pdu.specs.FrameSpelling.Reason.{nothing, cause, portion}
@@ -42,12 +43,12 @@ is_known (Ok (audt version1 context info)) = true
 is_known (Ok (aare version1 context accepted diagnostic info)) = true
 is_known (Ok (abrt by_provider info)) = true
 is_known (Ok (foreign external)) = false
-is_known (Err fault) = false
+is_known (Err f) = false
 
 -- Whether a dialogue portion that was read is good in an Abort (own).
 abbrev pub is_read : Result PduValue DialogueFault → Bool
 is_read (Ok pdu) = true
-is_read (Err fault) = false
+is_read (Err f) = false
 
 -- Whether the dialogue portion of a message other than an Abort is good, if it has one (own).
 abbrev pub is_good_portion : Option (List ℕ) → Bool
@@ -67,7 +68,7 @@ verdict_by_place (Some place) = Component (place + 1)
 
 -- The verdict on the contents of a component portion (own).
 abbrev pub components_verdict : List ℕ → Verdict
-components_verdict content = verdict_by_place (position is_err (components_of content))
+components_verdict content = verdict_by_place (position_from is_err 0 (components_of content))
 
 -- The verdict on both portions: the dialogue portion goes first (own).
 abbrev pub portions_verdict : Option (List ℕ) → List ℕ → Verdict

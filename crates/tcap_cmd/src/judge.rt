@@ -1,6 +1,7 @@
 //! What the verdict on bytes is.
 
-ghost use Rattle.std.specs.Prelude.{◌≡◌, ◌++◌, position, is_err, OnOk, Ok, string_bytes, option_copied};
+ghost use Rattle.std.specs.Prelude.{◌≡◌, ◌<◌, ◌++◌, length, is_err, IfSome, OnOk, Ok, string_bytes, option_copied};
+ghost use Rattle.std.specs.List.{position_from};
 ghost use Rattle.ber_core.specs.Results.{Gives};
 ghost use Rattle.tcap_pdu.specs.FrameViews.{message, reason_of};
 ghost use Rattle.tcap_pdu.specs.DialogueReading.{dialogue_at};
@@ -79,9 +80,17 @@ fn has_good_reason(part: &AbortPart<'_>) -> bool
 
 /// The place of the first faulty component, counted from 0.
 fn faulty_place(components: &[u8]) -> Option<usize>
-    ensures { result ≡ position is_err (components_of components.now) }
+    ensures value { result ≡ position_from is_err 0 (components_of components.now) }
+    ensures below { IfSome result (λ place. place < length components.now) }
 {
-    Components::new(components).position(|item| item.is_err())
+    let mut place: usize = 0;
+    for item in Components::new(components) {
+        if item.is_err() {
+            return Some(place);
+        }
+        place += 1;
+    }
+    None
 }
 
 /// The verdict on the contents of a component portion.
@@ -140,7 +149,7 @@ fn judge_message(frame: &Frame<'_>) -> Verdict
 }
 
 /// The verdict on the bytes. It takes no memory.
-pub fn judge(bytes: &[u8]) -> Verdict
+pub fn verdict_on(bytes: &[u8]) -> Verdict
     ensures { result ≡ verdict_of bytes.now }
 {
     match read_message(bytes) {

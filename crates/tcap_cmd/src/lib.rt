@@ -16,12 +16,10 @@ mod verdict;
 mod words;
 
 pub use command::{answer, report, run_command};
-pub use judge::judge;
 pub use refusal::Refusal;
 pub use request::Request;
 pub use show::{check_text, show_text};
 pub use shown::Shown;
-pub use verdict::Verdict;
 
 #[cfg(test)]
 mod tests;

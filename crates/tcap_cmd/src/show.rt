@@ -8,7 +8,7 @@ ghost use Rattle.tcap_cmd.specs.Show.{origin_line, destination_line, dialogue_li
 
 use crate::component_text::{component_text, fault_text};
 use crate::dialogue_text::add_portion;
-use crate::judge::{add_verdict, judge, read_message};
+use crate::judge::{add_verdict, read_message, verdict_on};
 use crate::shown::Shown;
 use crate::text::{add_line, add_number, add_octets};
 use ber_core::OutOfMemory;
@@ -59,13 +59,13 @@ fn add_dialogue<A: Allocator + Copy>(
 fn add_item<A: Allocator + Copy>(
     alloc: A,
     text: &mut String<A>,
-    item: Result<Component<'_>, ComponentFault>,
+    item: &Result<Component<'_>, ComponentFault>,
 ) -> Result<(), OutOfMemory>
-    ensures { OnOk result (string_bytes text.new ≡ string_bytes text.old ++ inner_line (item_words (item_view item.entry))) }
+    ensures { OnOk result (string_bytes text.new ≡ string_bytes text.old ++ inner_line (item_words (item_view item.now))) }
 {
     let words = match item {
-        Ok(component) => component_text(alloc, &component)?,
-        Err(fault) => fault_text(alloc, fault)?,
+        Ok(component) => component_text(alloc, component)?,
+        Err(fault) => fault_text(alloc, *fault)?,
     };
     write!(text, "    {words}\n")?;
     Ok(())
@@ -80,7 +80,7 @@ fn add_items<A: Allocator + Copy>(
     ensures { OnOk result (string_bytes text.new ≡ string_bytes text.old ++ item_lines (components_of components.now)) }
 {
     for item in Components::new(components) {
-        add_item(alloc, text, item)?;
+        add_item(alloc, text, &item)?;
     }
     Ok(())
 }
@@ -193,7 +193,7 @@ pub fn show_text<A: Allocator + Copy>(alloc: A, bytes: &[u8]) -> Result<Shown<A>
     }
     Ok(Shown {
         text: text.into_bytes(),
-        good: judge(bytes).is_good(),
+        good: verdict_on(bytes).is_good(),
     })
 }
 
@@ -202,7 +202,7 @@ pub fn check_text<A: Allocator + Copy>(alloc: A, bytes: &[u8]) -> Result<Shown<A
     ensures text { IfOk result (λ shown. shown.text.items ≡ check_text_of bytes.now) }
     ensures good { IfOk result (λ shown. shown.good ≡ show_is_good bytes.now) }
 {
-    let verdict = judge(bytes);
+    let verdict = verdict_on(bytes);
     let mut text = String::new(alloc);
     add_verdict(&mut text, verdict)?;
     Ok(Shown {
