@@ -6,17 +6,17 @@ use Rattle.ber_core.specs.Results.{Gives}
 use Rattle.ber_core.specs.Element.{Parts, IsElement}
 use Rattle.ber_core.specs.ListReading.{items_of}
 use Rattle.ber_core.specs.SequenceReading.{alone_at}
-use Rattle.ber_core.proofs.CallerLemmas.{read, refused, read_is, refused_is, not_read, not_refused, some, some_is, not_some, by_option, alone_takes, alone_again, list_takes, list_again}
+use Rattle.ber_core.proofs.CallerLemmas.{read_is, refused_is, not_read, not_refused, some, some_is, not_some, by_option, alone_takes, alone_again, list_takes, list_again}
 use Rattle.tcap_pdu.specs.FrameSpelling.{Message, message_tag, IsFrame, SpellsFrame}
 use Rattle.tcap_pdu.specs.FrameSpelling.Message.{unidirectional, begin, end, go_on, abort}
 use Rattle.tcap_pdu.specs.FrameSpelling.Reason.{nothing}
-use Rattle.tcap_pdu.specs.FrameFaults.{IsOneElement, HasMessageTag, IsFrameFault}
+use Rattle.tcap_pdu.specs.FrameFaults.{HasMessageTag, IsFrameFault}
 use Rattle.tcap_pdu.specs.FrameFaults.IsFrameFault.{no_element, no_message, no_list, no_sequence}
 use Rattle.tcap_pdu.specs.FrameReading.{message_at, type_at, contents_by, frame_at}
 use Rattle.tcap_pdu.specs.declared.frame.read.MessageType.{MessageType}
 use Rattle.tcap_pdu.specs.declared.frame.read.MessageType.TheVariants as kind
 use Rattle.tcap_pdu.specs.declared.fault.FrameFault.{FrameFault}
-use Rattle.tcap_pdu.specs.declared.fault.FrameFault.TheVariants.{Unknown, BadlyFormatted, Incorrect}
+use Rattle.tcap_pdu.specs.declared.fault.FrameFault.TheVariants.{BadlyFormatted}
 use Rattle.tcap_pdu.proofs.MessageGrammar.{message_takes, message_again, kind_of, type_again}
 
 -- ---- tags

@@ -1,14 +1,14 @@
 -- What is read at the front stands there, and what stands there is read.
-use Rattle.std.proofs.Common.{◌≡◌, ℕ, Bool, true, false, List, [], ◌∷◌, ◌++◌, Option, Some, None, Ok, Err, Result, refl, sym, ap, subst, ◌∙◌, inl, inr}
+use Rattle.std.proofs.Common.{◌≡◌, ℕ, Bool, true, false, List, Option, Some, Ok, refl, sym, ap, subst, ◌∙◌, inl, inr}
 use Rattle.std.proofs.lemmas.Bool.{cases_Bool}
 use Rattle.ber_core.specs.declared.fault.BerFault.{BerFault}
 use Rattle.ber_core.specs.Tag.{is_constructor}
-use Rattle.ber_core.specs.Element.{Parts, IsElement}
+use Rattle.ber_core.specs.Element.{Parts}
 use Rattle.ber_core.specs.ElementReading.{element_at}
 use Rattle.ber_core.specs.HeadReading.{head_at}
 use Rattle.ber_core.specs.SequenceReading.{is_tag, tagged}
 use Rattle.ber_core.proofs.CallerLemmas.{read_is, not_read, by_result, element_takes, element_again, HeadRead, head_takes, begins, begins_again, is_tag-one, is_tag-is}
-use Rattle.tcap_pdu.specs.Front.{LooksAt, StandsFirst, Front, id_in, cut, both, ids_at, front_at}
+use Rattle.tcap_pdu.specs.Front.{LooksAt, StandsFirst, Front, cut, both, ids_at, front_at}
 use Rattle.tcap_pdu.specs.Front.StandsFirst.{stands, lacks}
 use Rattle.tcap_pdu.specs.Front.Front.{ids, none}
 

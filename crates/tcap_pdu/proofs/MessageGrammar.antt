@@ -1,5 +1,5 @@
 -- The contents of each message, read and in order.
-use Rattle.std.proofs.Common.{◌≡◌, ℕ, ◌<◌, ◌≤◌, true, cond, eqb, ltb, leb, List, [], ◌∷◌, length, Option, Some, None, unwrap_or, refl, sym, ap, subst, ◌∙◌, ◌⊎◌, inl, inr, arith, ltb-false, le-ltb, ne_eqb}
+use Rattle.std.proofs.Common.{◌≡◌, ℕ, ◌<◌, ◌≤◌, true, cond, eqb, ltb, leb, List, [], ◌∷◌, length, Option, Some, None, unwrap_or, refl, ap, subst, ◌∙◌, arith, ltb-false, le-ltb, ne_eqb}
 use Rattle.std.proofs.lemmas.Bool.{eqb-false}
 use Rattle.std.proofs.lemmas.Bool.Decides.{nat_tests}
 use Rattle.ber_core.specs.Options.{◌>>=◌}
@@ -17,7 +17,7 @@ use Rattle.tcap_pdu.specs.declared.frame.read.MessageType.TheVariants as kind
 
 -- ---- identifiers
 
-id_of-is : (octets id : List ℕ) → id_of octets ≡ Some id → (octets ≡ id) × IsTransId octets
+pub id_of-is : (octets id : List ℕ) → id_of octets ≡ Some id → (octets ≡ id) × IsTransId octets
 id_of-is octets id e =
     let g = guard_some (eqb (length octets) 0) (cond (ltb 4 (length octets)) None (some octets)) id e in
     let l = guard_some (ltb 4 (length octets)) (some octets) id g.1 in
@@ -25,7 +25,7 @@ id_of-is octets id e =
     let short : length octets ≤ 4 = ltb-false 4 (length octets) l.0 in
     (some_is octets id l.1, (omega (arith, filled), short))
 
-id_of-again : (octets : List ℕ) → IsTransId octets → id_of octets ≡ Some octets
+pub id_of-again : (octets : List ℕ) → IsTransId octets → id_of octets ≡ Some octets
 id_of-again octets h = rw (ne_eqb (length octets) 0 (λ z. absurd (omega (arith, h.0))), le-ltb 4 (length octets) h.1) refl
 
 id_takes : (tag : ℕ) (bytes : List ℕ) (c : List ℕ × List ℕ) → id_at tag bytes ≡ Some c → (content_at tag bytes ≡ Some c) × IsTransId c.0

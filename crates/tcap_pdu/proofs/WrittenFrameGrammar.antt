@@ -1,5 +1,5 @@
 -- What is written is spelled so, and reading it gives it back.
-use Rattle.std.proofs.Common.{◌≡◌, ◌≢◌, ℕ, ◌≤◌, eqb, false, List, [], ◌∷◌, length, bit_and, Option, Ok, refl, sym, ap, subst, ◌∙◌, arith, option_map, unwrap_or}
+use Rattle.std.proofs.Common.{◌≡◌, ◌≤◌, [], ◌∷◌, length, Ok, refl, arith}
 use Rattle.ber_core.specs.Tag.{IsTag}
 use Rattle.ber_core.specs.Written.{written_parts, written_fields}
 use Rattle.ber_core.proofs.CallerLemmas.{fields_spelled, element_spelled}
@@ -7,7 +7,6 @@ use Rattle.tcap_pdu.specs.FrameSpelling.{Message, message_tag, fields, HasIds, H
 use Rattle.tcap_pdu.specs.FrameSpelling.Message.{unidirectional, begin, end, go_on, abort}
 use Rattle.tcap_pdu.specs.FrameReading.{frame_at}
 use Rattle.tcap_pdu.specs.FrameWritten.{written_frame}
-use Rattle.tcap_pdu.specs.FrameLength.{element_length}
 use Rattle.tcap_pdu.proofs.FrameGrammar.{frame_again}
 use Rattle.tcap_pdu.proofs.LengthGrammar.{content-fits, length-written, parts-can}
 

@@ -1,5 +1,5 @@
 -- A message, read from left to right: the message, or the first fault.
-use Rattle.std.specs.Prelude.{ℕ, List, [], ◌∷◌, Option, Some, None, Result, Ok, Err, nat_le, ◌==◌, unwrap_or, ok_or, is_ok, if◌then◌else◌}
+use Rattle.std.specs.Prelude.{ℕ, List, [], ◌∷◌, Option, Some, None, Result, Err, nat_le, ◌==◌, unwrap_or, ok_or, is_ok, if◌then◌else◌}
 use Rattle.std.specs.List.{list_all}
 use Rattle.ber_core.specs.Options.{◌>>=◌}
 use Rattle.ber_core.specs.Element.{Parts}

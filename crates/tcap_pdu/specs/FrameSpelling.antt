@@ -1,5 +1,5 @@
 -- The five messages of the transaction sublayer (Q.773), by all their octets.
-use Rattle.std.specs.Prelude.{◌≡◌, ℕ, ◌≤◌, List, [], ◌∷◌, Option, Some, None}
+use Rattle.std.specs.Prelude.{◌≡◌, ℕ, ◌≤◌, List, [], ◌∷◌, Option}
 use Rattle.ber_core.specs.Element.{Parts, IsElement, depth_limit}
 use Rattle.ber_core.specs.Sequence.{Field, SpellsSequence}
 use Rattle.ber_core.specs.Sequence.Field.{must, may, filled}

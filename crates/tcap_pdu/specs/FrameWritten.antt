@@ -1,5 +1,5 @@
 -- The one spelling of a message in the canonical form, and the faults of writing it.
-use Rattle.std.specs.Prelude.{◌≡◌, ℕ, ◌<◌, ◌≤◌, List, [], ◌∷◌, length}
+use Rattle.std.specs.Prelude.{ℕ, ◌<◌, ◌≤◌, List, [], ◌∷◌, length}
 use Rattle.ber_core.specs.Written.{written, written_fields}
 use Rattle.tcap_pdu.specs.FrameSpelling.{Message, message_tag, fields}
 use Rattle.tcap_pdu.specs.declared.fault.PduFault.{PduFault}

@@ -53,6 +53,11 @@ pub enum PduFault {
 }
 
 impl From<OutOfMemory> for PduFault {
+    ghost use Rattle.std.specs.Prelude.{◌≡◌};
+    ghost use Rattle.tcap_pdu.specs.declared.fault.PduFault.TheVariants as fault;
+
+    ghost from_gives = { λ _ result. result ≡ fault.OutOfMemory };
+
     fn from(_error: OutOfMemory) -> PduFault {
         PduFault::OutOfMemory
     }

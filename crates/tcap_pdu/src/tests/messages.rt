@@ -166,7 +166,7 @@ fn faults_and_causes(rt: HostRuntime) -> Result<(), Fail> {
 #[test]
 fn fronts_of_faulty_messages(rt: HostRuntime) -> Result<(), Fail> {
     // The bytes, and origin and destination by their last octet.
-    let rows: [(&[u8], Option<u8>, Option<u8>); 10] = [
+    let rows: [(&[u8], Option<u8>, Option<u8>); 11] = [
         (
             &[
                 0x65, 0x0d, 0x48, 0x04, 0, 0, 0, 5, 0x49, 0x04, 0, 0, 0, 1, 0x6c,
@@ -180,6 +180,7 @@ fn fronts_of_faulty_messages(rt: HostRuntime) -> Result<(), Fail> {
             None,
             Some(7),
         ),
+        (&[0x65, 0x05, 0x48, 0x00, 0x49, 0x01, 7], None, Some(7)),
         (&[0x63, 0x06, 0x48, 0x04, 0, 0, 0, 7], Some(7), None),
         // A destination may stand first; a front of another kind has none.
         (&[0x64, 0x06, 0x49, 0x04, 0, 0, 0, 1], None, Some(1)),
@@ -254,6 +255,17 @@ fn a_begin_at_the_limit(rt: HostRuntime) -> Result<(), Fail> {
         components: within,
     };
     assert!(rt; read_frame(&bytes) == Ok(frame));
+    // An empty 6B is written, but 0 stands for no 6B.
+    let empty = Frame::Begin {
+        otid: TransId::of(1),
+        dialogue: Some(&[]),
+        components: within,
+    };
+    assert!(rt; frame_fits(&empty, 0));
+    assert_eq!(rt;
+        write_frame(rt.alloc(), &empty).err(),
+        Some(PduFault::TooLong)
+    );
     // The last two are lengths that no sum of machine words holds.
     let rows: [(&[u8], usize, bool); 7] = [
         (within, 0, true),
