@@ -152,18 +152,21 @@ foreign_takes bytes external syntax rest p o c not_structured not_unstructured e
     let u = test_some (list_all is_ok (items_of rest)) (some (foreign bytes)) p t.1 in
     let l = list_takes rest u.0 in
     let f = front_takes 0x06 external (syntax, rest) c in
-    subst (λ (x : PduValue). SpellsDialogue x bytes) (some_is (foreign bytes) p u.1) (refl, record {
-      content = external;
-      syntax = syntax;
-      first = f.0;
-      others = l.0;
-      is_external = o;
-      is_list = list_from f.0 external rest l.0 f.1 f.2 l.1;
-      is_syntax = f.3;
-      is_identifier = object_identifier_takes syntax t.0;
-      not_structured = not_structured;
-      not_unstructured = not_unstructured;
-    })
+    subst (λ (x : PduValue). SpellsDialogue x bytes) (some_is (foreign bytes) p u.1) (
+      refl,
+      record {
+        content = external;
+        syntax = syntax;
+        first = f.0;
+        others = l.0;
+        is_external = o;
+        is_list = list_from f.0 external rest l.0 f.1 f.2 l.1;
+        is_syntax = f.3;
+        is_identifier = object_identifier_takes syntax t.0;
+        not_structured = not_structured;
+        not_unstructured = not_unstructured;
+      },
+    )
 
 not_true : (b : Bool) → (b ≡ true → ⊥) → b ≡ false
 not_true true h = absurd (h refl)

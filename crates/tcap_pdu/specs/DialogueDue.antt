@@ -53,7 +53,7 @@ has_information (foreign external) = is_foreign (pdu_at external)
 unfoldable pub due_fault : PduValue → Option PduFault
 due_fault p =
     if is_context (context_of p) then
-      (if has_information p then (if nat_lt portion_limit (length (written_dialogue p)) then Some TooLong else None) else Some BadInfo)
+    (if has_information p then (if nat_lt portion_limit (length (written_dialogue p)) then Some TooLong else None) else Some BadInfo)
     else Some BadOid
 
 -- The value, if no fault is due (own).

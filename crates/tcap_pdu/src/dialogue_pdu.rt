@@ -44,7 +44,12 @@ pub enum DialoguePdu<'a> {
         info: &'a [u8],
     },
     /// Dialogue abort, by the dialogue service user or by its provider.
-    Abrt { by_provider: bool, info: &'a [u8] },
+    Abrt {
+        by_provider: bool,
+        info: &'a [u8],
+    },
     /// The octets of one EXTERNAL of another abstract syntax, which is not looked into (our own).
-    Foreign { external: &'a [u8] },
+    Foreign {
+        external: &'a [u8],
+    },
 }

@@ -9,5 +9,8 @@ pub mod dialogue_tag;
 mod fault;
 pub mod laws;
 
-pub use dialogue_pdu::{DialoguePdu, Diagnostic, dialogue_len, read_dialogue, write_dialogue};
+pub use dialogue_pdu::{Diagnostic, DialoguePdu, dialogue_len, read_dialogue, write_dialogue};
 pub use fault::{DialogueFault, FrameFault, PduFault};
+
+#[cfg(test)]
+mod tests;

@@ -91,7 +91,11 @@ fn append_diagnostic<A: Allocator + Copy>(
 ) -> Result<(), OutOfMemory>
     ensures { OnOk result (out.new.items ≡ out.old.items ++ written_field (diagnostic_field (source diagnostic))) }
 {
-    write_head(out, &[RESULT_SOURCE_DIAGNOSTIC], element_len(element_len(1)))?;
+    write_head(
+        out,
+        &[RESULT_SOURCE_DIAGNOSTIC],
+        element_len(element_len(1)),
+    )?;
     match diagnostic {
         Diagnostic::User(number) => append_number(out, DIALOGUE_SERVICE_USER, number),
         Diagnostic::Provider(number) => append_number(out, DIALOGUE_SERVICE_PROVIDER, number),

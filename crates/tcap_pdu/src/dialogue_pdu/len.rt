@@ -129,7 +129,9 @@ fn portion_len(pdu: &DialoguePdu<'_>) -> usize
         DialoguePdu::Aare { context, info, .. } => external_len(
             opening_len(context.len()) + answer_len() + information_len(info.len()),
         ),
-        DialoguePdu::Abrt { info, .. } => external_len(element_len(1) + information_len(info.len())),
+        DialoguePdu::Abrt { info, .. } => external_len(
+            element_len(1) + information_len(info.len()),
+        ),
         DialoguePdu::Foreign { external } => external.len(),
     }
 }

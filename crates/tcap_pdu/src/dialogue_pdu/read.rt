@@ -133,11 +133,7 @@ fn read_foreign<'a>(bytes: &'a [u8], syntax: &[u8], rest: &[u8]) -> Option<Dialo
 
 /// The PDU by the abstract syntax, which stands first in the EXTERNAL.
 #[tactic(auto, unfolding(crate::specs::DialogueReading::pdu_by))]
-fn read_by_syntax<'a>(
-    bytes: &'a [u8],
-    syntax: &'a [u8],
-    rest: &'a [u8],
-) -> Option<DialoguePdu<'a>>
+fn read_by_syntax<'a>(bytes: &'a [u8], syntax: &'a [u8], rest: &'a [u8]) -> Option<DialoguePdu<'a>>
     ensures { option_map pdu_value result ≡ pdu_by bytes.now syntax.now rest.now }
 {
     if syntax == STRUCTURED.as_slice() {

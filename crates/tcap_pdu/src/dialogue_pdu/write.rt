@@ -35,7 +35,14 @@ fn append_portion<A: Allocator + Copy>(
             version1,
             context,
             info,
-        } => append_request(out, &UNSTRUCTURED, UNIDIRECTIONAL_DIALOGUE, *version1, context, info),
+        } => append_request(
+            out,
+            &UNSTRUCTURED,
+            UNIDIRECTIONAL_DIALOGUE,
+            *version1,
+            context,
+            info,
+        ),
         DialoguePdu::Aare {
             version1,
             context,
