@@ -1,11 +1,11 @@
-ghost use Rattle.std.specs.Prelude.{◌≡◌, ◌<◌, ◌≤◌, ◌^◌, IfSome, IfNone, length, option_copied};
+ghost use Rattle.std.specs.Prelude.{◌≡◌, ◌+◌, ◌<◌, ◌≤◌, ◌^◌, IfSome, IfNone, length, option_copied};
 ghost use Rattle.std.specs.Result.{result_ok};
 ghost use Rattle.ber_core.specs.ObjectIdentifier.{object_identifier_limit};
 ghost use Rattle.ber_core.specs.Results.{Gives};
 ghost use Rattle.tcap_pdu.specs.DialogueReading.{pdu_at};
 ghost use Rattle.tcap_pdu.specs.DialogueViews.{pdu_value};
 ghost use Rattle.tcap_pdu.specs.DialogueWritten.{portion_limit, written_dialogue, IsWritable};
-ghost use Rattle.tcap_pdu.specs.DialogueDue.{context_of, is_context, is_foreign, has_information, body_of, length_at, information_length, opening_length, answer_length, held_length, external_length, portion_length};
+ghost use Rattle.tcap_pdu.specs.DialogueDue.{context_of, is_context, is_foreign, has_information, content_fault, length_at, information_length, opening_length, answer_length, held_length, external_length, portion_length};
 
 use crate::dialogue_pdu::DialoguePdu;
 use crate::dialogue_pdu::parts::is_user_information;
@@ -59,22 +59,22 @@ fn has_information(pdu: &DialoguePdu<'_>) -> bool
     }
 }
 
-/// The user information, or the foreign EXTERNAL.
-fn body_of<'a>(pdu: &DialoguePdu<'a>) -> &'a [u8]
-    ensures { result.now ≡ body_of (pdu_value pdu.now) }
+/// The first fault of the PDU's contents.
+fn content_fault(pdu: &DialoguePdu<'_>) -> Option<PduFault>
+    ensures { result ≡ content_fault (pdu_value pdu.now) }
 {
-    match pdu {
-        DialoguePdu::Aarq { info, .. }
-        | DialoguePdu::Audt { info, .. }
-        | DialoguePdu::Aare { info, .. }
-        | DialoguePdu::Abrt { info, .. } => info,
-        DialoguePdu::Foreign { external } => external,
+    if !has_context(pdu) {
+        Some(PduFault::BadOid)
+    } else if !has_information(pdu) {
+        Some(PduFault::BadInfo)
+    } else {
+        None
     }
 }
 
 /// How many octets user information of this length takes; it is left out where it is empty.
 pub fn information_len(info: usize) -> usize
-    requires { info ≤ portion_limit }
+    requires { info + 4 < 2 ^ 64 }
     ensures { result ≡ information_length info }
 {
     if info == 0 { 0 } else { element_len(info) }
@@ -100,7 +100,7 @@ pub fn answer_len() -> usize
 /// How many octets an EXTERNAL holds, for a PDU with contents of this length.
 #[tactic(auto, using(crate::proofs::DialogueLength::element_most))]
 pub fn held_len(contents: usize) -> usize
-    requires { contents < 2 ^ 32 }
+    requires { contents + 64 < 2 ^ 64 }
     ensures { result ≡ held_length contents }
 {
     element_len(STRUCTURED.len()) + element_len(element_len(contents))
@@ -109,7 +109,7 @@ pub fn held_len(contents: usize) -> usize
 /// How many octets an EXTERNAL takes, for a PDU with contents of this length.
 #[tactic(auto, using(crate::proofs::DialogueLength::element_most))]
 fn external_len(contents: usize) -> usize
-    requires { contents < 2 ^ 32 }
+    requires { contents + 64 < 2 ^ 64 }
     ensures { result ≡ external_length contents }
 {
     element_len(held_len(contents))
@@ -118,8 +118,7 @@ fn external_len(contents: usize) -> usize
 /// How many octets the PDU takes, with its EXTERNAL.
 #[tactic(auto, using(crate::proofs::DialogueLength::element_most, crate::proofs::DialogueLength::information_most), unfolding(crate::specs::DialogueDue::portion_length))]
 fn portion_len(pdu: &DialoguePdu<'_>) -> usize
-    requires context { IfSome (context_of (pdu_value pdu.now)) (λ c. length c ≤ object_identifier_limit) }
-    requires body { length (body_of (pdu_value pdu.now)) ≤ portion_limit }
+    requires { IfSome (context_of (pdu_value pdu.now)) (λ c. length c ≤ object_identifier_limit) }
     ensures { result ≡ portion_length (pdu_value pdu.now) }
 {
     match pdu {
@@ -137,17 +136,12 @@ fn portion_len(pdu: &DialoguePdu<'_>) -> usize
 }
 
 /// The length that is written, or the first fault that is due, want of memory apart.
+#[tactic(auto, using(crate::proofs::DueSteps::due_content, crate::proofs::DueSteps::due_long, crate::proofs::DueSteps::due_none))]
 pub fn checked_len(pdu: &DialoguePdu<'_>) -> Result<usize, PduFault>
     ensures { Gives (λ n. n) result (length_at (pdu_value pdu.now)) }
 {
-    if !has_context(pdu) {
-        return Err(PduFault::BadOid);
-    }
-    if !has_information(pdu) {
-        return Err(PduFault::BadInfo);
-    }
-    if body_of(pdu).len() > MAX_PORTION {
-        return Err(PduFault::TooLong);
+    if let Some(fault) = content_fault(pdu) {
+        return Err(fault);
     }
     let len = portion_len(pdu);
     if len > MAX_PORTION {
