@@ -1,11 +1,10 @@
-ghost use Rattle.std.specs.Prelude.{◌≡◌, ◌+◌, ◌<◌, ◌≤◌, ◌^◌, IfSome, IfNone, length, option_copied};
+ghost use Rattle.std.specs.Prelude.{◌≡◌, ◌+◌, ◌<◌, ◌≤◌, ◌^◌, IfSome, IfNone, length};
 ghost use Rattle.std.specs.Result.{result_ok};
 ghost use Rattle.ber_core.specs.ObjectIdentifier.{object_identifier_limit};
 ghost use Rattle.ber_core.specs.Results.{Gives};
-ghost use Rattle.tcap_pdu.specs.DialogueReading.{pdu_at};
 ghost use Rattle.tcap_pdu.specs.DialogueViews.{pdu_value};
 ghost use Rattle.tcap_pdu.specs.DialogueWritten.{portion_limit, written_dialogue, IsWritable};
-ghost use Rattle.tcap_pdu.specs.DialogueDue.{context_of, is_context, is_foreign, has_information, content_fault, length_at, information_length, opening_length, answer_length, held_length, external_length, portion_length};
+ghost use Rattle.tcap_pdu.specs.DialogueDue.{context_of, is_context, has_information, content_fault, length_at, information_length, opening_length, answer_length, held_length, external_length, portion_length};
 
 use crate::dialogue_pdu::DialoguePdu;
 use crate::dialogue_pdu::parts::is_user_information;
@@ -17,33 +16,16 @@ use ber_core::{element_len, is_oid};
 /// The greatest length of the contents of a dialogue portion that is written: 65,535 octets (our own).
 const MAX_PORTION: usize = 65_535;
 
-/// The application context name, where the PDU names one.
-fn context_of<'a>(pdu: &DialoguePdu<'a>) -> Option<&'a [u8]>
-    ensures { option_copied result ≡ context_of (pdu_value pdu.now) }
-{
-    match pdu {
-        DialoguePdu::Aarq { context, .. }
-        | DialoguePdu::Audt { context, .. }
-        | DialoguePdu::Aare { context, .. } => Some(context),
-        DialoguePdu::Abrt { .. } | DialoguePdu::Foreign { .. } => None,
-    }
-}
-
 /// Whether the application context name, where there is one, is an object identifier.
 fn has_context(pdu: &DialoguePdu<'_>) -> bool
     ensures { result ≡ is_context (context_of (pdu_value pdu.now)) }
 {
-    match context_of(pdu) {
-        Some(context) => is_oid(context),
-        None => true,
+    match pdu {
+        DialoguePdu::Aarq { context, .. }
+        | DialoguePdu::Audt { context, .. }
+        | DialoguePdu::Aare { context, .. } => is_oid(context),
+        DialoguePdu::Abrt { .. } | DialoguePdu::Foreign { .. } => true,
     }
-}
-
-/// Whether the EXTERNAL is one of a foreign abstract syntax.
-fn is_foreign(external: &[u8]) -> bool
-    ensures { result ≡ is_foreign (pdu_at external.now) }
-{
-    matches!(read_pdu(external), Some(DialoguePdu::Foreign { .. }))
 }
 
 /// Whether the user information is a list of EXTERNALs, and a foreign EXTERNAL one.
@@ -55,7 +37,9 @@ fn has_information(pdu: &DialoguePdu<'_>) -> bool
         | DialoguePdu::Audt { info, .. }
         | DialoguePdu::Aare { info, .. }
         | DialoguePdu::Abrt { info, .. } => is_user_information(info),
-        DialoguePdu::Foreign { external } => is_foreign(external),
+        DialoguePdu::Foreign { external } => {
+            matches!(read_pdu(external), Some(DialoguePdu::Foreign { .. }))
+        }
     }
 }
 
