@@ -7,7 +7,8 @@ use Rattle.tcap_pdu.specs.declared.fault.PduFault.{PduFault}
 use Rattle.tcap_pdu.specs.declared.fault.PduFault.TheVariants.{TooLong, BadOid, BadInfo}
 use Rattle.tcap_pdu.specs.DialogueSpelling.{PduValue}
 use Rattle.tcap_pdu.specs.DialogueSpelling.PduValue.{aarq, audt, aare, abrt, foreign}
-use Rattle.tcap_pdu.specs.DialogueReading.{is_information, pdu_at}
+use Rattle.tcap_pdu.specs.DialoguePartsReading.{is_information}
+use Rattle.tcap_pdu.specs.DialogueReading.{pdu_at}
 use Rattle.tcap_pdu.specs.DialogueWritten.{portion_limit, written_dialogue}
 
 -- The application context name, where the PDU names one (Q.773, Dialogue portion).

@@ -1,4 +1,5 @@
 pub mod DialogueSpelling
+pub mod DialoguePartsReading
 pub mod DialogueReading
 pub mod DialogueViews
 pub mod DialogueWritten

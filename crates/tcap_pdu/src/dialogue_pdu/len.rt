@@ -137,7 +137,8 @@ pub fn checked_len(pdu: &DialoguePdu<'_>) -> Result<usize, PduFault>
 /// How many octets `write_dialogue` gives, and `None` where it refuses for another cause than want of
 /// memory. It takes no memory.
 pub fn dialogue_len(pdu: &DialoguePdu<'_>) -> Option<usize>
-    ensures len { IfSome result (λ len. IsWritable (pdu_value pdu.now) × (len ≡ length (written_dialogue (pdu_value pdu.now)))) }
+    ensures len { IfSome result (λ len.
+        IsWritable (pdu_value pdu.now) × (len ≡ length (written_dialogue (pdu_value pdu.now)))) }
     ensures none { IfNone result (IsWritable (pdu_value pdu.now) → ⊥) }
     // The same, computed: what the layers above cite.
     ensures exact { result ≡ result_ok (length_at (pdu_value pdu.now)) }

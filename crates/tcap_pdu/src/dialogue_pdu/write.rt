@@ -79,7 +79,8 @@ pub fn write_dialogue<A: Allocator + Copy>(
 ) -> Result<Vec<u8, A>, PduFault>
     requires { HasDiagnostic (pdu_value pdu.now) }
     // What is given is the canonical form, and spells the PDU.
-    ensures ok { IfOk result (λ out. IsWritable (pdu_value pdu.now) × (out.items ≡ written_dialogue (pdu_value pdu.now))) }
+    ensures ok { IfOk result (λ out.
+        IsWritable (pdu_value pdu.now) × (out.items ≡ written_dialogue (pdu_value pdu.now))) }
     ensures spelled { IfOk result (λ out. SpellsDialogue (pdu_value pdu.now) out.items) }
     // Which fault, the first in the order; want of memory only where no other is due.
     ensures err { IfErr result (λ f. WriteFault (pdu_value pdu.now) f) }
