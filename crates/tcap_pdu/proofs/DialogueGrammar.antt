@@ -15,7 +15,8 @@ use Rattle.ber_core.specs.SequenceReading.{content_at, only_at}
 use Rattle.ber_core.proofs.CallerLemmas.{some_is, not_some, bind_some, guard_some, test_some, must_takes, must_again, end_takes, end_again, only_takes, only_again, list_takes, list_again, list_from, object_identifier_takes, object_identifier_again}
 use Rattle.tcap_pdu.specs.DialogueSpelling.{Source, PduValue, structured_syntax, unstructured_syntax, result_number, abort_source, IsInformation, SpellsRequest, SpellsResponse, SpellsAbort, SpellsExternal, IsForeign, SpellsDialogue}
 use Rattle.tcap_pdu.specs.DialogueSpelling.PduValue.{aarq, audt, aare, abrt, foreign}
-use Rattle.tcap_pdu.specs.DialogueReading.{one_octet, Tagged, tag_and, one_at, information_at, Opening, opening, opening_at, request_at, number_at, accepted_of, by_provider_of, diagnostic_at, response_at, abort_at, aarq_of, audt_of, structured_by, structured_at, unstructured_at, foreign_by, pdu_by, pdu_at}
+use Rattle.tcap_pdu.specs.DialoguePartsReading.{one_octet, Tagged, tag_and, one_at, information_at, Opening, opening, opening_at, number_at, diagnostic_at}
+use Rattle.tcap_pdu.specs.DialogueReading.{request_at, accepted_of, by_provider_of, response_at, abort_at, aarq_of, audt_of, structured_by, structured_at, unstructured_at, foreign_by, pdu_by, pdu_at}
 use Rattle.tcap_pdu.proofs.DialogueParts.{some, information_at_takes, information_at_again, one_octet-is, one_octet-one, one_takes, one_again, Opens, opening_takes, opening_again, number_takes, number_again, diagnostic_takes, diagnostic_again}
 
 -- ---- the contents

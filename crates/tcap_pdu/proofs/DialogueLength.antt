@@ -8,7 +8,7 @@ use Rattle.ber_core.proofs.CallerLemmas.{element_length-least, element_length-mo
 use Rattle.tcap_pdu.specs.DialogueSpelling.{Source, PduValue, structured_syntax, unstructured_syntax, result_number, abort_source, source_tag, source_number}
 use Rattle.tcap_pdu.specs.DialogueSpelling.PduValue.{aarq, audt, aare, abrt, foreign}
 use Rattle.tcap_pdu.specs.DialogueWritten.{version_octets, opening_fields, request_fields, result_field, diagnostic_field, response_fields, abort_fields, written_external, written_dialogue}
-use Rattle.tcap_pdu.specs.DialogueDue.{information_length, opening_length, answer_length, contents_length, held_length, external_length, portion_length, external_front, body_of}
+use Rattle.tcap_pdu.specs.DialogueDue.{information_length, opening_length, answer_length, contents_length, held_length, external_length, portion_length, external_front}
 
 pub element_most : (n : ℕ) → element_length n ≤ n + 4
 element_most n = element_length-most n
@@ -109,14 +109,3 @@ external_most n =
     let b = element_length-most (element_length n) in
     let c = element_length-most (held_length n) in
     omega (arith, a, b, c)
-
-above : (n m : ℕ) → n ≤ information_length n → information_length n ≤ m → n ≤ external_length m
-above n m a b = let c = external_least m in omega (arith, a, b, c)
-
-pub portion-body : (p : PduValue) → length (body_of p) ≤ portion_length p
-unfolding portion_length
-portion-body (aarq v c i) = above (length i) (contents_length (aarq v c i)) (information_least (length i)) (omega arith)
-portion-body (audt v c i) = above (length i) (contents_length (audt v c i)) (information_least (length i)) (omega arith)
-portion-body (aare v c a d i) = above (length i) (contents_length (aare v c a d i)) (information_least (length i)) (omega arith)
-portion-body (abrt b i) = above (length i) (contents_length (abrt b i)) (information_least (length i)) (omega arith)
-portion-body (foreign e) = omega arith

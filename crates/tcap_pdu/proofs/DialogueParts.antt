@@ -14,7 +14,7 @@ use Rattle.ber_core.specs.SequenceReading.{tagged, content_at, only_at, alone_at
 use Rattle.ber_core.proofs.CallerLemmas.{some_is, not_some, bind_some, guard_some, test_some, ending-is, ending-again, items_of-list, is_tag-is, is_tag-one, may_takes, must_takes, filled_takes, end_takes, may_again, must_again, filled_again, end_again, only_takes, only_again, alone_takes, alone_again, list_takes, object_identifier_takes, object_identifier_again}
 use Rattle.tcap_pdu.specs.DialogueSpelling.{Source, source_tag, source_number, SaysVersion, IsExternal, IsInformation, SpellsDiagnostic}
 use Rattle.tcap_pdu.specs.DialogueSpelling.Source.{user, provider}
-use Rattle.tcap_pdu.specs.DialogueReading.{one_octet, Tagged, tag_and, one_at, is_external, is_information, information_at, version_of, version_and, version_at, context_at, Opening, opening, opening_at, number_at, source_of, diagnostic_at}
+use Rattle.tcap_pdu.specs.DialoguePartsReading.{one_octet, Tagged, tag_and, one_at, is_external, is_information, information_at, version_of, version_and, version_at, context_at, Opening, opening, opening_at, number_at, source_of, diagnostic_at}
 
 abbrev pub some : {A : Type 0} → A → Option A
 some x = Some x

@@ -16,7 +16,8 @@ use Rattle.ber_core.specs.SequenceReading.{is_tag, tagged, content_at, only_at}
 use Rattle.ber_core.proofs.CallerLemmas.{some_is, not_some, by_result, bind_some, guard_some, test_some, is_tag-is, is_tag-one, element_takes, element_again, must_takes, must_again, only_takes, only_again, list_takes, list_again, list_from, object_identifier_takes, object_identifier_again}
 use Rattle.tcap_pdu.specs.DialogueSpelling.{PduValue, structured_syntax, unstructured_syntax, SpellsRequest, SpellsResponse, SpellsAbort, SpellsExternal, IsForeign, SpellsDialogue}
 use Rattle.tcap_pdu.specs.DialogueSpelling.PduValue.{aarq, audt, aare, abrt, foreign}
-use Rattle.tcap_pdu.specs.DialogueReading.{one_at, Opening, request_at, response_at, abort_at, aarq_of, audt_of, structured_by, structured_at, unstructured_at, foreign_by, pdu_by, pdu_at}
+use Rattle.tcap_pdu.specs.DialoguePartsReading.{one_at, Opening}
+use Rattle.tcap_pdu.specs.DialogueReading.{request_at, response_at, abort_at, aarq_of, audt_of, structured_by, structured_at, unstructured_at, foreign_by, pdu_by, pdu_at}
 use Rattle.tcap_pdu.proofs.DialogueParts.{some, one_takes, one_again}
 use Rattle.tcap_pdu.proofs.DialogueGrammar.{request_takes, request_again, IsResponse, response_takes, response_again, IsAbort, abort_takes, abort_again}
 

@@ -10,8 +10,8 @@ use Rattle.tcap_pdu.specs.DialogueSpelling.{PduValue, IsForeign, SpellsDialogue}
 use Rattle.tcap_pdu.specs.DialogueSpelling.PduValue.{aarq, audt, aare, abrt, foreign}
 use Rattle.tcap_pdu.specs.DialogueReading.{pdu_at}
 use Rattle.tcap_pdu.specs.DialogueWritten.{written_dialogue, HasContext, HasInformation, IsWritable, WriteFault}
-use Rattle.tcap_pdu.specs.DialogueDue.{context_of, is_context, is_foreign, has_information, due_fault, unless, length_at, body_of, portion_length}
-use Rattle.tcap_pdu.proofs.DialogueLength.{length-dialogue, portion-body}
+use Rattle.tcap_pdu.specs.DialogueDue.{context_of, is_context, is_foreign, has_information, due_fault, unless, length_at, portion_length}
+use Rattle.tcap_pdu.proofs.DialogueLength.{length-dialogue}
 use Rattle.tcap_pdu.proofs.DueSteps.{context_short}
 use Rattle.tcap_pdu.proofs.DialogueParts.{information_takes, information_again}
 use Rattle.tcap_pdu.proofs.PortionGrammar.{pdu_takes, pdu_again}
@@ -104,6 +104,3 @@ context_within p w = context_short (context_of p) (context_again p w.has_context
 
 pub short_within : (p : PduValue) → IsWritable p → portion_length p ≤ 65535
 short_within p w = let l = length-dialogue p in let s = w.is_short in omega (arith, l, s)
-
-pub body_within : (p : PduValue) → IsWritable p → length (body_of p) ≤ 65535
-body_within p w = let b = portion-body p in let s = short_within p w in omega (arith, b, s)

@@ -7,7 +7,8 @@ use Rattle.tcap_pdu.specs.declared.fault.PduFault.{PduFault}
 use Rattle.tcap_pdu.specs.declared.fault.PduFault.TheVariants.{TooLong, BadOid, BadInfo}
 use Rattle.tcap_pdu.specs.DialogueSpelling.{PduValue}
 use Rattle.tcap_pdu.specs.DialogueSpelling.PduValue.{aarq, audt, aare, abrt, foreign}
-use Rattle.tcap_pdu.specs.DialogueReading.{is_information, pdu_at}
+use Rattle.tcap_pdu.specs.DialoguePartsReading.{is_information}
+use Rattle.tcap_pdu.specs.DialogueReading.{pdu_at}
 use Rattle.tcap_pdu.specs.DialogueWritten.{portion_limit, written_dialogue}
 
 -- The application context name, where the PDU names one (Q.773, Dialogue portion).
@@ -17,14 +18,6 @@ context_of (audt version1 context info) = Some context
 context_of (aare version1 context accepted diagnostic info) = Some context
 context_of (abrt by_provider info) = None
 context_of (foreign external) = None
-
--- The user information, or the foreign EXTERNAL (Q.773, Dialogue portion).
-abbrev pub body_of : PduValue → List ℕ
-body_of (aarq version1 context info) = info
-body_of (audt version1 context info) = info
-body_of (aare version1 context accepted diagnostic info) = info
-body_of (abrt by_provider info) = info
-body_of (foreign external) = external
 
 -- Whether a name, if any, is an object identifier (own).
 abbrev pub is_context : Option (List ℕ) → Bool
@@ -49,12 +42,18 @@ has_information (aare version1 context accepted diagnostic info) = is_informatio
 has_information (abrt by_provider info) = is_information info
 has_information (foreign external) = is_foreign (pdu_at external)
 
+-- The first fault of the PDU's contents (own).
+abbrev pub content_fault : PduValue → Option PduFault
+content_fault p = if is_context (context_of p) then (if has_information p then None else Some BadInfo) else Some BadOid
+
+-- The fault, or else that of a length above the limit (own).
+abbrev pub or_long : Option PduFault → ℕ → Option PduFault
+or_long (Some f) n = Some f
+or_long None n = if nat_lt portion_limit n then Some TooLong else None
+
 -- The first fault that is due, want of memory apart (own).
 unfoldable pub due_fault : PduValue → Option PduFault
-due_fault p =
-    if is_context (context_of p) then
-    (if has_information p then (if nat_lt portion_limit (length (written_dialogue p)) then Some TooLong else None) else Some BadInfo)
-    else Some BadOid
+due_fault p = or_long (content_fault p) (length (written_dialogue p))
 
 -- The value, if no fault is due (own).
 abbrev pub unless : {A : Type 0} → Option PduFault → A → Result A PduFault

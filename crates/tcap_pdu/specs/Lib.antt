@@ -1,4 +1,5 @@
 pub mod DialogueDue
+pub mod DialoguePartsReading
 pub mod DialogueReading
 pub mod DialogueSpelling
 pub mod DialogueViews

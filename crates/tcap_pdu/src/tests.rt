@@ -1,1 +1,2 @@
+mod dialogues;
 mod messages;

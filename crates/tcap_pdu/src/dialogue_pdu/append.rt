@@ -130,8 +130,10 @@ pub fn append_request<A: Allocator + Copy>(
     requires tag { IsTag (tag ∷ []) }
     requires context { length context.now ≤ object_identifier_limit }
     requires info { length info.now ≤ portion_limit }
-    requires short { external_length (opening_length (length context.now) + information_length (length info.now)) ≤ portion_limit }
-    ensures { OnOk result (out.new.items ≡ out.old.items ++ written_external syntax.now tag (request_fields version1 context.now info.now)) }
+    requires short { external_length (opening_length (length context.now) + information_length (length info.now))
+        ≤ portion_limit }
+    ensures { OnOk result (out.new.items ≡ out.old.items
+        ++ written_external syntax.now tag (request_fields version1 context.now info.now)) }
 {
     let contents = opening_len(context.len()) + information_len(info.len());
     append_front(out, syntax, tag, contents)?;
@@ -151,8 +153,10 @@ pub fn append_response<A: Allocator + Copy>(
 ) -> Result<(), OutOfMemory>
     requires context { length context.now ≤ object_identifier_limit }
     requires info { length info.now ≤ portion_limit }
-    requires short { external_length (opening_length (length context.now) + answer_length + information_length (length info.now)) ≤ portion_limit }
-    ensures { OnOk result (out.new.items ≡ out.old.items ++ written_external structured_syntax 0x61 (response_fields version1 context.now accepted (source diagnostic) info.now)) }
+    requires short { external_length (opening_length (length context.now) + answer_length + information_length (length info.now))
+        ≤ portion_limit }
+    ensures { OnOk result (out.new.items ≡ out.old.items
+        ++ written_external structured_syntax 0x61 (response_fields version1 context.now accepted (source diagnostic) info.now)) }
 {
     let contents = opening_len(context.len()) + answer_len() + information_len(info.len());
     append_front(out, &STRUCTURED, DIALOGUE_RESPONSE, contents)?;
@@ -185,7 +189,8 @@ pub fn append_abort<A: Allocator + Copy>(
 ) -> Result<(), OutOfMemory>
     requires info { length info.now ≤ portion_limit }
     requires short { external_length (element_length 1 + information_length (length info.now)) ≤ portion_limit }
-    ensures { OnOk result (out.new.items ≡ out.old.items ++ written_external structured_syntax 0x64 (abort_fields by_provider info.now)) }
+    ensures { OnOk result (out.new.items ≡ out.old.items
+        ++ written_external structured_syntax 0x64 (abort_fields by_provider info.now)) }
 {
     let contents = element_len(1) + information_len(info.len());
     append_front(out, &STRUCTURED, DIALOGUE_ABORT, contents)?;

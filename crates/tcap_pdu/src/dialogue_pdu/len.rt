@@ -1,11 +1,10 @@
-ghost use Rattle.std.specs.Prelude.{◌≡◌, ◌<◌, ◌≤◌, ◌^◌, IfSome, IfNone, length, option_copied};
+ghost use Rattle.std.specs.Prelude.{◌≡◌, ◌+◌, ◌<◌, ◌≤◌, ◌^◌, IfSome, IfNone, length};
 ghost use Rattle.std.specs.Result.{result_ok};
 ghost use Rattle.ber_core.specs.ObjectIdentifier.{object_identifier_limit};
 ghost use Rattle.ber_core.specs.Results.{Gives};
-ghost use Rattle.tcap_pdu.specs.DialogueReading.{pdu_at};
 ghost use Rattle.tcap_pdu.specs.DialogueViews.{pdu_value};
 ghost use Rattle.tcap_pdu.specs.DialogueWritten.{portion_limit, written_dialogue, IsWritable};
-ghost use Rattle.tcap_pdu.specs.DialogueDue.{context_of, is_context, is_foreign, has_information, body_of, length_at, information_length, opening_length, answer_length, held_length, external_length, portion_length};
+ghost use Rattle.tcap_pdu.specs.DialogueDue.{context_of, is_context, has_information, content_fault, length_at, information_length, opening_length, answer_length, held_length, external_length, portion_length};
 
 use crate::dialogue_pdu::DialoguePdu;
 use crate::dialogue_pdu::parts::is_user_information;
@@ -17,33 +16,16 @@ use ber_core::{element_len, is_oid};
 /// The greatest length of the contents of a dialogue portion that is written: 65,535 octets (our own).
 const MAX_PORTION: usize = 65_535;
 
-/// The application context name, where the PDU names one.
-fn context_of<'a>(pdu: &DialoguePdu<'a>) -> Option<&'a [u8]>
-    ensures { option_copied result ≡ context_of (pdu_value pdu.now) }
-{
-    match pdu {
-        DialoguePdu::Aarq { context, .. }
-        | DialoguePdu::Audt { context, .. }
-        | DialoguePdu::Aare { context, .. } => Some(context),
-        DialoguePdu::Abrt { .. } | DialoguePdu::Foreign { .. } => None,
-    }
-}
-
 /// Whether the application context name, where there is one, is an object identifier.
 fn has_context(pdu: &DialoguePdu<'_>) -> bool
     ensures { result ≡ is_context (context_of (pdu_value pdu.now)) }
 {
-    match context_of(pdu) {
-        Some(context) => is_oid(context),
-        None => true,
+    match pdu {
+        DialoguePdu::Aarq { context, .. }
+        | DialoguePdu::Audt { context, .. }
+        | DialoguePdu::Aare { context, .. } => is_oid(context),
+        DialoguePdu::Abrt { .. } | DialoguePdu::Foreign { .. } => true,
     }
-}
-
-/// Whether the EXTERNAL is one of a foreign abstract syntax.
-fn is_foreign(external: &[u8]) -> bool
-    ensures { result ≡ is_foreign (pdu_at external.now) }
-{
-    matches!(read_pdu(external), Some(DialoguePdu::Foreign { .. }))
 }
 
 /// Whether the user information is a list of EXTERNALs, and a foreign EXTERNAL one.
@@ -55,26 +37,28 @@ fn has_information(pdu: &DialoguePdu<'_>) -> bool
         | DialoguePdu::Audt { info, .. }
         | DialoguePdu::Aare { info, .. }
         | DialoguePdu::Abrt { info, .. } => is_user_information(info),
-        DialoguePdu::Foreign { external } => is_foreign(external),
+        DialoguePdu::Foreign { external } => {
+            matches!(read_pdu(external), Some(DialoguePdu::Foreign { .. }))
+        }
     }
 }
 
-/// The user information, or the foreign EXTERNAL.
-fn body_of<'a>(pdu: &DialoguePdu<'a>) -> &'a [u8]
-    ensures { result.now ≡ body_of (pdu_value pdu.now) }
+/// The first fault of the PDU's contents.
+fn content_fault(pdu: &DialoguePdu<'_>) -> Option<PduFault>
+    ensures { result ≡ content_fault (pdu_value pdu.now) }
 {
-    match pdu {
-        DialoguePdu::Aarq { info, .. }
-        | DialoguePdu::Audt { info, .. }
-        | DialoguePdu::Aare { info, .. }
-        | DialoguePdu::Abrt { info, .. } => info,
-        DialoguePdu::Foreign { external } => external,
+    if !has_context(pdu) {
+        Some(PduFault::BadOid)
+    } else if !has_information(pdu) {
+        Some(PduFault::BadInfo)
+    } else {
+        None
     }
 }
 
 /// How many octets user information of this length takes; it is left out where it is empty.
 pub fn information_len(info: usize) -> usize
-    requires { info ≤ portion_limit }
+    requires { info + 4 < 2 ^ 64 }
     ensures { result ≡ information_length info }
 {
     if info == 0 { 0 } else { element_len(info) }
@@ -100,7 +84,7 @@ pub fn answer_len() -> usize
 /// How many octets an EXTERNAL holds, for a PDU with contents of this length.
 #[tactic(auto, using(crate::proofs::DialogueLength::element_most))]
 pub fn held_len(contents: usize) -> usize
-    requires { contents < 2 ^ 32 }
+    requires { contents + 64 < 2 ^ 64 }
     ensures { result ≡ held_length contents }
 {
     element_len(STRUCTURED.len()) + element_len(element_len(contents))
@@ -109,7 +93,7 @@ pub fn held_len(contents: usize) -> usize
 /// How many octets an EXTERNAL takes, for a PDU with contents of this length.
 #[tactic(auto, using(crate::proofs::DialogueLength::element_most))]
 fn external_len(contents: usize) -> usize
-    requires { contents < 2 ^ 32 }
+    requires { contents + 64 < 2 ^ 64 }
     ensures { result ≡ external_length contents }
 {
     element_len(held_len(contents))
@@ -118,8 +102,7 @@ fn external_len(contents: usize) -> usize
 /// How many octets the PDU takes, with its EXTERNAL.
 #[tactic(auto, using(crate::proofs::DialogueLength::element_most, crate::proofs::DialogueLength::information_most), unfolding(crate::specs::DialogueDue::portion_length))]
 fn portion_len(pdu: &DialoguePdu<'_>) -> usize
-    requires context { IfSome (context_of (pdu_value pdu.now)) (λ c. length c ≤ object_identifier_limit) }
-    requires body { length (body_of (pdu_value pdu.now)) ≤ portion_limit }
+    requires { IfSome (context_of (pdu_value pdu.now)) (λ c. length c ≤ object_identifier_limit) }
     ensures { result ≡ portion_length (pdu_value pdu.now) }
 {
     match pdu {
@@ -137,17 +120,12 @@ fn portion_len(pdu: &DialoguePdu<'_>) -> usize
 }
 
 /// The length that is written, or the first fault that is due, want of memory apart.
+#[tactic(auto, using(crate::proofs::DueSteps::due_content, crate::proofs::DueSteps::due_long, crate::proofs::DueSteps::due_none))]
 pub fn checked_len(pdu: &DialoguePdu<'_>) -> Result<usize, PduFault>
     ensures { Gives (λ n. n) result (length_at (pdu_value pdu.now)) }
 {
-    if !has_context(pdu) {
-        return Err(PduFault::BadOid);
-    }
-    if !has_information(pdu) {
-        return Err(PduFault::BadInfo);
-    }
-    if body_of(pdu).len() > MAX_PORTION {
-        return Err(PduFault::TooLong);
+    if let Some(fault) = content_fault(pdu) {
+        return Err(fault);
     }
     let len = portion_len(pdu);
     if len > MAX_PORTION {
@@ -159,7 +137,8 @@ pub fn checked_len(pdu: &DialoguePdu<'_>) -> Result<usize, PduFault>
 /// How many octets `write_dialogue` gives, and `None` where it refuses for another cause than want of
 /// memory. It takes no memory.
 pub fn dialogue_len(pdu: &DialoguePdu<'_>) -> Option<usize>
-    ensures len { IfSome result (λ len. IsWritable (pdu_value pdu.now) × (len ≡ length (written_dialogue (pdu_value pdu.now)))) }
+    ensures len { IfSome result (λ len.
+        IsWritable (pdu_value pdu.now) × (len ≡ length (written_dialogue (pdu_value pdu.now)))) }
     ensures none { IfNone result (IsWritable (pdu_value pdu.now) → ⊥) }
     // The same, computed: what the layers above cite.
     ensures exact { result ≡ result_ok (length_at (pdu_value pdu.now)) }

@@ -1,7 +1,7 @@
 ghost use Rattle.std.specs.Prelude.{◌≡◌, ◌↔◌, IsTrue, Some, option_map};
 ghost use Rattle.std.specs.List.{AllPass};
 ghost use Rattle.ber_core.specs.ListReading.{items_of};
-ghost use Rattle.tcap_pdu.specs.DialogueReading.{one_octet, tag_and, one_at, is_external, is_information, information_at, version_of, version_at, context_at, opening, opening_at, number_at, source_of, diagnostic_at};
+ghost use Rattle.tcap_pdu.specs.DialoguePartsReading.{one_octet, tag_and, one_at, is_external, is_information, information_at, version_of, version_at, context_at, opening, opening_at, number_at, source_of, diagnostic_at};
 ghost use Rattle.tcap_pdu.specs.DialogueViews.{source};
 
 use crate::dialogue_pdu::Diagnostic;
@@ -13,7 +13,7 @@ use crate::dialogue_tag::{
 use ber_core::{Elements, is_oid, read_alone, take_content, take_only, take_tagged};
 
 /// The one octet that a content is.
-#[tactic(auto, unfolding(crate::specs::DialogueReading::one_octet))]
+#[tactic(auto, unfolding(crate::specs::DialoguePartsReading::one_octet))]
 pub fn only_octet(content: &[u8]) -> Option<u8>
     ensures { result ≡ one_octet content.now }
 {
@@ -24,7 +24,7 @@ pub fn only_octet(content: &[u8]) -> Option<u8>
 }
 
 /// The tag, of one octet, and the content of the one element that the bytes are.
-#[tactic(auto, unfolding(crate::specs::DialogueReading::one_at))]
+#[tactic(auto, unfolding(crate::specs::DialoguePartsReading::one_at))]
 pub fn take_one<'a>(bytes: &'a [u8]) -> Option<(u8, &'a [u8])>
     ensures { option_map (λ r. tag_and r.0 r.1.now) result ≡ one_at bytes.now }
 {
@@ -54,7 +54,7 @@ pub fn is_user_information(bytes: &[u8]) -> bool
 }
 
 /// [BE user information], and nothing after it.
-#[tactic(auto, unfolding(crate::specs::DialogueReading::information_at))]
+#[tactic(auto, unfolding(crate::specs::DialoguePartsReading::information_at))]
 pub fn read_information<'a>(bytes: &'a [u8]) -> Option<&'a [u8]>
     ensures { option_map (λ info. info.now) result ≡ information_at bytes.now }
 {
@@ -70,7 +70,7 @@ pub fn read_information<'a>(bytes: &'a [u8]) -> Option<&'a [u8]>
 }
 
 /// Whether the octets of a protocol version, or none, say version 1.
-#[tactic(auto, unfolding(crate::specs::DialogueReading::version_of))]
+#[tactic(auto, unfolding(crate::specs::DialoguePartsReading::version_of))]
 fn says_version1(octets: &[u8]) -> Option<bool>
     ensures { result ≡ version_of (Some octets.now) }
 {
@@ -82,7 +82,7 @@ fn says_version1(octets: &[u8]) -> Option<bool>
 }
 
 /// [80 protocol version]: whether it is absent or says version 1; and what follows it.
-#[tactic(auto, unfolding(crate::specs::DialogueReading::version_at, crate::specs::DialogueReading::version_of))]
+#[tactic(auto, unfolding(crate::specs::DialoguePartsReading::version_at, crate::specs::DialoguePartsReading::version_of))]
 fn read_version<'a>(bytes: &'a [u8]) -> Option<(bool, &'a [u8])>
     ensures { option_map (λ r. (r.0, r.1.now)) result ≡ version_at bytes.now }
 {
@@ -93,7 +93,7 @@ fn read_version<'a>(bytes: &'a [u8]) -> Option<(bool, &'a [u8])>
 }
 
 /// The application context name that is held: one element 06, an object identifier.
-#[tactic(auto, unfolding(crate::specs::DialogueReading::context_at))]
+#[tactic(auto, unfolding(crate::specs::DialoguePartsReading::context_at))]
 fn read_context<'a>(bytes: &'a [u8]) -> Option<&'a [u8]>
     ensures { option_map (λ context. context.now) result ≡ context_at bytes.now }
 {
@@ -102,7 +102,7 @@ fn read_context<'a>(bytes: &'a [u8]) -> Option<&'a [u8]>
 }
 
 /// [80 protocol version], A1 application context name; and what follows them.
-#[tactic(auto, unfolding(crate::specs::DialogueReading::opening_at))]
+#[tactic(auto, unfolding(crate::specs::DialoguePartsReading::opening_at))]
 pub fn read_opening<'a>(bytes: &'a [u8]) -> Option<(bool, &'a [u8], &'a [u8])>
     ensures { option_map (λ r. opening r.0 r.1.now r.2.now) result ≡ opening_at bytes.now }
 {
@@ -113,7 +113,7 @@ pub fn read_opening<'a>(bytes: &'a [u8]) -> Option<(bool, &'a [u8], &'a [u8])>
 }
 
 /// The integer of one octet that is held: one element 02.
-#[tactic(auto, unfolding(crate::specs::DialogueReading::number_at))]
+#[tactic(auto, unfolding(crate::specs::DialoguePartsReading::number_at))]
 pub fn read_number(bytes: &[u8]) -> Option<u8>
     ensures { result ≡ number_at bytes.now }
 {
@@ -135,7 +135,7 @@ fn diagnostic_of(tag: u8, number: u8) -> Option<Diagnostic>
 }
 
 /// The result source diagnostic that is held: one element A1 or A2, which holds one element 02.
-#[tactic(auto, unfolding(crate::specs::DialogueReading::diagnostic_at))]
+#[tactic(auto, unfolding(crate::specs::DialoguePartsReading::diagnostic_at))]
 pub fn read_diagnostic(bytes: &[u8]) -> Option<Diagnostic>
     ensures { option_map source result ≡ diagnostic_at bytes.now }
 {

@@ -1,7 +1,8 @@
 ghost use Rattle.std.specs.Prelude.{◌≡◌, IfOk, IfErr, IsOkAnd, option_map};
 ghost use Rattle.ber_core.specs.Results.{Gives};
 ghost use Rattle.tcap_pdu.specs.DialogueSpelling.{PduValue, SpellsDialogue};
-ghost use Rattle.tcap_pdu.specs.DialogueReading.{opening, request_at, accepted_of, by_provider_of, response_at, abort_at, structured_at, unstructured_at, foreign_by, pdu_by, pdu_at, dialogue_at};
+ghost use Rattle.tcap_pdu.specs.DialoguePartsReading.{opening};
+ghost use Rattle.tcap_pdu.specs.DialogueReading.{request_at, accepted_of, by_provider_of, response_at, abort_at, structured_at, unstructured_at, foreign_by, pdu_by, pdu_at, dialogue_at};
 ghost use Rattle.tcap_pdu.specs.DialogueViews.{pdu_value};
 
 use crate::dialogue_pdu::DialoguePdu;

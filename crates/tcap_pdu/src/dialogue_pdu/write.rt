@@ -4,7 +4,7 @@ ghost use Rattle.ber_core.specs.ObjectIdentifier.{object_identifier_limit};
 ghost use Rattle.tcap_pdu.specs.DialogueSpelling.{SpellsDialogue};
 ghost use Rattle.tcap_pdu.specs.DialogueViews.{pdu_value};
 ghost use Rattle.tcap_pdu.specs.DialogueWritten.{portion_limit, written_dialogue, HasDiagnostic, IsWritable, WriteFault};
-ghost use Rattle.tcap_pdu.specs.DialogueDue.{context_of, body_of, due_fault, portion_length};
+ghost use Rattle.tcap_pdu.specs.DialogueDue.{context_of, due_fault, portion_length};
 
 use crate::dialogue_pdu::DialoguePdu;
 use crate::dialogue_pdu::append::{append_abort, append_request, append_response};
@@ -21,7 +21,6 @@ fn append_portion<A: Allocator + Copy>(
     pdu: &DialoguePdu<'_>,
 ) -> Result<(), OutOfMemory>
     requires context { IfSome (context_of (pdu_value pdu.now)) (λ c. length c ≤ object_identifier_limit) }
-    requires body { length (body_of (pdu_value pdu.now)) ≤ portion_limit }
     requires short { portion_length (pdu_value pdu.now) ≤ portion_limit }
     ensures { OnOk result (out.new.items ≡ out.old.items ++ written_dialogue (pdu_value pdu.now)) }
 {
@@ -65,7 +64,6 @@ fn fill<A: Allocator + Copy>(
     pdu: &DialoguePdu<'_>,
 ) -> Result<(), OutOfMemory>
     requires context { IfSome (context_of (pdu_value pdu.now)) (λ c. length c ≤ object_identifier_limit) }
-    requires body { length (body_of (pdu_value pdu.now)) ≤ portion_limit }
     requires short { portion_length (pdu_value pdu.now) ≤ portion_limit }
     ensures { OnOk result (out.new.items ≡ out.old.items ++ written_dialogue (pdu_value pdu.now)) }
 {
@@ -81,7 +79,8 @@ pub fn write_dialogue<A: Allocator + Copy>(
 ) -> Result<Vec<u8, A>, PduFault>
     requires { HasDiagnostic (pdu_value pdu.now) }
     // What is given is the canonical form, and spells the PDU.
-    ensures ok { IfOk result (λ out. IsWritable (pdu_value pdu.now) × (out.items ≡ written_dialogue (pdu_value pdu.now))) }
+    ensures ok { IfOk result (λ out.
+        IsWritable (pdu_value pdu.now) × (out.items ≡ written_dialogue (pdu_value pdu.now))) }
     ensures spelled { IfOk result (λ out. SpellsDialogue (pdu_value pdu.now) out.items) }
     // Which fault, the first in the order; want of memory only where no other is due.
     ensures err { IfErr result (λ f. WriteFault (pdu_value pdu.now) f) }

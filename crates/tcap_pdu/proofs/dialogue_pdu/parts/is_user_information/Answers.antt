@@ -1,7 +1,7 @@
 use Rattle.std.proofs.Common.{◌≡◌, Bool, true, false, refl, sym}
 use Rattle.std.proofs.lemmas.List.Sums.{AllPass-from_list_all, list_all-from_AllPass}
 use Rattle.ber_core.specs.ListReading.{items_of}
-use Rattle.tcap_pdu.specs.DialogueReading.{is_external, is_information}
+use Rattle.tcap_pdu.specs.DialoguePartsReading.{is_external, is_information}
 use Rattle.tcap_pdu.proofs.dialogue_pdu.parts.is_user_information.Goals as goal
 
 same : (a b : Bool) → (a ≡ true → b ≡ true) → (b ≡ true → a ≡ true) → a ≡ b

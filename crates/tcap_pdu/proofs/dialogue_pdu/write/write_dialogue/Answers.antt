@@ -3,7 +3,7 @@ use Rattle.std.proofs.lemmas.Result.{err_from_is_err_and}
 use Rattle.tcap_pdu.specs.DialogueSpelling.{SpellsDialogue}
 use Rattle.tcap_pdu.specs.DialogueViews.{pdu_value}
 use Rattle.tcap_pdu.specs.DialogueWritten.{written_dialogue}
-use Rattle.tcap_pdu.proofs.WriteAgreement.{length_told, fault_told, context_within, short_within, body_within}
+use Rattle.tcap_pdu.proofs.WriteAgreement.{length_told, fault_told, context_within, short_within}
 use Rattle.tcap_pdu.proofs.WrittenSpelling.{written_spells}
 use Rattle.tcap_pdu.proofs.dialogue_pdu.write.write_dialogue.Goals as goal
 
@@ -14,9 +14,6 @@ returns-in_err-len-clause-err g c =
 
 pub fill-requires-clause-context : goal.fill-requires-clause-context
 fill-requires-clause-context g c = context_within (pdu_value c.args.pdu.now) (length_told (pdu_value c.args.pdu.now) c.in_ok-len.len c.in_ok-len.ensures).0
-
-pub fill-requires-clause-body : goal.fill-requires-clause-body
-fill-requires-clause-body g c = body_within (pdu_value c.args.pdu.now) (length_told (pdu_value c.args.pdu.now) c.in_ok-len.len c.in_ok-len.ensures).0
 
 pub fill-requires-clause-short : goal.fill-requires-clause-short
 fill-requires-clause-short g c = short_within (pdu_value c.args.pdu.now) (length_told (pdu_value c.args.pdu.now) c.in_ok-len.len c.in_ok-len.ensures).0
