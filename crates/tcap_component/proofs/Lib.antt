@@ -5,3 +5,4 @@ pub mod LengthGrammar
 pub mod ListGrammar
 pub mod PartGrammar
 pub mod WrittenGrammar
+pub mod WrittenSpelling

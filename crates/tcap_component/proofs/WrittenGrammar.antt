@@ -99,3 +99,6 @@ can_by c o e is = subst (Judged c) (sym e ∙ is) (write_fault-judged c)
 
 pub not_refused_by : (c : ComponentParts) (f : WriteFault) → CanWriteComponent c → IsWriteFault c f → ⊥
 not_refused_by c f h g = let both : None ≡ some f = sym (write_fault-none c h) ∙ write_fault-told c f g in cc
+
+pub told_by : (c : ComponentParts) (o : Option WriteFault) (f g : WriteFault) → o ≡ write_fault c → o ≡ Some f → IsWriteFault c g → f ≡ g
+told_by c o f g e is h = some_is f g (sym is ∙ (e ∙ write_fault-told c g h))
