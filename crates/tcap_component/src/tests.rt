@@ -2,6 +2,7 @@ use crate::{
     Body, Code, Component, ComponentFault, Components, Kind, Problem, WriteFault, component_len,
     read_component, write_component,
 };
+use std::alloc::Global;
 use std::test::Fail;
 
 /// The general fault with this code, of octets that don't begin as a Reject.
@@ -12,6 +13,43 @@ fn general(code: u8, id: Option<i8>) -> Option<ComponentFault> {
         id,
         was_reject: false,
     })
+}
+
+/// The fault of what stands first in the octets.
+fn fault_of(octets: &[u8]) -> Option<ComponentFault> {
+    match read_component(octets) {
+        Ok(_) => None,
+        Err(fault) => Some(fault),
+    }
+}
+
+/// Whether these octets, and their number, are what is written for the component.
+fn is_written(alloc: Global, component: &Component<'_>, octets: &[u8]) -> bool {
+    match write_component(alloc, component) {
+        Ok(written) => {
+            written.as_slice() == octets && component_len(component) == Some(octets.len())
+        }
+        Err(_) => false,
+    }
+}
+
+/// The fault of writing a component, which has no length then.
+fn refusal(alloc: Global, component: &Component<'_>) -> Option<WriteFault> {
+    match write_component(alloc, component) {
+        Err(fault) if component_len(component).is_none() => Some(fault),
+        _ => None,
+    }
+}
+
+/// The Reject that the octets are: its identifier and its problem.
+fn reject_of(octets: &[u8]) -> Option<(Option<i8>, Kind, u8)> {
+    let Ok((component, [])) = read_component(octets) else {
+        return None;
+    };
+    match component {
+        Component::RejectBack { id, problem } => Some((id, problem.kind(), problem.code())),
+        _ => None,
+    }
 }
 
 #[test]
@@ -95,7 +133,7 @@ fn faults(rt: HostRuntime) -> Result<(), Fail> {
         (&[0xa1, 0x05, 0x02, 0x01, 0x07], 2, None),
     ];
     for (octets, code, id) in rows {
-        assert_eq!(rt; read_component(octets).err(), general(code, id));
+        assert_eq!(rt; fault_of(octets), general(code, id));
     }
     Ok(())
 }
@@ -123,11 +161,7 @@ fn rejects(rt: HostRuntime) -> Result<(), Fail> {
         ),
     ];
     for (octets, id, kind, code) in rows {
-        let problem = Problem::new(kind, code).ok_or("at most 127")?;
-        let read = read_component(octets);
-        assert!(rt;
-            matches!(read, Ok((Component::RejectBack { id: i, problem: p }, [])) if i == id && p == problem)
-        );
+        assert_eq!(rt; reject_of(octets), Some((id, kind, code)));
     }
     let faulty: [(&[u8], u8); 5] = [
         (&[0xa4], 2),
@@ -143,7 +177,7 @@ fn rejects(rt: HostRuntime) -> Result<(), Fail> {
             id: None,
             was_reject: true,
         };
-        assert_eq!(rt; read_component(octets).err(), Some(fault));
+        assert_eq!(rt; fault_of(octets), Some(fault));
     }
     Ok(())
 }
@@ -173,55 +207,46 @@ fn components_end_at_a_fault(rt: HostRuntime) -> Result<(), Fail> {
 
 #[test]
 fn components_written(rt: HostRuntime) -> Result<(), Fail> {
-    let problem = Problem::new(Kind::Result, 0).ok_or("at most 127")?;
-    let rows: [(Component<'_>, &[u8]); 5] = [
-        (
-            Component::Invoke {
-                id: 1,
-                linked: None,
-                code: Code::Local(10),
-                parameter: None,
-            },
-            &[0xa1, 0x06, 0x02, 0x01, 0x01, 0x02, 0x01, 0x0a],
-        ),
-        (
-            Component::ResultLast {
-                id: -128,
-                body: Some(Body {
-                    code: Code::Local(128),
-                    parameter: Some(&[0x04, 0x81, 0x01, 0xaa]),
-                }),
-            },
-            &[
-                0xa2, 0x0d, 0x02, 0x01, 0x80, 0x30, 0x08, 0x02, 0x02, 0x00, 0x80, 0x04, 0x81, 0x01,
-                0xaa,
-            ],
-        ),
-        (
-            Component::ResultMore {
-                id: 127,
-                body: None,
-            },
-            &[0xa7, 0x03, 0x02, 0x01, 0x7f],
-        ),
-        (
-            Component::ErrorBack {
-                id: 1,
-                code: Code::Global(&[0x2a, 0x03]),
-                parameter: None,
-            },
-            &[0xa3, 0x07, 0x02, 0x01, 0x01, 0x06, 0x02, 0x2a, 0x03],
-        ),
-        (
-            Component::RejectBack { id: None, problem },
-            &[0xa4, 0x05, 0x05, 0x00, 0x82, 0x01, 0x00],
-        ),
+    let invoke = Component::Invoke {
+        id: 1,
+        linked: None,
+        code: Code::Local(10),
+        parameter: None,
+    };
+    let octets = [0xa1, 0x06, 0x02, 0x01, 0x01, 0x02, 0x01, 0x0a];
+    assert!(rt; is_written(rt.alloc(), &invoke, &octets));
+    let last = Component::ResultLast {
+        id: -128,
+        body: Some(Body {
+            code: Code::Local(128),
+            parameter: Some(&[0x04, 0x81, 0x01, 0xaa]),
+        }),
+    };
+    let octets = [
+        0xa2, 0x0d, 0x02, 0x01, 0x80, 0x30, 0x08, 0x02, 0x02, 0x00, 0x80, 0x04, 0x81, 0x01, 0xaa,
     ];
-    for (component, octets) in rows {
-        let written = write_component(rt.alloc(), &component);
-        assert!(rt; written.as_ref().is_ok_and(|w| w.as_slice() == octets));
-        assert_eq!(rt; component_len(&component), Some(octets.len()));
-    }
+    assert!(rt; is_written(rt.alloc(), &last, &octets));
+    let more = Component::ResultMore {
+        id: 127,
+        body: None,
+    };
+    assert!(rt; is_written(rt.alloc(), &more, &[0xa7, 0x03, 0x02, 0x01, 0x7f]));
+    let error = Component::ErrorBack {
+        id: 1,
+        code: Code::Global(&[0x2a, 0x03]),
+        parameter: None,
+    };
+    let octets = [0xa3, 0x07, 0x02, 0x01, 0x01, 0x06, 0x02, 0x2a, 0x03];
+    assert!(rt; is_written(rt.alloc(), &error, &octets));
+    let problem = Problem::new(Kind::Result, 0).ok_or("at most 127")?;
+    let reject = Component::RejectBack { id: None, problem };
+    assert!(rt;
+        is_written(
+            rt.alloc(),
+            &reject,
+            &[0xa4, 0x05, 0x05, 0x00, 0x82, 0x01, 0x00]
+        )
+    );
     Ok(())
 }
 
@@ -232,22 +257,31 @@ fn components_refused(rt: HostRuntime) -> Result<(), Fail> {
     long[1] = 0x82;
     long[2] = 0xff;
     long[3] = 0xfb;
-    let cut: &[u8] = &[0x04, 0x05, 0xaa];
-    let rows = [
-        (Code::Global(&[0x80]), cut, WriteFault::BadOid),
-        (Code::Local(1), cut, WriteFault::BadParameter),
-        (Code::Local(1), long.as_slice(), WriteFault::TooLong),
-    ];
-    for (code, parameter, fault) in rows {
-        let component = Component::Invoke {
-            id: 1,
-            linked: None,
-            code,
-            parameter: Some(parameter),
-        };
-        let written = write_component(rt.alloc(), &component);
-        assert_eq!(rt; written.err(), Some(fault));
-        assert_eq!(rt; component_len(&component), None);
-    }
+    let cut = [0x04, 0x05, 0xaa];
+    let bad_oid = Component::Invoke {
+        id: 1,
+        linked: None,
+        code: Code::Global(&[0x80]),
+        parameter: Some(&cut),
+    };
+    assert_eq!(rt; refusal(rt.alloc(), &bad_oid), Some(WriteFault::BadOid));
+    let bad_parameter = Component::ResultMore {
+        id: 1,
+        body: Some(Body {
+            code: Code::Local(1),
+            parameter: Some(&cut),
+        }),
+    };
+    assert_eq!(rt;
+        refusal(rt.alloc(), &bad_parameter),
+        Some(WriteFault::BadParameter)
+    );
+    let too_long = Component::Invoke {
+        id: 1,
+        linked: None,
+        code: Code::Local(1),
+        parameter: Some(&long),
+    };
+    assert_eq!(rt; refusal(rt.alloc(), &too_long), Some(WriteFault::TooLong));
     Ok(())
 }
