@@ -3,6 +3,7 @@ use Rattle.std.proofs.Common.{◌≡◌, ℕ, ℤ, Bool, true, false, List, [], 
 use Rattle.std.specs.Prelude.{is_ok, IfOk, IfErr, IsOkAnd}
 use Rattle.std.specs.List.{list_all}
 use Rattle.std.proofs.lemmas.Bool.{cases_Bool}
+use Rattle.std.proofs.lemmas.List.{append_cancel_right}
 use Rattle.ber_core.specs.declared.fault.BerFault.{BerFault}
 use Rattle.ber_core.specs.Results.{Gives}
 use Rattle.ber_core.specs.Element.{Parts, IsElement, joined}
@@ -178,6 +179,12 @@ pub one_component : (c d : ComponentParts) (v w x y : List ℕ) → SpellsCompon
 one_component c d v w x y p q e =
     let same : (c, x) ≡ (d, y) = read_is {E = ComponentFault} (c, x) (d, y) (sym (component_again c v x p) ∙ (ap component_at e ∙ component_again d w y q)) in
     (ap (λ (r : ComponentParts × List ℕ). r.0) same, ap (λ (r : ComponentParts × List ℕ). r.1) same)
+
+-- equal octets begin with equal components
+pub same_octets : (c d : ComponentParts) (v w x y : List ℕ) → SpellsComponent c v → SpellsComponent d w → v ++ x ≡ w ++ y → (c ≡ d) × (v ≡ w) × (x ≡ y)
+same_octets c d v w x y p q e =
+    let one = one_component c d v w x y p q e in
+    (one.0, append_cancel_right v w y (ap (λ (z : List ℕ). v ++ z) (sym one.1) ∙ e), one.1)
 
 pub one_fault : (bytes : List ℕ) (f g : ComponentFault) → IsComponentFault bytes f → IsComponentFault bytes g → f ≡ g
 one_fault bytes f g p q = refused_is {A = ComponentParts × List ℕ} f g (sym (component_told bytes f p) ∙ component_told bytes g q)

@@ -1,6 +1,5 @@
 -- The one spelling of a component in the canonical form, and why there is none.
-use Rattle.std.specs.Prelude.{◌≡◌, ℕ, ◌<◌, ◌≤◌, List, [], ◌∷◌, length, Bool, true, false, Option, Some, None, is_some, is_none, nat_lt, if◌then◌else◌}
-use Rattle.std.specs.Option.{option_map}
+use Rattle.std.specs.Prelude.{◌≡◌, ℕ, ◌<◌, ◌≤◌, List, [], ◌∷◌, length, Bool, true, false, Option, Some, None, is_some, nat_lt, if◌then◌else◌}
 use Rattle.ber_core.specs.Element.{Parts, IsElement, depth_limit}
 use Rattle.ber_core.specs.Length.{length_limit}
 use Rattle.ber_core.specs.ObjectIdentifier.{IsObjectIdentifier, is_object_identifier}
@@ -28,30 +27,34 @@ written_component c = written (component_tag c ∷ []) (written_contents c)
 
 -- ---- what can't be written
 
--- The code and the parameter of a body (own).
-abbrev pub coded_of : BodyParts → CodeParts × Option (List ℕ)
-coded_of body = (body.code, body.parameter)
-
 -- The code and the parameter of a component, none in a Reject and in a result without a body
 -- (Q.773, Component portion).
-abbrev pub coded_part : ComponentParts → Option (CodeParts × Option (List ℕ))
-coded_part (invoke id linked code parameter) = Some (code, parameter)
-coded_part (result_last id body) = option_map coded_of body
-coded_part (error_back id code parameter) = Some (code, parameter)
+abbrev pub coded_part : ComponentParts → Option BodyParts
+coded_part (invoke id linked code parameter) = Some (record { code = code; parameter = parameter })
+coded_part (result_last id body) = body
+coded_part (error_back id code parameter) = Some (record { code = code; parameter = parameter })
 coded_part (reject_back id problem) = None
-coded_part (result_more id body) = option_map coded_of body
+coded_part (result_more id body) = body
 
 -- A global code is an object identifier (Q.773, Operation Code; Q.773, Error Code).
-abbrev pub HasCode : Option (CodeParts × Option (List ℕ)) → Type 0
-HasCode None = Unit {0}
-HasCode (Some (local number, parameter)) = Unit {0}
-HasCode (Some (global octets, parameter)) = IsObjectIdentifier octets
+abbrev pub CanCode : CodeParts → Type 0
+CanCode (local number) = Unit {0}
+CanCode (global octets) = IsObjectIdentifier octets
 
 -- A parameter is one element and nothing after it (Q.773, Parameter).
-abbrev pub HasParameter : Option (CodeParts × Option (List ℕ)) → Type 0
+abbrev pub CanHold : Option (List ℕ) → Type 0
+CanHold None = Unit {0}
+CanHold (Some octets) = (e : Parts) × IsElement depth_limit e × (octets ≡ e.whole)
+
+-- The code, if there is one, can be written (own).
+abbrev pub HasCode : Option BodyParts → Type 0
+HasCode None = Unit {0}
+HasCode (Some body) = CanCode body.code
+
+-- The parameter, if there is one, can be written (own).
+abbrev pub HasParameter : Option BodyParts → Type 0
 HasParameter None = Unit {0}
-HasParameter (Some (code, None)) = Unit {0}
-HasParameter (Some (code, Some octets)) = (e : Parts) × IsElement depth_limit e × (octets ≡ e.whole)
+HasParameter (Some body) = CanHold body.parameter
 
 -- The component can be written: its code and its parameter are such, and it has at most 65,535
 -- bytes (own).
@@ -69,16 +72,24 @@ pub data IsWriteFault : ComponentParts → WriteFault → Type 0 where
 -- ---- the same, computed
 
 -- Whether a global code is an object identifier (own).
-abbrev pub has_code : Option (CodeParts × Option (List ℕ)) → Bool
-has_code None = true
-has_code (Some (local number, parameter)) = true
-has_code (Some (global octets, parameter)) = is_object_identifier octets
+abbrev pub can_code : CodeParts → Bool
+can_code (local number) = true
+can_code (global octets) = is_object_identifier octets
 
 -- Whether a parameter is one element and nothing after it (own).
-abbrev pub has_parameter : Option (CodeParts × Option (List ℕ)) → Bool
+abbrev pub can_hold : Option (List ℕ) → Bool
+can_hold None = true
+can_hold (Some octets) = is_some (alone_at octets)
+
+-- Whether the code, if there is one, can be written (own).
+abbrev pub has_code : Option BodyParts → Bool
+has_code None = true
+has_code (Some body) = can_code body.code
+
+-- Whether the parameter, if there is one, can be written (own).
+abbrev pub has_parameter : Option BodyParts → Bool
 has_parameter None = true
-has_parameter (Some (code, None)) = true
-has_parameter (Some (code, Some octets)) = is_some (alone_at octets)
+has_parameter (Some body) = can_hold body.parameter
 
 -- Why a component can't be written, if so (own).
 unfoldable pub write_fault : ComponentParts → Option WriteFault

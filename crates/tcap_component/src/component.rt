@@ -1,4 +1,5 @@
 pub mod read;
+pub mod write;
 
 use crate::problem::Problem;
 

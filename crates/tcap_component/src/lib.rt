@@ -7,13 +7,18 @@
 mod component;
 mod components;
 mod fault;
+pub mod laws;
 mod problem;
 mod tag;
 
 pub use component::read::read_component;
+pub use component::write::{component_len, write_component};
 pub use component::{Body, Code, Component};
 pub use components::Components;
 pub use fault::{ComponentFault, WriteFault};
 pub use problem::{
     Kind, Problem, general_problem, invoke_problem, return_error_problem, return_result_problem,
 };
+
+#[cfg(test)]
+mod tests;

@@ -1,0 +1,287 @@
+use crate::{
+    Body, Code, Component, ComponentFault, Components, Kind, Problem, WriteFault, component_len,
+    read_component, write_component,
+};
+use std::alloc::Global;
+use std::test::Fail;
+
+/// The general fault with this code, of octets that don't begin as a Reject.
+fn general(code: u8, id: Option<i8>) -> Option<ComponentFault> {
+    let problem = Problem::new(Kind::General, code)?;
+    Some(ComponentFault {
+        problem,
+        id,
+        was_reject: false,
+    })
+}
+
+/// The fault of what stands first in the octets.
+fn fault_of(octets: &[u8]) -> Option<ComponentFault> {
+    match read_component(octets) {
+        Ok(_) => None,
+        Err(fault) => Some(fault),
+    }
+}
+
+/// Whether these octets, and their number, are what is written for the component.
+fn is_written(alloc: Global, component: &Component<'_>, octets: &[u8]) -> bool {
+    match write_component(alloc, component) {
+        Ok(written) => {
+            written.as_slice() == octets && component_len(component) == Some(octets.len())
+        }
+        Err(_) => false,
+    }
+}
+
+/// The fault of writing a component, which has no length then.
+fn refusal(alloc: Global, component: &Component<'_>) -> Option<WriteFault> {
+    match write_component(alloc, component) {
+        Err(fault) if component_len(component).is_none() => Some(fault),
+        _ => None,
+    }
+}
+
+/// The Reject that the octets are: its identifier and its problem.
+fn reject_of(octets: &[u8]) -> Option<(Option<i8>, Kind, u8)> {
+    let Ok((component, [])) = read_component(octets) else {
+        return None;
+    };
+    match component {
+        Component::RejectBack { id, problem } => Some((id, problem.kind(), problem.code())),
+        _ => None,
+    }
+}
+
+#[test]
+fn problems(rt: HostRuntime) -> Result<(), Fail> {
+    assert!(rt; Problem::new(Kind::General, 128).is_none());
+    let rows = [
+        (Kind::General, 2, true),
+        (Kind::General, 3, false),
+        (Kind::Invoke, 5, true),
+        (Kind::Invoke, 4, false),
+        (Kind::Result, 1, true),
+        (Kind::Result, 2, false),
+        (Kind::Error, 1, true),
+        (Kind::Error, 127, false),
+    ];
+    for (kind, code, by_provider) in rows {
+        let problem = Problem::new(kind, code).ok_or("at most 127")?;
+        assert!(rt; problem.kind() == kind && problem.code() == code);
+        assert_eq!(rt; problem.by_provider(), by_provider);
+    }
+    Ok(())
+}
+
+#[test]
+fn faults(rt: HostRuntime) -> Result<(), Fail> {
+    let rows: [(&[u8], u8, Option<i8>); 14] = [
+        // a tag in its long form isn't the listed tag
+        (&[0xbf, 0x01, 0x03, 0x02, 0x01, 0x05], 0, Some(5)),
+        (&[0xbf, 0x81, 0x01, 0x03, 0x02, 0x01, 0x07], 0, Some(7)),
+        (&[0xa5, 0x03, 0x02, 0x01, 0x07], 0, Some(7)),
+        // a broken 30 that stands second, and one that stands third
+        (
+            &[0xa2, 0x07, 0x04, 0x00, 0x30, 0x01, 0xff, 0x04, 0x00],
+            2,
+            None,
+        ),
+        (
+            &[
+                0xa2, 0x0a, 0x02, 0x01, 0x01, 0x04, 0x00, 0x30, 0x03, 0x04, 0x00, 0xff,
+            ],
+            1,
+            Some(1),
+        ),
+        // the identifier is read where the content isn't a list
+        (&[0xa1, 0x04, 0x02, 0x01, 0x07, 0x04], 2, Some(7)),
+        // a linked identifier of no octet
+        (
+            &[0xa1, 0x08, 0x02, 0x01, 0x07, 0x80, 0x00, 0x02, 0x01, 0x01],
+            1,
+            Some(7),
+        ),
+        // a local code of one octet too many, and of five octets
+        (
+            &[0xa1, 0x07, 0x02, 0x01, 0x07, 0x02, 0x02, 0x00, 0x0a],
+            1,
+            Some(7),
+        ),
+        (
+            &[
+                0xa1, 0x0a, 0x02, 0x01, 0x07, 0x02, 0x05, 0x01, 0x00, 0x00, 0x00, 0x00,
+            ],
+            1,
+            Some(7),
+        ),
+        // a global code that is no object identifier, and a second parameter
+        (
+            &[0xa1, 0x06, 0x02, 0x01, 0x07, 0x06, 0x01, 0x80],
+            1,
+            Some(7),
+        ),
+        (
+            &[
+                0xa1, 0x0a, 0x02, 0x01, 0x07, 0x02, 0x01, 0x01, 0x04, 0x00, 0x04, 0x00,
+            ],
+            1,
+            Some(7),
+        ),
+        // an identifier of two octets, a primitive element, and half an element
+        (&[0xa2, 0x04, 0x02, 0x02, 0x00, 0x80], 1, None),
+        (&[0x01, 0x03, 0x02, 0x01, 0x07], 0, None),
+        (&[0xa1, 0x05, 0x02, 0x01, 0x07], 2, None),
+    ];
+    for (octets, code, id) in rows {
+        assert_eq!(rt; fault_of(octets), general(code, id));
+    }
+    Ok(())
+}
+
+#[test]
+fn rejects(rt: HostRuntime) -> Result<(), Fail> {
+    let rows: [(&[u8], Option<i8>, Kind, u8); 3] = [
+        (
+            &[0xa4, 0x05, 0x05, 0x00, 0x80, 0x01, 0x02],
+            None,
+            Kind::General,
+            2,
+        ),
+        (
+            &[0xa4, 0x06, 0x05, 0x81, 0x00, 0x80, 0x01, 0x02],
+            None,
+            Kind::General,
+            2,
+        ),
+        (
+            &[0xa4, 0x06, 0x02, 0x01, 0x01, 0x81, 0x01, 0x09],
+            Some(1),
+            Kind::Invoke,
+            9,
+        ),
+    ];
+    for (octets, id, kind, code) in rows {
+        assert_eq!(rt; reject_of(octets), Some((id, kind, code)));
+    }
+    let faulty: [(&[u8], u8); 5] = [
+        (&[0xa4], 2),
+        (&[0xa4, 0xff], 2),
+        (&[0xa4, 0x05, 0x02], 2),
+        (&[0xa4, 0x06, 0x05, 0x01, 0x00, 0x80, 0x01, 0x00], 1),
+        (&[0xa4, 0x05, 0x05, 0x00, 0x80, 0x01, 0x80], 1),
+    ];
+    for (octets, code) in faulty {
+        let problem = Problem::new(Kind::General, code).ok_or("at most 127")?;
+        let fault = ComponentFault {
+            problem,
+            id: None,
+            was_reject: true,
+        };
+        assert_eq!(rt; fault_of(octets), Some(fault));
+    }
+    Ok(())
+}
+
+#[test]
+fn components_end_at_a_fault(rt: HostRuntime) -> Result<(), Fail> {
+    let content = [
+        0xa2, 0x03, 0x02, 0x01, 0x80, 0xa5, 0x03, 0x02, 0x01, 0x07, 0xa2, 0x03, 0x02, 0x01, 0x7f,
+        0xa3, 0x06, 0x02, 0x01, 0x7f, 0x02, 0x01, 0x01,
+    ];
+    let mut components = Components::new(&content);
+    let first = components.next();
+    assert!(rt;
+        matches!(
+            first,
+            Some(Ok(Component::ResultLast {
+                id: -128,
+                body: None
+            }))
+        )
+    );
+    let second = components.next();
+    assert!(rt; matches!(second, Some(Err(fault)) if Some(fault) == general(0, Some(7))));
+    assert!(rt; components.next().is_none());
+    Ok(())
+}
+
+#[test]
+fn components_written(rt: HostRuntime) -> Result<(), Fail> {
+    let invoke = Component::Invoke {
+        id: 1,
+        linked: None,
+        code: Code::Local(10),
+        parameter: None,
+    };
+    let octets = [0xa1, 0x06, 0x02, 0x01, 0x01, 0x02, 0x01, 0x0a];
+    assert!(rt; is_written(rt.alloc(), &invoke, &octets));
+    let last = Component::ResultLast {
+        id: -128,
+        body: Some(Body {
+            code: Code::Local(128),
+            parameter: Some(&[0x04, 0x81, 0x01, 0xaa]),
+        }),
+    };
+    let octets = [
+        0xa2, 0x0d, 0x02, 0x01, 0x80, 0x30, 0x08, 0x02, 0x02, 0x00, 0x80, 0x04, 0x81, 0x01, 0xaa,
+    ];
+    assert!(rt; is_written(rt.alloc(), &last, &octets));
+    let more = Component::ResultMore {
+        id: 127,
+        body: None,
+    };
+    assert!(rt; is_written(rt.alloc(), &more, &[0xa7, 0x03, 0x02, 0x01, 0x7f]));
+    let error = Component::ErrorBack {
+        id: 1,
+        code: Code::Global(&[0x2a, 0x03]),
+        parameter: None,
+    };
+    let octets = [0xa3, 0x07, 0x02, 0x01, 0x01, 0x06, 0x02, 0x2a, 0x03];
+    assert!(rt; is_written(rt.alloc(), &error, &octets));
+    let problem = Problem::new(Kind::Result, 0).ok_or("at most 127")?;
+    let reject = Component::RejectBack { id: None, problem };
+    assert!(rt;
+        is_written(
+            rt.alloc(),
+            &reject,
+            &[0xa4, 0x05, 0x05, 0x00, 0x82, 0x01, 0x00]
+        )
+    );
+    Ok(())
+}
+
+#[test]
+fn components_refused(rt: HostRuntime) -> Result<(), Fail> {
+    let mut long = vec![in rt.alloc(); 0; 65_535]?;
+    long[0] = 0x04;
+    long[1] = 0x82;
+    long[2] = 0xff;
+    long[3] = 0xfb;
+    let cut = [0x04, 0x05, 0xaa];
+    let bad_oid = Component::Invoke {
+        id: 1,
+        linked: None,
+        code: Code::Global(&[0x80]),
+        parameter: Some(&cut),
+    };
+    assert_eq!(rt; refusal(rt.alloc(), &bad_oid), Some(WriteFault::BadOid));
+    let bad_parameter = Component::ResultMore {
+        id: 1,
+        body: Some(Body {
+            code: Code::Local(1),
+            parameter: Some(&cut),
+        }),
+    };
+    assert_eq!(rt;
+        refusal(rt.alloc(), &bad_parameter),
+        Some(WriteFault::BadParameter)
+    );
+    let too_long = Component::Invoke {
+        id: 1,
+        linked: None,
+        code: Code::Local(1),
+        parameter: Some(&long),
+    };
+    assert_eq!(rt; refusal(rt.alloc(), &too_long), Some(WriteFault::TooLong));
+    Ok(())
+}
