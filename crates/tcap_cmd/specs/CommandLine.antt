@@ -23,16 +23,21 @@ bare_app = record (new_app (codes "tcap")) { top = record (new_app (codes "tcap"
 
 -- The command `tcap` with its subcommands (own).
 abbrev pub tcap_app : App
-tcap_app = with_subcommand bare_app (with_hex (codes "show")).top
+tcap_app = with_subcommand (with_subcommand bare_app (with_hex (codes "show")).top) (with_hex (codes "check")).top
 
 -- What words ask for, by their octets (own).
 pub data Asked : Type 0 where
-  -- the text of the message that HEX spells
+  -- the lines of the message that HEX spells
   show : (hex : List ℕ) → Asked
+  -- the verdict on the bytes that HEX spells
+  check : (hex : List ℕ) → Asked
 
 -- What a subcommand and its arguments ask for (own).
 abbrev pub asked_by : Text × List Row → Option Asked
-asked_by p = if bytes_eq p.0 (codes "show") then option_map (λ hex. show hex) (first_of (codes "hex") p.1) else None
+asked_by p =
+    if bytes_eq p.0 (codes "show") then option_map (λ hex. show hex) (first_of (codes "hex") p.1)
+    else if bytes_eq p.0 (codes "check") then option_map (λ hex. check hex) (first_of (codes "hex") p.1)
+    else None
 
 -- What the words ask for (own).
 abbrev pub asked_of : List Text → Option Asked
@@ -49,3 +54,4 @@ AskNothing words = (fault_of tcap_app words ≡ [] → ⊥) ⊎ (asked_of words 
 -- What a request asks for (own).
 abbrev pub asked : Request → Asked
 asked (request.Show hex) = show hex.now
+asked (request.Check hex) = check hex.now

@@ -6,7 +6,7 @@ ghost use Rattle.tcap_cmd.specs.Command.{IsAnswered, IsRefusable, IsQuiet, Gave,
 
 use crate::refusal::Refusal;
 use crate::request::Request;
-use crate::show::show_text;
+use crate::show::{check_text, show_text};
 use crate::words::read_words;
 use std::alloc::{Allocator, Global};
 use std::io::{Read, Write};
@@ -44,6 +44,10 @@ pub fn answer<A: Allocator + Copy, W: Write>(
         Request::Show(hex) => {
             let bytes = bytes_of(heap, hex)?;
             show_text(heap, bytes.as_slice())?
+        }
+        Request::Check(hex) => {
+            let bytes = bytes_of(heap, hex)?;
+            check_text(heap, bytes.as_slice())?
         }
     };
     if out.write_all(shown.text.as_slice()).is_err() {

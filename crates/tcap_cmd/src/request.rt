@@ -1,6 +1,8 @@
 /// What the words of the command ask for.
 #[derive(Clone, Copy, Debug, PartialEq, Eq)]
 pub enum Request<'a> {
-    /// `show HEX`: the text of the message that HEX spells.
+    /// `show HEX`: the lines of the message that HEX spells.
     Show(&'a str),
+    /// `check HEX`: the verdict on the bytes that HEX spells.
+    Check(&'a str),
 }

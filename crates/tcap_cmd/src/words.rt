@@ -23,12 +23,15 @@ fn tcap_command<'a>(alloc: Global) -> Result<Command<'a>, AllocError>
     let show = Command::new(alloc, "show")
         .disable_help_flag(true)
         .arg(hex_argument(alloc))?;
+    let check = Command::new(alloc, "check")
+        .disable_help_flag(true)
+        .arg(hex_argument(alloc))?;
     let tcap = Command::new(alloc, "tcap")
         .no_binary_name(true)
         .disable_help_flag(true)
         .disable_help_subcommand(true)
         .subcommand_required(true);
-    tcap.subcommand(show)
+    tcap.subcommand(show)?.subcommand(check)
 }
 
 /// What the subcommand that was found asks for.
@@ -38,6 +41,7 @@ fn request_of<'a>(matches: &ArgMatches<'a>) -> Option<Request<'a>>
     let (name, inner) = matches.subcommand()?;
     match name {
         "show" => Some(Request::Show(inner.get_str("hex")?)),
+        "check" => Some(Request::Check(inner.get_str("hex")?)),
         _ => None,
     }
 }

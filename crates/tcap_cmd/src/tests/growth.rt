@@ -35,7 +35,8 @@ fn refused_growths(heap: &Refusing<Global>, bytes: &[u8], wanted: &[u8]) -> Opti
 fn show_with_each_growth_refused(rt: HostRuntime) -> Result<(), Fail> {
     let heap = Refusing::new(rt.alloc());
     let bytes = hex::decode(rt.alloc(), BEGIN)?;
-    let wanted = b"begin\n  otid 00000001\n  components 13\n".as_slice();
+    let wanted =
+        b"begin\n  otid 00000001\n  components 13\n    invoke 1 linked - op local 2 param 30030401aa\n".as_slice();
     let refused = refused_growths(&heap, bytes.as_slice(), wanted);
     assert!(rt; refused.is_some_and(|count| count > 0));
     Ok(())

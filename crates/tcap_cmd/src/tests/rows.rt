@@ -13,7 +13,12 @@ fn shown(alloc: Global, hex: &str) -> Result<(Vec<u8>, bool), Fail> {
 
 #[test]
 fn messages_shown(rt: HostRuntime) -> Result<(), Fail> {
-    let begin = "begin\n  otid 00000001\n  components 13\n";
+    let begin =
+        "begin\n  otid 00000001\n  components 13\n    invoke 1 linked - op local 2 param 30030401aa\n";
+    let result = "  components 5\n    result last 1 op - param -\n";
+    let uni = "unidirectional\n  components 5\n    result last 1 op - param -\n";
+    let end = "end\n  dtid 00000001\n  components 5\n    result last 1 op - param -\n";
+    assert!(rt; uni.ends_with(result));
     let rows = [
         (
             "62 15 48 04 00000001 6C 0D A10B02010102010230030401AA",
@@ -35,17 +40,9 @@ fn messages_shown(rt: HostRuntime) -> Result<(), Fail> {
             "begin\n  otid 00000001\n",
             true,
         ),
-        (
-            "61 07 6C 05 A203020101",
-            "unidirectional\n  components 5\n",
-            true,
-        ),
+        ("61 07 6C 05 A203020101", uni, true),
         ("61 02 6C 00", "unidirectional\n", true),
-        (
-            "64 0D 49 04 00000001 6C 05 A203020101",
-            "end\n  dtid 00000001\n  components 5\n",
-            true,
-        ),
+        ("64 0D 49 04 00000001 6C 05 A203020101", end, true),
         (
             "67 09 49 04 00000001 4A 01 02",
             "abort\n  dtid 00000001\n  cause 2\n",
@@ -61,6 +58,68 @@ fn messages_shown(rt: HostRuntime) -> Result<(), Fail> {
         ("63 06 48 04 00000007", "fault unknown type\n", false),
         ("7F 02 06 48 04 00000001", "fault unknown type\n", false),
         ("", "fault badly formatted\n", false),
+    ];
+    for (hex, text, good) in rows {
+        let (found, verdict) = shown(rt.alloc(), hex)?;
+        assert_eq!(rt; found.as_slice(), text.as_bytes(), "at {hex}");
+        assert_eq!(rt; verdict, good, "at {hex}");
+    }
+    Ok(())
+}
+
+#[test]
+fn portions_shown(rt: HostRuntime) -> Result<(), Fail> {
+    let rows = [
+        (
+            "6235 4804 00000001 6B1E281C060700118605010101A011600F80020780A109060704000001000103 6C0DA10B02010102010230030401AA",
+            "begin\n  otid 00000001\n  dialogue 30\n    aarq version yes context 04000001000103 info -\n  components 13\n    invoke 1 linked - op local 2 param 30030401aa\n",
+            true,
+        ),
+        (
+            "6226 4804 00000001 6B1E281C060700118605010101A011600F80020700A109060704000001000103",
+            "begin\n  otid 00000001\n  dialogue 30\n    aarq version no context 04000001000103 info -\n",
+            true,
+        ),
+        (
+            "65 2F 4801 05 4904 00000001 6B24 2822060700118605010101A017611580020700A10306012AA203020101A305A203020102",
+            "continue\n  otid 05\n  dtid 00000001\n  dialogue 36\n    aare version no context 2a result 1 provider 2 info -\n",
+            true,
+        ),
+        (
+            "67 1A 4904 00000001 6B12 2810060700118605010101A0056403800100",
+            "abort\n  dtid 00000001\n  dialogue 18\n    abrt user info -\n",
+            true,
+        ),
+        (
+            "67 0F 49 04 00000001 6B 07 28 05 06 01 2A A0 00",
+            "abort\n  dtid 00000001\n  dialogue 7\n    foreign 280506012aa000\n",
+            true,
+        ),
+        (
+            "62 0F 48 04 00000001 6B 07 28 05 06 01 2A A0 00",
+            "begin\n  otid 00000001\n  dialogue 7\n    foreign 280506012aa000\n",
+            false,
+        ),
+        (
+            "62 08 48 04 00000001 6B 00",
+            "begin\n  otid 00000001\n  dialogue 0\n    faulty\n",
+            false,
+        ),
+        (
+            "65 1B 4804 00000001 4904 00000001 6C0D A703020101 A30602010102010D",
+            "continue\n  otid 00000001\n  dtid 00000001\n  components 13\n    result more 1 op - param -\n    error 1 code local 13 param -\n",
+            true,
+        ),
+        (
+            "65 25 4804 00000005 4904 00000001 6C17 A203020180 A503020107 A20302017F A30602017F020101",
+            "continue\n  otid 00000005\n  dtid 00000001\n  components 23\n    result last -128 op - param -\n    faulty 7 general 0\n",
+            false,
+        ),
+        (
+            "62 0F 4804 00000001 6C07 A4050500800102",
+            "begin\n  otid 00000001\n  components 7\n    reject - general 2\n",
+            true,
+        ),
     ];
     for (hex, text, good) in rows {
         let (found, verdict) = shown(rt.alloc(), hex)?;
@@ -95,7 +154,37 @@ fn run(alloc: Global, words: &[&str]) -> (u8, Vec<u8>, Vec<u8>) {
 
 #[test]
 fn words_of_the_command(rt: HostRuntime) -> Result<(), Fail> {
-    let rows: [(&[&str], u8, &str, &str); 14] = [
+    let rows: [(&[&str], u8, &str, &str); 21] = [
+        (&["check", "62084804000000016C00"], 0, "good\n", ""),
+        (
+            &["check", "620F4804000000016C07A4050500800102"],
+            0,
+            "good\n",
+            "",
+        ),
+        (
+            &["check", "62104804000000016C08A406020101810109"],
+            0,
+            "good\n",
+            "",
+        ),
+        (&["check", "6203480107"], 0, "good\n", ""),
+        (&["check", "620748050000000001"], 1, "fault incorrect\n", ""),
+        (
+            &["check", "62084804000000016B00"],
+            1,
+            "fault dialogue\n",
+            "",
+        ),
+        (
+            &[
+                "check",
+                "65254804000000054904000000016C17A203020180A503020107A20302017FA30602017F020101",
+            ],
+            1,
+            "fault component 2\n",
+            "",
+        ),
         (
             &["show", "6206480400000001"],
             0,

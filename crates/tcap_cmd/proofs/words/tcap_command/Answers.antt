@@ -8,5 +8,8 @@ pub returns : goal.returns
 returns c =
     let bare_show : app_of c.disable_help_flag.result ≡ without_help (new_app (codes "show")) = search (rules, c.new.ensures.app, c.disable_help_flag.ensures) in
     let show_is : app_of c.in_ok-show.show ≡ with_hex (codes "show") = c.in_ok-show.ensures.shape c.hex_argument.ensures.global ∙ ap₂ with_rule bare_show c.hex_argument.ensures.rule in
+    let bare_check : app_of c.disable_help_flag-2.result ≡ without_help (new_app (codes "check")) = search (rules, c.new-2.ensures.app, c.disable_help_flag-2.ensures) in
+    let check_is : app_of c.in_ok-check.check ≡ with_hex (codes "check") = c.in_ok-check.ensures.shape c.hex_argument-2.ensures.global ∙ ap₂ with_rule bare_check c.hex_argument-2.ensures.rule in
     let top_is : app_of c.subcommand_required-tcap.result ≡ bare_app = search rules in
-    IfOk-weaker c.subcommand.result _ _ (λ m h. h.shape (search (rules, c.new.ensures.local, c.disable_help_flag.ensures, c.in_ok-show.ensures.globals, c.hex_argument.ensures.global)) ∙ ap₂ with_subcommand top_is (ap (λ (a : App). a.top) show_is)) c.subcommand.ensures
+    let one : app_of c.in_ok-subcommand.field-0 ≡ with_subcommand bare_app (with_hex (codes "show")).top = c.in_ok-subcommand.ensures.shape (search (rules, c.new.ensures.local, c.disable_help_flag.ensures, c.in_ok-show.ensures.globals, c.hex_argument.ensures.global)) ∙ ap₂ with_subcommand top_is (ap (λ (a : App). a.top) show_is) in
+    IfOk-weaker c.subcommand-2.result _ _ (λ m h. h.shape (search (rules, c.new-2.ensures.local, c.disable_help_flag-2.ensures, c.in_ok-check.ensures.globals, c.hex_argument-2.ensures.global)) ∙ ap₂ with_subcommand one (ap (λ (a : App). a.top) check_is)) c.subcommand-2.ensures
