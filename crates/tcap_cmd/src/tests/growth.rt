@@ -1,10 +1,12 @@
 use crate::{Refusal, Request, answer, run_command, show_text};
-use ber_core::{write_element, write_head};
+use ber_core::{write_element, write_head, write_int};
 use refusing::Refusing;
 use std::alloc::Global;
 use std::io;
 use std::io::{ErrorKind, Write};
 use std::test::Fail;
+use tcap_component::{Component, WriteFault, write_component};
+use tcap_pdu::{DialoguePdu, Frame, PduFault, TransId, write_dialogue, write_frame};
 
 type Heap<'h> = &'h Refusing<Global>;
 
@@ -71,6 +73,38 @@ fn writers_with_no_memory(rt: HostRuntime) -> Result<(), Fail> {
     assert!(rt; bytes.is_empty());
     assert!(rt; write_head(&mut bytes, &[0x6c], 200).is_ok());
     assert_eq!(rt; bytes.as_slice(), [0x6c, 0x81, 0xc8].as_slice());
+    let mut none: Vec<u8, Heap<'_>> = Vec::new(&heap);
+    heap.refuse(1);
+    assert!(rt; write_int(&mut none, 0x02, 128).is_err());
+    assert!(rt; none.is_empty());
+    Ok(())
+}
+
+#[test]
+fn messages_with_no_memory(rt: HostRuntime) -> Result<(), Fail> {
+    let heap = Refusing::new(rt.alloc());
+    let end = Frame::End {
+        dtid: TransId::of(1),
+        dialogue: None,
+        components: &[],
+    };
+    heap.refuse(1);
+    assert!(rt; matches!(write_frame(&heap, &end), Err(PduFault::OutOfMemory)));
+    let abort = DialoguePdu::Abrt {
+        by_provider: true,
+        info: &[],
+    };
+    heap.refuse(1);
+    assert!(rt; matches!(write_dialogue(&heap, &abort), Err(PduFault::OutOfMemory)));
+    let result = Component::ResultLast { id: 1, body: None };
+    heap.refuse(1);
+    assert!(rt;
+        matches!(
+            write_component(&heap, &result),
+            Err(WriteFault::OutOfMemory)
+        )
+    );
+    assert!(rt; write_component(&heap, &result).is_ok());
     Ok(())
 }
 
