@@ -2,13 +2,13 @@
 use Rattle.std.proofs.Common.{◌≡◌, ℕ, ◌+◌, Bool, List, [], ◌∷◌, ◌++◌, length, Ok, Err, Result, refl, sym, ap, ◌∙◌, append_assoc, append-nil}
 use Rattle.std.specs.Prelude.{OnOk}
 use Rattle.ber_core.specs.Sequence.{Field}
-use Rattle.ber_core.specs.Sequence.Field.{must, may, filled}
+use Rattle.ber_core.specs.Sequence.Field.{must, filled}
 use Rattle.ber_core.specs.Written.{written, written_head, written_field, written_fields}
 use Rattle.ber_core.specs.WrittenLength.{element_length}
 use Rattle.ber_core.proofs.CallerLemmas.{length-written}
 use Rattle.tcap_pdu.specs.DialogueSpelling.{Source, abort_source}
 use Rattle.tcap_pdu.specs.DialogueWritten.{opening_fields, request_fields, result_field, diagnostic_field, response_fields, abort_fields, written_external}
-use Rattle.tcap_pdu.specs.DialogueDue.{information_length, opening_length, answer_length, held_length, external_front}
+use Rattle.tcap_pdu.specs.DialogueDue.{information_length, opening_length, answer_length, external_front}
 use Rattle.tcap_pdu.proofs.DialogueLength.{length-held, length-request, length-response, length-abort}
 
 pub by_ok : {A E : Type 0} (P Q : Type 0) (r : Result A E) → OnOk r P → (P → Q) → OnOk r Q

@@ -1,8 +1,8 @@
 -- From what reading gives to what a dialogue portion spells.
-use Rattle.std.proofs.Common.{◌≡◌, ℕ, List, Option, Some, None, Ok, Err, Result, ok_or, refl, sym, ap, ◌∙◌, inl, inr}
+use Rattle.std.proofs.Common.{◌≡◌, ℕ, List, Option, Some, None, Ok, Err, Result, ok_or, refl, sym, ap, ◌∙◌}
 use Rattle.std.specs.Prelude.{IfOk, IfErr, IsOkAnd}
 use Rattle.ber_core.specs.Results.{Gives}
-use Rattle.ber_core.proofs.CallerLemmas.{some_is, read, refused, read_is, not_read}
+use Rattle.ber_core.proofs.CallerLemmas.{some_is, read, read_is, not_read}
 use Rattle.tcap_pdu.specs.declared.fault.DialogueFault.{DialogueFault}
 use Rattle.tcap_pdu.specs.declared.fault.DialogueFault.TheVariants.{Faulty}
 use Rattle.tcap_pdu.specs.DialogueSpelling.{PduValue, SpellsDialogue}

@@ -1,23 +1,16 @@
 -- A dialogue PDU that is read is spelled so, and what is spelled so is read.
-use Rattle.std.proofs.Common.{◌≡◌, ◌≢◌, ℕ, Bool, true, false, cond, eqb, List, [], ◌∷◌, ◌++◌, is_ok, Option, Some, None, refl, sym, ap, subst, ◌∙◌, ◌⊎◌, inl, inr, eqb-true}
-use Rattle.std.proofs.lemmas.Bool.{cases_Bool, false≢true}
-use Rattle.std.proofs.lemmas.Slice.Eq.{bytes_eq-Decides}
-use Rattle.std.specs.List.{list_all}
-use Rattle.std.specs.Str.{bytes_eq}
+use Rattle.std.proofs.Common.{◌≡◌, ℕ, Bool, true, false, eqb, List, [], ◌∷◌, Some, refl, ap, subst, ◌∙◌, inl, inr, eqb-true}
+use Rattle.std.proofs.lemmas.Bool.{cases_Bool}
 use Rattle.ber_core.specs.Options.{◌>>=◌}
-use Rattle.ber_core.specs.Element.{Parts}
-use Rattle.ber_core.specs.ElementList.{IsList}
-use Rattle.ber_core.specs.ListReading.{items_of}
-use Rattle.ber_core.specs.ObjectIdentifier.{IsObjectIdentifier, is_object_identifier}
-use Rattle.ber_core.specs.Sequence.{Field, InOrder, SpellsSequence, IsOnly}
-use Rattle.ber_core.specs.Sequence.Field.{must, may, filled}
-use Rattle.ber_core.specs.SequenceReading.{content_at, only_at}
-use Rattle.ber_core.proofs.CallerLemmas.{some_is, not_some, bind_some, guard_some, test_some, must_takes, must_again, end_takes, end_again, only_takes, only_again, list_takes, list_again, list_from, object_identifier_takes, object_identifier_again}
-use Rattle.tcap_pdu.specs.DialogueSpelling.{Source, PduValue, structured_syntax, unstructured_syntax, result_number, abort_source, IsInformation, SpellsRequest, SpellsResponse, SpellsAbort, SpellsExternal, IsForeign, SpellsDialogue}
+use Rattle.ber_core.specs.Sequence.{SpellsSequence, IsOnly}
+use Rattle.ber_core.specs.Sequence.Field.{must, filled}
+use Rattle.ber_core.specs.SequenceReading.{content_at}
+use Rattle.ber_core.proofs.CallerLemmas.{some_is, bind_some, test_some, must_takes, must_again}
+use Rattle.tcap_pdu.specs.DialogueSpelling.{Source, PduValue, result_number, abort_source, SpellsRequest, SpellsResponse, SpellsAbort}
 use Rattle.tcap_pdu.specs.DialogueSpelling.PduValue.{aarq, audt, aare, abrt, foreign}
-use Rattle.tcap_pdu.specs.DialoguePartsReading.{one_octet, Tagged, tag_and, one_at, information_at, Opening, opening, opening_at, number_at, diagnostic_at}
-use Rattle.tcap_pdu.specs.DialogueReading.{request_at, accepted_of, by_provider_of, response_at, abort_at, aarq_of, audt_of, structured_by, structured_at, unstructured_at, foreign_by, pdu_by, pdu_at}
-use Rattle.tcap_pdu.proofs.DialogueParts.{some, information_at_takes, information_at_again, one_octet-is, one_octet-one, one_takes, one_again, Opens, opening_takes, opening_again, number_takes, number_again, diagnostic_takes, diagnostic_again}
+use Rattle.tcap_pdu.specs.DialoguePartsReading.{one_octet, information_at, Opening, opening, opening_at, number_at, diagnostic_at}
+use Rattle.tcap_pdu.specs.DialogueReading.{request_at, accepted_of, by_provider_of, response_at, abort_at}
+use Rattle.tcap_pdu.proofs.DialogueParts.{some, information_at_takes, information_at_again, one_octet-is, one_octet-one, opening_takes, opening_again, number_takes, number_again, diagnostic_takes, diagnostic_again}
 
 -- ---- the contents
 

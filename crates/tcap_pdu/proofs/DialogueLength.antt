@@ -1,14 +1,14 @@
 -- The length of a written dialogue portion, and how it bounds that of its parts.
-use Rattle.std.proofs.Common.{◌≡◌, ℕ, zero, suc, ◌+◌, ◌≤◌, ◌<◌, Bool, true, false, List, [], ◌∷◌, ◌++◌, length, refl, sym, ap, subst, ◌∙◌, arith, length-append, append-nil, append_assoc}
+use Rattle.std.proofs.Common.{◌≡◌, ℕ, zero, suc, ◌+◌, ◌≤◌, Bool, true, false, List, [], ◌∷◌, ◌++◌, length, refl, ap, ◌∙◌, arith, length-append, append-nil}
 use Rattle.ber_core.specs.Sequence.{Field}
-use Rattle.ber_core.specs.Sequence.Field.{must, may, filled}
-use Rattle.ber_core.specs.Written.{written, written_head, written_field, written_fields}
+use Rattle.ber_core.specs.Sequence.Field.{must, filled}
+use Rattle.ber_core.specs.Written.{written, written_field, written_fields}
 use Rattle.ber_core.specs.WrittenLength.{element_length}
 use Rattle.ber_core.proofs.CallerLemmas.{element_length-least, element_length-most, length-written}
 use Rattle.tcap_pdu.specs.DialogueSpelling.{Source, PduValue, structured_syntax, unstructured_syntax, result_number, abort_source, source_tag, source_number}
 use Rattle.tcap_pdu.specs.DialogueSpelling.PduValue.{aarq, audt, aare, abrt, foreign}
 use Rattle.tcap_pdu.specs.DialogueWritten.{version_octets, opening_fields, request_fields, result_field, diagnostic_field, response_fields, abort_fields, written_external, written_dialogue}
-use Rattle.tcap_pdu.specs.DialogueDue.{information_length, opening_length, answer_length, contents_length, held_length, external_length, portion_length, external_front}
+use Rattle.tcap_pdu.specs.DialogueDue.{information_length, opening_length, answer_length, held_length, external_length, portion_length}
 
 pub element_most : (n : ℕ) → element_length n ≤ n + 4
 element_most n = element_length-most n

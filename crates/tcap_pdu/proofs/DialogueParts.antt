@@ -1,5 +1,5 @@
 -- The parts of a dialogue PDU: what is read is spelled so, and what is spelled so is read.
-use Rattle.std.proofs.Common.{◌≡◌, ℕ, ◌≤◌, Bool, true, false, cond, ltb, leb, eqb, ◌&&◌, List, [], ◌∷◌, ◌++◌, length, map, is_ok, Option, Some, None, Ok, Err, Result, unwrap_or, refl, sym, ap, subst, ◌∙◌, ◌⊎◌, inl, inr, arith, eqb-true, eq-eqb, append-nil}
+use Rattle.std.proofs.Common.{◌≡◌, ℕ, ◌≤◌, Bool, true, false, cond, ltb, leb, eqb, ◌&&◌, List, [], ◌∷◌, map, is_ok, Option, Some, None, Ok, Err, Result, unwrap_or, refl, sym, ap, subst, ◌∙◌, inl, inr, eqb-true, append-nil}
 use Rattle.std.proofs.lemmas.Bool.{cases_Bool, ltb-false, le-ltb}
 use Rattle.std.specs.List.{AllByRecursion, list_all}
 use Rattle.ber_core.specs.declared.fault.BerFault.{BerFault}

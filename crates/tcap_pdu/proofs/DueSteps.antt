@@ -1,13 +1,12 @@
 -- The first fault that is due, by its tests.
-use Rattle.std.proofs.Common.{◌≡◌, ℕ, ◌≤◌, ◌<◌, Bool, true, false, List, length, Option, Some, None, Ok, Err, Result, refl, inl, inr}
+use Rattle.std.proofs.Common.{◌≡◌, ℕ, ◌≤◌, ◌<◌, true, List, length, Option, Some, None, Ok, Err, refl, inl, inr}
 use Rattle.std.specs.Prelude.{IfSome}
-use Rattle.std.proofs.lemmas.Bool.{cases_Bool, false≢true, lt-ltb, le-ltb}
+use Rattle.std.proofs.lemmas.Bool.{cases_Bool, lt-ltb, le-ltb}
 use Rattle.ber_core.proofs.CallerLemmas.{object_identifier_takes}
 use Rattle.tcap_pdu.specs.declared.fault.PduFault.{PduFault}
-use Rattle.tcap_pdu.specs.declared.fault.PduFault.TheVariants.{TooLong, BadOid, BadInfo}
+use Rattle.tcap_pdu.specs.declared.fault.PduFault.TheVariants.{TooLong, BadOid}
 use Rattle.tcap_pdu.specs.DialogueSpelling.{PduValue}
-use Rattle.tcap_pdu.specs.DialogueWritten.{written_dialogue}
-use Rattle.tcap_pdu.specs.DialogueDue.{context_of, is_context, has_information, content_fault, due_fault, length_at, portion_length}
+use Rattle.tcap_pdu.specs.DialogueDue.{context_of, is_context, content_fault, due_fault, length_at, portion_length}
 use Rattle.tcap_pdu.proofs.DialogueLength.{length-dialogue}
 
 pub due_content : (p : PduValue) (f : PduFault) → content_fault p ≡ Some f → length_at p ≡ Err f

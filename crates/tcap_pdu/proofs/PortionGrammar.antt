@@ -1,23 +1,22 @@
 -- A dialogue portion that is read is spelled so, and what is spelled so is read.
-use Rattle.std.proofs.Common.{◌≡◌, ◌≢◌, ℕ, Bool, true, false, cond, eqb, List, [], ◌∷◌, ◌++◌, is_ok, Option, Some, None, refl, sym, ap, subst, ◌∙◌, ◌⊎◌, inl, inr, eqb-true}
+use Rattle.std.proofs.Common.{◌≡◌, ◌≢◌, ℕ, Bool, true, false, cond, eqb, List, [], ◌∷◌, ◌++◌, is_ok, Some, None, refl, sym, ap, subst, ◌∙◌, inl, inr, eqb-true}
 use Rattle.std.proofs.lemmas.Bool.{cases_Bool, false≢true}
 use Rattle.std.proofs.lemmas.Slice.Eq.{bytes_eq-Decides}
 use Rattle.std.specs.List.{list_all}
 use Rattle.std.specs.Str.{bytes_eq}
 use Rattle.ber_core.specs.Options.{◌>>=◌}
 use Rattle.ber_core.specs.Element.{Parts, IsElement, joined}
-use Rattle.ber_core.specs.ElementList.{IsList}
 use Rattle.ber_core.specs.ElementReading.{element_at}
 use Rattle.ber_core.specs.ListReading.{items_of}
-use Rattle.ber_core.specs.ObjectIdentifier.{IsObjectIdentifier, is_object_identifier}
-use Rattle.ber_core.specs.Sequence.{Field, Holds, SpellsSequence, IsOnly}
-use Rattle.ber_core.specs.Sequence.Field.{must, may, filled}
+use Rattle.ber_core.specs.ObjectIdentifier.{is_object_identifier}
+use Rattle.ber_core.specs.Sequence.{Holds, SpellsSequence, IsOnly}
+use Rattle.ber_core.specs.Sequence.Field.{must}
 use Rattle.ber_core.specs.SequenceReading.{is_tag, tagged, content_at, only_at}
-use Rattle.ber_core.proofs.CallerLemmas.{some_is, not_some, by_result, bind_some, guard_some, test_some, is_tag-is, is_tag-one, element_takes, element_again, must_takes, must_again, only_takes, only_again, list_takes, list_again, list_from, object_identifier_takes, object_identifier_again}
+use Rattle.ber_core.proofs.CallerLemmas.{some_is, not_some, by_result, bind_some, test_some, is_tag-is, is_tag-one, element_takes, element_again, must_takes, must_again, only_takes, only_again, list_takes, list_again, list_from, object_identifier_takes, object_identifier_again}
 use Rattle.tcap_pdu.specs.DialogueSpelling.{PduValue, structured_syntax, unstructured_syntax, SpellsRequest, SpellsResponse, SpellsAbort, SpellsExternal, IsForeign, SpellsDialogue}
 use Rattle.tcap_pdu.specs.DialogueSpelling.PduValue.{aarq, audt, aare, abrt, foreign}
-use Rattle.tcap_pdu.specs.DialoguePartsReading.{one_at, Opening}
-use Rattle.tcap_pdu.specs.DialogueReading.{request_at, response_at, abort_at, aarq_of, audt_of, structured_by, structured_at, unstructured_at, foreign_by, pdu_by, pdu_at}
+use Rattle.tcap_pdu.specs.DialoguePartsReading.{one_at}
+use Rattle.tcap_pdu.specs.DialogueReading.{request_at, abort_at, aarq_of, audt_of, structured_by, structured_at, unstructured_at, foreign_by, pdu_by, pdu_at}
 use Rattle.tcap_pdu.proofs.DialogueParts.{some, one_takes, one_again}
 use Rattle.tcap_pdu.proofs.DialogueGrammar.{request_takes, request_again, IsResponse, response_takes, response_again, IsAbort, abort_takes, abort_again}
 

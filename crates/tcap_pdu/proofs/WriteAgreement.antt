@@ -1,11 +1,9 @@
 -- From the first fault that is due to the faults of writing.
-use Rattle.std.proofs.Common.{◌≡◌, ℕ, ◌≤◌, ◌<◌, ltb, Bool, true, false, List, length, Option, Some, None, Ok, Err, Result, refl, sym, ap, subst, ◌∙◌, ◌⊎◌, inl, inr, arith}
+use Rattle.std.proofs.Common.{◌≡◌, ℕ, ◌≤◌, ltb, true, List, length, Option, Some, None, Ok, Err, refl, sym, subst, ◌∙◌, inl, inr, arith}
 use Rattle.std.specs.Prelude.{IfSome}
-use Rattle.std.proofs.lemmas.Bool.{cases_Bool, false≢true, lt-ltb, le-ltb, ltb-true, ltb-false}
-use Rattle.ber_core.specs.ObjectIdentifier.{IsObjectIdentifier, is_object_identifier}
-use Rattle.ber_core.proofs.CallerLemmas.{some_is, not_some, refused, refused_is, read, read_is, not_read, not_refused, object_identifier_takes, object_identifier_again}
+use Rattle.std.proofs.lemmas.Bool.{cases_Bool, false≢true, le-ltb, ltb-true, ltb-false}
+use Rattle.ber_core.proofs.CallerLemmas.{refused_is, read_is, not_read, not_refused, object_identifier_takes, object_identifier_again}
 use Rattle.tcap_pdu.specs.declared.fault.PduFault.{PduFault}
-use Rattle.tcap_pdu.specs.declared.fault.PduFault.TheVariants.{OutOfMemory, TooLong, BadOid, BadInfo}
 use Rattle.tcap_pdu.specs.DialogueSpelling.{PduValue, IsForeign, SpellsDialogue}
 use Rattle.tcap_pdu.specs.DialogueSpelling.PduValue.{aarq, audt, aare, abrt, foreign}
 use Rattle.tcap_pdu.specs.DialogueReading.{pdu_at}

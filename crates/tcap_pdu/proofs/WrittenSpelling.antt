@@ -1,16 +1,16 @@
 -- What is written spells the PDU.
-use Rattle.std.proofs.Common.{◌≡◌, ◌≢◌, ℕ, ◌+◌, ◌≤◌, Bool, true, false, eqb, bit_and, List, [], ◌∷◌, ◌++◌, length, Some, Ok, refl, sym, ap, subst, ◌∙◌, arith, append-nil}
+use Rattle.std.proofs.Common.{◌≡◌, ◌≢◌, ℕ, ◌+◌, ◌≤◌, Bool, true, false, eqb, bit_and, List, [], ◌∷◌, length, Some, Ok, refl, subst, arith, append-nil}
 use Rattle.ber_core.specs.ObjectIdentifier.{IsObjectIdentifier}
-use Rattle.ber_core.specs.Sequence.{Field, SpellsSequence, IsOnly}
-use Rattle.ber_core.specs.Sequence.Field.{must, may, filled}
-use Rattle.ber_core.specs.Written.{written, written_fields, IsShort, CanWriteAll}
+use Rattle.ber_core.specs.Sequence.{Field, IsOnly}
+use Rattle.ber_core.specs.Sequence.Field.{must}
+use Rattle.ber_core.specs.Written.{written, written_fields, IsShort}
 use Rattle.ber_core.specs.WrittenLength.{element_length}
 use Rattle.ber_core.proofs.CallerLemmas.{fields_spelled, element_length-least, length-written}
 use Rattle.tcap_pdu.specs.DialogueSpelling.{Source, PduValue, structured_syntax, unstructured_syntax, SaysVersion, result_number, abort_source, source_tag, source_number, IsInformation, SpellsRequest, SpellsDiagnostic, SpellsResponse, SpellsAbort, SpellsExternal, SpellsDialogue}
 use Rattle.tcap_pdu.specs.DialogueSpelling.Source.{user, provider}
 use Rattle.tcap_pdu.specs.DialogueSpelling.PduValue.{aarq, audt, aare, abrt, foreign}
-use Rattle.tcap_pdu.specs.DialogueWritten.{version_octets, request_fields, result_field, diagnostic_field, response_fields, abort_fields, written_external, written_dialogue, HasDiagnostic, IsWritable}
-use Rattle.tcap_pdu.specs.DialogueDue.{information_length, opening_length, answer_length, held_length, external_length}
+use Rattle.tcap_pdu.specs.DialogueWritten.{version_octets, request_fields, response_fields, abort_fields, written_external, written_dialogue, HasDiagnostic, IsWritable}
+use Rattle.tcap_pdu.specs.DialogueDue.{information_length, opening_length, answer_length}
 use Rattle.tcap_pdu.specs.DialogueReading.{dialogue_at}
 use Rattle.tcap_pdu.proofs.DialogueLength.{information_least, length-held, length-request, length-response, length-abort}
 use Rattle.tcap_pdu.proofs.DialogueAgreement.{dialogue_again}

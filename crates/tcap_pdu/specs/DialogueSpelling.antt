@@ -4,7 +4,7 @@ use Rattle.std.specs.List.{AllByRecursion}
 use Rattle.ber_core.specs.Element.{Parts}
 use Rattle.ber_core.specs.ElementList.{IsList}
 use Rattle.ber_core.specs.ObjectIdentifier.{IsObjectIdentifier}
-use Rattle.ber_core.specs.Sequence.{Field, Holds, SpellsSequence, IsOnly}
+use Rattle.ber_core.specs.Sequence.{Holds, SpellsSequence, IsOnly}
 use Rattle.ber_core.specs.Sequence.Field.{must, may, filled}
 
 -- A result source diagnostic: who gives it, the dialogue service user or the dialogue service

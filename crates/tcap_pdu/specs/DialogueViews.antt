@@ -1,5 +1,4 @@
 -- Dialogue PDUs as a contract sees them.
-use Rattle.std.specs.Prelude.{ℕ, List}
 use Rattle.tcap_pdu.specs.declared.dialogue_pdu.DialoguePdu.{DialoguePdu}
 use Rattle.tcap_pdu.specs.declared.dialogue_pdu.DialoguePdu.TheVariants as pdu
 use Rattle.tcap_pdu.specs.declared.dialogue_pdu.Diagnostic.{Diagnostic}

@@ -1,5 +1,5 @@
 -- The canonical form of a dialogue portion, and why one is not written.
-use Rattle.std.specs.Prelude.{◌≡◌, ℕ, ◌<◌, ◌≤◌, Bool, true, false, List, [], ◌∷◌, length, Some}
+use Rattle.std.specs.Prelude.{ℕ, ◌<◌, ◌≤◌, Bool, true, false, List, [], ◌∷◌, length, Some}
 use Rattle.ber_core.specs.ObjectIdentifier.{IsObjectIdentifier}
 use Rattle.ber_core.specs.Sequence.{Field}
 use Rattle.ber_core.specs.Sequence.Field.{must, may, filled}

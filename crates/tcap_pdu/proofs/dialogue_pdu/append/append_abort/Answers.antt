@@ -1,4 +1,4 @@
-use Rattle.std.proofs.Common.{◌≡◌, ℕ, List, [], ◌∷◌, ◌++◌, ap, ◌∙◌, arith, refl}
+use Rattle.std.proofs.Common.{ℕ, List, [], ◌∷◌, ◌++◌, ap, ◌∙◌, arith, refl}
 use Rattle.ber_core.specs.Sequence.Field.{filled}
 use Rattle.ber_core.specs.Written.{written, written_fields}
 use Rattle.tcap_pdu.specs.DialogueSpelling.{structured_syntax, abort_source}

@@ -1,4 +1,4 @@
-use Rattle.std.proofs.Common.{◌≡◌, ℕ, List, [], ◌∷◌, ◌++◌, ap, ◌∙◌, arith}
+use Rattle.std.proofs.Common.{ℕ, List, [], ◌∷◌, ◌++◌, ap, ◌∙◌, arith}
 use Rattle.ber_core.specs.Sequence.Field.{filled}
 use Rattle.ber_core.specs.Written.{written_fields}
 use Rattle.tcap_pdu.specs.DialogueWritten.{opening_fields}
