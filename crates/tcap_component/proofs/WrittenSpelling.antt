@@ -9,7 +9,6 @@ use Rattle.ber_core.specs.Sequence.{Field, SpellsSequence}
 use Rattle.ber_core.specs.Sequence.Field.{must, may, any}
 use Rattle.ber_core.specs.Written.{written, written_field, written_fields, IsShort, CanWrite, CanWriteAll, written_parts}
 use Rattle.ber_core.proofs.CallerLemmas.{part_is, fields_spelled, integer_spelled}
-use Rattle.tcap_component.specs.declared.fault.ComponentFault.{ComponentFault}
 use Rattle.tcap_component.specs.declared.problem.Kind.{Kind}
 use Rattle.tcap_component.specs.declared.problem.Kind.TheVariants as kind
 use Rattle.tcap_component.specs.Problem.{problem_tag}

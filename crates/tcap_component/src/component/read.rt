@@ -9,7 +9,7 @@ ghost use Rattle.tcap_component.specs.Problem.{IsProblem, general_problem, probl
 ghost use Rattle.tcap_component.specs.Component.{ComponentParts, SpellsComponent};
 ghost use Rattle.tcap_component.specs.ComponentFault.{fault, IsComponentFault};
 ghost use Rattle.tcap_component.specs.ComponentReading.{identifier_of, identifier_at, linked_at, code_at, body_at, result_at, rejected_at, problem_kind, problem_code, problem_at, invoke_at, result_last_at, error_at, reject_at, result_more_at, contents_at, form_at, is_result, second_is_listed, is_structured, verdict_by, front_identifier, component_at};
-ghost use Rattle.tcap_component.specs.Views.{code_parts, body_parts, component_parts};
+ghost use Rattle.tcap_component.specs.Views.{Reads, code_parts, body_parts, problem_parts, fault_parts, component_parts};
 
 use crate::component::{Body, Code, Component, Form};
 use crate::fault::ComponentFault;
@@ -148,7 +148,7 @@ pub fn tag_of(kind: Kind) -> u8
 /// 80, 81, 82 or 83 with a problem's code, 00 to 7F.
 #[tactic(auto, unfolding(crate::specs::ComponentReading::problem_at, crate::specs::ComponentReading::problem_code))]
 fn read_problem(bytes: &[u8]) -> Option<Problem>
-    ensures { result ≡ problem_at bytes.now }
+    ensures { option_map problem_parts result ≡ problem_at bytes.now }
 {
     let kind = kind_of(bytes)?;
     let (content, rest) = take_content(bytes, tag_of(kind))?;
@@ -309,7 +309,7 @@ fn front_id(element: &Element<'_>) -> Option<i8>
 /// The fault of a component with these octets.
 fn general_fault(code: u8, id: Option<i8>, octets: &[u8]) -> ComponentFault
     requires { IsProblem (general_problem code) }
-    ensures { result ≡ fault code id octets.now }
+    ensures { fault_parts result ≡ fault code id octets.now }
 {
     ComponentFault {
         problem: Problem::general(code),
@@ -321,7 +321,7 @@ fn general_fault(code: u8, id: Option<i8>, octets: &[u8]) -> ComponentFault
 /// The first component and what follows it, in exact form.
 #[tactic(auto, unfolding(crate::specs::ComponentReading::component_at))]
 fn split_component<'a>(bytes: &'a [u8]) -> Result<(Component<'a>, &'a [u8]), ComponentFault>
-    ensures { Gives (λ r. (component_parts r.0, r.1.now)) result (component_at bytes.now) }
+    ensures { Reads (λ r. (component_parts r.0, r.1.now)) result (component_at bytes.now) }
 {
     let Ok((element, rest)) = read_element(bytes) else {
         return Err(general_fault(BADLY_STRUCTURED_COMPONENT, None, bytes));
@@ -342,9 +342,9 @@ pub fn read_component<'a>(bytes: &'a [u8]) -> Result<(Component<'a>, &'a [u8]), 
     ensures only { (c : ComponentParts) (whole rest : List ℕ) → SpellsComponent c whole → bytes.now ≡ whole ++ rest →
         IsOkAnd result (λ r. (component_parts r.0 ≡ c) × (r.1.now ≡ rest)) }
     // Which fault, the first case that holds.
-    ensures fault { IfErr result (λ f. IsComponentFault bytes.now f) }
+    ensures fault { IfErr result (λ f. IsComponentFault bytes.now (fault_parts f)) }
     // The same, computed: what the layers above cite.
-    ensures exact { Gives (λ r. (component_parts r.0, r.1.now)) result (component_at bytes.now) }
+    ensures exact { Reads (λ r. (component_parts r.0, r.1.now)) result (component_at bytes.now) }
 {
     split_component(bytes)
 }

@@ -9,7 +9,7 @@ ghost use Rattle.ber_core.specs.Tag.{IsTag};
 ghost use Rattle.ber_core.specs.Written.{length_octets, written, written_head, written_field, written_fields};
 ghost use Rattle.tcap_component.specs.Problem.{problem_tag};
 ghost use Rattle.tcap_component.specs.Component.{CodeParts, component_tag, identifier, code_field, rejected_field, body_fields, fields};
-ghost use Rattle.tcap_component.specs.Views.{code_parts, body_parts, component_parts};
+ghost use Rattle.tcap_component.specs.Views.{code_parts, body_parts, problem_parts, component_parts};
 ghost use Rattle.tcap_component.specs.Written.{written_body, written_contents, written_component, coded_part, CanCode, HasCode, CanWriteComponent, IsWriteFault, can_code, can_hold, has_code, has_parameter, write_fault, length_if_any};
 ghost use Rattle.tcap_component.specs.declared.fault.WriteFault.{WriteFault};
 ghost use Rattle.tcap_component.specs.declared.fault.WriteFault.TheVariants as fault;
@@ -285,7 +285,7 @@ fn write_reject<A: Allocator + Copy>(
     id: Option<i8>,
     problem: Problem,
 ) -> Result<(), OutOfMemory>
-    ensures { OnOk result (out.new.items ≡ out.old.items ++ written_fields (rejected_field id ∷ must (problem_tag problem.kind) (problem.code ∷ []) ∷ [])) }
+    ensures { OnOk result (out.new.items ≡ out.old.items ++ written_fields (rejected_field id ∷ must (problem_tag (problem_parts problem).kind) ((problem_parts problem).code ∷ []) ∷ [])) }
 {
     match id {
         Some(id) => write_identifier(out, tag::INTEGER, id)?,
