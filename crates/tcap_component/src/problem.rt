@@ -1,4 +1,5 @@
 ghost use Rattle.std.specs.Prelude.{◌≤◌};
+ghost use Rattle.tcap_component.specs.Problem.{problem_limit};
 
 /// What a Reject speaks of (Q.773, Problem).
 #[derive(Clone, Copy, Debug, PartialEq, Eq)]
@@ -75,13 +76,13 @@ const MAX_PROBLEM: u8 = 0x7f;
 pub struct Problem {
     kind: Kind,
     code: u8,
-    ghost in_range: { code ≤ 127 },
+    ghost in_range: { code ≤ problem_limit },
 }
 
 impl Problem {
     ghost use Rattle.std.specs.Prelude.{◌≡◌, ◌↔◌, IsSome, IfSome};
     ghost use Rattle.tcap_component.specs.Views.{problem_parts};
-    ghost use Rattle.tcap_component.specs.Problem.{IsProblem, problem_limit, general_problem, is_by_provider};
+    ghost use Rattle.tcap_component.specs.Problem.{IsProblem, general_problem, is_by_provider};
 
     /// The problem with this code, if it is at most 127; those without a name are kept as numbers.
     pub fn new(kind: Kind, code: u8) -> Option<Problem>
