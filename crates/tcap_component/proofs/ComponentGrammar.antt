@@ -1,21 +1,19 @@
 -- What is read is a component, each component is read, and each fault is told.
-use Rattle.std.proofs.Common.{◌≡◌, ℕ, ℤ, Bool, true, false, List, [], ◌∷◌, ◌++◌, length, Option, Some, None, Ok, Err, Result, refl, sym, ap, subst, ◌∙◌, ◌⊎◌, inl, inr, arith, append-nil}
-use Rattle.std.specs.Prelude.{is_ok, IfOk, IfErr, IsOkAnd}
-use Rattle.std.specs.List.{list_all}
+use Rattle.std.proofs.Common.{◌≡◌, ℕ, ℤ, true, false, List, [], ◌∷◌, ◌++◌, Option, Some, None, Ok, Err, Result, refl, sym, ap, subst, ◌∙◌, inl, inr, arith}
+use Rattle.std.specs.Prelude.{IfOk, IfErr, IsOkAnd}
 use Rattle.std.proofs.lemmas.Bool.{cases_Bool}
 use Rattle.std.proofs.lemmas.List.{append_cancel_right}
 use Rattle.ber_core.specs.declared.fault.BerFault.{BerFault}
-use Rattle.ber_core.specs.Element.{Parts, IsElement, joined}
+use Rattle.ber_core.specs.Element.{Parts, IsElement}
 use Rattle.ber_core.specs.ElementList.{IsList}
 use Rattle.ber_core.specs.ElementReading.{element_at}
-use Rattle.ber_core.specs.Sequence.{Field, InOrder, SpellsSequence}
+use Rattle.ber_core.specs.Sequence.{InOrder}
 use Rattle.ber_core.specs.Sequence.Field.{must, may}
-use Rattle.ber_core.specs.ListReading.{items_of}
-use Rattle.ber_core.proofs.CallerLemmas.{some, some_is, not_some, by_option, by_result, read, refused, read_is, refused_is, not_read, not_refused, element_takes, element_again, list_again}
+use Rattle.ber_core.proofs.CallerLemmas.{some, some_is, not_some, by_option, by_result, refused, read_is, refused_is, not_read, not_refused, element_takes, element_again}
 use Rattle.tcap_component.specs.declared.fault.ComponentFault.{ComponentFault}
 use Rattle.tcap_component.specs.declared.component.Form.{Form}
 use Rattle.tcap_component.specs.Views.{Reads, fault_parts}
-use Rattle.tcap_component.specs.Component.{BodyParts, ComponentParts, component_tag, identifier, body_fields, fields, body_of, HoldsBody, IsComponent, SpellsComponent}
+use Rattle.tcap_component.specs.Component.{BodyParts, ComponentParts, component_tag, identifier, HoldsBody, IsComponent, SpellsComponent}
 use Rattle.tcap_component.specs.Component.ComponentParts.{invoke, result_last, error_back, reject_back, result_more}
 use Rattle.tcap_component.specs.ComponentFault.{FaultParts, fault, TellsIdentifier, HasComponentTag, IsResultTag, SecondIsListed, IsStructured, IsComponentFault}
 use Rattle.tcap_component.specs.ComponentFault.IsComponentFault.{unreadable, unrecognized, unstructured, mistyped}

@@ -1,7 +1,6 @@
 -- The components of a list up to the first fault, read and again.
-use Rattle.std.proofs.Common.{◌≡◌, ◌≢◌, ℕ, zero, suc, ◌+◌, ◌<◌, ◌≤◌, List, [], ◌∷◌, ◌++◌, length, Option, Some, None, Ok, Err, Result, refl, sym, ap, subst, ◌∙◌, inl, inr, arith, append_assoc, length-append}
-use Rattle.ber_core.specs.Element.{Parts, IsElement}
-use Rattle.ber_core.proofs.CallerLemmas.{by_result, read_is, not_refused, not_read, IsElement-longer}
+use Rattle.std.proofs.Common.{◌≡◌, ◌≢◌, ℕ, zero, suc, ◌<◌, ◌≤◌, List, [], ◌∷◌, ◌++◌, length, Option, Some, None, Ok, Err, Result, refl, sym, ap, subst, ◌∙◌, inl, inr, arith, append_assoc, length-append}
+use Rattle.ber_core.proofs.CallerLemmas.{by_result, IsElement-longer}
 use Rattle.tcap_component.specs.Component.{ComponentParts, SpellsComponent}
 use Rattle.tcap_component.specs.ComponentFault.{FaultParts, IsComponentFault}
 use Rattle.tcap_component.specs.ComponentList.{SpellsComponents, EndsIn, FirstFault, items}

@@ -1,5 +1,5 @@
 -- The contents of a component portion: components up to the first fault.
-use Rattle.std.specs.Prelude.{◌≡◌, ◌≢◌, ℕ, ◌≤◌, List, [], ◌∷◌, ◌++◌, length, map, Option, Some, None, Result, Ok, Err}
+use Rattle.std.specs.Prelude.{◌≡◌, ◌≢◌, ℕ, ◌≤◌, List, [], ◌∷◌, ◌++◌, length, Option, Some, None, Result, Ok, Err}
 use Rattle.tcap_component.specs.Component.{ComponentParts, SpellsComponent}
 use Rattle.tcap_component.specs.ComponentFault.{FaultParts, IsComponentFault}
 

@@ -1,5 +1,5 @@
 -- Components as a contract sees them.
-use Rattle.std.specs.Prelude.{◌≡◌, ℕ, List, Option, Some, None, Result, Ok, Err, option_copied}
+use Rattle.std.specs.Prelude.{◌≡◌, List, Result, Ok, Err, option_copied}
 use Rattle.std.specs.Option.{option_map}
 use Rattle.tcap_component.specs.declared.component.Code.{Code}
 use Rattle.tcap_component.specs.declared.component.Code.TheVariants as code
