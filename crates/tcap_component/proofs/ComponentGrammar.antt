@@ -1,23 +1,21 @@
 -- What is read is a component, each component is read, and each fault is told.
-use Rattle.std.proofs.Common.{◌≡◌, ℕ, ℤ, Bool, true, false, List, [], ◌∷◌, ◌++◌, length, Option, Some, None, Ok, Err, Result, refl, sym, ap, subst, ◌∙◌, ◌⊎◌, inl, inr, arith, append-nil}
-use Rattle.std.specs.Prelude.{is_ok, IfOk, IfErr, IsOkAnd}
-use Rattle.std.specs.List.{list_all}
+use Rattle.std.proofs.Common.{◌≡◌, ℕ, ℤ, true, false, List, [], ◌∷◌, ◌++◌, Option, Some, None, Ok, Err, Result, refl, sym, ap, subst, ◌∙◌, inl, inr, arith}
+use Rattle.std.specs.Prelude.{IfOk, IfErr, IsOkAnd}
 use Rattle.std.proofs.lemmas.Bool.{cases_Bool}
 use Rattle.std.proofs.lemmas.List.{append_cancel_right}
 use Rattle.ber_core.specs.declared.fault.BerFault.{BerFault}
-use Rattle.ber_core.specs.Results.{Gives}
-use Rattle.ber_core.specs.Element.{Parts, IsElement, joined}
+use Rattle.ber_core.specs.Element.{Parts, IsElement}
 use Rattle.ber_core.specs.ElementList.{IsList}
 use Rattle.ber_core.specs.ElementReading.{element_at}
-use Rattle.ber_core.specs.Sequence.{Field, InOrder, SpellsSequence}
+use Rattle.ber_core.specs.Sequence.{InOrder}
 use Rattle.ber_core.specs.Sequence.Field.{must, may}
-use Rattle.ber_core.specs.ListReading.{items_of}
-use Rattle.ber_core.proofs.CallerLemmas.{some, some_is, not_some, by_option, by_result, read, refused, read_is, refused_is, not_read, not_refused, element_takes, element_again, list_again}
+use Rattle.ber_core.proofs.CallerLemmas.{some, some_is, not_some, by_option, by_result, refused, read_is, refused_is, not_read, not_refused, element_takes, element_again}
 use Rattle.tcap_component.specs.declared.fault.ComponentFault.{ComponentFault}
 use Rattle.tcap_component.specs.declared.component.Form.{Form}
-use Rattle.tcap_component.specs.Component.{BodyParts, ComponentParts, component_tag, identifier, body_fields, fields, body_of, HoldsBody, IsComponent, SpellsComponent}
+use Rattle.tcap_component.specs.Views.{Reads, fault_parts}
+use Rattle.tcap_component.specs.Component.{BodyParts, ComponentParts, component_tag, identifier, HoldsBody, IsComponent, SpellsComponent}
 use Rattle.tcap_component.specs.Component.ComponentParts.{invoke, result_last, error_back, reject_back, result_more}
-use Rattle.tcap_component.specs.ComponentFault.{fault, TellsIdentifier, HasComponentTag, IsResultTag, SecondIsListed, IsStructured, IsComponentFault}
+use Rattle.tcap_component.specs.ComponentFault.{FaultParts, fault, TellsIdentifier, HasComponentTag, IsResultTag, SecondIsListed, IsStructured, IsComponentFault}
 use Rattle.tcap_component.specs.ComponentFault.IsComponentFault.{unreadable, unrecognized, unstructured, mistyped}
 use Rattle.tcap_component.specs.ComponentReading.{contents_at, form_at, is_structured, verdict_by, front_identifier, judged, component_at}
 use Rattle.tcap_component.proofs.ContentsGrammar.{form_of_parts, form_again, form_tag, form_takes, sample, contents_takes, contents_again}
@@ -101,7 +99,7 @@ element_judged e rest i = elim (by_option (form_at e.tag)) [
 
 -- ---- each way through a reading
 
-abbrev pub Read : List ℕ → Result (ComponentParts × List ℕ) ComponentFault → Type 0
+abbrev pub Read : List ℕ → Result (ComponentParts × List ℕ) FaultParts → Type 0
 Read bytes (Ok r) = (whole : List ℕ) × SpellsComponent r.0 whole × (bytes ≡ whole ++ r.1)
 Read bytes (Err f) = IsComponentFault bytes f
 
@@ -132,7 +130,7 @@ component_read bytes = elim (by_result (element_at 32 bytes)) [
 pub component_takes : (bytes : List ℕ) (r : ComponentParts × List ℕ) → component_at bytes ≡ Ok r → (whole : List ℕ) × SpellsComponent r.0 whole × (bytes ≡ whole ++ r.1)
 component_takes bytes r e = subst (Read bytes) e (component_read bytes)
 
-pub component_fails : (bytes : List ℕ) (f : ComponentFault) → component_at bytes ≡ Err f → IsComponentFault bytes f
+pub component_fails : (bytes : List ℕ) (f : FaultParts) → component_at bytes ≡ Err f → IsComponentFault bytes f
 component_fails bytes f e = subst (Read bytes) e (component_read bytes)
 
 component_verdict : (c : ComponentParts) (e : Parts) → IsComponent c e → verdict_by (form_at e.tag) e.content ≡ Ok c
@@ -151,7 +149,7 @@ told_by e rest id code i t v =
     ∙ (ap (λ (w : Result ComponentParts ℕ). judged (e.whole ++ rest) (e, rest) w) v
     ∙ ap (λ (o : Option ℤ). refused {A = ComponentParts × List ℕ} (fault code o (e.whole ++ rest))) (tells_again e id t))
 
-pub component_told : (bytes : List ℕ) (f : ComponentFault) → IsComponentFault bytes f → component_at bytes ≡ Err f
+pub component_told : (bytes : List ℕ) (f : FaultParts) → IsComponentFault bytes f → component_at bytes ≡ Err f
 component_told bytes f (unreadable w h) = elim (by_result (element_at 32 w)) [
   | inl d ↦ at_none w d.0 d.1
   | inr r ↦ let t = element_takes 32 w r.0 r.1 in absurd (h r.0.0 r.0.1 t.0 t.1)
@@ -177,7 +175,7 @@ component_told bytes f (mistyped e rest id i g s h t) =
 
 pub one_component : (c d : ComponentParts) (v w x y : List ℕ) → SpellsComponent c v → SpellsComponent d w → v ++ x ≡ w ++ y → (c ≡ d) × (x ≡ y)
 one_component c d v w x y p q e =
-    let same : (c, x) ≡ (d, y) = read_is {E = ComponentFault} (c, x) (d, y) (sym (component_again c v x p) ∙ (ap component_at e ∙ component_again d w y q)) in
+    let same : (c, x) ≡ (d, y) = read_is {E = FaultParts} (c, x) (d, y) (sym (component_again c v x p) ∙ (ap component_at e ∙ component_again d w y q)) in
     (ap (λ (r : ComponentParts × List ℕ). r.0) same, ap (λ (r : ComponentParts × List ℕ). r.1) same)
 
 -- equal octets begin with equal components
@@ -186,23 +184,23 @@ same_octets c d v w x y p q e =
     let one = one_component c d v w x y p q e in
     (one.0, append_cancel_right v w y (ap (λ (z : List ℕ). v ++ z) (sym one.1) ∙ e), one.1)
 
-pub one_fault : (bytes : List ℕ) (f g : ComponentFault) → IsComponentFault bytes f → IsComponentFault bytes g → f ≡ g
+pub one_fault : (bytes : List ℕ) (f g : FaultParts) → IsComponentFault bytes f → IsComponentFault bytes g → f ≡ g
 one_fault bytes f g p q = refused_is {A = ComponentParts × List ℕ} f g (sym (component_told bytes f p) ∙ component_told bytes g q)
 
-pub no_component : (c : ComponentParts) (whole rest : List ℕ) (f : ComponentFault) → SpellsComponent c whole → IsComponentFault (whole ++ rest) f → ⊥
+pub no_component : (c : ComponentParts) (whole rest : List ℕ) (f : FaultParts) → SpellsComponent c whole → IsComponentFault (whole ++ rest) f → ⊥
 no_component c whole rest f p q = not_refused f (c, rest) (sym (component_again c whole rest p) ∙ component_told (whole ++ rest) f q)
 
 module _ {X : Type 0} (view : X → ComponentParts × List ℕ) (bytes : List ℕ) where
-  pub found : (r : Result X ComponentFault) → Gives view r (component_at bytes) → IfOk r (λ x. (whole : List ℕ) × SpellsComponent (view x).0 whole × (bytes ≡ whole ++ (view x).1))
+  pub found : (r : Result X ComponentFault) → Reads view r (component_at bytes) → IfOk r (λ x. (whole : List ℕ) × SpellsComponent (view x).0 whole × (bytes ≡ whole ++ (view x).1))
   found (Ok x) e = component_takes bytes (view x) e
   found (Err f) e = tt
 
-  pub only : (r : Result X ComponentFault) → Gives view r (component_at bytes) → (c : ComponentParts) (whole rest : List ℕ) → SpellsComponent c whole → bytes ≡ whole ++ rest → IsOkAnd r (λ x. ((view x).0 ≡ c) × ((view x).1 ≡ rest))
+  pub only : (r : Result X ComponentFault) → Reads view r (component_at bytes) → (c : ComponentParts) (whole rest : List ℕ) → SpellsComponent c whole → bytes ≡ whole ++ rest → IsOkAnd r (λ x. ((view x).0 ≡ c) × ((view x).1 ≡ rest))
   only (Ok x) e c whole rest h is =
-      let same = read_is {E = ComponentFault} (view x) (c, rest) (sym e ∙ (ap component_at is ∙ component_again c whole rest h)) in
+      let same = read_is {E = FaultParts} (view x) (c, rest) (sym e ∙ (ap component_at is ∙ component_again c whole rest h)) in
       (ap (λ (r : ComponentParts × List ℕ). r.0) same, ap (λ (r : ComponentParts × List ℕ). r.1) same)
-  only (Err f) e c whole rest h is = absurd (not_read f (c, rest) (sym e ∙ (ap component_at is ∙ component_again c whole rest h)))
+  only (Err f) e c whole rest h is = absurd (not_read (fault_parts f) (c, rest) (sym e ∙ (ap component_at is ∙ component_again c whole rest h)))
 
-  pub fault_is : (r : Result X ComponentFault) → Gives view r (component_at bytes) → IfErr r (λ f. IsComponentFault bytes f)
+  pub fault_is : (r : Result X ComponentFault) → Reads view r (component_at bytes) → IfErr r (λ f. IsComponentFault bytes (fault_parts f))
   fault_is (Ok x) e = tt
-  fault_is (Err f) e = component_fails bytes f e
+  fault_is (Err f) e = component_fails bytes (fault_parts f) e

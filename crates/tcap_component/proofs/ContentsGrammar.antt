@@ -1,20 +1,20 @@
 -- The contents of a component: what is read stands there, and what stands there is read.
-use Rattle.std.proofs.Common.{◌≡◌, ℕ, ◌<◌, ◌≤◌, ℤ, pos, Bool, true, false, cond, ltb, eqb, List, [], ◌∷◌, ◌++◌, length, Option, Some, None, refl, sym, ap, subst, ◌∙◌, ◌⊎◌, inl, inr, arith, eqb-true}
+use Rattle.std.proofs.Common.{◌≡◌, ℕ, ◌≤◌, ℤ, pos, cond, ltb, eqb, List, [], ◌∷◌, ◌++◌, Option, Some, None, refl, ap, subst, ◌∙◌, ◌⊎◌, inl, inr, eqb-true}
 use Rattle.std.specs.Option.{option_map}
 use Rattle.std.proofs.lemmas.Bool.{cases_Bool, le-ltb, ltb-false}
 use Rattle.ber_core.specs.Options.{◌>>=◌}
 use Rattle.ber_core.specs.Element.{Parts, IsElement, joined}
 use Rattle.ber_core.specs.ElementList.{IsList}
-use Rattle.ber_core.specs.Sequence.{Field, InOrder, SpellsSequence}
+use Rattle.ber_core.specs.Sequence.{InOrder, SpellsSequence}
 use Rattle.ber_core.specs.Sequence.Field.{must, may, any}
-use Rattle.ber_core.specs.SequenceReading.{tagged, content_at, first_whole, ending}
-use Rattle.ber_core.proofs.CallerLemmas.{Apart, some, some_is, bind_some, guard_some, ending-is, ending-again, must_takes, must_again, may_takes, may_again, end_takes, end_again}
+use Rattle.ber_core.specs.SequenceReading.{tagged, content_at, ending}
+use Rattle.ber_core.proofs.CallerLemmas.{some, some_is, bind_some, guard_some, ending-is, ending-again, must_takes, must_again, may_takes, may_again, end_takes, end_again}
 use Rattle.tcap_component.specs.declared.problem.Kind.{Kind}
 use Rattle.tcap_component.specs.declared.problem.Kind.TheVariants as kind
 use Rattle.tcap_component.specs.declared.component.Form.{Form}
 use Rattle.tcap_component.specs.declared.component.Form.TheVariants as form
 use Rattle.tcap_component.specs.Problem.{ProblemParts, IsProblem, problem_tag}
-use Rattle.tcap_component.specs.Component.{BodyParts, ComponentParts, component_tag, identifier, code_field, rejected_field, body_fields, fields, body_of, HoldsBody, IsIdentifier, IsBody, InRange}
+use Rattle.tcap_component.specs.Component.{BodyParts, ComponentParts, component_tag, identifier, code_field, body_fields, fields, body_of, HoldsBody, IsIdentifier, IsBody, InRange}
 use Rattle.tcap_component.specs.Component.CodeParts.{local}
 use Rattle.tcap_component.specs.Component.ComponentParts.{invoke, result_last, error_back, reject_back, result_more}
 use Rattle.tcap_component.specs.ComponentReading.{identifier_at, linked_at, body_at, body_in, answered, result_at, rejected_at, problem_kind, problem_code, problem_of, problem_at, invoke_at, result_last_at, error_at, reject_at, result_more_at, contents_at, form_at}

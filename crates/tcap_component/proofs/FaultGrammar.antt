@@ -1,22 +1,20 @@
 -- What a fault tells of an element: its structure and the identifier that it begins with.
-use Rattle.std.proofs.Common.{◌≡◌, ℕ, ℤ, Bool, true, false, cond, ltb, eqb, List, [], ◌∷◌, ◌++◌, length, Option, Some, None, Ok, Err, Result, refl, sym, ap, subst, ◌∙◌, ◌⊎◌, inl, inr, arith}
+use Rattle.std.proofs.Common.{◌≡◌, ℕ, ℤ, true, false, cond, List, [], ◌∷◌, ◌++◌, Option, Some, None, refl, sym, ap, ◌∙◌, inl, inr}
 use Rattle.std.specs.Prelude.{is_ok}
 use Rattle.std.specs.List.{list_all}
 use Rattle.std.proofs.lemmas.Bool.{cases_Bool}
-use Rattle.ber_core.specs.declared.fault.BerFault.{BerFault}
 use Rattle.ber_core.specs.Tag.{is_constructor}
 use Rattle.ber_core.specs.Element.{Parts, IsElement, joined}
 use Rattle.ber_core.specs.ElementList.{IsList}
 use Rattle.ber_core.specs.ElementReading.{element_at}
 use Rattle.ber_core.specs.HeadReading.{head_at, tag_at}
 use Rattle.ber_core.specs.ListReading.{items_of}
-use Rattle.ber_core.specs.SequenceReading.{is_tag, tagged, content_at, first_whole}
+use Rattle.ber_core.specs.SequenceReading.{is_tag, tagged, first_whole}
 use Rattle.ber_core.proofs.CallerLemmas.{some, some_is, not_some, by_option, by_result, test_some, is_tag-one, is_tag-is, element_takes, element_again, list_takes, list_again}
 use Rattle.tcap_component.specs.declared.component.Form.{Form}
 use Rattle.tcap_component.specs.declared.component.Form.TheVariants as form
-use Rattle.tcap_component.specs.Component.{identifier}
-use Rattle.tcap_component.specs.ComponentFault.{BeginsWithIdentifier, TellsIdentifier, HasComponentTag, IsResultTag, IsListed, SecondIsListed, IsStructured}
-use Rattle.tcap_component.specs.ComponentReading.{identifier_of, identifier_if_any, front_identifier, form_at, is_result, listed_if_any, second_is_listed, is_structured}
+use Rattle.tcap_component.specs.ComponentFault.{BeginsWithIdentifier, TellsIdentifier, IsResultTag, IsListed, SecondIsListed, IsStructured}
+use Rattle.tcap_component.specs.ComponentReading.{front_identifier, form_at, is_result, listed_if_any, second_is_listed, is_structured}
 use Rattle.tcap_component.proofs.PartGrammar.{identifier_takes, identifier_again}
 use Rattle.tcap_component.proofs.ContentsGrammar.{form_tag, form_takes}
 

@@ -1,3 +1,4 @@
+pub mod CallerLemmas
 pub mod ContentsGrammar
 pub mod FaultGrammar
 pub mod ComponentGrammar

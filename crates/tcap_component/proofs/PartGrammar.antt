@@ -1,16 +1,14 @@
 -- The parts of a component: what is read stands there, and what stands there is read.
-use Rattle.std.proofs.Common.{◌≡◌, ℕ, ◌<◌, ◌≤◌, ℤ, Bool, true, false, ltb, eqb, List, [], ◌∷◌, ◌++◌, length, Option, Some, None, refl, sym, ap, subst, ◌∙◌, inl, inr, arith, eqb-true}
+use Rattle.std.proofs.Common.{◌≡◌, ℕ, ℤ, ltb, eqb, List, [], ◌∷◌, length, Option, Some, None, refl, sym, ap, subst, ◌∙◌, arith, eqb-true}
 use Rattle.std.specs.Option.{option_map}
-use Rattle.std.proofs.lemmas.Bool.{cases_Bool, lt-ltb, le-ltb, ltb-true, ltb-false}
+use Rattle.std.proofs.lemmas.Bool.{lt-ltb, ltb-true}
 use Rattle.ber_core.specs.Options.{◌>>=◌}
 use Rattle.ber_core.specs.Integer.{signed_octet, octet_of, integer_at, integer_octets}
-use Rattle.ber_core.specs.ObjectIdentifier.{IsObjectIdentifier, is_object_identifier}
+use Rattle.ber_core.specs.ObjectIdentifier.{is_object_identifier}
 use Rattle.ber_core.specs.Sequence.{Field, SpellsSequence}
 use Rattle.ber_core.specs.Sequence.Field.{must, may, any}
 use Rattle.ber_core.specs.SequenceReading.{tagged, content_at, first_whole, ending}
-use Rattle.ber_core.proofs.CallerLemmas.{Apart, some, some_is, bind_some, test_some, ending-is, ending-again, content_at-is, must_takes, must_again, may_takes, may_again, any_takes, any_again, end_takes, end_again, other_first, integer_takes, integer_again, integer-octets, integer_spelled, integer-fits, octet_of-signed_octet, signed_octet-octet_of, octet_of-below, signed_octet-fits, object_identifier_takes, object_identifier_again}
-use Rattle.tcap_component.specs.declared.problem.Kind.{Kind}
-use Rattle.tcap_component.specs.declared.problem.Kind.TheVariants as kind
+use Rattle.ber_core.proofs.CallerLemmas.{Apart, some, some_is, bind_some, test_some, ending-is, ending-again, content_at-is, must_takes, must_again, may_takes, may_again, any_takes, any_again, end_takes, other_first, integer_takes, integer_again, integer-octets, integer_spelled, integer-fits, octet_of-signed_octet, signed_octet-octet_of, octet_of-below, signed_octet-fits, object_identifier_takes, object_identifier_again}
 use Rattle.tcap_component.specs.Component.{CodeParts, BodyParts, identifier, code_field, rejected_field, body_fields, IsIdentifier, IsIdentifierIfAny, IsCode}
 use Rattle.tcap_component.specs.Component.CodeParts.{local, global}
 use Rattle.tcap_component.specs.ComponentReading.{with_rest, identifier_of, identifier_at, some_identifier, linked_from, linked_at, global_from, code_from, code_at, coded, body_at, null_from, rejected_from, rejected_at}

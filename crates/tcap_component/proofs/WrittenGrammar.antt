@@ -1,17 +1,12 @@
 -- Why a component can't be written, and that what is written is the component.
-use Rattle.std.proofs.Common.{◌≡◌, ◌≢◌, ℕ, ◌<◌, ◌≤◌, ℤ, Bool, true, false, ltb, eqb, bit_and, List, [], ◌∷◌, ◌++◌, length, Option, Some, None, Ok, Err, Result, refl, sym, ap, subst, ◌∙◌, inl, inr, arith}
-use Rattle.std.specs.Prelude.{IsNone, IfSome, is_some, ◌↔◌}
+use Rattle.std.proofs.Common.{◌≡◌, ℕ, Bool, true, false, ltb, List, length, Option, Some, None, refl, sym, subst, ◌∙◌, inl, inr}
 use Rattle.std.proofs.lemmas.Bool.{cases_Bool, lt-ltb, le-ltb, ltb-true, ltb-false}
-use Rattle.ber_core.specs.Element.{Parts, IsElement}
-use Rattle.ber_core.specs.ObjectIdentifier.{IsObjectIdentifier, is_object_identifier}
 use Rattle.ber_core.specs.SequenceReading.{alone_at}
-use Rattle.ber_core.specs.Written.{written, written_fields, IsShort, CanWrite, CanWriteAll}
 use Rattle.ber_core.proofs.CallerLemmas.{some, some_is, by_option, alone_takes, alone_again, object_identifier_takes, object_identifier_again}
 use Rattle.tcap_component.specs.declared.fault.WriteFault.{WriteFault}
-use Rattle.tcap_component.specs.declared.fault.WriteFault.TheVariants.{BadParameter, BadOid, TooLong}
 use Rattle.tcap_component.specs.Component.{CodeParts, BodyParts, ComponentParts}
 use Rattle.tcap_component.specs.Component.CodeParts.{local, global}
-use Rattle.tcap_component.specs.Written.{written_component, coded_part, CanCode, CanHold, HasCode, HasParameter, CanWriteComponent, IsWriteFault, can_code, can_hold, has_code, has_parameter, write_fault, length_if_any}
+use Rattle.tcap_component.specs.Written.{written_component, coded_part, CanCode, CanHold, HasCode, HasParameter, CanWriteComponent, IsWriteFault, can_code, can_hold, has_code, has_parameter, write_fault}
 use Rattle.tcap_component.specs.Written.IsWriteFault.{bad_oid, bad_parameter, too_long}
 
 -- ---- the tests

@@ -1,15 +1,9 @@
 -- What is written spells the component.
-use Rattle.std.proofs.Common.{◌≡◌, ◌≢◌, ℕ, ◌+◌, ◌<◌, ◌≤◌, ℤ, pos, negsuc, Bool, true, false, eqb, ltb, bit_and, List, [], ◌∷◌, ◌++◌, length, map, Option, Some, None, Ok, Result, refl, sym, ap, subst, ◌∙◌, inl, inr, arith, append-nil, length-append}
+use Rattle.std.proofs.Common.{◌≡◌, ◌≢◌, ℕ, ◌≤◌, ℤ, false, eqb, bit_and, List, [], ◌∷◌, ◌++◌, length, Option, Some, None, Ok, refl, sym, ap, ◌∙◌, arith, append-nil, length-append}
 use Rattle.std.specs.Option.{option_map}
-use Rattle.std.proofs.lemmas.Bool.{cases_Bool}
-use Rattle.ber_core.specs.Element.{Parts, IsElement}
-use Rattle.ber_core.specs.Integer.{integer_octets, IsInteger}
-use Rattle.ber_core.specs.ObjectIdentifier.{IsObjectIdentifier}
-use Rattle.ber_core.specs.Sequence.{Field, SpellsSequence}
 use Rattle.ber_core.specs.Sequence.Field.{must, may, any}
-use Rattle.ber_core.specs.Written.{written, written_field, written_fields, IsShort, CanWrite, CanWriteAll, written_parts}
+use Rattle.ber_core.specs.Written.{written, written_fields, CanWrite, CanWriteAll, written_parts}
 use Rattle.ber_core.proofs.CallerLemmas.{part_is, fields_spelled, integer_spelled}
-use Rattle.tcap_component.specs.declared.fault.ComponentFault.{ComponentFault}
 use Rattle.tcap_component.specs.declared.problem.Kind.{Kind}
 use Rattle.tcap_component.specs.declared.problem.Kind.TheVariants as kind
 use Rattle.tcap_component.specs.Problem.{problem_tag}
@@ -17,7 +11,7 @@ use Rattle.tcap_component.specs.Component.{CodeParts, BodyParts, ComponentParts,
 use Rattle.tcap_component.specs.Component.CodeParts.{local, global}
 use Rattle.tcap_component.specs.Component.ComponentParts.{invoke, result_last, error_back, reject_back, result_more}
 use Rattle.tcap_component.specs.ComponentReading.{component_at}
-use Rattle.tcap_component.specs.Written.{written_body, written_contents, written_component, coded_part, CanHold, HasParameter, CanWriteComponent}
+use Rattle.tcap_component.specs.Written.{written_body, written_contents, written_component, CanHold, HasParameter, CanWriteComponent}
 use Rattle.tcap_component.proofs.ComponentGrammar.{component_again}
 use Rattle.tcap_component.proofs.LengthGrammar.{written-length}
 

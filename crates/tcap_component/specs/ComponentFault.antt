@@ -4,8 +4,7 @@ use Rattle.ber_core.specs.Tag.{is_constructor}
 use Rattle.ber_core.specs.Element.{Parts, IsElement, depth_limit}
 use Rattle.ber_core.specs.ElementList.{IsList}
 use Rattle.ber_core.specs.Sequence.{Holds}
-use Rattle.tcap_component.specs.declared.fault.ComponentFault.{ComponentFault}
-use Rattle.tcap_component.specs.Problem.{general_problem}
+use Rattle.tcap_component.specs.Problem.{ProblemParts, general_problem}
 use Rattle.tcap_component.specs.Component.{ComponentParts, component_tag, identifier, IsIdentifier, IsComponent}
 
 -- Whether the first octet is the tag of a Reject (own).
@@ -13,9 +12,15 @@ abbrev pub is_reject : List ℕ → Bool
 is_reject [] = false
 is_reject (b ∷ bytes) = b == 0xa4
 
+-- A fault's problem, its identifier if it is known, and whether the octets begin as a Reject (own).
+pub record FaultParts : Type 0 where
+  pub problem : ProblemParts
+  pub id : Option ℤ
+  pub was_reject : Bool
+
 -- A fault: a general problem, the identifier if it is known, and whether the octets begin as a
 -- Reject (own).
-abbrev pub fault : ℕ → Option ℤ → List ℕ → ComponentFault
+abbrev pub fault : ℕ → Option ℤ → List ℕ → FaultParts
 fault code id bytes = record { problem = general_problem code; id = id; was_reject = is_reject bytes }
 
 -- The element is constructed, and the first element in it is whole and is 02 with this identifier
@@ -61,7 +66,7 @@ pub record IsStructured (e : Parts) : Type 0 where
 
 -- The fault of what stands first in the bytes; an earlier case goes first
 -- (Q.774, Component related abnormal conditions; the cases are own).
-pub data IsComponentFault : List ℕ → ComponentFault → Type 0 where
+pub data IsComponentFault : List ℕ → FaultParts → Type 0 where
   -- 1. Its element can't be read: badly structured component.
   unreadable : (bytes : List ℕ) → ((e : Parts) (rest : List ℕ) → IsElement depth_limit e → bytes ≡ e.whole ++ rest → ⊥) → IsComponentFault bytes (fault 2 None bytes)
   -- 2. Its tag isn't one of the five: unrecognized component.

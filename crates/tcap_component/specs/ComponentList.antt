@@ -1,8 +1,7 @@
 -- The contents of a component portion: components up to the first fault.
-use Rattle.std.specs.Prelude.{◌≡◌, ◌≢◌, ℕ, ◌≤◌, List, [], ◌∷◌, ◌++◌, length, map, Option, Some, None, Result, Ok, Err}
-use Rattle.tcap_component.specs.declared.fault.ComponentFault.{ComponentFault}
+use Rattle.std.specs.Prelude.{◌≡◌, ◌≢◌, ℕ, ◌≤◌, List, [], ◌∷◌, ◌++◌, length, Option, Some, None, Result, Ok, Err}
 use Rattle.tcap_component.specs.Component.{ComponentParts, SpellsComponent}
-use Rattle.tcap_component.specs.ComponentFault.{IsComponentFault}
+use Rattle.tcap_component.specs.ComponentFault.{FaultParts, IsComponentFault}
 
 -- The bytes are elements, one after the other, each spelling the next of these components
 -- (Q.773, Component portion).
@@ -11,13 +10,13 @@ SpellsComponents [] bytes = bytes ≡ []
 SpellsComponents (c ∷ cs) bytes = (whole : List ℕ) × (more : List ℕ) × SpellsComponent c whole × (bytes ≡ whole ++ more) × SpellsComponents cs more
 
 -- What follows the components: nothing, or what has this fault (own).
-abbrev pub EndsIn : Option ComponentFault → List ℕ → Type 0
+abbrev pub EndsIn : Option FaultParts → List ℕ → Type 0
 EndsIn None rest = rest ≡ []
 EndsIn (Some f) rest = (rest ≢ []) × IsComponentFault rest f
 
 -- The longest front of the content that is components is these; what follows it is nothing, or has
 -- this fault (own).
-pub record FirstFault (components : List ComponentParts) (fault : Option ComponentFault) (content : List ℕ) : Type 0 where
+pub record FirstFault (components : List ComponentParts) (fault : Option FaultParts) (content : List ℕ) : Type 0 where
   pub front : List ℕ
   pub rest : List ℕ
   pub is_content : content ≡ front ++ rest
@@ -26,7 +25,7 @@ pub record FirstFault (components : List ComponentParts) (fault : Option Compone
   pub ends : EndsIn fault rest
 
 -- The components, and then the fault, if there is one (own).
-abbrev pub items : List ComponentParts → Option ComponentFault → List (Result ComponentParts ComponentFault)
+abbrev pub items : List ComponentParts → Option FaultParts → List (Result ComponentParts FaultParts)
 items [] None = []
 items [] (Some f) = Err f ∷ []
 items (c ∷ cs) f = Ok c ∷ items cs f

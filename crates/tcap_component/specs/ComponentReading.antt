@@ -10,7 +10,6 @@ use Rattle.ber_core.specs.Integer.{signed_octet, integer_at}
 use Rattle.ber_core.specs.ListReading.{items_of}
 use Rattle.ber_core.specs.ObjectIdentifier.{is_object_identifier}
 use Rattle.ber_core.specs.SequenceReading.{tagged, content_at, first_whole, ending}
-use Rattle.tcap_component.specs.declared.fault.ComponentFault.{ComponentFault}
 use Rattle.tcap_component.specs.declared.problem.Kind.{Kind}
 use Rattle.tcap_component.specs.declared.problem.Kind.TheVariants as kind
 use Rattle.tcap_component.specs.declared.component.Form.{Form}
@@ -19,7 +18,7 @@ use Rattle.tcap_component.specs.Problem.{ProblemParts, problem_limit, problem_ta
 use Rattle.tcap_component.specs.Component.{CodeParts, BodyParts, ComponentParts}
 use Rattle.tcap_component.specs.Component.CodeParts.{local, global}
 use Rattle.tcap_component.specs.Component.ComponentParts.{invoke, result_last, error_back, reject_back, result_more}
-use Rattle.tcap_component.specs.ComponentFault.{fault}
+use Rattle.tcap_component.specs.ComponentFault.{FaultParts, fault}
 
 -- ---- the parts
 
@@ -204,32 +203,32 @@ unfoldable pub front_identifier : Parts → Option ℤ
 front_identifier e = if is_constructor e.tag then identifier_if_any (tagged 0x02 e.content).0 else None
 
 -- The component that was read and what follows it, or the fault (own).
-abbrev pub judged : List ℕ → Parts × List ℕ → Result ComponentParts ℕ → Result (ComponentParts × List ℕ) ComponentFault
+abbrev pub judged : List ℕ → Parts × List ℕ → Result ComponentParts ℕ → Result (ComponentParts × List ℕ) FaultParts
 judged bytes r (Ok c) = Ok (with_rest c r.1)
 judged bytes r (Err code) = Err (fault code (front_identifier r.0) bytes)
 
 -- The same, from the element that was read (own).
-abbrev pub component_from : List ℕ → Result (Parts × List ℕ) BerFault → Result (ComponentParts × List ℕ) ComponentFault
+abbrev pub component_from : List ℕ → Result (Parts × List ℕ) BerFault → Result (ComponentParts × List ℕ) FaultParts
 component_from bytes (Err f) = Err (fault 2 None bytes)
 component_from bytes (Ok r) = judged bytes r (verdict_by (form_at r.0.tag) r.0.content)
 
 -- The first component and what follows it, or its fault (Q.773, Component portion).
-unfoldable pub component_at : List ℕ → Result (ComponentParts × List ℕ) ComponentFault
+unfoldable pub component_at : List ℕ → Result (ComponentParts × List ℕ) FaultParts
 component_at bytes = component_from bytes (element_at depth_limit bytes)
 
 -- ---- the list
 
 -- The component that was read and those that follow it, or the fault and nothing more (own).
-abbrev pub components_from : (List ℕ → List (Result ComponentParts ComponentFault)) → Result (ComponentParts × List ℕ) ComponentFault → List (Result ComponentParts ComponentFault)
+abbrev pub components_from : (List ℕ → List (Result ComponentParts FaultParts)) → Result (ComponentParts × List ℕ) FaultParts → List (Result ComponentParts FaultParts)
 components_from others (Ok r) = Ok r.0 ∷ others r.1
 components_from others (Err f) = Err f ∷ []
 
 -- The components up to the first fault, and that fault; at most n of them (own).
-unfoldable pub components_by : ℕ → List ℕ → List (Result ComponentParts ComponentFault)
+unfoldable pub components_by : ℕ → List ℕ → List (Result ComponentParts FaultParts)
 components_by n [] = []
 components_by zero (b ∷ bytes) = []
 components_by (suc n) (b ∷ bytes) = components_from (components_by n) (component_at (b ∷ bytes))
 
 -- The components up to the first fault, and that fault (Q.773, Component portion).
-abbrev pub components_of : List ℕ → List (Result ComponentParts ComponentFault)
+abbrev pub components_of : List ℕ → List (Result ComponentParts FaultParts)
 components_of content = components_by (length content) content

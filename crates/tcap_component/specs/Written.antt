@@ -1,5 +1,5 @@
 -- The one spelling of a component in the canonical form, and why there is none.
-use Rattle.std.specs.Prelude.{◌≡◌, ℕ, ◌<◌, ◌≤◌, List, [], ◌∷◌, length, Bool, true, false, Option, Some, None, is_some, nat_lt, if◌then◌else◌}
+use Rattle.std.specs.Prelude.{◌≡◌, ℕ, ◌<◌, ◌≤◌, List, [], ◌∷◌, length, Bool, true, Option, Some, None, is_some, nat_lt, if◌then◌else◌}
 use Rattle.ber_core.specs.Element.{Parts, IsElement, depth_limit}
 use Rattle.ber_core.specs.Length.{length_limit}
 use Rattle.ber_core.specs.ObjectIdentifier.{IsObjectIdentifier, is_object_identifier}

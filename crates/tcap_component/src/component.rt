@@ -1,3 +1,5 @@
+pub mod length;
+pub mod parts;
 pub mod read;
 pub mod write;
 

@@ -14,7 +14,7 @@ pub struct Components<'a> {
 }
 
 impl<'a> Components<'a> {
-    ghost use Rattle.tcap_component.specs.declared.fault.ComponentFault.{ComponentFault};
+    ghost use Rattle.tcap_component.specs.ComponentFault.{FaultParts};
     ghost use Rattle.tcap_component.specs.ComponentList.{FirstFault, items};
     ghost use Rattle.tcap_component.specs.ComponentReading.{components_of};
     ghost use Rattle.tcap_component.specs.Views.{components_left};
@@ -23,9 +23,9 @@ impl<'a> Components<'a> {
     /// then that fault, and then ends.
     pub fn new(content: &'a [u8]) -> Components<'a>
         // The components before the first fault, and then that fault.
-        ensures first_fault { (cs : List ComponentParts) (f : Option ComponentFault) → FirstFault cs f content.now → components_left result ≡ items cs f }
+        ensures first_fault { (cs : List ComponentParts) (f : Option FaultParts) → FirstFault cs f content.now → components_left result ≡ items cs f }
         // There are such components and such a fault, or none.
-        ensures is { (cs : List ComponentParts) × (f : Option ComponentFault) × FirstFault cs f content.now × (components_left result ≡ items cs f) }
+        ensures is { (cs : List ComponentParts) × (f : Option FaultParts) × FirstFault cs f content.now × (components_left result ≡ items cs f) }
         // The same, computed.
         ensures exact { components_left result ≡ components_of content.now }
     {

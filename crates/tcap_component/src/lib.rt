@@ -11,8 +11,9 @@ pub mod laws;
 mod problem;
 mod tag;
 
+pub use component::length::component_len;
 pub use component::read::read_component;
-pub use component::write::{component_len, write_component};
+pub use component::write::write_component;
 pub use component::{Body, Code, Component};
 pub use components::Components;
 pub use fault::{ComponentFault, WriteFault};

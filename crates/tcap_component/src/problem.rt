@@ -1,4 +1,5 @@
-use std::marker::Model;
+ghost use Rattle.std.specs.Prelude.{◌≤◌};
+ghost use Rattle.tcap_component.specs.Problem.{problem_limit};
 
 /// What a Reject speaks of (Q.773, Problem).
 #[derive(Clone, Copy, Debug, PartialEq, Eq)]
@@ -75,29 +76,18 @@ const MAX_PROBLEM: u8 = 0x7f;
 pub struct Problem {
     kind: Kind,
     code: u8,
-}
-
-impl Model for Problem {
-    ghost use Rattle.std.specs.Prelude.{◌≤◌};
-    ghost use Rattle.tcap_component.specs.Problem.{ProblemParts};
-
-    ghost Value = { ProblemParts };
-
-    ghost view = { λ p. record { kind = p.kind; code = p.code } };
-
-    ghost invariant = { λ p. p.code ≤ 127 };
-
-    ghost inverse = { λ v. record { kind = v.kind; code = v.code } };
+    ghost in_range: { code ≤ problem_limit },
 }
 
 impl Problem {
-    ghost use Rattle.std.specs.Prelude.{◌≡◌, ◌≤◌, ◌↔◌, IsSome, IsTrue, IfSome};
-    ghost use Rattle.tcap_component.specs.Problem.{IsProblem, problem_limit, general_problem, is_by_provider};
+    ghost use Rattle.std.specs.Prelude.{◌≡◌, ◌↔◌, IsSome, IfSome};
+    ghost use Rattle.tcap_component.specs.Views.{problem_parts};
+    ghost use Rattle.tcap_component.specs.Problem.{IsProblem, general_problem, is_by_provider};
 
     /// The problem with this code, if it is at most 127; those without a name are kept as numbers.
     pub fn new(kind: Kind, code: u8) -> Option<Problem>
         ensures is { IsSome result ↔ (code ≤ problem_limit) }
-        ensures value { IfSome result (λ p. p ≡ record { kind = kind; code = code }) }
+        ensures value { IfSome result (λ p. problem_parts p ≡ record { kind = kind; code = code }) }
     {
         if code > MAX_PROBLEM {
             return None;
@@ -108,7 +98,7 @@ impl Problem {
     /// A general problem.
     pub(crate) fn general(code: u8) -> Problem
         requires { code ≤ problem_limit }
-        ensures { result ≡ general_problem code }
+        ensures { problem_parts result ≡ general_problem code }
     {
         Problem {
             kind: Kind::General,
@@ -118,15 +108,15 @@ impl Problem {
 
     /// Its kind.
     pub fn kind(self) -> Kind
-        ensures { result ≡ self.kind }
+        ensures { result ≡ (problem_parts self).kind }
     {
         self.kind
     }
 
     /// Its code, 0 to 127.
     pub fn code(self) -> u8
-        ensures value { result ≡ self.code }
-        ensures within { IsProblem self }
+        ensures value { result ≡ (problem_parts self).code }
+        ensures within { IsProblem (problem_parts self) }
     {
         self.code
     }
@@ -134,7 +124,7 @@ impl Problem {
     /// Whether it is one that the component sublayer tells, and not the user: general 0 to 2, invoke 5,
     /// return result 0 and 1, return error 0 and 1 (our own).
     pub fn by_provider(self) -> bool
-        ensures { result ≡ is_by_provider self }
+        ensures { result ≡ is_by_provider (problem_parts self) }
     {
         match self.kind {
             Kind::General => self.code <= general_problem::BADLY_STRUCTURED_COMPONENT,

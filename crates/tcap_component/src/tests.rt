@@ -52,6 +52,19 @@ fn reject_of(octets: &[u8]) -> Option<(Option<i8>, Kind, u8)> {
     }
 }
 
+/// How many components are given, and the fault after them.
+fn listed(content: &[u8]) -> (usize, Option<ComponentFault>) {
+    let mut count: usize = 0;
+    let mut last = None;
+    for item in Components::new(content) {
+        match item {
+            Ok(_) => count = count.saturating_add(1),
+            Err(fault) => last = Some(fault),
+        }
+    }
+    (count, last)
+}
+
 #[test]
 fn problems(rt: HostRuntime) -> Result<(), Fail> {
     assert!(rt; Problem::new(Kind::General, 128).is_none());
@@ -188,20 +201,9 @@ fn components_end_at_a_fault(rt: HostRuntime) -> Result<(), Fail> {
         0xa2, 0x03, 0x02, 0x01, 0x80, 0xa5, 0x03, 0x02, 0x01, 0x07, 0xa2, 0x03, 0x02, 0x01, 0x7f,
         0xa3, 0x06, 0x02, 0x01, 0x7f, 0x02, 0x01, 0x01,
     ];
-    let mut components = Components::new(&content);
-    let first = components.next();
-    assert!(rt;
-        matches!(
-            first,
-            Some(Ok(Component::ResultLast {
-                id: -128,
-                body: None
-            }))
-        )
-    );
-    let second = components.next();
-    assert!(rt; matches!(second, Some(Err(fault)) if Some(fault) == general(0, Some(7))));
-    assert!(rt; components.next().is_none());
+    let (count, fault) = listed(&content);
+    assert_eq!(rt; count, 1);
+    assert_eq!(rt; fault, general(0, Some(7)));
     Ok(())
 }
 

@@ -1,166 +1,27 @@
-//! Components read, each by its line of the table in Q.773.
+//! Components read, each by its line of the table in Q.773, and the faults.
 
-ghost use Rattle.std.specs.Prelude.{◌≡◌, ℕ, List, ◌++◌, option_copied, IfOk, IfErr, IsOkAnd};
+ghost use Rattle.std.specs.Prelude.{◌≡◌, ℕ, List, ◌++◌, IfOk, IfErr, IsOkAnd};
 ghost use Rattle.std.specs.Option.{option_map};
 ghost use Rattle.ber_core.specs.Results.{Gives};
 ghost use Rattle.ber_core.specs.Tag.{is_constructor};
 ghost use Rattle.ber_core.specs.Views.{parts};
-ghost use Rattle.tcap_component.specs.Problem.{IsProblem, general_problem, problem_tag};
+ghost use Rattle.tcap_component.specs.Problem.{IsProblem, general_problem};
 ghost use Rattle.tcap_component.specs.Component.{ComponentParts, SpellsComponent};
 ghost use Rattle.tcap_component.specs.ComponentFault.{fault, IsComponentFault};
-ghost use Rattle.tcap_component.specs.ComponentReading.{identifier_of, identifier_at, linked_at, code_at, body_at, result_at, rejected_at, problem_kind, problem_code, problem_at, invoke_at, result_last_at, error_at, reject_at, result_more_at, contents_at, form_at, is_result, second_is_listed, is_structured, verdict_by, front_identifier, component_at};
-ghost use Rattle.tcap_component.specs.Views.{code_parts, body_parts, component_parts};
+ghost use Rattle.tcap_component.specs.ComponentReading.{invoke_at, result_last_at, error_at, reject_at, result_more_at, contents_at, form_at, second_is_listed, is_structured, verdict_by, front_identifier, component_at};
+ghost use Rattle.tcap_component.specs.Views.{Reads, fault_parts, component_parts};
 
-use crate::component::{Body, Code, Component, Form};
+use crate::component::parts::{
+    identifier, read_body, read_problem, read_result, take_identifier, take_linked, take_rejected,
+};
+use crate::component::{Body, Component, Form};
 use crate::fault::ComponentFault;
+use crate::problem::Problem;
 use crate::problem::general_problem::{
     BADLY_STRUCTURED_COMPONENT, MISTYPED_COMPONENT, UNRECOGNIZED_COMPONENT,
 };
-use crate::problem::{Kind, Problem};
 use crate::tag;
-use ber_core::{
-    Element, is_element_list, is_oid, read_element, read_int, take_any, take_content, take_tagged,
-};
-
-/// The identifier that one octet is.
-#[tactic(auto, unfolding(crate::specs::ComponentReading::identifier_of))]
-fn identifier(content: &[u8]) -> Option<i8>
-    ensures { result ≡ identifier_of content.now }
-{
-    match content {
-        [octet] => Some(octet.cast_signed()),
-        _ => None,
-    }
-}
-
-/// 02 identifier, and what follows it.
-#[tactic(auto, unfolding(crate::specs::ComponentReading::identifier_at))]
-fn take_identifier(bytes: &[u8]) -> Option<(i8, &[u8])>
-    ensures { option_map (λ r. (r.0, r.1.now)) result ≡ identifier_at bytes.now }
-{
-    let (content, rest) = take_content(bytes, tag::INTEGER)?;
-    let id = identifier(content)?;
-    Some((id, rest))
-}
-
-/// [80 linked identifier], and what follows it.
-#[tactic(auto, unfolding(crate::specs::ComponentReading::linked_at))]
-fn take_linked(bytes: &[u8]) -> Option<(Option<i8>, &[u8])>
-    ensures { option_map (λ r. (r.0, r.1.now)) result ≡ linked_at bytes.now }
-{
-    match take_tagged(bytes, tag::LINKED_ID) {
-        (None, rest) => Some((None, rest)),
-        (Some(content), rest) => {
-            let id = identifier(content)?;
-            Some((Some(id), rest))
-        }
-    }
-}
-
-/// A code: 02 integer or 06 object identifier, and what follows it.
-#[tactic(auto, unfolding(crate::specs::ComponentReading::code_at))]
-fn take_code<'a>(bytes: &'a [u8]) -> Option<(Code<'a>, &'a [u8])>
-    ensures { option_map (λ r. (code_parts r.0, r.1.now)) result ≡ code_at bytes.now }
-{
-    if let (Some(content), rest) = take_tagged(bytes, tag::INTEGER) {
-        let number = read_int(content)?;
-        return Some((Code::Local(number), rest));
-    }
-    let (octets, rest) = take_content(bytes, tag::OBJECT_IDENTIFIER)?;
-    if !is_oid(octets) {
-        return None;
-    }
-    Some((Code::Global(octets), rest))
-}
-
-/// Code, [parameter].
-#[tactic(auto, unfolding(crate::specs::ComponentReading::body_at))]
-fn read_body<'a>(bytes: &'a [u8]) -> Option<Body<'a>>
-    ensures { option_map body_parts result ≡ body_at bytes.now }
-{
-    let (code, rest) = take_code(bytes)?;
-    let (parameter, rest) = take_any(rest);
-    if !rest.is_empty() {
-        return None;
-    }
-    Some(Body { code, parameter })
-}
-
-/// A result: 02 identifier, [30 { code, [parameter] }].
-#[tactic(auto, unfolding(crate::specs::ComponentReading::result_at))]
-fn read_result<'a>(bytes: &'a [u8]) -> Option<(i8, Option<Body<'a>>)>
-    ensures { option_map (λ r. (r.0, option_map body_parts r.1)) result ≡ result_at bytes.now }
-{
-    let (id, rest) = take_identifier(bytes)?;
-    let (inner, rest) = take_tagged(rest, tag::SEQUENCE);
-    let body = match inner {
-        Some(inner) => Some(read_body(inner)?),
-        None => None,
-    };
-    if !rest.is_empty() {
-        return None;
-    }
-    Some((id, body))
-}
-
-/// 02 identifier or 05 with nothing, and what follows it.
-#[tactic(auto, unfolding(crate::specs::ComponentReading::rejected_at))]
-fn take_rejected(bytes: &[u8]) -> Option<(Option<i8>, &[u8])>
-    ensures { option_map (λ r. (r.0, r.1.now)) result ≡ rejected_at bytes.now }
-{
-    if let (Some(content), rest) = take_tagged(bytes, tag::INTEGER) {
-        let id = identifier(content)?;
-        return Some((Some(id), rest));
-    }
-    let (content, rest) = take_content(bytes, tag::NULL)?;
-    if !content.is_empty() {
-        return None;
-    }
-    Some((None, rest))
-}
-
-/// The kind of problem that the first octet is the tag of.
-#[tactic(auto, unfolding(crate::specs::ComponentReading::problem_kind))]
-fn kind_of(bytes: &[u8]) -> Option<Kind>
-    ensures { result ≡ problem_kind bytes.now }
-{
-    match bytes {
-        [tag::GENERAL_PROBLEM, ..] => Some(Kind::General),
-        [tag::INVOKE_PROBLEM, ..] => Some(Kind::Invoke),
-        [tag::RETURN_RESULT_PROBLEM, ..] => Some(Kind::Result),
-        [tag::RETURN_ERROR_PROBLEM, ..] => Some(Kind::Error),
-        _ => None,
-    }
-}
-
-/// The tag of a problem of this kind.
-pub fn tag_of(kind: Kind) -> u8
-    ensures { result ≡ problem_tag kind }
-{
-    match kind {
-        Kind::General => tag::GENERAL_PROBLEM,
-        Kind::Invoke => tag::INVOKE_PROBLEM,
-        Kind::Result => tag::RETURN_RESULT_PROBLEM,
-        Kind::Error => tag::RETURN_ERROR_PROBLEM,
-    }
-}
-
-/// 80, 81, 82 or 83 with a problem's code, 00 to 7F.
-#[tactic(auto, unfolding(crate::specs::ComponentReading::problem_at, crate::specs::ComponentReading::problem_code))]
-fn read_problem(bytes: &[u8]) -> Option<Problem>
-    ensures { result ≡ problem_at bytes.now }
-{
-    let kind = kind_of(bytes)?;
-    let (content, rest) = take_content(bytes, tag_of(kind))?;
-    let [code] = content else {
-        return None;
-    };
-    let problem = Problem::new(kind, *code)?;
-    if !rest.is_empty() {
-        return None;
-    }
-    Some(problem)
-}
+use ber_core::{Element, is_element_list, read_element, take_any, take_tagged};
 
 /// Invoke: 02 identifier, [80 linked identifier], code, [parameter].
 #[tactic(auto, unfolding(crate::specs::ComponentReading::invoke_at))]
@@ -309,7 +170,7 @@ fn front_id(element: &Element<'_>) -> Option<i8>
 /// The fault of a component with these octets.
 fn general_fault(code: u8, id: Option<i8>, octets: &[u8]) -> ComponentFault
     requires { IsProblem (general_problem code) }
-    ensures { result ≡ fault code id octets.now }
+    ensures { fault_parts result ≡ fault code id octets.now }
 {
     ComponentFault {
         problem: Problem::general(code),
@@ -321,7 +182,7 @@ fn general_fault(code: u8, id: Option<i8>, octets: &[u8]) -> ComponentFault
 /// The first component and what follows it, in exact form.
 #[tactic(auto, unfolding(crate::specs::ComponentReading::component_at))]
 fn split_component<'a>(bytes: &'a [u8]) -> Result<(Component<'a>, &'a [u8]), ComponentFault>
-    ensures { Gives (λ r. (component_parts r.0, r.1.now)) result (component_at bytes.now) }
+    ensures { Reads (λ r. (component_parts r.0, r.1.now)) result (component_at bytes.now) }
 {
     let Ok((element, rest)) = read_element(bytes) else {
         return Err(general_fault(BADLY_STRUCTURED_COMPONENT, None, bytes));
@@ -342,9 +203,9 @@ pub fn read_component<'a>(bytes: &'a [u8]) -> Result<(Component<'a>, &'a [u8]), 
     ensures only { (c : ComponentParts) (whole rest : List ℕ) → SpellsComponent c whole → bytes.now ≡ whole ++ rest →
         IsOkAnd result (λ r. (component_parts r.0 ≡ c) × (r.1.now ≡ rest)) }
     // Which fault, the first case that holds.
-    ensures fault { IfErr result (λ f. IsComponentFault bytes.now f) }
+    ensures fault { IfErr result (λ f. IsComponentFault bytes.now (fault_parts f)) }
     // The same, computed: what the layers above cite.
-    ensures exact { Gives (λ r. (component_parts r.0, r.1.now)) result (component_at bytes.now) }
+    ensures exact { Reads (λ r. (component_parts r.0, r.1.now)) result (component_at bytes.now) }
 {
     split_component(bytes)
 }

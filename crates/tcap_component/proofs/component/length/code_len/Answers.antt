@@ -5,7 +5,7 @@ use Rattle.tcap_component.specs.Component.{code_field}
 use Rattle.tcap_component.specs.Views.{code_parts}
 use Rattle.tcap_component.specs.Written.{CanCode}
 use Rattle.tcap_component.proofs.LengthGrammar.{written-length, length_octets-length}
-use Rattle.tcap_component.proofs.component.write.code_len.Goals as goal
+use Rattle.tcap_component.proofs.component.length.code_len.Goals as goal
 
 pub returns-in-Global-clause-value : goal.returns-in-Global-clause-value
 returns-in-Global-clause-value c =

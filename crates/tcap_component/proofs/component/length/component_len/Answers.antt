@@ -1,7 +1,7 @@
 use Rattle.tcap_component.proofs.WrittenGrammar.{refused_by, can_by, not_refused_by}
 use Rattle.std.proofs.Common.{refl}
 use Rattle.tcap_component.specs.Views.{component_parts}
-use Rattle.tcap_component.proofs.component.write.component_len.Goals as goal
+use Rattle.tcap_component.proofs.component.length.component_len.Goals as goal
 
 pub whole_len-requires : goal.whole_len-requires
 whole_len-requires c = (can_by (component_parts c.args.component.now) c.due_fault.result c.due_fault.ensures c.in-None.is).has_code

@@ -1,0 +1,152 @@
+//! The parts of components, each by its line of the table in Q.773.
+
+ghost use Rattle.std.specs.Prelude.{◌≡◌, option_copied};
+ghost use Rattle.std.specs.Option.{option_map};
+ghost use Rattle.tcap_component.specs.Problem.{problem_tag};
+ghost use Rattle.tcap_component.specs.ComponentReading.{identifier_of, identifier_at, linked_at, code_at, body_at, result_at, rejected_at, problem_kind, problem_code, problem_at};
+ghost use Rattle.tcap_component.specs.Views.{code_parts, body_parts, problem_parts};
+
+use crate::component::{Body, Code};
+use crate::problem::{Kind, Problem};
+use crate::tag;
+use ber_core::{is_oid, read_int, take_any, take_content, take_tagged};
+
+/// The identifier that one octet is.
+#[tactic(auto, unfolding(crate::specs::ComponentReading::identifier_of))]
+pub fn identifier(content: &[u8]) -> Option<i8>
+    ensures { result ≡ identifier_of content.now }
+{
+    match content {
+        [octet] => Some(octet.cast_signed()),
+        _ => None,
+    }
+}
+
+/// 02 identifier, and what follows it.
+#[tactic(auto, unfolding(crate::specs::ComponentReading::identifier_at))]
+pub fn take_identifier(bytes: &[u8]) -> Option<(i8, &[u8])>
+    ensures { option_map (λ r. (r.0, r.1.now)) result ≡ identifier_at bytes.now }
+{
+    let (content, rest) = take_content(bytes, tag::INTEGER)?;
+    let id = identifier(content)?;
+    Some((id, rest))
+}
+
+/// [80 linked identifier], and what follows it.
+#[tactic(auto, unfolding(crate::specs::ComponentReading::linked_at))]
+pub fn take_linked(bytes: &[u8]) -> Option<(Option<i8>, &[u8])>
+    ensures { option_map (λ r. (r.0, r.1.now)) result ≡ linked_at bytes.now }
+{
+    match take_tagged(bytes, tag::LINKED_ID) {
+        (None, rest) => Some((None, rest)),
+        (Some(content), rest) => {
+            let id = identifier(content)?;
+            Some((Some(id), rest))
+        }
+    }
+}
+
+/// A code: 02 integer or 06 object identifier, and what follows it.
+#[tactic(auto, unfolding(crate::specs::ComponentReading::code_at))]
+fn take_code<'a>(bytes: &'a [u8]) -> Option<(Code<'a>, &'a [u8])>
+    ensures { option_map (λ r. (code_parts r.0, r.1.now)) result ≡ code_at bytes.now }
+{
+    if let (Some(content), rest) = take_tagged(bytes, tag::INTEGER) {
+        let number = read_int(content)?;
+        return Some((Code::Local(number), rest));
+    }
+    let (octets, rest) = take_content(bytes, tag::OBJECT_IDENTIFIER)?;
+    if !is_oid(octets) {
+        return None;
+    }
+    Some((Code::Global(octets), rest))
+}
+
+/// Code, [parameter].
+#[tactic(auto, unfolding(crate::specs::ComponentReading::body_at))]
+pub fn read_body<'a>(bytes: &'a [u8]) -> Option<Body<'a>>
+    ensures { option_map body_parts result ≡ body_at bytes.now }
+{
+    let (code, rest) = take_code(bytes)?;
+    let (parameter, rest) = take_any(rest);
+    if !rest.is_empty() {
+        return None;
+    }
+    Some(Body { code, parameter })
+}
+
+/// A result: 02 identifier, [30 { code, [parameter] }].
+#[tactic(auto, unfolding(crate::specs::ComponentReading::result_at))]
+pub fn read_result<'a>(bytes: &'a [u8]) -> Option<(i8, Option<Body<'a>>)>
+    ensures { option_map (λ r. (r.0, option_map body_parts r.1)) result ≡ result_at bytes.now }
+{
+    let (id, rest) = take_identifier(bytes)?;
+    let (inner, rest) = take_tagged(rest, tag::SEQUENCE);
+    let body = match inner {
+        Some(inner) => Some(read_body(inner)?),
+        None => None,
+    };
+    if !rest.is_empty() {
+        return None;
+    }
+    Some((id, body))
+}
+
+/// 02 identifier or 05 with nothing, and what follows it.
+#[tactic(auto, unfolding(crate::specs::ComponentReading::rejected_at))]
+pub fn take_rejected(bytes: &[u8]) -> Option<(Option<i8>, &[u8])>
+    ensures { option_map (λ r. (r.0, r.1.now)) result ≡ rejected_at bytes.now }
+{
+    if let (Some(content), rest) = take_tagged(bytes, tag::INTEGER) {
+        let id = identifier(content)?;
+        return Some((Some(id), rest));
+    }
+    let (content, rest) = take_content(bytes, tag::NULL)?;
+    if !content.is_empty() {
+        return None;
+    }
+    Some((None, rest))
+}
+
+/// The kind of problem that the first octet is the tag of.
+#[tactic(auto, unfolding(crate::specs::ComponentReading::problem_kind))]
+fn kind_of(bytes: &[u8]) -> Option<Kind>
+    ensures { result ≡ problem_kind bytes.now }
+{
+    match bytes {
+        [tag::GENERAL_PROBLEM, ..] => Some(Kind::General),
+        [tag::INVOKE_PROBLEM, ..] => Some(Kind::Invoke),
+        [tag::RETURN_RESULT_PROBLEM, ..] => Some(Kind::Result),
+        [tag::RETURN_ERROR_PROBLEM, ..] => Some(Kind::Error),
+        _ => None,
+    }
+}
+
+/// The tag of a problem of this kind.
+pub fn tag_of(kind: Kind) -> u8
+    ensures { result ≡ problem_tag kind }
+{
+    match kind {
+        Kind::General => tag::GENERAL_PROBLEM,
+        Kind::Invoke => tag::INVOKE_PROBLEM,
+        Kind::Result => tag::RETURN_RESULT_PROBLEM,
+        Kind::Error => tag::RETURN_ERROR_PROBLEM,
+    }
+}
+
+/// 80, 81, 82 or 83 with a problem's code, 00 to 7F.
+#[tactic(auto, unfolding(crate::specs::ComponentReading::problem_at, crate::specs::ComponentReading::problem_code))]
+pub fn read_problem(bytes: &[u8]) -> Option<Problem>
+    ensures { option_map problem_parts result ≡ problem_at bytes.now }
+{
+    let kind = kind_of(bytes)?;
+    let (content, rest) = take_content(bytes, tag_of(kind))?;
+    let [code] = content else {
+        return None;
+    };
+    let problem = Problem::new(kind, *code)?;
+    if !rest.is_empty() {
+        return None;
+    }
+    Some(problem)
+}
