@@ -1,3 +1,3 @@
 mod LapseLemmas
 mod ListLemmas
-mod OrderLemmas
+pub mod OrderLemmas

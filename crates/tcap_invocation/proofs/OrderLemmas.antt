@@ -1,7 +1,9 @@
 -- The rows stay in order through each change: the numbers rise, and the moments are within their bounds.
-use Rattle.std.proofs.Common.{◌≡◌, ℕ, ℤ, ◌<◌, ◌≤◌, Bool, true, false, cond, List, [], ◌∷◌, ◌++◌, filter, Option, Some, None, refl, ap, sym, arith, subst, ◌∙◌, unwrap_or, if◌then◌else◌}
+use Rattle.std.proofs.Common.{◌≡◌, ℕ, ℤ, ◌<◌, ◌≤◌, Bool, true, false, cond, List, [], ◌∷◌, ◌++◌, filter, Option, Some, None, refl, ap, sym, arith, subst, ◌∙◌, unwrap_or, nat_lt, tests, if◌then◌else◌}
 use Rattle.std.specs.Ordering.{int_eq}
-use Rattle.std.specs.Map.{lookup, remove_entry, set_value}
+use Rattle.std.specs.List.{AllPass, AllByRecursion}
+use Rattle.std.proofs.lemmas.List.Elements.{recursion_from_All}
+use Rattle.std.specs.Map.{values_of, lookup, remove_entry, set_value}
 use Rattle.std.specs.Map.Calls.{RetainsPairs}
 use Rattle.tcap_invocation.specs.declared.invocations.Invocation.{Invocation}
 use Rattle.tcap_invocation.specs.declared.stage.Stage.{Stage}
@@ -125,3 +127,13 @@ module _ {F : Type 0} (T : F → ℤ → Invocation → Bool → Invocation → 
       let rest = sent_rows-RetainsPairs es h.3 order.2 (subst (λ g. RetainsPairs T g es h.3) s.2 h.5) in
       let wrote = s.1 late order.0 in
       h.6 ∙ (λ j. cond (s.0 j) ((e.0, wrote j) ∷ rest j) (rest j))
+
+-- the numbers of the entries tell what the rows are below
+pub AllBelow-values : (number : ℕ) (rows : List Row) → AllPass (λ (e : Invocation). nat_lt e.number number) (values_of rows) → AllBelow number rows
+AllBelow-values number rows h = below rows (recursion_from_All (λ (e : Invocation). nat_lt e.number number ≡ true) (values_of rows) h)
+  where
+    below : (rows : List Row) → AllByRecursion (λ (e : Invocation). nat_lt e.number number ≡ true) (values_of rows) → AllBelow number rows
+    below [] h = tt
+    below (r ∷ rs) h = (let first = h.0 in grind (arith, tests, first), below rs h.1)
+
+pub ruleset below_rules = (AllBelow-values)

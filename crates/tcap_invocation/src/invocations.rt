@@ -1,4 +1,4 @@
-ghost use Rattle.std.specs.Prelude.{◌≡◌, ◌↔◌, ◌≤◌, [], is_some, IsSome, IfSome, IfNone, OnOk, OnErr, IsErrOf, IsOkUnless, true, Err};
+ghost use Rattle.std.specs.Prelude.{◌≡◌, ◌↔◌, ◌≤◌, [], is_some, IsSome, IfSome, IfNone, OnOk, OnErr, IsErrOf, IsOkUnless, IsTrue, true, Err};
 ghost use Rattle.tcap_invocation.specs.Invocations.{InvocationList, AllBelow, IsSound, entry_at, passing, sent_at, add_fault, added, after_sent, sent_entry};
 ghost use Rattle.tcap_invocation.specs.Stage.{moment_limit, IsTimeout, IsTimely, is_sent};
 
@@ -133,5 +133,24 @@ fn sent_at<A: Allocator + Copy>(entries: &Entries<A>, id: &i8) -> Option<Invocat
     match entry.stage {
         Stage::Sent(_) => Some(entry),
         Stage::Queued(_) | Stage::Waiting(_) => None,
+    }
+}
+
+/// Whether each number is below this one.
+#[cfg(test)]
+#[tactic(auto, using(crate::proofs::OrderLemmas::below_rules))]
+fn are_below<A: Allocator + Copy>(entries: &Entries<A>, number: u64) -> bool
+    ensures { IsTrue result → AllBelow number entries.now.entries }
+{
+    entries.values().all(|entry| entry.number < number)
+}
+
+#[cfg(test)]
+impl<A: Allocator + Copy> Invocations<A> {
+    /// Whether `number` is above all in the list, as `add` wants it.
+    pub(crate) fn is_above_all(&self, number: u64) -> bool
+        ensures { IsTrue result → AllBelow number self.now.rows }
+    {
+        are_below(&self.entries, number)
     }
 }

@@ -31,17 +31,15 @@ impl<A: Allocator + Copy> Invocations<A> {
         ensures value { result ≡ is_some (passing is_waiting (entry_at self.old.rows id)) }
         ensures list { self.new ≡ after_free_wait self.old id }
     {
-        match self.entries.get(&id).copied() {
-            Some(
-                Invocation {
-                    stage: Stage::Waiting(_),
-                    ..
-                },
-            ) => {
+        let Some(entry) = self.entries.get(&id).copied() else {
+            return false;
+        };
+        match entry.stage {
+            Stage::Waiting(_) => {
                 self.entries.shift_remove(&id);
                 true
             }
-            Some(_) | None => false,
+            Stage::Queued(_) | Stage::Sent(_) => false,
         }
     }
 
