@@ -1,0 +1,3 @@
+mod LapseLemmas
+mod ListLemmas
+pub mod OrderLemmas

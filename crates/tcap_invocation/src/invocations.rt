@@ -1,0 +1,156 @@
+ghost use Rattle.std.specs.Prelude.{◌≡◌, ◌↔◌, ◌≤◌, [], is_some, IsSome, IfSome, IfNone, OnOk, OnErr, IsErrOf, IsOkUnless, IsTrue, true, Err};
+ghost use Rattle.tcap_invocation.specs.Invocations.{InvocationList, AllBelow, IsSound, entry_at, passing, sent_at, add_fault, added, after_sent, sent_entry};
+ghost use Rattle.tcap_invocation.specs.Stage.{moment_limit, IsTimeout, IsTimely, is_sent};
+
+pub(crate) mod answers;
+pub(crate) mod closing;
+pub(crate) mod lapse;
+
+use crate::class::Class;
+use crate::fault::AddFault;
+use crate::stage::{MAX_MOMENT, Stage};
+use indexmap::IndexMap;
+use std::alloc::{Allocator, Global};
+use std::hash::{BuildHasherDefault, FoldHasher};
+use std::marker::Model;
+
+/// What is known of an invoke identifier that is in use.
+#[derive(Clone, Copy, Debug, PartialEq, Eq)]
+struct Invocation {
+    number: u64,
+    class: Class,
+    stage: Stage,
+}
+
+/// The invocations by their identifiers, in order of number.
+type Entries<A> = IndexMap<i8, Invocation, BuildHasherDefault<FoldHasher>, A>;
+
+/// The invocations of one dialogue (Q.774, Invocation state machine), by rising number.
+///
+/// - Requests of the TC-user and of the dialogue: `add`, `sent`, `give_up`, `free_wait`, `close_all`.
+/// - Answers that were received: `on_result`, `on_error`, `on_reject`.
+/// - Time: `lapse`, or one by one `due_count`, `first_due`, `lapse_one` and `free_due`.
+/// - Getters: `is_open`, `in_use`.
+///
+/// Moments and lengths of time are in milliseconds by the caller's clock. A contract sees the length of
+/// the wait and the rows, and forgets how much room the table has.
+#[derive(Debug, Drop)]
+pub struct Invocations<A: Allocator + Copy = Global> {
+    entries: Entries<A>,
+    reject_ms: u64,
+}
+
+impl<A: Allocator + Copy> Model for Invocations<A> {
+    ghost use Rattle.tcap_invocation.specs.Invocations.{InvocationList, IsSound};
+
+    ghost Value = { InvocationList };
+
+    ghost view = { λ v. record { reject_ms = v.reject_ms; rows = v.entries.entries } };
+
+    ghost invariant = { λ v. IsSound (record { reject_ms = v.reject_ms; rows = v.entries.entries }) };
+}
+
+impl<A: Allocator + Copy> Invocations<A> {
+    /// No invocation. `reject_ms` is how long an identifier waits for a Reject of its result or error,
+    /// 0 to 2^62 (Q.774, Reject timer; the length is our own).
+    pub fn new(alloc: A, reject_ms: u64) -> Self
+        requires { reject_ms ≤ moment_limit }
+        ensures { result ≡ record { reject_ms = reject_ms; rows = [] } }
+    {
+        Invocations {
+            entries: IndexMap::new(alloc),
+            reject_ms,
+        }
+    }
+
+    /// Whether an invocation with the identifier is Sent, so that a result or an error is for it.
+    pub fn is_open(&self, id: i8) -> bool
+        ensures { result ≡ is_some (sent_at self.now.rows id) }
+    {
+        sent_at(&self.entries, &id).is_some()
+    }
+
+    /// Whether the identifier is in use, in any stage.
+    pub fn in_use(&self, id: i8) -> bool
+        ensures value { result ≡ is_some (entry_at self.now.rows id) }
+        // What every list keeps.
+        ensures sound { IsSound self.now }
+    {
+        self.entries.contains_key(&id)
+    }
+
+    /// Takes an invocation in, Queued until the next message goes out. `number` is above all in the
+    /// list, `timeout` is 1 to 2^62 (TC-INVOKE request).
+    pub fn add(&mut self, id: i8, number: u64, class: Class, timeout: u64) -> Result<(), AddFault>
+        requires { AllBelow number self.old.rows }
+        ensures ok { OnOk result (self.new ≡ added self.old id number class timeout) }
+        ensures err { OnErr result (self.new ≡ self.old) }
+
+        // The refusal that is due comes, and where none is due only want of memory.
+        ensures due { IfSome (add_fault self.old.rows id timeout) (λ fault. result ≡ Err fault) }
+        ensures memory { IfNone (add_fault self.old.rows id timeout) (IsOkUnless result AddFault.OutOfMemory) }
+
+        // The same, refusal by refusal.
+        ensures bad_timeout { IsErrOf result AddFault.BadTimeout ↔ ¬ IsTimeout timeout }
+        ensures in_use { IsErrOf result AddFault.InUse ↔ (IsTimeout timeout × IsSome (entry_at self.old.rows id)) }
+    {
+        if timeout == 0 || timeout > MAX_MOMENT {
+            return Err(AddFault::BadTimeout);
+        }
+        if self.entries.contains_key(&id) {
+            return Err(AddFault::InUse);
+        }
+        let entry = Invocation {
+            number,
+            class,
+            stage: Stage::Queued(timeout),
+        };
+        self.entries.insert(id, entry)?;
+        Ok(())
+    }
+
+    /// The message with the queued Invokes goes out at this moment, at most 2^62: each gets its deadline.
+    pub fn sent(&mut self, clock: u64)
+        requires { clock ≤ moment_limit }
+        ensures { self.new ≡ after_sent self.old clock }
+    {
+        self.entries.retain(
+            |_id: &i8, entry: &mut Invocation| -> bool
+                ensures { (result ≡ true) × (clock ≤ moment_limit → IsTimely entry.old.stage → entry.new ≡ sent_entry clock entry.old) }
+            {
+                entry.stage = entry.stage.sent(clock);
+                true
+            },
+        );
+    }
+}
+
+/// The invocation that has the identifier, if it is Sent.
+fn sent_at<A: Allocator + Copy>(entries: &Entries<A>, id: &i8) -> Option<Invocation>
+    ensures { result ≡ sent_at entries.now.entries id.now }
+{
+    let entry = *entries.get(id)?;
+    match entry.stage {
+        Stage::Sent(_) => Some(entry),
+        Stage::Queued(_) | Stage::Waiting(_) => None,
+    }
+}
+
+/// Whether each number is below this one.
+#[cfg(test)]
+#[tactic(auto, using(crate::proofs::OrderLemmas::below_rules))]
+fn are_below<A: Allocator + Copy>(entries: &Entries<A>, number: u64) -> bool
+    ensures { IsTrue result → AllBelow number entries.now.entries }
+{
+    entries.values().all(|entry| entry.number < number)
+}
+
+#[cfg(test)]
+impl<A: Allocator + Copy> Invocations<A> {
+    /// Whether `number` is above all in the list, as `add` wants it.
+    pub(crate) fn is_above_all(&self, number: u64) -> bool
+        ensures { IsTrue result → AllBelow number self.now.rows }
+    {
+        are_below(&self.entries, number)
+    }
+}

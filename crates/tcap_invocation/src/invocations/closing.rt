@@ -1,0 +1,96 @@
+ghost use Rattle.std.specs.Prelude.{◌≡◌, ◌≢◌, ◌<◌, [], length, is_some, OnOk, OnErr, IfOk};
+ghost use Rattle.tcap_invocation.specs.Invocations.{entry_at, passing};
+ghost use Rattle.tcap_invocation.specs.Stage.{is_waiting};
+ghost use Rattle.tcap_invocation.specs.Closing.{given_up_at, after_give_up, after_free_wait, ended_of, ended_at, after_close};
+
+use super::{Entries, Invocation, Invocations};
+use crate::stage::Stage;
+use ber_core::OutOfMemory;
+use std::alloc::Allocator;
+
+impl<A: Allocator + Copy> Invocations<A> {
+    /// The TC-user gives up the Queued or Sent invocation with the identifier: its number
+    /// (TC-U-CANCEL request). The identifier is free at once.
+    pub fn give_up(&mut self, id: i8) -> Option<u64>
+        ensures number { result ≡ given_up_at self.old.rows id }
+        ensures list { self.new ≡ after_give_up self.old id }
+    {
+        let entry = *self.entries.get(&id)?;
+        match entry.stage {
+            Stage::Queued(_) | Stage::Sent(_) => {
+                self.entries.shift_remove(&id);
+                Some(entry.number)
+            }
+            Stage::Waiting(_) => None,
+        }
+    }
+
+    /// The TC-user rejects the result or error of the identifier, which ends its wait: whether it waited
+    /// (TC-U-REJECT request).
+    pub fn free_wait(&mut self, id: i8) -> bool
+        ensures value { result ≡ is_some (passing is_waiting (entry_at self.old.rows id)) }
+        ensures list { self.new ≡ after_free_wait self.old id }
+    {
+        let Some(entry) = self.entries.get(&id).copied() else {
+            return false;
+        };
+        match entry.stage {
+            Stage::Waiting(_) => {
+                self.entries.shift_remove(&id);
+                true
+            }
+            Stage::Queued(_) | Stage::Sent(_) => false,
+        }
+    }
+
+    /// The dialogue is over: the number and identifier of each Queued or Sent invocation, by number. All
+    /// identifiers are free afterwards.
+    pub fn close_all(&mut self) -> Result<Vec<(u64, i8), A>, OutOfMemory>
+        ensures told { IfOk result (λ v. v.items ≡ ended_at self.old.rows) }
+        ensures list { OnOk result (self.new ≡ after_close self.old) }
+        ensures err { OnErr result (self.new ≡ self.old) }
+        ensures memory { OnErr result (ended_at self.old.rows ≢ []) }
+    {
+        let ended = ended_at(*self.entries.allocator(), &self.entries)?;
+        self.entries.clear();
+        Ok(ended)
+    }
+}
+
+/// What is told of each invocation at the end of the dialogue, with all room found first.
+fn ended_at<A: Allocator + Copy>(
+    alloc: A,
+    entries: &Entries<A>,
+) -> Result<Vec<(u64, i8), A>, OutOfMemory>
+    ensures told { IfOk result (λ v. v.items ≡ ended_at entries.now.entries) }
+    ensures memory { OnErr result (0 < length (ended_at entries.now.entries)) }
+{
+    let mut ended = Vec::with_capacity(alloc, ended_count(entries))?;
+    for i in 0..entries.len() {
+        let (id, entry) = entries.get_index(i).unwrap();
+        if let Some(one) = ended_of(id, entry) {
+            ended.push_reserved(one);
+        }
+    }
+    Ok(ended)
+}
+
+/// How many invocations are Queued or Sent.
+fn ended_count<A: Allocator + Copy>(entries: &Entries<A>) -> usize
+    ensures { result ≡ length (ended_at entries.now.entries) }
+{
+    entries
+        .iter()
+        .filter_map(|(id, entry)| ended_of(id, entry))
+        .count()
+}
+
+/// What is told of an invocation at the end of the dialogue.
+fn ended_of(id: &i8, entry: &Invocation) -> Option<(u64, i8)>
+    ensures { result ≡ ended_of (id.now, entry.now) }
+{
+    match entry.stage {
+        Stage::Queued(_) | Stage::Sent(_) => Some((entry.number, *id)),
+        Stage::Waiting(_) => None,
+    }
+}
