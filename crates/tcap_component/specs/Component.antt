@@ -59,12 +59,12 @@ rejected_field None = must 0x05 []
 abbrev pub body_fields : BodyParts → List Field
 body_fields body = code_field body.code ∷ any body.parameter ∷ []
 
--- The contents in order, where `inner` is what stands in the 30 of a result
--- (Q.773, Component portion):
--- Invoke: 02 identifier, [80 linked identifier], code, [parameter]
--- Return Result: 02 identifier, [30]
--- Return Error: 02 identifier, code, [parameter]
--- Reject: 02 identifier or 05, then 80, 81, 82 or 83 with the problem's code.
+-- The contents in order, where `inner` is what stands in the 30 of a result:
+-- Invoke: 02 identifier, [80 linked identifier], code, [parameter];
+-- Return Result: 02 identifier, [30];
+-- Return Error: 02 identifier, code, [parameter];
+-- Reject: 02 identifier or 05, then 80, 81, 82 or 83 with the problem's code
+-- (Q.773, Component portion).
 abbrev pub fields : ComponentParts → Option (List ℕ) → List Field
 fields (invoke id linked code parameter) inner = must 0x02 (identifier id) ∷ may 0x80 (option_map identifier linked) ∷ code_field code ∷ any parameter ∷ []
 fields (result_last id body) inner = must 0x02 (identifier id) ∷ may 0x30 inner ∷ []
