@@ -72,7 +72,10 @@ fn list_is_walked(rt: HostRuntime) -> Result<(), Fail> {
         (Call::Add(1, 2, One, 0), "Err(BadTimeout)"),
         (Call::Sent(0), "()"),
         (Call::Lapse(999), "Ok([])"),
-        (Call::Lapse(1000), "Ok([Lapse { deadline: 1000, number: 1, id: 1 }])"),
+        (
+            Call::Lapse(1000),
+            "Ok([Lapse { deadline: 1000, number: 1, id: 1 }])",
+        ),
         (Call::Add(2, 2, One, 5), "Ok(())"),
         (Call::CloseAll, "Ok([(2, 2)])"),
         (Call::InUse(2), "false"),
@@ -125,7 +128,10 @@ fn lapses_in_order(rt: HostRuntime) -> Result<(), Fail> {
         (Call::Add(7, 5, One, 10), "Ok(())"),
         (Call::Sent(0), "()"),
         (Call::DueCount(20), "3"),
-        (Call::FirstDue(20), "Some(Lapse { deadline: 10, number: 4, id: 6 })"),
+        (
+            Call::FirstDue(20),
+            "Some(Lapse { deadline: 10, number: 4, id: 6 })",
+        ),
         (Call::LapseOne(5, 10), "None"),
         (
             Call::Lapse(20),
@@ -165,7 +171,10 @@ fn rejected_and_given_up(rt: HostRuntime) -> Result<(), Fail> {
 #[test]
 fn waits_of_no_length_and_the_longest(rt: HostRuntime) -> Result<(), Fail> {
     let late = 0x8000_0000_0000_0000;
-    for (reject_ms, clock, before, until) in [(0, 5, 4, 5), (MAX_MOMENT, MAX_MOMENT, late - 1, late)] {
+    for (reject_ms, clock, before, until) in [
+        (0, 5, 4, 5),
+        (MAX_MOMENT, MAX_MOMENT, late - 1, late),
+    ] {
         let mut list = Invocations::new(rt.alloc(), reject_ms);
         for (call, expected) in [
             (Call::Add(1, 1, One, MAX_MOMENT), "Ok(())"),
@@ -217,8 +226,14 @@ fn every_identifier_in_use(rt: HostRuntime) -> Result<(), Fail> {
         (Call::Sent(0), "()"),
         (Call::DueCount(255), "255"),
         (Call::DueCount(256), "256"),
-        (Call::FirstDue(256), "Some(Lapse { deadline: 1, number: 1, id: -128 })"),
-        (Call::LapseOne(127, 256), "Some(Lapse { deadline: 256, number: 256, id: 127 })"),
+        (
+            Call::FirstDue(256),
+            "Some(Lapse { deadline: 1, number: 1, id: -128 })",
+        ),
+        (
+            Call::LapseOne(127, 256),
+            "Some(Lapse { deadline: 256, number: 256, id: 127 })",
+        ),
         (Call::Add(127, 257, One, 1), "Ok(())"),
     ] {
         assert_eq!(rt; answer(rt.alloc(), &mut list, call)?.as_str(), expected);
@@ -227,10 +242,18 @@ fn every_identifier_in_use(rt: HostRuntime) -> Result<(), Fail> {
 }
 
 // A list with room for one entry more or for none: three Sent and one Waiting, or so many Queued.
-fn standing<A: Allocator + Copy>(heap: A, alloc: Global, queued: i8) -> Result<Invocations<A>, Fail> {
+fn standing<A: Allocator + Copy>(
+    heap: A,
+    alloc: Global,
+    queued: i8,
+) -> Result<Invocations<A>, Fail> {
     let mut list = Invocations::new(heap, 1000);
     for id in 0..queued {
-        answer(alloc, &mut list, Call::Add(id, 1 + id.unsigned_abs() as u64, One, 10))?;
+        answer(
+            alloc,
+            &mut list,
+            Call::Add(id, 1 + id.unsigned_abs() as u64, One, 10),
+        )?;
     }
     if queued > 3 {
         answer(alloc, &mut list, Call::Sent(0))?;
