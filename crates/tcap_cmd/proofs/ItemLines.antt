@@ -1,15 +1,15 @@
 -- How many components there are, and the lines of those that are left.
 use Rattle.std.proofs.Common.{◌≡◌, ℕ, zero, suc, ◌+◌, ◌≤◌, List, [], ◌∷◌, ◌++◌, length, Result, Ok, Err, refl, sym, ap, ◌∙◌, arith, is_err, append_assoc}
 use Rattle.std.specs.List.{position_from}
-use Rattle.tcap_component.specs.declared.fault.ComponentFault.{ComponentFault}
+use Rattle.tcap_component.specs.ComponentFault.{FaultParts}
 use Rattle.tcap_component.specs.Component.{ComponentParts}
 use Rattle.tcap_component.specs.ComponentReading.{component_at, components_from, components_by, components_of}
 
 abbrev Items : Type 0
-Items = List (Result ComponentParts ComponentFault)
+Items = List (Result ComponentParts FaultParts)
 
 -- no more than there are octets
-from-few : (n : ℕ) (others : List ℕ → Items) (r : Result (ComponentParts × List ℕ) ComponentFault) → ((bytes : List ℕ) → length (others bytes) ≤ n) → length (components_from others r) ≤ suc n
+from-few : (n : ℕ) (others : List ℕ → Items) (r : Result (ComponentParts × List ℕ) FaultParts) → ((bytes : List ℕ) → length (others bytes) ≤ n) → length (components_from others r) ≤ suc n
 from-few n others (Ok r) few = omega (arith, few r.1)
 from-few n others (Err f) few = omega arith
 

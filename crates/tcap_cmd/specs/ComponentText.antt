@@ -4,7 +4,7 @@ use Rattle.std.specs.Fmt.{decimal, signed_decimal}
 use Rattle.hex.specs.Hex.{encode_lower}
 use Rattle.tcap_component.specs.declared.problem.Kind.{Kind}
 use Rattle.tcap_component.specs.declared.problem.Kind.TheVariants as kind
-use Rattle.tcap_component.specs.declared.fault.ComponentFault.{ComponentFault}
+use Rattle.tcap_component.specs.ComponentFault.{FaultParts}
 use Rattle.tcap_component.specs.Problem.{ProblemParts}
 use Rattle.tcap_component.specs.Component.{CodeParts, BodyParts, ComponentParts}
 use Rattle.tcap_component.specs.Component.CodeParts.{local, global}
@@ -50,10 +50,10 @@ component_words (error_back id code parameter) = codes "error " ++ (signed_decim
 component_words (reject_back id problem) = codes "reject " ++ (identifier_words id ++ (codes " " ++ problem_words problem))
 
 -- The words of a faulty component (own).
-abbrev pub fault_words : ComponentFault → List ℕ
+abbrev pub fault_words : FaultParts → List ℕ
 fault_words fault = codes "faulty " ++ (identifier_words fault.id ++ (codes " " ++ problem_words fault.problem))
 
 -- The words of a component or of a fault (own).
-abbrev pub item_words : Result ComponentParts ComponentFault → List ℕ
+abbrev pub item_words : Result ComponentParts FaultParts → List ℕ
 item_words (Ok component) = component_words component
 item_words (Err fault) = fault_words fault

@@ -4,7 +4,7 @@ use Rattle.tcap_pdu.specs.FrameSpelling.{Reason, Message}
 use Rattle.tcap_pdu.specs.FrameSpelling.Reason.{nothing, cause, portion}
 use Rattle.tcap_pdu.specs.FrameSpelling.Message.{unidirectional, begin, end, go_on, abort}
 use Rattle.std.specs.List.{flat_map}
-use Rattle.tcap_component.specs.declared.fault.ComponentFault.{ComponentFault}
+use Rattle.tcap_component.specs.ComponentFault.{FaultParts}
 use Rattle.tcap_component.specs.Component.{ComponentParts}
 use Rattle.tcap_component.specs.ComponentReading.{components_of}
 use Rattle.tcap_cmd.specs.Text.{line, octets_line, number_line, inner_line}
@@ -28,7 +28,7 @@ dialogue_lines None = []
 dialogue_lines (Some d) = number_line (codes "  dialogue") (length d) ++ inner_line (portion_words d)
 
 -- A line for each component up to the first fault, and one for that fault (own).
-abbrev pub item_lines : List (Result ComponentParts ComponentFault) → List ℕ
+abbrev pub item_lines : List (Result ComponentParts FaultParts) → List ℕ
 item_lines items = flat_map (λ i. inner_line (item_words i)) items
 
 -- The lines of a component portion, where it has contents: the number of their bytes, and the

@@ -1,5 +1,5 @@
 ghost use Rattle.std.specs.Prelude.{◌≡◌, ◌++◌, OnOk, IfOk, string_bytes, option_copied, option_map};
-ghost use Rattle.tcap_component.specs.Views.{code_parts, body_parts, component_parts};
+ghost use Rattle.tcap_component.specs.Views.{code_parts, body_parts, problem_parts, fault_parts, component_parts};
 ghost use Rattle.tcap_cmd.specs.ComponentText.{identifier_words, code_words, coded_words, body_words, kind_words, problem_words, component_words, fault_words};
 
 use crate::text::optional_octets_or_dash;
@@ -70,7 +70,7 @@ fn kind_text(kind: Kind) -> &'static str
 
 /// The words of a problem: its kind and its code.
 fn problem_text<A: Allocator + Copy>(alloc: A, problem: Problem) -> Result<String<A>, OutOfMemory>
-    ensures { IfOk result (λ words. string_bytes words ≡ problem_words problem) }
+    ensures { IfOk result (λ words. string_bytes words ≡ problem_words (problem_parts problem)) }
 {
     let kind = kind_text(problem.kind());
     let code = problem.code();
@@ -124,7 +124,7 @@ pub fn fault_text<A: Allocator + Copy>(
     alloc: A,
     fault: ComponentFault,
 ) -> Result<String<A>, OutOfMemory>
-    ensures { IfOk result (λ words. string_bytes words ≡ fault_words fault) }
+    ensures { IfOk result (λ words. string_bytes words ≡ fault_words (fault_parts fault)) }
 {
     let id = identifier_text(alloc, fault.id)?;
     let problem = problem_text(alloc, fault.problem)?;
