@@ -3,6 +3,7 @@
 //! Stands on all other crates. Begin at `run_command`; what `show` prints is `show_text`.
 #![tactic(auto)]
 
+mod canon;
 mod command;
 mod component_text;
 mod dialogue_text;
@@ -15,6 +16,7 @@ mod text;
 mod verdict;
 mod words;
 
+pub use canon::canon_text;
 pub use command::{answer, report, run_command};
 pub use refusal::Refusal;
 pub use request::Request;
