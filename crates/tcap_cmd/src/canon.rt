@@ -1,6 +1,6 @@
 //! The canonical form of a message, and the text of `canon`.
 
-ghost use Rattle.std.specs.Prelude.{◌≡◌, ◌≤◌, ◌++◌, length, OnOk, IfOk, IfErr, IfSome, true, option_copied, option_map};
+ghost use Rattle.std.specs.Prelude.{◌≡◌, ◌≤◌, ◌++◌, length, OnOk, IfOk, IfErr, true, [], unwrap_or, option_copied, option_map};
 ghost use Rattle.hex.specs.Hex.{encode_lower};
 ghost use Rattle.tcap_pdu.specs.FrameSpelling.{HasCause};
 ghost use Rattle.tcap_pdu.specs.FrameLength.{dialogue_of, reason_with};
@@ -11,7 +11,7 @@ ghost use Rattle.tcap_component.specs.Written.{coded_part, written_component, Ha
 ghost use Rattle.tcap_cmd.specs.Text.{line};
 ghost use Rattle.tcap_cmd.specs.Verdict.{message_limit, is_good, verdict_words};
 ghost use Rattle.tcap_cmd.specs.declared.verdict.Verdict.TheVariants as verdict;
-ghost use Rattle.tcap_cmd.specs.Canonical.{canonical_item, canonical_components, canonical_dialogue, components_in, with_portions, canonical_frame, IsCanonFault, IsWritableItem, canon_verdict, canon_line, canon_text_of, canon_is_good};
+ghost use Rattle.tcap_cmd.specs.Canonical.{canonical_item, canonical_components, canonical_dialogue, components_in, with_portions, canonical_frame, of_pdu_fault, of_write_fault, IsCanonFault, IsWritableItem, canon_verdict, canon_line, canon_text_of, canon_is_good};
 
 use crate::judge::{add_verdict, read_message, verdict_on};
 use crate::shown::Shown;
@@ -30,6 +30,26 @@ pub enum CanonFault {
     TooLong,
 }
 
+/// What is said of a fault of writing a dialogue PDU or a message that was read.
+fn pdu_fault(fault: PduFault) -> CanonFault
+    ensures { result ≡ of_pdu_fault fault }
+{
+    match fault {
+        PduFault::OutOfMemory => CanonFault::OutOfMemory,
+        PduFault::TooLong | PduFault::BadOid | PduFault::BadInfo => CanonFault::TooLong,
+    }
+}
+
+/// What is said of a fault of writing a component that was read.
+fn component_fault(fault: WriteFault) -> CanonFault
+    ensures { result ≡ of_write_fault fault }
+{
+    match fault {
+        WriteFault::OutOfMemory => CanonFault::OutOfMemory,
+        WriteFault::TooLong | WriteFault::BadOid | WriteFault::BadParameter => CanonFault::TooLong,
+    }
+}
+
 /// The contents of a dialogue portion in the canonical form, of nothing where they can't be read.
 fn rewrite_dialogue<A: Allocator + Copy>(alloc: A, content: &[u8]) -> Result<Vec<u8, A>, CanonFault>
     ensures ok { IfOk result (λ octets. octets.items ≡ canonical_dialogue content.now) }
@@ -38,10 +58,7 @@ fn rewrite_dialogue<A: Allocator + Copy>(alloc: A, content: &[u8]) -> Result<Vec
     match read_dialogue(content) {
         Ok(pdu) => match write_dialogue(alloc, &pdu) {
             Ok(octets) => Ok(octets),
-            Err(PduFault::OutOfMemory) => Err(CanonFault::OutOfMemory),
-            Err(PduFault::TooLong | PduFault::BadOid | PduFault::BadInfo) => {
-                Err(CanonFault::TooLong)
-            }
+            Err(fault) => Err(pdu_fault(fault)),
         },
         Err(_) => Ok(Vec::new(alloc)),
     }
@@ -53,7 +70,7 @@ fn rewrite_portion<A: Allocator + Copy>(
     dialogue: Option<&[u8]>,
 ) -> Result<Option<Vec<u8, A>>, CanonFault>
     ensures ok { IfOk result (λ portion. option_map (λ octets. octets.items) portion ≡ option_map canonical_dialogue (option_copied dialogue.entry)) }
-    ensures err { IfErr result (λ fault. IfSome (option_copied dialogue.entry) (λ content. IsCanonFault (canonical_dialogue content) fault)) }
+    ensures err { IfErr result (λ fault. IsCanonFault (unwrap_or (option_map canonical_dialogue (option_copied dialogue.entry)) []) fault) }
 {
     match dialogue {
         Some(content) => match rewrite_dialogue(alloc, content) {
@@ -80,10 +97,7 @@ fn append_component<A: Allocator + Copy>(
             Ok(()) => Ok(()),
             Err(_) => Err(CanonFault::OutOfMemory),
         },
-        Err(WriteFault::OutOfMemory) => Err(CanonFault::OutOfMemory),
-        Err(WriteFault::TooLong | WriteFault::BadOid | WriteFault::BadParameter) => {
-            Err(CanonFault::TooLong)
-        }
+        Err(fault) => Err(component_fault(fault)),
     }
 }
 
@@ -205,26 +219,47 @@ fn spell_frame<A: Allocator + Copy>(alloc: A, frame: &Frame<'_>) -> Result<Vec<u
 {
     match write_frame(alloc, frame) {
         Ok(octets) => Ok(octets),
-        Err(PduFault::OutOfMemory) => Err(CanonFault::OutOfMemory),
-        Err(PduFault::TooLong | PduFault::BadOid | PduFault::BadInfo) => Err(CanonFault::TooLong),
+        Err(fault) => Err(pdu_fault(fault)),
     }
 }
 
+/// Writes a message with these contents of its portions in place of its own.
+fn assemble<A: Allocator + Copy>(
+    alloc: A,
+    frame: Frame<'_>,
+    dialogue: Option<&[u8]>,
+    components: &[u8],
+) -> Result<Vec<u8, A>, CanonFault>
+    requires { HasCause (message frame) }
+    ensures ok { IfOk result (λ octets. octets.items ≡ written_frame (with_portions (option_copied dialogue.entry) components.now (message frame.entry))) }
+    ensures short { OnOk result (length (written_frame (with_portions (option_copied dialogue.entry) components.now (message frame.entry))) ≤ message_limit) }
+    ensures err { IfErr result (λ fault. IsCanonFault (written_frame (with_portions (option_copied dialogue.entry) components.now (message frame.entry))) fault) }
+{
+    let canonical = with_portions(frame, dialogue, components);
+    spell_frame(alloc, &canonical)
+}
+
 /// The octets of a message in the canonical form.
-fn rewrite_frame<A: Allocator + Copy>(alloc: A, frame: Frame<'_>) -> Result<Vec<u8, A>, CanonFault>
+fn rewrite_frame<A: Allocator + Copy>(
+    alloc: A,
+    frame: Frame<'_>,
+) -> Result<Vec<u8, A>, CanonFault>
     requires { HasCause (message frame) }
     ensures ok { IfOk result (λ octets. octets.items ≡ canonical_frame (message frame.entry)) }
     ensures short { OnOk result (length (canonical_frame (message frame.entry)) ≤ message_limit) }
     ensures err { IfErr result (λ fault. IsCanonFault (canonical_frame (message frame.entry)) fault) }
 {
-    let dialogue = rewrite_portion(alloc, dialogue_in(&frame))?;
+    let portion = rewrite_portion(alloc, dialogue_in(&frame))?;
     let components = rewrite_components(alloc, components_of(&frame))?;
-    let portion = match &dialogue {
-        Some(octets) => Some(octets.as_slice()),
-        None => None,
-    };
-    let canonical = with_portions(frame, portion, components.as_slice());
-    spell_frame(alloc, &canonical)
+    match portion {
+        Some(dialogue) => assemble(
+            alloc,
+            frame,
+            Some(dialogue.as_slice()),
+            components.as_slice(),
+        ),
+        None => assemble(alloc, frame, None, components.as_slice()),
+    }
 }
 
 /// The line of a verdict that is not good.

@@ -8,6 +8,7 @@ mod command;
 mod component_text;
 mod dialogue_text;
 mod judge;
+pub mod laws;
 mod refusal;
 mod request;
 mod show;
