@@ -1,8 +1,8 @@
 -- Components in the canonical form: each that was read can be written, and reading gives them again.
-use Rattle.std.proofs.Common.{◌≡◌, ℕ, ◌+◌, ◌<◌, ◌≤◌, Bool, true, false, List, [], ◌∷◌, ◌++◌, length, Option, Some, None, Result, Ok, Err, refl, sym, ap, subst, ◌∙◌, arith, is_err, append-nil, length-append}
+use Rattle.std.proofs.Common.{◌≡◌, ℕ, ◌+◌, ◌≤◌, List, [], ◌∷◌, ◌++◌, length, Option, Some, None, Result, Ok, refl, sym, ap, subst, ◌∙◌, arith, is_err, length-append}
 use Rattle.std.specs.List.{flat_map, position_from, AllByRecursion}
 use Rattle.tcap_component.specs.declared.fault.ComponentFault.{ComponentFault}
-use Rattle.tcap_component.specs.Component.{ComponentParts, SpellsComponent}
+use Rattle.tcap_component.specs.Component.{ComponentParts}
 use Rattle.tcap_component.specs.ComponentList.{SpellsComponents, FirstFault, items}
 use Rattle.tcap_component.specs.ComponentReading.{components_of}
 use Rattle.tcap_component.specs.Written.{written_component, CanWriteComponent}

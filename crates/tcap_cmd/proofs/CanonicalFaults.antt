@@ -1,5 +1,5 @@
 -- A part that was read is not written only where it is too long, or for want of memory.
-use Rattle.std.proofs.Common.{◌≡◌, ℕ, ◌<◌, List, length, Ok, sym, ap, subst, ◌⊎◌, inl, inr}
+use Rattle.std.proofs.Common.{◌≡◌, ℕ, List, Ok, sym, ap, subst, ◌⊎◌, inl, inr}
 use Rattle.tcap_pdu.specs.declared.fault.PduFault.{PduFault}
 use Rattle.tcap_pdu.specs.declared.fault.PduFault.TheVariants as pdu
 use Rattle.tcap_pdu.specs.DialogueSpelling.{PduValue, SpellsDialogue}

@@ -1,13 +1,12 @@
 -- A message in the canonical form: its cause, its identifiers, and a part that is too long.
-use Rattle.std.proofs.Common.{◌≡◌, ℕ, ◌+◌, ◌<◌, ◌≤◌, List, [], ◌∷◌, length, Option, Some, None, unwrap_or, option_map, Result, Ok, Err, refl, sym, ap, subst, ◌∙◌, arith}
+use Rattle.std.proofs.Common.{◌≡◌, ℕ, ◌≤◌, List, [], length, Option, Some, None, unwrap_or, option_map, refl, sym, ap, subst, arith}
 use Rattle.std.specs.List.{flat_map}
 use Rattle.tcap_pdu.specs.FrameSpelling.{Reason, Message, IsReason, HasIds, HasCause}
 use Rattle.tcap_pdu.specs.FrameSpelling.Reason.{nothing, cause, portion}
 use Rattle.tcap_pdu.specs.FrameSpelling.Message.{unidirectional, begin, end, go_on, abort}
-use Rattle.tcap_pdu.specs.FrameLength.{reason_with, dialogue_of, dialogue_length, element_length, filled_length}
+use Rattle.tcap_pdu.specs.FrameLength.{reason_with, dialogue_of}
 use Rattle.tcap_pdu.specs.FrameWritten.{written_frame}
 use Rattle.tcap_pdu.proofs.CallerLemmas.{content-fits, contents_within, filled_least, dialogue_within}
-use Rattle.tcap_component.specs.ComponentReading.{components_of}
 use Rattle.tcap_component.proofs.CallerLemmas.{components_of-empty}
 use Rattle.tcap_cmd.specs.declared.canon.CanonFault.{CanonFault}
 use Rattle.tcap_cmd.specs.declared.canon.CanonFault.TheVariants as canon

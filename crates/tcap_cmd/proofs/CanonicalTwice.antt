@@ -1,10 +1,10 @@
 -- The canonical form of a canonical form is the same again.
-use Rattle.std.proofs.Common.{◌≡◌, ℕ, ◌≤◌, Bool, true, false, cond, List, [], length, Option, Some, None, unwrap_or, option_map, Result, Ok, Err, refl, sym, ap, ap₂, subst, ◌∙◌, arith, is_err, inl, inr}
+use Rattle.std.proofs.Common.{◌≡◌, ℕ, ◌≤◌, Bool, true, false, List, [], length, Option, Some, None, unwrap_or, option_map, Result, Ok, Err, refl, sym, ap, ap₂, subst, ◌∙◌, arith, is_err, inl, inr}
 use Rattle.std.specs.Prelude.{if◌then◌else◌}
 use Rattle.std.specs.List.{flat_map, position_from}
 use Rattle.ber_core.proofs.CallerLemmas.{by_result, chosen_by}
 use Rattle.tcap_pdu.specs.declared.fault.DialogueFault.{DialogueFault}
-use Rattle.tcap_pdu.specs.FrameSpelling.{Reason, Message}
+use Rattle.tcap_pdu.specs.FrameSpelling.{Message}
 use Rattle.tcap_pdu.specs.FrameSpelling.Reason.{nothing, cause, portion}
 use Rattle.tcap_pdu.specs.FrameSpelling.Message.{unidirectional, begin, end, go_on, abort}
 use Rattle.tcap_pdu.specs.FrameLength.{dialogue_of}
@@ -17,8 +17,8 @@ use Rattle.tcap_component.specs.declared.fault.ComponentFault.{ComponentFault}
 use Rattle.tcap_component.specs.Component.{ComponentParts}
 use Rattle.tcap_component.specs.ComponentReading.{components_of}
 use Rattle.tcap_cmd.specs.declared.verdict.Verdict.{Verdict}
-use Rattle.tcap_cmd.specs.declared.verdict.Verdict.TheVariants.{Dialogue, Component, Good}
-use Rattle.tcap_cmd.specs.Verdict.{is_known, is_read, is_good_portion, is_good_reason, is_good, verdict_by_place, components_verdict, portions_verdict, message_of, message_verdict, verdict_by, verdict_of}
+use Rattle.tcap_cmd.specs.declared.verdict.Verdict.TheVariants.{Dialogue, Good}
+use Rattle.tcap_cmd.specs.Verdict.{is_known, is_read, is_good_portion, is_good, verdict_by_place, components_verdict, portions_verdict, message_of, message_verdict, verdict_by, verdict_of}
 use Rattle.tcap_cmd.specs.Canonical.{canonical_item, canonical_components, canonical_pdu, canonical_dialogue, components_in, canonical_message, canonical_frame, canonical_of, canon_line, canon_text_of}
 use Rattle.tcap_cmd.proofs.CanonicalComponents.{components-again}
 use Rattle.tcap_cmd.proofs.CanonicalFrame.{cause_kept, ids_kept, portion-within, canonical-within}
@@ -50,7 +50,6 @@ dialogue-again content good le = elim (by_result (dialogue_at content)) [
 
 abbrev portions : Option (List ℕ) → Option (List ℕ)
 portions d = option_map canonical_dialogue d
-
 
 -- a portion is as good as before, and its canonical form the same
 abbrev IsSame : Option (List ℕ) → Type 0

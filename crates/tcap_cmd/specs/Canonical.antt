@@ -1,5 +1,5 @@
 -- The canonical form of a message, and the text of `canon`.
-use Rattle.std.specs.Prelude.{ℕ, ◌<◌, Bool, true, false, List, [], length, Option, Some, None, Result, Ok, Err, option_map, nat_lt, if◌then◌else◌}
+use Rattle.std.specs.Prelude.{ℕ, ◌<◌, Bool, List, [], length, Option, Result, Ok, Err, option_map, nat_lt, if◌then◌else◌}
 use Rattle.std.specs.List.{flat_map}
 use Rattle.hex.specs.Hex.{encode_lower}
 use Rattle.tcap_pdu.specs.FrameSpelling.{Message}

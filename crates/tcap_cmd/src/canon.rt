@@ -240,10 +240,7 @@ fn assemble<A: Allocator + Copy>(
 }
 
 /// The octets of a message in the canonical form.
-fn rewrite_frame<A: Allocator + Copy>(
-    alloc: A,
-    frame: Frame<'_>,
-) -> Result<Vec<u8, A>, CanonFault>
+fn rewrite_frame<A: Allocator + Copy>(alloc: A, frame: Frame<'_>) -> Result<Vec<u8, A>, CanonFault>
     requires { HasCause (message frame) }
     ensures ok { IfOk result (λ octets. octets.items ≡ canonical_frame (message frame.entry)) }
     ensures short { OnOk result (length (canonical_frame (message frame.entry)) ≤ message_limit) }

@@ -1,4 +1,4 @@
-use crate::canon_text;
+use crate::{canon_text, check_text};
 use refusing::Refusing;
 use std::alloc::Global;
 use std::test::Fail;
@@ -50,6 +50,24 @@ fn messages_in_canonical_form(rt: HostRuntime) -> Result<(), Fail> {
         assert_eq!(rt; found.as_slice(), text.as_bytes(), "at {hex}");
         assert_eq!(rt; verdict, good, "at {hex}");
     }
+    Ok(())
+}
+
+/// A Begin with an AARQ that says no version and with an Invoke, up to the 65,479 octets of its
+/// parameter: 65,535 bytes with them.
+const LONGEST: &str =
+    "6282FFFB4804000000016B1A2818060700118605010101A00D600BA1090607040000010001036C82FFD5A182FFD10201010201020482FFC7";
+
+#[test]
+fn canonical_form_too_long(rt: HostRuntime) -> Result<(), Fail> {
+    let mut bytes = hex::decode(rt.alloc(), LONGEST)?;
+    let parameter = vec![in rt.alloc(); 0u8; 65_479]?;
+    bytes.extend_from_slice(parameter.as_slice())?;
+    let checked = check_text(rt.alloc(), bytes.as_slice()).map_err(|_| "no memory")?;
+    assert!(rt; checked.good);
+    let long = canon_text(rt.alloc(), bytes.as_slice()).map_err(|_| "no memory")?;
+    assert_eq!(rt; long.text.as_slice(), b"fault too long\n".as_slice());
+    assert!(rt; !long.good);
     Ok(())
 }
 
