@@ -1,3 +1,4 @@
+pub mod Canonical
 pub mod Command
 pub mod CommandLine
 pub mod ComponentText

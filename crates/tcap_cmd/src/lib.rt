@@ -3,10 +3,13 @@
 //! Stands on all other crates. Begin at `run_command`; what `show` prints is `show_text`.
 #![tactic(auto)]
 
+mod canon;
 mod command;
 mod component_text;
 mod dialogue_text;
 mod judge;
+pub mod laws;
+mod portions;
 mod refusal;
 mod request;
 mod show;
@@ -15,6 +18,7 @@ mod text;
 mod verdict;
 mod words;
 
+pub use canon::canon_text;
 pub use command::{answer, report, run_command};
 pub use refusal::Refusal;
 pub use request::Request;

@@ -1,9 +1,10 @@
 pub mod CallerLemmas
+pub mod ComponentGrammar
 pub mod ContentsGrammar
 pub mod FaultGrammar
-pub mod ComponentGrammar
 pub mod LengthGrammar
 pub mod ListGrammar
 pub mod PartGrammar
+pub mod SpelledWritable
 pub mod WrittenGrammar
 pub mod WrittenSpelling

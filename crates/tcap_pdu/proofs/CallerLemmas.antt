@@ -4,3 +4,8 @@ pub use Rattle.tcap_pdu.proofs.FrameGrammar.{frame_takes, frame_again, frame_fai
 pub use Rattle.tcap_pdu.proofs.FrontGrammar.{front_read, front_again}
 pub use Rattle.tcap_pdu.proofs.LengthGrammar.{length-written, length-with, length-own, length-sized, with_dialogue-own, parts-can}
 pub use Rattle.tcap_pdu.proofs.WrittenFrameGrammar.{written_spelled, written_again}
+pub use Rattle.tcap_pdu.proofs.DialogueAgreement.{dialogue_takes, dialogue_again}
+pub use Rattle.tcap_pdu.proofs.WrittenSpelling.{written_spells, written_read}
+pub use Rattle.tcap_pdu.proofs.SpelledWritable.{spelled_context, spelled_information, spelled_diagnostic}
+pub use Rattle.tcap_pdu.proofs.LengthGrammar.{content-fits}
+pub use Rattle.tcap_pdu.proofs.PartsWithin.{contents_within, filled_least, dialogue_within}

@@ -9,7 +9,9 @@ pub mod FrameGrammar
 pub mod FrontGrammar
 pub mod LengthGrammar
 pub mod MessageGrammar
+pub mod PartsWithin
 pub mod PortionGrammar
+pub mod SpelledWritable
 pub mod WriteAgreement
 pub mod WrittenFrameGrammar
 pub mod WrittenSpelling

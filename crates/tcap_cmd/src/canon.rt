@@ -1,0 +1,241 @@
+//! The canonical form of a message, and the text of `canon`.
+
+ghost use Rattle.std.specs.Prelude.{◌≡◌, ◌≤◌, ◌++◌, length, OnOk, IfOk, IfErr, true, [], unwrap_or, option_copied, option_map};
+ghost use Rattle.hex.specs.Hex.{encode_lower};
+ghost use Rattle.tcap_pdu.specs.FrameSpelling.{HasCause};
+ghost use Rattle.tcap_pdu.specs.FrameLength.{dialogue_of, reason_with};
+ghost use Rattle.tcap_pdu.specs.FrameWritten.{written_frame};
+ghost use Rattle.tcap_pdu.specs.FrameViews.{message, reason_of};
+ghost use Rattle.tcap_component.specs.Views.{component_parts, item_view};
+ghost use Rattle.tcap_component.specs.Written.{coded_part, written_component, HasCode, HasParameter};
+ghost use Rattle.tcap_cmd.specs.Text.{line};
+ghost use Rattle.tcap_cmd.specs.Verdict.{message_limit, is_good, verdict_words};
+ghost use Rattle.tcap_cmd.specs.declared.verdict.Verdict.TheVariants as verdict;
+ghost use Rattle.tcap_cmd.specs.Canonical.{canonical_item, canonical_components, canonical_dialogue, components_in, with_portions, canonical_frame, of_pdu_fault, of_write_fault, IsCanonFault, IsWritableItem, canon_verdict, canon_line, canon_text_of, canon_is_good};
+
+use crate::judge::{add_verdict, read_message, verdict_on};
+use crate::portions::{components_of, dialogue_in, with_portions};
+use crate::shown::Shown;
+use crate::verdict::Verdict;
+use ber_core::OutOfMemory;
+use std::alloc::Allocator;
+use tcap_component::{Component, ComponentFault, Components, WriteFault, write_component};
+use tcap_pdu::{Frame, PduFault, read_dialogue, write_dialogue, write_frame};
+
+/// Why there is no canonical form.
+#[derive(Clone, Copy, Debug, PartialEq, Eq)]
+pub enum CanonFault {
+    /// Memory was refused.
+    OutOfMemory,
+    /// A part, and so the message, would have more than 65,535 bytes.
+    TooLong,
+}
+
+/// What is said of a fault of writing a dialogue PDU or a message that was read.
+fn pdu_fault(fault: PduFault) -> CanonFault
+    ensures { result ≡ of_pdu_fault fault }
+{
+    match fault {
+        PduFault::OutOfMemory => CanonFault::OutOfMemory,
+        PduFault::TooLong | PduFault::BadOid | PduFault::BadInfo => CanonFault::TooLong,
+    }
+}
+
+/// What is said of a fault of writing a component that was read.
+fn component_fault(fault: WriteFault) -> CanonFault
+    ensures { result ≡ of_write_fault fault }
+{
+    match fault {
+        WriteFault::OutOfMemory => CanonFault::OutOfMemory,
+        WriteFault::TooLong | WriteFault::BadOid | WriteFault::BadParameter => CanonFault::TooLong,
+    }
+}
+
+/// The contents of a dialogue portion in the canonical form, of nothing where they can't be read.
+fn rewrite_dialogue<A: Allocator + Copy>(alloc: A, content: &[u8]) -> Result<Vec<u8, A>, CanonFault>
+    ensures ok { IfOk result (λ octets. octets.items ≡ canonical_dialogue content.now) }
+    ensures err { IfErr result (λ fault. IsCanonFault (canonical_dialogue content.now) fault) }
+{
+    match read_dialogue(content) {
+        Ok(pdu) => match write_dialogue(alloc, &pdu) {
+            Ok(octets) => Ok(octets),
+            Err(fault) => Err(pdu_fault(fault)),
+        },
+        Err(_) => Ok(Vec::new(alloc)),
+    }
+}
+
+/// The same, where there may be no dialogue portion.
+fn rewrite_portion<A: Allocator + Copy>(
+    alloc: A,
+    dialogue: Option<&[u8]>,
+) -> Result<Option<Vec<u8, A>>, CanonFault>
+    ensures ok { IfOk result (λ portion. option_map (λ octets. octets.items) portion ≡ option_map canonical_dialogue (option_copied dialogue.entry)) }
+    ensures err { IfErr result (λ fault. IsCanonFault (unwrap_or (option_map canonical_dialogue (option_copied dialogue.entry)) []) fault) }
+{
+    match dialogue {
+        Some(content) => match rewrite_dialogue(alloc, content) {
+            Ok(octets) => Ok(Some(octets)),
+            Err(fault) => Err(fault),
+        },
+        None => Ok(None),
+    }
+}
+
+/// Appends a component in the canonical form.
+fn append_component<A: Allocator + Copy>(
+    alloc: A,
+    octets: &mut Vec<u8, A>,
+    component: &Component<'_>,
+) -> Result<(), CanonFault>
+    requires code { HasCode (coded_part (component_parts component.now)) }
+    requires parameter { HasParameter (coded_part (component_parts component.now)) }
+    ensures ok { OnOk result (octets.new.items ≡ octets.old.items ++ written_component (component_parts component.now)) }
+    ensures err { IfErr result (λ fault. IsCanonFault (written_component (component_parts component.now)) fault) }
+{
+    match write_component(alloc, component) {
+        Ok(written) => match octets.extend_from_slice(written.as_slice()) {
+            Ok(()) => Ok(()),
+            Err(_) => Err(CanonFault::OutOfMemory),
+        },
+        Err(fault) => Err(component_fault(fault)),
+    }
+}
+
+/// Appends a component in the canonical form; of a fault it appends nothing.
+fn append_item<A: Allocator + Copy>(
+    alloc: A,
+    octets: &mut Vec<u8, A>,
+    item: &Result<Component<'_>, ComponentFault>,
+) -> Result<(), CanonFault>
+    requires { IsWritableItem (item_view item.now) }
+    ensures ok { OnOk result (octets.new.items ≡ octets.old.items ++ canonical_item (item_view item.now)) }
+    ensures err { IfErr result (λ fault. IsCanonFault (canonical_item (item_view item.now)) fault) }
+{
+    match item {
+        Ok(component) => append_component(alloc, octets, component),
+        Err(_) => Ok(()),
+    }
+}
+
+/// The contents of a component portion in the canonical form.
+fn rewrite_components<A: Allocator + Copy>(
+    alloc: A,
+    components: &[u8],
+) -> Result<Vec<u8, A>, CanonFault>
+    ensures ok { IfOk result (λ octets. octets.items ≡ canonical_components components.now) }
+    ensures err { IfErr result (λ fault. IsCanonFault (canonical_components components.now) fault) }
+{
+    let mut octets = Vec::new(alloc);
+    for item in Components::new(components) {
+        append_item(alloc, &mut octets, &item)?;
+    }
+    Ok(octets)
+}
+
+/// Writes a message with its portions in the canonical form already.
+fn spell_frame<A: Allocator + Copy>(alloc: A, frame: &Frame<'_>) -> Result<Vec<u8, A>, CanonFault>
+    requires { HasCause (message frame.now) }
+    ensures ok { IfOk result (λ octets. octets.items ≡ written_frame (message frame.now)) }
+    ensures short { OnOk result (length (written_frame (message frame.now)) ≤ message_limit) }
+    ensures err { IfErr result (λ fault. IsCanonFault (written_frame (message frame.now)) fault) }
+{
+    match write_frame(alloc, frame) {
+        Ok(octets) => Ok(octets),
+        Err(fault) => Err(pdu_fault(fault)),
+    }
+}
+
+/// Writes a message with these contents of its portions in place of its own.
+fn assemble<A: Allocator + Copy>(
+    alloc: A,
+    frame: Frame<'_>,
+    dialogue: Option<&[u8]>,
+    components: &[u8],
+) -> Result<Vec<u8, A>, CanonFault>
+    requires { HasCause (message frame) }
+    ensures ok { IfOk result (λ octets. octets.items ≡ written_frame (with_portions (option_copied dialogue.entry) components.now (message frame.entry))) }
+    ensures short { OnOk result (length (written_frame (with_portions (option_copied dialogue.entry) components.now (message frame.entry))) ≤ message_limit) }
+    ensures err { IfErr result (λ fault. IsCanonFault (written_frame (with_portions (option_copied dialogue.entry) components.now (message frame.entry))) fault) }
+{
+    let canonical = with_portions(frame, dialogue, components);
+    spell_frame(alloc, &canonical)
+}
+
+/// The octets of a message in the canonical form.
+fn rewrite_frame<A: Allocator + Copy>(alloc: A, frame: Frame<'_>) -> Result<Vec<u8, A>, CanonFault>
+    requires { HasCause (message frame) }
+    ensures ok { IfOk result (λ octets. octets.items ≡ canonical_frame (message frame.entry)) }
+    ensures short { OnOk result (length (canonical_frame (message frame.entry)) ≤ message_limit) }
+    ensures err { IfErr result (λ fault. IsCanonFault (canonical_frame (message frame.entry)) fault) }
+{
+    let portion = rewrite_portion(alloc, dialogue_in(&frame))?;
+    let components = rewrite_components(alloc, components_of(&frame))?;
+    match portion {
+        Some(dialogue) => assemble(
+            alloc,
+            frame,
+            Some(dialogue.as_slice()),
+            components.as_slice(),
+        ),
+        None => assemble(alloc, frame, None, components.as_slice()),
+    }
+}
+
+/// The line of a verdict that is not good.
+fn verdict_text<A: Allocator + Copy>(alloc: A, verdict: Verdict) -> Result<Shown<A>, OutOfMemory>
+    ensures text { IfOk result (λ shown. shown.text.items ≡ line (verdict_words verdict)) }
+    ensures good { IfOk result (λ shown. shown.good ≡ is_good verdict) }
+{
+    let mut text = String::new(alloc);
+    add_verdict(&mut text, verdict)?;
+    Ok(Shown {
+        text: text.into_bytes(),
+        good: verdict.is_good(),
+    })
+}
+
+/// The line of octets in lower case hexadecimal, which is good.
+fn octets_text<A: Allocator + Copy>(alloc: A, octets: &[u8]) -> Result<Shown<A>, OutOfMemory>
+    ensures text { IfOk result (λ shown. shown.text.items ≡ line (encode_lower octets.now)) }
+    ensures good { IfOk result (λ shown. shown.good ≡ true) }
+{
+    let mut text = hex::encode(alloc, octets)?;
+    text.push('\n')?;
+    Ok(Shown {
+        text: text.into_bytes(),
+        good: true,
+    })
+}
+
+/// The text of a message whose verdict is good.
+fn frame_text<A: Allocator + Copy>(alloc: A, frame: Frame<'_>) -> Result<Shown<A>, OutOfMemory>
+    requires { HasCause (message frame) }
+    ensures text { IfOk result (λ shown. shown.text.items ≡ canon_line verdict.Good (canonical_frame (message frame.entry))) }
+    ensures good { IfOk result (λ shown. shown.good ≡ is_good (canon_verdict verdict.Good (canonical_frame (message frame.entry)))) }
+{
+    match rewrite_frame(alloc, frame) {
+        Ok(octets) => octets_text(alloc, octets.as_slice()),
+        Err(CanonFault::TooLong) => verdict_text(alloc, Verdict::TooLong),
+        Err(CanonFault::OutOfMemory) => Err(OutOfMemory),
+    }
+}
+
+/// The text of `canon`: the message in the canonical form, in lower case hexadecimal, where the
+/// verdict on the bytes is good and the form has at most 65,535 bytes; else the verdict.
+pub fn canon_text<A: Allocator + Copy>(alloc: A, bytes: &[u8]) -> Result<Shown<A>, OutOfMemory>
+    ensures text { IfOk result (λ shown. shown.text.items ≡ canon_text_of bytes.now) }
+    ensures good { IfOk result (λ shown. shown.good ≡ canon_is_good bytes.now) }
+{
+    let verdict = verdict_on(bytes);
+    match read_message(bytes) {
+        Ok(frame) => {
+            if verdict.is_good() {
+                frame_text(alloc, frame)
+            } else {
+                verdict_text(alloc, verdict)
+            }
+        }
+        Err(verdict) => verdict_text(alloc, verdict),
+    }
+}
