@@ -5,23 +5,27 @@ use Rattle.hex.specs.Hex.{decode_of}
 use Rattle.clap.specs.Words.{Text}
 use Rattle.tcap_cmd.specs.declared.refusal.Refusal.{Refusal}
 use Rattle.tcap_cmd.specs.declared.refusal.Refusal.TheVariants.{BadCommand, BadHex, OutOfMemory, WriteFailed}
-use Rattle.tcap_cmd.specs.CommandLine.{Asked, show, check, Ask, AskNothing}
+use Rattle.tcap_cmd.specs.CommandLine.{Asked, show, check, canon, Ask, AskNothing}
+use Rattle.tcap_cmd.specs.Canonical.{canon_text_of, canon_is_good}
 use Rattle.tcap_cmd.specs.Show.{show_text_of, check_text_of, show_is_good}
 
 -- HEX of what is asked for (own).
 abbrev pub hex_of : Asked → List ℕ
 hex_of (show hex) = hex
 hex_of (check hex) = hex
+hex_of (canon hex) = hex
 
 -- The text that is asked for, of a message's bytes (own).
 abbrev pub text_of : Asked → List ℕ → List ℕ
 text_of (show hex) bytes = show_text_of bytes
 text_of (check hex) bytes = check_text_of bytes
+text_of (canon hex) bytes = canon_text_of bytes
 
 -- Whether the verdict of that text is good (own).
 abbrev pub is_good_of : Asked → List ℕ → Bool
 is_good_of (show hex) bytes = show_is_good bytes
 is_good_of (check hex) bytes = show_is_good bytes
+is_good_of (canon hex) bytes = canon_is_good bytes
 
 -- HEX spells bytes, their text was written behind what the writer held, and this is its verdict (own).
 pub record IsAnswered (asked : Asked) (old new : Option (List ℕ)) (good : Bool) : Type 0 where

@@ -23,7 +23,7 @@ bare_app = record (new_app (codes "tcap")) { top = record (new_app (codes "tcap"
 
 -- The command `tcap` with its subcommands (own).
 abbrev pub tcap_app : App
-tcap_app = with_subcommand (with_subcommand bare_app (with_hex (codes "show")).top) (with_hex (codes "check")).top
+tcap_app = with_subcommand (with_subcommand (with_subcommand bare_app (with_hex (codes "show")).top) (with_hex (codes "check")).top) (with_hex (codes "canon")).top
 
 -- What words ask for, by their octets (own).
 pub data Asked : Type 0 where
@@ -31,12 +31,15 @@ pub data Asked : Type 0 where
   show : (hex : List ℕ) → Asked
   -- the verdict on the bytes that HEX spells
   check : (hex : List ℕ) → Asked
+  -- the canonical form of the message that HEX spells
+  canon : (hex : List ℕ) → Asked
 
 -- What a subcommand and its arguments ask for (own).
 abbrev pub asked_by : Text × List Row → Option Asked
 asked_by p =
     if bytes_eq p.0 (codes "show") then option_map (λ hex. show hex) (first_of (codes "hex") p.1)
     else if bytes_eq p.0 (codes "check") then option_map (λ hex. check hex) (first_of (codes "hex") p.1)
+    else if bytes_eq p.0 (codes "canon") then option_map (λ hex. canon hex) (first_of (codes "hex") p.1)
     else None
 
 -- What the words ask for (own).
@@ -55,3 +58,4 @@ AskNothing words = (fault_of tcap_app words ≡ [] → ⊥) ⊎ (asked_of words 
 abbrev pub asked : Request → Asked
 asked (request.Show hex) = show hex.now
 asked (request.Check hex) = check hex.now
+asked (request.Canon hex) = canon hex.now

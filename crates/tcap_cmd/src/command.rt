@@ -4,6 +4,7 @@ ghost use Rattle.hex.specs.Hex.{decode_of};
 ghost use Rattle.tcap_cmd.specs.CommandLine.{asked};
 ghost use Rattle.tcap_cmd.specs.Command.{IsAnswered, IsRefusable, IsQuiet, Gave, status_of};
 
+use crate::canon::canon_text;
 use crate::refusal::Refusal;
 use crate::request::Request;
 use crate::show::{check_text, show_text};
@@ -48,6 +49,10 @@ pub fn answer<A: Allocator + Copy, W: Write>(
         Request::Check(hex) => {
             let bytes = bytes_of(heap, hex)?;
             check_text(heap, bytes.as_slice())?
+        }
+        Request::Canon(hex) => {
+            let bytes = bytes_of(heap, hex)?;
+            canon_text(heap, bytes.as_slice())?
         }
     };
     if out.write_all(shown.text.as_slice()).is_err() {

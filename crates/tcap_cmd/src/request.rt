@@ -5,4 +5,6 @@ pub enum Request<'a> {
     Show(&'a str),
     /// `check HEX`: the verdict on the bytes that HEX spells.
     Check(&'a str),
+    /// `canon HEX`: the canonical form of the message that HEX spells.
+    Canon(&'a str),
 }

@@ -26,12 +26,15 @@ fn tcap_command<'a>(alloc: Global) -> Result<Command<'a>, AllocError>
     let check = Command::new(alloc, "check")
         .disable_help_flag(true)
         .arg(hex_argument(alloc))?;
+    let canon = Command::new(alloc, "canon")
+        .disable_help_flag(true)
+        .arg(hex_argument(alloc))?;
     let tcap = Command::new(alloc, "tcap")
         .no_binary_name(true)
         .disable_help_flag(true)
         .disable_help_subcommand(true)
         .subcommand_required(true);
-    tcap.subcommand(show)?.subcommand(check)
+    tcap.subcommand(show)?.subcommand(check)?.subcommand(canon)
 }
 
 /// What the subcommand that was found asks for.
@@ -42,6 +45,7 @@ fn request_of<'a>(matches: &ArgMatches<'a>) -> Option<Request<'a>>
     match name {
         "show" => Some(Request::Show(inner.get_str("hex")?)),
         "check" => Some(Request::Check(inner.get_str("hex")?)),
+        "canon" => Some(Request::Canon(inner.get_str("hex")?)),
         _ => None,
     }
 }

@@ -12,4 +12,7 @@ returns c =
     let check_is : app_of c.in_ok-check.check ≡ with_hex (codes "check") = c.in_ok-check.ensures.shape c.hex_argument-2.ensures.global ∙ ap₂ with_rule bare_check c.hex_argument-2.ensures.rule in
     let top_is : app_of c.subcommand_required-tcap.result ≡ bare_app = search rules in
     let one : app_of c.in_ok-subcommand.field-0 ≡ with_subcommand bare_app (with_hex (codes "show")).top = c.in_ok-subcommand.ensures.shape (search (rules, c.new.ensures.local, c.disable_help_flag.ensures, c.in_ok-show.ensures.globals, c.hex_argument.ensures.global)) ∙ ap₂ with_subcommand top_is (ap (λ (a : App). a.top) show_is) in
-    IfOk-weaker c.subcommand-2.result _ _ (λ m h. h.shape (search (rules, c.new-2.ensures.local, c.disable_help_flag-2.ensures, c.in_ok-check.ensures.globals, c.hex_argument-2.ensures.global)) ∙ ap₂ with_subcommand one (ap (λ (a : App). a.top) check_is)) c.subcommand-2.ensures
+    let two : app_of c.in_ok-subcommand-2.field-0 ≡ with_subcommand (with_subcommand bare_app (with_hex (codes "show")).top) (with_hex (codes "check")).top = c.in_ok-subcommand-2.ensures.shape (search (rules, c.new-2.ensures.local, c.disable_help_flag-2.ensures, c.in_ok-check.ensures.globals, c.hex_argument-2.ensures.global)) ∙ ap₂ with_subcommand one (ap (λ (a : App). a.top) check_is) in
+    let bare_canon : app_of c.disable_help_flag-3.result ≡ without_help (new_app (codes "canon")) = search (rules, c.new-3.ensures.app, c.disable_help_flag-3.ensures) in
+    let canon_is : app_of c.in_ok-canon.canon ≡ with_hex (codes "canon") = c.in_ok-canon.ensures.shape c.hex_argument-3.ensures.global ∙ ap₂ with_rule bare_canon c.hex_argument-3.ensures.rule in
+    IfOk-weaker c.subcommand-3.result _ _ (λ m h. h.shape (search (rules, c.new-3.ensures.local, c.disable_help_flag-3.ensures, c.in_ok-canon.ensures.globals, c.hex_argument-3.ensures.global)) ∙ ap₂ with_subcommand two (ap (λ (a : App). a.top) canon_is)) c.subcommand-3.ensures
