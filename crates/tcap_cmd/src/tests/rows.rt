@@ -156,7 +156,12 @@ fn run(alloc: Global, words: &[&str]) -> (u8, Vec<u8>, Vec<u8>) {
 fn words_of_the_command(rt: HostRuntime) -> Result<(), Fail> {
     let rows: [(&[&str], u8, &str, &str); 22] = [
         (&["check", "62084804000000016C00"], 0, "good\n", ""),
-        (&["canon", "62084804000000016C00"], 0, "6206480400000001\n", ""),
+        (
+            &["canon", "62084804000000016C00"],
+            0,
+            "6206480400000001\n",
+            "",
+        ),
         (
             &["check", "620F4804000000016C07A4050500800102"],
             0,
