@@ -1,5 +1,5 @@
 -- The text of `show`, and its verdict.
-use Rattle.std.specs.Prelude.{ℕ, Bool, true, false, List, [], ◌++◌, codes, length, Option, Some, None, Result, Ok, Err, ◌==◌, if◌then◌else◌}
+use Rattle.std.specs.Prelude.{ℕ, Bool, List, [], ◌++◌, codes, length, Option, Some, None, Result, Ok, Err, ◌==◌, if◌then◌else◌}
 use Rattle.tcap_pdu.specs.FrameSpelling.{Reason, Message}
 use Rattle.tcap_pdu.specs.FrameSpelling.Reason.{nothing, cause, portion}
 use Rattle.tcap_pdu.specs.FrameSpelling.Message.{unidirectional, begin, end, go_on, abort}

@@ -1,4 +1,4 @@
-use Rattle.std.proofs.Common.{◌≡◌, ◌∙◌, ap}
+use Rattle.std.proofs.Common.{◌∙◌, ap}
 use Rattle.tcap_component.specs.Views.{components_left}
 use Rattle.tcap_cmd.proofs.ItemLines.{sought, few_left}
 use Rattle.tcap_cmd.proofs.judge.faulty_place.Goals as goal

@@ -1,4 +1,4 @@
-use Rattle.std.proofs.Common.{◌≡◌, ◌∙◌, sym}
+use Rattle.std.proofs.Common.{◌∙◌, sym}
 use Rattle.tcap_cmd.proofs.TextSteps.{after_one}
 use Rattle.tcap_cmd.proofs.show.add_components.Goals as goal
 
