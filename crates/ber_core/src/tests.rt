@@ -88,6 +88,18 @@ fn elements_one_in_another(rt: HostRuntime) -> Result<(), Fail> {
 }
 
 #[test]
+fn whole_longer_than_a_length(rt: HostRuntime) -> Result<(), Fail> {
+    let content = vec![in rt.alloc(); 0u8; 40_000]?;
+    let mut bytes = Vec::new(rt.alloc());
+    bytes.extend_from_slice(&[0x30, 0x80])?;
+    write_element(&mut bytes, &[0x04], content.as_slice())?;
+    write_element(&mut bytes, &[0x04], content.as_slice())?;
+    bytes.extend_from_slice(&[0x00, 0x00])?;
+    assert_eq!(rt; lengths_of(bytes.as_slice()), Some((80_008, 0)));
+    Ok(())
+}
+
+#[test]
 fn heads(rt: HostRuntime) -> Result<(), Fail> {
     let head = read_head(&[0x62, 0x82, 0x00, 0x15, 0x48])?;
     assert_eq!(rt; head.length, Some(0x15));
