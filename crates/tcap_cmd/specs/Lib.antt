@@ -3,6 +3,7 @@ pub mod Command
 pub mod CommandLine
 pub mod ComponentText
 pub mod DialogueText
+pub mod Refusal
 pub mod Show
 pub mod Text
 pub mod Verdict

@@ -14,8 +14,13 @@ pub enum Refusal {
 }
 
 impl Refusal {
+    ghost use Rattle.std.specs.Prelude.{◌≡◌};
+    ghost use Rattle.tcap_cmd.specs.Refusal.{refusal_words};
+
     /// The words of the line on standard error.
-    pub fn words(self) -> &'static str {
+    pub fn words(self) -> &'static str
+        ensures { result.now ≡ refusal_words self }
+    {
         match self {
             Refusal::BadCommand => "bad command",
             Refusal::BadHex => "bad hex",
