@@ -1,0 +1,44 @@
+-- What a user asks of one dialogue: the request primitives of TC.
+use Rattle.std.specs.Prelude.{ℕ, ℤ, List, Option}
+use Rattle.tcap_component.specs.Component.{CodeParts, BodyParts}
+use Rattle.tcap_component.specs.Problem.{ProblemParts}
+use Rattle.tcap_invocation.specs.declared.class.Class.{Class}
+
+-- How a dialogue ends: basic, with an End to the peer, or prearranged, with none
+-- (Q.771, Dialogue end).
+pub data Ending : Type 0 where
+  basic : Ending
+  prearranged : Ending
+
+-- Why the user aborts: for a reason of its own, or since it doesn't support the application context
+-- (Q.771, User abort).
+pub data AbortReason : Type 0 where
+  by_user : AbortReason
+  not_supported : AbortReason
+
+-- The requests on one dialogue, with their parameters. An application context is given by the
+-- contents octets of its object identifier; user information is a list of EXTERNALs, empty where
+-- there is none; a timeout is in milliseconds (Q.771, Component handling; Q.771, Dialogue handling).
+pub data Request : Type 0 where
+  -- TC-INVOKE
+  invoke : (id : ℤ) (class : Class) (code : CodeParts) (parameter : Option (List ℕ)) (linked : Option ℤ) (timeout : ℕ) → Request
+  -- TC-RESULT-L
+  result_last : (id : ℤ) (body : Option BodyParts) → Request
+  -- TC-RESULT-NL
+  result_more : (id : ℤ) (body : Option BodyParts) → Request
+  -- TC-U-ERROR
+  error_back : (id : ℤ) (code : CodeParts) (parameter : Option (List ℕ)) → Request
+  -- TC-U-REJECT
+  u_reject : (id : Option ℤ) (problem : ProblemParts) → Request
+  -- TC-U-CANCEL
+  u_cancel : (id : ℤ) → Request
+  -- TC-UNI
+  uni : (context : Option (List ℕ)) (info : List ℕ) → Request
+  -- TC-BEGIN
+  begin : (context : Option (List ℕ)) (info : List ℕ) → Request
+  -- TC-CONTINUE
+  go_on : (context : Option (List ℕ)) (info : List ℕ) → Request
+  -- TC-END
+  finish : (ending : Ending) (context : Option (List ℕ)) (info : List ℕ) → Request
+  -- TC-U-ABORT
+  u_abort : (why : AbortReason) (info : List ℕ) → Request
