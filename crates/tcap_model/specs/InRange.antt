@@ -1,5 +1,5 @@
 -- The numbers of an event are those that its types hold.
-use Rattle.std.specs.Prelude.{ℕ, ℤ, pos, negsuc, ◌^◌, ◌-◌, ◌&&◌, Bool, true, false, List, Option, Some, None, IsTrue, nat_lt, nat_le, int_le}
+use Rattle.std.specs.Prelude.{ℕ, ℤ, pos, negsuc, ◌^◌, ◌-◌, ◌&&◌, Bool, true, List, Option, Some, None, IsTrue, nat_lt, nat_le, int_le}
 use Rattle.std.specs.List.{list_all}
 use Rattle.tcap_component.specs.Problem.{ProblemParts, problem_limit}
 use Rattle.tcap_component.specs.Component.{CodeParts, BodyParts}

@@ -1,7 +1,11 @@
 pub mod Answer
+pub mod Destination
 pub mod Event
 pub mod Fault
 pub mod Hex
 pub mod InRange
+pub mod LocalId
 pub mod Output
+pub mod PortionRules
 pub mod Request
+pub mod State

@@ -1,0 +1,16 @@
+-- The local transaction identifier: that of a dialogue, sent as four octets.
+use Rattle.std.specs.Prelude.{ℕ, List, length, Bool, bytes_eq, Option, Some, None, if◌then◌else◌, ◌==◌}
+use Rattle.std.specs.Int.{w32, to_be_bytes, from_be_bytes}
+
+-- The octets of a dialogue identifier, the most significant first (Q.773, Transaction ID; that they
+-- are four is own).
+abbrev pub local_id : ℕ → List ℕ
+local_id dialogue = to_be_bytes w32 dialogue
+
+-- The dialogue identifier that four octets are; other octets name no dialogue (own).
+abbrev pub dialogue_named : List ℕ → Option ℕ
+dialogue_named octets = if length octets == 4 then Some (from_be_bytes w32 octets) else None
+
+-- Whether the octets are those of a dialogue (own).
+abbrev pub is_local_id : ℕ → List ℕ → Bool
+is_local_id dialogue octets = bytes_eq octets (local_id dialogue)

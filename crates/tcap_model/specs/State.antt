@@ -1,0 +1,25 @@
+-- How far a dialogue is.
+use Rattle.std.specs.Prelude.{Bool, true, false, List, ℕ, Option, Some, None}
+
+-- The states of a dialogue: Idle, Initiation Sent, Initiation Received and Active. The peer's
+-- transaction identifier, by its octets, is known from the first message of the peer on
+-- (Q.774, Transaction state machine).
+pub data State : Type 0 where
+  fresh : State
+  sent : State
+  received : (peer : List ℕ) → State
+  active : (peer : List ℕ) → State
+
+-- A dialogue is live in Initiation Sent and in Active: messages to it are taken (own).
+abbrev pub is_live : State → Bool
+is_live fresh = false
+is_live sent = true
+is_live (received peer) = false
+is_live (active peer) = true
+
+-- The peer's transaction identifier, once it is known (Q.774, Transaction state machine).
+abbrev pub peer_of : State → Option (List ℕ)
+peer_of fresh = None
+peer_of sent = None
+peer_of (received peer) = Some peer
+peer_of (active peer) = Some peer
