@@ -23,7 +23,7 @@ begins_addressed (b ∷ bytes) = (b == 0x64) || (b == 0x65) || (b == 0x67)
 -- front (own).
 abbrev pub destination_by : List ℕ → Result Message FrameFault → Option (List ℕ)
 destination_by bytes (Ok m) = destination m
-destination_by bytes (Err fault) = if begins_addressed bytes then (front_at bytes).1 else None
+destination_by bytes (Err f) = if begins_addressed bytes then (front_at bytes).1 else None
 
 -- The destination of received bytes, if they have one (own).
 abbrev pub destination_of : List ℕ → Option (List ℕ)

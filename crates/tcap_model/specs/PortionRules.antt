@@ -24,7 +24,7 @@ begin_verdict_by (Ok (audt version1 context info)) = BeginVerdict.abnormal
 begin_verdict_by (Ok (aare version1 context accepted diagnostic info)) = BeginVerdict.abnormal
 begin_verdict_by (Ok (abrt by_provider info)) = BeginVerdict.abnormal
 begin_verdict_by (Ok (foreign external)) = BeginVerdict.abnormal
-begin_verdict_by (Err fault) = BeginVerdict.abnormal
+begin_verdict_by (Err f) = BeginVerdict.abnormal
 
 -- A Begin has no dialogue portion or an AARQ (Q.774, Dialogue begin).
 abbrev pub begin_verdict : Option (List ℕ) → BeginVerdict
@@ -47,7 +47,7 @@ response_verdict (Ok (aarq version1 context info)) = PortionVerdict.abnormal
 response_verdict (Ok (audt version1 context info)) = PortionVerdict.abnormal
 response_verdict (Ok (abrt by_provider info)) = PortionVerdict.abnormal
 response_verdict (Ok (foreign external)) = PortionVerdict.abnormal
-response_verdict (Err fault) = PortionVerdict.abnormal
+response_verdict (Err f) = PortionVerdict.abnormal
 
 -- No dialogue portion may stand there (Q.774, Dialogue continuation).
 abbrev pub absent_verdict : Option (List ℕ) → PortionVerdict
@@ -83,7 +83,7 @@ uni_verdict_by (Ok (aarq version1 context info)) = PortionVerdict.abnormal
 uni_verdict_by (Ok (aare version1 context accepted diagnostic info)) = PortionVerdict.abnormal
 uni_verdict_by (Ok (abrt by_provider info)) = PortionVerdict.abnormal
 uni_verdict_by (Ok (foreign external)) = PortionVerdict.abnormal
-uni_verdict_by (Err fault) = PortionVerdict.abnormal
+uni_verdict_by (Err f) = PortionVerdict.abnormal
 
 -- The same, where there may be none (Q.774, Unstructured dialogue).
 abbrev pub uni_verdict : Option (List ℕ) → PortionVerdict
