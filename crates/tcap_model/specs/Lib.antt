@@ -1,4 +1,5 @@
 pub mod Answer
+pub mod ComponentRequest
 pub mod Destination
 pub mod Event
 pub mod Fault
@@ -7,5 +8,10 @@ pub mod InRange
 pub mod LocalId
 pub mod Output
 pub mod PortionRules
+pub mod QueueRules
+pub mod Refusals
 pub mod Request
+pub mod RequestMessage
+pub mod Standing
 pub mod State
+pub mod States
