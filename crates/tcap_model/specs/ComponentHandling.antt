@@ -1,6 +1,5 @@
 -- What one received component tells and which Reject it has.
-use Rattle.std.specs.Prelude.{ℕ, ℤ, List, Bool, true, false, Option, Some, None, Result, Ok, Err, if◌then◌else◌}
-use Rattle.tcap_component.specs.declared.problem.Kind.{Kind}
+use Rattle.std.specs.Prelude.{ℕ, ℤ, List, Option, Some, None, Result, Ok, Err, if◌then◌else◌}
 use Rattle.tcap_component.specs.declared.problem.Kind.TheVariants as kind
 use Rattle.tcap_component.specs.Problem.{ProblemParts, is_by_provider}
 use Rattle.tcap_component.specs.Component.{ComponentParts, CodeParts, BodyParts}

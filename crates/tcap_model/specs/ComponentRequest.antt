@@ -1,5 +1,5 @@
 -- The components that requests ask for.
-use Rattle.std.specs.Prelude.{ℕ, ℤ, List, Option, Some, None}
+use Rattle.std.specs.Prelude.{ℕ, ℤ, Option, Some, None}
 use Rattle.tcap_component.specs.Component.{ComponentParts}
 use Rattle.tcap_model.specs.Request.{Request}
 use Rattle.tcap_model.specs.QueueRules.{Invoking, Queued, queued}

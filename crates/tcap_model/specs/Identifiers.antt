@@ -1,5 +1,5 @@
 -- The identifiers of dialogues and the numbers of invocations.
-use Rattle.std.specs.Prelude.{ℕ, ◌-◌, ◌^◌, ◌==◌, ◌||◌, Bool, nat_le, List, [], ◌∷◌, Option, Some, None, if◌then◌else◌}
+use Rattle.std.specs.Prelude.{ℕ, ◌-◌, ◌^◌, ◌==◌, Bool, nat_le, Option, Some, None, if◌then◌else◌}
 use Rattle.tcap_model.specs.Fault.{Fault}
 
 -- The greatest dialogue identifier, which is never drawn (own).

@@ -3,6 +3,7 @@ pub mod Answer
 pub mod ComponentHandling
 pub mod ComponentRequest
 pub mod Destination
+pub mod Dialogue
 pub mod Event
 pub mod Fault
 pub mod Hex
@@ -19,4 +20,5 @@ pub mod RequestMessage
 pub mod Standing
 pub mod State
 pub mod States
+pub mod TableMove
 pub mod Time

@@ -1,5 +1,5 @@
 -- When a request on a dialogue is refused, and with which fault.
-use Rattle.std.specs.Prelude.{ℕ, ℤ, ◌&&◌, ◌||◌, Bool, true, false, not, nat_lt, nat_le, List, [], ◌∷◌, length, Option, Some, None, is_some, is_none, if◌then◌else◌}
+use Rattle.std.specs.Prelude.{ℕ, ◌&&◌, ◌||◌, Bool, true, false, not, nat_lt, nat_le, List, [], ◌∷◌, length, Option, Some, None, is_some, is_none, if◌then◌else◌}
 use Rattle.ber_core.specs.ObjectIdentifier.{is_object_identifier}
 use Rattle.tcap_pdu.specs.DialoguePartsReading.{is_information}
 use Rattle.tcap_pdu.specs.FrameSpelling.{Message}

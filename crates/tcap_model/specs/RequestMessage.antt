@@ -1,11 +1,11 @@
 -- What the dialogue requests write.
-use Rattle.std.specs.Prelude.{ℕ, Bool, true, false, List, Option, Some, None, unwrap_or}
+use Rattle.std.specs.Prelude.{ℕ, true, false, List, Option, Some, None, unwrap_or}
 use Rattle.tcap_pdu.specs.DialogueSpelling.{PduValue, Source}
 use Rattle.tcap_pdu.specs.DialogueWritten.{written_dialogue}
 use Rattle.tcap_pdu.specs.FrameSpelling.{Message, Reason}
 use Rattle.tcap_model.specs.State.{State}
 use Rattle.tcap_model.specs.LocalId.{local_id}
-use Rattle.tcap_model.specs.QueueRules.{Queued, joined}
+use Rattle.tcap_model.specs.QueueRules.{joined}
 use Rattle.tcap_model.specs.Standing.{Standing}
 use Rattle.tcap_model.specs.Request.{Request, Ending, AbortReason}
 

@@ -1,5 +1,5 @@
 -- Which requests a dialogue has, by its state.
-use Rattle.std.specs.Prelude.{Bool, true, false, List, ℕ, Option, Some, None, is_some}
+use Rattle.std.specs.Prelude.{Bool, true, false, List, ℕ, Option, is_some}
 use Rattle.tcap_model.specs.State.{State}
 use Rattle.tcap_model.specs.Request.{Request, Ending, AbortReason}
 
