@@ -1,26 +1,11 @@
 -- Which mark closes an invocation, and how.
 use Rattle.std.specs.Prelude.{ℕ, ◌+◌, List, Option, Some, None, nat_le, if◌then◌else◌}
-use Rattle.tcap_component.specs.declared.problem.Kind.TheVariants as kind
-use Rattle.tcap_component.specs.Problem.{ProblemParts, is_by_provider}
 use Rattle.tcap_invocation.specs.declared.class.Class.{Class}
 use Rattle.tcap_invocation.specs.Class.{Received, Consequence, class_rule}
+use Rattle.tcap_model.specs.ComponentHandling.{unexpected_result, unexpected_error, remote_rejector}
 use Rattle.tcap_model.specs.Deadline.{sent_clock}
 use Rattle.tcap_model.specs.Marks.{Mark, Noted}
 use Rattle.tcap_model.specs.Output.{Closing, Rejector}
-
--- Return Result problem 1: a Return Result that the class doesn't have
--- (Q.773, Return Result Problem).
-abbrev pub unexpected_result : ProblemParts
-unexpected_result = record { kind = kind.Result; code = 1 }
-
--- Return Error problem 1: a Return Error that the class doesn't have (Q.773, Return Error Problem).
-abbrev pub unexpected_error : ProblemParts
-unexpected_error = record { kind = kind.Error; code = 1 }
-
--- Whether the peer's component sublayer or its user rejects, by the problem
--- (Q.774, Component sublayer procedures).
-abbrev pub rejector_of : ProblemParts → Rejector
-rejector_of problem = if is_by_provider problem then Rejector.remote_provider else Rejector.remote_user
 
 -- How an answer closes the invocation, by what comes of it; the first argument is what it gives where
 -- it is good (Q.774, Component sublayer procedures).
@@ -49,7 +34,7 @@ closing_of class timeout (Some sent) (Mark.moment now) = if nat_le (sent + timeo
 closing_of class timeout (Some sent) (Mark.last body) = closing_by (Some (Closing.result_last body)) (class_rule class Received.return_result_last)
 closing_of class timeout (Some sent) (Mark.more body) = closing_by None (class_rule class Received.return_result_not_last)
 closing_of class timeout (Some sent) (Mark.error code parameter) = closing_by (Some (Closing.error_back code parameter)) (class_rule class Received.return_error)
-closing_of class timeout (Some sent) (Mark.reject problem) = closing_by (Some (Closing.rejected problem (rejector_of problem))) (class_rule class (Received.reject problem.kind))
+closing_of class timeout (Some sent) (Mark.reject problem) = closing_by (Some (Closing.rejected problem (remote_rejector problem))) (class_rule class (Received.reject problem.kind))
 
 -- How a mark closes an invocation, by the marks before it in its span
 -- (Q.774, Invocation state machine).
