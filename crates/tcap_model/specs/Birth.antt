@@ -1,10 +1,11 @@
 -- How dialogues come to be, and which identifier is drawn next.
-use Rattle.std.specs.Prelude.{ℕ, ◌+◌, ◌==◌, List, [], ◌∷◌, Bool, false, Option, Some, None, is_some, option_to_list, if◌then◌else◌}
+use Rattle.std.specs.Prelude.{ℕ, ◌+◌, List, [], ◌∷◌, Bool, Option, Some, None, is_some, option_to_list, if◌then◌else◌}
 use Rattle.std.specs.Option.{option_or}
 use Rattle.std.specs.List.{list_any}
 use Rattle.tcap_model.specs.Answer.{Answer}
 use Rattle.tcap_model.specs.Event.{Event}
 use Rattle.tcap_model.specs.History.{History}
+use Rattle.tcap_model.specs.LocalId.{is_that}
 use Rattle.tcap_model.specs.Output.{Output}
 use Rattle.tcap_model.specs.Pair.{Pair, Past, gathered}
 
@@ -70,11 +71,6 @@ next_dialogue history = history.start.next_dialogue + births history.pairs
 -- The dialogues that were born, in order of birth (own).
 abbrev pub dialogues : Past → List ℕ
 dialogues past = gathered (λ pair before. option_to_list (born_by pair)) past
-
--- It is this dialogue (own).
-abbrev pub is_that : ℕ → Option ℕ → Bool
-is_that dialogue None = false
-is_that dialogue (Some born) = born == dialogue
 
 -- Whether this pair is the birth of the dialogue (own).
 abbrev pub is_birth_of : ℕ → Pair → Bool

@@ -1,5 +1,5 @@
 -- The local transaction identifier: that of a dialogue, sent as four octets.
-use Rattle.std.specs.Prelude.{ℕ, List, length, Bool, bytes_eq, Option, Some, None, if◌then◌else◌, ◌==◌}
+use Rattle.std.specs.Prelude.{ℕ, List, length, Bool, false, bytes_eq, Option, Some, None, if◌then◌else◌, ◌==◌}
 use Rattle.std.specs.Int.{w32, to_be_bytes, from_be_bytes}
 
 -- The octets of a dialogue identifier, the most significant first (Q.773, Transaction ID; that they
@@ -14,3 +14,8 @@ dialogue_named octets = if length octets == 4 then Some (from_be_bytes w32 octet
 -- Whether the octets are those of a dialogue (own).
 abbrev pub is_local_id : ℕ → List ℕ → Bool
 is_local_id dialogue octets = bytes_eq octets (local_id dialogue)
+
+-- It is this dialogue (own).
+abbrev pub is_that : ℕ → Option ℕ → Bool
+is_that dialogue None = false
+is_that dialogue (Some named) = named == dialogue

@@ -4,12 +4,12 @@ use Rattle.tcap_pdu.specs.FrameWritten.{message_limit}
 use Rattle.tcap_model.specs.Destination.{destination_of}
 use Rattle.tcap_model.specs.Event.{Event}
 use Rattle.tcap_model.specs.Event.Event.{new_dialogue, on_dialogue, received, moment}
-use Rattle.tcap_model.specs.LocalId.{is_local_id}
+use Rattle.tcap_model.specs.LocalId.{dialogue_named, is_that}
 
 -- A destination transaction identifier names the dialogue whose four octets it is (own).
 abbrev pub is_destined : ℕ → Option (List ℕ) → Bool
 is_destined dialogue None = false
-is_destined dialogue (Some octets) = is_local_id dialogue octets
+is_destined dialogue (Some octets) = is_that dialogue (dialogue_named octets)
 
 -- Bytes name the dialogue that their destination names, unless they are longer than a message may
 -- be; the first argument tells whether they are short enough (own).

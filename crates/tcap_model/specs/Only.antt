@@ -1,8 +1,9 @@
 -- What one dialogue sees of a history.
 use Rattle.std.specs.Prelude.{ℕ, [], ◌∷◌, Bool, true, false, ◌&&◌, ◌||◌, Option, Some, None, filter, if◌then◌else◌}
 use Rattle.tcap_model.specs.Answer.{Answer}
-use Rattle.tcap_model.specs.Birth.{is_that, is_birth_of, was_born}
+use Rattle.tcap_model.specs.Birth.{is_birth_of, was_born}
 use Rattle.tcap_model.specs.Event.{Event}
+use Rattle.tcap_model.specs.LocalId.{is_that}
 use Rattle.tcap_model.specs.Names.{names}
 use Rattle.tcap_model.specs.Output.{Output}
 use Rattle.tcap_model.specs.Pair.{Pair, Past}
