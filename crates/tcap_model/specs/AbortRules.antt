@@ -54,6 +54,11 @@ abort_told d (Reason.portion content) = portion_told d (dialogue_at content)
 abbrev pub sent : Message → Output
 sent m = Output.send (written_frame m)
 
+-- What is sent, if anything is (own).
+abbrev pub sent_if_any : Option Message → List Output
+sent_if_any None = []
+sent_if_any (Some m) = sent m ∷ []
+
 -- The Abort with a P-Abort cause to a peer (Q.774, Abort by the provider).
 abbrev pub abort_with : ℕ → List ℕ → Output
 abort_with number peer = sent (Message.abort peer (Reason.cause number))

@@ -2,7 +2,7 @@
 use Rattle.std.specs.Prelude.{ℕ, ◌+◌, List, Option, Some, None, nat_le, if◌then◌else◌}
 use Rattle.tcap_invocation.specs.declared.class.Class.{Class}
 use Rattle.tcap_invocation.specs.Class.{Received, Consequence, class_rule}
-use Rattle.tcap_model.specs.ComponentHandling.{unexpected_result, unexpected_error, remote_rejector}
+use Rattle.tcap_model.specs.Problems.{unexpected_result, unexpected_error, remote_rejector}
 use Rattle.tcap_model.specs.Deadline.{sent_clock}
 use Rattle.tcap_model.specs.Marks.{Mark, Noted}
 use Rattle.tcap_model.specs.Output.{Closing, Rejector}

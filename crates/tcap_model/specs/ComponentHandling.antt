@@ -1,13 +1,14 @@
 -- What one received component tells and which Reject it has.
-use Rattle.std.specs.Prelude.{ℕ, ℤ, List, Option, Some, None, Result, Ok, Err, if◌then◌else◌}
+use Rattle.std.specs.Prelude.{ℕ, ℤ, List, Option, Some, None, Result, Ok, Err, map, if◌then◌else◌}
 use Rattle.tcap_component.specs.declared.problem.Kind.TheVariants as kind
-use Rattle.tcap_component.specs.Problem.{ProblemParts, is_by_provider}
+use Rattle.tcap_component.specs.Problem.{ProblemParts}
 use Rattle.tcap_component.specs.Component.{ComponentParts, CodeParts, BodyParts}
 use Rattle.tcap_component.specs.Component.ComponentParts.{invoke, result_last, error_back, reject_back, result_more}
 use Rattle.tcap_component.specs.ComponentFault.{FaultParts}
 use Rattle.tcap_invocation.specs.declared.class.Class.{Class}
 use Rattle.tcap_invocation.specs.Class.{Received, Consequence, class_rule}
 use Rattle.tcap_model.specs.Output.{Output, Closing, Rejector}
+use Rattle.tcap_model.specs.Problems.{unrecognized_linked, unrecognized_result, unexpected_result, unrecognized_error, unexpected_error, remote_rejector}
 
 -- A component that was read, or the fault of one that can't be read (own).
 abbrev pub Item : Type 0
@@ -53,30 +54,6 @@ closing sent id how = telling (Output.closed sent.dialogue sent.number id how)
 abbrev pub closing_unexpected : SentInvocation → ℤ → ProblemParts → Handled
 closing_unexpected sent id problem =
     record { told = Output.closed sent.dialogue sent.number id (Closing.rejected problem Rejector.local); reject = Some (reject_back (Some id) problem) }
-
--- The invoke problem "unrecognized linked identifier" (Q.773, Invoke Problem).
-abbrev pub unrecognized_linked : ProblemParts
-unrecognized_linked = record { kind = kind.Invoke; code = 5 }
-
--- The return result problem "unrecognized invoke identifier" (Q.773, Return Result Problem).
-abbrev pub unrecognized_result : ProblemParts
-unrecognized_result = record { kind = kind.Result; code = 0 }
-
--- The return result problem "return result unexpected" (Q.773, Return Result Problem).
-abbrev pub unexpected_result : ProblemParts
-unexpected_result = record { kind = kind.Result; code = 1 }
-
--- The return error problem "unrecognized invoke identifier" (Q.773, Return Error Problem).
-abbrev pub unrecognized_error : ProblemParts
-unrecognized_error = record { kind = kind.Error; code = 0 }
-
--- The return error problem "return error unexpected" (Q.773, Return Error Problem).
-abbrev pub unexpected_error : ProblemParts
-unexpected_error = record { kind = kind.Error; code = 1 }
-
--- Who rejects, by the problem: the peer's component sublayer or the peer's user (own).
-abbrev pub remote_rejector : ProblemParts → Rejector
-remote_rejector problem = if is_by_provider problem then Rejector.remote_provider else Rejector.remote_user
 
 -- An Invoke is told: it has no linked identifier, or that of an invocation that is Sent; with any
 -- other linked identifier it is rejected (Q.774, Component handling).
@@ -153,3 +130,12 @@ handled dialogue sent (Ok (result_more id body)) = result_handled dialogue sent 
 handled dialogue sent (Ok (error_back id code parameter)) = error_handled dialogue sent id code parameter
 handled dialogue sent (Ok (reject_back id problem)) = reject_handled dialogue sent id problem
 handled dialogue sent (Err f) = record { told = Output.local_reject dialogue f.id f.problem; reject = fault_reject f }
+
+-- What some components tell (Q.774, Component handling).
+abbrev pub told_of : List Handled → List Output
+told_of components = map (λ (h : Handled). h.told) components
+
+-- What the components of a Unidirectional tell: no invocation is Sent there, and no Reject goes out
+-- (Q.774, Unstructured dialogue).
+abbrev pub uni_told : List Item → List Output
+uni_told items = map (λ item. (handled None None item).told) items

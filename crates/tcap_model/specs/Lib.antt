@@ -10,13 +10,16 @@ pub mod Deadline
 pub mod Decision
 pub mod Destination
 pub mod Dialogue
+pub mod Due
 pub mod Event
 pub mod Fault
+pub mod Held
 pub mod Hex
 pub mod History
 pub mod Identifiers
 pub mod InRange
 pub mod Invocation
+pub mod Legal
 pub mod Life
 pub mod LocalId
 pub mod Marks
@@ -27,9 +30,12 @@ pub mod Outcome
 pub mod Output
 pub mod Pair
 pub mod PortionRules
+pub mod Problems
+pub mod Queue
 pub mod QueueRules
 pub mod Reception
 pub mod Refusals
+pub mod Reply
 pub mod Request
 pub mod RequestMessage
 pub mod Span
@@ -38,3 +44,4 @@ pub mod State
 pub mod States
 pub mod TableMove
 pub mod Time
+pub mod World

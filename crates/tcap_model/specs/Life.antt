@@ -10,7 +10,7 @@ use Rattle.tcap_model.specs.Names.{names}
 use Rattle.tcap_model.specs.Pair.{Pair, Past}
 use Rattle.tcap_model.specs.PortionRules.{BeginVerdict, begin_verdict, PortionVerdict, portion_verdict}
 use Rattle.tcap_model.specs.Request.{Request}
-use Rattle.tcap_model.specs.State.{State, is_live}
+use Rattle.tcap_model.specs.State.{State, is_live, activated}
 
 -- A dialogue isn't born yet; it stands, with its state and the application context of its Begin; or
 -- it is over (Q.774, Transaction state machine).
@@ -70,13 +70,6 @@ life_at_birth false event = Life.unborn
 life_at_birth true event = born_life event
 
 -- ---- requests
-
--- TC-CONTINUE leads from Initiation Received to Active (Q.774, Dialogue continuation).
-abbrev pub activated : State → State
-activated State.fresh = State.fresh
-activated State.sent = State.sent
-activated (State.received peer) = State.active peer
-activated (State.active peer) = State.active peer
 
 -- What an accepted request makes of a dialogue that stands: TC-BEGIN leads to Initiation Sent,
 -- TC-CONTINUE to Active; TC-UNI, TC-END and TC-U-ABORT end it; component requests leave it

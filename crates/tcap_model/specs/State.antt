@@ -23,3 +23,18 @@ peer_of fresh = None
 peer_of sent = None
 peer_of (received peer) = Some peer
 peer_of (active peer) = Some peer
+
+-- The first answer makes the dialogue Active (Q.774, Transaction state machine).
+abbrev pub activated : State → State
+activated fresh = fresh
+activated sent = sent
+activated (received peer) = active peer
+activated (active peer) = active peer
+
+-- The peer of a Continue: the one known, or else its originator
+-- (Q.774, Transaction state machine).
+abbrev pub peer_by : State → List ℕ → List ℕ
+peer_by fresh origin = origin
+peer_by sent origin = origin
+peer_by (received peer) origin = peer
+peer_by (active peer) origin = peer

@@ -15,7 +15,7 @@ use Rattle.tcap_invocation.specs.Lapses.{told_at, after_lapse}
 use Rattle.tcap_model.specs.Answer.{Answer}
 use Rattle.tcap_model.specs.Output.{Output, Closing, AbortCause}
 use Rattle.tcap_model.specs.Fault.{Fault}
-use Rattle.tcap_model.specs.State.{State}
+use Rattle.tcap_model.specs.State.{State, activated, peer_by}
 use Rattle.tcap_model.specs.Request.{Request}
 use Rattle.tcap_model.specs.QueueRules.{Queued, queued, queue_each, without_invoke}
 use Rattle.tcap_model.specs.ComponentRequest.{identifier_of, queued_for}
@@ -23,7 +23,7 @@ use Rattle.tcap_model.specs.RequestMessage.{message_of}
 use Rattle.tcap_model.specs.Refusals.{Situation, due_on}
 use Rattle.tcap_model.specs.Identifiers.{are_numbers_spent}
 use Rattle.tcap_model.specs.PortionRules.{PortionVerdict, portion_verdict}
-use Rattle.tcap_model.specs.AbortRules.{sent, abort_told, abnormal_abort}
+use Rattle.tcap_model.specs.AbortRules.{sent_if_any, abort_told, abnormal_abort}
 use Rattle.tcap_model.specs.ComponentHandling.{Item, Handled, handled, subject_of}
 use Rattle.tcap_model.specs.Dialogue.{Dialogue, fresh_dialogue, with_queue, with_invocations, in_state, in_context, sent_by_rows}
 
@@ -85,11 +85,6 @@ walked dialogue clock list (item ∷ items) =
 abbrev pub walked_in : ℕ → Dialogue → List ℕ → Walked
 walked_in clock d components = walked d.standing.identifier clock d.invocations (components_of components)
 
--- The components of a Unidirectional: no invocation is Sent there, and no Reject goes out
--- (Q.774, Unstructured dialogue).
-abbrev pub uni_told : List ℕ → List Output
-uni_told components = map (λ item. (handled None None item).told) (components_of components)
-
 -- ---- the end of a dialogue
 
 -- Each invocation that is Queued or Sent is told as ended, by number (Q.774, Component handling).
@@ -108,11 +103,6 @@ over_with d first list =
 
 -- ---- requests
 
--- What is sent, if anything is (own).
-abbrev pub sent_if_any : Option Message → List Output
-sent_if_any None = []
-sent_if_any (Some m) = sent m ∷ []
-
 -- Nothing but the answer (own).
 abbrev pub answered : Dialogue → Answer → Moved
 answered d answer = record { answer = answer; after = d; is_over = false }
@@ -125,13 +115,6 @@ with_queued d (Some c) = with_queue d (d.standing.queue ++ c ∷ [])
 -- A message with the queue goes out, and the invocations in it are Sent (Q.774, Component handling).
 abbrev pub gone_out : Setting → Dialogue → Dialogue
 gone_out s d = with_queue (with_invocations d (after_sent d.invocations s.clock)) []
-
--- The first answer makes the dialogue Active (Q.774, Transaction state machine).
-abbrev pub activated : State → State
-activated State.fresh = State.fresh
-activated State.sent = State.sent
-activated (State.received peer) = State.active peer
-activated (State.active peer) = State.active peer
 
 -- A Reject of a result or an error frees the identifier that waits for it; any other Reject frees none
 -- (Q.774, Invocation state machine).
@@ -194,14 +177,6 @@ requested_by s d r (Some f) = answered d (Answer.refused f)
 requested_by s d r None = accepted s d r
 
 -- ---- messages
-
--- The peer of a Continue: the one known, or else its originator
--- (Q.774, Transaction state machine).
-abbrev pub peer_by : State → List ℕ → List ℕ
-peer_by State.fresh origin = origin
-peer_by State.sent origin = origin
-peer_by (State.received peer) origin = peer
-peer_by (State.active peer) origin = peer
 
 -- A Continue is told with its components, and the Rejects of these are queued, or it is abnormal, and
 -- the dialogue is aborted on both sides
