@@ -48,12 +48,12 @@ cont = hex 14 0x653F480400000005490400000001 ++ AARE ++ hex 7 0x6C05A203020101
 
 abbrev past : Past
 past =
-  pair (Event.received cont) (Answer.outputs (Output.send (hex 28 0x671A4904000000056B122810060700118605010101A0056403800101) ∷ Output.p_abort 1 AbortCause.abnormal ∷ Output.closed 1 2 (pos 2) Closing.ended ∷ [])) ∷
-  pair (Event.received cont) (Answer.outputs (Output.go_on 1 (Some CTX) [] ∷ Output.closed 1 1 (pos 1) (Closing.result_last None) ∷ [])) ∷
-  pair (Event.on_dialogue 1 (Request.begin (Some CTX) [])) (Answer.outputs (Output.send (hex 8 0x6238480400000001 ++ AARQ ++ hex 18 0x6C10A10602010102010AA10602010202010B) ∷ [])) ∷
-  pair (Event.on_dialogue 1 (Request.invoke (pos 2) One (CodeParts.local (pos 11)) None None 1000)) (Answer.number 2) ∷
-  pair (Event.on_dialogue 1 (Request.invoke (pos 1) One (CodeParts.local (pos 10)) None None 1000)) (Answer.number 1) ∷
-  pair Event.new_dialogue (Answer.new_dialogue 1) ∷ []
+    pair (Event.received cont) (Answer.outputs (Output.send (hex 28 0x671A4904000000056B122810060700118605010101A0056403800101) ∷ Output.p_abort 1 AbortCause.abnormal ∷ Output.closed 1 2 (pos 2) Closing.ended ∷ [])) ∷
+    pair (Event.received cont) (Answer.outputs (Output.go_on 1 (Some CTX) [] ∷ Output.closed 1 1 (pos 1) (Closing.result_last None) ∷ [])) ∷
+    pair (Event.on_dialogue 1 (Request.begin (Some CTX) [])) (Answer.outputs (Output.send (hex 8 0x6238480400000001 ++ AARQ ++ hex 18 0x6C10A10602010102010AA10602010202010B) ∷ [])) ∷
+    pair (Event.on_dialogue 1 (Request.invoke (pos 2) One (CodeParts.local (pos 11)) None None 1000)) (Answer.number 2) ∷
+    pair (Event.on_dialogue 1 (Request.invoke (pos 1) One (CodeParts.local (pos 10)) None None 1000)) (Answer.number 1) ∷
+    pair Event.new_dialogue (Answer.new_dialogue 1) ∷ []
 
 abbrev h : History
 h = record { start = start; pairs = past }

@@ -73,8 +73,9 @@ rows_of reject_ms dialogue past = filter_map (row_of reject_ms dialogue past) (i
 abbrev pub dialogue_by : ℕ → ℕ → Past → Life → Option Dialogue
 dialogue_by reject_ms dialogue past Life.unborn = None
 dialogue_by reject_ms dialogue past (Life.standing state context) = Some (record {
-    standing = standing_of dialogue past state context;
-    invocations = record { reject_ms = reject_ms; rows = rows_of reject_ms dialogue past } })
+  standing = standing_of dialogue past state context;
+  invocations = record { reject_ms = reject_ms; rows = rows_of reject_ms dialogue past };
+})
 dialogue_by reject_ms dialogue past Life.over = None
 
 -- The dialogue of an identifier, if it stands (own).
@@ -84,12 +85,13 @@ dialogue_at reject_ms past dialogue = dialogue_by reject_ms dialogue past (life 
 -- The engine at a history (own).
 abbrev pub world_of : History → World
 world_of h = record {
-    max_dialogues = h.start.max_dialogues;
-    reject_ms = h.start.reject_ms;
-    next_dialogue = next_dialogue h;
-    next_number = next_number h;
-    clock = clock h.pairs;
-    dialogues = filter_map (dialogue_at h.start.reject_ms h.pairs) (dialogues h.pairs) }
+  max_dialogues = h.start.max_dialogues;
+  reject_ms = h.start.reject_ms;
+  next_dialogue = next_dialogue h;
+  next_number = next_number h;
+  clock = clock h.pairs;
+  dialogues = filter_map (dialogue_at h.start.reject_ms h.pairs) (dialogues h.pairs);
+}
 
 -- An engine stands at a legal history if it is what the history says (own).
 pub record StandsAt (h : History) (engine : World) : Type 0 where
