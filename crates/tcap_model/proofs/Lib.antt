@@ -1,1 +1,3 @@
 mod Trial
+mod Walking
+pub mod Walks

@@ -44,4 +44,7 @@ pub mod State
 pub mod States
 pub mod TableMove
 pub mod Time
+pub mod WalkedHistories
 pub mod World
+pub mod WorldSteps
+pub mod WorldWords
