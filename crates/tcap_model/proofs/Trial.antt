@@ -60,7 +60,7 @@ h = record { start = start; pairs = past }
 
 pub legal : IsLegal h
 unfolding end_at contents_by after_at element_at further_at tag_at length_at head_at signed_after integer_at number_after items_by item_at subidentifiers_at is_object_identifier tagged first_whole only_at alone_at id_at portions_at cause_at reason_at unidirectional_at begin_at ending_at go_on_at abort_at type_at frame_at front_at one_octet one_at information_at version_of version_at context_at opening_at number_at diagnostic_at request_at response_at abrt_at structured_at unstructured_at foreign_by pdu_by pdu_at dialogue_at written_external written_dialogue identifier_of identifier_at linked_at code_at body_at result_at rejected_at problem_kind problem_code problem_at invoke_at result_last_at error_at reject_at result_more_at form_at second_is_listed is_structured front_identifier component_at components_by
-legal = (refl, refl, (refl, refl, (refl, refl, (refl, refl, (refl, refl, (refl, refl, tt))))))
+legal = (refl, (refl, refl, (refl, refl, (refl, refl, (refl, refl, (refl, refl, (refl, refl, tt)))))))
 
 pub one : outcome 1 past ≡ Some (Closing.result_last None)
 unfolding end_at contents_by after_at element_at further_at tag_at length_at head_at signed_after integer_at number_after items_by item_at subidentifiers_at is_object_identifier tagged first_whole only_at alone_at id_at portions_at cause_at reason_at unidirectional_at begin_at ending_at go_on_at abort_at type_at frame_at front_at one_octet one_at information_at version_of version_at context_at opening_at number_at diagnostic_at request_at response_at abrt_at structured_at unstructured_at foreign_by pdu_by pdu_at dialogue_at written_external written_dialogue identifier_of identifier_at linked_at code_at body_at result_at rejected_at problem_kind problem_code problem_at invoke_at result_last_at error_at reject_at result_more_at form_at second_is_listed is_structured front_identifier component_at components_by
