@@ -1,5 +1,5 @@
-use Rattle.std.proofs.Common.{◌≡◌, ℕ, List, [], ◌∷◌, ◌++◌, length, Option, Some, None, refl}
-use Rattle.std.specs.Prelude.{pos, negsuc}
+use Rattle.std.proofs.Common.{◌≡◌, ℕ, List, [], ◌∷◌, ◌++◌, Some, None, refl}
+use Rattle.std.specs.Prelude.{pos}
 use Rattle.ber_core.specs.ElementReading.{end_at, contents_by, after_at, element_at}
 use Rattle.ber_core.specs.HeadReading.{further_at, tag_at, length_at, head_at}
 use Rattle.ber_core.specs.Integer.{signed_after, integer_at}
@@ -14,7 +14,7 @@ use Rattle.tcap_pdu.specs.DialogueReading.{request_at, response_at, abort_at as 
 use Rattle.tcap_pdu.specs.DialogueWritten.{written_external, written_dialogue}
 use Rattle.tcap_component.specs.ComponentReading.{identifier_of, identifier_at, linked_at, code_at, body_at, result_at, rejected_at, problem_kind, problem_code, problem_at, invoke_at, result_last_at, error_at, reject_at, result_more_at, form_at, second_is_listed, is_structured, front_identifier, component_at, components_by}
 use Rattle.tcap_component.specs.Component.{CodeParts}
-use Rattle.tcap_invocation.specs.declared.class.Class.TheVariants.{One, Two, Three, Four}
+use Rattle.tcap_invocation.specs.declared.class.Class.TheVariants.{One}
 use Rattle.tcap_model.specs.Hex.{hex}
 use Rattle.tcap_model.specs.Pair.{Pair, Past}
 use Rattle.tcap_model.specs.History.{History, Start}
@@ -22,7 +22,6 @@ use Rattle.tcap_model.specs.Event.{Event}
 use Rattle.tcap_model.specs.Request.{Request}
 use Rattle.tcap_model.specs.Answer.{Answer}
 use Rattle.tcap_model.specs.Output.{Output, Closing, AbortCause}
-use Rattle.tcap_model.specs.Reply.{reply}
 use Rattle.tcap_model.specs.Legal.{IsLegal}
 use Rattle.tcap_model.specs.Outcome.{outcome}
 use Rattle.tcap_model.specs.Closings.{closings}

@@ -1,5 +1,5 @@
 -- The local transaction identifier: that of a dialogue, sent as four octets.
-use Rattle.std.specs.Prelude.{ℕ, List, length, Bool, false, bytes_eq, Option, Some, None, if◌then◌else◌, ◌==◌}
+use Rattle.std.specs.Prelude.{ℕ, List, length, Bool, false, Option, Some, None, if◌then◌else◌, ◌==◌}
 use Rattle.std.specs.Int.{w32, to_be_bytes, from_be_bytes}
 
 -- The octets of a dialogue identifier, the most significant first (Q.773, Transaction ID; that they
