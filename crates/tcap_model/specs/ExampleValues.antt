@@ -1,5 +1,5 @@
 -- The values that the worked examples of dialogues share.
-use Rattle.std.specs.Prelude.{ℕ, ℤ, pos, List, [], ◌∷◌, ◌++◌, Option, Some, None}
+use Rattle.std.specs.Prelude.{ℕ, ℤ, pos, List, [], ◌∷◌, ◌++◌, Some, None}
 use Rattle.tcap_component.specs.declared.problem.Kind.TheVariants as kind
 use Rattle.tcap_component.specs.Problem.{ProblemParts}
 use Rattle.tcap_component.specs.Component.{CodeParts}
@@ -7,7 +7,7 @@ use Rattle.tcap_invocation.specs.declared.class.Class.{Class}
 use Rattle.tcap_invocation.specs.declared.class.Class.TheVariants.{One}
 use Rattle.tcap_model.specs.Hex.{hex}
 use Rattle.tcap_model.specs.Answer.{Answer}
-use Rattle.tcap_model.specs.Output.{Output}
+use Rattle.tcap_model.specs.Output.{Output, Closing}
 use Rattle.tcap_model.specs.Request.{Request}
 use Rattle.tcap_model.specs.TableMove.{DialogueEvent}
 
@@ -46,8 +46,8 @@ abbrev pub invoke : ℤ → Class → ℕ → DialogueEvent
 invoke id class operation = invoke_within 1000 id class operation
 
 -- TC-BEGIN without application context (own).
-abbrev pub begin : DialogueEvent
-begin = DialogueEvent.request (Request.begin None [])
+abbrev pub plain_begin : DialogueEvent
+plain_begin = DialogueEvent.request (Request.begin None [])
 
 -- TC-CONTINUE without application context (own).
 abbrev pub go_on : DialogueEvent
@@ -55,17 +55,45 @@ go_on = DialogueEvent.request (Request.go_on None [])
 
 -- A dialogue is begun with one Invoke: identifier 1, class 1, operation 10 (own).
 abbrev pub one_invoke : List DialogueEvent
-one_invoke = invoke (pos 1) One 10 ∷ begin ∷ []
+one_invoke = invoke (pos 1) One 10 ∷ plain_begin ∷ []
 
 -- What is answered to that: number 1, and the Begin with the Invoke (own).
 abbrev pub one_invoke_told : List Answer
 one_invoke_told = Answer.number 1 ∷ Answer.outputs (Output.send (hex 18 0x6210_480400000001_6C08_A106020101_02010A) ∷ []) ∷ []
 
--- A Continue with the last result of identifier 1 (own).
-abbrev pub result : List ℕ
-result = hex 21 0x6513_480400000005_490400000001_6C05_A203020101
+-- The same Invoke with a timeout of 10000 milliseconds (own).
+abbrev pub one_long_invoke : List DialogueEvent
+one_long_invoke = invoke_within 10000 (pos 1) One 10 ∷ plain_begin ∷ []
 
--- A problem of a Reject (own).
+-- The Invoke's invocation is told as ended with its dialogue (own).
+abbrev pub first_ended : Output
+first_ended = Output.closed 1 1 (pos 1) Closing.ended
+
+-- The Invoke's invocation is told as closed by a result that holds nothing (own).
+abbrev pub first_result : Output
+first_result = Output.closed 1 1 (pos 1) (Closing.result_last None)
+
+-- A Continue with the last result of identifier 1 (own).
+abbrev pub result_of_first : List ℕ
+result_of_first = hex 21 0x6513_480400000005_490400000001_6C05_A203020101
+
+-- A Begin with an Invoke that has a parameter (own).
+abbrev pub shown_begin : List ℕ
+shown_begin = hex 23 0x6215_480400000001_6C0D_A10B020101_020102_30030401AA
+
+-- What is told of it (own).
+abbrev pub shown_begin_told : Answer
+shown_begin_told = Answer.outputs (Output.begin 1 None [] ∷ Output.invoked (Some 1) (pos 1) None (code 2) (Some (hex 5 0x30030401AA)) ∷ [])
+
+-- A Begin with an AARQ and the same Invoke (own).
+abbrev pub begin_with_aarq : List ℕ
+begin_with_aarq = hex 8 0x6235_480400000001 ++ aarq ++ hex 15 0x6C0D_A10B020101_020102_30030401AA
+
+-- What is told of it (own).
+abbrev pub begin_with_aarq_told : Answer
+begin_with_aarq_told = Answer.outputs (Output.begin 1 (Some context) [] ∷ Output.invoked (Some 1) (pos 1) None (code 2) (Some (hex 5 0x30030401AA)) ∷ [])
+
+-- A general problem (own).
 abbrev pub general : ℕ → ProblemParts
 general number = record { kind = kind.General; code = number }
 

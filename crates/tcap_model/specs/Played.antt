@@ -1,5 +1,5 @@
 -- One dialogue played through: what happens to it, one thing after the other, and what it answers.
-use Rattle.std.specs.Prelude.{◌≡◌, ℕ, ◌+◌, Bool, true, false, List, [], ◌∷◌, ◌++◌, Option, Result, Ok, Err}
+use Rattle.std.specs.Prelude.{◌≡◌, ℕ, ◌+◌, Bool, true, false, List, [], ◌∷◌, ◌++◌, Result, Ok, Err}
 use Rattle.tcap_pdu.specs.declared.fault.FrameFault.{FrameFault}
 use Rattle.tcap_pdu.specs.FrameSpelling.{Message}
 use Rattle.tcap_pdu.specs.FrameReading.{frame_at}
@@ -55,6 +55,10 @@ opened_with reject_ms = record { setting = first_setting; dialogue = fresh_dialo
 -- A new dialogue where identifiers wait 1000 milliseconds for a Reject (own).
 abbrev pub opened : Played
 opened = opened_with 1000
+
+-- A new dialogue whose queue holds at most 7 octets (own).
+abbrev pub opened_with_room_for_seven : Played
+opened_with_room_for_seven = record opened { setting = record first_setting { limit = 7 } }
 
 -- After one event more, and what the dialogue did (own).
 abbrev pub after_move : Played → DialogueEvent → Moved → Played
