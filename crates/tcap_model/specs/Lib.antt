@@ -7,12 +7,14 @@ pub mod Closings
 pub mod ComponentHandling
 pub mod ComponentLaws
 pub mod ComponentRequest
+pub mod Computing
 pub mod Deadline
 pub mod Decision
 pub mod Destination
 pub mod Dialogue
 pub mod Due
 pub mod Event
+pub mod ExampleValues
 pub mod Fault
 pub mod HeadlineLaws
 pub mod Held
@@ -34,6 +36,7 @@ pub mod Outcome
 pub mod Output
 pub mod Pair
 pub mod Places
+pub mod Played
 pub mod PortionRules
 pub mod Problems
 pub mod Queue
