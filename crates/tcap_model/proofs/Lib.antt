@@ -1,3 +1,0 @@
-mod Trial
-mod Walking
-pub mod Walks

@@ -2,26 +2,15 @@
 use Rattle.std.specs.Prelude.{ℕ, pos, List, [], ◌∷◌, ◌++◌, Some, None}
 use Rattle.tcap_invocation.specs.declared.stage.Stage.TheVariants.{Queued, Sent, Waiting}
 use Rattle.tcap_model.specs.Answer.{Answer}
+use Rattle.tcap_model.specs.ExampleValues.{context, aarq, aare, result_of_first, of_result}
 use Rattle.tcap_model.specs.Hex.{hex}
 use Rattle.tcap_model.specs.Output.{Output, Closing, AbortCause}
 use Rattle.tcap_model.specs.Request.{Request}
 use Rattle.tcap_model.specs.State.{State}
 use Rattle.tcap_model.specs.WorldSteps.{Walk}
-use Rattle.tcap_model.specs.WorldWords.{started, empty_engine, engine, dialogue_1, invoke_queued, reject_queued, row, new_dialogue_1, request, receive, advance, invoke, result_problem}
+use Rattle.tcap_model.specs.WorldWords.{started, empty_engine, engine, dialogue_1, invoke_queued, reject_queued, row, new_dialogue_1, request, receive, advance, invoke}
 
 -- ---- what the histories share
-
--- An application context, by the contents of its object identifier (own).
-abbrev pub context : List ℕ
-context = hex 7 0x04000001000103
-
--- A dialogue portion with an AARQ for this application context (own).
-abbrev pub aarq : List ℕ
-aarq = hex 32 0x6B1E_281C_060700118605010101_A011_600F_80020780_A109060704000001000103
-
--- A dialogue portion with an accepted AARE for the application context (own).
-abbrev pub aare : List ℕ
-aare = hex 44 0x6B2A_2828_060700118605010101_A01D_611B_80020780_A109060704000001000103_A203020100_A305A103020100
 
 -- The peer's transaction identifier (own).
 abbrev pub peer : List ℕ
@@ -39,10 +28,6 @@ invoke_2 = hex 8 0xA106_020102_02010B
 abbrev pub begin_1 : List ℕ
 begin_1 = hex 18 0x6210_480400000001_6C08_A10602010102010A
 
--- A Continue from the peer to dialogue 1, with a Return Result Last for identifier 1 (own).
-abbrev pub result_1 : List ℕ
-result_1 = hex 21 0x6513_480400000005_490400000001_6C05_A203020101
-
 -- ---- a second AARE
 
 -- A Continue from the peer to dialogue 1, with the AARE and a Return Result Last for identifier 1
@@ -58,11 +43,11 @@ abbrev pub repeated_aare : Walk
 repeated_aare = record { start = started; before = empty_engine; steps =
   new_dialogue_1
     (engine 0 1 (dialogue_1 State.fresh None [] [] ∷ []))
-  ∷ request (invoke (pos 1) (pos 10) 1000) (Answer.number 1)
+  ∷ request (invoke (pos 1) 10 1000) (Answer.number 1)
     (engine 0 2 (dialogue_1 State.fresh None
       (invoke_queued invoke_1 1 ∷ [])
       (row (pos 1) 1 (Queued 1000) ∷ []) ∷ []))
-  ∷ request (invoke (pos 2) (pos 11) 1000) (Answer.number 2)
+  ∷ request (invoke (pos 2) 11 1000) (Answer.number 2)
     (engine 0 3 (dialogue_1 State.fresh None
       (invoke_queued invoke_1 1 ∷ invoke_queued invoke_2 2 ∷ [])
       (row (pos 1) 1 (Queued 1000) ∷ row (pos 2) 2 (Queued 1000) ∷ []) ∷ []))
@@ -88,21 +73,21 @@ abbrev pub identifier_freed : Walk
 identifier_freed = record { start = started; before = empty_engine; steps =
   new_dialogue_1
     (engine 0 1 (dialogue_1 State.fresh None [] [] ∷ []))
-  ∷ request (invoke (pos 1) (pos 10) 10000) (Answer.number 1)
+  ∷ request (invoke (pos 1) 10 10000) (Answer.number 1)
     (engine 0 2 (dialogue_1 State.fresh None
       (invoke_queued invoke_1 1 ∷ [])
       (row (pos 1) 1 (Queued 10000) ∷ []) ∷ []))
   ∷ request (Request.begin None []) (Answer.outputs (Output.send begin_1 ∷ []))
     (engine 0 2 (dialogue_1 State.sent None []
       (row (pos 1) 1 (Sent 10000) ∷ []) ∷ []))
-  ∷ receive result_1 (Output.go_on 1 None [] ∷ Output.closed 1 1 (pos 1) (Closing.result_last None) ∷ [])
+  ∷ receive result_of_first (Output.go_on 1 None [] ∷ Output.closed 1 1 (pos 1) (Closing.result_last None) ∷ [])
     (engine 0 2 (dialogue_1 (State.active peer) None []
       (row (pos 1) 1 (Waiting 1000) ∷ []) ∷ []))
-  ∷ request (Request.u_reject (Some (pos 1)) (result_problem 2)) Answer.done
+  ∷ request (Request.u_reject (Some (pos 1)) (of_result 2)) Answer.done
     (engine 0 2 (dialogue_1 (State.active peer) None
       (reject_queued (hex 8 0xA406_020101_820102) ∷ [])
       [] ∷ []))
-  ∷ request (invoke (pos 1) (pos 10) 10000) (Answer.number 2)
+  ∷ request (invoke (pos 1) 10 10000) (Answer.number 2)
     (engine 0 3 (dialogue_1 (State.active peer) None
       (reject_queued (hex 8 0xA406_020101_820102) ∷ invoke_queued invoke_1 2 ∷ [])
       (row (pos 1) 2 (Queued 10000) ∷ []) ∷ []))
@@ -110,7 +95,7 @@ identifier_freed = record { start = started; before = empty_engine; steps =
     (Answer.outputs (Output.send (hex 32 0x651E_480400000001_490400000005_6C10_A406020101820102_A10602010102010A) ∷ []))
     (engine 0 3 (dialogue_1 (State.active peer) None []
       (row (pos 1) 2 (Sent 10000) ∷ []) ∷ []))
-  ∷ receive result_1 (Output.go_on 1 None [] ∷ Output.closed 1 2 (pos 1) (Closing.result_last None) ∷ [])
+  ∷ receive result_of_first (Output.go_on 1 None [] ∷ Output.closed 1 2 (pos 1) (Closing.result_last None) ∷ [])
     (engine 0 3 (dialogue_1 (State.active peer) None []
       (row (pos 1) 2 (Waiting 1000) ∷ []) ∷ []))
   ∷ [] }
@@ -124,7 +109,7 @@ abbrev pub lapse_and_late_result : Walk
 lapse_and_late_result = record { start = started; before = empty_engine; steps =
   new_dialogue_1
     (engine 0 1 (dialogue_1 State.fresh None [] [] ∷ []))
-  ∷ request (invoke (pos 1) (pos 10) 1000) (Answer.number 1)
+  ∷ request (invoke (pos 1) 10 1000) (Answer.number 1)
     (engine 0 2 (dialogue_1 State.fresh None
       (invoke_queued invoke_1 1 ∷ [])
       (row (pos 1) 1 (Queued 1000) ∷ []) ∷ []))
@@ -136,7 +121,7 @@ lapse_and_late_result = record { start = started; before = empty_engine; steps =
       (row (pos 1) 1 (Sent 1000) ∷ []) ∷ []))
   ∷ advance 1000 (Output.closed 1 1 (pos 1) Closing.lapsed ∷ [])
     (engine 1000 2 (dialogue_1 State.sent None [] [] ∷ []))
-  ∷ receive result_1 (Output.go_on 1 None [] ∷ Output.local_reject (Some 1) (Some (pos 1)) (result_problem 0) ∷ [])
+  ∷ receive result_of_first (Output.go_on 1 None [] ∷ Output.local_reject (Some 1) (Some (pos 1)) (of_result 0) ∷ [])
     (engine 1000 2 (dialogue_1 (State.active peer) None
       (reject_queued (hex 8 0xA406_020101_820100) ∷ [])
       [] ∷ []))

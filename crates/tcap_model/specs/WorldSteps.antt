@@ -1,13 +1,10 @@
 -- Histories step by step: the engine before and after each event, and what its one dialogue does.
-use Rattle.std.specs.Prelude.{◌≡◌, ℕ, nat_lt, true, false, List, [], ◌∷◌, Option, Some, None, Result, Ok, Err, if◌then◌else◌}
-use Rattle.tcap_pdu.specs.declared.fault.FrameFault.{FrameFault}
-use Rattle.tcap_pdu.specs.FrameSpelling.{Message}
-use Rattle.tcap_pdu.specs.FrameReading.{frame_at}
-use Rattle.tcap_model.specs.AbortRules.{fault_cause}
+use Rattle.std.specs.Prelude.{◌≡◌, ℕ, nat_lt, true, false, List, [], ◌∷◌, Option, Some, None, if◌then◌else◌}
 use Rattle.tcap_model.specs.Answer.{Answer}
 use Rattle.tcap_model.specs.Dialogue.{Dialogue, fresh_dialogue}
 use Rattle.tcap_model.specs.Event.{Event}
 use Rattle.tcap_model.specs.History.{History, Start}
+use Rattle.tcap_model.specs.Played.{heard}
 use Rattle.tcap_model.specs.QueueRules.{queue_limit}
 use Rattle.tcap_model.specs.Reply.{reply}
 use Rattle.tcap_model.specs.TableMove.{Setting, DialogueEvent, table_move}
@@ -37,17 +34,12 @@ after_step h step = record { start = h.start; pairs = record { event = step.even
 
 -- ---- what the dialogue does
 
--- Bytes to a dialogue that is live are a message to it, or a fault of it (own).
-abbrev pub event_read : Result Message FrameFault → DialogueEvent
-event_read (Ok m) = DialogueEvent.frame m
-event_read (Err f) = DialogueEvent.fault (fault_cause f)
-
 -- What an event is for a dialogue that stands and that it names, at this clock: the request for a new
 -- dialogue and a moment below the clock are nothing for it (own).
 abbrev pub dialogue_event : ℕ → Event → Option DialogueEvent
 dialogue_event clock Event.new_dialogue = None
 dialogue_event clock (Event.on_dialogue dialogue request) = Some (DialogueEvent.request request)
-dialogue_event clock (Event.received bytes) = Some (event_read (frame_at bytes))
+dialogue_event clock (Event.received bytes) = Some (heard bytes)
 dialogue_event clock (Event.moment now) = if nat_lt now clock then None else Some (DialogueEvent.moment now)
 
 -- What is around a dialogue of this engine (own).

@@ -1,14 +1,12 @@
 -- Words for the engines and events of histories that are written step by step.
 use Rattle.std.specs.Prelude.{ℕ, ℤ, List, [], Option, Some, None}
-use Rattle.tcap_component.specs.Component.{CodeParts}
-use Rattle.tcap_component.specs.Problem.{ProblemParts}
-use Rattle.tcap_component.specs.declared.problem.Kind.TheVariants as kind
 use Rattle.tcap_invocation.specs.Invocations.{Row}
 use Rattle.tcap_invocation.specs.declared.class.Class.TheVariants.{One}
 use Rattle.tcap_invocation.specs.declared.stage.Stage.{Stage}
 use Rattle.tcap_model.specs.Answer.{Answer}
 use Rattle.tcap_model.specs.Dialogue.{Dialogue}
 use Rattle.tcap_model.specs.Event.{Event}
+use Rattle.tcap_model.specs.ExampleValues.{code}
 use Rattle.tcap_model.specs.History.{Start}
 use Rattle.tcap_model.specs.Output.{Output}
 use Rattle.tcap_model.specs.QueueRules.{Queued}
@@ -72,11 +70,7 @@ advance now outputs after = record { event = Event.moment now; answer = Answer.o
 
 -- ---- requests
 
--- TC-INVOKE with this invoke identifier, local operation code and timeout, of class 1, without
+-- TC-INVOKE with this invoke identifier, operation and timeout, of class 1, without
 -- parameter and linked identifier (own).
-abbrev pub invoke : ℤ → ℤ → ℕ → Request
-invoke id code timeout = Request.invoke id One (CodeParts.local code) None None timeout
-
--- A problem of a Return Result (own).
-abbrev pub result_problem : ℕ → ProblemParts
-result_problem code = record { kind = kind.Result; code = code }
+abbrev pub invoke : ℤ → ℕ → ℕ → Request
+invoke id operation timeout = Request.invoke id One (code operation) None None timeout

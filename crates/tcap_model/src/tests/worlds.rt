@@ -1,27 +1,19 @@
-ghost use Rattle.tcap_model.specs.WalkedHistories.{repeated_aare as aare_history, identifier_freed as freed_history, lapse_and_late_result as lapse_history};
+#![tactic(auto, unfolding(crate::specs::Computing::computing))]
+
+ghost use Rattle.tcap_model.specs.WalkedHistories.{repeated_aare, identifier_freed, lapse_and_late_result};
 ghost use Rattle.tcap_model.specs.WorldSteps.{Walks};
 
 /// A second AARE ends the dialogue.
-#[tactic(auto, using(crate::proofs::Walks::repeated_aare))]
-fn repeated_aare()
-    ensures { Walks aare_history }
+pub fn repeated_aare_step_by_step()
+    ensures { Walks repeated_aare }
 {}
 
 /// The user's Reject of a result frees its identifier at once.
-#[tactic(auto, using(crate::proofs::Walks::identifier_freed))]
-fn identifier_freed_by_a_reject()
-    ensures { Walks freed_history }
+pub fn identifier_freed_step_by_step()
+    ensures { Walks identifier_freed }
 {}
 
 /// An invocation lapses at its deadline, and its result is rejected then.
-#[tactic(auto, using(crate::proofs::Walks::lapse_and_late_result))]
-fn lapse_and_late_result()
-    ensures { Walks lapse_history }
+pub fn lapse_step_by_step()
+    ensures { Walks lapse_and_late_result }
 {}
-
-#[test]
-fn worlds_step_by_step() {
-    repeated_aare();
-    identifier_freed_by_a_reject();
-    lapse_and_late_result();
-}
