@@ -10,7 +10,9 @@ ghost use Rattle.tcap_model.specs.Output.{Output, Closing};
 ghost use Rattle.tcap_model.specs.Reception.{Reception, reception};
 ghost use Rattle.tcap_model.specs.Request.{Request, Ending};
 ghost use Rattle.tcap_model.specs.Played.{opened, opened_with, heard, is_none_live, Answers, Ends};
-ghost use Rattle.tcap_model.specs.TableMove.{DialogueEvent, uni_told};
+ghost use Rattle.tcap_component.specs.ComponentReading.{components_of};
+ghost use Rattle.tcap_model.specs.ComponentHandling.{uni_told};
+ghost use Rattle.tcap_model.specs.TableMove.{DialogueEvent};
 ghost use Rattle.tcap_model.specs.TableMove.DialogueEvent.{request, moment};
 
 /// After a result its identifier is held until the wait for a Reject is over.
@@ -73,11 +75,11 @@ pub fn unidirectional_both_ways()
         (invoke (pos 1) Four 7 ∷ request (Request.uni None []) ∷ [])
         (Answer.number 1 ∷ Answer.outputs (Output.send (hex 12 0x610A_6C08_A106020101_020107) ∷ first_ended ∷ []) ∷ []) }
     ensures received { reception is_none_live false (hex 12 0x610A_6C08_A106020101_020107) ≡ Reception.unidirectional None [] (hex 8 0xA106020101_020107) }
-    ensures told { uni_told (hex 8 0xA106020101_020107) ≡ Output.invoked None (pos 1) None (code 7) None ∷ [] }
+    ensures told { uni_told (components_of (hex 8 0xA106020101_020107)) ≡ Output.invoked None (pos 1) None (code 7) None ∷ [] }
 {}
 
 /// A result in a Unidirectional is told as a local Reject without a dialogue.
 pub fn a_result_in_a_unidirectional()
     ensures received { reception is_none_live false (hex 9 0x6107_6C05_A203020101) ≡ Reception.unidirectional None [] (hex 5 0xA203020101) }
-    ensures told { uni_told (hex 5 0xA203020101) ≡ Output.local_reject None (Some (pos 1)) (of_result 0) ∷ [] }
+    ensures told { uni_told (components_of (hex 5 0xA203020101)) ≡ Output.local_reject None (Some (pos 1)) (of_result 0) ∷ [] }
 {}
