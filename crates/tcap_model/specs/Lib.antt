@@ -53,4 +53,16 @@ pub mod States
 pub mod TableMove
 pub mod Time
 pub mod TwoEnds
+pub mod Worked
+pub mod WorkedClosing
+pub mod WorkedEnds
+pub mod WorkedNames
+pub mod WorkedPlay
+pub mod WorkedReception
+pub mod WorkedRefusals
+pub mod WorkedRequests
+pub mod WorkedWords
+pub mod WorkedWrong
 pub mod World
+pub mod WrongAnswers
+pub mod WrongEnds
