@@ -18,6 +18,7 @@ pub mod PortionRules
 pub mod QueueRules
 pub mod Reception
 pub mod Refusals
+pub mod Refused
 pub mod Request
 pub mod RequestMessage
 pub mod Standing
