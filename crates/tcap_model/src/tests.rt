@@ -1,7 +1,9 @@
 mod aborts;
 mod components;
 mod dialogues;
+mod faults;
 mod identifiers;
+mod refusals;
 mod worlds;
 
 use aborts::{
@@ -18,9 +20,18 @@ use dialogues::{
     a_begin_judged, a_begin_with_aarq, information_with_the_context_asked_for, repeated_aare,
     the_context_of_a_continue, version_refused, what_an_aare_is_judged_by,
 };
+use faults::{
+    faults_of_a_begin, faults_of_a_continue, faults_of_a_last_result, faults_of_a_reject,
+    faults_of_a_result, faults_of_a_unidirectional, faults_of_an_abort, faults_of_an_end,
+    faults_of_an_error, faults_of_an_invoke,
+};
 use identifiers::{
     a_result_in_a_unidirectional, held_up_to_the_next_moment, identifier_freed_by_a_reject,
     identifier_held_after_a_result, queued_at_a_basic_end, unidirectional_both_ways,
+};
+use refusals::{
+    a_message_at_the_limit, a_queue_at_the_limit, a_queue_emptied_again, limits_and_refusals,
+    long_information, no_context_one_by_one,
 };
 use worlds::{identifier_freed_step_by_step, lapse_step_by_step, repeated_aare_step_by_step};
 
@@ -60,6 +71,20 @@ fn dialogues_hold() {
 }
 
 #[test]
+fn faults_hold() {
+    faults_of_an_invoke();
+    faults_of_a_last_result();
+    faults_of_a_result();
+    faults_of_an_error();
+    faults_of_a_reject();
+    faults_of_a_unidirectional();
+    faults_of_a_begin();
+    faults_of_a_continue();
+    faults_of_an_end();
+    faults_of_an_abort();
+}
+
+#[test]
 fn identifiers_hold() {
     identifier_held_after_a_result();
     identifier_freed_by_a_reject();
@@ -70,6 +95,13 @@ fn identifiers_hold() {
 }
 
 #[test]
+fn refusals_hold() {
+    limits_and_refusals();
+    a_queue_emptied_again();
+    long_information();
+    a_queue_at_the_limit();
+    a_message_at_the_limit();
+    no_context_one_by_one();
 fn worlds_hold() {
     identifier_freed_step_by_step();
     lapse_step_by_step();
