@@ -1,1 +1,2 @@
+mod SpanSteps
 mod Trial

@@ -38,6 +38,7 @@ pub mod Refusals
 pub mod Reply
 pub mod Request
 pub mod RequestMessage
+pub mod Reuse
 pub mod Span
 pub mod Standing
 pub mod State
