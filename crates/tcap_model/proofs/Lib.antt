@@ -1,2 +1,3 @@
+mod DecisionSteps
 mod SpanSteps
 mod Trial
