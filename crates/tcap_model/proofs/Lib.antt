@@ -1,11 +1,13 @@
 mod Apart
 mod ClosingWorks
 mod Computing
+mod DecisionSteps
 mod EndsWork
 mod NamesWork
 mod PlayWorks
 mod ReceptionWorks
 mod RefusalsWork
 mod RequestsWork
+mod SpanSteps
 mod WrongAnswersGiven
 mod WrongEndsTold
