@@ -8,6 +8,7 @@ mod PlayWorks
 mod ReceptionWorks
 mod RefusalsWork
 mod RequestsWork
+pub mod RowsAgree
 mod SpanSteps
 mod WrongAnswersGiven
 mod WrongEndsTold
