@@ -7,6 +7,7 @@ mod NamesWork
 mod PlayWorks
 mod ReceptionWorks
 mod RefusalsWork
+pub mod RequestsAgree
 mod RequestsWork
 pub mod RowsAgree
 mod SpanSteps
