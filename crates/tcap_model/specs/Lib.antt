@@ -43,6 +43,7 @@ pub mod Queue
 pub mod QueueRules
 pub mod Reception
 pub mod Refusals
+pub mod Refused
 pub mod Reply
 pub mod Request
 pub mod RequestMessage
