@@ -1,0 +1,11 @@
+mod Apart
+mod ClosingWorks
+mod Computing
+mod EndsWork
+mod NamesWork
+mod PlayWorks
+mod ReceptionWorks
+mod RefusalsWork
+mod RequestsWork
+mod WrongAnswersGiven
+mod WrongEndsTold

@@ -5,6 +5,7 @@ mod faults;
 mod identifiers;
 mod receptions;
 mod refusals;
+mod worlds;
 
 use aborts::{
     a_fault_ends_a_dialogue, an_abort_by_the_opener, dialogue_refused_and_aborted,
@@ -37,6 +38,7 @@ use refusals::{
     a_message_at_the_limit, a_queue_at_the_limit, a_queue_emptied_again, limits_and_refusals,
     long_information, no_context_one_by_one,
 };
+use worlds::{identifier_freed_step_by_step, lapse_step_by_step, repeated_aare_step_by_step};
 
 #[test]
 fn aborts_hold() {
@@ -115,4 +117,8 @@ fn refusals_hold() {
     a_queue_at_the_limit();
     a_message_at_the_limit();
     no_context_one_by_one();
+fn worlds_hold() {
+    identifier_freed_step_by_step();
+    lapse_step_by_step();
+    repeated_aare_step_by_step();
 }
