@@ -1,6 +1,5 @@
 mod Apart
 mod ClosingWorks
-mod Computing
 mod EndsWork
 mod NamesWork
 mod PlayWorks

@@ -1,6 +1,6 @@
 -- Events name the dialogues that are stated.
 use Rattle.std.specs.Prelude.{refl}
-use Rattle.tcap_model.proofs.Computing.{computing}
+use Rattle.tcap_model.specs.Computing.{computing}
 use Rattle.tcap_model.specs.WorkedNames as worked
 
 pub requests_and_moments : worked.AreAsStated worked.requests_and_moments

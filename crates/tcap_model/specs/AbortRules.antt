@@ -1,5 +1,5 @@
 -- What a received Abort tells, and the Aborts that the provider sends.
-use Rattle.std.specs.Prelude.{ℕ, Bool, true, false, List, [], Some, None, Result, Ok, Err, ◌==◌, if◌then◌else◌}
+use Rattle.std.specs.Prelude.{Option, ℕ, Bool, true, false, List, [], ◌∷◌, Some, None, Result, Ok, Err, ◌==◌, if◌then◌else◌}
 use Rattle.tcap_pdu.specs.declared.fault.DialogueFault.{DialogueFault}
 use Rattle.tcap_pdu.specs.declared.fault.FrameFault.{FrameFault}
 use Rattle.tcap_pdu.specs.declared.fault.FrameFault.TheVariants.{Unknown, BadlyFormatted, Incorrect}
@@ -69,7 +69,8 @@ abbrev pub abnormal_abort : List ℕ → Output
 abnormal_abort peer = sent (Message.abort peer (Reason.portion (written_dialogue (PduValue.abrt true []))))
 
 -- The Abort to the peer of a Begin whose version isn't ours: an AARE with the context of the AARQ, not
--- accepted, diagnostic "no common dialogue portion" by the provider (Q.774, Dialogue begin).
+-- accepted, diagnostic "no common dialogue portion" by the provider; a context has at most 255 octets,
+-- so that it fits into a message (Q.774, Dialogue begin).
 abbrev pub version_abort : List ℕ → List ℕ → Output
 version_abort context peer = sent (Message.abort peer (Reason.portion (written_dialogue (PduValue.aare true context false (Source.provider 2) []))))
 

@@ -33,10 +33,13 @@ pending_if_any dialogue past (Some id) = pending dialogue id past
 -- What a request on a dialogue that stands is judged by, as the history tells it (own).
 abbrev pub situation_of : History → ℕ → Standing → Request → Situation
 situation_of h dialogue standing request = record {
-    standing = standing; limit = queue_limit;
-    is_in_use = held_if_any h.start.reject_ms dialogue h.pairs (identifier_of request);
-    pending = pending_if_any dialogue h.pairs (identifier_of request);
-    number = next_number h; is_spent = are_numbers_spent (next_number h) }
+  standing = standing;
+  limit = queue_limit;
+  is_in_use = held_if_any h.start.reject_ms dialogue h.pairs (identifier_of request);
+  pending = pending_if_any dialogue h.pairs (identifier_of request);
+  number = next_number h;
+  is_spent = are_numbers_spent (next_number h);
+}
 
 -- The fault that is due for a request, by the dialogue's life: before its birth and once it is over
 -- the dialogue is unknown (own).

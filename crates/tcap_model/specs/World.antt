@@ -1,8 +1,8 @@
 -- What an engine is, and what it is at a history.
-use Rattle.std.specs.Prelude.{◌≡◌, ℕ, ℤ, ◌+◌, ◌==◌, ◌&&◌, Bool, true, false, List, filter_map, Option, Some, None, is_none, if◌then◌else◌}
+use Rattle.std.specs.Prelude.{◌≡◌, ℕ, ◌+◌, ◌==◌, ◌&&◌, Bool, false, List, filter_map, Option, Some, None, if◌then◌else◌}
 use Rattle.tcap_invocation.specs.declared.stage.Stage.{Stage}
 use Rattle.tcap_invocation.specs.declared.stage.Stage.TheVariants as stage
-use Rattle.tcap_invocation.specs.Invocations.{Row, InvocationList}
+use Rattle.tcap_invocation.specs.Invocations.{Row}
 use Rattle.tcap_model.specs.Birth.{next_dialogue, dialogues}
 use Rattle.tcap_model.specs.Clock.{clock}
 use Rattle.tcap_model.specs.Closings.{Told}
@@ -73,8 +73,9 @@ rows_of reject_ms dialogue past = filter_map (row_of reject_ms dialogue past) (i
 abbrev pub dialogue_by : ℕ → ℕ → Past → Life → Option Dialogue
 dialogue_by reject_ms dialogue past Life.unborn = None
 dialogue_by reject_ms dialogue past (Life.standing state context) = Some (record {
-    standing = standing_of dialogue past state context;
-    invocations = record { reject_ms = reject_ms; rows = rows_of reject_ms dialogue past } })
+  standing = standing_of dialogue past state context;
+  invocations = record { reject_ms = reject_ms; rows = rows_of reject_ms dialogue past };
+})
 dialogue_by reject_ms dialogue past Life.over = None
 
 -- The dialogue of an identifier, if it stands (own).
@@ -84,12 +85,13 @@ dialogue_at reject_ms past dialogue = dialogue_by reject_ms dialogue past (life 
 -- The engine at a history (own).
 abbrev pub world_of : History → World
 world_of h = record {
-    max_dialogues = h.start.max_dialogues;
-    reject_ms = h.start.reject_ms;
-    next_dialogue = next_dialogue h;
-    next_number = next_number h;
-    clock = clock h.pairs;
-    dialogues = filter_map (dialogue_at h.start.reject_ms h.pairs) (dialogues h.pairs) }
+  max_dialogues = h.start.max_dialogues;
+  reject_ms = h.start.reject_ms;
+  next_dialogue = next_dialogue h;
+  next_number = next_number h;
+  clock = clock h.pairs;
+  dialogues = filter_map (dialogue_at h.start.reject_ms h.pairs) (dialogues h.pairs);
+}
 
 -- An engine stands at a legal history if it is what the history says (own).
 pub record StandsAt (h : History) (engine : World) : Type 0 where

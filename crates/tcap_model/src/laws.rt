@@ -1,0 +1,5 @@
+//! Laws of the definitions, each the contract of a function that does nothing.
+
+pub mod drawing;
+pub mod invoking;
+pub mod messages;

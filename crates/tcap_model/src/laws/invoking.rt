@@ -1,0 +1,1 @@
+//! The invocations of a history, and the marks that close them.
