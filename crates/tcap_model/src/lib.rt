@@ -7,7 +7,5 @@
 #![tactic(auto)]
 
 pub mod laws;
-pub mod worked;
-
 #[cfg(test)]
 mod tests;

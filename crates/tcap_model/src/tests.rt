@@ -1,6 +1,7 @@
 mod aborts;
 mod components;
 mod dialogues;
+mod histories;
 mod identifiers;
 
 use aborts::{
