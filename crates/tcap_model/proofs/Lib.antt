@@ -1,11 +1,3 @@
 mod Apart
-mod ClosingWorks
-mod Computing
-mod EndsWork
-mod NamesWork
-mod PlayWorks
-mod ReceptionWorks
-mod RefusalsWork
-mod RequestsWork
 mod WrongAnswersGiven
 mod WrongEndsTold

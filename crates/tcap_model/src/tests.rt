@@ -2,6 +2,7 @@ mod aborts;
 mod components;
 mod dialogues;
 mod faults;
+mod histories;
 mod identifiers;
 mod receptions;
 mod refusals;
@@ -117,6 +118,9 @@ fn refusals_hold() {
     a_queue_at_the_limit();
     a_message_at_the_limit();
     no_context_one_by_one();
+}
+
+#[test]
 fn worlds_hold() {
     identifier_freed_step_by_step();
     lapse_step_by_step();
