@@ -26,8 +26,9 @@ use faults::{
     faults_of_an_error, faults_of_an_invoke,
 };
 use identifiers::{
-    a_result_in_a_unidirectional, held_up_to_the_next_moment, identifier_freed_by_a_reject,
-    identifier_held_after_a_result, queued_at_a_basic_end, unidirectional_both_ways,
+    a_result_in_a_unidirectional, given_up_before_it_is_sent, held_up_to_the_next_moment,
+    identifier_freed_by_a_reject, identifier_held_after_a_result, lapses_in_order,
+    queued_at_a_basic_end, unidirectional_both_ways, what_a_reject_frees,
 };
 use receptions::{
     a_begin_that_bears_no_dialogue, dropped_input, faulty_messages_answered,
@@ -91,6 +92,9 @@ fn faults_hold() {
 fn identifiers_hold() {
     identifier_held_after_a_result();
     identifier_freed_by_a_reject();
+    what_a_reject_frees();
+    given_up_before_it_is_sent();
+    lapses_in_order();
     held_up_to_the_next_moment();
     queued_at_a_basic_end();
     unidirectional_both_ways();

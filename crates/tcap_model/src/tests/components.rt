@@ -1,6 +1,6 @@
 #![tactic(auto, unfolding(crate::specs::Computing::computing))]
 
-ghost use Rattle.std.specs.Prelude.{◌≡◌, pos, negsuc, List, [], ◌∷◌, ◌++◌, false, Option, Some, None};
+ghost use Rattle.std.specs.Prelude.{◌≡◌, pos, negsuc, List, [], ◌∷◌, ◌++◌, replicate, false, Option, Some, None};
 ghost use Rattle.tcap_component.specs.Component.{CodeParts};
 ghost use Rattle.tcap_invocation.specs.declared.class.Class.TheVariants.{One, Two, Three, Four};
 ghost use Rattle.tcap_model.specs.Answer.{Answer};
@@ -150,11 +150,22 @@ pub fn linked_identifiers()
 /// Rejects are queued one by one, each where it fits: with room for 7 octets the first, of 8, isn't
 /// queued, and the second, of 7, is. Both are told.
 pub fn rejects_at_the_queues_limit()
-    ensures { Answers (with_room 7 opened)
+    ensures small_limit { Answers (with_room 7 opened)
         (plain_begin ∷ heard (hex 23 0x6515_480400000005_490400000001_6C07_A203020109_A500) ∷ go_on ∷ [])
         (Answer.outputs (Output.send (hex 8 0x6206_480400000001) ∷ [])
         ∷ Answer.outputs (Output.go_on 1 None [] ∷ Output.local_reject (Some 1) (Some (pos 9)) (of_result 0) ∷ Output.local_reject (Some 1) None (general 0) ∷ [])
         ∷ Answer.outputs (Output.send (hex 23 0x6515_480400000001_490400000005_6C07_A4050500_800100) ∷ [])
+        ∷ []) }
+    ensures usual_limit { Answers opened
+        (plain_begin
+        ∷ request (Request.invoke (pos 1) One (code 10) (Some (hex 4 0x0482EA4B ++ replicate 59979 0)) None 1000)
+        ∷ heard (hex 23 0x6515_480400000005_490400000001_6C07_A203020109_A500)
+        ∷ go_on
+        ∷ [])
+        (Answer.outputs (Output.send (hex 8 0x6206_480400000001) ∷ [])
+        ∷ Answer.number 1
+        ∷ Answer.outputs (Output.go_on 1 None [] ∷ Output.local_reject (Some 1) (Some (pos 9)) (of_result 0) ∷ Output.local_reject (Some 1) None (general 0) ∷ [])
+        ∷ Answer.outputs (Output.send (hex 34 0x6582EA70_480400000001_490400000005_6C82EA60_A182EA55_020101_02010A_0482EA4B ++ replicate 59979 0 ++ hex 7 0xA4050500_800100) ∷ [])
         ∷ []) }
 {}
 
