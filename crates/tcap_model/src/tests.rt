@@ -11,9 +11,10 @@ use aborts::{
     ways_an_invocation_closes, what_an_abort_tells,
 };
 use components::{
-    a_reject_without_identifier, a_result_in_a_begin, an_answer_to_a_queued_identifier,
-    answers_sent, answers_the_class_forbids, faulty_second_component, lapse_and_late_result,
-    linked_identifiers, rejects_at_the_queues_limit, remote_rejects, result_in_an_end,
+    a_faulty_reject, a_reject_without_identifier, a_result_in_a_begin,
+    an_answer_to_a_queued_identifier, answers_sent, answers_the_class_forbids,
+    faulty_second_component, lapse_and_late_result, linked_identifiers,
+    rejects_at_the_queues_limit, remote_rejects, repeated_begin_played, result_in_an_end,
     unknown_linked_identifier,
 };
 use dialogues::{
@@ -56,12 +57,14 @@ fn components_hold() {
     answers_the_class_forbids();
     faulty_second_component();
     answers_sent();
+    repeated_begin_played();
     a_result_in_a_begin();
     unknown_linked_identifier();
     linked_identifiers();
     rejects_at_the_queues_limit();
     a_reject_without_identifier();
     an_answer_to_a_queued_identifier();
+    a_faulty_reject();
 }
 
 #[test]

@@ -4,7 +4,7 @@ ghost use Rattle.std.specs.Prelude.{◌≡◌, pos, negsuc, List, [], ◌∷◌,
 ghost use Rattle.tcap_component.specs.Component.{CodeParts};
 ghost use Rattle.tcap_invocation.specs.declared.class.Class.TheVariants.{One, Two, Three, Four};
 ghost use Rattle.tcap_model.specs.Answer.{Answer};
-ghost use Rattle.tcap_model.specs.ExampleValues.{aare_result, code, invoke, plain_begin, go_on, one_invoke, one_invoke_told, result_of_first, first_result, shown_begin, shown_begin_told, general, of_invoke, of_result, of_error};
+ghost use Rattle.tcap_model.specs.ExampleValues.{aare_result, code, body, invoke, plain_begin, go_on, one_invoke, one_invoke_told, result_of_first, first_result, shown_begin, shown_begin_told, general, of_invoke, of_result, of_error};
 ghost use Rattle.tcap_model.specs.Hex.{hex};
 ghost use Rattle.tcap_model.specs.Output.{Output, AbortCause, Closing, Rejector};
 ghost use Rattle.tcap_model.specs.Request.{Request, Ending};
@@ -105,6 +105,34 @@ pub fn answers_sent()
         ∷ Answer.done
         ∷ Answer.outputs (Output.send (hex 15 0x640D_490400000001_6C05_A203020101) ∷ [])
         ∷ []) }
+    ensures rejected { Answers (begun_from shown_begin)
+        (request (Request.u_reject (Some (pos 1)) (of_invoke 1)) ∷ go_on ∷ [])
+        (shown_begin_told
+        ∷ Answer.done
+        ∷ Answer.outputs (Output.send (hex 24 0x6516_480400000001_490400000001_6C08_A406020101_810101) ∷ [])
+        ∷ []) }
+{}
+
+/// A Begin that was delivered twice has two answers: the first that comes back closes the invocation, and
+/// the other is rejected.
+pub fn repeated_begin_played()
+    ensures answerer { Answers (begun_from (hex 18 0x6210_480400000001_6C08_A106020101_02010A))
+        (request (Request.result_last (pos 1) (body (code 10) (Some (hex 3 0x0401AA)))) ∷ go_on ∷ [])
+        (Answer.outputs (Output.begin 1 None [] ∷ Output.invoked (Some 1) (pos 1) None (code 10) None ∷ [])
+        ∷ Answer.done
+        ∷ Answer.outputs (Output.send (hex 29 0x651B_480400000001_490400000001_6C0D_A20B020101_300602010A_0401AA) ∷ [])
+        ∷ []) }
+    ensures opener { Answers opened
+        (one_invoke
+        ++ heard (hex 29 0x651B_480400000002_490400000001_6C0D_A20B020101_300602010A_0401BB)
+        ∷ heard (hex 29 0x651B_480400000001_490400000001_6C0D_A20B020101_300602010A_0401AA)
+        ∷ moment 1000
+        ∷ [])
+        (one_invoke_told
+        ++ Answer.outputs (Output.go_on 1 None [] ∷ Output.closed 1 1 (pos 1) (Closing.result_last (body (code 10) (Some (hex 3 0x0401BB)))) ∷ [])
+        ∷ Answer.outputs (Output.go_on 1 None [] ∷ Output.local_reject (Some 1) (Some (pos 1)) (of_result 0) ∷ [])
+        ∷ Answer.outputs []
+        ∷ []) }
 {}
 
 /// The components of a Begin meet no invocation: a result in it is rejected, and the Reject goes out
@@ -184,5 +212,15 @@ pub fn an_answer_to_a_queued_identifier()
         ++ Answer.number 2
         ∷ Answer.outputs (Output.go_on 1 None [] ∷ Output.local_reject (Some 1) (Some (pos 2)) (of_result 0) ∷ [])
         ∷ Answer.given_up 2
+        ∷ []) }
+{}
+
+/// A Reject that can't be read is told and isn't answered.
+pub fn a_faulty_reject()
+    ensures { Answers opened
+        (one_invoke ++ heard (hex 17 0x650F_480400000005_490400000001_6C01_A4) ∷ go_on ∷ [])
+        (one_invoke_told
+        ++ Answer.outputs (Output.go_on 1 None [] ∷ Output.local_reject (Some 1) None (general 2) ∷ [])
+        ∷ Answer.outputs (Output.send (hex 14 0x650C_480400000001_490400000005) ∷ [])
         ∷ []) }
 {}

@@ -1,4 +1,4 @@
-use Rattle.std.proofs.Common.{◌≡◌, refl}
+use Rattle.std.proofs.Common.{refl}
 use Rattle.tcap_model.specs.Computing.{computing}
 use Rattle.tcap_model.proofs.tests.components.rejects_at_the_queues_limit.Goals as goal
 
