@@ -1,6 +1,5 @@
 -- A request is judged and answered alike by what one dialogue keeps and by the history.
-use Rattle.std.proofs.Common.{◌≡◌, ℕ, ℤ, Bool, true, false, List, [], ◌∷◌, Option, Some, None, refl, ap, sym, ◌∙◌, subst}
-use Rattle.std.specs.Prelude.{is_some}
+use Rattle.std.proofs.Common.{◌≡◌, ℕ, ℤ, Bool, true, List, Option, Some, None, refl, ap, ◌∙◌, subst}
 use Rattle.tcap_invocation.specs.Closing.{given_up_at}
 use Rattle.tcap_invocation.specs.Invocations.{InvocationList}
 use Rattle.tcap_model.proofs.RowsAgree.{in_use-rows, pending-rows}
@@ -19,7 +18,7 @@ use Rattle.tcap_model.specs.Refusals.{Situation, due_on}
 use Rattle.tcap_model.specs.Reply.{reply, request_answer, accepted_answer, given_up_answer}
 use Rattle.tcap_model.specs.Request.{Request}
 use Rattle.tcap_model.specs.State.{State}
-use Rattle.tcap_model.specs.TableMove.{DialogueEvent, Moved, answered, accepted, requested_by, given_up_by, situation, in_use_by_rows, pending_by_rows, table_move}
+use Rattle.tcap_model.specs.TableMove.{DialogueEvent, answered, accepted, requested_by, given_up_by, situation, in_use_by_rows, pending_by_rows, table_move}
 use Rattle.tcap_model.specs.World.{rows_of, dialogue_at, dialogue_by}
 
 -- ---- by what a request is judged
@@ -67,13 +66,13 @@ pub situation-agrees : (h : History) (dialogue : ℕ) (d : Dialogue) (request : 
     → situation (setting_at h) d request ≡ situation_of h dialogue d.standing request
 situation-agrees h dialogue d request e =
     at_life (λ l d. situation (setting_at h) d request ≡ situation_of h dialogue d.standing request) h dialogue d
-        (λ state context. situation-standing h dialogue state context request) (life dialogue h.pairs) e
+    (λ state context. situation-standing h dialogue state context request) (life dialogue h.pairs) e
 
 due-life : (h : History) (dialogue : ℕ) (d : Dialogue) (request : Request) (l : Life) → dialogue_by h.start.reject_ms dialogue h.pairs l ≡ Some d
     → due_on (situation (setting_at h) d request) request ≡ due_by h dialogue request l
 due-life h dialogue d request l e =
     at_life (λ l d. due_on (situation (setting_at h) d request) request ≡ due_by h dialogue request l) h dialogue d
-        (λ state context. ap (λ s. due_on s request) (situation-standing h dialogue state context request)) l e
+    (λ state context. ap (λ s. due_on s request) (situation-standing h dialogue state context request)) l e
 
 pub due-agrees : (h : History) (dialogue : ℕ) (d : Dialogue) (request : Request) → dialogue_at h.start.reject_ms h.pairs dialogue ≡ Some d
     → due_on (situation (setting_at h) d request) request ≡ due h dialogue request
@@ -115,7 +114,7 @@ answer-life : (h : History) (dialogue : ℕ) (d : Dialogue) (request : Request) 
     → (requested_by (setting_at h) d request (due_by h dialogue request l)).answer ≡ request_answer h dialogue request l (due_by h dialogue request l)
 answer-life h dialogue d request l s e =
     at_life (λ l d. (requested_by (setting_at h) d request (due_by h dialogue request l)).answer ≡ request_answer h dialogue request l (due_by h dialogue request l)) h dialogue d
-        (λ state context. requested-agrees h dialogue state context request (due_by h dialogue request (Life.standing state context)) s) l e
+    (λ state context. requested-agrees h dialogue state context request (due_by h dialogue request (Life.standing state context)) s) l e
 
 pub answer-agrees : (h : History) (dialogue : ℕ) (d : Dialogue) (request : Request) → dialogue_at h.start.reject_ms h.pairs dialogue ≡ Some d → leaves_standing request ≡ true
     → (table_move (setting_at h) d (DialogueEvent.request request)).answer ≡ reply h (Event.on_dialogue dialogue request)

@@ -19,8 +19,7 @@ use Rattle.tcap_model.specs.Decision.{decision}
 use Rattle.tcap_model.specs.Held.{is_waiting, holds_identifier, held, pending, held_by, if_pending}
 use Rattle.tcap_model.specs.Invocation.{Invocation, invoked_by, invocations, latest, has_id, with_id}
 use Rattle.tcap_model.specs.Outcome.{outcome}
-use Rattle.tcap_model.specs.Output.{Closing}
-use Rattle.tcap_model.specs.Pair.{Pair, Past}
+use Rattle.tcap_model.specs.Pair.{Past}
 use Rattle.tcap_model.specs.World.{pending_stage, stage_by, row, row_by, is_number, row_of, rows_of}
 
 -- ---- the row of an identifier
@@ -99,6 +98,7 @@ latest_among P dialogue id (pair ∷ past) j e a =
     made : (o : Option Invocation) → o ≡ Some j → AllByRecursion P (option_to_list o) → P j
     made None q w = absurd cc
     made (Some i) q w = let same : i ≡ j = cc in subst P same w.0
+
     go : (o : Option Invocation) → with_id dialogue id (invoked_by pair) ≡ o → option_or o (latest dialogue id past) ≡ Some j → (latest dialogue id past ≡ Some j → P j) → P j
     go None q w before = before w
     go (Some i) q w before = made (invoked_by pair) (with_id-some dialogue id (invoked_by pair) j (q ∙ w)).0 (all_after P (invocations past) (option_to_list (invoked_by pair)) a)
@@ -131,6 +131,7 @@ row_decides reject_ms past i s (Some told) e = go (is_waiting reject_ms i.dialog
   where
     until : Stage
     until = Waiting (clock told.place + reject_ms)
+
     go : (b : Bool) → is_waiting reject_ms i.dialogue i.id past told ≡ b → cond b (Some until) None ≡ Some s → Decides reject_ms past i (Some (row i s).1) (Some told)
     go true q w = (sym q, ap (λ b. number_of (cond b (Some (row i s).1) None)) (sym (ap is_pending (some_same until s w))))
     go false q w = absurd cc
@@ -146,9 +147,9 @@ no_row_decides reject_ms past i (Some told) e = go (is_waiting reject_ms i.dialo
 -- an invocation with the number of the latest one says the same of the identifier
 says_decided : (reject_ms : ℕ) (past : Past) (i j : Invocation) (o : Option Entry) → i.number ≡ j.number → Decides reject_ms past i o (decision i.number past) → Says reject_ms i.dialogue i.id past (Some j) o
 says_decided reject_ms past i j o e d = record {
-    in_use = d.0 ∙ ap (λ n. holds_identifier reject_ms i.dialogue i.id past (decision n past)) e;
-    pending = d.1 ∙ (ap (λ c. cond (is_none c) (Some i.number) None) (closing_of_decision i.number past) ∙ ap (λ n. cond (is_none (outcome n past)) (Some n) None) e);
-  }
+  in_use = d.0 ∙ ap (λ n. holds_identifier reject_ms i.dialogue i.id past (decision n past)) e;
+  pending = d.1 ∙ (ap (λ c. cond (is_none c) (Some i.number) None) (closing_of_decision i.number past) ∙ ap (λ n. cond (is_none (outcome n past)) (Some n) None) e);
+}
 
 says_row : (reject_ms : ℕ) (past : Past) (i : Invocation) (s : Stage) (last : Option Invocation) → is_number i.number last ≡ true → stage_by reject_ms past i (decision i.number past) ≡ Some s → Says reject_ms i.dialogue i.id past last (Some (row i s).1)
 says_row reject_ms past i s None e w = absurd cc
@@ -166,10 +167,12 @@ says_found reject_ms dialogue id past i e w = go ((i.dialogue == dialogue) && is
         let placed = subst (λ (k : ℕ). Says reject_ms k id past (latest k id past) (Some (row i s).1)) d named in
         subst (λ (y : Option Entry). Says reject_ms dialogue id past (latest dialogue id past) y) w placed
     at_id s false q d n p w = absurd cc
+
     staged : (o : Option Stage) → stage_by reject_ms past i (decision i.number past) ≡ o → i.dialogue ≡ dialogue → is_number i.number (latest i.dialogue i.id past) ≡ true
         → entry_of id (row_by i o) ≡ Some e → Says reject_ms dialogue id past (latest dialogue id past) (Some e)
     staged None p d n w = absurd cc
     staged (Some s) p d n w = at_id s (int_eq id i.id) refl d n p w
+
     go : (b : Bool) → ((i.dialogue == dialogue) && is_number i.number (latest i.dialogue i.id past)) ≡ b
         → entry_of id (cond b (row_by i (stage_by reject_ms past i (decision i.number past))) None) ≡ Some e → Says reject_ms dialogue id past (latest dialogue id past) (Some e)
     go true q w =
@@ -192,7 +195,7 @@ says_missing reject_ms past j e w =
     let none : entry_of j.id (row_by j stage) ≡ None = sym (ap (λ b. entry_of j.id (cond b (row_by j stage) None)) test) ∙ w in
     let free = no_stage j.id j stage ((Decides-int_eq j.id j.id).1 refl) none in
     subst (λ (l : Option Invocation). Says reject_ms j.dialogue j.id past l None) (sym e)
-      (says_decided reject_ms past j j None refl (no_row_decides reject_ms past j (decision j.number past) free))
+    (says_decided reject_ms past j j None refl (no_row_decides reject_ms past j (decision j.number past) free))
 
 says_none : (reject_ms dialogue : ℕ) (id : ℤ) (past : Past) (last : Option Invocation) → latest dialogue id past ≡ last
     → AllByRecursion (λ i. entry_of id (row_of reject_ms dialogue past i) ≡ None) (invocations past) → Says reject_ms dialogue id past (latest dialogue id past) None
