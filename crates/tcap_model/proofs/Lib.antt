@@ -1,3 +1,6 @@
+mod BornDialogues
 mod DecisionSteps
+mod EarlierMoments
+mod SentClocks
 mod SpanSteps
 mod Trial
