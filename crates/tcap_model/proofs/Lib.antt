@@ -1,6 +1,9 @@
 mod BornDialogues
 mod DecisionSteps
+mod DrawnInvocations
 mod EarlierMoments
+mod LatestInvocations
 mod SentClocks
 mod SpanSteps
+mod SupersededInvocations
 mod Trial
