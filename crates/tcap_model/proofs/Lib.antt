@@ -1,3 +1,4 @@
+mod Apart
 mod BornDialogues
 mod DecisionSteps
 mod DrawnInvocations
@@ -6,4 +7,5 @@ mod LatestInvocations
 mod SentClocks
 mod SpanSteps
 mod SupersededInvocations
-mod Trial
+mod WrongAnswersGiven
+mod WrongEndsTold
