@@ -7,5 +7,7 @@ mod LatestInvocations
 mod SentClocks
 mod SpanSteps
 mod SupersededInvocations
+mod ToldInvocations
+mod ToldOutputs
 mod WrongAnswersGiven
 mod WrongEndsTold
