@@ -1,7 +1,15 @@
 mod Apart
+mod BornDialogues
 mod DecisionSteps
+mod DrawnInvocations
+mod EarlierMoments
+mod LatestInvocations
 pub mod RequestsAgree
 pub mod RowsAgree
+mod SentClocks
 mod SpanSteps
+mod SupersededInvocations
+mod ToldInvocations
+mod ToldOutputs
 mod WrongAnswersGiven
 mod WrongEndsTold
