@@ -3,6 +3,7 @@ mod BornDialogues
 mod DecisionSteps
 mod DrawnInvocations
 mod EarlierMoments
+pub mod EndingsAgree
 mod LatestInvocations
 pub mod RequestsAgree
 pub mod RowsAgree

@@ -113,7 +113,7 @@ record Says (reject_ms dialogue : ℕ) (id : ℤ) (past : Past) (last : Option I
 some_same : {X : Type 0} (x y : X) → Some x ≡ Some y → x ≡ y
 some_same x y e = cc
 
-pending_is : (i : Invocation) (o : Option ℕ) → is_pending (pending_stage i o) ≡ true
+pub pending_is : (i : Invocation) (o : Option ℕ) → is_pending (pending_stage i o) ≡ true
 pending_is i None = refl
 pending_is i (Some t) = refl
 

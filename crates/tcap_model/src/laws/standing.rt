@@ -11,11 +11,12 @@ ghost use Rattle.tcap_model.specs.Event.{Event};
 ghost use Rattle.tcap_model.specs.Fault.{Fault};
 ghost use Rattle.tcap_model.specs.Held.{held, pending};
 ghost use Rattle.tcap_model.specs.History.{Start, History};
+ghost use Rattle.tcap_model.specs.Legal.{IsLegal};
 ghost use Rattle.tcap_model.specs.Pair.{Past};
 ghost use Rattle.tcap_model.specs.Refusals.{due_on};
-ghost use Rattle.tcap_model.specs.Reply.{reply};
+ghost use Rattle.tcap_model.specs.Reply.{ended_in, reply};
 ghost use Rattle.tcap_model.specs.Request.{Request};
-ghost use Rattle.tcap_model.specs.TableMove.{DialogueEvent, answered, situation, table_move};
+ghost use Rattle.tcap_model.specs.TableMove.{DialogueEvent, answered, ended_told, situation, table_move};
 ghost use Rattle.tcap_model.specs.World.{first_world, dialogue_at, rows_of, world_of};
 
 /// Where nothing has happened, an engine is as it starts: it has the limits and the counters that it
@@ -47,4 +48,10 @@ pub fn requests_judged_alike()
 pub fn requests_answered_alike()
     ensures { (h : History) (dialogue : ℕ) (d : Dialogue) (request : Request) → dialogue_at h.start.reject_ms h.pairs dialogue ≡ Some d → leaves_standing request ≡ true →
         (table_move (setting_at h) d (DialogueEvent.request request)).answer ≡ reply h (Event.on_dialogue dialogue request) }
+{}
+
+/// At the end of a dialogue its rows and its history tell of the same invocations, in the same order
+/// (Q.774, Component handling).
+pub fn ended_alike()
+    ensures { (h : History) (dialogue : ℕ) → IsLegal h → ended_told dialogue (record { reject_ms = h.start.reject_ms; rows = rows_of h.start.reject_ms dialogue h.pairs }) ≡ ended_in dialogue h.pairs [] }
 {}
