@@ -4,6 +4,7 @@ mod DecisionSteps
 mod DrawnInvocations
 mod EarlierMoments
 pub mod EndingsAgree
+pub mod EndsAgree
 mod LatestInvocations
 pub mod RequestsAgree
 pub mod RowsAgree
