@@ -1,12 +1,12 @@
 -- What ends a dialogue is answered alike by what the dialogue keeps and by the history.
-use Rattle.std.proofs.Common.{◌≡◌, ℕ, ℤ, true, List, [], ◌∷◌, ◌++◌, Option, Some, None, refl, ap, sym, ◌∙◌}
+use Rattle.std.proofs.Common.{◌≡◌, ℕ, List, [], ◌∷◌, ◌++◌, Option, Some, None, refl, ap, ◌∙◌}
 use Rattle.tcap_model.proofs.EndingsAgree.{ended-agrees}
 use Rattle.tcap_model.proofs.RequestsAgree.{standing_dialogue, at_life, due-agrees, accepted-agrees}
 use Rattle.tcap_model.specs.AbortRules.{sent_if_any, abort_told, abnormal_abort}
 use Rattle.tcap_model.specs.Agreement.{setting_at}
 use Rattle.tcap_model.specs.Answer.{Answer}
 use Rattle.tcap_model.specs.Dialogue.{Dialogue}
-use Rattle.tcap_model.specs.Due.{standing_of, due, due_by}
+use Rattle.tcap_model.specs.Due.{standing_of, due_by}
 use Rattle.tcap_model.specs.Event.{Event}
 use Rattle.tcap_model.specs.Fault.{Fault}
 use Rattle.tcap_model.specs.History.{History}
@@ -19,7 +19,7 @@ use Rattle.tcap_model.specs.Request.{Request}
 use Rattle.tcap_model.specs.RequestMessage.{message_of}
 use Rattle.tcap_model.specs.State.{State, peer_by}
 use Rattle.tcap_model.specs.TableMove.{DialogueEvent, accepted, requested_by, over_with, walked_in, continued_by, ended_by, table_move}
-use Rattle.tcap_model.specs.World.{dialogue_at, dialogue_by}
+use Rattle.tcap_model.specs.World.{dialogue_at}
 use Rattle.tcap_pdu.specs.FrameSpelling.{Message, Reason}
 
 module _ (h : History) (dialogue : ℕ) (legal : IsLegal h) where
@@ -57,7 +57,7 @@ module _ (h : History) (dialogue : ℕ) (legal : IsLegal h) where
   request-agrees d request e =
       ap (λ f. (requested_by (setting_at h) d request f).answer) (due-agrees h dialogue d request e)
       ∙ at_life (λ l d. (requested_by (setting_at h) d request (due_by h dialogue request l)).answer ≡ request_answer h dialogue request l (due_by h dialogue request l)) h dialogue d
-        (λ state context. all-requested state context request (due_by h dialogue request (Life.standing state context))) (life dialogue h.pairs) e
+      (λ state context. all-requested state context request (due_by h dialogue request (Life.standing state context))) (life dialogue h.pairs) e
 
   -- ---- messages and faults
 
@@ -86,7 +86,7 @@ module _ (h : History) (dialogue : ℕ) (legal : IsLegal h) where
   unfolding table_move
   continue-agrees d origin to portion components e =
       at_life (λ l d. portion_verdict d.standing.state d.standing.context portion ≡ PortionVerdict.abnormal
-          → (table_move (setting_at h) d (DialogueEvent.frame (Message.go_on origin to portion components))).answer ≡ Answer.outputs (taken_outputs dialogue h.pairs l (Message.go_on origin to portion components))) h dialogue d
+      → (table_move (setting_at h) d (DialogueEvent.frame (Message.go_on origin to portion components))).answer ≡ Answer.outputs (taken_outputs dialogue h.pairs l (Message.go_on origin to portion components))) h dialogue d
       (λ state context. abnormal-continue state context origin components (portion_verdict state context portion)) (life dialogue h.pairs) e
 
   abnormal-end : (state : State) (context : Option (List ℕ)) (components : List ℕ) (verdict : PortionVerdict) → verdict ≡ PortionVerdict.abnormal
@@ -100,5 +100,5 @@ module _ (h : History) (dialogue : ℕ) (legal : IsLegal h) where
   unfolding table_move
   end-agrees d to portion components e =
       at_life (λ l d. portion_verdict d.standing.state d.standing.context portion ≡ PortionVerdict.abnormal
-          → (table_move (setting_at h) d (DialogueEvent.frame (Message.end to portion components))).answer ≡ Answer.outputs (taken_outputs dialogue h.pairs l (Message.end to portion components))) h dialogue d
+      → (table_move (setting_at h) d (DialogueEvent.frame (Message.end to portion components))).answer ≡ Answer.outputs (taken_outputs dialogue h.pairs l (Message.end to portion components))) h dialogue d
       (λ state context. abnormal-end state context components (portion_verdict state context portion)) (life dialogue h.pairs) e

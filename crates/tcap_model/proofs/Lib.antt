@@ -8,6 +8,7 @@ pub mod EndsAgree
 mod LatestInvocations
 pub mod RequestsAgree
 pub mod RowsAgree
+pub mod SentAgree
 mod SentClocks
 mod SpanSteps
 mod SupersededInvocations

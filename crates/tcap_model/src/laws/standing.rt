@@ -5,7 +5,7 @@ ghost use Rattle.tcap_invocation.specs.Closing.{given_up_at};
 ghost use Rattle.tcap_invocation.specs.Invocations.{entry_at};
 ghost use Rattle.tcap_model.specs.Agreement.{setting_at, leaves_standing};
 ghost use Rattle.tcap_model.specs.Answer.{Answer};
-ghost use Rattle.tcap_model.specs.Dialogue.{Dialogue};
+ghost use Rattle.tcap_model.specs.Dialogue.{Dialogue, sent_by_rows};
 ghost use Rattle.tcap_model.specs.Due.{situation_of, due};
 ghost use Rattle.tcap_model.specs.Event.{Event};
 ghost use Rattle.tcap_model.specs.Fault.{Fault};
@@ -16,6 +16,7 @@ ghost use Rattle.tcap_model.specs.Life.{life};
 ghost use Rattle.tcap_model.specs.Output.{Output, AbortCause};
 ghost use Rattle.tcap_model.specs.Pair.{Past};
 ghost use Rattle.tcap_model.specs.PortionRules.{PortionVerdict, portion_verdict};
+ghost use Rattle.tcap_model.specs.Queue.{sent_there};
 ghost use Rattle.tcap_model.specs.Refusals.{due_on};
 ghost use Rattle.tcap_model.specs.Reply.{ended_in, taken_outputs, reply};
 ghost use Rattle.tcap_model.specs.Request.{Request};
@@ -78,4 +79,11 @@ pub fn aborts_told_alike()
     ensures abnormal_end { (h : History) (dialogue : ℕ) (d : Dialogue) (to : List ℕ) (portion : Option (List ℕ)) (components : List ℕ) → IsLegal h → dialogue_at h.start.reject_ms h.pairs dialogue ≡ Some d →
         portion_verdict d.standing.state d.standing.context portion ≡ PortionVerdict.abnormal →
         (table_move (setting_at h) d (DialogueEvent.frame (Message.end to portion components))).answer ≡ Answer.outputs (taken_outputs dialogue h.pairs (life dialogue h.pairs) (Message.end to portion components)) }
+{}
+
+/// Which invocation is Sent for an invoke identifier is the same by the rows of a dialogue and by its
+/// history (Q.774, Operation Sent).
+pub fn sent_alike()
+    ensures { (h : History) (dialogue : ℕ) (id : ℤ) → IsLegal h →
+        sent_by_rows dialogue (record { reject_ms = h.start.reject_ms; rows = rows_of h.start.reject_ms dialogue h.pairs }) (Some id) ≡ sent_there dialogue h.pairs [] (Some id) }
 {}
