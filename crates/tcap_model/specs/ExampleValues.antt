@@ -1,8 +1,8 @@
 -- The values that the worked examples of dialogues share.
-use Rattle.std.specs.Prelude.{ℕ, ℤ, pos, List, [], ◌∷◌, ◌++◌, Some, None}
+use Rattle.std.specs.Prelude.{ℕ, Bool, ◌==◌, ℤ, pos, List, [], ◌∷◌, ◌++◌, replicate, Option, Some, None}
 use Rattle.tcap_component.specs.declared.problem.Kind.TheVariants as kind
 use Rattle.tcap_component.specs.Problem.{ProblemParts}
-use Rattle.tcap_component.specs.Component.{CodeParts}
+use Rattle.tcap_component.specs.Component.{CodeParts, BodyParts}
 use Rattle.tcap_invocation.specs.declared.class.Class.{Class}
 use Rattle.tcap_invocation.specs.declared.class.Class.TheVariants.{One}
 use Rattle.tcap_model.specs.Hex.{hex}
@@ -10,6 +10,7 @@ use Rattle.tcap_model.specs.Answer.{Answer}
 use Rattle.tcap_model.specs.Output.{Output, Closing}
 use Rattle.tcap_model.specs.Request.{Request}
 use Rattle.tcap_model.specs.TableMove.{DialogueEvent}
+use Rattle.tcap_model.specs.Played.{Played, opened, play, heard, Ends}
 
 -- An application context, by the contents octets of its object identifier (own).
 abbrev pub context : List ℕ
@@ -108,3 +109,43 @@ of_result number = record { kind = kind.Result; code = number }
 -- A problem of a Return Error (own).
 abbrev pub of_error : ℕ → ProblemParts
 of_error number = record { kind = kind.Error; code = number }
+
+-- A code that is no object identifier (own).
+abbrev pub bad_code : CodeParts
+bad_code = CodeParts.global (hex 1 0x80)
+
+-- A parameter that is no element: it has fewer octets than its length says (own).
+abbrev pub bad_parameter : Option (List ℕ)
+bad_parameter = Some (hex 3 0x0405AA)
+
+-- A parameter that passes the limit of a queue: an element of 60,000 octets 00 (own).
+abbrev pub long_parameter : Option (List ℕ)
+long_parameter = Some (hex 4 0x0482EA60 ++ replicate 60000 0)
+
+-- A parameter as long, and no element: it has the tag of the end of an indefinite form (own).
+abbrev pub long_bad_parameter : Option (List ℕ)
+long_bad_parameter = Some (replicate 60000 0)
+
+-- The body of a result (own).
+abbrev pub body : CodeParts → Option (List ℕ) → Option BodyParts
+body code parameter = Some (record { code = code; parameter = parameter })
+
+-- A Begin was sent, and a Continue without components was received: the dialogue is active (own).
+abbrev pub active : Played
+active = play opened (plain_begin ∷ heard (hex 14 0x650C_480400000005_490400000001) ∷ [])
+
+-- A dialogue with one Invoke in its queue: identifier 1, class 1, operation 10 (own).
+abbrev pub one_queued : Played
+one_queued = play opened (invoke (pos 1) One 10 ∷ [])
+
+-- A dialogue with one Invoke in its queue, of exactly 60,000 octets (own).
+abbrev pub full_queue : Played
+full_queue = play opened (DialogueEvent.request (Request.invoke (pos 1) One (code 10) (Some (hex 4 0x0482EA52 ++ replicate 59986 0)) None 1000) ∷ [])
+
+-- One dialogue is live, that of identifier 1 (own).
+abbrev pub is_first_live : ℕ → Bool
+is_first_live dialogue = dialogue == 1
+
+-- With the one Invoke sent, these bytes end its dialogue and tell this and that it is ended (own).
+abbrev pub EndsTold : List ℕ → Output → Type 0
+EndsTold bytes told = Ends opened (one_invoke ++ heard bytes ∷ []) (one_invoke_told ++ Answer.outputs (told ∷ first_ended ∷ []) ∷ [])

@@ -43,6 +43,7 @@ pub mod Queue
 pub mod QueueRules
 pub mod Reception
 pub mod Refusals
+pub mod Refused
 pub mod Reply
 pub mod Request
 pub mod RequestMessage
@@ -53,6 +54,7 @@ pub mod States
 pub mod TableMove
 pub mod Time
 pub mod TwoEnds
+pub mod WalkedHistories
 pub mod Worked
 pub mod WorkedClosing
 pub mod WorkedEnds
@@ -64,5 +66,7 @@ pub mod WorkedRequests
 pub mod WorkedWords
 pub mod WorkedWrong
 pub mod World
+pub mod WorldSteps
+pub mod WorldWords
 pub mod WrongAnswers
 pub mod WrongEnds

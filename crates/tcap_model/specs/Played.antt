@@ -56,10 +56,6 @@ opened_with reject_ms = record { setting = first_setting; dialogue = fresh_dialo
 abbrev pub opened : Played
 opened = opened_with 1000
 
--- A new dialogue whose queue holds at most 7 octets (own).
-abbrev pub opened_with_room_for_seven : Played
-opened_with_room_for_seven = record opened { setting = record first_setting { limit = 7 } }
-
 -- After one event more, and what the dialogue did (own).
 abbrev pub after_move : Played → DialogueEvent → Moved → Played
 after_move p event m = record {

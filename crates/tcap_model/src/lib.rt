@@ -7,5 +7,6 @@
 #![tactic(auto)]
 
 pub mod laws;
+
 #[cfg(test)]
 mod tests;

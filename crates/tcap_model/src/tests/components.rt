@@ -8,7 +8,8 @@ ghost use Rattle.tcap_model.specs.ExampleValues.{aare_result, code, invoke, plai
 ghost use Rattle.tcap_model.specs.Hex.{hex};
 ghost use Rattle.tcap_model.specs.Output.{Output, AbortCause, Closing, Rejector};
 ghost use Rattle.tcap_model.specs.Request.{Request, Ending};
-ghost use Rattle.tcap_model.specs.Played.{opened, opened_with_room_for_seven, begun_from, heard, Answers, Ends};
+ghost use Rattle.tcap_model.specs.Refused.{with_room};
+ghost use Rattle.tcap_model.specs.Played.{opened, begun_from, heard, Answers, Ends};
 ghost use Rattle.tcap_model.specs.TableMove.{DialogueEvent};
 ghost use Rattle.tcap_model.specs.TableMove.DialogueEvent.{request, moment};
 
@@ -149,7 +150,7 @@ pub fn linked_identifiers()
 /// Rejects are queued one by one, each where it fits: with room for 7 octets the first, of 8, isn't
 /// queued, and the second, of 7, is. Both are told.
 pub fn rejects_at_the_queues_limit()
-    ensures { Answers opened_with_room_for_seven
+    ensures { Answers (with_room 7 opened)
         (plain_begin ∷ heard (hex 23 0x6515_480400000005_490400000001_6C07_A203020109_A500) ∷ go_on ∷ [])
         (Answer.outputs (Output.send (hex 8 0x6206_480400000001) ∷ [])
         ∷ Answer.outputs (Output.go_on 1 None [] ∷ Output.local_reject (Some 1) (Some (pos 9)) (of_result 0) ∷ Output.local_reject (Some 1) None (general 0) ∷ [])
