@@ -13,9 +13,10 @@ use aborts::{
     ways_an_invocation_closes, what_an_abort_tells,
 };
 use components::{
-    a_reject_without_identifier, a_result_in_a_begin, an_answer_to_a_queued_identifier,
-    answers_sent, answers_the_class_forbids, faulty_second_component, lapse_and_late_result,
-    linked_identifiers, rejects_at_the_queues_limit, remote_rejects, result_in_an_end,
+    a_faulty_reject, a_reject_without_identifier, a_result_in_a_begin,
+    an_answer_to_a_queued_identifier, answers_sent, answers_the_class_forbids,
+    faulty_second_component, lapse_and_late_result, linked_identifiers,
+    rejects_at_the_queues_limit, remote_rejects, repeated_begin_played, result_in_an_end,
     unknown_linked_identifier,
 };
 use dialogues::{
@@ -28,8 +29,9 @@ use faults::{
     faults_of_an_error, faults_of_an_invoke,
 };
 use identifiers::{
-    a_result_in_a_unidirectional, held_up_to_the_next_moment, identifier_freed_by_a_reject,
-    identifier_held_after_a_result, queued_at_a_basic_end, unidirectional_both_ways,
+    a_result_in_a_unidirectional, given_up_before_it_is_sent, held_up_to_the_next_moment,
+    identifier_freed_by_a_reject, identifier_held_after_a_result, lapses_in_order,
+    queued_at_a_basic_end, unidirectional_both_ways, what_a_reject_frees,
 };
 use receptions::{
     a_begin_that_bears_no_dialogue, dropped_input, faulty_messages_answered,
@@ -58,12 +60,14 @@ fn components_hold() {
     answers_the_class_forbids();
     faulty_second_component();
     answers_sent();
+    repeated_begin_played();
     a_result_in_a_begin();
     unknown_linked_identifier();
     linked_identifiers();
     rejects_at_the_queues_limit();
     a_reject_without_identifier();
     an_answer_to_a_queued_identifier();
+    a_faulty_reject();
 }
 
 #[test]
@@ -94,6 +98,9 @@ fn faults_hold() {
 fn identifiers_hold() {
     identifier_held_after_a_result();
     identifier_freed_by_a_reject();
+    what_a_reject_frees();
+    given_up_before_it_is_sent();
+    lapses_in_order();
     held_up_to_the_next_moment();
     queued_at_a_basic_end();
     unidirectional_both_ways();
