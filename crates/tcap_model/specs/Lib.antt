@@ -58,8 +58,10 @@ pub mod WalkedHistories
 pub mod Worked
 pub mod WorkedClosing
 pub mod WorkedEnds
+pub mod WorkedLoss
 pub mod WorkedNames
 pub mod WorkedPlay
+pub mod WorkedReadings
 pub mod WorkedReception
 pub mod WorkedRefusals
 pub mod WorkedRequests
