@@ -1,1 +1,3 @@
 mod Trial
+mod ClockLemmas
+mod LifeLemmas
