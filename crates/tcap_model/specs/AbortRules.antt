@@ -1,5 +1,5 @@
 -- What a received Abort tells, and the Aborts that the provider sends.
-use Rattle.std.specs.Prelude.{Option, ℕ, Bool, true, false, List, [], ◌∷◌, Some, None, Result, Ok, Err, ◌==◌, nat_lt, length, if◌then◌else◌}
+use Rattle.std.specs.Prelude.{Option, ℕ, Bool, true, false, List, [], ◌∷◌, Some, None, Result, Ok, Err, ◌==◌, if◌then◌else◌}
 use Rattle.tcap_pdu.specs.declared.fault.DialogueFault.{DialogueFault}
 use Rattle.tcap_pdu.specs.declared.fault.FrameFault.{FrameFault}
 use Rattle.tcap_pdu.specs.declared.fault.FrameFault.TheVariants.{Unknown, BadlyFormatted, Incorrect}
@@ -8,7 +8,7 @@ use Rattle.tcap_pdu.specs.DialogueSpelling.PduValue.{aarq, audt, aare, abrt, for
 use Rattle.tcap_pdu.specs.DialogueReading.{dialogue_at}
 use Rattle.tcap_pdu.specs.DialogueWritten.{written_dialogue}
 use Rattle.tcap_pdu.specs.FrameSpelling.{Message, Reason}
-use Rattle.tcap_pdu.specs.FrameWritten.{message_limit, written_frame}
+use Rattle.tcap_pdu.specs.FrameWritten.{written_frame}
 use Rattle.tcap_model.specs.Output.{Output, AbortCause}
 
 -- ---- received
@@ -68,17 +68,11 @@ abort_with number peer = sent (Message.abort peer (Reason.cause number))
 abbrev pub abnormal_abort : List ℕ → Output
 abnormal_abort peer = sent (Message.abort peer (Reason.portion (written_dialogue (PduValue.abrt true []))))
 
--- The Abort that says that there is no common dialogue portion: an AARE with the context of the AARQ,
--- not accepted, diagnostic "no common dialogue portion" by the provider (Q.774, Dialogue begin).
-abbrev pub no_common_abort : List ℕ → List ℕ → Message
-no_common_abort context peer = Message.abort peer (Reason.portion (written_dialogue (PduValue.aare true context false (Source.provider 2) [])))
-
--- The Abort to the peer of a Begin whose version isn't ours. Where the context is so long that this
--- Abort would be above the limit of a message, an ABRT by the provider stands in its place
--- (Q.774, Dialogue begin; what stands in its place is own).
+-- The Abort to the peer of a Begin whose version isn't ours: an AARE with the context of the AARQ, not
+-- accepted, diagnostic "no common dialogue portion" by the provider; a context has at most 255 octets,
+-- so that it fits into a message (Q.774, Dialogue begin).
 abbrev pub version_abort : List ℕ → List ℕ → Output
-version_abort context peer =
-    if nat_lt message_limit (length (written_frame (no_common_abort context peer))) then abnormal_abort peer else sent (no_common_abort context peer)
+version_abort context peer = sent (Message.abort peer (Reason.portion (written_dialogue (PduValue.aare true context false (Source.provider 2) []))))
 
 -- The P-Abort cause of a faulty message: 0 unrecognized message type, 2 badly formatted transaction
 -- portion, 3 incorrect transaction portion (Q.773, P-Abort cause).
