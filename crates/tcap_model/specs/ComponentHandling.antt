@@ -1,6 +1,5 @@
 -- What one received component tells and which Reject it has.
 use Rattle.std.specs.Prelude.{ℕ, ℤ, List, Option, Some, None, Result, Ok, Err, map, if◌then◌else◌}
-use Rattle.tcap_component.specs.declared.problem.Kind.TheVariants as kind
 use Rattle.tcap_component.specs.Problem.{ProblemParts}
 use Rattle.tcap_component.specs.Component.{ComponentParts, CodeParts, BodyParts}
 use Rattle.tcap_component.specs.Component.ComponentParts.{invoke, result_last, error_back, reject_back, result_more}

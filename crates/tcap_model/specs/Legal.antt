@@ -1,7 +1,8 @@
 -- Histories in which each answer is the one that is due.
-use Rattle.std.specs.Prelude.{◌≡◌, [], ◌∷◌}
+use Rattle.std.specs.Prelude.{◌≡◌, ◌&&◌, Bool, nat_le, IsTrue, [], ◌∷◌}
+use Rattle.tcap_invocation.specs.Stage.{moment_limit}
 use Rattle.tcap_model.specs.History.{History, Start}
-use Rattle.tcap_model.specs.InRange.{InRange}
+use Rattle.tcap_model.specs.InRange.{InRange, is_short, is_long}
 use Rattle.tcap_model.specs.Pair.{Past}
 use Rattle.tcap_model.specs.Reply.{reply}
 
@@ -11,6 +12,12 @@ abbrev pub AreReplies : Start → Past → Type 0
 AreReplies start [] = Unit {0}
 AreReplies start (pair ∷ past) = InRange pair.event × (pair.answer ≡ reply (record { start = start; pairs = past }) pair.event) × AreReplies start past
 
--- A history is legal if each answer in it is the reply to what stands before it (own).
+-- The limits and the starting counters are those that their types hold: 1 to 65,535 dialogues, a wait
+-- of at most 2^62 milliseconds, an identifier of 32 bits, a number of 64 bits (own).
+abbrev pub is_start : Start → Bool
+is_start start = (nat_le 1 start.max_dialogues && nat_le start.max_dialogues 65535) && (nat_le start.reject_ms moment_limit && (is_short start.next_dialogue && is_long start.next_number))
+
+-- A history is legal if it starts within the limits, and each answer in it is the reply to what stands
+-- before it (own).
 abbrev pub IsLegal : History → Type 0
-IsLegal h = AreReplies h.start h.pairs
+IsLegal h = IsTrue (is_start h.start) × AreReplies h.start h.pairs

@@ -1,5 +1,5 @@
 -- The local transaction identifier: that of a dialogue, sent as four octets.
-use Rattle.std.specs.Prelude.{ℕ, List, length, Bool, false, bytes_eq, Option, Some, None, if◌then◌else◌, ◌==◌}
+use Rattle.std.specs.Prelude.{ℕ, List, length, Bool, false, Option, Some, None, if◌then◌else◌, ◌==◌}
 use Rattle.std.specs.Int.{w32, to_be_bytes, from_be_bytes}
 
 -- The octets of a dialogue identifier, the most significant first (Q.773, Transaction ID; that they
@@ -11,11 +11,11 @@ local_id dialogue = to_be_bytes w32 dialogue
 abbrev pub dialogue_named : List ℕ → Option ℕ
 dialogue_named octets = if length octets == 4 then Some (from_be_bytes w32 octets) else None
 
--- Whether the octets are those of a dialogue (own).
-abbrev pub is_local_id : ℕ → List ℕ → Bool
-is_local_id dialogue octets = bytes_eq octets (local_id dialogue)
-
--- It is this dialogue (own).
+-- Whether this is the dialogue (own).
 abbrev pub is_that : ℕ → Option ℕ → Bool
 is_that dialogue None = false
 is_that dialogue (Some named) = named == dialogue
+
+-- Whether the octets are the four of a dialogue (own).
+abbrev pub is_local_id : ℕ → List ℕ → Bool
+is_local_id dialogue octets = is_that dialogue (dialogue_named octets)

@@ -12,7 +12,7 @@ use Rattle.tcap_model.specs.ComponentRequest.{queued_for}
 use Rattle.tcap_model.specs.Event.{Event}
 use Rattle.tcap_model.specs.Invocation.{Invocation, latest}
 use Rattle.tcap_model.specs.Life.{Life, life}
-use Rattle.tcap_model.specs.Marks.{Mark, Noted, component_marks}
+use Rattle.tcap_model.specs.Marks.{Noted, component_marks}
 use Rattle.tcap_model.specs.Names.{names}
 use Rattle.tcap_model.specs.Numbers.{number_of}
 use Rattle.tcap_model.specs.Outcome.{is_sent_in}

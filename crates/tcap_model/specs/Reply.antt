@@ -1,5 +1,5 @@
 -- What is answered to an event, from the history alone.
-use Rattle.std.specs.Prelude.{◌≡◌, ℕ, ℤ, ◌+◌, ◌==◌, ◌&&◌, ◌||◌, Bool, true, false, nat_lt, nat_le, List, [], ◌∷◌, ◌++◌, map, flat_map, option_to_list, filter_map, Option, Some, None, is_none, is_some, if◌then◌else◌}
+use Rattle.std.specs.Prelude.{ℕ, ◌==◌, ◌&&◌, ◌||◌, Bool, nat_lt, nat_le, List, [], ◌∷◌, ◌++◌, map, option_to_list, filter_map, Option, Some, None, is_none, is_some, if◌then◌else◌}
 use Rattle.tcap_pdu.specs.FrameSpelling.{Message}
 use Rattle.tcap_component.specs.ComponentReading.{components_of}
 use Rattle.tcap_model.specs.AbortRules.{sent_if_any, abort_told, abnormal_abort}
@@ -7,24 +7,21 @@ use Rattle.tcap_model.specs.Answer.{Answer}
 use Rattle.tcap_model.specs.Birth.{next_dialogue}
 use Rattle.tcap_model.specs.Clock.{clock}
 use Rattle.tcap_model.specs.ComponentHandling.{Item, told_of, uni_told}
-use Rattle.tcap_model.specs.ComponentRequest.{identifier_of}
 use Rattle.tcap_model.specs.Deadline.{deadline}
-use Rattle.tcap_model.specs.Due.{standing_of, pending_if_any, due, birth_due}
+use Rattle.tcap_model.specs.Due.{standing_of, due, birth_due}
 use Rattle.tcap_model.specs.Event.{Event}
 use Rattle.tcap_model.specs.Fault.{Fault}
 use Rattle.tcap_model.specs.Held.{pending}
 use Rattle.tcap_model.specs.History.{History}
-use Rattle.tcap_model.specs.InRange.{InRange}
 use Rattle.tcap_model.specs.Invocation.{Invocation, invocations, next_number}
 use Rattle.tcap_model.specs.Life.{Life, life, live_in}
-use Rattle.tcap_model.specs.Marks.{Noted}
 use Rattle.tcap_model.specs.Outcome.{first_closing, is_sent_in}
 use Rattle.tcap_model.specs.Output.{Output, Closing, AbortCause}
-use Rattle.tcap_model.specs.Pair.{Pair, Past}
+use Rattle.tcap_model.specs.Pair.{Past}
 use Rattle.tcap_model.specs.PortionRules.{PortionVerdict, portion_verdict}
 use Rattle.tcap_model.specs.Queue.{marks_up_to, handled_in}
 use Rattle.tcap_model.specs.Reception.{Reception, reception}
-use Rattle.tcap_model.specs.Request.{Request, Ending}
+use Rattle.tcap_model.specs.Request.{Request}
 use Rattle.tcap_model.specs.RequestMessage.{message_of}
 use Rattle.tcap_model.specs.Span.{span}
 use Rattle.tcap_model.specs.Standing.{Standing}

@@ -1,8 +1,8 @@
 -- What an engine is, and what it is at a history.
-use Rattle.std.specs.Prelude.{◌≡◌, ℕ, ℤ, ◌+◌, ◌==◌, ◌&&◌, Bool, true, false, List, filter_map, Option, Some, None, is_none, if◌then◌else◌}
+use Rattle.std.specs.Prelude.{◌≡◌, ℕ, ◌+◌, ◌==◌, ◌&&◌, Bool, false, List, filter_map, Option, Some, None, if◌then◌else◌}
 use Rattle.tcap_invocation.specs.declared.stage.Stage.{Stage}
 use Rattle.tcap_invocation.specs.declared.stage.Stage.TheVariants as stage
-use Rattle.tcap_invocation.specs.Invocations.{Row, InvocationList}
+use Rattle.tcap_invocation.specs.Invocations.{Row}
 use Rattle.tcap_model.specs.Birth.{next_dialogue, dialogues}
 use Rattle.tcap_model.specs.Clock.{clock}
 use Rattle.tcap_model.specs.Closings.{Told}

@@ -7,3 +7,12 @@
 #![tactic(auto)]
 
 pub mod laws;
+
+#[cfg(test)]
+mod tests;
+pub mod worked;
+
+/// Probe.
+pub fn measured()
+    ensures { hex 4 0x01020304 ≡ 1 ∷ 2 ∷ 3 ∷ 4 ∷ [] }
+{}

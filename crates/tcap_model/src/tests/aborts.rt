@@ -1,0 +1,58 @@
+#![tactic(auto, unfolding(crate::specs::Computing::computing))]
+
+ghost use Rattle.std.specs.Prelude.{◌≡◌, pos, List, [], ◌∷◌, ◌++◌, None};
+ghost use Rattle.tcap_model.specs.Answer.{Answer};
+ghost use Rattle.tcap_model.specs.ExampleValues.{aare_result, code, one_invoke, one_invoke_told, first_ended, begin_with_aarq, begin_with_aarq_told};
+ghost use Rattle.tcap_model.specs.Hex.{hex};
+ghost use Rattle.tcap_model.specs.Output.{Output, AbortCause, Closing};
+ghost use Rattle.tcap_model.specs.Request.{Request, Ending, AbortReason};
+ghost use Rattle.tcap_model.specs.Played.{opened, begun_from, heard, Answers, Ends};
+ghost use Rattle.tcap_model.specs.TableMove.{DialogueEvent};
+ghost use Rattle.tcap_model.specs.TableMove.DialogueEvent.{request};
+
+/// A faulty message ends a dialogue, with its cause.
+pub fn a_fault_ends_a_dialogue()
+    ensures { Ends opened
+        (one_invoke ++ DialogueEvent.fault 2 ∷ [])
+        (one_invoke_told ++ Answer.outputs (Output.p_abort 1 (AbortCause.cause 2) ∷ first_ended ∷ []) ∷ []) }
+{}
+
+/// The ways in which the one invocation of a dialogue is closed: the provider's Abort, the user's Abort,
+/// an error in an End, a prearranged end, an abort by the user here, and TC-U-CANCEL.
+pub fn ways_an_invocation_closes()
+    ensures provider_abort { Ends opened
+        (one_invoke ++ heard (hex 11 0x6709_490400000001_4A0104) ∷ [])
+        (one_invoke_told ++ Answer.outputs (Output.p_abort 1 (AbortCause.cause 4) ∷ first_ended ∷ []) ∷ []) }
+    ensures user_abort { Ends opened
+        (one_invoke ++ heard (hex 8 0x6706_490400000001) ∷ [])
+        (one_invoke_told ++ Answer.outputs (Output.u_abort 1 None ∷ first_ended ∷ []) ∷ []) }
+    ensures error { Ends opened
+        (one_invoke ++ heard (hex 18 0x6410_490400000001_6C08_A306020101_02010D) ∷ [])
+        (one_invoke_told ++ Answer.outputs (Output.end 1 None [] ∷ Output.closed 1 1 (pos 1) (Closing.error_back (code 13) None) ∷ []) ∷ []) }
+    ensures prearranged_end { Ends opened
+        (one_invoke ++ request (Request.finish Ending.prearranged None []) ∷ [])
+        (one_invoke_told ++ Answer.outputs (first_ended ∷ []) ∷ []) }
+    ensures abort_here { Ends opened
+        (one_invoke ++ request (Request.u_abort AbortReason.by_user []) ∷ [])
+        (one_invoke_told ++ Answer.outputs (first_ended ∷ []) ∷ []) }
+    ensures cancel { Answers opened
+        (one_invoke ++ request (Request.u_cancel (pos 1)) ∷ [])
+        (one_invoke_told ++ Answer.given_up 1 ∷ []) }
+{}
+
+/// A Begin with an AARQ is refused, since its application context isn't supported, or it is aborted.
+pub fn dialogue_refused_and_aborted()
+    ensures refused { Ends (begun_from begin_with_aarq)
+        (request (Request.u_abort AbortReason.not_supported []) ∷ [])
+        (begin_with_aarq_told ∷ Answer.outputs (Output.send (hex 8 0x6732_490400000001 ++ aare_result 0xA203020101_A305A103020102) ∷ []) ∷ []) }
+    ensures aborted { Ends (begun_from begin_with_aarq)
+        (request (Request.u_abort AbortReason.by_user []) ∷ [])
+        (begin_with_aarq_told ∷ Answer.outputs (Output.send (hex 28 0x671A_490400000001_6B12_2810_0607_00118605010101_A005_6403_800100) ∷ []) ∷ []) }
+{}
+
+/// A dialogue portion of an Abort that can't be read is abnormal.
+pub fn an_abort_with_an_empty_portion()
+    ensures { Ends opened
+        (one_invoke ++ heard (hex 10 0x6708_490400000001_6B00) ∷ [])
+        (one_invoke_told ++ Answer.outputs (Output.p_abort 1 AbortCause.abnormal ∷ first_ended ∷ []) ∷ []) }
+{}

@@ -1,0 +1,12 @@
+//! Worked histories: the definitions give what was worked out by hand, and they refuse what a wrong
+//! engine would answer. Each function does nothing; its clauses are what is proved.
+
+pub mod closing;
+pub mod ends;
+pub mod names;
+pub mod play;
+pub mod reception;
+pub mod refusals;
+pub mod requests;
+pub mod wrong_answers;
+pub mod wrong_ends;

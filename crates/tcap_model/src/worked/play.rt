@@ -1,0 +1,11 @@
+//! Two engines, and a Begin that is delivered twice.
+#![tactic(auto, using(crate::proofs::PlayWorks::play_works))]
+
+ghost use Rattle.tcap_model.specs.Worked.{Works};
+ghost use Rattle.tcap_model.specs.WorkedPlay as worked;
+
+/// The repeated Begin makes a second dialogue, and of the two answers the first closes.
+pub fn repeated_begin()
+    ensures at_the_first { Works worked.repeated_begin_at_the_first }
+    ensures at_the_second { Works worked.repeated_begin_at_the_second }
+{}
