@@ -13,5 +13,7 @@ mod PlayWorks
 mod ReceptionWorks
 mod RefusalsWork
 mod RequestsWork
+mod SendingLemmas
+mod StartLemmas
 mod WrongAnswersGiven
 mod WrongEndsTold

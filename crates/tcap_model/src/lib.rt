@@ -10,9 +10,5 @@ pub mod laws;
 
 #[cfg(test)]
 mod tests;
+#[cfg(test)]
 pub mod worked;
-
-/// Probe.
-pub fn measured()
-    ensures { hex 4 0x01020304 ≡ 1 ∷ 2 ∷ 3 ∷ 4 ∷ [] }
-{}

@@ -41,5 +41,5 @@ pub fn number_is_drawn_once()
     ensures rising { (h : History) → IsLegal h → AllPairs (λ m n. m < n) (numbers h.pairs) }
     ensures of_invocations { (h : History) → IsLegal h → numbers h.pairs ≡ map (λ (i : Invocation). i.number) (invocations h.pairs) }
     ensures found { (h : History) → IsLegal h → (i : Invocation) → Contains (invocations h.pairs) i → invocation_of i.number h.pairs ≡ Some i }
-    ensures within { (h : History) → IsLegal h → h.start.next_number ≤ last_number → next_number h ≤ last_number }
+    ensures within { (h : History) → IsLegal h → next_number h ≤ last_number }
 {}
