@@ -14,6 +14,8 @@ mod ReceptionWorks
 mod RefusalsWork
 mod RequestsWork
 mod SendingLemmas
+mod SoundReceptions
 mod StartLemmas
+mod ToldLemmas
 mod WrongAnswersGiven
 mod WrongEndsTold
