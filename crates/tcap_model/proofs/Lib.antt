@@ -1,4 +1,6 @@
 mod Apart
+mod BirthLemmas
+mod BornLemmas
 mod ClockLemmas
 mod ClosingWorks
 mod Computing
