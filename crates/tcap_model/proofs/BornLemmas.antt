@@ -50,7 +50,7 @@ told-begun [] told = refl
 told-begun (output ∷ outputs) told = none-begun output outputs (begun-told output told.0) (told-begun outputs told.1)
 
 sends-begun : (output : Output) → Sends output → begun output ≡ None
-sends-begun output sends = ap begun sends.1
+sends-begun output sends = ap begun sends.2
 
 if_sends-begun : (abort : Option Output) (outputs : List Output) → IfSends abort → first_begun outputs ≡ None → first_begun (option_to_list abort ++ outputs) ≡ None
 if_sends-begun None outputs sends others = others

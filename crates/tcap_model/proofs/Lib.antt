@@ -11,11 +11,14 @@ mod LifeLemmas
 mod NamesWork
 mod NumberLemmas
 mod NumberedLemmas
+mod PeerLemmas
 mod PlayWorks
 mod ReceptionWorks
 mod RefusalsWork
+mod RequestSending
 mod RequestsWork
 mod SendingLemmas
+mod SentLemmas
 mod SoundReceptions
 mod StartLemmas
 mod ToldLemmas
