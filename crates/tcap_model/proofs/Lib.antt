@@ -13,6 +13,7 @@ mod NumberLemmas
 mod NumberedLemmas
 mod PeerLemmas
 mod PlayWorks
+mod ReceivedMarks
 mod ReceptionWorks
 mod RefusalsWork
 mod RequestSending

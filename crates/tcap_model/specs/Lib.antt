@@ -41,6 +41,7 @@ pub mod PortionRules
 pub mod Problems
 pub mod Queue
 pub mod QueueRules
+pub mod ReceivedMark
 pub mod Reception
 pub mod Refusals
 pub mod Refused

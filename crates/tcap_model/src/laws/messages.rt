@@ -1,17 +1,30 @@
 //! What is received and what is sent.
 
-ghost use Rattle.std.specs.Prelude.{◌≡◌, ◌≢◌, ℕ, ◌<◌, List, [], ◌∷◌, length};
-ghost use Rattle.tcap_pdu.specs.FrameSpelling.{Message};
+ghost use Rattle.std.specs.Prelude.{◌≡◌, ◌≢◌, ℕ, ℤ, ◌<◌, ◌≤◌, List, [], ◌∷◌, ◌++◌, Option, length};
+ghost use Rattle.tcap_pdu.specs.declared.fault.FrameFault.{FrameFault};
+ghost use Rattle.tcap_pdu.specs.FrameFaults.{IsFrameFault};
+ghost use Rattle.tcap_pdu.specs.FrameSpelling.{Message, Reason, SpellsFrame};
 ghost use Rattle.tcap_pdu.specs.FrameWritten.{message_limit};
+ghost use Rattle.tcap_component.specs.Component.{ComponentParts};
+ghost use Rattle.tcap_component.specs.ComponentFault.{FaultParts};
+ghost use Rattle.tcap_component.specs.ComponentList.{FirstFault};
+ghost use Rattle.tcap_component.specs.ComponentReading.{components_of};
 ghost use Rattle.tcap_model.specs.Answer.{Answer};
+ghost use Rattle.tcap_model.specs.Destination.{destination};
 ghost use Rattle.tcap_model.specs.Event.{Event};
 ghost use Rattle.tcap_model.specs.Fault.{Fault};
 ghost use Rattle.tcap_model.specs.History.{History};
+ghost use Rattle.tcap_model.specs.Marks.{Mark, component_marks, marks};
+ghost use Rattle.tcap_model.specs.Names.{is_destined, names};
 ghost use Rattle.tcap_model.specs.Output.{Output, DropCause};
+ghost use Rattle.tcap_model.specs.Pair.{Pair, Past};
 ghost use Rattle.tcap_model.specs.Places.{Tells};
+ghost use Rattle.tcap_model.specs.PortionRules.{PortionVerdict, portion_verdict};
+ghost use Rattle.tcap_model.specs.ReceivedMark.{Reaches, marks_of_components, noted_at};
 ghost use Rattle.tcap_model.specs.Reply.{reply};
 ghost use Rattle.tcap_model.specs.Request.{Request};
 ghost use Rattle.tcap_model.specs.SentMessage.{IsMessage, SentForRequest, SentForBytes};
+ghost use Rattle.tcap_model.specs.State.{State};
 
 /// Received bytes are never refused: the answer is what is sent and told, and that they are dropped
 /// is told too (our own).
@@ -31,4 +44,23 @@ pub fn sends_spell()
     ensures message { (h : History) (event : Event) (bytes : List ℕ) → Tells (reply h event) (Output.send bytes) → (m : Message) × IsMessage m bytes }
     ensures for_request { (h : History) (dialogue : ℕ) (request : Request) (bytes : List ℕ) → Tells (reply h (Event.on_dialogue dialogue request)) (Output.send bytes) → SentForRequest h dialogue request bytes }
     ensures for_bytes { (h : History) (received bytes : List ℕ) → Tells (reply h (Event.received received)) (Output.send bytes) → SentForBytes bytes }
+{}
+
+/// The marks of received bytes are those of the message that the bytes spell: of its components up
+/// to the first fault where its dialogue portion is as it should be, and else the dialogue's end
+/// (Q.774, Invocation state machine).
+pub fn marks_are_of_the_grammar()
+    // Components, and the dialogue that a message names.
+    ensures components { (id : ℤ) (cs : List ComponentParts) (fault : Option FaultParts) (content : List ℕ) → FirstFault cs fault content → component_marks id (components_of content) ≡ marks_of_components id cs }
+    ensures named { (dialogue : ℕ) (m : Message) (bytes : List ℕ) → SpellsFrame m bytes → length bytes ≤ message_limit → names (Event.received bytes) dialogue ≡ is_destined dialogue (destination m) }
+
+    // A Continue and an End that are as they should be.
+    ensures normal_continue { (dialogue : ℕ) (id : ℤ) (state : State) (context : Option (List ℕ)) (bytes : List ℕ) (pair : Pair) (past : Past) → Reaches dialogue state context bytes pair past → (origin to : List ℕ) (portion : Option (List ℕ)) (components : List ℕ) (told : Option (List ℕ)) (info : List ℕ) (cs : List ComponentParts) (fault : Option FaultParts) → SpellsFrame (Message.go_on origin to portion components) bytes → portion_verdict state context portion ≡ PortionVerdict.normal told info → FirstFault cs fault components → marks dialogue id pair past ≡ noted_at past (marks_of_components id cs) }
+    ensures normal_end { (dialogue : ℕ) (id : ℤ) (state : State) (context : Option (List ℕ)) (bytes : List ℕ) (pair : Pair) (past : Past) → Reaches dialogue state context bytes pair past → (to : List ℕ) (portion : Option (List ℕ)) (components : List ℕ) (told : Option (List ℕ)) (info : List ℕ) (cs : List ComponentParts) (fault : Option FaultParts) → SpellsFrame (Message.end to portion components) bytes → portion_verdict state context portion ≡ PortionVerdict.normal told info → FirstFault cs fault components → marks dialogue id pair past ≡ noted_at past (marks_of_components id cs ++ Mark.end ∷ []) }
+
+    // Whatever else ends the dialogue.
+    ensures abnormal_continue { (dialogue : ℕ) (id : ℤ) (state : State) (context : Option (List ℕ)) (bytes : List ℕ) (pair : Pair) (past : Past) → Reaches dialogue state context bytes pair past → (origin to : List ℕ) (portion : Option (List ℕ)) (components : List ℕ) → SpellsFrame (Message.go_on origin to portion components) bytes → portion_verdict state context portion ≡ PortionVerdict.abnormal → marks dialogue id pair past ≡ noted_at past (Mark.end ∷ []) }
+    ensures abnormal_end { (dialogue : ℕ) (id : ℤ) (state : State) (context : Option (List ℕ)) (bytes : List ℕ) (pair : Pair) (past : Past) → Reaches dialogue state context bytes pair past → (to : List ℕ) (portion : Option (List ℕ)) (components : List ℕ) → SpellsFrame (Message.end to portion components) bytes → portion_verdict state context portion ≡ PortionVerdict.abnormal → marks dialogue id pair past ≡ noted_at past (Mark.end ∷ []) }
+    ensures abort { (dialogue : ℕ) (id : ℤ) (state : State) (context : Option (List ℕ)) (bytes : List ℕ) (pair : Pair) (past : Past) → Reaches dialogue state context bytes pair past → (to : List ℕ) (reason : Reason) → SpellsFrame (Message.abort to reason) bytes → marks dialogue id pair past ≡ noted_at past (Mark.end ∷ []) }
+    ensures faulty { (dialogue : ℕ) (id : ℤ) (state : State) (context : Option (List ℕ)) (bytes : List ℕ) (pair : Pair) (past : Past) → Reaches dialogue state context bytes pair past → (fault : FrameFault) → IsFrameFault bytes fault → marks dialogue id pair past ≡ noted_at past (Mark.end ∷ []) }
 {}
