@@ -1,17 +1,17 @@
 -- The marks of received bytes are those of the message that the bytes spell.
 use Rattle.std.proofs.Common.{◌≡◌, ℕ, ℤ, ◌≤◌, true, false, Bool, List, [], ◌∷◌, ◌++◌, length, map, nat_le, flat_map, Option, Some, None, Result, Ok, Err, IsTrue, refl, sym, ap, ◌∙◌}
-use Rattle.std.proofs.lemmas.Bool.{le-leb}
+use Rattle.std.proofs.lemmas.Bool.{le-leb, true≢false}
 use Rattle.tcap_pdu.specs.declared.fault.FrameFault.{FrameFault}
 use Rattle.tcap_pdu.specs.FrameFaults.{IsFrameFault}
 use Rattle.tcap_pdu.specs.FrameReading.{frame_at}
 use Rattle.tcap_pdu.specs.FrameSpelling.{Message, Reason, SpellsFrame}
 use Rattle.tcap_pdu.specs.FrameWritten.{message_limit}
-use Rattle.tcap_pdu.proofs.CallerLemmas.{frame_again, frame_told}
+use Rattle.tcap_pdu.proofs.CallerLemmas.{frame_again, frame_told, frame_takes, frame_fails}
 use Rattle.tcap_component.specs.Component.{ComponentParts}
 use Rattle.tcap_component.specs.ComponentFault.{FaultParts}
 use Rattle.tcap_component.specs.ComponentList.{FirstFault, items}
 use Rattle.tcap_component.specs.ComponentReading.{components_of}
-use Rattle.tcap_component.proofs.CallerLemmas.{first_fault_again}
+use Rattle.tcap_component.proofs.CallerLemmas.{first_fault_again, first_fault_is}
 use Rattle.tcap_model.specs.Answer.{Answer}
 use Rattle.tcap_model.specs.Destination.{destination, destination_of, destination_by}
 use Rattle.tcap_model.specs.Event.{Event}
@@ -20,7 +20,8 @@ use Rattle.tcap_model.specs.Marks.{Mark, Noted, marks_of_component, component_ma
 use Rattle.tcap_model.specs.Names.{is_destined, named_within, names}
 use Rattle.tcap_model.specs.Pair.{Pair, Past}
 use Rattle.tcap_model.specs.PortionRules.{PortionVerdict, portion_verdict}
-use Rattle.tcap_model.specs.ReceivedMark.{Reaches, noted_at, marks_of_components}
+use Rattle.tcap_model.specs.ReceivedMark.{Reaches, IsNormal, IsAbnormal, Means, noted_at, marks_of_components}
+use Rattle.tcap_model.specs.ReceivedMark.Means.{continued, ended, continued_abnormally, ended_abnormally, aborted, faulty}
 use Rattle.tcap_model.specs.State.{State}
 
 -- ---- components
@@ -51,28 +52,53 @@ module _ (dialogue : ℕ) (id : ℤ) (state : State) (context : Option (List ℕ
   marks-read read e = rw (reaches.is_life, reaches.is_event, reaches.names_it, reaches.is_live, e)
       (ap (λ (after : Life). noted_at past (marks_by_message id state context (ending (Life.standing state context) after) read)) (after-is pair.answer read e))
 
-  pub continue-marks : (origin to : List ℕ) (portion : Option (List ℕ)) (components : List ℕ) (told : Option (List ℕ)) (info : List ℕ) (cs : List ComponentParts) (fault : Option FaultParts) → SpellsFrame (Message.go_on origin to portion components) bytes → portion_verdict state context portion ≡ PortionVerdict.normal told info → FirstFault cs fault components → marks dialogue id pair past ≡ noted_at past (marks_of_components id cs)
-  continue-marks origin to portion components told info cs fault spelled normal first =
-      marks-read (Ok (Message.go_on origin to portion components)) (frame_again (Message.go_on origin to portion components) bytes spelled)
-      ∙ rw (normal, components-marks id cs fault components first) refl
+  -- by the message
+  read-normal : (portion : Option (List ℕ)) (made other : List Mark) → IsNormal state context portion → if_normal (portion_verdict state context portion) made other ≡ made
+  read-normal portion made other normal = rw normal.2 refl
 
-  pub end-marks : (to : List ℕ) (portion : Option (List ℕ)) (components : List ℕ) (told : Option (List ℕ)) (info : List ℕ) (cs : List ComponentParts) (fault : Option FaultParts) → SpellsFrame (Message.end to portion components) bytes → portion_verdict state context portion ≡ PortionVerdict.normal told info → FirstFault cs fault components → marks dialogue id pair past ≡ noted_at past (marks_of_components id cs ++ Mark.end ∷ [])
-  end-marks to portion components told info cs fault spelled normal first =
-      marks-read (Ok (Message.end to portion components)) (frame_again (Message.end to portion components) bytes spelled)
-      ∙ rw (normal, components-marks id cs fault components first) refl
-
-  pub abnormal-continue-marks : (origin to : List ℕ) (portion : Option (List ℕ)) (components : List ℕ) → SpellsFrame (Message.go_on origin to portion components) bytes → portion_verdict state context portion ≡ PortionVerdict.abnormal → marks dialogue id pair past ≡ noted_at past (Mark.end ∷ [])
-  abnormal-continue-marks origin to portion components spelled abnormal =
-      marks-read (Ok (Message.go_on origin to portion components)) (frame_again (Message.go_on origin to portion components) bytes spelled)
+  pub means-marks : (made : List Mark) → Means state context id bytes made → marks dialogue id pair past ≡ noted_at past made
+  means-marks _ (continued origin to portion content components fault spelled normal first) =
+      marks-read (Ok (Message.go_on origin to portion content)) (frame_again (Message.go_on origin to portion content) bytes spelled)
+      ∙ ap (noted_at past) (read-normal portion _ _ normal ∙ components-marks id components fault content first)
+  means-marks _ (ended to portion content components fault spelled normal first) =
+      marks-read (Ok (Message.end to portion content)) (frame_again (Message.end to portion content) bytes spelled)
+      ∙ ap (noted_at past) (read-normal portion _ _ normal ∙ ap (λ (made : List Mark). made ++ Mark.end ∷ []) (components-marks id components fault content first))
+  means-marks _ (continued_abnormally origin to portion content spelled abnormal) =
+      marks-read (Ok (Message.go_on origin to portion content)) (frame_again (Message.go_on origin to portion content) bytes spelled)
       ∙ rw abnormal refl
-
-  pub abnormal-end-marks : (to : List ℕ) (portion : Option (List ℕ)) (components : List ℕ) → SpellsFrame (Message.end to portion components) bytes → portion_verdict state context portion ≡ PortionVerdict.abnormal → marks dialogue id pair past ≡ noted_at past (Mark.end ∷ [])
-  abnormal-end-marks to portion components spelled abnormal =
-      marks-read (Ok (Message.end to portion components)) (frame_again (Message.end to portion components) bytes spelled)
+  means-marks _ (ended_abnormally to portion content spelled abnormal) =
+      marks-read (Ok (Message.end to portion content)) (frame_again (Message.end to portion content) bytes spelled)
       ∙ rw abnormal refl
+  means-marks _ (aborted to reason spelled) = marks-read (Ok (Message.abort to reason)) (frame_again (Message.abort to reason) bytes spelled)
+  means-marks _ (faulty fault is) = marks-read (Err fault) (frame_told bytes fault is)
 
-  pub abort-marks : (to : List ℕ) (reason : Reason) → SpellsFrame (Message.abort to reason) bytes → marks dialogue id pair past ≡ noted_at past (Mark.end ∷ [])
-  abort-marks to reason spelled = marks-read (Ok (Message.abort to reason)) (frame_again (Message.abort to reason) bytes spelled)
+  -- ---- bytes that reach a dialogue mean something
 
-  pub fault-marks : (fault : FrameFault) → IsFrameFault bytes fault → marks dialogue id pair past ≡ noted_at past (Mark.end ∷ [])
-  fault-marks fault is = marks-read (Err fault) (frame_told bytes fault is)
+  by-verdict : {X : Type 0} → (portion : Option (List ℕ)) (verdict : PortionVerdict) → portion_verdict state context portion ≡ verdict → (IsNormal state context portion → X) → (IsAbnormal state context portion → X) → X
+  by-verdict portion (PortionVerdict.normal told info) e normal abnormal = normal (told, info, e)
+  by-verdict portion PortionVerdict.abnormal e normal abnormal = abnormal e
+
+  addressed : (m : Message) → frame_at bytes ≡ Ok m → destination m ≡ None → ⊥
+  addressed m e none = unnamed (nat_le (length bytes) message_limit) reaches.names_it
+    where
+      unnamed : (within : Bool) → named_within within dialogue bytes ≡ true → ⊥
+      unnamed false named = true≢false (sym named)
+      unnamed true named = true≢false (sym named ∙ rw (e, none) refl)
+
+  pub reached-means : (read : Result Message FrameFault) → frame_at bytes ≡ read → (made : List Mark) × Means state context id bytes made
+  reached-means (Ok (Message.go_on origin to portion content)) e =
+      let spelled = frame_takes bytes (Message.go_on origin to portion content) e in
+      let first = first_fault_is content in
+      by-verdict portion (portion_verdict state context portion) refl
+        (λ normal. (marks_of_components id first.0, continued origin to portion content first.0 first.1 spelled normal first.2))
+        (λ abnormal. (Mark.end ∷ [], continued_abnormally origin to portion content spelled abnormal))
+  reached-means (Ok (Message.end to portion content)) e =
+      let spelled = frame_takes bytes (Message.end to portion content) e in
+      let first = first_fault_is content in
+      by-verdict portion (portion_verdict state context portion) refl
+        (λ normal. (marks_of_components id first.0 ++ Mark.end ∷ [], ended to portion content first.0 first.1 spelled normal first.2))
+        (λ abnormal. (Mark.end ∷ [], ended_abnormally to portion content spelled abnormal))
+  reached-means (Ok (Message.abort to reason)) e = (Mark.end ∷ [], aborted to reason (frame_takes bytes (Message.abort to reason) e))
+  reached-means (Ok (Message.unidirectional portion content)) e = absurd (addressed (Message.unidirectional portion content) e refl)
+  reached-means (Ok (Message.begin origin portion content)) e = absurd (addressed (Message.begin origin portion content) e refl)
+  reached-means (Err f) e = (Mark.end ∷ [], faulty f (frame_fails bytes f e))

@@ -20,7 +20,7 @@ ghost use Rattle.tcap_model.specs.Output.{Output, DropCause};
 ghost use Rattle.tcap_model.specs.Pair.{Pair, Past};
 ghost use Rattle.tcap_model.specs.Places.{Tells};
 ghost use Rattle.tcap_model.specs.PortionRules.{PortionVerdict, portion_verdict};
-ghost use Rattle.tcap_model.specs.ReceivedMark.{Reaches, marks_of_components, noted_at};
+ghost use Rattle.tcap_model.specs.ReceivedMark.{Means, Reaches, marks_of_components, noted_at};
 ghost use Rattle.tcap_model.specs.Reply.{reply};
 ghost use Rattle.tcap_model.specs.Request.{Request};
 ghost use Rattle.tcap_model.specs.SentMessage.{IsMessage, SentForRequest, SentForBytes};
@@ -46,21 +46,12 @@ pub fn sends_spell()
     ensures for_bytes { (h : History) (received bytes : List ℕ) → Tells (reply h (Event.received received)) (Output.send bytes) → SentForBytes bytes }
 {}
 
-/// The marks of received bytes are those of the message that the bytes spell: of its components up
-/// to the first fault where its dialogue portion is as it should be, and else the dialogue's end
-/// (Q.774, Invocation state machine).
+/// The marks of received bytes are those of the message that the bytes spell, and bytes that reach a
+/// dialogue always have a meaning: their components up to the first fault where the dialogue portion
+/// is as it should be, and else the dialogue's end (Q.774, Invocation state machine).
 pub fn marks_are_of_the_grammar()
-    // Components, and the dialogue that a message names.
-    ensures components { (id : ℤ) (cs : List ComponentParts) (fault : Option FaultParts) (content : List ℕ) → FirstFault cs fault content → component_marks id (components_of content) ≡ marks_of_components id cs }
+    ensures components { (id : ℤ) (components : List ComponentParts) (fault : Option FaultParts) (content : List ℕ) → FirstFault components fault content → component_marks id (components_of content) ≡ marks_of_components id components }
     ensures named { (dialogue : ℕ) (m : Message) (bytes : List ℕ) → SpellsFrame m bytes → length bytes ≤ message_limit → names (Event.received bytes) dialogue ≡ is_destined dialogue (destination m) }
-
-    // A Continue and an End that are as they should be.
-    ensures normal_continue { (dialogue : ℕ) (id : ℤ) (state : State) (context : Option (List ℕ)) (bytes : List ℕ) (pair : Pair) (past : Past) → Reaches dialogue state context bytes pair past → (origin to : List ℕ) (portion : Option (List ℕ)) (components : List ℕ) (told : Option (List ℕ)) (info : List ℕ) (cs : List ComponentParts) (fault : Option FaultParts) → SpellsFrame (Message.go_on origin to portion components) bytes → portion_verdict state context portion ≡ PortionVerdict.normal told info → FirstFault cs fault components → marks dialogue id pair past ≡ noted_at past (marks_of_components id cs) }
-    ensures normal_end { (dialogue : ℕ) (id : ℤ) (state : State) (context : Option (List ℕ)) (bytes : List ℕ) (pair : Pair) (past : Past) → Reaches dialogue state context bytes pair past → (to : List ℕ) (portion : Option (List ℕ)) (components : List ℕ) (told : Option (List ℕ)) (info : List ℕ) (cs : List ComponentParts) (fault : Option FaultParts) → SpellsFrame (Message.end to portion components) bytes → portion_verdict state context portion ≡ PortionVerdict.normal told info → FirstFault cs fault components → marks dialogue id pair past ≡ noted_at past (marks_of_components id cs ++ Mark.end ∷ []) }
-
-    // Whatever else ends the dialogue.
-    ensures abnormal_continue { (dialogue : ℕ) (id : ℤ) (state : State) (context : Option (List ℕ)) (bytes : List ℕ) (pair : Pair) (past : Past) → Reaches dialogue state context bytes pair past → (origin to : List ℕ) (portion : Option (List ℕ)) (components : List ℕ) → SpellsFrame (Message.go_on origin to portion components) bytes → portion_verdict state context portion ≡ PortionVerdict.abnormal → marks dialogue id pair past ≡ noted_at past (Mark.end ∷ []) }
-    ensures abnormal_end { (dialogue : ℕ) (id : ℤ) (state : State) (context : Option (List ℕ)) (bytes : List ℕ) (pair : Pair) (past : Past) → Reaches dialogue state context bytes pair past → (to : List ℕ) (portion : Option (List ℕ)) (components : List ℕ) → SpellsFrame (Message.end to portion components) bytes → portion_verdict state context portion ≡ PortionVerdict.abnormal → marks dialogue id pair past ≡ noted_at past (Mark.end ∷ []) }
-    ensures abort { (dialogue : ℕ) (id : ℤ) (state : State) (context : Option (List ℕ)) (bytes : List ℕ) (pair : Pair) (past : Past) → Reaches dialogue state context bytes pair past → (to : List ℕ) (reason : Reason) → SpellsFrame (Message.abort to reason) bytes → marks dialogue id pair past ≡ noted_at past (Mark.end ∷ []) }
-    ensures faulty { (dialogue : ℕ) (id : ℤ) (state : State) (context : Option (List ℕ)) (bytes : List ℕ) (pair : Pair) (past : Past) → Reaches dialogue state context bytes pair past → (fault : FrameFault) → IsFrameFault bytes fault → marks dialogue id pair past ≡ noted_at past (Mark.end ∷ []) }
+    ensures made { (dialogue : ℕ) (id : ℤ) (state : State) (context : Option (List ℕ)) (bytes : List ℕ) (pair : Pair) (past : Past) → Reaches dialogue state context bytes pair past → (made : List Mark) → Means state context id bytes made → marks dialogue id pair past ≡ noted_at past made }
+    ensures some { (dialogue : ℕ) (id : ℤ) (state : State) (context : Option (List ℕ)) (bytes : List ℕ) (pair : Pair) (past : Past) → Reaches dialogue state context bytes pair past → (made : List Mark) × Means state context id bytes made }
 {}
