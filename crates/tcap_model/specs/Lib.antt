@@ -41,12 +41,14 @@ pub mod PortionRules
 pub mod Problems
 pub mod Queue
 pub mod QueueRules
+pub mod ReceivedMark
 pub mod Reception
 pub mod Refusals
 pub mod Refused
 pub mod Reply
 pub mod Request
 pub mod RequestMessage
+pub mod SentMessage
 pub mod Span
 pub mod Standing
 pub mod State

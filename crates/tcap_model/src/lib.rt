@@ -10,5 +10,6 @@
 #![tactic(auto)]
 
 pub mod laws;
+
 #[cfg(test)]
 mod tests;
