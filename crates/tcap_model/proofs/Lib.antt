@@ -10,6 +10,7 @@ mod DrawnInvocations
 mod DrawnLemmas
 mod DueLemmas
 mod EarlierMoments
+pub mod EndingsAgree
 mod EndsWork
 mod LatestInvocations
 mod LifeLemmas
@@ -22,7 +23,9 @@ mod ReceivedMarks
 mod ReceptionWorks
 mod RefusalsWork
 mod RequestSending
+pub mod RequestsAgree
 mod RequestsWork
+pub mod RowsAgree
 mod SendingLemmas
 mod SentClocks
 mod SentLemmas

@@ -1,4 +1,5 @@
 pub mod AbortRules
+pub mod Agreement
 pub mod Answer
 pub mod Birth
 pub mod Clock
