@@ -1,3 +1,4 @@
 mod Apart
+mod HeadlineWorks
 mod WrongAnswersGiven
 mod WrongEndsTold

@@ -63,6 +63,7 @@ pub mod WorkedPlay
 pub mod WorkedReception
 pub mod WorkedRefusals
 pub mod WorkedRequests
+pub mod WorkedStatements
 pub mod WorkedWords
 pub mod WorkedWrong
 pub mod World

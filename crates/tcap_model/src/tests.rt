@@ -6,6 +6,7 @@ mod histories;
 mod identifiers;
 mod receptions;
 mod refusals;
+mod statements;
 mod worlds;
 
 use aborts::{
