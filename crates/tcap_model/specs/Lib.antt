@@ -59,6 +59,7 @@ pub mod Worked
 pub mod WorkedClosing
 pub mod WorkedEnds
 pub mod WorkedNames
+pub mod WorkedNets
 pub mod WorkedPlay
 pub mod WorkedReception
 pub mod WorkedRefusals

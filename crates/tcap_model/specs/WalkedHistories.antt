@@ -40,29 +40,33 @@ accepting = hex 14 0x653F_480400000005_490400000001 ++ aare ++ hex 7 0x6C05_A203
 -- the dialogue is over
 -- (Q.774, Dialogue continuation; Q.774, Abnormal procedures relating to dialogue control).
 abbrev pub repeated_aare : Walk
-repeated_aare = record { start = started; before = empty_engine; steps =
-  new_dialogue_1
-    (engine 0 1 (dialogue_1 State.fresh None [] [] ∷ []))
-  ∷ request (invoke (pos 1) 10 1000) (Answer.number 1)
-    (engine 0 2 (dialogue_1 State.fresh None
+repeated_aare = record {
+  start = started;
+  before = empty_engine;
+  steps =
+      new_dialogue_1
+      (engine 0 1 (dialogue_1 State.fresh None [] [] ∷ []))
+      ∷ request (invoke (pos 1) 10 1000) (Answer.number 1)
+      (engine 0 2 (dialogue_1 State.fresh None
       (invoke_queued invoke_1 1 ∷ [])
       (row (pos 1) 1 (Queued 1000) ∷ []) ∷ []))
-  ∷ request (invoke (pos 2) 11 1000) (Answer.number 2)
-    (engine 0 3 (dialogue_1 State.fresh None
+      ∷ request (invoke (pos 2) 11 1000) (Answer.number 2)
+      (engine 0 3 (dialogue_1 State.fresh None
       (invoke_queued invoke_1 1 ∷ invoke_queued invoke_2 2 ∷ [])
       (row (pos 1) 1 (Queued 1000) ∷ row (pos 2) 2 (Queued 1000) ∷ []) ∷ []))
-  ∷ request (Request.begin (Some context) [])
-    (Answer.outputs (Output.send (hex 8 0x6238_480400000001 ++ aarq ++ hex 18 0x6C10_A10602010102010A_A10602010202010B) ∷ []))
-    (engine 0 3 (dialogue_1 State.sent (Some context) []
+      ∷ request (Request.begin (Some context) [])
+      (Answer.outputs (Output.send (hex 8 0x6238_480400000001 ++ aarq ++ hex 18 0x6C10_A10602010102010A_A10602010202010B) ∷ []))
+      (engine 0 3 (dialogue_1 State.sent (Some context) []
       (row (pos 1) 1 (Sent 1000) ∷ row (pos 2) 2 (Sent 1000) ∷ []) ∷ []))
-  ∷ receive accepting (Output.go_on 1 (Some context) [] ∷ Output.closed 1 1 (pos 1) (Closing.result_last None) ∷ [])
-    (engine 0 3 (dialogue_1 (State.active peer) (Some context) []
+      ∷ receive accepting (Output.go_on 1 (Some context) [] ∷ Output.closed 1 1 (pos 1) (Closing.result_last None) ∷ [])
+      (engine 0 3 (dialogue_1 (State.active peer) (Some context) []
       (row (pos 1) 1 (Waiting 1000) ∷ row (pos 2) 2 (Sent 1000) ∷ []) ∷ []))
-  ∷ receive accepting
-    (Output.send (hex 28 0x671A_490400000005_6B12_2810_060700118605010101_A005_6403_800101)
+      ∷ receive accepting
+      (Output.send (hex 28 0x671A_490400000005_6B12_2810_060700118605010101_A005_6403_800101)
       ∷ Output.p_abort 1 AbortCause.abnormal ∷ Output.closed 1 2 (pos 2) Closing.ended ∷ [])
-    (engine 0 3 [])
-  ∷ [] }
+      (engine 0 3 [])
+      ∷ [];
+}
 
 -- ---- an identifier freed by a Reject
 
@@ -70,35 +74,39 @@ repeated_aare = record { start = started; before = empty_engine; steps =
 -- queued; the identifier is taken again for number 2, and both components go out in one Continue, from
 -- which number 2 is Sent and is answered like number 1 (Q.774, Invocation state machine).
 abbrev pub identifier_freed : Walk
-identifier_freed = record { start = started; before = empty_engine; steps =
-  new_dialogue_1
-    (engine 0 1 (dialogue_1 State.fresh None [] [] ∷ []))
-  ∷ request (invoke (pos 1) 10 10000) (Answer.number 1)
-    (engine 0 2 (dialogue_1 State.fresh None
+identifier_freed = record {
+  start = started;
+  before = empty_engine;
+  steps =
+      new_dialogue_1
+      (engine 0 1 (dialogue_1 State.fresh None [] [] ∷ []))
+      ∷ request (invoke (pos 1) 10 10000) (Answer.number 1)
+      (engine 0 2 (dialogue_1 State.fresh None
       (invoke_queued invoke_1 1 ∷ [])
       (row (pos 1) 1 (Queued 10000) ∷ []) ∷ []))
-  ∷ request (Request.begin None []) (Answer.outputs (Output.send begin_1 ∷ []))
-    (engine 0 2 (dialogue_1 State.sent None []
+      ∷ request (Request.begin None []) (Answer.outputs (Output.send begin_1 ∷ []))
+      (engine 0 2 (dialogue_1 State.sent None []
       (row (pos 1) 1 (Sent 10000) ∷ []) ∷ []))
-  ∷ receive result_of_first (Output.go_on 1 None [] ∷ Output.closed 1 1 (pos 1) (Closing.result_last None) ∷ [])
-    (engine 0 2 (dialogue_1 (State.active peer) None []
+      ∷ receive result_of_first (Output.go_on 1 None [] ∷ Output.closed 1 1 (pos 1) (Closing.result_last None) ∷ [])
+      (engine 0 2 (dialogue_1 (State.active peer) None []
       (row (pos 1) 1 (Waiting 1000) ∷ []) ∷ []))
-  ∷ request (Request.u_reject (Some (pos 1)) (of_result 2)) Answer.done
-    (engine 0 2 (dialogue_1 (State.active peer) None
+      ∷ request (Request.u_reject (Some (pos 1)) (of_result 2)) Answer.done
+      (engine 0 2 (dialogue_1 (State.active peer) None
       (reject_queued (hex 8 0xA406_020101_820102) ∷ [])
       [] ∷ []))
-  ∷ request (invoke (pos 1) 10 10000) (Answer.number 2)
-    (engine 0 3 (dialogue_1 (State.active peer) None
+      ∷ request (invoke (pos 1) 10 10000) (Answer.number 2)
+      (engine 0 3 (dialogue_1 (State.active peer) None
       (reject_queued (hex 8 0xA406_020101_820102) ∷ invoke_queued invoke_1 2 ∷ [])
       (row (pos 1) 2 (Queued 10000) ∷ []) ∷ []))
-  ∷ request (Request.go_on None [])
-    (Answer.outputs (Output.send (hex 32 0x651E_480400000001_490400000005_6C10_A406020101820102_A10602010102010A) ∷ []))
-    (engine 0 3 (dialogue_1 (State.active peer) None []
+      ∷ request (Request.go_on None [])
+      (Answer.outputs (Output.send (hex 32 0x651E_480400000001_490400000005_6C10_A406020101820102_A10602010102010A) ∷ []))
+      (engine 0 3 (dialogue_1 (State.active peer) None []
       (row (pos 1) 2 (Sent 10000) ∷ []) ∷ []))
-  ∷ receive result_of_first (Output.go_on 1 None [] ∷ Output.closed 1 2 (pos 1) (Closing.result_last None) ∷ [])
-    (engine 0 3 (dialogue_1 (State.active peer) None []
+      ∷ receive result_of_first (Output.go_on 1 None [] ∷ Output.closed 1 2 (pos 1) (Closing.result_last None) ∷ [])
+      (engine 0 3 (dialogue_1 (State.active peer) None []
       (row (pos 1) 2 (Waiting 1000) ∷ []) ∷ []))
-  ∷ [] }
+      ∷ [];
+}
 
 -- ---- a lapse, and a result after it
 
@@ -107,28 +115,32 @@ identifier_freed = record { start = started; before = empty_engine; steps =
 -- the dialogue, and the engine after it is the one before it
 -- (Q.774, Invocation timer; Q.774, Component related abnormal conditions).
 abbrev pub lapse_and_late_result : Walk
-lapse_and_late_result = record { start = started; before = empty_engine; steps =
-  new_dialogue_1
-    (engine 0 1 (dialogue_1 State.fresh None [] [] ∷ []))
-  ∷ request (invoke (pos 1) 10 1000) (Answer.number 1)
-    (engine 0 2 (dialogue_1 State.fresh None
+lapse_and_late_result = record {
+  start = started;
+  before = empty_engine;
+  steps =
+      new_dialogue_1
+      (engine 0 1 (dialogue_1 State.fresh None [] [] ∷ []))
+      ∷ request (invoke (pos 1) 10 1000) (Answer.number 1)
+      (engine 0 2 (dialogue_1 State.fresh None
       (invoke_queued invoke_1 1 ∷ [])
       (row (pos 1) 1 (Queued 1000) ∷ []) ∷ []))
-  ∷ request (Request.begin None []) (Answer.outputs (Output.send begin_1 ∷ []))
-    (engine 0 2 (dialogue_1 State.sent None []
+      ∷ request (Request.begin None []) (Answer.outputs (Output.send begin_1 ∷ []))
+      (engine 0 2 (dialogue_1 State.sent None []
       (row (pos 1) 1 (Sent 1000) ∷ []) ∷ []))
-  ∷ advance 999 []
-    (engine 999 2 (dialogue_1 State.sent None []
+      ∷ advance 999 []
+      (engine 999 2 (dialogue_1 State.sent None []
       (row (pos 1) 1 (Sent 1000) ∷ []) ∷ []))
-  ∷ advance 1000 (Output.closed 1 1 (pos 1) Closing.lapsed ∷ [])
-    (engine 1000 2 (dialogue_1 State.sent None [] [] ∷ []))
-  ∷ receive result_of_first (Output.go_on 1 None [] ∷ Output.local_reject (Some 1) (Some (pos 1)) (of_result 0) ∷ [])
-    (engine 1000 2 (dialogue_1 (State.active peer) None
+      ∷ advance 1000 (Output.closed 1 1 (pos 1) Closing.lapsed ∷ [])
+      (engine 1000 2 (dialogue_1 State.sent None [] [] ∷ []))
+      ∷ receive result_of_first (Output.go_on 1 None [] ∷ Output.local_reject (Some 1) (Some (pos 1)) (of_result 0) ∷ [])
+      (engine 1000 2 (dialogue_1 (State.active peer) None
       (reject_queued (hex 8 0xA406_020101_820100) ∷ [])
       [] ∷ []))
-  ∷ request (Request.go_on None [])
-    (Answer.outputs (Output.send (hex 24 0x6516_480400000001_490400000005_6C08_A406020101820100) ∷ []))
-    (engine 1000 2 (dialogue_1 (State.active peer) None [] [] ∷ []))
-  ∷ advance 5 []
-    (engine 1000 2 (dialogue_1 (State.active peer) None [] [] ∷ []))
-  ∷ [] }
+      ∷ request (Request.go_on None [])
+      (Answer.outputs (Output.send (hex 24 0x6516_480400000001_490400000005_6C08_A406020101820100) ∷ []))
+      (engine 1000 2 (dialogue_1 (State.active peer) None [] [] ∷ []))
+      ∷ advance 5 []
+      (engine 1000 2 (dialogue_1 (State.active peer) None [] [] ∷ []))
+      ∷ [];
+}

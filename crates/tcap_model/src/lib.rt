@@ -1,6 +1,3 @@
-
-
 pub mod laws;
-
 #[cfg(test)]
 mod tests;

@@ -4,6 +4,7 @@ mod dialogues;
 mod faults;
 mod histories;
 mod identifiers;
+mod nets;
 mod receptions;
 mod refusals;
 mod statements;
