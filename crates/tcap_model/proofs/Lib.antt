@@ -10,14 +10,18 @@ mod DrawnInvocations
 mod DrawnLemmas
 mod DueLemmas
 mod EarlierMoments
+mod EndPremises
 pub mod EndingsAgree
 mod EndsWork
+mod HeadlineWorks
 mod LatestInvocations
 mod LifeLemmas
 mod NamesWork
+mod NetsWork
 mod NumberLemmas
 mod NumberedLemmas
 mod PeerLemmas
+mod PlaceLemmas
 mod PlayWorks
 mod ReceivedMarks
 mod ReceptionWorks

@@ -64,11 +64,13 @@ pub mod WorkedClosing
 pub mod WorkedEnds
 pub mod WorkedLoss
 pub mod WorkedNames
+pub mod WorkedNets
 pub mod WorkedPlay
 pub mod WorkedReadings
 pub mod WorkedReception
 pub mod WorkedRefusals
 pub mod WorkedRequests
+pub mod WorkedStatements
 pub mod WorkedWords
 pub mod WorkedWrong
 pub mod World
