@@ -1,9 +1,12 @@
 mod Apart
+mod BornDialogues
 mod ClockLemmas
 mod ClosingWorks
 mod Computing
+mod DecisionSteps
 mod DrawnLemmas
 mod DueLemmas
+mod EarlierMoments
 mod EndsWork
 mod LifeLemmas
 mod NamesWork
@@ -14,6 +17,9 @@ mod ReceptionWorks
 mod RefusalsWork
 mod RequestsWork
 mod SendingLemmas
+mod SentClocks
+mod SpanSteps
 mod StartLemmas
+mod Trial
 mod WrongAnswersGiven
 mod WrongEndsTold
