@@ -18,8 +18,10 @@ mod RefusalsWork
 mod RequestsWork
 mod SendingLemmas
 mod SentClocks
+mod SoundReceptions
 mod SpanSteps
 mod StartLemmas
-mod Trial
+mod ToldComponents
+mod ToldLemmas
 mod WrongAnswersGiven
 mod WrongEndsTold

@@ -1,8 +1,12 @@
 -- The Aborts that the provider sends can be written.
-use Rattle.std.proofs.Common.{◌≡◌, ℕ, ◌+◌, ◌<◌, ◌≤◌, true, false, Bool, ltb, cond, List, [], ◌∷◌, length, Option, Some, None, option_map, refl, inl, inr, arith}
+use Rattle.std.proofs.Common.{◌≡◌, ℕ, ◌+◌, ◌<◌, ◌≤◌, true, false, Bool, ltb, cond, List, [], ◌∷◌, length, Option, Some, None, option_map, refl, inl, inr, arith, length-append}
 use Rattle.std.proofs.lemmas.Bool.{cases_Bool, ltb-false}
-use Rattle.tcap_pdu.specs.DialogueSpelling.{PduValue, Source}
-use Rattle.tcap_pdu.specs.DialogueWritten.{written_dialogue, written_external}
+use Rattle.tcap_pdu.specs.DialogueSpelling.{PduValue, Source, structured_syntax}
+use Rattle.ber_core.specs.ObjectIdentifier.{IsObjectIdentifier}
+use Rattle.ber_core.specs.Sequence.Field.{must, filled}
+use Rattle.ber_core.specs.Written.{written, written_fields}
+use Rattle.ber_core.proofs.CallerLemmas.{element_length-most, length-written as length-element}
+use Rattle.tcap_pdu.specs.DialogueWritten.{written_dialogue, written_external, response_fields, result_field, diagnostic_field}
 use Rattle.tcap_pdu.specs.FrameLength.{element_length, reason_length, reason_dialogue}
 use Rattle.tcap_pdu.specs.FrameSpelling.{Message, Reason, HasIds, HasCause, IsReason, SpellsFrame, cause_limit}
 use Rattle.tcap_pdu.specs.FrameWritten.{message_limit, written_frame}
@@ -62,3 +66,38 @@ abnormal-sends peer id =
     let portion = written_dialogue (PduValue.abrt true []) in
     (Message.abort peer (Reason.portion portion), refl, portion-goes portion peer abrt-length id)
 
+
+-- ---- the Abort for another version
+
+written-most : (tag : ℕ) (content : List ℕ) → length (written (tag ∷ []) content) ≤ length content + 4
+written-most tag content =
+    let same = length-element tag content in
+    let most = element_length-most (length content) in
+    omega (arith, same, most)
+
+fields-most : (context : List ℕ) → length (written_fields (response_fields true context false (Source.provider 2) [])) ≤ length context + 100
+fields-most context =
+    let named = written (0xa1 ∷ []) (written (0x06 ∷ []) context) in
+    let others = written_fields (result_field false ∷ diagnostic_field (Source.provider 2) ∷ filled 0xbe [] ∷ []) in
+    let name = written-most 0x06 context in
+    let outer = written-most 0xa1 (written (0x06 ∷ []) context) in
+    let both = length-append named others in
+    omega (arith, name, outer, both)
+
+external-most : (context : List ℕ) → length (written_dialogue (PduValue.aare true context false (Source.provider 2) [])) ≤ length context + 200
+unfolding written_dialogue written_external
+external-most context =
+    let contents = written_fields (response_fields true context false (Source.provider 2) []) in
+    let pdu = written (0x61 ∷ []) contents in
+    let fields = fields-most context in
+    let inner = written-most 0x61 contents in
+    let held = written-most 0xa0 pdu in
+    let both = length-append (written (0xa0 ∷ []) pdu) [] in
+    let whole = written-most 0x28 (written_fields (must 0x06 structured_syntax ∷ must 0xa0 pdu ∷ [])) in
+    omega (arith, fields, inner, held, both, whole)
+
+pub version-sends : (context peer : List ℕ) → IsObjectIdentifier context → IsTransId peer → Sends (version_abort context peer)
+version-sends context peer name id =
+    let portion = written_dialogue (PduValue.aare true context false (Source.provider 2) []) in
+    let most = external-most context in
+    (Message.abort peer (Reason.portion portion), refl, portion-goes portion peer (omega (arith, most, name.is_short)) id)
