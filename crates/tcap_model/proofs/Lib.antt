@@ -22,6 +22,7 @@ mod SoundReceptions
 mod SpanSteps
 mod StartLemmas
 mod ToldComponents
+mod ToldFrom
 mod ToldLemmas
 mod WrongAnswersGiven
 mod WrongEndsTold

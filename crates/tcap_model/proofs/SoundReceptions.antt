@@ -1,5 +1,5 @@
 -- What becomes of received bytes: what is sent can be sent, and a dialogue is born by a Begin alone.
-use Rattle.std.proofs.Common.{◌≡◌, ℕ, ◌+◌, ◌<◌, ◌≤◌, true, false, Bool, eqb, ltb, List, [], ◌∷◌, length, nat_lt, ◌==◌, Option, Some, None, Result, Ok, Err, if◌then◌else◌, refl, sym, ap, subst, inl, inr, arith}
+use Rattle.std.proofs.Common.{◌≡◌, ℕ, ◌≤◌, true, false, Bool, List, [], ◌∷◌, length, nat_lt, ◌==◌, Option, Some, None, Result, Ok, Err, if◌then◌else◌, refl, ap, subst, arith}
 use Rattle.ber_core.specs.ObjectIdentifier.{IsObjectIdentifier}
 use Rattle.tcap_pdu.specs.declared.fault.DialogueFault.{DialogueFault}
 use Rattle.tcap_pdu.specs.declared.fault.FrameFault.{FrameFault}
@@ -26,12 +26,12 @@ abbrev pub IfSends : Option Output → Type 0
 IfSends None = Unit {0}
 IfSends (Some abort) = Sends abort
 
--- what is sent can be sent; what gives birth to a dialogue was read as a Begin, and what a dialogue
--- takes was read as that message
+-- what is sent can be sent; a Unidirectional that is told was read as one, what gives birth to a
+-- dialogue as a Begin, and what a dialogue takes as that message
 abbrev pub IsSound : List ℕ → Reception → Type 0
 IsSound bytes (Reception.dropped why) = Unit {0}
 IsSound bytes (Reception.aborted abort) = Sends abort
-IsSound bytes (Reception.unidirectional context info components) = Unit {0}
+IsSound bytes (Reception.unidirectional context info components) = (portion : Option (List ℕ)) × (frame_at bytes ≡ Ok (Message.unidirectional portion components))
 IsSound bytes (Reception.begun origin context info components) = (portion : Option (List ℕ)) × (frame_at bytes ≡ Ok (Message.begin origin portion components)) × (begin_context (begin_verdict portion) ≡ context)
 IsSound bytes (Reception.taken dialogue message) = frame_at bytes ≡ Ok message
 IsSound bytes (Reception.broken dialogue abort cause) = IfSends abort
@@ -41,9 +41,9 @@ IsSound bytes (Reception.broken dialogue abort cause) = IfSends abort
 pub read-ids : (bytes : List ℕ) (m : Message) → frame_at bytes ≡ Ok m → HasIds m
 read-ids bytes m e = let spelled = frame_takes bytes m e in spelled.is_frame.has_ids
 
-uni-sound : (bytes : List ℕ) (verdict : PortionVerdict) (components : List ℕ) → IsSound bytes (uni_by verdict components)
-uni-sound bytes (PortionVerdict.normal context info) components = tt
-uni-sound bytes PortionVerdict.abnormal components = tt
+uni-sound : (bytes : List ℕ) (verdict : PortionVerdict) (portion : Option (List ℕ)) (components : List ℕ) → frame_at bytes ≡ Ok (Message.unidirectional portion components) → IsSound bytes (uni_by verdict components)
+uni-sound bytes (PortionVerdict.normal context info) portion components e = (portion, e)
+uni-sound bytes PortionVerdict.abnormal portion components e = tt
 
 wrong-by : (portion context : List ℕ) (read : Result PduValue DialogueFault) → dialogue_at portion ≡ read → begin_verdict_by read ≡ BeginVerdict.wrong_version context → IsObjectIdentifier context
 wrong-by portion context (Ok (aarq false name info)) is e =
@@ -79,7 +79,7 @@ last-sound bytes m (Some d) e = e
 last-sound bytes m None e = tt
 
 message-sound : (live : ℕ → Bool) (full : Bool) (bytes : List ℕ) (m : Message) → frame_at bytes ≡ Ok m → IsSound bytes (message_by live full m)
-message-sound live full bytes (Message.unidirectional portion components) e = uni-sound bytes (uni_verdict portion) components
+message-sound live full bytes (Message.unidirectional portion components) e = uni-sound bytes (uni_verdict portion) portion components e
 message-sound live full bytes (Message.begin origin portion components) e = born-sound bytes origin portion components full e (read-ids bytes (Message.begin origin portion components) e)
 message-sound live full bytes (Message.go_on origin to portion components) e =
     let id = read-ids bytes (Message.go_on origin to portion components) e in

@@ -1,0 +1,8 @@
+//! Where the components of messages come from, and what the indications of components stand for.
+
+ghost use Rattle.tcap_model.specs.ComponentLaws.{EachIsSentFrom, EachIsToldFrom};
+
+/// In a legal history each indication of a component stands for one in the octets received (our own).
+pub fn told_from()
+    ensures { EachIsToldFrom }
+{}
