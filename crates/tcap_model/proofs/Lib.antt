@@ -8,6 +8,7 @@ mod DrawnLemmas
 mod DueLemmas
 mod EarlierMoments
 mod EndsWork
+mod FormedRejects
 mod LifeLemmas
 mod NamesWork
 mod NumberLemmas

@@ -6,3 +6,9 @@ ghost use Rattle.tcap_model.specs.ComponentLaws.{EachIsSentFrom, EachIsToldFrom}
 pub fn told_from()
     ensures { EachIsToldFrom }
 {}
+
+/// In a legal history each component that a Send has comes from its dialogue: from an earlier accepted
+/// request on it, or it is a Reject that was formed there (our own).
+pub fn sent_from()
+    ensures { EachIsSentFrom }
+{}
