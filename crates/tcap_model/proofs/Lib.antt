@@ -1,5 +1,7 @@
 mod Apart
+mod BirthLemmas
 mod BornDialogues
+mod BornLemmas
 mod ClockLemmas
 mod ClosingWorks
 mod Computing
@@ -13,12 +15,15 @@ mod LifeLemmas
 mod NamesWork
 mod NumberLemmas
 mod NumberedLemmas
+mod PeerLemmas
 mod PlayWorks
 mod ReceptionWorks
 mod RefusalsWork
+mod RequestSending
 mod RequestsWork
 mod SendingLemmas
 mod SentClocks
+mod SentLemmas
 mod SoundReceptions
 mod SpanSteps
 mod StartLemmas

@@ -1,6 +1,6 @@
 -- The Aborts that the provider sends can be written.
-use Rattle.std.proofs.Common.{◌≡◌, ℕ, ◌+◌, ◌≤◌, true, false, ltb, List, [], ◌∷◌, length, option_map, refl, inl, inr, arith, length-append}
-use Rattle.std.proofs.lemmas.Bool.{cases_Bool}
+use Rattle.std.proofs.Common.{◌≡◌, ℕ, ◌+◌, ◌<◌, ◌≤◌, true, false, Bool, ltb, cond, List, [], ◌∷◌, length, Option, Some, None, option_map, refl, inl, inr, arith, length-append}
+use Rattle.std.proofs.lemmas.Bool.{cases_Bool, ltb-false}
 use Rattle.tcap_pdu.specs.DialogueSpelling.{PduValue, Source, structured_syntax}
 use Rattle.ber_core.specs.ObjectIdentifier.{IsObjectIdentifier}
 use Rattle.ber_core.specs.Sequence.Field.{must, filled}
@@ -8,12 +8,13 @@ use Rattle.ber_core.specs.Written.{written, written_fields}
 use Rattle.ber_core.proofs.CallerLemmas.{element_length-most, length-written as length-element}
 use Rattle.tcap_pdu.specs.DialogueWritten.{written_dialogue, written_external, response_fields, result_field, diagnostic_field}
 use Rattle.tcap_pdu.specs.FrameLength.{element_length, reason_length, reason_dialogue}
-use Rattle.tcap_pdu.specs.FrameSpelling.{Message, Reason, HasIds, HasCause, SpellsFrame, cause_limit}
+use Rattle.tcap_pdu.specs.FrameSpelling.{Message, Reason, HasIds, HasCause, IsReason, cause_limit}
 use Rattle.tcap_pdu.specs.FrameWritten.{message_limit, written_frame}
 use Rattle.tcap_pdu.specs.TransId.{IsTransId}
 use Rattle.tcap_pdu.proofs.CallerLemmas.{length-own, written_spelled}
 use Rattle.tcap_model.specs.AbortRules.{sent, abort_with, abnormal_abort, version_abort}
 use Rattle.tcap_model.specs.Output.{Output}
+use Rattle.tcap_model.specs.SentMessage.{IsMessage}
 
 -- a message that can be sent
 pub record CanGo (m : Message) : Type 0 where
@@ -21,12 +22,12 @@ pub record CanGo (m : Message) : Type 0 where
   pub has_cause : HasCause m
   pub is_short : length (written_frame m) ≤ message_limit
 
--- an output that sends a message
+-- an output that sends an Abort
 abbrev pub Sends : Output → Type 0
-Sends output = (m : Message) × (output ≡ sent m) × CanGo m
+Sends output = (peer : List ℕ) × (reason : Reason) × (output ≡ sent (Message.abort peer reason)) × CanGo (Message.abort peer reason)
 
-pub spelled : (m : Message) → CanGo m → SpellsFrame m (written_frame m)
-spelled m can = written_spelled m can.has_ids can.has_cause can.is_short
+pub goes-spelled : (m : Message) → CanGo m → IsMessage m (written_frame m)
+goes-spelled m can = record { is_written = refl; spelled = written_spelled m can.has_ids can.has_cause can.is_short }
 
 element-le : (n : ℕ) → element_length n ≤ n + 4
 unfolding element_length
@@ -55,7 +56,7 @@ portion-goes portion peer within id =
     record { has_ids = id; has_cause = tt; is_short = omega (arith, long, part, within) }
 
 pub cause-sends : (number : ℕ) (peer : List ℕ) → number ≤ cause_limit → IsTransId peer → Sends (abort_with number peer)
-cause-sends number peer within id = (Message.abort peer (Reason.cause number), refl, cause-goes number peer within id)
+cause-sends number peer within id = (peer, Reason.cause number, refl, cause-goes number peer within id)
 
 abrt-length : length (written_dialogue (PduValue.abrt true [])) ≤ 1000
 unfolding written_dialogue written_external
@@ -64,7 +65,7 @@ abrt-length = omega arith
 pub abnormal-sends : (peer : List ℕ) → IsTransId peer → Sends (abnormal_abort peer)
 abnormal-sends peer id =
     let portion = written_dialogue (PduValue.abrt true []) in
-    (Message.abort peer (Reason.portion portion), refl, portion-goes portion peer abrt-length id)
+    (peer, Reason.portion portion, refl, portion-goes portion peer abrt-length id)
 
 
 -- ---- the Abort for another version
@@ -100,4 +101,4 @@ pub version-sends : (context peer : List ℕ) → IsObjectIdentifier context →
 version-sends context peer name id =
     let portion = written_dialogue (PduValue.aare true context false (Source.provider 2) []) in
     let most = external-most context in
-    (Message.abort peer (Reason.portion portion), refl, portion-goes portion peer (omega (arith, most, name.is_short)) id)
+    (peer, Reason.portion portion, refl, portion-goes portion peer (omega (arith, most, name.is_short)) id)

@@ -64,7 +64,7 @@ lapses-stand event [] = tt
 lapses-stand event (l ∷ lapsings) = ((λ of. absurd (indicates _ of)), lapses-stand event lapsings)
 
 sent-stands : (event : Event) (output : Output) → Sends output → Stands event output
-sent-stands event output sends of = absurd (indicates _ (subst IsOfComponent sends.1 of))
+sent-stands event output sends of = absurd (indicates _ (subst IsOfComponent sends.2 of))
 
 sent_if_any-stand : (event : Event) (message : Option Message) → AllStand event (sent_if_any message)
 sent_if_any-stand event None = tt
@@ -122,17 +122,17 @@ broken-stand : (bytes : List ℕ) (dialogue cause : ℕ) (past : Past) (abort : 
 broken-stand bytes dialogue cause past None sends = ((λ of. absurd (indicates _ of)), ended-stand (Event.received bytes) dialogue past [])
 broken-stand bytes dialogue cause past (Some abort) sends = (sent-stands (Event.received bytes) abort sends, ((λ of. absurd (indicates _ of)), ended-stand (Event.received bytes) dialogue past []))
 
-reception-stand : (h : History) (bytes : List ℕ) (r : Reception) → IsSound bytes r → AllStand (Event.received bytes) (reception_outputs h r)
-reception-stand h bytes (Reception.dropped why) sound = ((λ of. absurd (indicates _ of)), tt)
-reception-stand h bytes (Reception.aborted abort) sound = (sent-stands (Event.received bytes) abort sound, tt)
-reception-stand h bytes (Reception.unidirectional context info components) sound =
+reception-stand : (h : History) (bytes : List ℕ) (full : Bool) (r : Reception) → IsSound full bytes r → AllStand (Event.received bytes) (reception_outputs h r)
+reception-stand h bytes full (Reception.dropped why) sound = ((λ of. absurd (indicates _ of)), tt)
+reception-stand h bytes full (Reception.aborted abort) sound = (sent-stands (Event.received bytes) abort sound, tt)
+reception-stand h bytes full (Reception.unidirectional context info components) sound =
     let m = Message.unidirectional sound.0 components in
     ((λ of. absurd (indicates _ of)), uni-stand bytes m (frame_takes bytes m sound.1))
-reception-stand h bytes (Reception.begun origin context info components) sound =
+reception-stand h bytes full (Reception.begun origin context info components) sound =
     let m = Message.begin origin sound.0 components in
     ((λ of. absurd (indicates _ of)), components-stand bytes m (frame_takes bytes m sound.1) (next_dialogue h) h.pairs)
-reception-stand h bytes (Reception.taken dialogue message) sound = taken-stand bytes dialogue h.pairs (life dialogue h.pairs) message (frame_takes bytes message sound)
-reception-stand h bytes (Reception.broken dialogue abort cause) sound = broken-stand bytes dialogue cause h.pairs abort sound
+reception-stand h bytes full (Reception.taken dialogue message) sound = taken-stand bytes dialogue h.pairs (life dialogue h.pairs) message (frame_takes bytes message sound)
+reception-stand h bytes full (Reception.broken dialogue abort cause) sound = broken-stand bytes dialogue cause h.pairs abort sound
 
 -- ---- all replies
 
@@ -188,7 +188,7 @@ reply-stands h Event.new_dialogue = birth-stands Event.new_dialogue h (birth_due
 reply-stands h (Event.on_dialogue dialogue request) = request-stands (Event.on_dialogue dialogue request) h dialogue request (life dialogue h.pairs) (due h dialogue request)
 reply-stands h (Event.received bytes) =
     let live = λ (dialogue : ℕ). live_in (life dialogue h.pairs) in
-    reception-stand h bytes (reception live (is_some (birth_due h)) bytes) (reception-sound live (is_some (birth_due h)) bytes)
+    reception-stand h bytes (is_some (birth_due h)) (reception live (is_some (birth_due h)) bytes) (reception-sound live (is_some (birth_due h)) bytes)
 reply-stands h (Event.moment now) = moment-stands (Event.moment now) h.pairs now (moment_fault now)
 
 -- ---- legal histories

@@ -48,6 +48,7 @@ pub mod Reply
 pub mod Request
 pub mod RequestMessage
 pub mod Reuse
+pub mod SentMessage
 pub mod Span
 pub mod Standing
 pub mod State
