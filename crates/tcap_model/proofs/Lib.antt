@@ -13,6 +13,7 @@ mod EarlierMoments
 mod EndPremises
 pub mod EndingsAgree
 mod EndsWork
+mod FormedRejects
 mod HeadlineWorks
 mod LatestInvocations
 mod LifeLemmas
@@ -37,6 +38,8 @@ mod SoundReceptions
 mod SpanSteps
 mod StartLemmas
 mod SupersededInvocations
+mod ToldComponents
+mod ToldFrom
 mod ToldInvocations
 mod ToldLemmas
 mod ToldOutputs

@@ -26,12 +26,12 @@ abbrev pub IfSends : Option Output → Type 0
 IfSends None = Unit {0}
 IfSends (Some abort) = Sends abort
 
--- what is sent can be sent; what gives birth to a dialogue was read as a Begin, and what a dialogue
--- takes was read as that message
+-- what is sent can be sent; a Unidirectional that is told was read as one, what gives birth to a
+-- dialogue as a Begin, and what a dialogue takes as that message
 abbrev pub IsSound : Bool → List ℕ → Reception → Type 0
 IsSound full bytes (Reception.dropped why) = Unit {0}
 IsSound full bytes (Reception.aborted abort) = Sends abort
-IsSound full bytes (Reception.unidirectional context info components) = Unit {0}
+IsSound full bytes (Reception.unidirectional context info components) = (portion : Option (List ℕ)) × (frame_at bytes ≡ Ok (Message.unidirectional portion components))
 IsSound full bytes (Reception.begun origin context info components) = (portion : Option (List ℕ)) × (frame_at bytes ≡ Ok (Message.begin origin portion components)) × (begin_context (begin_verdict portion) ≡ context) × (full ≡ false)
 IsSound full bytes (Reception.taken dialogue message) = frame_at bytes ≡ Ok message
 IsSound full bytes (Reception.broken dialogue abort cause) = IfSends abort
@@ -41,9 +41,9 @@ IsSound full bytes (Reception.broken dialogue abort cause) = IfSends abort
 pub read-ids : (bytes : List ℕ) (m : Message) → frame_at bytes ≡ Ok m → HasIds m
 read-ids bytes m e = let spelled = frame_takes bytes m e in spelled.is_frame.has_ids
 
-uni-sound : (full : Bool) (bytes : List ℕ) (verdict : PortionVerdict) (components : List ℕ) → IsSound full bytes (uni_by verdict components)
-uni-sound full bytes (PortionVerdict.normal context info) components = tt
-uni-sound full bytes PortionVerdict.abnormal components = tt
+uni-sound : (full : Bool) (bytes : List ℕ) (verdict : PortionVerdict) (portion : Option (List ℕ)) (components : List ℕ) → frame_at bytes ≡ Ok (Message.unidirectional portion components) → IsSound full bytes (uni_by verdict components)
+uni-sound full bytes (PortionVerdict.normal context info) portion components e = (portion, e)
+uni-sound full bytes PortionVerdict.abnormal portion components e = tt
 
 wrong-by : (portion context : List ℕ) (read : Result PduValue DialogueFault) → dialogue_at portion ≡ read → begin_verdict_by read ≡ BeginVerdict.wrong_version context → IsObjectIdentifier context
 wrong-by portion context (Ok (aarq false name info)) is e =
@@ -79,7 +79,7 @@ last-sound full bytes m (Some d) e = e
 last-sound full bytes m None e = tt
 
 message-sound : (live : ℕ → Bool) (full : Bool) (bytes : List ℕ) (m : Message) → frame_at bytes ≡ Ok m → IsSound full bytes (message_by live full m)
-message-sound live full bytes (Message.unidirectional portion components) e = uni-sound full bytes (uni_verdict portion) components
+message-sound live full bytes (Message.unidirectional portion components) e = uni-sound full bytes (uni_verdict portion) portion components e
 message-sound live full bytes (Message.begin origin portion components) e = born-sound bytes origin portion components full e (read-ids bytes (Message.begin origin portion components) e)
 message-sound live full bytes (Message.go_on origin to portion components) e =
     let id = read-ids bytes (Message.go_on origin to portion components) e in
