@@ -1,18 +1,42 @@
 mod Apart
+mod BirthLemmas
 mod BornDialogues
+mod BornLemmas
+mod ClockLemmas
 mod DecisionSteps
 mod DrawnInvocations
+mod DrawnLemmas
+mod DueLemmas
 mod EarlierMoments
-pub mod EndingsAgree
-pub mod EndsAgree
+mod EndPremises
+mod EndingsAgree
+mod EndsAgree
+mod FormedRejects
+mod HeadlineWorks
 mod LatestInvocations
-pub mod RequestsAgree
-pub mod RowsAgree
-pub mod SentAgree
+mod LifeLemmas
+mod NetsWork
+mod NumberLemmas
+mod NumberedLemmas
+mod PeerLemmas
+mod PlaceLemmas
+mod ReceivedMarks
+mod RequestSending
+mod RequestsAgree
+mod RowsAgree
+mod RowsApart
+mod SendingLemmas
+mod SentAgree
 mod SentClocks
+mod SentLemmas
+mod SoundReceptions
 mod SpanSteps
+mod StartLemmas
 mod SupersededInvocations
+mod ToldComponents
+mod ToldFrom
 mod ToldInvocations
+mod ToldLemmas
 mod ToldOutputs
 mod WrongAnswersGiven
 mod WrongEndsTold

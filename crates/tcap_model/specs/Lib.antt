@@ -42,6 +42,7 @@ pub mod PortionRules
 pub mod Problems
 pub mod Queue
 pub mod QueueRules
+pub mod ReceivedMark
 pub mod Reception
 pub mod Refusals
 pub mod Refused
@@ -49,6 +50,7 @@ pub mod Reply
 pub mod Request
 pub mod RequestMessage
 pub mod Reuse
+pub mod SentMessage
 pub mod Span
 pub mod Standing
 pub mod State
@@ -60,11 +62,15 @@ pub mod WalkedHistories
 pub mod Worked
 pub mod WorkedClosing
 pub mod WorkedEnds
+pub mod WorkedLoss
 pub mod WorkedNames
+pub mod WorkedNets
 pub mod WorkedPlay
+pub mod WorkedReadings
 pub mod WorkedReception
 pub mod WorkedRefusals
 pub mod WorkedRequests
+pub mod WorkedStatements
 pub mod WorkedWords
 pub mod WorkedWrong
 pub mod World

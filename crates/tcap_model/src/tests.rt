@@ -4,8 +4,10 @@ mod dialogues;
 mod faults;
 mod histories;
 mod identifiers;
+mod nets;
 mod receptions;
 mod refusals;
+mod statements;
 mod worlds;
 
 use aborts::{
