@@ -1,6 +1,9 @@
 //! What an engine is at a history, and what its dialogues do there.
 
 ghost use Rattle.std.specs.Prelude.{◌≡◌, ℕ, ℤ, true, List, [], ◌∷◌, Option, Some, is_some};
+ghost use Rattle.std.specs.List.{IsDistinct};
+ghost use Rattle.std.specs.Map.{keys_of};
+ghost use Rattle.std.specs.Ordering.{int_eq};
 ghost use Rattle.tcap_invocation.specs.Closing.{given_up_at};
 ghost use Rattle.tcap_invocation.specs.Invocations.{entry_at};
 ghost use Rattle.tcap_model.specs.Agreement.{setting_at, leaves_standing};
@@ -86,4 +89,9 @@ pub fn aborts_told_alike()
 pub fn sent_alike()
     ensures { (h : History) (dialogue : ℕ) (id : ℤ) → IsLegal h →
         sent_by_rows dialogue (record { reject_ms = h.start.reject_ms; rows = rows_of h.start.reject_ms dialogue h.pairs }) (Some id) ≡ sent_there dialogue h.pairs [] (Some id) }
+{}
+
+/// No invoke identifier occurs twice among the rows of a dialogue (Q.774, Invocation state machine).
+pub fn rows_distinct()
+    ensures { (h : History) (dialogue : ℕ) → IsLegal h → IsDistinct int_eq (keys_of (rows_of h.start.reject_ms dialogue h.pairs)) }
 {}
