@@ -21,6 +21,8 @@ mod NumberedLemmas
 mod PeerLemmas
 mod PlaceLemmas
 mod ReceivedMarks
+mod ReceivedRows
+mod ReceivedSpans
 mod RequestSending
 mod RequestsAgree
 mod RowsAgree
@@ -38,5 +40,6 @@ mod ToldFrom
 mod ToldInvocations
 mod ToldLemmas
 mod ToldOutputs
+mod WalkAgree
 mod WrongAnswersGiven
 mod WrongEndsTold

@@ -68,16 +68,15 @@ pub fn requests_answered_alike()
         (table_move (setting_at h) d (DialogueEvent.request request)).answer ≡ reply h (Event.on_dialogue dialogue request) }
 {}
 
-/// What ends a dialogue with no word on components is told by the dialogue as the history says it is: a
-/// faulty message, an Abort, and a Continue or an End whose dialogue portion is abnormal
-/// (Q.774, Abnormal procedures; Q.774, Abnormal procedures relating to dialogue control).
-pub fn aborts_told_alike()
+/// A message to a dialogue that stands is told by the dialogue as the history says it is: a Continue with
+/// its components, a faulty message, an Abort, and an End whose dialogue portion is abnormal
+/// (Q.774, Dialogue continuation; Q.774, Abnormal procedures).
+pub fn messages_told_alike()
     ensures fault { (h : History) (dialogue : ℕ) (d : Dialogue) (cause : ℕ) → IsLegal h → dialogue_at h.start.reject_ms h.pairs dialogue ≡ Some d →
         (table_move (setting_at h) d (DialogueEvent.fault cause)).answer ≡ Answer.outputs (Output.p_abort dialogue (AbortCause.cause cause) ∷ ended_in dialogue h.pairs []) }
     ensures abort { (h : History) (dialogue : ℕ) (d : Dialogue) (to : List ℕ) (reason : Reason) → IsLegal h → dialogue_at h.start.reject_ms h.pairs dialogue ≡ Some d →
         (table_move (setting_at h) d (DialogueEvent.frame (Message.abort to reason))).answer ≡ Answer.outputs (taken_outputs dialogue h.pairs (life dialogue h.pairs) (Message.abort to reason)) }
-    ensures abnormal_continue { (h : History) (dialogue : ℕ) (d : Dialogue) (origin to : List ℕ) (portion : Option (List ℕ)) (components : List ℕ) → IsLegal h → dialogue_at h.start.reject_ms h.pairs dialogue ≡ Some d →
-        portion_verdict d.standing.state d.standing.context portion ≡ PortionVerdict.abnormal →
+    ensures continued { (h : History) (dialogue : ℕ) (d : Dialogue) (origin to : List ℕ) (portion : Option (List ℕ)) (components : List ℕ) → IsLegal h → dialogue_at h.start.reject_ms h.pairs dialogue ≡ Some d →
         (table_move (setting_at h) d (DialogueEvent.frame (Message.go_on origin to portion components))).answer ≡ Answer.outputs (taken_outputs dialogue h.pairs (life dialogue h.pairs) (Message.go_on origin to portion components)) }
     ensures abnormal_end { (h : History) (dialogue : ℕ) (d : Dialogue) (to : List ℕ) (portion : Option (List ℕ)) (components : List ℕ) → IsLegal h → dialogue_at h.start.reject_ms h.pairs dialogue ≡ Some d →
         portion_verdict d.standing.state d.standing.context portion ≡ PortionVerdict.abnormal →
