@@ -71,19 +71,24 @@ one_more class timeout c received mark marks a =
   where
     new : Noted
     new = record { clock = c; mark = mark }
+
     nothing : Option ℕ
     nothing = None
+
     or_none : (o : Option ℕ) → option_or o nothing ≡ o
     or_none None = refl
     or_none (Some k) = refl
+
     none_sent : option_or (sent_clock marks) (sent_clock (new ∷ [])) ≡ sent_clock marks
     none_sent = ap (λ o. option_or (sent_clock marks) o) (alone (is_sent mark) a.sends_not) ∙ or_none (sent_clock marks)
       where
         alone : (b : Bool) → b ≡ false → sent_clock (new ∷ []) ≡ None
         alone b e = rw a.sends_not refl
+
     last : (o : Option Closing) → option_or o None ≡ o
     last None = refl
     last (Some x) = refl
+
     go : (s : Option ℕ) (o : Option Closing) → (is_some s && is_none (option_or o (option_or (closing_of class timeout s mark) None))) ≡ ((is_some s && is_none o) && stays class received)
     go None o = refl
     go (Some k) None = ap is_none (last (closing_of class timeout (Some k) mark)) ∙ a.closes class timeout k

@@ -83,10 +83,13 @@ some_left dialogue received one true true (Some y) e = go (stays y.class receive
   where
     here : SentInvocation
     here = record { dialogue = dialogue; number = y.number; class = y.class }
+
     inside : (p q : SentInvocation) → Some p ≡ Some q → p ≡ q
     inside p q w = cc
+
     class_is : y.class ≡ one.class
     class_is = ap (λ (s : SentInvocation). s.class) (inside here one e)
+
     go : (b : Bool) → sent_of dialogue (cond b (Some y) None) ≡ cond b (Some one) None
     go true = e
     go false = refl
@@ -98,6 +101,7 @@ module _ (dialogue : ℕ) (past : Past) (rows : List Row) (earlier : List Item) 
     where
       still : (i : Invocation) → marks_up_to past earlier i ≡ marks_up_to past (earlier ++ Ok c ∷ []) i
       still i = sym (up_to_more past earlier c i read ∙ (ap (λ z. marks_up_to past earlier i ++ map (λ mark. record { clock = clock past; mark = mark }) z) (none i.id) ∙ append-nil (marks_up_to past earlier i)))
+
       go : (o : Option Invocation) → if_sent past earlier o ≡ if_sent past (earlier ++ Ok c ∷ []) o
       go None = refl
       go (Some i) = ap (λ z. cond (is_sent_in i.class i.timeout z) (Some one) None) (still i)
@@ -113,8 +117,10 @@ module _ (dialogue : ℕ) (past : Past) (rows : List Row) (earlier : List Item) 
       where
         before : List Noted
         before = marks_up_to past earlier i
+
         note : Mark → Noted
         note mark = record { clock = clock past; mark = mark }
+
         go : (b : Bool) → is_sent_in i.class i.timeout (before ++ map note (cond b (mark ∷ []) [])) ≡ cond b (is_sent_in i.class i.timeout before && stays i.class received) (is_sent_in i.class i.timeout before)
         go true = one_more i.class i.timeout (clock past) received mark before answers
         go false = ap (is_sent_in i.class i.timeout) (append-nil before)
@@ -125,7 +131,7 @@ module _ (dialogue : ℕ) (past : Past) (rows : List Row) (earlier : List Item) 
     like_sent k (Some i) e w =
         some_left dialogue received one (int_eq id k) (is_sent_in i.class i.timeout (marks_up_to past earlier i)) (sent_at rows k) w
         ∙ (ap (λ b. cond (cond b (is_sent_in i.class i.timeout (marks_up_to past earlier i) && stays i.class received) (is_sent_in i.class i.timeout (marks_up_to past earlier i))) (Some one) None)
-            (ap (int_eq id) (sym (id_of dialogue k i (latest_has dialogue k past i e)).1))
+        (ap (int_eq id) (sym (id_of dialogue k i (latest_has dialogue k past i e)).1))
         ∙ ap (λ b. cond b (Some one) None) (sym (sent_more i)))
       where
         one : SentInvocation
@@ -141,6 +147,7 @@ kept received all id rows after l k = l.sent k ∙ go (int_eq id k) (sent_at row
     left_all : (o : Option Entry) → left received o ≡ o
     left_all None = refl
     left_all (Some y) = ap (λ b. cond b (Some y) None) (all y.class)
+
     go : (b : Bool) (o : Option Entry) → cond b (left received o) o ≡ o
     go true o = left_all o
     go false o = refl
@@ -203,6 +210,6 @@ walk_tells dialogue past [] f list earlier read like = refl
 walk_tells dialogue past (Ok c ∷ items) f list earlier read like =
     ap (λ s. (handled (Some dialogue) s (Ok c)).told ∷ map (λ (h : Handled). h.told) (handled_after dialogue past (earlier ++ Ok c ∷ []) items)) (same_subject dialogue past list earlier like (subject_of (Ok c)))
     ∙ ap (λ z. (handled (Some dialogue) (sent_by_rows dialogue list (subject_of (Ok c))) (Ok c)).told ∷ z)
-        (walk_tells dialogue past items f (after_item (clock past) list (Ok c)) (earlier ++ Ok c ∷ []) (more_read earlier c read) (like_item dialogue past list earlier read like c))
+    (walk_tells dialogue past items f (after_item (clock past) list (Ok c)) (earlier ++ Ok c ∷ []) (more_read earlier c read) (like_item dialogue past list earlier read like c))
 walk_tells dialogue past (Err g ∷ []) f list earlier read like = refl
 walk_tells dialogue past (Err g ∷ item ∷ items) f list earlier read like = absurd f
