@@ -1,6 +1,6 @@
 //! The command `tcap`: what it prints of a message, and its status.
 //!
-//! Stands on all other crates. Begin at `run_command`; what `show` prints is `show_text`.
+//! Stands on `ber_core`, `tcap_pdu`, `tcap_component`, `hex` and `clap`. Begin at `run_command`; what `show` prints is `show_text`.
 #![tactic(auto)]
 
 mod canon;

@@ -1,15 +1,15 @@
 -- The histories with a wrong end aren't legal, and what they tell isn't what was decided.
 use Rattle.std.specs.Prelude.{refl}
 use Rattle.tcap_model.proofs.Apart.{apart, answer_number, told_number}
-use Rattle.tcap_model.proofs.Computing.{computing}
+use Rattle.tcap_model.specs.Computing.{computing}
 use Rattle.tcap_model.specs.WorkedWrong.{GoesWrong, TellsWrong, TellsElsewhere, whole}
 use Rattle.tcap_model.specs.WrongEnds as ends
 
 pub double_result : GoesWrong ends.double_result
 unfolding computing
 double_result = record {
-  legal_before = (refl, refl, (refl, refl, (refl, refl, (refl, refl, tt))));
-  not_legal = λ legal. apart answer_number legal.1 refl;
+  legal_before = (refl, (refl, refl, (refl, refl, (refl, refl, (refl, refl, tt)))));
+  not_legal = λ legal. apart answer_number legal.1.1 refl;
 }
 
 pub double_result-told : TellsWrong 1 (whole ends.double_result)
@@ -19,8 +19,8 @@ double_result-told = λ h. apart told_number h refl
 pub stale_timer : GoesWrong ends.stale_timer
 unfolding computing
 stale_timer = record {
-  legal_before = (refl, refl, (refl, refl, (refl, refl, (refl, refl, tt))));
-  not_legal = λ legal. apart answer_number legal.1 refl;
+  legal_before = (refl, (refl, refl, (refl, refl, (refl, refl, (refl, refl, tt)))));
+  not_legal = λ legal. apart answer_number legal.1.1 refl;
 }
 
 pub stale_timer-told : TellsWrong 1 (whole ends.stale_timer)
@@ -30,8 +30,8 @@ stale_timer-told = λ h. apart told_number h refl
 pub empty_result_at_a_lapse : GoesWrong ends.empty_result_at_a_lapse
 unfolding computing
 empty_result_at_a_lapse = record {
-  legal_before = (refl, refl, (refl, refl, (refl, refl, tt)));
-  not_legal = λ legal. apart answer_number legal.1 refl;
+  legal_before = (refl, (refl, refl, (refl, refl, (refl, refl, tt))));
+  not_legal = λ legal. apart answer_number legal.1.1 refl;
 }
 
 pub empty_result_at_a_lapse-told : TellsWrong 1 (whole ends.empty_result_at_a_lapse)
@@ -41,8 +41,8 @@ empty_result_at_a_lapse-told = λ h. apart told_number h refl
 pub ended_at_once : GoesWrong ends.ended_at_once
 unfolding computing
 ended_at_once = record {
-  legal_before = (refl, refl, (refl, refl, tt));
-  not_legal = λ legal. apart answer_number legal.1 refl;
+  legal_before = (refl, (refl, refl, (refl, refl, tt)));
+  not_legal = λ legal. apart answer_number legal.1.1 refl;
 }
 
 pub ended_at_once-told : TellsWrong 1 (whole ends.ended_at_once)
@@ -52,8 +52,8 @@ ended_at_once-told = λ h. apart told_number h refl
 pub lapse_by_identifier : GoesWrong ends.lapse_by_identifier
 unfolding computing
 lapse_by_identifier = record {
-  legal_before = (refl, refl, (refl, refl, (refl, refl, (refl, refl, (refl, refl, (refl, refl, tt))))));
-  not_legal = λ legal. apart answer_number legal.1 refl;
+  legal_before = (refl, (refl, refl, (refl, refl, (refl, refl, (refl, refl, (refl, refl, (refl, refl, tt)))))));
+  not_legal = λ legal. apart answer_number legal.1.1 refl;
 }
 
 pub lapse_by_identifier-told : TellsWrong 2 (whole ends.lapse_by_identifier)
@@ -63,8 +63,8 @@ lapse_by_identifier-told = λ h. apart told_number h refl
 pub end_before_components : GoesWrong ends.end_before_components
 unfolding computing
 end_before_components = record {
-  legal_before = (refl, refl, (refl, refl, (refl, refl, tt)));
-  not_legal = λ legal. apart answer_number legal.1 refl;
+  legal_before = (refl, (refl, refl, (refl, refl, (refl, refl, tt))));
+  not_legal = λ legal. apart answer_number legal.1.1 refl;
 }
 
 pub end_before_components-told : TellsWrong 1 (whole ends.end_before_components)

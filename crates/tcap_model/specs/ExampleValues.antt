@@ -1,5 +1,5 @@
 -- The values that the worked examples of dialogues share.
-use Rattle.std.specs.Prelude.{ℕ, ℤ, pos, List, [], ◌∷◌, ◌++◌, replicate, Option, Some, None}
+use Rattle.std.specs.Prelude.{ℕ, Bool, ◌==◌, ℤ, pos, List, [], ◌∷◌, ◌++◌, replicate, Option, Some, None}
 use Rattle.tcap_component.specs.declared.problem.Kind.TheVariants as kind
 use Rattle.tcap_component.specs.Problem.{ProblemParts}
 use Rattle.tcap_component.specs.Component.{CodeParts, BodyParts}
@@ -10,7 +10,7 @@ use Rattle.tcap_model.specs.Answer.{Answer}
 use Rattle.tcap_model.specs.Output.{Output, Closing}
 use Rattle.tcap_model.specs.Request.{Request}
 use Rattle.tcap_model.specs.TableMove.{DialogueEvent}
-use Rattle.tcap_model.specs.Played.{Played, opened, play, heard}
+use Rattle.tcap_model.specs.Played.{Played, opened, play, heard, Ends}
 
 -- An application context, by the contents octets of its object identifier (own).
 abbrev pub context : List ℕ
@@ -141,3 +141,11 @@ one_queued = play opened (invoke (pos 1) One 10 ∷ [])
 -- A dialogue with one Invoke in its queue, of exactly 60,000 octets (own).
 abbrev pub full_queue : Played
 full_queue = play opened (DialogueEvent.request (Request.invoke (pos 1) One (code 10) (Some (hex 4 0x0482EA52 ++ replicate 59986 0)) None 1000) ∷ [])
+
+-- One dialogue is live, that of identifier 1 (own).
+abbrev pub is_first_live : ℕ → Bool
+is_first_live dialogue = dialogue == 1
+
+-- With the one Invoke sent, these bytes end its dialogue and tell this and that it is ended (own).
+abbrev pub EndsTold : List ℕ → Output → Type 0
+EndsTold bytes told = Ends opened (one_invoke ++ heard bytes ∷ []) (one_invoke_told ++ Answer.outputs (told ∷ first_ended ∷ []) ∷ [])

@@ -103,8 +103,9 @@ identifier_freed = record { start = started; before = empty_engine; steps =
 -- ---- a lapse, and a result after it
 
 -- The invocation lapses at its deadline, not before; its result then has no invocation and is rejected
--- with Return Result problem 0, which the next Continue carries. A moment below the clock changes
--- nothing (Q.774, Invocation timer; Q.774, Component related abnormal conditions).
+-- with Return Result problem 0, which the next Continue carries. A moment below the clock is nothing for
+-- the dialogue, and the engine after it is the one before it
+-- (Q.774, Invocation timer; Q.774, Component related abnormal conditions).
 abbrev pub lapse_and_late_result : Walk
 lapse_and_late_result = record { start = started; before = empty_engine; steps =
   new_dialogue_1

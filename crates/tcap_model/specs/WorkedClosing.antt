@@ -1,21 +1,21 @@
 -- Worked histories: how invocations end.
 use Rattle.std.specs.Prelude.{ℕ, pos, negsuc, List, [], ◌∷◌, ◌++◌, Some}
-use Rattle.tcap_component.specs.declared.problem.Kind.TheVariants as kind
 use Rattle.tcap_invocation.specs.declared.class.Class.TheVariants.{One, Two, Three, Four}
 use Rattle.tcap_model.specs.Answer.{Answer}
+use Rattle.tcap_model.specs.ExampleValues.{context, aarq, aare, result_of_first, of_result, of_error, general}
 use Rattle.tcap_model.specs.Fault.{Fault}
 use Rattle.tcap_model.specs.Hex.{hex}
 use Rattle.tcap_model.specs.Output.{Output, Closing, Rejector, AbortCause, DropCause}
 use Rattle.tcap_model.specs.Request.{Request}
 use Rattle.tcap_model.specs.Worked.{Worked, worked, closed_at, not_closed}
-use Rattle.tcap_model.specs.WorkedWords.{born, invoke, request, receive, advance, plain_begin, plain_continue, continued, ended, problem, empty_result, engine, context, aarq, aare, opened, opened_for, result_1}
+use Rattle.tcap_model.specs.WorkedWords.{born, invoke, request, receive, advance, plain_begin, plain_continue, continued, ended, empty_result, engine, opened, opened_for}
 
 -- An End with a result closes its invocation by the result; nothing comes after it (own).
 abbrev pub result_in_an_end : Worked
 result_in_an_end = worked engine (opened (
-    receive (hex 15 0x640D4904000000016C05A203020101) (ended 1 ∷ Output.closed 1 1 (pos 1) empty_result ∷ [])
+    receive (hex 15 0x640D_490400000001_6C05_A203_020101) (ended 1 ∷ Output.closed 1 1 (pos 1) empty_result ∷ [])
     ∷ advance 2000 []
-    ∷ receive (hex 15 0x640D4904000000016C05A203020101) (Output.dropped DropCause.no_dialogue ∷ [])
+    ∷ receive (hex 15 0x640D_490400000001_6C05_A203_020101) (Output.dropped DropCause.no_dialogue ∷ [])
     ∷ []))
     (closed_at 1 4 1 (pos 1) empty_result ∷ [])
 
@@ -25,15 +25,15 @@ abbrev pub lapse_and_late_result : Worked
 lapse_and_late_result = worked engine (opened (
     advance 999 []
     ∷ advance 1000 (Output.closed 1 1 (pos 1) Closing.lapsed ∷ [])
-    ∷ receive result_1 (continued 1 ∷ Output.local_reject (Some 1) (Some (pos 1)) (problem kind.Result 0) ∷ [])
-    ∷ request 1 plain_continue (Answer.outputs (Output.send (hex 24 0x65164804000000014904000000056C08A406020101820100) ∷ []))
+    ∷ receive result_of_first (continued 1 ∷ Output.local_reject (Some 1) (Some (pos 1)) (of_result 0) ∷ [])
+    ∷ request 1 plain_continue (Answer.outputs (Output.send (hex 24 0x6516_480400000001_490400000005_6C08_A406_020101_820100) ∷ []))
     ∷ advance 5 []
     ∷ []))
     (closed_at 1 5 1 (pos 1) Closing.lapsed ∷ [])
 
 -- The Continue with an accepted AARE that answers the Begin of the next history (own).
 abbrev pub accepting : List ℕ
-accepting = (hex 14 0x653F480400000005490400000001) ++ aare ++ (hex 7 0x6C05A203020101)
+accepting = hex 14 0x653F_480400000005_490400000001 ++ aare ++ hex 7 0x6C05_A203_020101
 
 -- An accepted AARE is normal once; a second one ends the dialogue (own).
 abbrev pub repeated_aare : Worked
@@ -41,10 +41,10 @@ repeated_aare = worked engine (
     born 1
     ∷ invoke 1 (pos 1) One (pos 10) 1000 (Answer.number 1)
     ∷ invoke 1 (pos 2) One (pos 11) 1000 (Answer.number 2)
-    ∷ request 1 (Request.begin (Some context) []) (Answer.outputs (Output.send ((hex 8 0x6238480400000001) ++ aarq ++ (hex 18 0x6C10A10602010102010AA10602010202010B)) ∷ []))
+    ∷ request 1 (Request.begin (Some context) []) (Answer.outputs (Output.send (hex 8 0x6238_480400000001 ++ aarq ++ hex 18 0x6C10_A106_020101_02010A_A106_020102_02010B) ∷ []))
     ∷ receive accepting (Output.go_on 1 (Some context) [] ∷ Output.closed 1 1 (pos 1) empty_result ∷ [])
     ∷ receive accepting (
-    Output.send (hex 28 0x671A4904000000056B122810060700118605010101A0056403800101)
+    Output.send (hex 28 0x671A_490400000005_6B12_2810_060700118605010101_A005_6403_800101)
     ∷ Output.p_abort 1 AbortCause.abnormal
     ∷ Output.closed 1 2 (pos 2) Closing.ended
     ∷ [])
@@ -58,29 +58,29 @@ answers_the_class_forbids = worked engine (
     ∷ invoke 1 (pos 1) Two (pos 10) 1000 (Answer.number 1)
     ∷ invoke 1 (pos 2) Three (pos 10) 1000 (Answer.number 2)
     ∷ invoke 1 (pos 3) Four (pos 10) 1000 (Answer.number 3)
-    ∷ request 1 plain_begin (Answer.outputs (Output.send (hex 34 0x62204804000000016C18A10602010102010AA10602010202010AA10602010302010A) ∷ []))
-    ∷ receive (hex 34 0x65204804000000054904000000016C12A203020101A306020102020101A703020103) (
+    ∷ request 1 plain_begin (Answer.outputs (Output.send (hex 34 0x6220_480400000001_6C18_A106_020101_02010A_A106_020102_02010A_A106_020103_02010A) ∷ []))
+    ∷ receive (hex 34 0x6520_480400000005_490400000001_6C12_A203_020101_A306_020102_020101_A703_020103) (
     continued 1
-    ∷ Output.closed 1 1 (pos 1) (Closing.rejected (problem kind.Result 1) Rejector.local)
-    ∷ Output.closed 1 2 (pos 2) (Closing.rejected (problem kind.Error 1) Rejector.local)
-    ∷ Output.closed 1 3 (pos 3) (Closing.rejected (problem kind.Result 1) Rejector.local)
+    ∷ Output.closed 1 1 (pos 1) (Closing.rejected (of_result 1) Rejector.local)
+    ∷ Output.closed 1 2 (pos 2) (Closing.rejected (of_error 1) Rejector.local)
+    ∷ Output.closed 1 3 (pos 3) (Closing.rejected (of_result 1) Rejector.local)
     ∷ [])
     ∷ [])
-    (closed_at 1 6 1 (pos 1) (Closing.rejected (problem kind.Result 1) Rejector.local)
-    ∷ closed_at 2 6 1 (pos 2) (Closing.rejected (problem kind.Error 1) Rejector.local)
-    ∷ closed_at 3 6 1 (pos 3) (Closing.rejected (problem kind.Result 1) Rejector.local)
+    (closed_at 1 6 1 (pos 1) (Closing.rejected (of_result 1) Rejector.local)
+    ∷ closed_at 2 6 1 (pos 2) (Closing.rejected (of_error 1) Rejector.local)
+    ∷ closed_at 3 6 1 (pos 3) (Closing.rejected (of_result 1) Rejector.local)
     ∷ [])
 
 -- After a result its identifier is held until a moment that is `reject_ms` later (own).
 abbrev pub identifier_held_after_a_result : Worked
 identifier_held_after_a_result = worked engine (opened_for 10000 (
-    receive result_1 (continued 1 ∷ Output.closed 1 1 (pos 1) empty_result ∷ [])
+    receive result_of_first (continued 1 ∷ Output.closed 1 1 (pos 1) empty_result ∷ [])
     ∷ advance 999 []
     ∷ invoke 1 (pos 1) One (pos 10) 10000 (Answer.refused Fault.invoke_id_in_use)
     ∷ advance 1000 []
     ∷ invoke 1 (pos 1) One (pos 10) 10000 (Answer.number 2)
-    ∷ request 1 plain_continue (Answer.outputs (Output.send (hex 24 0x65164804000000014904000000056C08A10602010102010A) ∷ []))
-    ∷ receive result_1 (continued 1 ∷ Output.closed 1 2 (pos 1) empty_result ∷ [])
+    ∷ request 1 plain_continue (Answer.outputs (Output.send (hex 24 0x6516_480400000001_490400000005_6C08_A106_020101_02010A) ∷ []))
+    ∷ receive result_of_first (continued 1 ∷ Output.closed 1 2 (pos 1) empty_result ∷ [])
     ∷ []))
     (closed_at 1 4 1 (pos 1) empty_result ∷ closed_at 2 10 1 (pos 1) empty_result ∷ [])
 
@@ -88,7 +88,7 @@ identifier_held_after_a_result = worked engine (opened_for 10000 (
 -- own (own).
 abbrev pub identifier_held_at_the_same_moment : Worked
 identifier_held_at_the_same_moment = worked (record engine { reject_ms = 0 }) (opened (
-    receive result_1 (continued 1 ∷ Output.closed 1 1 (pos 1) empty_result ∷ [])
+    receive result_of_first (continued 1 ∷ Output.closed 1 1 (pos 1) empty_result ∷ [])
     ∷ invoke 1 (pos 1) One (pos 10) 1000 (Answer.refused Fault.invoke_id_in_use)
     ∷ advance 0 []
     ∷ invoke 1 (pos 1) One (pos 10) 1000 (Answer.number 2)
@@ -98,8 +98,8 @@ identifier_held_at_the_same_moment = worked (record engine { reject_ms = 0 }) (o
 -- The user's Reject of the result frees the identifier at once (own).
 abbrev pub identifier_freed_by_a_reject : Worked
 identifier_freed_by_a_reject = worked engine (opened_for 10000 (
-    receive result_1 (continued 1 ∷ Output.closed 1 1 (pos 1) empty_result ∷ [])
-    ∷ request 1 (Request.u_reject (Some (pos 1)) (problem kind.Result 2)) Answer.done
+    receive result_of_first (continued 1 ∷ Output.closed 1 1 (pos 1) empty_result ∷ [])
+    ∷ request 1 (Request.u_reject (Some (pos 1)) (of_result 2)) Answer.done
     ∷ invoke 1 (pos 1) One (pos 10) 10000 (Answer.number 2)
     ∷ []))
     (closed_at 1 4 1 (pos 1) empty_result ∷ not_closed 2 ∷ [])
@@ -110,21 +110,21 @@ faulty_second_component = worked engine (
     born 1
     ∷ invoke 1 (negsuc 127) One (pos 10) 1000 (Answer.number 1)
     ∷ invoke 1 (pos 127) One (pos 10) 1000 (Answer.number 2)
-    ∷ request 1 plain_begin (Answer.outputs (Output.send (hex 26 0x62184804000000016C10A10602018002010AA10602017F02010A) ∷ []))
-    ∷ receive (hex 39 0x65254804000000054904000000016C17A203020180A503020107A20302017FA30602017F020101) (
+    ∷ request 1 plain_begin (Answer.outputs (Output.send (hex 26 0x6218_480400000001_6C10_A106_020180_02010A_A106_02017F_02010A) ∷ []))
+    ∷ receive (hex 39 0x6525_480400000005_490400000001_6C17_A203_020180_A503_020107_A203_02017F_A306_02017F_020101) (
     continued 1
     ∷ Output.closed 1 1 (negsuc 127) empty_result
-    ∷ Output.local_reject (Some 1) (Some (pos 7)) (problem kind.General 0)
+    ∷ Output.local_reject (Some 1) (Some (pos 7)) (general 0)
     ∷ [])
-    ∷ request 1 plain_continue (Answer.outputs (Output.send (hex 24 0x65164804000000014904000000056C08A406020107800100) ∷ []))
+    ∷ request 1 plain_continue (Answer.outputs (Output.send (hex 24 0x6516_480400000001_490400000005_6C08_A406_020107_800100) ∷ []))
     ∷ [])
     (closed_at 1 5 1 (negsuc 127) empty_result ∷ not_closed 2 ∷ [])
 
 -- The peer's identifier is the origin of the first Continue for good (own).
 abbrev pub the_peer_stays : Worked
 the_peer_stays = worked engine (opened (
-    receive result_1 (continued 1 ∷ Output.closed 1 1 (pos 1) empty_result ∷ [])
-    ∷ receive (hex 21 0x65134804000000064904000000016C05A203020101) (continued 1 ∷ Output.local_reject (Some 1) (Some (pos 1)) (problem kind.Result 0) ∷ [])
-    ∷ request 1 plain_continue (Answer.outputs (Output.send (hex 24 0x65164804000000014904000000056C08A406020101820100) ∷ []))
+    receive result_of_first (continued 1 ∷ Output.closed 1 1 (pos 1) empty_result ∷ [])
+    ∷ receive (hex 21 0x6513_480400000006_490400000001_6C05_A203_020101) (continued 1 ∷ Output.local_reject (Some 1) (Some (pos 1)) (of_result 0) ∷ [])
+    ∷ request 1 plain_continue (Answer.outputs (Output.send (hex 24 0x6516_480400000001_490400000005_6C08_A406_020101_820100) ∷ []))
     ∷ []))
     (closed_at 1 4 1 (pos 1) empty_result ∷ [])

@@ -1,39 +1,38 @@
 -- Worked histories: one beginning, and the ways in which its invocation closes.
-use Rattle.std.specs.Prelude.{ℕ, pos, List, [], ◌∷◌, Some, None}
-use Rattle.tcap_component.specs.declared.problem.Kind.TheVariants as kind
-use Rattle.tcap_component.specs.Component.{CodeParts}
+use Rattle.std.specs.Prelude.{ℕ, pos, List, [], ◌∷◌, ◌++◌, Some, None}
 use Rattle.tcap_model.specs.Answer.{Answer}
+use Rattle.tcap_model.specs.ExampleValues.{aare_result, of_result, of_invoke, code}
 use Rattle.tcap_model.specs.Hex.{hex}
 use Rattle.tcap_model.specs.Output.{Output, Closing, Rejector, AbortCause, DropCause}
 use Rattle.tcap_model.specs.Request.{Request, Ending, AbortReason}
 use Rattle.tcap_model.specs.Worked.{Worked, worked, closed_at, not_closed}
-use Rattle.tcap_model.specs.WorkedWords.{request, receive, continued, ended, problem, engine, opened}
+use Rattle.tcap_model.specs.WorkedWords.{request, receive, continued, ended, engine, opened}
 
 -- The Abort of a Begin whose version isn't spoken: an AARE, not accepted, "no common dialogue portion"
 -- by the provider (own).
 abbrev pub no_common_portion : List ℕ
-no_common_portion = hex 52 0x67324904000000016B2A2828060700118605010101A01D611B80020780A109060704000001000103A203020101A305A203020102
+no_common_portion = hex 8 0x6732_490400000001 ++ aare_result 0xA203020101_A305A203020102
 
 -- By an Abort with a P-Abort cause (own).
 abbrev pub closed_by_a_cause : Worked
 closed_by_a_cause = worked engine (opened (
-    receive (hex 11 0x67094904000000014A0104) (Output.p_abort 1 (AbortCause.cause 4) ∷ Output.closed 1 1 (pos 1) Closing.ended ∷ [])
+    receive (hex 11 0x6709_490400000001_4A0104) (Output.p_abort 1 (AbortCause.cause 4) ∷ Output.closed 1 1 (pos 1) Closing.ended ∷ [])
     ∷ []))
     (closed_at 1 4 1 (pos 1) Closing.ended ∷ [])
 
 -- By an Abort with nothing (own).
 abbrev pub closed_by_an_abort : Worked
 closed_by_an_abort = worked engine (opened (
-    receive (hex 8 0x6706490400000001) (Output.u_abort 1 None ∷ Output.closed 1 1 (pos 1) Closing.ended ∷ [])
+    receive (hex 8 0x6706_490400000001) (Output.u_abort 1 None ∷ Output.closed 1 1 (pos 1) Closing.ended ∷ [])
     ∷ []))
     (closed_at 1 4 1 (pos 1) Closing.ended ∷ [])
 
 -- By an error in an End (own).
 abbrev pub closed_by_an_error : Worked
 closed_by_an_error = worked engine (opened (
-    receive (hex 18 0x64104904000000016C08A30602010102010D) (ended 1 ∷ Output.closed 1 1 (pos 1) (Closing.error_back (CodeParts.local (pos 13)) None) ∷ [])
+    receive (hex 18 0x6410_490400000001_6C08_A306_020101_02010D) (ended 1 ∷ Output.closed 1 1 (pos 1) (Closing.error_back (code 13) None) ∷ [])
     ∷ []))
-    (closed_at 1 4 1 (pos 1) (Closing.error_back (CodeParts.local (pos 13)) None) ∷ [])
+    (closed_at 1 4 1 (pos 1) (Closing.error_back (code 13) None) ∷ [])
 
 -- By a prearranged end (own).
 abbrev pub closed_by_a_prearranged_end : Worked
@@ -59,9 +58,9 @@ closed_by_a_cancel = worked engine (opened (
 -- A Reject with a Return Result problem closes nothing (own).
 abbrev pub reject_of_a_result : Worked
 reject_of_a_result = worked engine (opened (
-    receive (hex 24 0x65164804000000054904000000016C08A406020101820100) (
+    receive (hex 24 0x6516_480400000005_490400000001_6C08_A406_020101_820100) (
     continued 1
-    ∷ Output.remote_reject (Some 1) (Some (pos 1)) (problem kind.Result 0) Rejector.remote_provider
+    ∷ Output.remote_reject (Some 1) (Some (pos 1)) (of_result 0) Rejector.remote_provider
     ∷ [])
     ∷ []))
     (not_closed 1 ∷ [])
@@ -70,23 +69,23 @@ reject_of_a_result = worked engine (opened (
 -- invocation is left to end (own).
 abbrev pub reject_of_an_invoke : Worked
 reject_of_an_invoke = worked engine (opened (
-    receive (hex 24 0x65164804000000054904000000016C08A406020101820100) (
+    receive (hex 24 0x6516_480400000005_490400000001_6C08_A406_020101_820100) (
     continued 1
-    ∷ Output.remote_reject (Some 1) (Some (pos 1)) (problem kind.Result 0) Rejector.remote_provider
+    ∷ Output.remote_reject (Some 1) (Some (pos 1)) (of_result 0) Rejector.remote_provider
     ∷ [])
-    ∷ receive (hex 24 0x65164804000000054904000000016C08A406020101810101) (
+    ∷ receive (hex 24 0x6516_480400000005_490400000001_6C08_A406_020101_810101) (
     continued 1
-    ∷ Output.closed 1 1 (pos 1) (Closing.rejected (problem kind.Invoke 1) Rejector.remote_user)
+    ∷ Output.closed 1 1 (pos 1) (Closing.rejected (of_invoke 1) Rejector.remote_user)
     ∷ [])
     ∷ receive no_common_portion (Output.p_abort 1 AbortCause.no_common ∷ [])
     ∷ []))
-    (closed_at 1 5 1 (pos 1) (Closing.rejected (problem kind.Invoke 1) Rejector.remote_user) ∷ [])
+    (closed_at 1 5 1 (pos 1) (Closing.rejected (of_invoke 1) Rejector.remote_user) ∷ [])
 
 -- A faulty Continue is aborted, and ends its dialogue (own).
 abbrev pub a_faulty_continue : Worked
 a_faulty_continue = worked engine (opened (
-    receive (hex 15 0x650D4804000000054904000000016C) (
-    Output.send (hex 11 0x67094904000000054A0102)
+    receive (hex 15 0x650D_480400000005_490400000001_6C) (
+    Output.send (hex 11 0x6709_490400000005_4A0102)
     ∷ Output.p_abort 1 (AbortCause.cause 2)
     ∷ Output.closed 1 1 (pos 1) Closing.ended
     ∷ [])
@@ -96,7 +95,7 @@ a_faulty_continue = worked engine (opened (
 -- A faulty End ends its dialogue, and names none after that (own).
 abbrev pub a_faulty_end : Worked
 a_faulty_end = worked engine (opened (
-    receive (hex 9 0x64074904000000016C) (Output.p_abort 1 (AbortCause.cause 2) ∷ Output.closed 1 1 (pos 1) Closing.ended ∷ [])
-    ∷ receive (hex 9 0x64074904000000016C) (Output.dropped DropCause.bad_message ∷ [])
+    receive (hex 9 0x6407_490400000001_6C) (Output.p_abort 1 (AbortCause.cause 2) ∷ Output.closed 1 1 (pos 1) Closing.ended ∷ [])
+    ∷ receive (hex 9 0x6407_490400000001_6C) (Output.dropped DropCause.bad_message ∷ [])
     ∷ []))
     (closed_at 1 4 1 (pos 1) Closing.ended ∷ [])

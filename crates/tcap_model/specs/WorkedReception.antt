@@ -1,29 +1,28 @@
 -- Worked histories: what comes of received bytes.
 use Rattle.std.specs.Prelude.{pos, List, [], ◌∷◌, ◌++◌, replicate, Some, None}
-use Rattle.tcap_component.specs.declared.problem.Kind.TheVariants as kind
-use Rattle.tcap_component.specs.Component.{CodeParts}
 use Rattle.tcap_model.specs.Answer.{Answer}
+use Rattle.tcap_model.specs.ExampleValues.{context, aarq, aare, begin_with_aarq, aare_result, aarq_version, of_invoke, code}
 use Rattle.tcap_model.specs.Hex.{hex}
 use Rattle.tcap_model.specs.Output.{Output, DropCause}
 use Rattle.tcap_model.specs.Pair.{Pair}
 use Rattle.tcap_model.specs.Request.{Request, AbortReason}
 use Rattle.tcap_model.specs.Worked.{Worked, worked}
 use Rattle.tcap_model.specs.WorkedEnds.{no_common_portion}
-use Rattle.tcap_model.specs.WorkedWords.{born, request, receive, plain_continue, problem, engine, context, aarq, aare}
+use Rattle.tcap_model.specs.WorkedWords.{born, request, receive, plain_continue, engine}
 
 -- A Begin with an AARQ and an Invoke is received (own).
 abbrev pub opened_by_the_peer : List Pair → List Pair
 opened_by_the_peer pairs =
-    receive ((hex 8 0x6235480400000001) ++ aarq ++ (hex 15 0x6C0DA10B02010102010230030401AA)) (
+    receive begin_with_aarq (
     Output.begin 1 (Some context) []
-    ∷ Output.invoked (Some 1) (pos 1) None (CodeParts.local (pos 2)) (Some (hex 5 0x30030401AA))
+    ∷ Output.invoked (Some 1) (pos 1) None (code 2) (Some (hex 5 0x3003_0401AA))
     ∷ [])
     ∷ pairs
 
 -- It is answered by a Continue with an AARE (own).
 abbrev pub a_begin_with_aarq : Worked
 a_begin_with_aarq = worked engine (opened_by_the_peer (
-    request 1 plain_continue (Answer.outputs (Output.send ((hex 14 0x6538480400000001490400000001) ++ aare) ∷ []))
+    request 1 plain_continue (Answer.outputs (Output.send (hex 14 0x6538_480400000001_490400000001 ++ aare) ∷ []))
     ∷ []))
     []
 
@@ -31,7 +30,7 @@ a_begin_with_aarq = worked engine (opened_by_the_peer (
 abbrev pub dialogue_refused : Worked
 dialogue_refused = worked engine (opened_by_the_peer (
     request 1 (Request.u_abort AbortReason.not_supported []) (Answer.outputs (
-    Output.send (hex 52 0x67324904000000016B2A2828060700118605010101A01D611B80020780A109060704000001000103A203020101A305A103020102)
+    Output.send (hex 8 0x6732_490400000001 ++ aare_result 0xA203020101_A305A103020102)
     ∷ []))
     ∷ []))
     []
@@ -40,7 +39,7 @@ dialogue_refused = worked engine (opened_by_the_peer (
 abbrev pub dialogue_aborted : Worked
 dialogue_aborted = worked engine (opened_by_the_peer (
     request 1 (Request.u_abort AbortReason.by_user []) (Answer.outputs (
-    Output.send (hex 28 0x671A4904000000016B122810060700118605010101A0056403800100)
+    Output.send (hex 28 0x671A_490400000001_6B12_2810_060700118605010101_A005_6403_800100)
     ∷ []))
     ∷ []))
     []
@@ -48,7 +47,7 @@ dialogue_aborted = worked engine (opened_by_the_peer (
 -- A Begin whose AARQ has another version is refused, and no dialogue is born (own).
 abbrev pub version_refused : Worked
 version_refused = worked engine (
-    receive (hex 40 0x62264804000000016B1E281C060700118605010101A011600F80020700A109060704000001000103) (Output.send no_common_portion ∷ [])
+    receive (hex 8 0x6226_480400000001 ++ aarq_version 0x80020700) (Output.send no_common_portion ∷ [])
     ∷ born 1
     ∷ [])
     []
@@ -56,7 +55,7 @@ version_refused = worked engine (
 -- A Continue to no dialogue is aborted with cause 1 (own).
 abbrev pub continue_to_no_dialogue : Worked
 continue_to_no_dialogue = worked engine (
-    receive (hex 14 0x650C4804000000094904000000FF) (Output.send (hex 11 0x67094904000000094A0101) ∷ [])
+    receive (hex 14 0x650C_480400000009_4904000000FF) (Output.send (hex 11 0x6709_490400000009_4A0101) ∷ [])
     ∷ [])
     []
 
@@ -64,20 +63,20 @@ continue_to_no_dialogue = worked engine (
 -- (own).
 abbrev pub faulty_messages_answered : Worked
 faulty_messages_answered = worked engine (
-    receive (hex 9 0x62154804000000016C) (Output.send (hex 11 0x67094904000000014A0102) ∷ [])
-    ∷ receive (hex 8 0x6306480400000007) (Output.send (hex 11 0x67094904000000074A0100) ∷ [])
+    receive (hex 9 0x6215_480400000001_6C) (Output.send (hex 11 0x6709_490400000001_4A0102) ∷ [])
+    ∷ receive (hex 8 0x6306_480400000007) (Output.send (hex 11 0x6709_490400000007_4A0100) ∷ [])
     ∷ receive (0x00 ∷ []) (Output.dropped DropCause.bad_message ∷ [])
     ∷ receive [] (Output.dropped DropCause.bad_message ∷ [])
-    ∷ receive (hex 4 0x62024800) (Output.dropped DropCause.bad_message ∷ [])
+    ∷ receive (hex 4 0x6202_4800) (Output.dropped DropCause.bad_message ∷ [])
     ∷ [])
     []
 
 -- An Invoke whose linked identifier names no invocation is rejected (own).
 abbrev pub unknown_linked_identifier : Worked
 unknown_linked_identifier = worked engine (
-    receive (hex 21 0x62134804000000016C0BA109020101800105020102) (
+    receive (hex 21 0x6213_480400000001_6C0B_A109_020101_800105_020102) (
     Output.begin 1 None []
-    ∷ Output.local_reject (Some 1) (Some (pos 1)) (problem kind.Invoke 5)
+    ∷ Output.local_reject (Some 1) (Some (pos 1)) (of_invoke 5)
     ∷ [])
     ∷ [])
     []
@@ -85,7 +84,7 @@ unknown_linked_identifier = worked engine (
 -- A Unidirectional with an AARQ is dropped (own).
 abbrev pub unidirectional_with_aarq : Worked
 unidirectional_with_aarq = worked engine (
-    receive ((hex 2 0x6122) ++ aarq ++ (hex 2 0x6C00)) (Output.dropped DropCause.bad_dialogue ∷ [])
+    receive (hex 2 0x6122 ++ aarq ++ hex 2 0x6C00) (Output.dropped DropCause.bad_dialogue ∷ [])
     ∷ [])
     []
 

@@ -3,19 +3,20 @@ use Rattle.std.specs.Prelude.{ℕ, pos, List, [], ◌∷◌, ◌++◌, replicate
 use Rattle.tcap_component.specs.Component.{CodeParts}
 use Rattle.tcap_invocation.specs.declared.class.Class.TheVariants.{One}
 use Rattle.tcap_model.specs.Answer.{Answer}
+use Rattle.tcap_model.specs.ExampleValues.{shown_begin, code}
 use Rattle.tcap_model.specs.Fault.{Fault}
 use Rattle.tcap_model.specs.Hex.{hex}
 use Rattle.tcap_model.specs.Output.{Output}
 use Rattle.tcap_model.specs.Request.{Request}
 use Rattle.tcap_model.specs.Worked.{Worked, worked, not_closed}
-use Rattle.tcap_model.specs.WorkedWords.{born, not_born, invoke, request, receive, advance, not_advanced, engine, shown_begin}
+use Rattle.tcap_model.specs.WorkedWords.{born, not_born, invoke, request, receive, advance, not_advanced, engine}
 
 -- As many dialogues stand as may: neither the user nor a peer gets one (own).
 abbrev pub dialogues_full : Worked
 dialogues_full = worked (record engine { max_dialogues = 1 }) (
     born 1
     ∷ not_born Fault.dialogues_full
-    ∷ receive shown_begin (Output.send (hex 11 0x67094904000000014A0104) ∷ [])
+    ∷ receive shown_begin (Output.send (hex 11 0x6709_490400000001_4A0104) ∷ [])
     ∷ [])
     []
 
@@ -49,7 +50,7 @@ invoke_with code parameter = Request.invoke (pos 1) One code (Some parameter) No
 
 -- An OCTET STRING of 60,000 octets (own).
 abbrev pub long_parameter : List ℕ
-long_parameter = (hex 4 0x0482EA60) ++ replicate 60000 0
+long_parameter = hex 4 0x0482EA60 ++ replicate 60000 0
 
 -- What a dialogue that is Idle refuses (own).
 abbrev pub refusals : Worked
@@ -58,8 +59,8 @@ refusals = worked engine (
     ∷ invoke 1 (pos 1) One (pos 10) 0 (Answer.refused Fault.bad_timeout)
     ∷ invoke 9 (pos 1) One (pos 10) 0 (Answer.refused Fault.unknown_dialogue)
     ∷ request 1 (Request.invoke (pos 1) One (CodeParts.global (0x80 ∷ [])) None None 1000) (Answer.refused Fault.bad_oid)
-    ∷ request 1 (invoke_with (CodeParts.local (pos 10)) (hex 3 0x0405AA)) (Answer.refused Fault.bad_parameter)
-    ∷ request 1 (invoke_with (CodeParts.local (pos 10)) long_parameter) (Answer.refused Fault.too_long)
+    ∷ request 1 (invoke_with (code 10) (hex 3 0x0405AA)) (Answer.refused Fault.bad_parameter)
+    ∷ request 1 (invoke_with (code 10) long_parameter) (Answer.refused Fault.too_long)
     ∷ request 1 (Request.begin None (hex 2 0x2800)) (Answer.refused Fault.no_context)
     ∷ request 1 (Request.begin None (hex 2 0x0400)) (Answer.refused Fault.bad_parameter)
     ∷ request 1 (Request.go_on None []) (Answer.refused Fault.wrong_state)

@@ -1,5 +1,5 @@
 -- What an engine is, and what it is at a history.
-use Rattle.std.specs.Prelude.{◌≡◌, ℕ, ◌+◌, ◌==◌, ◌&&◌, Bool, false, List, filter_map, Option, Some, None, if◌then◌else◌}
+use Rattle.std.specs.Prelude.{◌≡◌, ℕ, ◌+◌, ◌==◌, ◌&&◌, Bool, false, List, [], filter_map, Option, Some, None, if◌then◌else◌}
 use Rattle.tcap_invocation.specs.declared.stage.Stage.{Stage}
 use Rattle.tcap_invocation.specs.declared.stage.Stage.TheVariants as stage
 use Rattle.tcap_invocation.specs.Invocations.{Row}
@@ -11,7 +11,7 @@ use Rattle.tcap_model.specs.Decision.{decision}
 use Rattle.tcap_model.specs.Dialogue.{Dialogue}
 use Rattle.tcap_model.specs.Due.{standing_of}
 use Rattle.tcap_model.specs.Held.{is_waiting}
-use Rattle.tcap_model.specs.History.{History}
+use Rattle.tcap_model.specs.History.{Start, History}
 use Rattle.tcap_model.specs.Invocation.{Invocation, invocations, latest, next_number}
 use Rattle.tcap_model.specs.Legal.{IsLegal}
 use Rattle.tcap_model.specs.Life.{Life, life}
@@ -26,6 +26,17 @@ pub record World : Type 0 where
   pub next_number : ℕ
   pub clock : ℕ
   pub dialogues : List Dialogue
+
+-- An engine as it starts: the limits and the counters that it is given, clock 0 and no dialogues (own).
+abbrev pub first_world : Start → World
+first_world start = record {
+  max_dialogues = start.max_dialogues;
+  reject_ms = start.reject_ms;
+  next_dialogue = start.next_dialogue;
+  next_number = start.next_number;
+  clock = 0;
+  dialogues = [];
+}
 
 -- ---- the invocations of a dialogue
 

@@ -35,7 +35,8 @@ after_step h step = record { start = h.start; pairs = record { event = step.even
 -- ---- what the dialogue does
 
 -- What an event is for a dialogue that stands and that it names, at this clock: the request for a new
--- dialogue and a moment below the clock are nothing for it (own).
+-- dialogue and a moment below the clock are nothing for it. A dialogue that was asked for stands as a
+-- fresh one, and after a moment below the clock each stands as it was (own).
 abbrev pub dialogue_event : ℕ → Event → Option DialogueEvent
 dialogue_event clock Event.new_dialogue = None
 dialogue_event clock (Event.on_dialogue dialogue request) = Some (DialogueEvent.request request)

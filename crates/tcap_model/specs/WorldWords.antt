@@ -70,7 +70,7 @@ advance now outputs after = record { event = Event.moment now; answer = Answer.o
 
 -- ---- requests
 
--- TC-INVOKE with this invoke identifier, operation and timeout, of class 1, without
--- parameter and linked identifier (own).
+-- TC-INVOKE with this invoke identifier, operation and timeout, of class 1, without parameter and
+-- linked identifier (own).
 abbrev pub invoke : ℤ → ℕ → ℕ → Request
 invoke id operation timeout = Request.invoke id One (code operation) None None timeout

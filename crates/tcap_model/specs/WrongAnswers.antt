@@ -1,14 +1,13 @@
 -- Histories in which an engine gives an answer that isn't the reply.
-use Rattle.std.specs.Prelude.{pos, negsuc, [], ◌∷◌, ◌++◌, Some, None}
-use Rattle.tcap_component.specs.declared.problem.Kind.TheVariants as kind
-use Rattle.tcap_component.specs.Component.{CodeParts}
+use Rattle.std.specs.Prelude.{pos, negsuc, [], ◌∷◌, Some, None}
 use Rattle.tcap_invocation.specs.declared.class.Class.TheVariants.{One, Two}
 use Rattle.tcap_model.specs.Answer.{Answer}
+use Rattle.tcap_model.specs.ExampleValues.{shown_begin, result_of_first, begin_with_aarq, of_result, general, code}
 use Rattle.tcap_model.specs.Fault.{Fault}
 use Rattle.tcap_model.specs.Hex.{hex}
 use Rattle.tcap_model.specs.Output.{Output, Closing, Rejector, DropCause}
 use Rattle.tcap_model.specs.Request.{Request, AbortReason}
-use Rattle.tcap_model.specs.WorkedWords.{born, not_born, invoke, request, receive, advance, plain_begin, plain_continue, continued, problem, empty_result, engine, opened, result_1, shown_begin, aarq}
+use Rattle.tcap_model.specs.WorkedWords.{born, not_born, invoke, request, receive, advance, plain_begin, plain_continue, continued, empty_result, engine, opened}
 use Rattle.tcap_model.specs.WorkedWrong.{Wrong, wrong}
 use Rattle.tcap_model.specs.WrongEnds.{answered}
 
@@ -17,16 +16,16 @@ abbrev pub class_two_result : Wrong
 class_two_result = wrong engine (
     born 1
     ∷ invoke 1 (pos 1) Two (pos 10) 1000 (Answer.number 1)
-    ∷ request 1 plain_begin (Answer.outputs (Output.send (hex 18 0x62104804000000016C08A10602010102010A) ∷ []))
+    ∷ request 1 plain_begin (Answer.outputs (Output.send (hex 18 0x6210_480400000001_6C08_A106_020101_02010A) ∷ []))
     ∷ [])
-    (receive result_1 (continued 1 ∷ Output.closed 1 1 (pos 1) empty_result ∷ []))
+    (receive result_of_first (continued 1 ∷ Output.closed 1 1 (pos 1) empty_result ∷ []))
 
 -- A Reject with a Return Result problem closes the invocation (own).
 abbrev pub reject_of_a_result_closes : Wrong
 reject_of_a_result_closes = wrong engine (opened [])
-    (receive (hex 24 0x65164804000000054904000000016C08A406020101820100) (
+    (receive (hex 24 0x6516_480400000005_490400000001_6C08_A406_020101_820100) (
     continued 1
-    ∷ Output.closed 1 1 (pos 1) (Closing.rejected (problem kind.Result 0) Rejector.remote_provider)
+    ∷ Output.closed 1 1 (pos 1) (Closing.rejected (of_result 0) Rejector.remote_provider)
     ∷ []))
 
 -- A component behind a faulty one is told (own).
@@ -35,12 +34,12 @@ components_after_a_fault = wrong engine (
     born 1
     ∷ invoke 1 (negsuc 127) One (pos 10) 1000 (Answer.number 1)
     ∷ invoke 1 (pos 127) One (pos 10) 1000 (Answer.number 2)
-    ∷ request 1 plain_begin (Answer.outputs (Output.send (hex 26 0x62184804000000016C10A10602018002010AA10602017F02010A) ∷ []))
+    ∷ request 1 plain_begin (Answer.outputs (Output.send (hex 26 0x6218_480400000001_6C10_A106_020180_02010A_A106_02017F_02010A) ∷ []))
     ∷ [])
-    (receive (hex 39 0x65254804000000054904000000016C17A203020180A503020107A20302017FA30602017F020101) (
+    (receive (hex 39 0x6525_480400000005_490400000001_6C17_A203_020180_A503_020107_A203_02017F_A306_02017F_020101) (
     continued 1
     ∷ Output.closed 1 1 (negsuc 127) empty_result
-    ∷ Output.local_reject (Some 1) (Some (pos 7)) (problem kind.General 0)
+    ∷ Output.local_reject (Some 1) (Some (pos 7)) (general 0)
     ∷ Output.closed 1 2 (pos 127) empty_result
     ∷ []))
 
@@ -56,23 +55,23 @@ clock_set_back = wrong engine (
     ∷ advance 1000 []
     ∷ advance 5 []
     ∷ invoke 1 (pos 1) One (pos 10) 1000 (Answer.number 1)
-    ∷ request 1 plain_begin (Answer.outputs (Output.send (hex 18 0x62104804000000016C08A10602010102010A) ∷ []))
+    ∷ request 1 plain_begin (Answer.outputs (Output.send (hex 18 0x6210_480400000001_6C08_A106_020101_02010A) ∷ []))
     ∷ [])
     (advance 1005 (Output.closed 1 1 (pos 1) Closing.lapsed ∷ []))
 
 -- The origin of a later Continue becomes the peer's identifier (own).
 abbrev pub moving_peer : Wrong
 moving_peer = wrong engine (answered (
-    receive (hex 21 0x65134804000000064904000000016C05A203020101) (continued 1 ∷ Output.local_reject (Some 1) (Some (pos 1)) (problem kind.Result 0) ∷ [])
+    receive (hex 21 0x6513_480400000006_490400000001_6C05_A203_020101) (continued 1 ∷ Output.local_reject (Some 1) (Some (pos 1)) (of_result 0) ∷ [])
     ∷ []))
-    (request 1 plain_continue (Answer.outputs (Output.send (hex 24 0x65164804000000014904000000066C08A406020101820100) ∷ [])))
+    (request 1 plain_continue (Answer.outputs (Output.send (hex 24 0x6516_480400000001_490400000006_6C08_A406_020101_820100) ∷ [])))
 
 -- A repeated Begin makes no second dialogue (own).
 abbrev pub recognised_begin : Wrong
 recognised_begin = wrong engine (
     receive shown_begin (
     Output.begin 1 None []
-    ∷ Output.invoked (Some 1) (pos 1) None (CodeParts.local (pos 2)) (Some (hex 5 0x30030401AA))
+    ∷ Output.invoked (Some 1) (pos 1) None (code 2) (Some (hex 5 0x3003_0401AA))
     ∷ [])
     ∷ [])
     (receive shown_begin [])
@@ -93,4 +92,4 @@ everything_wrong_state = wrong engine []
 -- Every message is dropped (own).
 abbrev pub drops_every_message : Wrong
 drops_every_message = wrong engine []
-    (receive ((hex 8 0x6235480400000001) ++ aarq ++ (hex 15 0x6C0DA10B02010102010230030401AA)) (Output.dropped DropCause.bad_message ∷ []))
+    (receive begin_with_aarq (Output.dropped DropCause.bad_message ∷ []))

@@ -1,22 +1,22 @@
 -- Histories in which an engine tells a wrong end of an invocation.
 use Rattle.std.specs.Prelude.{pos, List, [], ◌∷◌, reverse, Some}
-use Rattle.tcap_component.specs.declared.problem.Kind.TheVariants as kind
 use Rattle.tcap_invocation.specs.declared.class.Class.TheVariants.{One}
 use Rattle.tcap_model.specs.Answer.{Answer}
+use Rattle.tcap_model.specs.ExampleValues.{result_of_first, of_result}
 use Rattle.tcap_model.specs.Hex.{hex}
 use Rattle.tcap_model.specs.Output.{Output, Closing}
 use Rattle.tcap_model.specs.Pair.{Pair, Past}
-use Rattle.tcap_model.specs.WorkedWords.{born, invoke, request, receive, advance, plain_begin, continued, ended, problem, empty_result, engine, opened, result_1}
+use Rattle.tcap_model.specs.WorkedWords.{born, invoke, request, receive, advance, plain_begin, continued, ended, empty_result, engine, opened}
 use Rattle.tcap_model.specs.WorkedWrong.{Wrong, wrong}
 
 -- A result is received and told (own).
 abbrev pub answered : List Pair → List Pair
-answered pairs = opened (receive result_1 (continued 1 ∷ Output.closed 1 1 (pos 1) empty_result ∷ []) ∷ pairs)
+answered pairs = opened (receive result_of_first (continued 1 ∷ Output.closed 1 1 (pos 1) empty_result ∷ []) ∷ pairs)
 
 -- A repeated result is told twice (own).
 abbrev pub double_result : Wrong
 double_result = wrong engine (answered [])
-    (receive result_1 (continued 1 ∷ Output.closed 1 1 (pos 1) empty_result ∷ []))
+    (receive result_of_first (continued 1 ∷ Output.closed 1 1 (pos 1) empty_result ∷ []))
 
 -- A lapse is told after the result (own).
 abbrev pub stale_timer : Wrong
@@ -32,7 +32,7 @@ empty_result_at_a_lapse = wrong engine (opened [])
 abbrev pub ended_at_once : Wrong
 ended_at_once = wrong engine (born 1 ∷ invoke 1 (pos 1) One (pos 10) 1000 (Answer.number 1) ∷ [])
     (request 1 plain_begin (Answer.outputs (
-    Output.send (hex 18 0x62104804000000016C08A10602010102010A)
+    Output.send (hex 18 0x6210_480400000001_6C08_A106_020101_02010A)
     ∷ Output.closed 1 1 (pos 1) Closing.ended
     ∷ [])))
 
@@ -41,23 +41,23 @@ abbrev pub lapse_by_identifier : Wrong
 lapse_by_identifier = wrong engine (opened (
     born 2
     ∷ invoke 2 (pos 1) One (pos 10) 5000 (Answer.number 2)
-    ∷ request 2 plain_begin (Answer.outputs (Output.send (hex 18 0x62104804000000026C08A10602010102010A) ∷ []))
+    ∷ request 2 plain_begin (Answer.outputs (Output.send (hex 18 0x6210_480400000002_6C08_A106_020101_02010A) ∷ []))
     ∷ []))
     (advance 1000 (Output.closed 1 1 (pos 1) Closing.lapsed ∷ Output.closed 2 2 (pos 1) Closing.lapsed ∷ []))
 
 -- An End closes the open invocations before its components are read (own).
 abbrev pub end_before_components : Wrong
 end_before_components = wrong engine (opened [])
-    (receive (hex 15 0x640D4904000000016C05A203020101) (
+    (receive (hex 15 0x640D_490400000001_6C05_A203_020101) (
     ended 1
     ∷ Output.closed 1 1 (pos 1) Closing.ended
-    ∷ Output.local_reject (Some 1) (Some (pos 1)) (problem kind.Result 0)
+    ∷ Output.local_reject (Some 1) (Some (pos 1)) (of_result 0)
     ∷ []))
 
 -- The right result, told one event late (own).
 abbrev pub result_told_late : Past
 result_told_late = reverse (opened (
-    receive result_1 (continued 1 ∷ [])
+    receive result_of_first (continued 1 ∷ [])
     ∷ advance 5 (Output.closed 1 1 (pos 1) empty_result ∷ [])
     ∷ []))
 

@@ -3,3 +3,4 @@
 pub mod drawing;
 pub mod invoking;
 pub mod messages;
+pub mod standing;

@@ -1,10 +1,10 @@
 #![tactic(auto, unfolding(crate::specs::Computing::computing))]
 
-ghost use Rattle.std.specs.Prelude.{◌≡◌, pos, negsuc, List, [], ◌∷◌, ◌++◌, false, Option, Some, None};
+ghost use Rattle.std.specs.Prelude.{◌≡◌, pos, negsuc, List, [], ◌∷◌, ◌++◌, replicate, false, Option, Some, None};
 ghost use Rattle.tcap_component.specs.Component.{CodeParts};
 ghost use Rattle.tcap_invocation.specs.declared.class.Class.TheVariants.{One, Two, Three, Four};
 ghost use Rattle.tcap_model.specs.Answer.{Answer};
-ghost use Rattle.tcap_model.specs.ExampleValues.{aare_result, code, invoke, plain_begin, go_on, one_invoke, one_invoke_told, result_of_first, first_result, shown_begin, shown_begin_told, general, of_invoke, of_result, of_error};
+ghost use Rattle.tcap_model.specs.ExampleValues.{aare_result, code, body, invoke, plain_begin, go_on, one_invoke, one_invoke_told, result_of_first, first_result, shown_begin, shown_begin_told, general, of_invoke, of_result, of_error};
 ghost use Rattle.tcap_model.specs.Hex.{hex};
 ghost use Rattle.tcap_model.specs.Output.{Output, AbortCause, Closing, Rejector};
 ghost use Rattle.tcap_model.specs.Request.{Request, Ending};
@@ -105,6 +105,34 @@ pub fn answers_sent()
         ∷ Answer.done
         ∷ Answer.outputs (Output.send (hex 15 0x640D_490400000001_6C05_A203020101) ∷ [])
         ∷ []) }
+    ensures rejected { Answers (begun_from shown_begin)
+        (request (Request.u_reject (Some (pos 1)) (of_invoke 1)) ∷ go_on ∷ [])
+        (shown_begin_told
+        ∷ Answer.done
+        ∷ Answer.outputs (Output.send (hex 24 0x6516_480400000001_490400000001_6C08_A406020101_810101) ∷ [])
+        ∷ []) }
+{}
+
+/// A Begin that was delivered twice has two answers: the first that comes back closes the invocation, and
+/// the other is rejected.
+pub fn repeated_begin_played()
+    ensures answerer { Answers (begun_from (hex 18 0x6210_480400000001_6C08_A106020101_02010A))
+        (request (Request.result_last (pos 1) (body (code 10) (Some (hex 3 0x0401AA)))) ∷ go_on ∷ [])
+        (Answer.outputs (Output.begin 1 None [] ∷ Output.invoked (Some 1) (pos 1) None (code 10) None ∷ [])
+        ∷ Answer.done
+        ∷ Answer.outputs (Output.send (hex 29 0x651B_480400000001_490400000001_6C0D_A20B020101_300602010A_0401AA) ∷ [])
+        ∷ []) }
+    ensures opener { Answers opened
+        (one_invoke
+        ++ heard (hex 29 0x651B_480400000002_490400000001_6C0D_A20B020101_300602010A_0401BB)
+        ∷ heard (hex 29 0x651B_480400000001_490400000001_6C0D_A20B020101_300602010A_0401AA)
+        ∷ moment 1000
+        ∷ [])
+        (one_invoke_told
+        ++ Answer.outputs (Output.go_on 1 None [] ∷ Output.closed 1 1 (pos 1) (Closing.result_last (body (code 10) (Some (hex 3 0x0401BB)))) ∷ [])
+        ∷ Answer.outputs (Output.go_on 1 None [] ∷ Output.local_reject (Some 1) (Some (pos 1)) (of_result 0) ∷ [])
+        ∷ Answer.outputs []
+        ∷ []) }
 {}
 
 /// The components of a Begin meet no invocation: a result in it is rejected, and the Reject goes out
@@ -150,11 +178,22 @@ pub fn linked_identifiers()
 /// Rejects are queued one by one, each where it fits: with room for 7 octets the first, of 8, isn't
 /// queued, and the second, of 7, is. Both are told.
 pub fn rejects_at_the_queues_limit()
-    ensures { Answers (with_room 7 opened)
+    ensures small_limit { Answers (with_room 7 opened)
         (plain_begin ∷ heard (hex 23 0x6515_480400000005_490400000001_6C07_A203020109_A500) ∷ go_on ∷ [])
         (Answer.outputs (Output.send (hex 8 0x6206_480400000001) ∷ [])
         ∷ Answer.outputs (Output.go_on 1 None [] ∷ Output.local_reject (Some 1) (Some (pos 9)) (of_result 0) ∷ Output.local_reject (Some 1) None (general 0) ∷ [])
         ∷ Answer.outputs (Output.send (hex 23 0x6515_480400000001_490400000005_6C07_A4050500_800100) ∷ [])
+        ∷ []) }
+    ensures usual_limit { Answers opened
+        (plain_begin
+        ∷ request (Request.invoke (pos 1) One (code 10) (Some (hex 4 0x0482EA4B ++ replicate 59979 0)) None 1000)
+        ∷ heard (hex 23 0x6515_480400000005_490400000001_6C07_A203020109_A500)
+        ∷ go_on
+        ∷ [])
+        (Answer.outputs (Output.send (hex 8 0x6206_480400000001) ∷ [])
+        ∷ Answer.number 1
+        ∷ Answer.outputs (Output.go_on 1 None [] ∷ Output.local_reject (Some 1) (Some (pos 9)) (of_result 0) ∷ Output.local_reject (Some 1) None (general 0) ∷ [])
+        ∷ Answer.outputs (Output.send (hex 34 0x6582EA70_480400000001_490400000005_6C82EA60_A182EA55_020101_02010A_0482EA4B ++ replicate 59979 0 ++ hex 7 0xA4050500_800100) ∷ [])
         ∷ []) }
 {}
 
@@ -173,5 +212,15 @@ pub fn an_answer_to_a_queued_identifier()
         ++ Answer.number 2
         ∷ Answer.outputs (Output.go_on 1 None [] ∷ Output.local_reject (Some 1) (Some (pos 2)) (of_result 0) ∷ [])
         ∷ Answer.given_up 2
+        ∷ []) }
+{}
+
+/// A Reject that can't be read is told and isn't answered.
+pub fn a_faulty_reject()
+    ensures { Answers opened
+        (one_invoke ++ heard (hex 17 0x650F_480400000005_490400000001_6C01_A4) ∷ go_on ∷ [])
+        (one_invoke_told
+        ++ Answer.outputs (Output.go_on 1 None [] ∷ Output.local_reject (Some 1) None (general 2) ∷ [])
+        ∷ Answer.outputs (Output.send (hex 14 0x650C_480400000001_490400000005) ∷ [])
         ∷ []) }
 {}

@@ -4,16 +4,15 @@ ghost use Rattle.std.specs.Prelude.{◌≡◌, pos, List, [], ◌∷◌, ◌++�
 ghost use Rattle.tcap_component.specs.Component.{CodeParts};
 ghost use Rattle.tcap_invocation.specs.declared.class.Class.TheVariants.{One};
 ghost use Rattle.tcap_model.specs.Answer.{Answer};
-ghost use Rattle.tcap_model.specs.ExampleValues.{context, aarq_version, aarq, aare_result, aare, code, invoke, go_on, one_invoke, one_invoke_told, first_ended, begin_with_aarq, begin_with_aarq_told};
+ghost use Rattle.tcap_model.specs.ExampleValues.{context, aarq_version, aarq, aare, code, invoke, go_on, one_invoke, one_invoke_told, first_ended, begin_with_aarq, begin_with_aarq_told};
 ghost use Rattle.tcap_model.specs.Fault.{Fault};
 ghost use Rattle.tcap_model.specs.Hex.{hex};
 ghost use Rattle.tcap_model.specs.Output.{Output, AbortCause, Closing};
 ghost use Rattle.tcap_model.specs.PortionRules.{BeginVerdict, begin_verdict};
-ghost use Rattle.tcap_model.specs.Reception.{Reception, reception};
 ghost use Rattle.tcap_model.specs.Refusals.{invoke_fault};
 ghost use Rattle.tcap_model.specs.Request.{Request, AbortReason};
 ghost use Rattle.tcap_model.specs.State.{State};
-ghost use Rattle.tcap_model.specs.Played.{opened, begun_from, play, heard, is_none_live, Answers, Ends};
+ghost use Rattle.tcap_model.specs.Played.{opened, begun_from, play, heard, Answers, Ends};
 ghost use Rattle.tcap_model.specs.TableMove.{DialogueEvent, situation};
 ghost use Rattle.tcap_model.specs.TableMove.DialogueEvent.{request};
 
@@ -26,12 +25,6 @@ pub fn a_begin_judged()
     ensures abnormal { begin_verdict (Some (hex 2 0x2800)) ≡ BeginVerdict.abnormal }
     ensures invoke { let bad = Request.invoke (pos 1) One (CodeParts.global (hex 1 0x80)) None None 0 in
         invoke_fault (situation opened.setting opened.dialogue bad) bad ≡ Some Fault.bad_timeout }
-{}
-
-/// A Begin with an AARQ of another version is aborted with an AARE.
-pub fn version_refused()
-    ensures { reception is_none_live false (hex 8 0x6226_480400000001 ++ aarq_version 0x80020700)
-        ≡ Reception.aborted (Output.send (hex 8 0x6732_490400000001 ++ aare_result 0xA203020101_A305A203020102)) }
 {}
 
 /// A Begin with an AARQ is accepted by an AARE in the first Continue.

@@ -3,7 +3,7 @@
 ghost use Rattle.std.specs.Prelude.{◌≡◌, pos, List, [], ◌∷◌, ◌++◌, false, Option, Some, None};
 ghost use Rattle.tcap_invocation.specs.declared.class.Class.TheVariants.{One, Four};
 ghost use Rattle.tcap_model.specs.Answer.{Answer};
-ghost use Rattle.tcap_model.specs.ExampleValues.{code, invoke, invoke_within, plain_begin, go_on, one_invoke, one_invoke_told, one_long_invoke, result_of_first, first_result, first_ended, of_result};
+ghost use Rattle.tcap_model.specs.ExampleValues.{code, invoke, invoke_within, plain_begin, go_on, one_invoke, one_invoke_told, one_long_invoke, result_of_first, first_result, first_ended, of_invoke, of_result};
 ghost use Rattle.tcap_model.specs.Fault.{Fault};
 ghost use Rattle.tcap_model.specs.Hex.{hex};
 ghost use Rattle.tcap_model.specs.Output.{Output, Closing};
@@ -43,6 +43,39 @@ pub fn identifier_freed_by_a_reject()
     ensures { Answers opened
         (one_long_invoke ++ heard result_of_first ∷ request (Request.u_reject (Some (pos 1)) (of_result 2)) ∷ invoke (pos 1) One 10 ∷ [])
         (one_invoke_told ++ Answer.outputs (Output.go_on 1 None [] ∷ first_result ∷ []) ∷ Answer.done ∷ Answer.number 2 ∷ []) }
+{}
+
+/// A Reject by the user frees the identifier that waits for it, and no other: not one that is Sent, not
+/// one that waits where the problem is of another kind, and none where the Reject has no identifier.
+pub fn what_a_reject_frees()
+    ensures sent { Answers opened
+        (one_long_invoke ++ heard (hex 14 0x650C_480400000005_490400000001) ∷ request (Request.u_reject (Some (pos 1)) (of_result 2)) ∷ invoke (pos 1) One 10 ∷ [])
+        (one_invoke_told ++ Answer.outputs (Output.go_on 1 None [] ∷ []) ∷ Answer.done ∷ Answer.refused Fault.invoke_id_in_use ∷ []) }
+    ensures other_kind { Answers opened
+        (one_long_invoke ++ heard result_of_first ∷ request (Request.u_reject (Some (pos 1)) (of_invoke 2)) ∷ invoke (pos 1) One 10 ∷ [])
+        (one_invoke_told ++ Answer.outputs (Output.go_on 1 None [] ∷ first_result ∷ []) ∷ Answer.done ∷ Answer.refused Fault.invoke_id_in_use ∷ []) }
+    ensures no_identifier { Answers opened
+        (one_long_invoke ++ heard result_of_first ∷ request (Request.u_reject None (of_result 2)) ∷ invoke (pos 1) One 10 ∷ [])
+        (one_invoke_told ++ Answer.outputs (Output.go_on 1 None [] ∷ first_result ∷ []) ∷ Answer.done ∷ Answer.refused Fault.invoke_id_in_use ∷ []) }
+{}
+
+/// An Invoke that is given up before it is sent leaves the queue, and its timer never runs.
+pub fn given_up_before_it_is_sent()
+    ensures { Answers opened
+        (invoke (pos 1) One 10 ∷ request (Request.u_cancel (pos 1)) ∷ plain_begin ∷ moment 1000 ∷ [])
+        (Answer.number 1 ∷ Answer.given_up 1 ∷ Answer.outputs (Output.send (hex 8 0x6206_480400000001) ∷ []) ∷ Answer.outputs [] ∷ []) }
+{}
+
+/// Lapses are told by deadline, then by number.
+pub fn lapses_in_order()
+    ensures { Answers opened
+        (invoke_within 20 (pos 5) One 10 ∷ invoke_within 10 (pos 6) One 10 ∷ invoke_within 10 (pos 7) One 10 ∷ plain_begin ∷ moment 20 ∷ [])
+        (Answer.number 1
+        ∷ Answer.number 2
+        ∷ Answer.number 3
+        ∷ Answer.outputs (Output.send (hex 34 0x6220_480400000001_6C18_A106020105_02010A_A106020106_02010A_A106020107_02010A) ∷ [])
+        ∷ Answer.outputs (Output.closed 1 2 (pos 6) Closing.lapsed ∷ Output.closed 1 3 (pos 7) Closing.lapsed ∷ Output.closed 1 1 (pos 5) Closing.lapsed ∷ [])
+        ∷ []) }
 {}
 
 /// With no time to wait an identifier is held up to the next moment, the present one too.

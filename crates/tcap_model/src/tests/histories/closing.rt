@@ -1,5 +1,5 @@
 //! How invocations end.
-#![tactic(auto, using(crate::proofs::ClosingWorks::closing_works))]
+#![tactic(auto, unfolding(crate::specs::Computing::computing))]
 
 ghost use Rattle.tcap_model.specs.Worked.{Works};
 ghost use Rattle.tcap_model.specs.WorkedClosing as worked;

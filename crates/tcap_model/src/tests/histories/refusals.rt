@@ -1,5 +1,5 @@
 //! Limits and refusals.
-#![tactic(auto, using(crate::proofs::RefusalsWork::refusals_work))]
+#![tactic(auto, unfolding(crate::specs::Computing::computing))]
 
 ghost use Rattle.tcap_model.specs.Worked.{Works};
 ghost use Rattle.tcap_model.specs.WorkedRefusals as worked;

@@ -1,5 +1,5 @@
 //! What requests send.
-#![tactic(auto, using(crate::proofs::RequestsWork::requests_work))]
+#![tactic(auto, unfolding(crate::specs::Computing::computing))]
 
 ghost use Rattle.tcap_model.specs.Worked.{Works};
 ghost use Rattle.tcap_model.specs.WorkedRequests as worked;

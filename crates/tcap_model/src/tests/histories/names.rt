@@ -1,5 +1,5 @@
 //! Which dialogues events name.
-#![tactic(auto, using(crate::proofs::NamesWork::names_work))]
+#![tactic(auto, unfolding(crate::specs::Computing::computing))]
 
 ghost use Rattle.tcap_model.specs.WorkedNames.{
   AreAsStated,

@@ -1,5 +1,5 @@
 //! What comes of received bytes.
-#![tactic(auto, using(crate::proofs::ReceptionWorks::reception_works))]
+#![tactic(auto, unfolding(crate::specs::Computing::computing))]
 
 ghost use Rattle.tcap_model.specs.Worked.{Works};
 ghost use Rattle.tcap_model.specs.WorkedReception as worked;

@@ -1,6 +1,7 @@
 //! Two engines, and a Begin that is delivered twice.
-#![tactic(auto, using(crate::proofs::PlayWorks::play_works))]
+#![tactic(auto, unfolding(crate::specs::Computing::computing))]
 
+ghost use Rattle.tcap_model.specs.Net.{IsNet};
 ghost use Rattle.tcap_model.specs.Worked.{Works};
 ghost use Rattle.tcap_model.specs.WorkedPlay as worked;
 
@@ -8,4 +9,5 @@ ghost use Rattle.tcap_model.specs.WorkedPlay as worked;
 pub fn repeated_begin()
     ensures at_the_first { Works worked.repeated_begin_at_the_first }
     ensures at_the_second { Works worked.repeated_begin_at_the_second }
+    ensures in_the_net { IsNet worked.repeated_begin }
 {}

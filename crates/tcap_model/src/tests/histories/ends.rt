@@ -1,5 +1,5 @@
 //! The ways in which an invocation closes.
-#![tactic(auto, using(crate::proofs::EndsWork::ends_work))]
+#![tactic(auto, unfolding(crate::specs::Computing::computing))]
 
 ghost use Rattle.tcap_model.specs.Worked.{Works};
 ghost use Rattle.tcap_model.specs.WorkedEnds as worked;
