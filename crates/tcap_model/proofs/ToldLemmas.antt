@@ -1,5 +1,5 @@
 -- What is told besides a new dialogue: no Send and no TC-BEGIN indication.
-use Rattle.std.proofs.Common.{◌≡◌, ℕ, ℤ, true, false, Bool, List, [], ◌∷◌, ◌++◌, map, filter_map, option_to_list, ◌==◌, ◌&&◌, is_none, Option, Some, None, Result, Ok, Err, if◌then◌else◌, refl, sym, subst, ◌∙◌, inl, inr}
+use Rattle.std.proofs.Common.{ℕ, ℤ, true, false, Bool, List, [], ◌∷◌, ◌++◌, map, filter_map, option_to_list, ◌==◌, ◌&&◌, is_none, Option, Some, None, Result, Ok, Err, if◌then◌else◌}
 use Rattle.std.specs.List.{AllByRecursion, cons_option}
 use Rattle.tcap_pdu.specs.declared.fault.DialogueFault.{DialogueFault}
 use Rattle.tcap_pdu.specs.DialogueReading.{dialogue_at}
@@ -12,13 +12,13 @@ use Rattle.tcap_component.specs.ComponentReading.{components_of}
 use Rattle.tcap_component.specs.Problem.{ProblemParts}
 use Rattle.tcap_invocation.specs.Class.{Received, Consequence, class_rule}
 use Rattle.tcap_model.specs.AbortRules.{is_no_common, response_told, abort_pdu_told, portion_told, abort_told}
-use Rattle.tcap_model.specs.ComponentHandling.{Item, SentInvocation, Handled, subject_of, invoke_handled, result_by, result_handled, error_by, error_handled, reject_by, reject_handled, handled, told_of, uni_told}
+use Rattle.tcap_model.specs.ComponentHandling.{Item, SentInvocation, subject_of, invoke_handled, result_by, result_handled, error_by, error_handled, reject_by, reject_handled, handled, told_of, uni_told}
 use Rattle.tcap_model.specs.Invocation.{Invocation, invocations}
 use Rattle.tcap_model.specs.Outcome.{first_closing}
 use Rattle.tcap_model.specs.Output.{Output, Closing, AbortCause}
 use Rattle.tcap_model.specs.Pair.{Past}
 use Rattle.tcap_model.specs.Queue.{marks_up_to, sent_there, handled_after, handled_in}
-use Rattle.tcap_model.specs.Reply.{ended_of, ended_in, Lapsing, lapse_told, in_order, lapsing_at, lapses}
+use Rattle.tcap_model.specs.Reply.{ended_of, ended_in, Lapsing, lapse_told}
 
 -- neither a Send nor a TC-BEGIN indication
 abbrev pub IsTold : Output → Type 0
@@ -124,8 +124,8 @@ ended-each : (dialogue : ℕ) (past : Past) (components : List Item) (is : List 
 ended-each dialogue past components [] = tt
 ended-each dialogue past components (i ∷ is) =
     if-told (ended_of dialogue past components i) (filter_map (ended_of dialogue past components) is)
-      (ended-of-told ((i.dialogue == dialogue) && is_none (first_closing i.class i.timeout (marks_up_to past components i))) dialogue i)
-      (ended-each dialogue past components is)
+    (ended-of-told ((i.dialogue == dialogue) && is_none (first_closing i.class i.timeout (marks_up_to past components i))) dialogue i)
+    (ended-each dialogue past components is)
 
 pub ended-told : (dialogue : ℕ) (past : Past) (components : List Item) → AreTold (ended_in dialogue past components)
 ended-told dialogue past components = ended-each dialogue past components (invocations past)
