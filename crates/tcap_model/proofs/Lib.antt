@@ -5,6 +5,7 @@ mod ClockLemmas
 mod DrawnLemmas
 mod DueLemmas
 mod LifeLemmas
+mod NamedReceptions
 mod NumberLemmas
 mod NumberedLemmas
 mod PeerLemmas
