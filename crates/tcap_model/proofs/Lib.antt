@@ -9,6 +9,7 @@ mod NamedReceptions
 mod NumberLemmas
 mod NumberedLemmas
 mod PeerLemmas
+mod ReachedReplies
 mod ReceivedMarks
 mod RequestSending
 mod SendingLemmas

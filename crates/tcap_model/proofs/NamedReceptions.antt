@@ -1,5 +1,5 @@
 -- Received bytes reach the live dialogue that they name, and no other.
-use Rattle.std.proofs.Common.{◌≡◌, ℕ, ◌⊎◌, true, false, Bool, eqb, leb, ltb, cond, ◌==◌, ◌||◌, List, [], ◌∷◌, length, nat_lt, nat_le, Option, Some, None, Result, Ok, Err, if◌then◌else◌, refl, sym, ap, subst, ◌∙◌, inl, inr, arith}
+use Rattle.std.proofs.Common.{◌≡◌, ℕ, true, false, Bool, eqb, ◌==◌, ◌||◌, List, [], ◌∷◌, length, nat_lt, nat_le, Option, Some, None, Result, Ok, Err, if◌then◌else◌, refl, sym, ap, subst, ◌∙◌, inl, inr}
 use Rattle.std.proofs.lemmas.Bool.{cases_Bool, eqb-true, eq-eqb, or_cases, or_left, or_right, leb-true, le-ltb, le-leb, ltb-false, true≢false}
 use Rattle.tcap_pdu.specs.declared.fault.FrameFault.{FrameFault}
 use Rattle.tcap_pdu.specs.FrameReading.{frame_at}
@@ -7,7 +7,7 @@ use Rattle.tcap_pdu.specs.FrameSpelling.{Message}
 use Rattle.tcap_pdu.specs.FrameWritten.{message_limit}
 use Rattle.tcap_pdu.specs.Front.{front_at}
 use Rattle.tcap_model.specs.AbortRules.{fault_cause}
-use Rattle.tcap_model.specs.Destination.{destination, begins_addressed, destination_by, destination_of}
+use Rattle.tcap_model.specs.Destination.{destination, begins_addressed, destination_by}
 use Rattle.tcap_model.specs.Event.{Event}
 use Rattle.tcap_model.specs.LocalId.{dialogue_named, is_that}
 use Rattle.tcap_model.specs.Names.{is_destined, named_within, names}
@@ -37,6 +37,7 @@ live-destined live dialogue (Some octets) e = by-named (dialogue_named octets) e
           (eq-eqb d dialogue same, subst (λ (n : ℕ). live n ≡ true) same lives)
       | inr not ↦ let e = e in let none : None ≡ Some dialogue = rw not at e in absurd cc
     ]
+
     by-named : (named : Option ℕ) → live_named live named ≡ Some dialogue → (is_that dialogue named ≡ true) × (live dialogue ≡ true)
     by-named None e = absurd cc
     by-named (Some d) e = by-live d e
@@ -172,10 +173,10 @@ module _ (live : ℕ → Bool) (first : ℕ) (bytes : List ℕ) (f : FrameFault)
       let c = first == 0x67 in
       let either = either-named live (first ∷ bytes) short in
       either (first == 0x61) _ _ (λ y. tt)
-        (λ n. either a _ _ (λ y. broken-last (or_left (a || b) c (or_left a b y)) (addressed_if_any live to) refl)
-          (λ n. either b _ _ (λ y. broken-continue (or_left (a || b) c (or_right a b y)) abort (addressed_if_any live to) refl)
-            (λ n. either c _ _ (λ y. broken-last (or_right (a || b) c y) (addressed_if_any live to) refl)
-              (λ n. aborted-named live (first ∷ bytes) abort))))
+      (λ n. either a _ _ (λ y. broken-last (or_left (a || b) c (or_left a b y)) (addressed_if_any live to) refl)
+      (λ n. either b _ _ (λ y. broken-continue (or_left (a || b) c (or_right a b y)) abort (addressed_if_any live to) refl)
+      (λ n. either c _ _ (λ y. broken-last (or_right (a || b) c y) (addressed_if_any live to) refl)
+      (λ n. aborted-named live (first ∷ bytes) abort))))
 
 faulty-named : (live : ℕ → Bool) (bytes : List ℕ) (f : FrameFault) → nat_le (length bytes) message_limit ≡ true → frame_at bytes ≡ Err f → IsNamed live bytes (faulty live bytes f)
 faulty-named live [] f short fails = tt

@@ -40,6 +40,14 @@ pub spelled-names : (dialogue : ℕ) (m : Message) (bytes : List ℕ) → Spells
 spelled-names dialogue m bytes spelled within =
     rw (le-leb (length bytes) message_limit within) (ap (λ (read : Result Message FrameFault). is_destined dialogue (destination_by bytes read)) (frame_again m bytes spelled))
 
+-- a message without destination names none
+pub unaddressed : (dialogue : ℕ) (bytes : List ℕ) → names (Event.received bytes) dialogue ≡ true → (m : Message) → frame_at bytes ≡ Ok m → destination m ≡ None → ⊥
+unaddressed dialogue bytes names_it m e none = by (nat_le (length bytes) message_limit) names_it
+  where
+    by : (within : Bool) → named_within within dialogue bytes ≡ true → ⊥
+    by false named = true≢false (sym named)
+    by true named = true≢false (sym named ∙ rw (e, none) refl)
+
 -- ---- messages
 
 module _ (dialogue : ℕ) (id : ℤ) (state : State) (context : Option (List ℕ)) (bytes : List ℕ) (pair : Pair) (past : Past) (reaches : Reaches dialogue state context bytes pair past) where
@@ -77,13 +85,6 @@ module _ (dialogue : ℕ) (id : ℤ) (state : State) (context : Option (List ℕ
   by-verdict portion (PortionVerdict.normal told info) e normal abnormal = normal (told, info, e)
   by-verdict portion PortionVerdict.abnormal e normal abnormal = abnormal e
 
-  addressed : (m : Message) → frame_at bytes ≡ Ok m → destination m ≡ None → ⊥
-  addressed m e none = unnamed (nat_le (length bytes) message_limit) reaches.names_it
-    where
-      unnamed : (within : Bool) → named_within within dialogue bytes ≡ true → ⊥
-      unnamed false named = true≢false (sym named)
-      unnamed true named = true≢false (sym named ∙ rw (e, none) refl)
-
   pub reached-means : (read : Result Message FrameFault) → frame_at bytes ≡ read → (made : List Mark) × Means state context id bytes made
   reached-means (Ok (Message.go_on origin to portion content)) e =
       let spelled = frame_takes bytes (Message.go_on origin to portion content) e in
@@ -98,6 +99,6 @@ module _ (dialogue : ℕ) (id : ℤ) (state : State) (context : Option (List ℕ
       (λ normal. (marks_of_components id first.0 ++ Mark.end ∷ [], ended to portion content first.0 first.1 spelled normal first.2))
       (λ abnormal. (Mark.end ∷ [], ended_abnormally to portion content spelled abnormal))
   reached-means (Ok (Message.abort to reason)) e = (Mark.end ∷ [], aborted to reason (frame_takes bytes (Message.abort to reason) e))
-  reached-means (Ok (Message.unidirectional portion content)) e = absurd (addressed (Message.unidirectional portion content) e refl)
-  reached-means (Ok (Message.begin origin portion content)) e = absurd (addressed (Message.begin origin portion content) e refl)
+  reached-means (Ok (Message.unidirectional portion content)) e = absurd (unaddressed dialogue bytes reaches.names_it (Message.unidirectional portion content) e refl)
+  reached-means (Ok (Message.begin origin portion content)) e = absurd (unaddressed dialogue bytes reaches.names_it (Message.begin origin portion content) e refl)
   reached-means (Err f) e = (Mark.end ∷ [], faulty f (frame_fails bytes f e))
