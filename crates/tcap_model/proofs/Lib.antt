@@ -17,6 +17,7 @@ mod FormedRejects
 mod HeadlineWorks
 mod LatestInvocations
 mod LifeLemmas
+mod NamedReceptions
 mod NamesWork
 mod NetsWork
 mod NumberLemmas
@@ -24,9 +25,8 @@ mod NumberedLemmas
 mod PeerLemmas
 mod PlaceLemmas
 mod PlayWorks
+mod ReachedReplies
 mod ReceivedMarks
-mod ReceptionWorks
-mod RefusalsWork
 mod RequestSending
 pub mod RequestsAgree
 mod RequestsWork
