@@ -7,7 +7,9 @@ mod LatestInvocations
 mod SentClocks
 mod SpanSteps
 mod SupersededInvocations
+mod ToldComponents
 mod ToldInvocations
 mod ToldOutputs
+mod ToldParts
 mod WrongAnswersGiven
 mod WrongEndsTold
