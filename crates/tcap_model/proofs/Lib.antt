@@ -4,6 +4,7 @@ mod DecisionSteps
 mod DrawnInvocations
 mod EarlierMoments
 mod LatestInvocations
+mod QuietDialogues
 mod SentClocks
 mod SpanSteps
 mod SupersededInvocations
@@ -11,5 +12,6 @@ mod ToldComponents
 mod ToldInvocations
 mod ToldOutputs
 mod ToldParts
+mod ToldReceptions
 mod WrongAnswersGiven
 mod WrongEndsTold
