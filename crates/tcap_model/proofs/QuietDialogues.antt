@@ -2,7 +2,7 @@
 use Rattle.std.proofs.Common.{◌≡◌, ℕ, ℤ, ◌==◌, Bool, true, false, cond, List, [], ◌∷◌, ◌++◌, Option, Some, None, Result, Ok, Err, refl, ap, sym, ◌∙◌}
 use Rattle.std.specs.Prelude.{option_to_list}
 use Rattle.tcap_component.specs.ComponentReading.{components_of}
-use Rattle.tcap_model.proofs.ToldComponents.{components_other}
+use Rattle.tcap_model.proofs.ComponentTellings.{components_other}
 use Rattle.tcap_model.proofs.ToldOutputs.{told, told-append, IsOther, sent_silent, abort_silent}
 use Rattle.tcap_model.specs.AbortRules.{sent_if_any, abort_told}
 use Rattle.tcap_model.specs.Answer.{Answer}

@@ -15,7 +15,7 @@ use Rattle.tcap_invocation.specs.Class.{Received, class_rule}
 use Rattle.tcap_model.proofs.BornDialogues.{noted_at}
 use Rattle.tcap_model.proofs.DecisionSteps.{closing_after-append, first_closing-append, number_found}
 use Rattle.tcap_model.proofs.LatestInvocations.{IsLatest, latest_is}
-use Rattle.tcap_model.proofs.ToldComponents.{EndsAtFault, AreGood, ends_at_fault, good_more, marks-append, noted-append, unless, unless_nothing, RejectTells, general_class, invoke_class, last_here, more_here, error_here, reject_here}
+use Rattle.tcap_model.proofs.ComponentTellings.{EndsAtFault, AreGood, ends_at_fault, good_more, marks-append, noted-append, unless, unless_nothing, RejectTells, general_class, invoke_class, last_here, more_here, error_here, reject_here}
 use Rattle.tcap_model.proofs.ToldOutputs.{told, IsOther, handled_other, invoke_silent}
 use Rattle.tcap_model.specs.Clock.{clock}
 use Rattle.tcap_model.specs.Closes.{closing_of}
