@@ -10,6 +10,7 @@ mod EarlierMoments
 mod LatestInvocations
 mod LifeLemmas
 mod QuietDialogues
+mod QuietNumbers
 mod SendingLemmas
 mod SentClocks
 mod SoundReceptions

@@ -64,30 +64,36 @@ in_turn place i (Some c) x y first rest p q = rw (p, q) refl
 in_turn place i None (Some c) y first rest p q = rw (p, q) refl
 in_turn place i None None y first rest p q = rw (p, q) refl
 
+-- an invocation of another number, where it is Sent
+pub sent_other : (n : ℕ) (past : Past) (earlier : List Item) (o : Option Invocation) → ((j : Invocation) → o ≡ Some j → (j.number == n) ≡ false) → IsOther n (if_sent past earlier o)
+sent_other n past earlier None other s e = absurd cc
+sent_other n past earlier (Some j) other s e = go (is_sent_in j.class j.timeout (marks_up_to past earlier j)) e
+  where
+    go : (b : Bool) → cond b (Some (record { dialogue = j.dialogue; number = j.number; class = j.class })) None ≡ Some s → (s.number == n) ≡ false
+    go false e = absurd cc
+    go true e =
+        let same : record { dialogue = j.dialogue; number = j.number; class = j.class } ≡ s = cc in
+        ap (λ (s : SentInvocation). s.number == n) (sym same) ∙ other j refl
+
 module _ (start : Start) (past place : Past) (n : ℕ) (i : Invocation) (legal : AreReplies start past) (found : invocation_of n past ≡ Some i) where
   pub own : (i.number == n) ≡ true
   own = let same : i.number ≡ n = number_found n past i found in grind (arith, nat_tests)
 
-  -- only the identifier of the invocation, in its dialogue, can have it as the latest
-  pub other_there : (dialogue : ℕ) (id : ℤ) (earlier : List Item) → (i.dialogue ≡ dialogue → i.id ≡ id → ⊥) → IsOther n (if_sent past earlier (latest dialogue id past))
-  other_there dialogue id earlier apart s e = go (latest dialogue id past) refl e
+  -- only the identifier of the invocation, in its dialogue, has it as the latest
+  pub other_latest : (dialogue : ℕ) (id : ℤ) → (i.dialogue ≡ dialogue → i.id ≡ id → ⊥) → (j : Invocation) → latest dialogue id past ≡ Some j → (j.number == n) ≡ false
+  other_latest dialogue id apart j p = go (j.number == n) refl
     where
-      other : (j : Invocation) (b : Bool) → latest dialogue id past ≡ Some j → (j.number == n) ≡ b → (j.number == n) ≡ false
-      other j false p q = q
-      other j true p q =
+      go : (b : Bool) → (j.number == n) ≡ b → (j.number == n) ≡ false
+      go false q = q
+      go true q =
           let l : IsLatest dialogue id past j = latest_is start past dialogue id j legal p in
           let number : j.number ≡ n = grind (arith, nat_tests) in
           let there : invocation_of n past ≡ Some j = ap (λ m. invocation_of m past) (sym number) ∙ l.is_found in
           let same : i ≡ j = cc in
           absurd (apart (ap (λ (k : Invocation). k.dialogue) same ∙ l.dialogue_is) (ap (λ (k : Invocation). k.id) same ∙ l.id_is))
-      sent : (j : Invocation) (b : Bool) → latest dialogue id past ≡ Some j → cond b (Some (record { dialogue = j.dialogue; number = j.number; class = j.class })) None ≡ Some s → (s.number == n) ≡ false
-      sent j false p e = absurd cc
-      sent j true p e =
-          let same : record { dialogue = j.dialogue; number = j.number; class = j.class } ≡ s = cc in
-          ap (λ (s : SentInvocation). s.number == n) (sym same) ∙ other j (j.number == n) p refl
-      go : (o : Option Invocation) → latest dialogue id past ≡ o → if_sent past earlier o ≡ Some s → (s.number == n) ≡ false
-      go None p e = absurd cc
-      go (Some j) p e = sent j (is_sent_in j.class j.timeout (marks_up_to past earlier j)) p e
+
+  pub other_there : (dialogue : ℕ) (id : ℤ) (earlier : List Item) → (i.dialogue ≡ dialogue → i.id ≡ id → ⊥) → IsOther n (if_sent past earlier (latest dialogue id past))
+  other_there dialogue id earlier apart = sent_other n past earlier (latest dialogue id past) (λ j p. other_latest dialogue id apart j p)
 
   module _ (here : latest i.dialogue i.id past ≡ Some i) where
     abbrev closed_before : List Item → Option Closing
