@@ -7,8 +7,10 @@ mod DecisionSteps
 mod DrawnInvocations
 mod DrawnLemmas
 mod EarlierMoments
+mod EventMarks
 mod LatestInvocations
 mod LifeLemmas
+mod OpenNumbers
 mod QuietDialogues
 mod QuietNumbers
 mod SendingLemmas
