@@ -4,6 +4,7 @@ mod BornDialogues
 mod BornLemmas
 mod ClockLemmas
 mod ClosingWorks
+mod ComponentTellings
 mod Computing
 mod DecisionSteps
 mod DrawnInvocations
@@ -13,6 +14,7 @@ mod EarlierMoments
 mod EndPremises
 pub mod EndingsAgree
 mod EndsWork
+mod EventMarks
 mod FormedRejects
 mod HeadlineWorks
 mod LatestInvocations
@@ -22,9 +24,12 @@ mod NamesWork
 mod NetsWork
 mod NumberLemmas
 mod NumberedLemmas
+mod OpenNumbers
 mod PeerLemmas
 mod PlaceLemmas
 mod PlayWorks
+mod QuietDialogues
+mod QuietNumbers
 mod ReachedReplies
 mod ReceivedMarks
 mod RequestSending
@@ -43,5 +48,7 @@ mod ToldFrom
 mod ToldInvocations
 mod ToldLemmas
 mod ToldOutputs
+mod ToldParts
+mod ToldReceptions
 mod WrongAnswersGiven
 mod WrongEndsTold
