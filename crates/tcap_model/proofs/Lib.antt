@@ -12,7 +12,9 @@ mod DrawnLemmas
 mod DueLemmas
 mod EarlierMoments
 mod EndPremises
+mod EndingsAgree
 pub mod EndingsAgree
+mod EndsAgree
 mod EndsWork
 mod EventMarks
 mod FormedRejects
@@ -33,10 +35,11 @@ mod QuietNumbers
 mod ReachedReplies
 mod ReceivedMarks
 mod RequestSending
-pub mod RequestsAgree
-mod RequestsWork
-pub mod RowsAgree
+mod RequestsAgree
+mod RowsAgree
+mod RowsApart
 mod SendingLemmas
+mod SentAgree
 mod SentClocks
 mod SentLemmas
 mod SoundReceptions
