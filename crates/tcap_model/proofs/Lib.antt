@@ -4,6 +4,8 @@ mod BornDialogues
 mod BornLemmas
 mod ClockLemmas
 mod ClosingWorks
+mod ComponentPremises
+mod ComponentsWork
 mod Computing
 mod DecisionSteps
 mod DrawnInvocations
@@ -11,7 +13,6 @@ mod DrawnLemmas
 mod DueLemmas
 mod EarlierMoments
 mod EndPremises
-pub mod EndingsAgree
 mod EndsWork
 mod FormedRejects
 mod HeadlineWorks
@@ -28,9 +29,7 @@ mod ReceivedMarks
 mod ReceptionWorks
 mod RefusalsWork
 mod RequestSending
-pub mod RequestsAgree
 mod RequestsWork
-pub mod RowsAgree
 mod SendingLemmas
 mod SentClocks
 mod SentLemmas
@@ -45,3 +44,6 @@ mod ToldLemmas
 mod ToldOutputs
 mod WrongAnswersGiven
 mod WrongEndsTold
+pub mod EndingsAgree
+pub mod RequestsAgree
+pub mod RowsAgree

@@ -61,6 +61,7 @@ pub mod TwoEnds
 pub mod WalkedHistories
 pub mod Worked
 pub mod WorkedClosing
+pub mod WorkedComponents
 pub mod WorkedEnds
 pub mod WorkedLoss
 pub mod WorkedNames

@@ -8,6 +8,7 @@ mod nets;
 mod receptions;
 mod refusals;
 mod statements;
+mod statements_of_components;
 mod worlds;
 
 use aborts::{
