@@ -3,33 +3,29 @@ mod BirthLemmas
 mod BornDialogues
 mod BornLemmas
 mod ClockLemmas
-mod ClosingWorks
 mod ComponentPremises
 mod ComponentsWork
-mod Computing
 mod DecisionSteps
 mod DrawnInvocations
 mod DrawnLemmas
 mod DueLemmas
 mod EarlierMoments
 mod EndPremises
-mod EndsWork
+pub mod EndingsAgree
 mod FormedRejects
 mod HeadlineWorks
+mod IsolationWorks
 mod LatestInvocations
 mod LifeLemmas
-mod NamesWork
 mod NetsWork
 mod NumberLemmas
 mod NumberedLemmas
 mod PeerLemmas
 mod PlaceLemmas
-mod PlayWorks
 mod ReceivedMarks
-mod ReceptionWorks
-mod RefusalsWork
 mod RequestSending
-mod RequestsWork
+pub mod RequestsAgree
+pub mod RowsAgree
 mod SendingLemmas
 mod SentClocks
 mod SentLemmas
@@ -44,6 +40,3 @@ mod ToldLemmas
 mod ToldOutputs
 mod WrongAnswersGiven
 mod WrongEndsTold
-pub mod EndingsAgree
-pub mod RequestsAgree
-pub mod RowsAgree

@@ -63,6 +63,7 @@ pub mod Worked
 pub mod WorkedClosing
 pub mod WorkedComponents
 pub mod WorkedEnds
+pub mod WorkedIsolation
 pub mod WorkedLoss
 pub mod WorkedNames
 pub mod WorkedNets

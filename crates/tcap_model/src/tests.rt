@@ -9,6 +9,7 @@ mod receptions;
 mod refusals;
 mod statements;
 mod statements_of_components;
+mod statements_of_isolation;
 mod worlds;
 
 use aborts::{
