@@ -4,7 +4,9 @@ mod BornDialogues
 mod BornLemmas
 mod ClockLemmas
 mod ClosingWorks
+mod ComponentPremises
 mod ComponentTellings
+mod ComponentsWork
 mod Computing
 mod DecisionSteps
 mod DrawnInvocations
@@ -12,13 +14,14 @@ mod DrawnLemmas
 mod DueLemmas
 mod EarlierMoments
 mod EndPremises
-mod EndingsAgree
 pub mod EndingsAgree
+mod EndingsAgree
 mod EndsAgree
 mod EndsWork
 mod EventMarks
 mod FormedRejects
 mod HeadlineWorks
+mod IsolationWorks
 mod LatestInvocations
 mod LifeLemmas
 mod NamedReceptions
@@ -36,7 +39,9 @@ mod ReachedReplies
 mod ReceivedMarks
 mod RequestSending
 mod RequestsAgree
+pub mod RequestsAgree
 mod RowsAgree
+pub mod RowsAgree
 mod RowsApart
 mod SendingLemmas
 mod SentAgree
