@@ -3,11 +3,9 @@ mod BirthLemmas
 mod BornDialogues
 mod BornLemmas
 mod ClockLemmas
-mod ClosingWorks
 mod ComponentPremises
 mod ComponentTellings
 mod ComponentsWork
-mod Computing
 mod DecisionSteps
 mod DrawnInvocations
 mod DrawnLemmas
@@ -15,9 +13,7 @@ mod DueLemmas
 mod EarlierMoments
 mod EndPremises
 pub mod EndingsAgree
-mod EndingsAgree
 mod EndsAgree
-mod EndsWork
 mod EventMarks
 mod FormedRejects
 mod HeadlineWorks
@@ -25,22 +21,18 @@ mod IsolationWorks
 mod LatestInvocations
 mod LifeLemmas
 mod NamedReceptions
-mod NamesWork
 mod NetsWork
 mod NumberLemmas
 mod NumberedLemmas
 mod OpenNumbers
 mod PeerLemmas
 mod PlaceLemmas
-mod PlayWorks
 mod QuietDialogues
 mod QuietNumbers
 mod ReachedReplies
 mod ReceivedMarks
 mod RequestSending
-mod RequestsAgree
 pub mod RequestsAgree
-mod RowsAgree
 pub mod RowsAgree
 mod RowsApart
 mod SendingLemmas

@@ -49,7 +49,6 @@ pub mod Refused
 pub mod Reply
 pub mod Request
 pub mod RequestMessage
-pub mod SentMessage
 pub mod Reuse
 pub mod SentMessage
 pub mod Span
