@@ -1,4 +1,5 @@
-use Rattle.tcap_model.proofs.FormedRejects.{handled_in-formed, reject-can}
+use Rattle.tcap_model.proofs.RequestedComponents.{request-good}
+use Rattle.tcap_model.proofs.KeptQueues.{rejects-kept}
 use Rattle.tcap_model.proofs.laws.components.sent_from.Goals as goal
 
 pub returns : goal.returns

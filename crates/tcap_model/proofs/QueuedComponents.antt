@@ -1,0 +1,2 @@
+-- The queue at each place of a legal history.
+use Rattle.std.proofs.Common.{◌≡◌}

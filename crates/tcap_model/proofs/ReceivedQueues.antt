@@ -1,0 +1,2 @@
+-- The queue after received bytes.
+use Rattle.std.proofs.Common.{◌≡◌}
