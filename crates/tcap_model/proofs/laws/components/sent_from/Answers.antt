@@ -1,5 +1,4 @@
-use Rattle.tcap_model.proofs.RequestedComponents.{request-good}
-use Rattle.tcap_model.proofs.KeptQueues.{rejects-kept}
+use Rattle.tcap_model.proofs.QueuedComponents.{queue-kept}
 use Rattle.tcap_model.proofs.laws.components.sent_from.Goals as goal
 
 pub returns : goal.returns
