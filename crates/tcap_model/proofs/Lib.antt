@@ -27,6 +27,7 @@ mod RequestedComponents
 mod RequestsWork
 mod SendingLemmas
 mod SentClocks
+mod SentComponents
 mod SentLemmas
 mod SoundReceptions
 mod SpanSteps
