@@ -1,13 +1,12 @@
 -- What waits in a queue comes from its dialogue, and can be written.
-use Rattle.std.proofs.Common.{◌≡◌, ℕ, ◌<◌, ◌≤◌, true, false, Bool, not, List, [], ◌∷◌, ◌++◌, map, flat_map, filter, option_to_list, length, Option, Some, None, if◌then◌else◌, refl, sym, ap, subst, ◌∙◌, inl, inr, append_assoc}
+use Rattle.std.proofs.Common.{◌≡◌, ℕ, Bool, not, List, [], ◌∷◌, ◌++◌, map, flat_map, filter, option_to_list, Option, Some, None, refl, sym, ap, subst, ◌∙◌, inl, inr, append_assoc}
 use Rattle.std.specs.List.{AllByRecursion}
 use Rattle.std.proofs.lemmas.Bool.{cases_Bool}
 use Rattle.tcap_component.specs.Component.{ComponentParts, InRange}
-use Rattle.tcap_component.specs.Component.ComponentParts.{reject_back}
 use Rattle.tcap_component.specs.Written.{written_component, CanWriteComponent}
 use Rattle.tcap_model.specs.Answer.{Answer}
 use Rattle.tcap_model.specs.ComponentHandling.{Handled, told_of}
-use Rattle.tcap_model.specs.ComponentLaws.{WasRequested, WasFormed, ComesFrom}
+use Rattle.tcap_model.specs.ComponentLaws.{ComesFrom}
 use Rattle.tcap_model.specs.Event.{Event}
 use Rattle.tcap_model.specs.Output.{Output}
 use Rattle.tcap_model.specs.Pair.{Pair, Past}
@@ -129,6 +128,6 @@ module _ (dialogue : ℕ) (bytes : List ℕ) (answer : Answer) (past : Past) whe
   rejects-kept [] earlier later is formed = tt
   rejects-kept (h ∷ hs) earlier later is formed =
       first-kept h.told h.reject (flat_map (λ (x : Handled). option_to_list x.reject) hs)
-        (record { earlier = earlier; later = told_of hs ++ later; is_answer = is })
-        formed.0
-        (rejects-kept hs (earlier ++ h.told ∷ []) later (is ∙ ap (λ (w : List Output). Answer.outputs w) (sym (append_assoc earlier (h.told ∷ []) (told_of hs ++ later)))) formed.1)
+      (record { earlier = earlier; later = told_of hs ++ later; is_answer = is })
+      formed.0
+      (rejects-kept hs (earlier ++ h.told ∷ []) later (is ∙ ap (λ (w : List Output). Answer.outputs w) (sym (append_assoc earlier (h.told ∷ []) (told_of hs ++ later)))) formed.1)

@@ -1,7 +1,7 @@
 -- The queue at each place of a legal history: each component in it comes from its dialogue.
-use Rattle.std.proofs.Common.{◌≡◌, ℕ, true, false, Bool, eqb, ◌==◌, List, [], ◌∷◌, ◌++◌, option_to_list, Option, Some, None, if◌then◌else◌, refl, sym, ap, subst, ◌∙◌, inl, inr, IsTrue, arith}
+use Rattle.std.proofs.Common.{◌≡◌, ℕ, true, false, Bool, ◌==◌, List, [], ◌∷◌, ◌++◌, Option, Some, None, if◌then◌else◌, refl, sym, ap, subst, ◌∙◌, inl, IsTrue, arith}
 use Rattle.std.specs.List.{AllByRecursion}
-use Rattle.std.proofs.lemmas.Bool.{cases_Bool, and_parts, eqb-true}
+use Rattle.std.proofs.lemmas.Bool.{and_parts, eqb-true}
 use Rattle.tcap_component.specs.Component.{ComponentParts, InRange}
 use Rattle.tcap_component.specs.Component.ComponentParts.{invoke, result_last, error_back, reject_back, result_more}
 use Rattle.tcap_component.specs.Written.{CanWriteComponent}
@@ -78,7 +78,7 @@ cancelled P (Answer.outputs outputs) queue kept = kept
 cancelled P (Answer.refused fault) queue kept = kept
 
 by-request : (dialogue : ℕ) (request : Request) (answer : Answer) (past : Past) (queue : List Queued) → is_accepted answer ≡ true → IfGood (component_of request) →
-  AllKept dialogue (record { event = Event.on_dialogue dialogue request; answer = answer } ∷ past) queue → AllKept dialogue (record { event = Event.on_dialogue dialogue request; answer = answer } ∷ past) (queue_by_request queue request answer)
+    AllKept dialogue (record { event = Event.on_dialogue dialogue request; answer = answer } ∷ past) queue → AllKept dialogue (record { event = Event.on_dialogue dialogue request; answer = answer } ∷ past) (queue_by_request queue request answer)
 by-request dialogue (Request.invoke id class code parameter linked timeout) answer past queue accepted good kept =
     let r : Request = Request.invoke id class code parameter linked timeout in
     appended dialogue r answer past accepted queue (invoking_of (number_in answer) r) (invoke id linked code parameter) refl good kept
@@ -95,8 +95,8 @@ by-request dialogue (Request.finish Ending.prearranged context info) answer past
 by-request dialogue (Request.u_abort why info) answer past queue accepted good kept = kept
 
 if-accepted : (h : History) (dialogue : ℕ) (request : Request) (answer : Answer) (queue : List Queued) → IsTrue (is_request request) → answer ≡ reply h (Event.on_dialogue dialogue request) →
-  AllKept dialogue (record { event = Event.on_dialogue dialogue request; answer = answer } ∷ h.pairs) queue → (accepted : Bool) → is_accepted answer ≡ accepted →
-  AllKept dialogue (record { event = Event.on_dialogue dialogue request; answer = answer } ∷ h.pairs) (queue_if_accepted accepted queue request answer)
+    AllKept dialogue (record { event = Event.on_dialogue dialogue request; answer = answer } ∷ h.pairs) queue → (accepted : Bool) → is_accepted answer ≡ accepted →
+    AllKept dialogue (record { event = Event.on_dialogue dialogue request; answer = answer } ∷ h.pairs) (queue_if_accepted accepted queue request answer)
 if-accepted h dialogue request answer queue is is_reply kept false e = kept
 if-accepted h dialogue request answer queue is is_reply kept true e =
     by-request dialogue request answer h.pairs queue e (accepted-good h dialogue request is (subst (λ (a : Answer). is_accepted a ≡ true) is_reply e)) kept
@@ -108,7 +108,7 @@ either P true x y p q = p refl
 either P false x y p q = q
 
 after-pair : (h : History) (dialogue : ℕ) (event : Event) (answer : Answer) → IsTrue (is_in_range event) → answer ≡ reply h event → AllKept dialogue h.pairs (queue dialogue h.pairs) →
-  AllKept dialogue (record { event = event; answer = answer } ∷ h.pairs) (queue_after dialogue h.pairs (queue dialogue h.pairs) (record { event = event; answer = answer }))
+    AllKept dialogue (record { event = event; answer = answer } ∷ h.pairs) (queue_after dialogue h.pairs (queue dialogue h.pairs) (record { event = event; answer = answer }))
 after-pair h dialogue Event.new_dialogue answer range is kept =
     let here : Pair = record { event = Event.new_dialogue; answer = answer } in
     let waits = queue dialogue h.pairs in
@@ -121,17 +121,17 @@ after-pair h dialogue (Event.received bytes) answer range is kept =
     let waits = queue dialogue h.pairs in
     let before = kept-later dialogue here h.pairs waits kept in
     either (IsKept dialogue (here ∷ h.pairs)) (is_birth_of dialogue here) (queue_born dialogue h.pairs (Event.received bytes)) (if names (Event.received bytes) dialogue then queue_by_event dialogue h.pairs waits (Event.received bytes) answer else waits)
-      (λ birth. born-queue h dialogue bytes answer is birth)
-      (either (IsKept dialogue (here ∷ h.pairs)) (names (Event.received bytes) dialogue) (queue_by_event dialogue h.pairs waits (Event.received bytes) answer) waits
-        (λ named. named-queue h dialogue bytes answer is waits named before (life dialogue h.pairs) refl) before)
+    (λ birth. born-queue h dialogue bytes answer is birth)
+    (either (IsKept dialogue (here ∷ h.pairs)) (names (Event.received bytes) dialogue) (queue_by_event dialogue h.pairs waits (Event.received bytes) answer) waits
+    (λ named. named-queue h dialogue bytes answer is waits named before (life dialogue h.pairs) refl) before)
 after-pair h dialogue (Event.on_dialogue asked request) answer range is kept =
     let here : Pair = record { event = Event.on_dialogue asked request; answer = answer } in
     let waits = queue dialogue h.pairs in
     let before = kept-later dialogue here h.pairs waits kept in
     either (IsKept dialogue (here ∷ h.pairs)) (asked == dialogue) (queue_if_accepted (is_accepted answer) waits request answer) waits
-      (λ same. subst (λ (d : ℕ). AllKept d (here ∷ h.pairs) waits → AllKept d (here ∷ h.pairs) (queue_if_accepted (is_accepted answer) waits request answer)) (eqb-true asked dialogue same)
-        (λ all. if-accepted h asked request answer waits (and_parts (is_short asked) (is_request request) range).1 is all (is_accepted answer) refl) before)
-      before
+    (λ same. subst (λ (d : ℕ). AllKept d (here ∷ h.pairs) waits → AllKept d (here ∷ h.pairs) (queue_if_accepted (is_accepted answer) waits request answer)) (eqb-true asked dialogue same)
+    (λ all. if-accepted h asked request answer waits (and_parts (is_short asked) (is_request request) range).1 is all (is_accepted answer) refl) before)
+    before
 
 pub queue-kept : (start : Start) (dialogue : ℕ) (past : Past) → AreReplies start past → AllKept dialogue past (queue dialogue past)
 queue-kept start dialogue [] legal = tt

@@ -1,6 +1,6 @@
 -- The queue after received bytes: what they add are Rejects that were formed.
-use Rattle.std.proofs.Common.{◌≡◌, ℕ, true, false, Bool, nat_le, nat_lt, List, [], ◌∷◌, ◌++◌, length, is_some, Option, Some, None, Result, Ok, Err, if◌then◌else◌, refl, sym, ap, subst, ◌∙◌, inl, inr, append-nil, arith}
-use Rattle.std.proofs.lemmas.Bool.{cases_Bool, eqb-true, leb-true, le-ltb}
+use Rattle.std.proofs.Common.{◌≡◌, ℕ, true, false, Bool, nat_le, nat_lt, List, [], ◌∷◌, length, is_some, Option, Some, None, Result, Ok, Err, if◌then◌else◌, refl, sym, ap, subst, ◌∙◌, append-nil}
+use Rattle.std.proofs.lemmas.Bool.{eqb-true, leb-true, le-ltb}
 use Rattle.tcap_pdu.specs.declared.fault.FrameFault.{FrameFault}
 use Rattle.tcap_pdu.specs.FrameReading.{frame_at}
 use Rattle.tcap_pdu.specs.FrameSpelling.{Message}
@@ -17,12 +17,12 @@ use Rattle.tcap_model.specs.Life.{Life, life, live_in}
 use Rattle.tcap_model.specs.LocalId.{dialogue_named, is_that}
 use Rattle.tcap_model.specs.Names.{names, is_destined, named_within}
 use Rattle.tcap_model.specs.Output.{Output, DropCause}
-use Rattle.tcap_model.specs.Pair.{Pair, Past}
+use Rattle.tcap_model.specs.Pair.{Pair}
 use Rattle.tcap_model.specs.PortionRules.{BeginVerdict, begin_verdict, PortionVerdict, portion_verdict}
 use Rattle.tcap_model.specs.Queue.{handled_in, rejects_of, queue_by_verdict, queue_by_message, queue_at_birth, queue_by_bytes}
 use Rattle.tcap_model.specs.QueueRules.{Queued, queue_limit, queue_each}
 use Rattle.tcap_model.specs.Reception.{Reception, live_named, addressed, begin_by, continue_by, reading_by, reception}
-use Rattle.tcap_model.specs.Reply.{reply, reception_outputs, taken_outputs, message_outputs, continue_outputs}
+use Rattle.tcap_model.specs.Reply.{reply, reception_outputs, taken_outputs, continue_outputs}
 use Rattle.tcap_model.specs.State.{State, is_live}
 use Rattle.tcap_model.proofs.FormedRejects.{handled_in-formed}
 use Rattle.tcap_model.proofs.KeptQueues.{IsKept, AllKept, rejects-kept, queue_each-each}
@@ -49,7 +49,7 @@ module _ (h : History) (dialogue : ℕ) (bytes : List ℕ) (answer : Answer) (is
   told-keeps first components queue is kept =
       let hs = handled_in dialogue h.pairs components in
       queue_each-each (IsKept dialogue (here ∷ h.pairs)) queue_limit queue (rejects_of hs) kept
-        (rejects-kept dialogue bytes answer h.pairs hs (first ∷ []) [] (is ∙ ap (λ (w : List Output). Answer.outputs (first ∷ w)) (sym (append-nil (told_of hs)))) (handled_in-formed dialogue h.pairs components))
+      (rejects-kept dialogue bytes answer h.pairs hs (first ∷ []) [] (is ∙ ap (λ (w : List Output). Answer.outputs (first ∷ w)) (sym (append-nil (told_of hs)))) (handled_in-formed dialogue h.pairs components))
 
   -- ---- a Begin
 
@@ -63,12 +63,12 @@ module _ (h : History) (dialogue : ℕ) (bytes : List ℕ) (answer : Answer) (is
   born-keeps origin context info components birth is =
       let same = eqb-true (next_dialogue h) dialogue birth in
       told-keeps (Output.begin (next_dialogue h) context info) components []
-        (is ∙ ap (λ (d : ℕ). Answer.outputs (Output.begin (next_dialogue h) context info ∷ told_of (handled_in d h.pairs components))) same) tt
+      (is ∙ ap (λ (d : ℕ). Answer.outputs (Output.begin (next_dialogue h) context info ∷ told_of (handled_in d h.pairs components))) same) tt
 
   begin-keeps : (long full' : Bool) (verdict : BeginVerdict) (origin : List ℕ) (portion : Option (List ℕ)) (components : List ℕ) →
-    IsBirth (if long then Reception.dropped DropCause.too_long else (if full' then Reception.aborted (abort_with resource_limitation origin) else begin_by verdict origin components)) →
-    IsAnswer (if long then Reception.dropped DropCause.too_long else (if full' then Reception.aborted (abort_with resource_limitation origin) else begin_by verdict origin components)) →
-    Keeps (queue_at_birth dialogue h.pairs (Ok (Message.begin origin portion components)))
+      IsBirth (if long then Reception.dropped DropCause.too_long else (if full' then Reception.aborted (abort_with resource_limitation origin) else begin_by verdict origin components)) →
+      IsAnswer (if long then Reception.dropped DropCause.too_long else (if full' then Reception.aborted (abort_with resource_limitation origin) else begin_by verdict origin components)) →
+      Keeps (queue_at_birth dialogue h.pairs (Ok (Message.begin origin portion components)))
   begin-keeps true full' verdict origin portion components birth is = absurd cc
   begin-keeps false true verdict origin portion components birth is = absurd cc
   begin-keeps false false BeginVerdict.plain origin portion components birth is = born-keeps origin None [] components birth is
@@ -97,8 +97,8 @@ module _ (h : History) (dialogue : ℕ) (bytes : List ℕ) (answer : Answer) (is
   within-parts false e = absurd cc
 
   taken-is : (state : State) (context : Option (List ℕ)) (origin to components : List ℕ) (portion : Option (List ℕ)) →
-    names (Event.received bytes) dialogue ≡ true → life dialogue h.pairs ≡ Life.standing state context → is_live state ≡ true → frame_at bytes ≡ Ok (Message.go_on origin to portion components) →
-    reception live full bytes ≡ Reception.taken dialogue (Message.go_on origin to portion components)
+      names (Event.received bytes) dialogue ≡ true → life dialogue h.pairs ≡ Life.standing state context → is_live state ≡ true → frame_at bytes ≡ Ok (Message.go_on origin to portion components) →
+      reception live full bytes ≡ Reception.taken dialogue (Message.go_on origin to portion components)
   taken-is state context origin to components portion named lives is_alive read =
       let m : Message = Message.go_on origin to portion components in
       let parts = within-parts (nat_le (length bytes) message_limit) named in
@@ -111,8 +111,8 @@ module _ (h : History) (dialogue : ℕ) (bytes : List ℕ) (answer : Answer) (is
       ∙ ap (λ (o : Option ℕ). continue_by o origin m) found)
 
   told-is : (state : State) (context : Option (List ℕ)) (origin to components : List ℕ) (portion : Option (List ℕ)) (verdict : PortionVerdict) →
-    names (Event.received bytes) dialogue ≡ true → life dialogue h.pairs ≡ Life.standing state context → is_live state ≡ true → frame_at bytes ≡ Ok (Message.go_on origin to portion components) → portion_verdict state context portion ≡ verdict →
-    answer ≡ Answer.outputs (continue_outputs dialogue h.pairs state origin components verdict)
+      names (Event.received bytes) dialogue ≡ true → life dialogue h.pairs ≡ Life.standing state context → is_live state ≡ true → frame_at bytes ≡ Ok (Message.go_on origin to portion components) → portion_verdict state context portion ≡ verdict →
+      answer ≡ Answer.outputs (continue_outputs dialogue h.pairs state origin components verdict)
   told-is state context origin to components portion verdict named lives is_alive read judged =
       let m : Message = Message.go_on origin to portion components in
       is_reply
@@ -121,14 +121,14 @@ module _ (h : History) (dialogue : ℕ) (bytes : List ℕ) (answer : Answer) (is
       ∙ ap (λ (v : PortionVerdict). Answer.outputs (continue_outputs dialogue h.pairs state origin components v)) judged))
 
   continue-keeps : (state : State) (context : Option (List ℕ)) (origin to components : List ℕ) (portion : Option (List ℕ)) (queue : List Queued) →
-    names (Event.received bytes) dialogue ≡ true → life dialogue h.pairs ≡ Life.standing state context → is_live state ≡ true → frame_at bytes ≡ Ok (Message.go_on origin to portion components) → Keeps queue →
-    (verdict : PortionVerdict) → portion_verdict state context portion ≡ verdict → Keeps (queue_by_verdict verdict queue (handled_in dialogue h.pairs components))
+      names (Event.received bytes) dialogue ≡ true → life dialogue h.pairs ≡ Life.standing state context → is_live state ≡ true → frame_at bytes ≡ Ok (Message.go_on origin to portion components) → Keeps queue →
+      (verdict : PortionVerdict) → portion_verdict state context portion ≡ verdict → Keeps (queue_by_verdict verdict queue (handled_in dialogue h.pairs components))
   continue-keeps state context origin to components portion queue named lives is_alive read kept (PortionVerdict.normal told info) judged =
       told-keeps (Output.go_on dialogue told info) components queue (told-is state context origin to components portion (PortionVerdict.normal told info) named lives is_alive read judged) kept
   continue-keeps state context origin to components portion queue named lives is_alive read kept PortionVerdict.abnormal judged = kept
 
   message-keeps : (state : State) (context : Option (List ℕ)) (queue : List Queued) → names (Event.received bytes) dialogue ≡ true → life dialogue h.pairs ≡ Life.standing state context → is_live state ≡ true → Keeps queue →
-    (read : Result Message FrameFault) → frame_at bytes ≡ read → Keeps (queue_by_message dialogue h.pairs (Life.standing state context) queue read)
+      (read : Result Message FrameFault) → frame_at bytes ≡ read → Keeps (queue_by_message dialogue h.pairs (Life.standing state context) queue read)
   message-keeps state context queue named lives is_alive kept (Ok (Message.go_on origin to portion components)) is =
       continue-keeps state context origin to components portion queue named lives is_alive is kept (portion_verdict state context portion) refl
   message-keeps state context queue named lives is_alive kept (Ok (Message.unidirectional portion components)) is = kept
@@ -138,7 +138,7 @@ module _ (h : History) (dialogue : ℕ) (bytes : List ℕ) (answer : Answer) (is
   message-keeps state context queue named lives is_alive kept (Err f) is = kept
 
   live-keeps : (state : State) (context : Option (List ℕ)) (queue : List Queued) → names (Event.received bytes) dialogue ≡ true → life dialogue h.pairs ≡ Life.standing state context → Keeps queue →
-    (alive : Bool) → is_live state ≡ alive → Keeps (if alive then queue_by_message dialogue h.pairs (Life.standing state context) queue (frame_at bytes) else queue)
+      (alive : Bool) → is_live state ≡ alive → Keeps (if alive then queue_by_message dialogue h.pairs (Life.standing state context) queue (frame_at bytes) else queue)
   live-keeps state context queue named lives kept true is = message-keeps state context queue named lives is kept (frame_at bytes) refl
   live-keeps state context queue named lives kept false is = kept
 

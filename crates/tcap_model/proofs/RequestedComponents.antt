@@ -1,17 +1,17 @@
 -- The component of an accepted request is one, and it can be written.
-use Rattle.std.proofs.Common.{◌≡◌, ℕ, ℤ, ◌+◌, ◌<◌, ◌≤◌, pos, negsuc, ◌&&◌, ◌||◌, true, false, Bool, not, List, [], length, Option, Some, None, refl, subst, IsTrue, arith}
-use Rattle.std.specs.Prelude.{int_le, ◌^◌, ◌-◌}
+use Rattle.std.proofs.Common.{◌≡◌, ℕ, ℤ, ◌+◌, ◌≤◌, pos, negsuc, true, false, Bool, not, List, length, Option, Some, None, refl, subst, IsTrue, arith}
+use Rattle.std.specs.Prelude.{int_le}
 use Rattle.std.proofs.lemmas.Bool.{and_parts, or_parts, leb-true, le-ltb}
 use Rattle.tcap_component.specs.Problem.{problem_limit}
 use Rattle.tcap_component.specs.Component.{ComponentParts, CodeParts, BodyParts, IsIdentifier, IsIdentifierIfAny, IsCode, IsBody, InRange}
 use Rattle.tcap_component.specs.Component.CodeParts.{local, global}
 use Rattle.tcap_component.specs.Component.ComponentParts.{invoke, result_last, error_back, reject_back, result_more}
 use Rattle.tcap_component.specs.Written.{coded_part, written_component, HasCode, CanCode, CanWriteComponent, has_code, has_parameter, write_fault}
-use Rattle.tcap_component.proofs.CallerLemmas.{has_code-takes, Judged, write_fault-judged}
+use Rattle.tcap_component.proofs.CallerLemmas.{Judged, write_fault-judged}
 use Rattle.tcap_model.specs.ComponentRequest.{component_of, invoking_of, queued_for}
 use Rattle.tcap_model.specs.Fault.{Fault}
 use Rattle.tcap_model.specs.InRange.{is_identifier, is_identifier_if_any, is_code, is_body, is_request}
-use Rattle.tcap_model.specs.QueueRules.{Invoking, Queued, queued, joined, fits}
+use Rattle.tcap_model.specs.QueueRules.{Invoking, Queued, queued, joined}
 use Rattle.tcap_model.specs.Refusals.{Situation, can_name, can_code, can_hold, context_given, information_given, has_bad_oid, has_bad_parameter, passes_queue, passes_message, holds, faults_of, due_on}
 use Rattle.tcap_model.specs.Request.{Request}
 use Rattle.tcap_model.specs.RequestMessage.{message_of}
@@ -102,22 +102,22 @@ module _ (s : Situation) (within : s.limit ≤ 65535) where
       let r : Request = Request.invoke id class code parameter linked timeout in
       let none = first_that-none (holds s r) (faults_of r) due in
       can-be (invoke id linked code parameter) (code-can r none.1.1.0) (parameter-can r none.1.1.1.0)
-        (queued-short s.limit s.standing.queue (invoking_of s.number r) (invoke id linked code parameter) within (in-queue r none.1.1.1.1.1.1.0))
+      (queued-short s.limit s.standing.queue (invoking_of s.number r) (invoke id linked code parameter) within (in-queue r none.1.1.1.1.1.1.0))
   request-can (Request.result_last id body) due =
       let r : Request = Request.result_last id body in
       let none = first_that-none (holds s r) (faults_of r) due in
       can-be (result_last id body) (code-can r none.1.1.0) (parameter-can r none.1.1.1.0)
-        (queued-short s.limit s.standing.queue None (result_last id body) within (in-queue r none.1.1.1.1.0))
+      (queued-short s.limit s.standing.queue None (result_last id body) within (in-queue r none.1.1.1.1.0))
   request-can (Request.result_more id body) due =
       let r : Request = Request.result_more id body in
       let none = first_that-none (holds s r) (faults_of r) due in
       can-be (result_more id body) (code-can r none.1.1.0) (parameter-can r none.1.1.1.0)
-        (queued-short s.limit s.standing.queue None (result_more id body) within (in-queue r none.1.1.1.1.0))
+      (queued-short s.limit s.standing.queue None (result_more id body) within (in-queue r none.1.1.1.1.0))
   request-can (Request.error_back id code parameter) due =
       let r : Request = Request.error_back id code parameter in
       let none = first_that-none (holds s r) (faults_of r) due in
       can-be (error_back id code parameter) (code-can r none.1.1.0) (parameter-can r none.1.1.1.0)
-        (queued-short s.limit s.standing.queue None (error_back id code parameter) within (in-queue r none.1.1.1.1.0))
+      (queued-short s.limit s.standing.queue None (error_back id code parameter) within (in-queue r none.1.1.1.1.0))
   request-can (Request.u_reject id problem) due =
       let r : Request = Request.u_reject id problem in
       let none = first_that-none (holds s r) (faults_of r) due in

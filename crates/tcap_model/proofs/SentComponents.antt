@@ -1,5 +1,5 @@
 -- Each component of a message that is sent comes from the dialogue that sends it.
-use Rattle.std.proofs.Common.{◌≡◌, ℕ, ◌⊎◌, List, [], ◌∷◌, length, Option, Some, None, Ok, Err, refl, sym, ap, subst, ◌∙◌, inl, inr, arith, append-nil, length-append}
+use Rattle.std.proofs.Common.{◌≡◌, ℕ, ◌⊎◌, List, [], ◌∷◌, length, Option, Some, None, refl, sym, ap, subst, ◌∙◌, inl, inr, arith, append-nil, length-append}
 use Rattle.std.specs.List.{AllByRecursion}
 use Rattle.tcap_pdu.specs.FrameSpelling.{Message, Reason, SpellsFrame}
 use Rattle.tcap_pdu.proofs.CallerLemmas.{one_frame}
@@ -151,4 +151,4 @@ pub sent-from : EachIsSentFrom
 sent-from h legal pair before bytes m components fault stands tells spelled first =
     let here = legal-before h.start stands.later (pair ∷ before) (subst (AreReplies h.start) stands.is_past legal.1) in
     from-event (record { start = h.start; pairs = before }) here.2 bytes m components fault spelled first pair.event
-      (subst (λ (a : Answer). Tells a (Output.send bytes)) here.1 tells)
+    (subst (λ (a : Answer). Tells a (Output.send bytes)) here.1 tells)
