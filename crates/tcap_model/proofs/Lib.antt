@@ -18,6 +18,7 @@ mod EventMarks
 mod FormedRejects
 mod HeadlineWorks
 mod IsolationWorks
+mod KeptQueues
 mod LatestInvocations
 mod LifeLemmas
 mod NamedReceptions
@@ -27,17 +28,21 @@ mod NumberedLemmas
 mod OpenNumbers
 mod PeerLemmas
 mod PlaceLemmas
+mod QueuedComponents
 mod QuietDialogues
 mod QuietNumbers
 mod ReachedReplies
 mod ReceivedMarks
+mod ReceivedQueues
 mod RequestSending
+mod RequestedComponents
 pub mod RequestsAgree
 pub mod RowsAgree
 mod RowsApart
 mod SendingLemmas
 mod SentAgree
 mod SentClocks
+mod SentComponents
 mod SentLemmas
 mod SoundReceptions
 mod SpanSteps

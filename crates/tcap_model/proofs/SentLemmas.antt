@@ -68,7 +68,7 @@ each-at : {X : Type 0} (P : X → Type 0) (xs ys : List X) (x : X) → AllByRecu
 each-at P [] ys x all = all.0
 each-at P (y ∷ xs) ys x all = each-at P xs ys x all.1
 
-tells-sends : (P : List ℕ → Type 0) (answer : Answer) (bytes : List ℕ) → AnswerSends P answer → Tells answer (Output.send bytes) → P bytes
+pub tells-sends : (P : List ℕ → Type 0) (answer : Answer) (bytes : List ℕ) → AnswerSends P answer → Tells answer (Output.send bytes) → P bytes
 tells-sends P answer bytes sends tells =
     each-at (SendsOnly P) tells.earlier tells.later (Output.send bytes) (subst (λ (a : Answer). AnswerSends P a) tells.is_answer sends)
 
@@ -201,14 +201,14 @@ sent_for_request h dialogue request bytes tells =
 
 -- ---- all events
 
-abbrev Nothing : List ℕ → Type 0
+abbrev pub Nothing : List ℕ → Type 0
 Nothing bytes = ⊥
 
-birth-sends : (h : History) (fault : Option Fault) → AnswerSends Nothing (birth_answer h fault)
+pub birth-sends : (h : History) (fault : Option Fault) → AnswerSends Nothing (birth_answer h fault)
 birth-sends h (Some f) = tt
 birth-sends h None = tt
 
-moment-sends : (past : Past) (now : ℕ) (fault : Option Fault) → AnswerSends Nothing (moment_answer past now fault)
+pub moment-sends : (past : Past) (now : ℕ) (fault : Option Fault) → AnswerSends Nothing (moment_answer past now fault)
 moment-sends past now (Some f) = tt
 moment-sends past now None = chosen (nat_lt now (clock past))
   where
