@@ -5,7 +5,7 @@ use Rattle.tcap_component.specs.ComponentReading.{components_of}
 use Rattle.tcap_model.proofs.RequestsAgree.{standing_dialogue, at_life, due-agrees, accepted-agrees}
 use Rattle.tcap_model.proofs.RowsApart.{rows_distinct}
 use Rattle.tcap_model.proofs.SentAgree.{sent-rows}
-use Rattle.tcap_model.proofs.WalkAgree.{IsLike, fault_last, walk_tells}
+use Rattle.tcap_model.proofs.WalkAgree.{IsLike, fault_last, walk_tells, walk_rejects}
 use Rattle.tcap_model.specs.AbortRules.{sent_if_any, abort_told, abnormal_abort}
 use Rattle.tcap_model.specs.Agreement.{setting_at}
 use Rattle.tcap_model.specs.Answer.{Answer}
@@ -20,7 +20,7 @@ use Rattle.tcap_model.specs.Legal.{IsLegal}
 use Rattle.tcap_model.specs.Life.{Life, life}
 use Rattle.tcap_model.specs.Output.{Output, AbortCause}
 use Rattle.tcap_model.specs.PortionRules.{PortionVerdict, portion_verdict}
-use Rattle.tcap_model.specs.Queue.{handled_in}
+use Rattle.tcap_model.specs.Queue.{handled_in, rejects_of}
 use Rattle.tcap_model.specs.Reply.{reply, request_answer, accepted_answer, taken_outputs, continue_outputs, end_outputs, ended_in}
 use Rattle.tcap_model.specs.Request.{Request}
 use Rattle.tcap_model.specs.RequestMessage.{message_of}
@@ -89,6 +89,11 @@ module _ (h : History) (dialogue : ℕ) (legal : IsLegal h) where
   components-told : (state : State) (context : Option (List ℕ)) (components : List ℕ) → (walked_in (clock h.pairs) (dialogue_in state context) components).told ≡ told_of (handled_in dialogue h.pairs components)
   components-told state context components =
       sym (walk_tells dialogue h.pairs (components_of components) (fault_last (length components) components) (dialogue_in state context).invocations [] tt like-standing)
+
+  pub components-rejected : (d : Dialogue) (components : List ℕ) → dialogue_at h.start.reject_ms h.pairs dialogue ≡ Some d → (walked_in (clock h.pairs) d components).rejects ≡ rejects_of (handled_in dialogue h.pairs components)
+  components-rejected d components e =
+      at_life (λ l d. (walked_in (clock h.pairs) d components).rejects ≡ rejects_of (handled_in dialogue h.pairs components)) h dialogue d
+      (λ state context. sym (walk_rejects dialogue h.pairs (components_of components) (fault_last (length components) components) (dialogue_in state context).invocations [] tt like-standing)) (life dialogue h.pairs) e
 
   any-continue : (state : State) (context : Option (List ℕ)) (origin components : List ℕ) (verdict : PortionVerdict)
       → (continued_by (setting_at h) (dialogue_in state context) origin verdict (walked_in (clock h.pairs) (dialogue_in state context) components)).answer ≡ Answer.outputs (continue_outputs dialogue h.pairs state origin components verdict)

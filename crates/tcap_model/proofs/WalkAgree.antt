@@ -1,7 +1,7 @@
 -- The components of a message tell the same by the rows of a dialogue and by its history.
 use Rattle.std.proofs.Common.{◌≡◌, ℕ, zero, suc, ℤ, ◌+◌, ◌&&◌, Bool, true, false, cond, List, [], ◌∷◌, ◌++◌, map, Option, Some, None, Result, Ok, Err, refl, ap, sym, ◌∙◌, subst}
 use Rattle.std.proofs.lemmas.List.{append-nil}
-use Rattle.std.specs.Prelude.{is_none, is_some}
+use Rattle.std.specs.Prelude.{is_none, flat_map, option_to_list}
 use Rattle.std.specs.List.{IsDistinct}
 use Rattle.std.specs.Map.{keys_of}
 use Rattle.std.specs.Ordering.{int_eq}
@@ -29,8 +29,9 @@ use Rattle.tcap_model.specs.Marks.{Mark, Noted, marks_of_component, reject_marks
 use Rattle.tcap_model.specs.Outcome.{is_sent_in}
 use Rattle.tcap_model.specs.Output.{Output, Closing}
 use Rattle.tcap_model.specs.Pair.{Past}
-use Rattle.tcap_model.specs.Queue.{marks_up_to, if_sent, sent_there, handled_after}
-use Rattle.tcap_model.specs.TableMove.{after_item, walked}
+use Rattle.tcap_model.specs.Queue.{marks_up_to, if_sent, sent_there, handled_after, rejects_of}
+use Rattle.tcap_model.specs.QueueRules.{queued}
+use Rattle.tcap_model.specs.TableMove.{after_item, reject_queued, walked}
 
 -- ---- the marks of answers
 
@@ -213,3 +214,21 @@ walk_tells dialogue past (Ok c ∷ items) f list earlier read like =
     (walk_tells dialogue past items f (after_item (clock past) list (Ok c)) (earlier ++ Ok c ∷ []) (more_read earlier c read) (like_item dialogue past list earlier read like c))
 walk_tells dialogue past (Err g ∷ []) f list earlier read like = refl
 walk_tells dialogue past (Err g ∷ item ∷ items) f list earlier read like = absurd f
+
+-- ---- their Rejects
+
+rejects_cons : (o : Option ComponentParts) (rest : List ComponentParts) → map (queued None) (option_to_list o ++ rest) ≡ reject_queued o ++ map (queued None) rest
+rejects_cons None rest = refl
+rejects_cons (Some c) rest = refl
+
+pub walk_rejects : (dialogue : ℕ) (past : Past) (items : List Item) → FaultLast items → (list : InvocationList) (earlier : List Item) → AreRead earlier → IsLike dialogue past list.rows earlier
+    → rejects_of (handled_after dialogue past earlier items) ≡ (walked dialogue (clock past) list items).rejects
+walk_rejects dialogue past [] f list earlier read like = refl
+walk_rejects dialogue past (Ok c ∷ items) f list earlier read like =
+    let here = handled (Some dialogue) (sent_by_rows dialogue list (subject_of (Ok c))) (Ok c) in
+    let others = handled_after dialogue past (earlier ++ Ok c ∷ []) items in
+    ap (λ s. rejects_of (handled (Some dialogue) s (Ok c) ∷ others)) (same_subject dialogue past list earlier like (subject_of (Ok c)))
+    ∙ (rejects_cons here.reject (flat_map (λ (h : Handled). option_to_list h.reject) others)
+    ∙ ap (λ z. reject_queued here.reject ++ z) (walk_rejects dialogue past items f (after_item (clock past) list (Ok c)) (earlier ++ Ok c ∷ []) (more_read earlier c read) (like_item dialogue past list earlier read like c)))
+walk_rejects dialogue past (Err g ∷ []) f list earlier read like = rejects_cons (handled (Some dialogue) None (Err g)).reject []
+walk_rejects dialogue past (Err g ∷ item ∷ items) f list earlier read like = absurd f
