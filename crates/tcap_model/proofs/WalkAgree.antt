@@ -1,5 +1,5 @@
 -- The components of a message tell the same by the rows of a dialogue and by its history.
-use Rattle.std.proofs.Common.{◌≡◌, ℕ, zero, suc, ℤ, ◌+◌, ◌&&◌, Bool, true, false, cond, List, [], ◌∷◌, ◌++◌, map, Option, Some, None, Result, Ok, Err, refl, ap, sym, ◌∙◌, subst}
+use Rattle.std.proofs.Common.{◌≡◌, ℕ, zero, suc, ℤ, ◌+◌, ◌&&◌, Bool, true, false, cond, List, [], ◌∷◌, ◌++◌, map, Option, Some, None, Result, Ok, Err, refl, ap, sym, ◌∙◌}
 use Rattle.std.proofs.lemmas.List.{append-nil}
 use Rattle.std.specs.Prelude.{is_none, flat_map, option_to_list}
 use Rattle.std.specs.List.{IsDistinct}
@@ -27,7 +27,7 @@ use Rattle.tcap_model.specs.Dialogue.{sent_of, sent_by_rows}
 use Rattle.tcap_model.specs.Invocation.{Invocation, latest}
 use Rattle.tcap_model.specs.Marks.{Mark, Noted, marks_of_component, reject_marks}
 use Rattle.tcap_model.specs.Outcome.{is_sent_in}
-use Rattle.tcap_model.specs.Output.{Output, Closing}
+use Rattle.tcap_model.specs.Output.{Closing}
 use Rattle.tcap_model.specs.Pair.{Past}
 use Rattle.tcap_model.specs.Queue.{marks_up_to, if_sent, sent_there, handled_after, rejects_of}
 use Rattle.tcap_model.specs.QueueRules.{queued}
