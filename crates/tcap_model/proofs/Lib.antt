@@ -1,7 +1,11 @@
+mod AcceptedRequests
 mod Apart
 mod BirthLemmas
 mod BornDialogues
 mod BornLemmas
+mod BoundedDialogues
+mod BoundedIdentifiers
+mod BoundedQueues
 mod ClockLemmas
 mod ClosingWorks
 mod Computing
