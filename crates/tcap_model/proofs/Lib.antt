@@ -9,6 +9,7 @@ mod BoundedQueues
 mod ClockLemmas
 mod ClosingWorks
 mod Computing
+mod CountedClosings
 mod DecisionSteps
 mod DrawnInvocations
 mod DrawnLemmas
@@ -25,6 +26,7 @@ mod NamesWork
 mod NetsWork
 mod NumberLemmas
 mod NumberedLemmas
+mod OverDialogues
 mod PeerLemmas
 mod PlaceLemmas
 mod PlayWorks
