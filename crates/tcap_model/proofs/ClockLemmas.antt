@@ -1,5 +1,5 @@
 -- The clock never falls.
-use Rattle.std.proofs.Common.{◌≡◌, ℕ, ◌≤◌, max, Bool, true, false, List, [], ◌∷◌, ◌++◌, arith}
+use Rattle.std.proofs.Common.{ℕ, ◌≤◌, Bool, true, false, [], ◌∷◌, ◌++◌, arith}
 use Rattle.tcap_model.specs.Answer.{is_accepted}
 use Rattle.tcap_model.specs.Clock.{clock, clock_after}
 use Rattle.tcap_model.specs.Event.{Event}

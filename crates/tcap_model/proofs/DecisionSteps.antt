@@ -24,7 +24,7 @@ or_assoc : (a b c : Option Closing) → option_or a (option_or b c) ≡ option_o
 or_assoc None b c = refl
 or_assoc (Some x) b c = refl
 
-closing_after-append : (class : Class) (timeout : ℕ) (before xs ys : List Noted)
+pub closing_after-append : (class : Class) (timeout : ℕ) (before xs ys : List Noted)
     → closing_after class timeout before (xs ++ ys) ≡ option_or (closing_after class timeout before xs) (closing_after class timeout (before ++ xs) ys)
 closing_after-append class timeout before [] ys = ap (λ z. closing_after class timeout z ys) (sym (append-nil before))
 closing_after-append class timeout before (x ∷ xs) ys =

@@ -1,5 +1,5 @@
 -- What it says that no fault is due.
-use Rattle.std.proofs.Common.{◌≡◌, false, Bool, List, [], ◌∷◌, Option, Some, None, inl, inr}
+use Rattle.std.proofs.Common.{◌≡◌, false, Bool, List, [], ◌∷◌, Some, None, inl, inr}
 use Rattle.std.proofs.lemmas.Bool.{cases_Bool}
 use Rattle.std.specs.List.{AllByRecursion}
 use Rattle.tcap_model.specs.Fault.{Fault}

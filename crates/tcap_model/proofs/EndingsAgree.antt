@@ -1,12 +1,11 @@
 -- At the end of a dialogue the rows tell of the same invocations as the history.
-use Rattle.std.proofs.Common.{◌≡◌, ℕ, ℤ, ◌+◌, ◌==◌, ◌&&◌, Bool, true, false, cond, List, [], ◌∷◌, ◌++◌, map, Option, Some, None, refl, ap, sym, ◌∙◌}
+use Rattle.std.proofs.Common.{◌≡◌, ℕ, ℤ, ◌+◌, ◌==◌, ◌&&◌, Bool, true, false, cond, List, [], ◌∷◌, map, Option, Some, None, refl, ap, sym, ◌∙◌}
 use Rattle.std.proofs.lemmas.List.{append-nil}
 use Rattle.std.specs.Prelude.{is_none, filter_map, option_map, if◌then◌else◌}
 use Rattle.std.specs.List.{AllByRecursion, cons_option}
-use Rattle.tcap_invocation.specs.declared.stage.Stage.{Stage}
 use Rattle.tcap_invocation.specs.declared.stage.Stage.TheVariants.{Waiting}
 use Rattle.tcap_invocation.specs.Closing.{ended_at}
-use Rattle.tcap_invocation.specs.Invocations.{Row, InvocationList}
+use Rattle.tcap_invocation.specs.Invocations.{Row}
 use Rattle.tcap_invocation.specs.Stage.{is_pending}
 use Rattle.tcap_model.proofs.DecisionSteps.{closing_of_decision, undecided}
 use Rattle.tcap_model.proofs.LatestInvocations.{own_number}
@@ -19,7 +18,7 @@ use Rattle.tcap_model.specs.Deadline.{deadline}
 use Rattle.tcap_model.specs.Decision.{decision}
 use Rattle.tcap_model.specs.Held.{is_waiting}
 use Rattle.tcap_model.specs.History.{Start}
-use Rattle.tcap_model.specs.Invocation.{Invocation, invocations, invocation_of, latest}
+use Rattle.tcap_model.specs.Invocation.{Invocation, invocations, latest}
 use Rattle.tcap_model.specs.Legal.{AreReplies}
 use Rattle.tcap_model.specs.Outcome.{first_closing, outcome_of, outcome}
 use Rattle.tcap_model.specs.Output.{Output, Closing}
@@ -44,13 +43,16 @@ rows_told dialogue h (i ∷ is) = go (h i) (rows_told dialogue h is)
   where
     told : List Row → List Output
     told rows = map (λ (e : ℕ × ℤ). Output.closed dialogue e.0 e.1 Closing.ended) (ended_at rows)
+
     rest : List Output
     rest = filter_map (λ i. row_told dialogue (h i)) is
+
     one : (r : Row) (b : Bool) → told (filter_map h is) ≡ rest
         → map (λ (e : ℕ × ℤ). Output.closed dialogue e.0 e.1 Closing.ended) (cons_option (cond b (Some (r.1.number, r.0)) None) (ended_at (filter_map h is)))
-          ≡ cons_option (cond b (Some (Output.closed dialogue r.1.number r.0 Closing.ended)) None) rest
+        ≡ cons_option (cond b (Some (Output.closed dialogue r.1.number r.0 Closing.ended)) None) rest
     one r true e = ap (λ z. Output.closed dialogue r.1.number r.0 Closing.ended ∷ z) e
     one r false e = e
+
     go : (o : Option Row) → told (filter_map h is) ≡ rest → told (cons_option o (filter_map h is)) ≡ cons_option (row_told dialogue o) rest
     go None e = e
     go (Some r) e = one r (is_pending r.1.stage) e

@@ -1,16 +1,15 @@
 -- The Rejects that received components get: each is told as a local Reject, and it can be written.
-use Rattle.std.proofs.Common.{◌≡◌, ℕ, ℤ, ◌≤◌, true, false, Bool, eqb, List, [], ◌∷◌, ◌++◌, length, Option, Some, None, Ok, Err, if◌then◌else◌, refl, sym, ap, subst, inl, inr, arith, length-append}
+use Rattle.std.proofs.Common.{◌≡◌, ℕ, ℤ, ◌≤◌, true, false, Bool, eqb, List, [], ◌∷◌, ◌++◌, length, Option, Some, None, Ok, Err, if◌then◌else◌, refl, sym, ap, subst, inl, inr, arith}
 use Rattle.std.specs.List.{AllByRecursion}
 use Rattle.std.specs.Option.{option_or}
 use Rattle.std.specs.Ordering.{int_eq}
 use Rattle.std.proofs.lemmas.Bool.{cases_Bool, and_parts, eqb-true}
 use Rattle.ber_core.specs.Element.{Parts}
-use Rattle.ber_core.specs.Written.{written, written_fields}
+use Rattle.ber_core.specs.Written.{written_fields}
 use Rattle.ber_core.proofs.CallerLemmas.{element_length-most, length-written as length-element}
-use Rattle.ber_core.specs.Sequence.{Field}
 use Rattle.ber_core.specs.Sequence.Field.{must}
 use Rattle.tcap_component.specs.Problem.{ProblemParts, IsProblem, problem_tag}
-use Rattle.tcap_component.specs.Component.{ComponentParts, CodeParts, BodyParts, identifier, rejected_field, IsIdentifierIfAny, InRange, SpellsComponent}
+use Rattle.tcap_component.specs.Component.{ComponentParts, CodeParts, BodyParts, rejected_field, IsIdentifierIfAny, InRange}
 use Rattle.tcap_component.specs.Component.ComponentParts.{invoke, result_last, error_back, reject_back, result_more}
 use Rattle.tcap_component.specs.ComponentFault.{FaultParts, IsComponentFault, TellsIdentifier}
 use Rattle.tcap_component.specs.ComponentFault.IsComponentFault.{unreadable, unrecognized, unstructured, mistyped}
@@ -19,7 +18,7 @@ use Rattle.tcap_component.specs.ComponentReading.{components_of}
 use Rattle.tcap_component.specs.Written.{written_component, CanWriteComponent}
 use Rattle.tcap_component.proofs.CallerLemmas.{first_fault_is}
 use Rattle.tcap_invocation.specs.Class.{Received, Consequence, class_rule}
-use Rattle.tcap_model.specs.ComponentHandling.{Item, SentInvocation, Handled, subject_of, invoke_handled, result_by, result_handled, error_by, error_handled, reject_by, reject_handled, fault_reject, handled}
+use Rattle.tcap_model.specs.ComponentHandling.{Item, SentInvocation, Handled, subject_of, invoke_handled, result_by, result_handled, error_by, error_handled, reject_by, reject_handled, handled}
 use Rattle.tcap_model.specs.ComponentLaws.{IsLocalReject}
 use Rattle.tcap_model.specs.Invocation.{Invocation, has_id, with_id, invoked_by, latest}
 use Rattle.tcap_model.specs.Outcome.{is_sent_in}

@@ -7,8 +7,9 @@ mod BoundedDialogues
 mod BoundedIdentifiers
 mod BoundedQueues
 mod ClockLemmas
-mod ClosingWorks
-mod Computing
+mod ComponentPremises
+mod ComponentTellings
+mod ComponentsWork
 mod CountedClosings
 mod DecisionSteps
 mod DrawnInvocations
@@ -17,28 +18,37 @@ mod DueLemmas
 mod EarlierMoments
 mod EndPremises
 pub mod EndingsAgree
-mod EndsWork
+mod EndsAgree
+mod EventMarks
 mod FormedRejects
 mod HeadlineWorks
+mod IsolationWorks
+mod KeptQueues
 mod LatestInvocations
 mod LifeLemmas
-mod NamesWork
+mod NamedReceptions
 mod NetsWork
 mod NumberLemmas
 mod NumberedLemmas
+mod OpenNumbers
 mod OverDialogues
 mod PeerLemmas
 mod PlaceLemmas
-mod PlayWorks
+mod QueuedComponents
+mod QuietDialogues
+mod QuietNumbers
+mod ReachedReplies
 mod ReceivedMarks
-mod ReceptionWorks
-mod RefusalsWork
+mod ReceivedQueues
 mod RequestSending
+mod RequestedComponents
 pub mod RequestsAgree
-mod RequestsWork
 pub mod RowsAgree
+mod RowsApart
 mod SendingLemmas
+mod SentAgree
 mod SentClocks
+mod SentComponents
 mod SentLemmas
 mod SoundReceptions
 mod SpanSteps
@@ -49,5 +59,7 @@ mod ToldFrom
 mod ToldInvocations
 mod ToldLemmas
 mod ToldOutputs
+mod ToldParts
+mod ToldReceptions
 mod WrongAnswersGiven
 mod WrongEndsTold

@@ -1,18 +1,16 @@
 -- The numbers that answers carry: each goes to an Invoke, and is the next one.
-use Rattle.std.proofs.Common.{◌≡◌, ℕ, zero, suc, ◌+◌, ◌<◌, ◌≤◌, ◌⊎◌, true, false, Bool, eqb, List, [], ◌∷◌, ◌++◌, map, find, get_or, length, AllPairs, Contains, nat_lt, Option, Some, None, is_some, option_map, option_to_list, if◌then◌else◌, refl, sym, ap, ap₂, subst, ◌∙◌, inl, inr, arith, add-one, append-nil, length-append}
+use Rattle.std.proofs.Common.{◌≡◌, ℕ, ◌+◌, ◌<◌, true, false, Bool, List, [], ◌∷◌, ◌++◌, map, length, AllPairs, nat_lt, Option, Some, None, is_some, option_map, option_to_list, if◌then◌else◌, refl, sym, ap, ap₂, subst, ◌∙◌, inl, inr, arith, append-nil, length-append}
 use Rattle.std.specs.List.{range_with_len}
-use Rattle.std.proofs.lemmas.Bool.{cases_Bool}
 use Rattle.std.proofs.lemmas.List.{map-append}
 use Rattle.tcap_model.specs.Answer.{Answer}
 use Rattle.tcap_model.specs.Clock.{clock}
-use Rattle.tcap_model.specs.Due.{due, due_by, birth_due, standing_of}
+use Rattle.tcap_model.specs.Due.{due, birth_due, standing_of}
 use Rattle.tcap_model.specs.Event.{Event}
 use Rattle.tcap_model.specs.Fault.{Fault}
 use Rattle.tcap_model.specs.Held.{pending}
 use Rattle.tcap_model.specs.History.{History, Start}
-use Rattle.tcap_model.specs.Identifiers.{last_number, are_numbers_spent}
-use Rattle.tcap_model.specs.Invocation.{Invocation, invoked_of, invoked_by, invoked_under, invokes, invocations, invocation_of, next_number}
-use Rattle.tcap_model.specs.Legal.{AreReplies, IsLegal}
+use Rattle.tcap_model.specs.Invocation.{Invocation, invoked_of, invoked_by, invokes, invocations, next_number}
+use Rattle.tcap_model.specs.Legal.{AreReplies}
 use Rattle.tcap_model.specs.Life.{Life, life}
 use Rattle.tcap_model.specs.Numbers.{number_of, numbers}
 use Rattle.tcap_model.specs.Pair.{Pair, Past}
@@ -20,7 +18,7 @@ use Rattle.tcap_model.specs.Reply.{reply, birth_answer, request_answer, accepted
 use Rattle.tcap_model.specs.Request.{Request}
 use Rattle.tcap_model.specs.Standing.{Standing}
 use Rattle.tcap_model.specs.Time.{moment_fault}
-use Rattle.tcap_model.proofs.DrawnLemmas.{IsDrawn, drawn-step, range-more, range-rises}
+use Rattle.tcap_model.proofs.DrawnLemmas.{IsDrawn, drawn-step, range-rises}
 
 abbrev pub number : Invocation → ℕ
 number i = i.number

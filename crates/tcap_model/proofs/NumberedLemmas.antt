@@ -1,7 +1,7 @@
 -- Each invocation of a legal history is found by its number, and the counter never passes its end.
-use Rattle.std.proofs.Common.{◌≡◌, ◌≢◌, ℕ, zero, suc, ◌+◌, ◌<◌, ◌≤◌, true, false, Bool, eqb, cond, List, [], ◌∷◌, ◌++◌, map, find, get_or, length, Contains, nat_lt, Option, Some, None, is_some, option_map, if◌then◌else◌, refl, sym, ap, ◌∙◌, inl, inr, arith}
+use Rattle.std.proofs.Common.{◌≡◌, ℕ, zero, suc, ◌+◌, ◌<◌, ◌≤◌, true, false, Bool, eqb, List, [], ◌∷◌, map, find, get_or, length, Contains, nat_lt, Option, Some, None, is_some, option_map, if◌then◌else◌, refl, sym, ap, ◌∙◌, arith}
 use Rattle.std.specs.List.{range_with_len}
-use Rattle.std.proofs.lemmas.Bool.{cases_Bool, eq-eqb, ne_eqb, eqb-false}
+use Rattle.std.proofs.lemmas.Bool.{eq-eqb, ne_eqb, eqb-false}
 use Rattle.std.proofs.lemmas.List.{get_or-map}
 use Rattle.std.proofs.lemmas.List.FromFn.{get_or-range_with_len}
 use Rattle.tcap_model.specs.Answer.{Answer}
@@ -12,18 +12,18 @@ use Rattle.tcap_model.specs.Fault.{Fault}
 use Rattle.tcap_model.specs.Held.{pending}
 use Rattle.tcap_model.specs.History.{History, Start}
 use Rattle.tcap_model.specs.Identifiers.{last_number, are_numbers_spent}
-use Rattle.tcap_model.specs.Invocation.{Invocation, invoked_of, invoked_by, invokes, invocations, invocation_of, next_number}
+use Rattle.tcap_model.specs.Invocation.{Invocation, invoked_by, invokes, invocations, invocation_of, next_number}
 use Rattle.tcap_model.specs.Legal.{AreReplies}
 use Rattle.tcap_model.specs.Life.{Life, life}
-use Rattle.tcap_model.specs.Numbers.{number_of, numbers}
-use Rattle.tcap_model.specs.Pair.{Pair, Past}
+use Rattle.tcap_model.specs.Numbers.{number_of}
+use Rattle.tcap_model.specs.Pair.{Past}
 use Rattle.tcap_model.specs.Refusals.{holds, faults_of, due_on}
 use Rattle.tcap_model.specs.Reply.{reply, birth_answer, request_answer, accepted_answer, given_up_answer, moment_answer, lapses}
 use Rattle.tcap_model.specs.Request.{Request}
 use Rattle.tcap_model.specs.State.{State}
 use Rattle.tcap_model.specs.Time.{moment_fault}
 use Rattle.tcap_model.proofs.DueLemmas.{first_that-none}
-use Rattle.tcap_model.proofs.NumberLemmas.{number, pair-numbered, reply-numbered, numbers-drawn, numbers-invocations, invokes-length}
+use Rattle.tcap_model.proofs.NumberLemmas.{number, pair-numbered, numbers-drawn, numbers-invocations, invokes-length}
 
 -- ---- by its number
 
@@ -41,8 +41,8 @@ found-at (x ∷ xs) a (suc k) i e within at =
 pub invocation_of-found : (start : Start) (past : Past) → AreReplies start past → (i : Invocation) → Contains (invocations past) i → invocation_of i.number past ≡ Some i
 invocation_of-found start past legal i at =
     found-at (invocations past) start.next_number at.0 i
-      (sym (numbers-invocations start past legal) ∙ (numbers-drawn start past legal ∙ ap (range_with_len start.next_number) (invokes-length past)))
-      at.1 at.2
+    (sym (numbers-invocations start past legal) ∙ (numbers-drawn start past legal ∙ ap (range_with_len start.next_number) (invokes-length past)))
+    at.1 at.2
 
 -- ---- the end of the numbers
 
@@ -101,5 +101,5 @@ numbers-below start [] legal within = omega arith
 numbers-below start (pair ∷ past) legal within =
     let numbered = pair-numbered start pair past legal in
     counter-below start.next_number (invokes past) (invoked_by pair) (number_of pair.answer) numbered.0
-      (λ n e. reply-unspent (record { start = start; pairs = past }) pair.event n (ap number_of (sym legal.1) ∙ e))
-      (numbers-below start past legal.2 within)
+    (λ n e. reply-unspent (record { start = start; pairs = past }) pair.event n (ap number_of (sym legal.1) ∙ e))
+    (numbers-below start past legal.2 within)

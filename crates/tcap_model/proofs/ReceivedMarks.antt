@@ -1,10 +1,9 @@
 -- The marks of received bytes are those of the message that the bytes spell.
-use Rattle.std.proofs.Common.{◌≡◌, ℕ, ℤ, ◌≤◌, true, false, Bool, List, [], ◌∷◌, ◌++◌, length, map, nat_le, flat_map, Option, Some, None, Result, Ok, Err, IsTrue, refl, sym, ap, ◌∙◌}
+use Rattle.std.proofs.Common.{◌≡◌, ℕ, ℤ, ◌≤◌, true, false, Bool, List, [], ◌∷◌, ◌++◌, length, nat_le, Option, Some, None, Result, Ok, Err, refl, sym, ap, ◌∙◌}
 use Rattle.std.proofs.lemmas.Bool.{le-leb, true≢false}
 use Rattle.tcap_pdu.specs.declared.fault.FrameFault.{FrameFault}
-use Rattle.tcap_pdu.specs.FrameFaults.{IsFrameFault}
 use Rattle.tcap_pdu.specs.FrameReading.{frame_at}
-use Rattle.tcap_pdu.specs.FrameSpelling.{Message, Reason, SpellsFrame}
+use Rattle.tcap_pdu.specs.FrameSpelling.{Message, SpellsFrame}
 use Rattle.tcap_pdu.specs.FrameWritten.{message_limit}
 use Rattle.tcap_pdu.proofs.CallerLemmas.{frame_again, frame_told, frame_takes, frame_fails}
 use Rattle.tcap_component.specs.Component.{ComponentParts}
@@ -13,10 +12,10 @@ use Rattle.tcap_component.specs.ComponentList.{FirstFault, items}
 use Rattle.tcap_component.specs.ComponentReading.{components_of}
 use Rattle.tcap_component.proofs.CallerLemmas.{first_fault_again, first_fault_is}
 use Rattle.tcap_model.specs.Answer.{Answer}
-use Rattle.tcap_model.specs.Destination.{destination, destination_of, destination_by}
+use Rattle.tcap_model.specs.Destination.{destination, destination_by}
 use Rattle.tcap_model.specs.Event.{Event}
-use Rattle.tcap_model.specs.Life.{Life, life, life_after, life_by_message}
-use Rattle.tcap_model.specs.Marks.{Mark, Noted, marks_of_component, component_marks, ending, if_normal, marks_by_message, marks}
+use Rattle.tcap_model.specs.Life.{Life, life_after, life_by_message}
+use Rattle.tcap_model.specs.Marks.{Mark, marks_of_component, component_marks, ending, if_normal, marks_by_message, marks}
 use Rattle.tcap_model.specs.Names.{is_destined, named_within, names}
 use Rattle.tcap_model.specs.Pair.{Pair, Past}
 use Rattle.tcap_model.specs.PortionRules.{PortionVerdict, portion_verdict}
@@ -40,6 +39,14 @@ components-marks id components fault content first =
 pub spelled-names : (dialogue : ℕ) (m : Message) (bytes : List ℕ) → SpellsFrame m bytes → length bytes ≤ message_limit → names (Event.received bytes) dialogue ≡ is_destined dialogue (destination m)
 spelled-names dialogue m bytes spelled within =
     rw (le-leb (length bytes) message_limit within) (ap (λ (read : Result Message FrameFault). is_destined dialogue (destination_by bytes read)) (frame_again m bytes spelled))
+
+-- a message without destination names none
+pub unaddressed : (dialogue : ℕ) (bytes : List ℕ) → names (Event.received bytes) dialogue ≡ true → (m : Message) → frame_at bytes ≡ Ok m → destination m ≡ None → ⊥
+unaddressed dialogue bytes names_it m e none = by (nat_le (length bytes) message_limit) names_it
+  where
+    by : (within : Bool) → named_within within dialogue bytes ≡ true → ⊥
+    by false named = true≢false (sym named)
+    by true named = true≢false (sym named ∙ rw (e, none) refl)
 
 -- ---- messages
 
@@ -78,27 +85,20 @@ module _ (dialogue : ℕ) (id : ℤ) (state : State) (context : Option (List ℕ
   by-verdict portion (PortionVerdict.normal told info) e normal abnormal = normal (told, info, e)
   by-verdict portion PortionVerdict.abnormal e normal abnormal = abnormal e
 
-  addressed : (m : Message) → frame_at bytes ≡ Ok m → destination m ≡ None → ⊥
-  addressed m e none = unnamed (nat_le (length bytes) message_limit) reaches.names_it
-    where
-      unnamed : (within : Bool) → named_within within dialogue bytes ≡ true → ⊥
-      unnamed false named = true≢false (sym named)
-      unnamed true named = true≢false (sym named ∙ rw (e, none) refl)
-
   pub reached-means : (read : Result Message FrameFault) → frame_at bytes ≡ read → (made : List Mark) × Means state context id bytes made
   reached-means (Ok (Message.go_on origin to portion content)) e =
       let spelled = frame_takes bytes (Message.go_on origin to portion content) e in
       let first = first_fault_is content in
       by-verdict portion (portion_verdict state context portion) refl
-        (λ normal. (marks_of_components id first.0, continued origin to portion content first.0 first.1 spelled normal first.2))
-        (λ abnormal. (Mark.end ∷ [], continued_abnormally origin to portion content spelled abnormal))
+      (λ normal. (marks_of_components id first.0, continued origin to portion content first.0 first.1 spelled normal first.2))
+      (λ abnormal. (Mark.end ∷ [], continued_abnormally origin to portion content spelled abnormal))
   reached-means (Ok (Message.end to portion content)) e =
       let spelled = frame_takes bytes (Message.end to portion content) e in
       let first = first_fault_is content in
       by-verdict portion (portion_verdict state context portion) refl
-        (λ normal. (marks_of_components id first.0 ++ Mark.end ∷ [], ended to portion content first.0 first.1 spelled normal first.2))
-        (λ abnormal. (Mark.end ∷ [], ended_abnormally to portion content spelled abnormal))
+      (λ normal. (marks_of_components id first.0 ++ Mark.end ∷ [], ended to portion content first.0 first.1 spelled normal first.2))
+      (λ abnormal. (Mark.end ∷ [], ended_abnormally to portion content spelled abnormal))
   reached-means (Ok (Message.abort to reason)) e = (Mark.end ∷ [], aborted to reason (frame_takes bytes (Message.abort to reason) e))
-  reached-means (Ok (Message.unidirectional portion content)) e = absurd (addressed (Message.unidirectional portion content) e refl)
-  reached-means (Ok (Message.begin origin portion content)) e = absurd (addressed (Message.begin origin portion content) e refl)
+  reached-means (Ok (Message.unidirectional portion content)) e = absurd (unaddressed dialogue bytes reaches.names_it (Message.unidirectional portion content) e refl)
+  reached-means (Ok (Message.begin origin portion content)) e = absurd (unaddressed dialogue bytes reaches.names_it (Message.begin origin portion content) e refl)
   reached-means (Err f) e = (Mark.end ∷ [], faulty f (frame_fails bytes f e))

@@ -1,5 +1,5 @@
 -- What an accepted request sends can be sent.
-use Rattle.std.proofs.Common.{◌≡◌, ℕ, ◌<◌, ◌≤◌, ◌||◌, true, false, Bool, List, [], ◌∷◌, length, Option, Some, None, refl, arith}
+use Rattle.std.proofs.Common.{◌≡◌, ℕ, false, List, length, Option, Some, None, refl, arith}
 use Rattle.std.proofs.lemmas.Bool.{ltb-false, or_parts}
 use Rattle.tcap_pdu.specs.FrameSpelling.{Message, Reason, HasIds, HasCause}
 use Rattle.tcap_pdu.specs.FrameWritten.{message_limit, written_frame}

@@ -36,7 +36,7 @@ pending-agrees reject_ms dialogue past None = refl
 pending-agrees reject_ms dialogue past (Some id) = pending-rows reject_ms dialogue past id
 
 -- a dialogue that stands in this state with this context
-abbrev standing_dialogue : History → ℕ → State → Option (List ℕ) → Dialogue
+abbrev pub standing_dialogue : History → ℕ → State → Option (List ℕ) → Dialogue
 standing_dialogue h dialogue state context = record { standing = standing_of dialogue h.pairs state context; invocations = list_at h.start.reject_ms dialogue h.pairs }
 
 situation_by : Situation → Bool → Option ℕ → Situation
@@ -53,7 +53,7 @@ situation-standing h dialogue state context request =
 -- ---- the dialogues that stand
 
 -- a dialogue that stands at a history is one of these
-at_life : (P : Life → Dialogue → Type 0) (h : History) (dialogue : ℕ) (d : Dialogue)
+pub at_life : (P : Life → Dialogue → Type 0) (h : History) (dialogue : ℕ) (d : Dialogue)
     → ((state : State) (context : Option (List ℕ)) → P (Life.standing state context) (standing_dialogue h dialogue state context))
     → (l : Life) → dialogue_by h.start.reject_ms dialogue h.pairs l ≡ Some d → P l d
 at_life P h dialogue d standing Life.unborn e = absurd cc
@@ -89,7 +89,7 @@ given_up-agrees : (d : Dialogue) (id : ℤ) (number : Option ℕ) → (given_up_
 given_up-agrees d id None = refl
 given_up-agrees d id (Some number) = refl
 
-accepted-agrees : (h : History) (dialogue : ℕ) (state : State) (context : Option (List ℕ)) (request : Request) → leaves_standing request ≡ true
+pub accepted-agrees : (h : History) (dialogue : ℕ) (state : State) (context : Option (List ℕ)) (request : Request) → leaves_standing request ≡ true
     → (accepted (setting_at h) (standing_dialogue h dialogue state context) request).answer ≡ accepted_answer h (standing_of dialogue h.pairs state context) request
 accepted-agrees h dialogue state context (Request.invoke id class code parameter linked timeout) s = refl
 accepted-agrees h dialogue state context (Request.result_last id body) s = refl

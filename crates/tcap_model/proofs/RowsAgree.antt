@@ -25,7 +25,7 @@ use Rattle.tcap_model.specs.World.{pending_stage, stage_by, row, row_by, is_numb
 -- ---- the row of an identifier
 
 -- the entry of a row, if it is that of the identifier
-abbrev entry_of : ℤ → Option Row → Option Entry
+abbrev pub entry_of : ℤ → Option Row → Option Entry
 entry_of id None = None
 entry_of id (Some r) = if int_eq id r.0 then Some r.1 else None
 
@@ -37,19 +37,24 @@ entry_at-cons id (Some r) rows = go (int_eq id r.0)
     go true = refl
     go false = refl
 
--- an item whose row is the one that is found, or that none has such a row
-abbrev Found : {X : Type 0} → ℤ → (X → Option Row) → List X → Option Entry → Type 0
-Found {X} id h xs None = AllByRecursion (λ x. entry_of id (h x) ≡ None) xs
-Found {X} id h xs (Some e) = (x : X) × (entry_of id (h x) ≡ Some e)
+-- an item that passes and whose row is the one that is found, or that none has such a row
+abbrev pub Found : {X : Type 0} → (X → Type 0) → ℤ → (X → Option Row) → List X → Option Entry → Type 0
+Found P id h xs None = AllByRecursion (λ x. entry_of id (h x) ≡ None) xs
+Found {X} P id h xs (Some e) = (x : X) × P x × (entry_of id (h x) ≡ Some e)
 
-found : {X : Type 0} (id : ℤ) (h : X → Option Row) (xs : List X) → Found id h xs (entry_at (filter_map h xs) id)
-found id h [] = tt
-found {X = X} id h (x ∷ xs) = subst (Found id h (x ∷ xs)) (sym (entry_at-cons id (h x) (filter_map h xs))) (go (entry_of id (h x)) refl (entry_at (filter_map h xs) id) (found id h xs))
+pub found : {X : Type 0} (P : X → Type 0) (id : ℤ) (h : X → Option Row) (xs : List X) → AllByRecursion P xs → Found P id h xs (entry_at (filter_map h xs) id)
+found P id h [] a = tt
+found {X = X} P id h (x ∷ xs) a =
+    subst (Found P id h (x ∷ xs)) (sym (entry_at-cons id (h x) (filter_map h xs))) (go (entry_of id (h x)) refl (entry_at (filter_map h xs) id) (found P id h xs a.1))
   where
-    go : (o : Option Entry) → entry_of id (h x) ≡ o → (p : Option Entry) → Found id h xs p → Found id h (x ∷ xs) (option_or o p)
+    go : (o : Option Entry) → entry_of id (h x) ≡ o → (p : Option Entry) → Found P id h xs p → Found P id h (x ∷ xs) (option_or o p)
     go None e None f = (e, f)
     go None e (Some y) f = f
-    go (Some y) e p f = (x, e)
+    go (Some y) e p f = (x, a.0, e)
+
+each_passes : {X : Type 0} (xs : List X) → AllByRecursion (λ x. Unit {0}) xs
+each_passes [] = tt
+each_passes (x ∷ xs) = (tt, each_passes xs)
 
 -- ---- the latest invocation with an identifier
 
@@ -155,30 +160,42 @@ says_row : (reject_ms : ℕ) (past : Past) (i : Invocation) (s : Stage) (last : 
 says_row reject_ms past i s None e w = absurd cc
 says_row reject_ms past i s (Some j) e w = says_decided reject_ms past i j (Some (row i s).1) (sym (same_number j.number i.number e)) (row_decides reject_ms past i s (decision i.number past) w)
 
--- where the row of an invocation is that of the identifier, it says so
-says_found : (reject_ms dialogue : ℕ) (id : ℤ) (past : Past) (i : Invocation) (e : Entry) → entry_of id (row_of reject_ms dialogue past i) ≡ Some e → Says reject_ms dialogue id past (latest dialogue id past) (Some e)
-says_found reject_ms dialogue id past i e w = go ((i.dialogue == dialogue) && is_number i.number (latest i.dialogue i.id past)) refl w
+-- an invocation whose row is that of the identifier
+pub record HasRow (reject_ms dialogue : ℕ) (id : ℤ) (past : Past) (i : Invocation) (e : Entry) : Type 0 where
+  pub dialogue_is : i.dialogue ≡ dialogue
+  pub id_is : i.id ≡ id
+  pub is_last : is_number i.number (latest i.dialogue i.id past) ≡ true
+  pub stage : Stage
+  pub at_stage : stage_by reject_ms past i (decision i.number past) ≡ Some stage
+  pub entry_is : Some (row i stage).1 ≡ Some e
+
+pub has_row : (reject_ms dialogue : ℕ) (id : ℤ) (past : Past) (i : Invocation) (e : Entry) → entry_of id (row_of reject_ms dialogue past i) ≡ Some e → HasRow reject_ms dialogue id past i e
+has_row reject_ms dialogue id past i e w = go ((i.dialogue == dialogue) && is_number i.number (latest i.dialogue i.id past)) refl w
   where
     at_id : (s : Stage) (b : Bool) → int_eq id i.id ≡ b → i.dialogue ≡ dialogue → is_number i.number (latest i.dialogue i.id past) ≡ true → stage_by reject_ms past i (decision i.number past) ≡ Some s
-        → cond b (Some (row i s).1) None ≡ Some e → Says reject_ms dialogue id past (latest dialogue id past) (Some e)
-    at_id s true q d n p w =
-        let there = says_row reject_ms past i s (latest i.dialogue i.id past) n p in
-        let named = subst (λ (k : ℤ). Says reject_ms i.dialogue k past (latest i.dialogue k past) (Some (row i s).1)) (sym ((Decides-int_eq id i.id).0 q)) there in
-        let placed = subst (λ (k : ℕ). Says reject_ms k id past (latest k id past) (Some (row i s).1)) d named in
-        subst (λ (y : Option Entry). Says reject_ms dialogue id past (latest dialogue id past) y) w placed
+        → cond b (Some (row i s).1) None ≡ Some e → HasRow reject_ms dialogue id past i e
+    at_id s true q d n p w = record { dialogue_is = d; id_is = sym ((Decides-int_eq id i.id).0 q); is_last = n; stage = s; at_stage = p; entry_is = w }
     at_id s false q d n p w = absurd cc
 
     staged : (o : Option Stage) → stage_by reject_ms past i (decision i.number past) ≡ o → i.dialogue ≡ dialogue → is_number i.number (latest i.dialogue i.id past) ≡ true
-        → entry_of id (row_by i o) ≡ Some e → Says reject_ms dialogue id past (latest dialogue id past) (Some e)
+        → entry_of id (row_by i o) ≡ Some e → HasRow reject_ms dialogue id past i e
     staged None p d n w = absurd cc
     staged (Some s) p d n w = at_id s (int_eq id i.id) refl d n p w
 
     go : (b : Bool) → ((i.dialogue == dialogue) && is_number i.number (latest i.dialogue i.id past)) ≡ b
-        → entry_of id (cond b (row_by i (stage_by reject_ms past i (decision i.number past))) None) ≡ Some e → Says reject_ms dialogue id past (latest dialogue id past) (Some e)
+        → entry_of id (cond b (row_by i (stage_by reject_ms past i (decision i.number past))) None) ≡ Some e → HasRow reject_ms dialogue id past i e
     go true q w =
         let t = both (i.dialogue == dialogue) (is_number i.number (latest i.dialogue i.id past)) q in
         staged (stage_by reject_ms past i (decision i.number past)) refl (same_number i.dialogue dialogue t.0) t.1 w
     go false q w = absurd cc
+
+-- it says so
+says_found : (reject_ms dialogue : ℕ) (id : ℤ) (past : Past) (i : Invocation) (e : Entry) → HasRow reject_ms dialogue id past i e → Says reject_ms dialogue id past (latest dialogue id past) (Some e)
+says_found reject_ms dialogue id past i e r =
+    let there = says_row reject_ms past i r.stage (latest i.dialogue i.id past) r.is_last r.at_stage in
+    let named = subst (λ (k : ℤ). Says reject_ms i.dialogue k past (latest i.dialogue k past) (Some (row i r.stage).1)) r.id_is there in
+    let placed = subst (λ (k : ℕ). Says reject_ms k id past (latest k id past) (Some (row i r.stage).1)) r.dialogue_is named in
+    subst (λ (y : Option Entry). Says reject_ms dialogue id past (latest dialogue id past) y) r.entry_is placed
 
 -- where the latest invocation has no row, it says so
 no_stage : (id : ℤ) (i : Invocation) (o : Option Stage) → int_eq id i.id ≡ true → entry_of id (row_by i o) ≡ None → o ≡ None
@@ -209,11 +226,11 @@ says_none reject_ms dialogue id past (Some j) e a =
         (subst (λ (x : ℕ). latest x j.id past ≡ Some j → entry_of j.id (row_of reject_ms x past j) ≡ None → Says reject_ms x j.id past (latest x j.id past) None) p (says_missing reject_ms past j))
 
 rows_say : (reject_ms dialogue : ℕ) (past : Past) (id : ℤ) → Says reject_ms dialogue id past (latest dialogue id past) (entry_at (rows_of reject_ms dialogue past) id)
-rows_say reject_ms dialogue past id = go (entry_at (rows_of reject_ms dialogue past) id) (found id (row_of reject_ms dialogue past) (invocations past))
+rows_say reject_ms dialogue past id = go (entry_at (rows_of reject_ms dialogue past) id) (found (λ i. Unit {0}) id (row_of reject_ms dialogue past) (invocations past) (each_passes (invocations past)))
   where
-    go : (o : Option Entry) → Found id (row_of reject_ms dialogue past) (invocations past) o → Says reject_ms dialogue id past (latest dialogue id past) o
+    go : (o : Option Entry) → Found (λ i. Unit {0}) id (row_of reject_ms dialogue past) (invocations past) o → Says reject_ms dialogue id past (latest dialogue id past) o
     go None f = says_none reject_ms dialogue id past (latest dialogue id past) refl f
-    go (Some e) f = says_found reject_ms dialogue id past f.0 e f.1
+    go (Some e) f = says_found reject_ms dialogue id past f.0 e (has_row reject_ms dialogue id past f.0 e f.2)
 
 pub in_use-rows : (reject_ms dialogue : ℕ) (past : Past) (id : ℤ) → is_some (entry_at (rows_of reject_ms dialogue past) id) ≡ held reject_ms dialogue id past
 in_use-rows reject_ms dialogue past id = (rows_say reject_ms dialogue past id).in_use

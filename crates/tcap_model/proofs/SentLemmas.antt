@@ -1,11 +1,10 @@
 -- What replies send spells its message.
-use Rattle.std.proofs.Common.{◌≡◌, ℕ, true, false, Bool, List, [], ◌∷◌, ◌++◌, nat_lt, filter_map, option_to_list, is_some, Option, Some, None, Result, Ok, Err, if◌then◌else◌, refl, sym, ap, subst}
+use Rattle.std.proofs.Common.{◌≡◌, ℕ, true, false, Bool, List, [], ◌∷◌, ◌++◌, nat_lt, filter_map, option_to_list, is_some, Option, Some, None, if◌then◌else◌, refl, sym, subst}
 use Rattle.std.specs.List.{AllByRecursion}
-use Rattle.tcap_pdu.specs.FrameSpelling.{Message, Reason, HasIds}
-use Rattle.tcap_pdu.specs.FrameWritten.{written_frame}
+use Rattle.tcap_pdu.specs.FrameSpelling.{Message, HasIds}
 use Rattle.tcap_pdu.specs.TransId.{IsTransId}
 use Rattle.tcap_component.specs.ComponentReading.{components_of}
-use Rattle.tcap_model.specs.AbortRules.{abort_told, abnormal_abort, sent, sent_if_any}
+use Rattle.tcap_model.specs.AbortRules.{abort_told, abnormal_abort, sent_if_any}
 use Rattle.tcap_model.specs.Answer.{Answer}
 use Rattle.tcap_model.specs.Birth.{next_dialogue}
 use Rattle.tcap_model.specs.Clock.{clock}
@@ -24,7 +23,7 @@ use Rattle.tcap_model.specs.PortionRules.{PortionVerdict, portion_verdict}
 use Rattle.tcap_model.specs.Queue.{handled_in}
 use Rattle.tcap_model.specs.Reception.{Reception, reception}
 use Rattle.tcap_model.specs.Refusals.{due_on}
-use Rattle.tcap_model.specs.Reply.{reply, birth_answer, given_up_answer, accepted_answer, request_answer, continue_outputs, end_outputs, message_outputs, taken_outputs, reception_outputs, ended_in, moment_answer, lapses, lapse_told, in_order, lapsing_at}
+use Rattle.tcap_model.specs.Reply.{reply, birth_answer, given_up_answer, accepted_answer, request_answer, continue_outputs, end_outputs, message_outputs, taken_outputs, reception_outputs, ended_in, moment_answer, lapses, in_order, lapsing_at}
 use Rattle.tcap_model.specs.Request.{Request}
 use Rattle.tcap_model.specs.RequestMessage.{message_of}
 use Rattle.tcap_model.specs.SentMessage.{IsMessage, SentForRequest, SentForBytes}
@@ -69,7 +68,7 @@ each-at : {X : Type 0} (P : X → Type 0) (xs ys : List X) (x : X) → AllByRecu
 each-at P [] ys x all = all.0
 each-at P (y ∷ xs) ys x all = each-at P xs ys x all.1
 
-tells-sends : (P : List ℕ → Type 0) (answer : Answer) (bytes : List ℕ) → AnswerSends P answer → Tells answer (Output.send bytes) → P bytes
+pub tells-sends : (P : List ℕ → Type 0) (answer : Answer) (bytes : List ℕ) → AnswerSends P answer → Tells answer (Output.send bytes) → P bytes
 tells-sends P answer bytes sends tells =
     each-at (SendsOnly P) tells.earlier tells.later (Output.send bytes) (subst (λ (a : Answer). AnswerSends P a) tells.is_answer sends)
 
@@ -97,7 +96,7 @@ told-each P (output ∷ outputs) told = (told-only P output told.0, told-each P 
 aborts : (output : Output) → Sends output → SendsOnly SentForBytes output
 aborts output sends =
     subst (λ (o : Output). SendsOnly SentForBytes o) (sym sends.2)
-      (record { peer = sends.0; reason = sends.1; is_message = goes-spelled (Message.abort sends.0 sends.1) sends.3 })
+    (record { peer = sends.0; reason = sends.1; is_message = goes-spelled (Message.abort sends.0 sends.1) sends.3 })
 
 if-aborts : (abort : Option Output) (outputs : List Output) → IfSends abort → EachSends SentForBytes outputs → EachSends SentForBytes (option_to_list abort ++ outputs)
 if-aborts None outputs sends others = others
@@ -198,18 +197,18 @@ module _ (h : History) (dialogue : ℕ) where
 pub sent_for_request : (h : History) (dialogue : ℕ) (request : Request) (bytes : List ℕ) → Tells (reply h (Event.on_dialogue dialogue request)) (Output.send bytes) → SentForRequest h dialogue request bytes
 sent_for_request h dialogue request bytes tells =
     tells-sends (SentForRequest h dialogue request) (reply h (Event.on_dialogue dialogue request)) bytes
-      (request-sends h dialogue request (life dialogue h.pairs) (due h dialogue request) refl refl (life-id dialogue h.pairs)) tells
+    (request-sends h dialogue request (life dialogue h.pairs) (due h dialogue request) refl refl (life-id dialogue h.pairs)) tells
 
 -- ---- all events
 
-abbrev Nothing : List ℕ → Type 0
+abbrev pub Nothing : List ℕ → Type 0
 Nothing bytes = ⊥
 
-birth-sends : (h : History) (fault : Option Fault) → AnswerSends Nothing (birth_answer h fault)
+pub birth-sends : (h : History) (fault : Option Fault) → AnswerSends Nothing (birth_answer h fault)
 birth-sends h (Some f) = tt
 birth-sends h None = tt
 
-moment-sends : (past : Past) (now : ℕ) (fault : Option Fault) → AnswerSends Nothing (moment_answer past now fault)
+pub moment-sends : (past : Past) (now : ℕ) (fault : Option Fault) → AnswerSends Nothing (moment_answer past now fault)
 moment-sends past now (Some f) = tt
 moment-sends past now None = chosen (nat_lt now (clock past))
   where

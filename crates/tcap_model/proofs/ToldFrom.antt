@@ -53,8 +53,8 @@ ended-each : (event : Event) (dialogue : ℕ) (past : Past) (components : List I
 ended-each event dialogue past components [] = tt
 ended-each event dialogue past components (i ∷ is) =
     if-stand event (ended_of dialogue past components i) (filter_map (ended_of dialogue past components) is)
-      (ended-of-stand event ((i.dialogue == dialogue) && is_none (first_closing i.class i.timeout (marks_up_to past components i))) dialogue i)
-      (ended-each event dialogue past components is)
+    (ended-of-stand event ((i.dialogue == dialogue) && is_none (first_closing i.class i.timeout (marks_up_to past components i))) dialogue i)
+    (ended-each event dialogue past components is)
 
 ended-stand : (event : Event) (dialogue : ℕ) (past : Past) (components : List Item) → AllStand event (ended_in dialogue past components)
 ended-stand event dialogue past components = ended-each event dialogue past components (invocations past)
@@ -105,8 +105,8 @@ message-stand bytes dialogue past state context (Message.end to portion componen
     by_verdict (PortionVerdict.normal told info) = (
       (λ of. absurd (indicates _ of)),
       each-append (Stands (Event.received bytes)) (told_of (handled_in dialogue past components)) (ended_in dialogue past (components_of components))
-        (components-stand bytes (Message.end to portion components) spelled dialogue past)
-        (ended-stand (Event.received bytes) dialogue past (components_of components)),
+          (components-stand bytes (Message.end to portion components) spelled dialogue past)
+          (ended-stand (Event.received bytes) dialogue past (components_of components)),
     )
     by_verdict PortionVerdict.abnormal = ((λ of. absurd (indicates _ of)), ended-stand (Event.received bytes) dialogue past [])
 message-stand bytes dialogue past state context (Message.abort to reason) spelled = ((λ of. absurd (abort-silent dialogue reason (indicates _ of))), ended-stand (Event.received bytes) dialogue past [])

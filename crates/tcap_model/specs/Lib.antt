@@ -61,7 +61,9 @@ pub mod TwoEnds
 pub mod WalkedHistories
 pub mod Worked
 pub mod WorkedClosing
+pub mod WorkedComponents
 pub mod WorkedEnds
+pub mod WorkedIsolation
 pub mod WorkedLoss
 pub mod WorkedNames
 pub mod WorkedNets

@@ -8,6 +8,8 @@ mod nets;
 mod receptions;
 mod refusals;
 mod statements;
+mod statements_of_components;
+mod statements_of_isolation;
 mod worlds;
 
 use aborts::{

@@ -22,13 +22,16 @@ pub fn clock_never_falls()
 
 /// A dialogue that is over stays so (our own).
 pub fn over_stays_over()
-    ensures step { (dialogue : ℕ) (pair : Pair) (past : Past) → life dialogue past ≡ Life.over → life dialogue (pair ∷ past) ≡ Life.over }
-    ensures later { (dialogue : ℕ) (later past : Past) → life dialogue past ≡ Life.over → life dialogue (later ++ past) ≡ Life.over }
+    ensures step { (dialogue : ℕ) (pair : Pair) (past : Past) → life dialogue past ≡ Life.over →
+        life dialogue (pair ∷ past) ≡ Life.over }
+    ensures later { (dialogue : ℕ) (later past : Past) → life dialogue past ≡ Life.over →
+        life dialogue (later ++ past) ≡ Life.over }
 {}
 
 /// A dialogue that was born is never unborn again (our own).
 pub fn born_stays_born()
-    ensures { (dialogue : ℕ) (later past : Past) → life dialogue past ≢ Life.unborn → life dialogue (later ++ past) ≢ Life.unborn }
+    ensures { (dialogue : ℕ) (later past : Past) → life dialogue past ≢ Life.unborn →
+        life dialogue (later ++ past) ≢ Life.unborn }
 {}
 
 /// The numbers of invocations are drawn from a counter, each once: a reply carries one only to an
@@ -36,12 +39,15 @@ pub fn born_stays_born()
 /// the invocations; they rise one by one from the start, each names its invocation, and the
 /// counter never passes its last number (our own).
 pub fn number_is_drawn_once()
-    ensures to_invoke { (h : History) (event : Event) → number_of (reply h event) ≡ option_map (λ (i : Invocation). i.number) (invoked_of event (reply h event)) }
-    ensures next { (h : History) (event : Event) (number : ℕ) → number_of (reply h event) ≡ Some number → number ≡ next_number h }
+    ensures to_invoke { (h : History) (event : Event) →
+        number_of (reply h event) ≡ option_map (λ (i : Invocation). i.number) (invoked_of event (reply h event)) }
+    ensures next { (h : History) (event : Event) (number : ℕ) → number_of (reply h event) ≡ Some number →
+        number ≡ next_number h }
     ensures drawn { (h : History) → IsLegal h → numbers h.pairs ≡ range_with_len h.start.next_number (invokes h.pairs) }
     ensures rising { (h : History) → IsLegal h → AllPairs (λ m n. m < n) (numbers h.pairs) }
     ensures of_invocations { (h : History) → IsLegal h → numbers h.pairs ≡ map (λ (i : Invocation). i.number) (invocations h.pairs) }
-    ensures found { (h : History) → IsLegal h → (i : Invocation) → Contains (invocations h.pairs) i → invocation_of i.number h.pairs ≡ Some i }
+    ensures found { (h : History) → IsLegal h → (i : Invocation) → Contains (invocations h.pairs) i →
+        invocation_of i.number h.pairs ≡ Some i }
     ensures within { (h : History) → IsLegal h → next_number h ≤ last_number }
 {}
 
@@ -50,11 +56,14 @@ pub fn number_is_drawn_once()
 /// never passes its last identifier, and those that were born are the ones that live or lived (our
 /// own).
 pub fn dialogue_is_born_once()
-    ensures next { (h : History) (event : Event) (dialogue : ℕ) → born_of event (reply h event) ≡ Some dialogue → dialogue ≡ next_dialogue h }
+    ensures next { (h : History) (event : Event) (dialogue : ℕ) → born_of event (reply h event) ≡ Some dialogue →
+        dialogue ≡ next_dialogue h }
     ensures drawn { (h : History) → IsLegal h → dialogues h.pairs ≡ range_with_len h.start.next_dialogue (births h.pairs) }
     ensures rising { (h : History) → IsLegal h → AllPairs (λ c d. c < d) (dialogues h.pairs) }
     ensures within { (h : History) → IsLegal h → next_dialogue h ≤ last_dialogue }
     ensures listed { (dialogue : ℕ) (past : Past) → (was_born dialogue past ≡ true) ↔ Contains (dialogues past) dialogue }
-    ensures lives { (h : History) → IsLegal h → (dialogue : ℕ) → (was_born dialogue h.pairs ≡ true) ↔ (life dialogue h.pairs ≢ Life.unborn) }
-    ensures beyond { (h : History) → IsLegal h → (dialogue : ℕ) → next_dialogue h ≤ dialogue → was_born dialogue h.pairs ≡ false }
+    ensures lives { (h : History) → IsLegal h → (dialogue : ℕ) →
+        (was_born dialogue h.pairs ≡ true) ↔ (life dialogue h.pairs ≢ Life.unborn) }
+    ensures beyond { (h : History) → IsLegal h → (dialogue : ℕ) → next_dialogue h ≤ dialogue →
+        was_born dialogue h.pairs ≡ false }
 {}
