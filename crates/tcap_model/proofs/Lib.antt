@@ -1,11 +1,16 @@
+mod AcceptedRequests
 mod Apart
 mod BirthLemmas
 mod BornDialogues
 mod BornLemmas
+mod BoundedDialogues
+mod BoundedIdentifiers
+mod BoundedQueues
 mod ClockLemmas
 mod ComponentPremises
 mod ComponentTellings
 mod ComponentsWork
+mod CountedClosings
 mod DecisionSteps
 mod DrawnInvocations
 mod DrawnLemmas
@@ -26,6 +31,7 @@ mod NetsWork
 mod NumberLemmas
 mod NumberedLemmas
 mod OpenNumbers
+mod OverDialogues
 mod PeerLemmas
 mod PlaceLemmas
 mod QueuedComponents
