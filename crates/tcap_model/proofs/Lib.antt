@@ -11,6 +11,7 @@ mod EventMarks
 mod LatestInvocations
 mod LifeLemmas
 mod OpenNumbers
+mod OpenReplies
 mod QuietDialogues
 mod QuietNumbers
 mod SendingLemmas

@@ -115,7 +115,7 @@ module _ (n : ℕ) (place past : Past) (dialogue : ℕ) (items : List Item) wher
 -- ---- lapses
 
 module _ (n : ℕ) (place past : Past) where
-  abbrev lapse : Lapsing → List Told
+  abbrev pub lapse : Lapsing → List Told
   lapse l = told_by_output n place (lapse_told l)
 
   abbrev IsOne : Lapsing → Type 0
@@ -162,7 +162,7 @@ module _ (n : ℕ) (place past : Past) where
   told_in_order [] p = refl
   told_in_order (x ∷ xs) p = told_put x (in_order xs) p.0 (each_in_order xs p.1) ∙ ap (λ z. lapse x ++ z) (told_in_order xs p.1)
 
-  abbrev lapse_if_any : Option Lapsing → List Told
+  abbrev pub lapse_if_any : Option Lapsing → List Told
   lapse_if_any None = []
   lapse_if_any (Some l) = lapse l
 
