@@ -10,6 +10,7 @@ mod EarlierMoments
 mod EventMarks
 mod LatestInvocations
 mod LifeLemmas
+mod OpenEvents
 mod OpenNumbers
 mod OpenReplies
 mod QuietDialogues

@@ -64,7 +64,7 @@ found_alive start (pair ∷ past) n i legal e = stays_alive i.dialogue (life i.d
     go None (Some j) q w e ih = new j (j.number == n) w e
 
 module _ (start : Start) (past place : Past) (n : ℕ) (i : Invocation) (legal : AreReplies start past) (found : invocation_of n past ≡ Some i) (here : latest i.dialogue i.id past ≡ Some i) where
-  abbrev h : History
+  abbrev pub h : History
   h = record { start = start; pairs = past }
 
   me : (i.number == n) ≡ true
@@ -73,7 +73,7 @@ module _ (start : Start) (past place : Past) (n : ℕ) (i : Invocation) (legal :
   own_dialogue : (i.dialogue == i.dialogue) ≡ true
   own_dialogue = grind (arith, nat_tests)
 
-  abbrev closed : Option Closing
+  abbrev pub closed : Option Closing
   closed = first_closing i.class i.timeout (span i past)
 
   nothing : wanted place past i [] ≡ []
@@ -127,11 +127,11 @@ module _ (start : Start) (past place : Past) (n : ℕ) (i : Invocation) (legal :
     request_here r None = accepted_here r
 
   -- what an answer tells is what the marks of its pair decide
-  abbrev Answers : Event → Answer → Type 0
+  abbrev pub Answers : Event → Answer → Type 0
   Answers event answer = told_by_answer n place event answer ≡ wanted place past i (marks i.dialogue i.id (record { event = event; answer = answer }) past)
 
   -- without marks nothing is told
-  silent : (event : Event) (answer : Answer) → told_by_answer n place event answer ≡ [] → marks i.dialogue i.id (record { event = event; answer = answer }) past ≡ [] → Answers event answer
+  pub silent : (event : Event) (answer : Answer) → told_by_answer n place event answer ≡ [] → marks i.dialogue i.id (record { event = event; answer = answer }) past ≡ [] → Answers event answer
   silent event answer e q = e ∙ (sym nothing ∙ ap (wanted place past i) (sym q))
 
   on_own_dialogue : (r : Request) → Answers (Event.on_dialogue i.dialogue r) (reply h (Event.on_dialogue i.dialogue r))
@@ -144,7 +144,7 @@ module _ (start : Start) (past place : Past) (n : ℕ) (i : Invocation) (legal :
           request_here s c r (due_by h i.dialogue r (Life.standing s c))
           ∙ ap (wanted place past i) (sym (standing_marks i.dialogue i.id (Event.on_dialogue i.dialogue r) (request_answer h i.dialogue r (Life.standing s c) (due_by h i.dialogue r (Life.standing s c))) past s c q own_dialogue))
 
-  on_any_dialogue : (d : ℕ) (r : Request) → Answers (Event.on_dialogue d r) (reply h (Event.on_dialogue d r))
+  pub on_any_dialogue : (d : ℕ) (r : Request) → Answers (Event.on_dialogue d r) (reply h (Event.on_dialogue d r))
   on_any_dialogue d r = go (d == i.dialogue) refl
     where
       go : (b : Bool) → (d == i.dialogue) ≡ b → Answers (Event.on_dialogue d r) (reply h (Event.on_dialogue d r))
