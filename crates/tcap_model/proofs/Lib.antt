@@ -3,6 +3,8 @@ mod BirthLemmas
 mod BornDialogues
 mod BornLemmas
 mod ComponentTellings
+mod DecidedHistories
+mod DecidedOutcomes
 mod DecisionSteps
 mod DrawnInvocations
 mod DrawnLemmas

@@ -1,5 +1,5 @@
 -- What received bytes and moments tell of an open invocation is what their marks decide.
-use Rattle.std.proofs.Common.{◌≡◌, ℕ, ℤ, ◌+◌, ◌<◌, ◌≤◌, ◌==◌, Bool, true, false, cond, ◌&&◌, nat_le, nat_lt, List, [], ◌∷◌, ◌++◌, Option, Some, None, Result, Ok, Err, refl, ap, sym, ◌∙◌, subst, arith}
+use Rattle.std.proofs.Common.{◌≡◌, ℕ, ℤ, ◌+◌, ◌<◌, ◌≤◌, ◌==◌, Bool, true, false, not, cond, ◌&&◌, nat_le, nat_lt, List, [], ◌∷◌, ◌++◌, Option, Some, None, Result, Ok, Err, refl, ap, sym, ◌∙◌, subst, arith}
 use Rattle.std.proofs.lemmas.Bool.Decides.{nat_tests}
 use Rattle.std.specs.Prelude.{is_none, is_some, option_map}
 use Rattle.std.specs.Option.{option_or}
@@ -11,6 +11,7 @@ use Rattle.tcap_model.proofs.OpenNumbers.{wanted, nothing_wanted, ended_only, qu
 use Rattle.tcap_model.proofs.OpenReplies.{found_alive, Answers, silent, on_any_dialogue}
 use Rattle.tcap_model.proofs.QuietDialogues.{IsQuiet}
 use Rattle.tcap_model.proofs.SentClocks.{at_moment, moment_marks, clock_within}
+use Rattle.tcap_model.proofs.SupersededInvocations.{found_own, reused_of_number}
 use Rattle.tcap_model.proofs.ToldInvocations.{told_one, lapse, lapse_if_any, lapse_of, lapses_number}
 use Rattle.tcap_model.proofs.ToldOutputs.{told}
 use Rattle.tcap_model.proofs.ToldParts.{gain, own}
@@ -34,9 +35,11 @@ use Rattle.tcap_model.specs.Outcome.{closing_after, first_closing}
 use Rattle.tcap_model.specs.Output.{Output, Closing}
 use Rattle.tcap_model.specs.Pair.{Pair, Past}
 use Rattle.tcap_model.specs.Reply.{birth_answer, Lapsing, lapsing_by, lapses, moment_answer, reply, taken_outputs, ended_in}
+use Rattle.tcap_model.specs.Reuse.{is_reused}
 use Rattle.tcap_model.specs.Span.{span}
 use Rattle.tcap_model.specs.State.{State, is_live}
 use Rattle.tcap_model.specs.Time.{moment_fault}
+use Rattle.tcap_model.specs.World.{is_number}
 use Rattle.tcap_pdu.specs.declared.fault.FrameFault.{FrameFault}
 use Rattle.tcap_pdu.specs.FrameReading.{frame_at}
 use Rattle.tcap_pdu.specs.FrameSpelling.{Message}
@@ -165,3 +168,42 @@ module _ (start : Start) (past place : Past) (n : ℕ) (i : Invocation) (legal :
         go : (b : Bool) → nat_le (q + i.timeout) now ≡ b → gain place i (option_or (cond b (Some Closing.lapsed) None) None) ≡ []
         go false e = refl
         go true e = let within : clock past ≤ q + i.timeout = bound refl q refl in absurd (grind (arith, nat_tests))
+
+  unused : is_reused i past ≡ false
+  unused = reused_of_number start past n i legal found ∙ (ap (λ o. not (is_number n o)) here ∙ ap not me)
+
+  on_moment_alive : (now : ℕ) (b : Bool) → nat_lt now (clock past) ≡ b → was_alive (life i.dialogue past) ≡ true
+      → Answers start past place n i legal found here (Event.moment now) (cond b (Answer.outputs []) (Answer.outputs (lapses past now)))
+  on_moment_alive now true q alive =
+      let early : now < clock past = grind (arith, nat_tests) in
+      sym (ap (wanted place past i) (moment_marks i.dialogue i.id now (Answer.outputs []) past refl alive)
+      ∙ early_here now early (first_closing i.class i.timeout (span i past)) (sent_clock (span i past)) (λ none s sent. clock_within i past s (ap is_some (found_own start past n i legal found)) unused none sent))
+  on_moment_alive now false q alive =
+      lapses_here now ∙ (lapse_here now (first_closing i.class i.timeout (span i past)) (sent_clock (span i past))
+      ∙ ap (wanted place past i) (sym (moment_marks i.dialogue i.id now (Answer.outputs (lapses past now)) past refl alive)))
+
+  on_moment_unborn : (now : ℕ) (b : Bool) → was_alive (life i.dialogue past) ≡ false
+      → Answers start past place n i legal found here (Event.moment now) (cond b (Answer.outputs []) (Answer.outputs (lapses past now)))
+  on_moment_unborn now true unborn = silent start past place n i legal found here (Event.moment now) (Answer.outputs []) refl (no_marks i.dialogue i.id (at_moment now (Answer.outputs [])) past unborn)
+  on_moment_unborn now false unborn =
+      silent start past place n i legal found here (Event.moment now) (Answer.outputs (lapses past now)) (lapses_here now ∙ lapse_unborn now (span_unborn i past unborn)) (no_marks i.dialogue i.id (at_moment now (Answer.outputs (lapses past now))) past unborn)
+
+  on_moment : (now : ℕ) (f : Option Fault) → Answers start past place n i legal found here (Event.moment now) (moment_answer past now f)
+  on_moment now (Some f) = silent start past place n i legal found here (Event.moment now) (Answer.refused f) refl (refused_moment i.dialogue i.id now (Answer.refused f) past refl)
+  on_moment now None = go (was_alive (life i.dialogue past)) refl
+    where
+      go : (a : Bool) → was_alive (life i.dialogue past) ≡ a → Answers start past place n i legal found here (Event.moment now) (cond (nat_lt now (clock past)) (Answer.outputs []) (Answer.outputs (lapses past now)))
+      go true alive = on_moment_alive now (nat_lt now (clock past)) refl alive
+      go false unborn = on_moment_unborn now (nat_lt now (clock past)) unborn
+
+  -- ---- every event
+
+  birth_silent : (f : Option Fault) → told_by_answer n place Event.new_dialogue (birth_answer h f) ≡ []
+  birth_silent None = refl
+  birth_silent (Some f) = refl
+
+  pub reply_open : (event : Event) → Answers start past place n i legal found here event (reply h event)
+  reply_open Event.new_dialogue = silent start past place n i legal found here Event.new_dialogue (reply h Event.new_dialogue) (birth_silent (birth_due h)) (unnamed_marks i.dialogue i.id Event.new_dialogue (reply h Event.new_dialogue) past refl)
+  reply_open (Event.on_dialogue d r) = on_any_dialogue start past place n i legal found here d r
+  reply_open (Event.received bytes) = on_bytes bytes
+  reply_open (Event.moment now) = on_moment now (moment_fault now)
