@@ -1,10 +1,10 @@
 -- In a legal history the closing indications of a number are its decision.
-use Rattle.std.proofs.Common.{◌≡◌, ℕ, ◌==◌, Bool, true, false, List, [], ◌∷◌, ◌++◌, Option, Some, None, refl, ap, sym, ◌∙◌, subst}
+use Rattle.std.proofs.Common.{◌≡◌, ℕ, Bool, true, false, List, [], ◌∷◌, ◌++◌, Option, Some, None, refl, ap, sym, ◌∙◌, subst}
 use Rattle.std.proofs.lemmas.List.{append-nil}
 use Rattle.std.specs.Prelude.{is_some, option_map}
 use Rattle.std.specs.Option.{option_or}
 use Rattle.tcap_model.proofs.ComponentTellings.{unless}
-use Rattle.tcap_model.proofs.DecisionSteps.{first_closing-append, number_found, made_found, invocation_stays, decision_stays, closing_of_decision, undecided, decided_now}
+use Rattle.tcap_model.proofs.DecisionSteps.{first_closing-append, number_found, made_found, invocation_stays, closing_of_decision, undecided, decided_now}
 use Rattle.tcap_model.proofs.OpenEvents.{reply_open}
 use Rattle.tcap_model.proofs.OpenNumbers.{wanted}
 use Rattle.tcap_model.proofs.QuietNumbers.{IsSettled, reply_quiet}
@@ -21,7 +21,6 @@ use Rattle.tcap_model.specs.Marks.{Noted, marks}
 use Rattle.tcap_model.specs.Outcome.{closing_after, first_closing, outcome_of, outcome}
 use Rattle.tcap_model.specs.Output.{Closing}
 use Rattle.tcap_model.specs.Pair.{Pair, Past}
-use Rattle.tcap_model.specs.Reply.{reply}
 use Rattle.tcap_model.specs.Reuse.{is_reused}
 use Rattle.tcap_model.specs.Span.{span}
 

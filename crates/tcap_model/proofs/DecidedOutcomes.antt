@@ -1,16 +1,15 @@
 -- What is told of the end of an invocation is its outcome.
-use Rattle.std.proofs.Common.{◌≡◌, ℕ, List, [], ◌∷◌, map, Option, Some, None, refl, ap, sym, ◌∙◌}
-use Rattle.std.specs.Prelude.{option_map, option_to_list}
+use Rattle.std.proofs.Common.{◌≡◌, ℕ, map, Option, Some, None, refl, ap, ◌∙◌}
+use Rattle.std.specs.Prelude.{option_map}
 use Rattle.tcap_model.proofs.DecidedHistories.{closings_are}
 use Rattle.tcap_model.proofs.DecisionSteps.{closing_of_decision, decision_place}
 use Rattle.tcap_model.specs.Closings.{Told, closings}
 use Rattle.tcap_model.specs.Decision.{decision, as_list}
-use Rattle.tcap_model.specs.HeadlineLaws.{Ending, ending_told, ending_of}
+use Rattle.tcap_model.specs.HeadlineLaws.{ending_told, ending_of}
 use Rattle.tcap_model.specs.History.{Start}
 use Rattle.tcap_model.specs.Invocation.{Invocation, invocation_of}
 use Rattle.tcap_model.specs.Legal.{AreReplies}
-use Rattle.tcap_model.specs.Outcome.{outcome_of, outcome}
-use Rattle.tcap_model.specs.Output.{Closing}
+use Rattle.tcap_model.specs.Outcome.{outcome_of}
 use Rattle.tcap_model.specs.Pair.{Past}
 
 module _ (past : Past) (n : ℕ) (i : Invocation) (found : invocation_of n past ≡ Some i) where

@@ -1,40 +1,39 @@
 -- What received bytes and moments tell of an open invocation is what their marks decide.
-use Rattle.std.proofs.Common.{◌≡◌, ℕ, ℤ, ◌+◌, ◌<◌, ◌≤◌, ◌==◌, Bool, true, false, not, cond, ◌&&◌, nat_le, nat_lt, List, [], ◌∷◌, ◌++◌, Option, Some, None, Result, Ok, Err, refl, ap, sym, ◌∙◌, subst, arith}
+use Rattle.std.proofs.Common.{◌≡◌, ℕ, ℤ, ◌+◌, ◌<◌, ◌≤◌, ◌==◌, Bool, true, false, not, cond, ◌&&◌, nat_le, nat_lt, List, [], Option, Some, None, Ok, Err, refl, ap, sym, ◌∙◌, arith}
 use Rattle.std.proofs.lemmas.Bool.Decides.{nat_tests}
 use Rattle.std.specs.Prelude.{is_none, is_some, option_map}
 use Rattle.std.specs.Option.{option_or}
 use Rattle.tcap_model.proofs.BirthLemmas.{beyond-unborn, unborn-life}
 use Rattle.tcap_model.proofs.BornDialogues.{was_alive, noted_at, no_marks, span_unborn}
-use Rattle.tcap_model.proofs.ComponentTellings.{unless, unless_nothing}
+use Rattle.tcap_model.proofs.ComponentTellings.{unless}
 use Rattle.tcap_model.proofs.EventMarks.{unnamed_marks, standing_marks, over_marks, unborn_marks}
 use Rattle.tcap_model.proofs.OpenNumbers.{wanted, nothing_wanted, ended_only, quiet_elsewhere, message_here}
 use Rattle.tcap_model.proofs.OpenReplies.{found_alive, Answers, silent, on_any_dialogue}
-use Rattle.tcap_model.proofs.QuietDialogues.{IsQuiet}
 use Rattle.tcap_model.proofs.SentClocks.{at_moment, moment_marks, clock_within}
 use Rattle.tcap_model.proofs.SupersededInvocations.{found_own, reused_of_number}
-use Rattle.tcap_model.proofs.ToldInvocations.{told_one, lapse, lapse_if_any, lapse_of, lapses_number}
+use Rattle.tcap_model.proofs.ToldInvocations.{told_one, lapse_if_any, lapse_of, lapses_number}
 use Rattle.tcap_model.proofs.ToldOutputs.{told}
 use Rattle.tcap_model.proofs.ToldParts.{gain, own}
 use Rattle.tcap_model.proofs.ToldReceptions.{is_live_in, Wants, reception_tells}
 use Rattle.tcap_model.specs.Answer.{Answer, is_accepted}
-use Rattle.tcap_model.specs.Birth.{births, next_dialogue}
+use Rattle.tcap_model.specs.Birth.{next_dialogue}
 use Rattle.tcap_model.specs.Clock.{clock}
 use Rattle.tcap_model.specs.Closes.{closing_of}
-use Rattle.tcap_model.specs.Closings.{Told, told_if, told_by_answer}
-use Rattle.tcap_model.specs.Deadline.{sent_clock, deadline}
+use Rattle.tcap_model.specs.Closings.{told_by_answer}
+use Rattle.tcap_model.specs.Deadline.{sent_clock}
 use Rattle.tcap_model.specs.Due.{birth_due}
 use Rattle.tcap_model.specs.Event.{Event}
 use Rattle.tcap_model.specs.Fault.{Fault}
 use Rattle.tcap_model.specs.History.{History, Start}
 use Rattle.tcap_model.specs.Invocation.{Invocation, invocation_of, latest}
 use Rattle.tcap_model.specs.Legal.{AreReplies}
-use Rattle.tcap_model.specs.Life.{Life, life, live_in, life_by_event, life_by_message, life_if_live}
-use Rattle.tcap_model.specs.Marks.{Mark, Noted, marks, marks_after_birth, marks_by_event, marks_by_message, marks_if_live, ending}
+use Rattle.tcap_model.specs.Life.{Life, life, live_in, life_by_message, life_if_live}
+use Rattle.tcap_model.specs.Marks.{Mark, Noted, marks, marks_after_birth, marks_by_message, marks_if_live, ending}
 use Rattle.tcap_model.specs.Names.{names}
-use Rattle.tcap_model.specs.Outcome.{closing_after, first_closing}
-use Rattle.tcap_model.specs.Output.{Output, Closing}
-use Rattle.tcap_model.specs.Pair.{Pair, Past}
-use Rattle.tcap_model.specs.Reply.{birth_answer, Lapsing, lapsing_by, lapses, moment_answer, reply, taken_outputs, ended_in}
+use Rattle.tcap_model.specs.Outcome.{first_closing}
+use Rattle.tcap_model.specs.Output.{Closing}
+use Rattle.tcap_model.specs.Pair.{Past}
+use Rattle.tcap_model.specs.Reply.{birth_answer, lapsing_by, lapses, moment_answer, reply, taken_outputs, ended_in}
 use Rattle.tcap_model.specs.Reuse.{is_reused}
 use Rattle.tcap_model.specs.Span.{span}
 use Rattle.tcap_model.specs.State.{State, is_live}

@@ -1,50 +1,38 @@
 -- What each answer tells of an open invocation is what the marks of its event decide.
-use Rattle.std.proofs.Common.{◌≡◌, ℕ, ℤ, ◌+◌, ◌<◌, ◌≤◌, ◌==◌, Bool, true, false, cond, ◌&&◌, nat_le, nat_lt, List, [], ◌∷◌, ◌++◌, Option, Some, None, Result, Ok, Err, refl, ap, sym, ◌∙◌, subst, arith}
+use Rattle.std.proofs.Common.{◌≡◌, ℕ, ℤ, ◌==◌, Bool, true, false, cond, List, [], ◌∷◌, Option, Some, None, refl, ap, sym, ◌∙◌, subst, arith}
 use Rattle.std.proofs.lemmas.Bool.Decides.{nat_tests, Decides-int_eq}
-use Rattle.std.specs.Prelude.{find, is_none, is_some, option_map, option_to_list}
+use Rattle.std.specs.Prelude.{find, is_none, option_to_list}
 use Rattle.std.specs.Option.{option_or}
 use Rattle.std.specs.Ordering.{int_eq}
-use Rattle.tcap_model.proofs.BirthLemmas.{beyond-unborn, unborn-life}
-use Rattle.tcap_model.proofs.BornDialogues.{was_alive, stays_alive, noted_at, no_marks, span_unborn}
-use Rattle.tcap_model.proofs.ComponentTellings.{unless, unless_nothing}
-use Rattle.tcap_model.proofs.DecisionSteps.{number_found}
+use Rattle.tcap_model.proofs.BornDialogues.{was_alive, stays_alive, noted_at}
+use Rattle.tcap_model.proofs.ComponentTellings.{unless}
 use Rattle.tcap_model.proofs.DrawnInvocations.{Draws, draws, invocation_step}
 use Rattle.tcap_model.proofs.EventMarks.{unnamed_marks, standing_marks, over_marks, unborn_marks}
-use Rattle.tcap_model.proofs.OpenNumbers.{wanted, nothing_wanted, ended_only, other_identifier, quiet_elsewhere, message_here, last_here}
-use Rattle.tcap_model.proofs.QuietDialogues.{IsQuiet, request_quiet}
-use Rattle.tcap_model.proofs.SentClocks.{at_moment, moment_marks}
+use Rattle.tcap_model.proofs.OpenNumbers.{wanted, nothing_wanted, other_identifier, quiet_elsewhere, last_here}
+use Rattle.tcap_model.proofs.QuietDialogues.{request_quiet}
 use Rattle.tcap_model.proofs.SupersededInvocations.{found_own}
-use Rattle.tcap_model.proofs.ToldInvocations.{told_one, lapse_of, lapse_if_any, lapses_number}
-use Rattle.tcap_model.proofs.ToldOutputs.{told, sent_silent}
+use Rattle.tcap_model.proofs.ToldOutputs.{sent_silent}
 use Rattle.tcap_model.proofs.ToldParts.{gain, own}
-use Rattle.tcap_model.proofs.ToldReceptions.{is_live_in, Wants, reception_tells}
 use Rattle.tcap_model.specs.Answer.{Answer, is_accepted}
-use Rattle.tcap_model.specs.Birth.{births, next_dialogue}
 use Rattle.tcap_model.specs.Clock.{clock}
-use Rattle.tcap_model.specs.Closes.{closing_of}
 use Rattle.tcap_model.specs.Closings.{Told, told_if, told_by_answer}
-use Rattle.tcap_model.specs.Deadline.{sent_clock}
-use Rattle.tcap_model.specs.Due.{standing_of, due_by, due, birth_due}
+use Rattle.tcap_model.specs.Due.{standing_of, due_by, due}
 use Rattle.tcap_model.specs.Event.{Event}
 use Rattle.tcap_model.specs.Fault.{Fault}
 use Rattle.tcap_model.specs.Held.{pending, if_pending}
 use Rattle.tcap_model.specs.History.{History, Start}
 use Rattle.tcap_model.specs.Invocation.{Invocation, invoked_by, invocation_of, latest}
 use Rattle.tcap_model.specs.Legal.{AreReplies}
-use Rattle.tcap_model.specs.Life.{Life, life, live_in, life_by_event}
-use Rattle.tcap_model.specs.Marks.{Mark, Noted, marked, marks, marks_by_event, marks_by_message, ending}
-use Rattle.tcap_model.specs.Outcome.{closing_after, first_closing, outcome_of, outcome}
-use Rattle.tcap_model.specs.Output.{Output, Closing}
-use Rattle.tcap_model.specs.Pair.{Pair, Past}
-use Rattle.tcap_model.specs.Reply.{birth_answer, given_up_answer, accepted_answer, request_answer, Lapsing, lapsing_by, lapses, moment_answer, reply, taken_outputs, reception_outputs}
+use Rattle.tcap_model.specs.Life.{Life, life, life_by_event}
+use Rattle.tcap_model.specs.Marks.{Mark, marks, marks_by_event}
+use Rattle.tcap_model.specs.Outcome.{first_closing, outcome_of, outcome}
+use Rattle.tcap_model.specs.Output.{Closing}
+use Rattle.tcap_model.specs.Pair.{Past}
+use Rattle.tcap_model.specs.Reply.{given_up_answer, accepted_answer, request_answer, reply}
 use Rattle.tcap_model.specs.Request.{Request, Ending}
 use Rattle.tcap_model.specs.RequestMessage.{message_of}
 use Rattle.tcap_model.specs.Span.{span}
-use Rattle.tcap_model.specs.State.{State, is_live}
-use Rattle.tcap_model.specs.Time.{moment_fault}
-use Rattle.tcap_pdu.specs.declared.fault.FrameFault.{FrameFault}
-use Rattle.tcap_pdu.specs.FrameReading.{frame_at}
-use Rattle.tcap_pdu.specs.FrameSpelling.{Message}
+use Rattle.tcap_model.specs.State.{State}
 
 -- ---- the dialogue of an invocation was born
 
