@@ -1,6 +1,6 @@
 -- The dialogues of a legal history: drawn from a counter, born once, and living since.
-use Rattle.std.proofs.Common.{◌≡◌, ◌≢◌, ℕ, zero, suc, ◌+◌, ◌-◌, ◌<◌, ◌≤◌, ◌⊎◌, ◌↔◌, true, false, Bool, eqb, ◌==◌, ◌||◌, List, [], ◌∷◌, ◌++◌, length, get_or, AllPairs, Contains, option_to_list, is_some, is_none, nat_le, Option, Some, None, if◌then◌else◌, refl, sym, ap, subst, ◌∙◌, inl, inr, arith}
-use Rattle.std.specs.List.{list_any, range_with_len}
+use Rattle.std.proofs.Common.{◌≡◌, ◌≢◌, ℕ, zero, suc, ◌+◌, ◌<◌, ◌≤◌, ◌↔◌, true, false, Bool, ◌||◌, List, [], ◌∷◌, ◌++◌, length, get_or, AllPairs, Contains, option_to_list, is_some, nat_le, Option, Some, None, if◌then◌else◌, refl, sym, ap, subst, ◌∙◌, inl, inr, arith}
+use Rattle.std.specs.List.{range_with_len}
 use Rattle.std.proofs.lemmas.Bool.{cases_Bool, eq-eqb, ne_eqb, eqb-true, eqb-false, or_cases, or_parts, or_left, or_right, true≢false}
 use Rattle.std.proofs.lemmas.List.Elements.{Contains-append_left, Contains-append_right, Contains-append_cases}
 use Rattle.tcap_model.specs.Answer.{Answer}
@@ -11,12 +11,11 @@ use Rattle.tcap_model.specs.Fault.{Fault}
 use Rattle.tcap_model.specs.History.{History, Start}
 use Rattle.tcap_model.specs.Identifiers.{last_dialogue, are_dialogues_spent, birth_fault}
 use Rattle.tcap_model.specs.Legal.{AreReplies}
-use Rattle.tcap_model.specs.Life.{Life, life, standing_dialogues, life_after, life_at_birth, born_life}
+use Rattle.tcap_model.specs.Life.{Life, life, standing_dialogues, life_at_birth, born_life}
 use Rattle.tcap_model.specs.LocalId.{is_that}
-use Rattle.tcap_model.specs.Names.{names}
 use Rattle.tcap_model.specs.Pair.{Pair, Past}
 use Rattle.tcap_model.specs.Reply.{reply}
-use Rattle.tcap_model.proofs.BornLemmas.{IsBirth, IsBornNext, reply-born}
+use Rattle.tcap_model.proofs.BornLemmas.{IsBornNext, reply-born}
 use Rattle.tcap_model.proofs.DrawnLemmas.{IsDrawn, drawn-step, range-rises}
 use Rattle.tcap_model.proofs.LifeLemmas.{born-stays}
 
@@ -42,7 +41,7 @@ dialogues-drawn start [] legal = refl
 dialogues-drawn start (pair ∷ past) legal =
     ap (λ (ds : List ℕ). ds ++ option_to_list (born_by pair)) (dialogues-drawn start past legal.2)
     ∙ drawn-step start.next_dialogue (births past) (born_by pair) (is_some (born_by pair)) refl
-        (drawn-born (start.next_dialogue + births past) (birth_due (record { start = start; pairs = past })) (born_by pair) (born_life pair.event) (pair-born start pair past legal))
+    (drawn-born (start.next_dialogue + births past) (birth_due (record { start = start; pairs = past })) (born_by pair) (born_life pair.event) (pair-born start pair past legal))
 
 pub dialogues-rise : (start : Start) (past : Past) → AreReplies start past → AllPairs (λ c d. c < d) (dialogues past)
 dialogues-rise start past legal =
@@ -113,8 +112,8 @@ dialogues-below start [] legal within = omega arith
 dialogues-below start (pair ∷ past) legal within =
     let h : History = record { start = start; pairs = past } in
     counter-below start.next_dialogue (births past) (birth_due h) (born_by pair) (born_life pair.event) (pair-born start pair past legal)
-      (unspent start.max_dialogues (length (standing_dialogues past)) (start.next_dialogue + births past))
-      (dialogues-below start past legal.2 within)
+    (unspent start.max_dialogues (length (standing_dialogues past)) (start.next_dialogue + births past))
+    (dialogues-below start past legal.2 within)
 
 -- ---- the list
 

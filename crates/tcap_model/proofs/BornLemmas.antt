@@ -1,13 +1,11 @@
 -- Which dialogue a reply gives birth to: none, or the next one, which then stands.
-use Rattle.std.proofs.Common.{◌≡◌, ◌≢◌, ℕ, ◌⊎◌, true, false, Bool, List, [], ◌∷◌, ◌++◌, option_to_list, is_some, Option, Some, None, Result, Ok, Err, refl, sym, ap, subst, ◌∙◌, inl, inr}
-use Rattle.std.specs.Option.{option_or}
+use Rattle.std.proofs.Common.{◌≡◌, ℕ, ◌⊎◌, false, List, [], ◌∷◌, ◌++◌, option_to_list, is_some, Option, Some, None, refl, ap, inl, inr}
 use Rattle.std.proofs.lemmas.Bool.{true≢false}
 use Rattle.tcap_pdu.specs.FrameReading.{frame_at}
 use Rattle.tcap_pdu.specs.FrameSpelling.{Message}
 use Rattle.tcap_component.specs.ComponentReading.{components_of}
-use Rattle.tcap_model.specs.AbortRules.{abort_told, abnormal_abort, sent}
-use Rattle.tcap_model.specs.Answer.{Answer}
-use Rattle.tcap_model.specs.Birth.{begun, first_begun, born_on_message, born_of, next_dialogue}
+use Rattle.tcap_model.specs.AbortRules.{abort_told}
+use Rattle.tcap_model.specs.Birth.{begun, first_begun, born_of, next_dialogue}
 use Rattle.tcap_model.specs.ComponentHandling.{told_of, uni_told}
 use Rattle.tcap_model.specs.Due.{birth_due}
 use Rattle.tcap_model.specs.Event.{Event}
@@ -20,7 +18,7 @@ use Rattle.tcap_model.specs.PortionRules.{PortionVerdict, portion_verdict, begin
 use Rattle.tcap_model.specs.Queue.{handled_in}
 use Rattle.tcap_model.specs.Reception.{Reception, reception}
 use Rattle.tcap_model.specs.Reply.{reply, birth_answer, continue_outputs, end_outputs, message_outputs, taken_outputs, reception_outputs, ended_in}
-use Rattle.tcap_model.specs.State.{State, peer_by}
+use Rattle.tcap_model.specs.State.{State}
 use Rattle.tcap_model.proofs.SendingLemmas.{Sends}
 use Rattle.tcap_model.proofs.SoundReceptions.{IfSends, IsSound, reception-sound}
 use Rattle.tcap_model.proofs.ToldLemmas.{IsTold, AreTold, each-append, components-told, uni-told, ended-told, abort-told}

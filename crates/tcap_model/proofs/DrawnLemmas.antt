@@ -1,6 +1,6 @@
 -- What is drawn from a counter is the numbers from its start on.
-use Rattle.std.proofs.Common.{◌≡◌, ℕ, zero, suc, ◌+◌, ◌<◌, ◌⊎◌, Bool, List, [], ◌∷◌, ◌++◌, get_or, length, AllPairs, IsTrue, nat_eq, Option, Some, None, is_some, option_to_list, if◌then◌else◌, refl, sym, ap, ◌∙◌, inl, inr, arith, add-one, append-nil}
-use Rattle.std.specs.List.{range_with_len, IsDistinct}
+use Rattle.std.proofs.Common.{◌≡◌, ℕ, zero, suc, ◌+◌, ◌<◌, ◌⊎◌, Bool, List, [], ◌∷◌, ◌++◌, AllPairs, Option, Some, None, is_some, option_to_list, if◌then◌else◌, sym, ap, ◌∙◌, inl, inr, arith, add-one, append-nil}
+use Rattle.std.specs.List.{range_with_len}
 use Rattle.std.proofs.lemmas.List.FromFn.{length-range_with_len, get_or-range_with_len}
 
 -- nothing, or the next number

@@ -1,6 +1,6 @@
 -- The Aborts that the provider sends can be written.
-use Rattle.std.proofs.Common.{◌≡◌, ℕ, ◌+◌, ◌<◌, ◌≤◌, true, false, Bool, ltb, cond, List, [], ◌∷◌, length, Option, Some, None, option_map, refl, inl, inr, arith, length-append}
-use Rattle.std.proofs.lemmas.Bool.{cases_Bool, ltb-false}
+use Rattle.std.proofs.Common.{◌≡◌, ℕ, ◌+◌, ◌≤◌, true, false, ltb, List, [], ◌∷◌, length, option_map, refl, inl, inr, arith, length-append}
+use Rattle.std.proofs.lemmas.Bool.{cases_Bool}
 use Rattle.tcap_pdu.specs.DialogueSpelling.{PduValue, Source, structured_syntax}
 use Rattle.ber_core.specs.ObjectIdentifier.{IsObjectIdentifier}
 use Rattle.ber_core.specs.Sequence.Field.{must, filled}
@@ -8,7 +8,7 @@ use Rattle.ber_core.specs.Written.{written, written_fields}
 use Rattle.ber_core.proofs.CallerLemmas.{element_length-most, length-written as length-element}
 use Rattle.tcap_pdu.specs.DialogueWritten.{written_dialogue, written_external, response_fields, result_field, diagnostic_field}
 use Rattle.tcap_pdu.specs.FrameLength.{element_length, reason_length, reason_dialogue}
-use Rattle.tcap_pdu.specs.FrameSpelling.{Message, Reason, HasIds, HasCause, IsReason, cause_limit}
+use Rattle.tcap_pdu.specs.FrameSpelling.{Message, Reason, HasIds, HasCause, cause_limit}
 use Rattle.tcap_pdu.specs.FrameWritten.{message_limit, written_frame}
 use Rattle.tcap_pdu.specs.TransId.{IsTransId}
 use Rattle.tcap_pdu.proofs.CallerLemmas.{length-own, written_spelled}
@@ -66,7 +66,6 @@ pub abnormal-sends : (peer : List ℕ) → IsTransId peer → Sends (abnormal_ab
 abnormal-sends peer id =
     let portion = written_dialogue (PduValue.abrt true []) in
     (peer, Reason.portion portion, refl, portion-goes portion peer abrt-length id)
-
 
 -- ---- the Abort for another version
 

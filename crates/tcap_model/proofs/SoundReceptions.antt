@@ -1,5 +1,5 @@
 -- What becomes of received bytes: what is sent can be sent, and a dialogue is born by a Begin alone.
-use Rattle.std.proofs.Common.{◌≡◌, ℕ, ◌+◌, ◌<◌, ◌≤◌, true, false, Bool, eqb, ltb, List, [], ◌∷◌, length, nat_lt, ◌==◌, Option, Some, None, Result, Ok, Err, if◌then◌else◌, refl, sym, ap, subst, inl, inr, arith}
+use Rattle.std.proofs.Common.{◌≡◌, ℕ, ◌≤◌, true, false, Bool, List, [], ◌∷◌, length, nat_lt, ◌==◌, Option, Some, None, Result, Ok, Err, if◌then◌else◌, refl, ap, subst, arith}
 use Rattle.ber_core.specs.ObjectIdentifier.{IsObjectIdentifier}
 use Rattle.tcap_pdu.specs.declared.fault.DialogueFault.{DialogueFault}
 use Rattle.tcap_pdu.specs.declared.fault.FrameFault.{FrameFault}
@@ -133,16 +133,16 @@ either full bytes false x y p q = q
 fault-sound : (full : Bool) (bytes : List ℕ) (first : ℕ) (named : Option ℕ) (abort : Option Output) (f : FrameFault) → IfSends abort → IsSound full bytes (fault_by first named abort f)
 fault-sound full bytes first named abort f sends =
     either full bytes (first == 0x61) _ _ tt
-      (either full bytes (first == 0x64) _ _ (ended-sound full bytes named f)
-        (either full bytes (first == 0x65) _ _ (broken-sound full bytes named abort f sends)
-          (either full bytes (first == 0x67) _ _ (ended-sound full bytes named f) (aborted-sound full bytes abort sends))))
+    (either full bytes (first == 0x64) _ _ (ended-sound full bytes named f)
+    (either full bytes (first == 0x65) _ _ (broken-sound full bytes named abort f sends)
+    (either full bytes (first == 0x67) _ _ (ended-sound full bytes named f) (aborted-sound full bytes abort sends))))
 
 faulty-sound : (full : Bool) (live : ℕ → Bool) (bytes : List ℕ) (f : FrameFault) → IsSound full bytes (faulty live bytes f)
 faulty-sound full live [] f = tt
 faulty-sound full live (first ∷ bytes) f =
     let front = front_at (first ∷ bytes) in
     fault-sound full (first ∷ bytes) first (addressed_if_any live front.1) (fault_abort f front.0) f
-      (abort-if f front.0 (origin-if (first ∷ bytes) front.0 front.1 (front_read (first ∷ bytes))))
+    (abort-if f front.0 (origin-if (first ∷ bytes) front.0 front.1 (front_read (first ∷ bytes))))
 
 -- ---- all bytes
 

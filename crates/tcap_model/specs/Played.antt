@@ -1,5 +1,5 @@
 -- One dialogue played through: what happens to it, one thing after the other, and what it answers.
-use Rattle.std.specs.Prelude.{◌≡◌, ℕ, ◌+◌, Bool, true, false, List, [], ◌∷◌, ◌++◌, Result, Ok, Err}
+use Rattle.std.specs.Prelude.{◌≡◌, ℕ, ◌+◌, ◌||◌, Bool, true, false, List, [], ◌∷◌, ◌++◌, Result, Ok, Err}
 use Rattle.tcap_pdu.specs.declared.fault.FrameFault.{FrameFault}
 use Rattle.tcap_pdu.specs.FrameSpelling.{Message}
 use Rattle.tcap_pdu.specs.FrameReading.{frame_at}
@@ -56,13 +56,13 @@ opened_with reject_ms = record { setting = first_setting; dialogue = fresh_dialo
 abbrev pub opened : Played
 opened = opened_with 1000
 
--- After one event more, and what the dialogue did (own).
+-- After one event more, and what the dialogue did; it stays over once it is (own).
 abbrev pub after_move : Played → DialogueEvent → Moved → Played
 after_move p event m = record {
   setting = record { clock = clock_after p.setting.clock event; number = number_after p.setting.number m.answer; limit = p.setting.limit };
   dialogue = m.after;
   answers = p.answers ++ m.answer ∷ [];
-  is_over = m.is_over;
+  is_over = p.is_over || m.is_over;
 }
 
 -- After these events, one after the other (own).

@@ -1,5 +1,5 @@
 -- Words for the engines and events of histories that are written step by step.
-use Rattle.std.specs.Prelude.{ℕ, ℤ, List, [], Option, Some, None}
+use Rattle.std.specs.Prelude.{ℕ, ℤ, List, [], ◌∷◌, Option, Some, None}
 use Rattle.tcap_invocation.specs.Invocations.{Row}
 use Rattle.tcap_invocation.specs.declared.class.Class.TheVariants.{One}
 use Rattle.tcap_invocation.specs.declared.stage.Stage.{Stage}
@@ -13,7 +13,7 @@ use Rattle.tcap_model.specs.QueueRules.{Queued}
 use Rattle.tcap_model.specs.Request.{Request}
 use Rattle.tcap_model.specs.State.{State}
 use Rattle.tcap_model.specs.World.{World}
-use Rattle.tcap_model.specs.WorldSteps.{Step}
+use Rattle.tcap_model.specs.WorldSteps.{Step, Walk}
 
 -- ---- engines
 
@@ -27,9 +27,18 @@ empty_engine = record { max_dialogues = 4; reject_ms = 1000; next_dialogue = 1; 
 
 -- The engine once dialogue 1 was born, at this clock, with the number of the next invocation and the
 -- dialogues that stand (own).
-abbrev pub engine : ℕ → ℕ → List Dialogue → World
-engine clock next_number dialogues =
+abbrev pub engine_with : ℕ → ℕ → List Dialogue → World
+engine_with clock next_number dialogues =
     record { max_dialogues = 4; reject_ms = 1000; next_dialogue = 2; next_number = next_number; clock = clock; dialogues = dialogues }
+
+-- The engine where dialogue 1 stands: the clock, the number of the next invocation, and the dialogue
+-- (own).
+abbrev pub engine : ℕ → ℕ → Dialogue → World
+engine clock next_number dialogue = engine_with clock next_number (dialogue ∷ [])
+
+-- The engine where dialogue 1 is over: the clock, and the number of the next invocation (own).
+abbrev pub engine_after : ℕ → ℕ → World
+engine_after clock next_number = engine_with clock next_number []
 
 -- Dialogue 1 in this state, with its application context, its queue and its invocations (own).
 abbrev pub dialogue_1 : State → Option (List ℕ) → List Queued → List Row → Dialogue
@@ -51,6 +60,10 @@ abbrev pub row : ℤ → ℕ → Stage → Row
 row id number stage = (id, record { number = number; class = One; stage = stage })
 
 -- ---- steps
+
+-- These steps, from the engine before its first dialogue on (own).
+abbrev pub walk : List Step → Walk
+walk steps = record { start = started; before = empty_engine; steps = steps }
 
 -- A dialogue is asked for, and number 1 is born (own).
 abbrev pub new_dialogue_1 : World → Step

@@ -1,5 +1,6 @@
 //! Laws of the definitions, each the contract of a function that does nothing.
 
+pub mod components;
 pub mod deciding;
 pub mod drawing;
 pub mod invoking;

@@ -10,6 +10,5 @@
 #![tactic(auto)]
 
 pub mod laws;
-
 #[cfg(test)]
 mod tests;

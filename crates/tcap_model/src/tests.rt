@@ -4,8 +4,12 @@ mod dialogues;
 mod faults;
 mod histories;
 mod identifiers;
+mod nets;
 mod receptions;
 mod refusals;
+mod statements;
+mod statements_of_components;
+mod statements_of_isolation;
 mod worlds;
 
 use aborts::{

@@ -5,6 +5,7 @@ mod closing;
 mod ends;
 mod names;
 mod play;
+mod readings;
 mod reception;
 mod refusals;
 mod requests;
@@ -18,7 +19,11 @@ use closing::{
 };
 use ends::{a_faulty_continue, a_faulty_end, remote_rejects, ways_an_invocation_closes};
 use names::named_dialogues;
-use play::repeated_begin;
+use play::{lost_end, repeated_begin};
+use readings::{
+    a_faulty_continue_without_origin, counters, messages_to_none, other_dialogues,
+    queued_components, resource_limitation_first,
+};
 use reception::{
     a_begin_with_aarq, continue_to_no_dialogue, dialogue_refused_and_aborted, dropped_input,
     faulty_messages_answered, unknown_linked_identifier, version_refused,
@@ -63,6 +68,17 @@ fn names_hold() {
 #[test]
 fn play_holds() {
     repeated_begin();
+    lost_end();
+}
+
+#[test]
+fn readings_hold() {
+    resource_limitation_first();
+    messages_to_none();
+    a_faulty_continue_without_origin();
+    counters();
+    queued_components();
+    other_dialogues();
 }
 
 #[test]

@@ -1,0 +1,27 @@
+-- What a history hands to one of its dialogues.
+use Rattle.std.specs.Prelude.{Bool, true, false}
+use Rattle.tcap_model.specs.Clock.{clock}
+use Rattle.tcap_model.specs.History.{History}
+use Rattle.tcap_model.specs.Invocation.{next_number}
+use Rattle.tcap_model.specs.QueueRules.{queue_limit}
+use Rattle.tcap_model.specs.Request.{Request}
+use Rattle.tcap_model.specs.TableMove.{Setting}
+
+-- What is around a dialogue at a history (own).
+abbrev pub setting_at : History → Setting
+setting_at h = record { clock = clock h.pairs; number = next_number h; limit = queue_limit }
+
+-- Whether a request, where it is accepted, leaves its dialogue standing
+-- (Q.774, Transaction state machine).
+abbrev pub leaves_standing : Request → Bool
+leaves_standing (Request.invoke id class code parameter linked timeout) = true
+leaves_standing (Request.result_last id body) = true
+leaves_standing (Request.result_more id body) = true
+leaves_standing (Request.error_back id code parameter) = true
+leaves_standing (Request.u_reject id problem) = true
+leaves_standing (Request.u_cancel id) = true
+leaves_standing (Request.uni context info) = false
+leaves_standing (Request.begin context info) = true
+leaves_standing (Request.go_on context info) = true
+leaves_standing (Request.finish ending context info) = false
+leaves_standing (Request.u_abort why info) = false

@@ -1,0 +1,68 @@
+//! The statements about two ends on a worked list of two engines, and two lists that break a premise of
+//! "after the Invoke".
+#![tactic(auto, using(crate::proofs::NetsWork::nets_work), unfolding(crate::specs::Computing::computing))]
+
+ghost use Rattle.std.specs.Prelude.{◌≡◌, ◌≤◌, pos, length, None};
+ghost use Rattle.tcap_component.specs.Component.{CodeParts};
+ghost use Rattle.tcap_model.specs.Closings.{closings};
+ghost use Rattle.tcap_model.specs.Net.{Engine, Trace, IsNet, side};
+ghost use Rattle.tcap_model.specs.Pair.{Pair};
+ghost use Rattle.tcap_model.specs.Places.{Tells};
+ghost use Rattle.tcap_model.specs.TwoEnds.{Happens, IsAnswer, IsFarRequest, ComesFromFar, UsesOnce, AnswersWhatItWasTold, WasOpened, WasSent, WasAsked};
+ghost use Rattle.tcap_model.specs.WorkedNets.{repeated_begin, before_the_answer, answer_told, answer_closes, second_request, before_the_repeat, repeat_told, invoked, answered_ahead, heard_as_one, IsAnsweredAhead};
+
+/// A Begin is delivered twice: the answer that closes the invocation comes from the second of the two
+/// far dialogues.
+fn an_answer_has_its_origin()
+    ensures net { IsNet repeated_begin }
+    ensures happens { Happens Engine.a answer_told before_the_answer repeated_begin.trace }
+    ensures told { Tells answer_told.answer answer_closes }
+    ensures answers { IsAnswer 1 1 (pos 1) answer_closes second_request }
+    ensures origin { ComesFromFar Engine.a 1 second_request before_the_answer }
+    ensures once { length (closings 1 (side Engine.a repeated_begin.trace)) ≤ 1 }
+{}
+
+/// Every far request that it may come from was made after the Invoke was sent.
+fn an_answer_comes_after_its_invoke()
+    ensures net { IsNet repeated_begin }
+    ensures uses_once { UsesOnce Engine.a 1 repeated_begin.trace }
+    ensures answers_what_it_was_told { AnswersWhatItWasTold Engine.b repeated_begin.trace }
+    ensures opened { WasOpened Engine.a 1 repeated_begin.trace }
+    ensures after { (asked : Pair) (earlier : Trace) → Happens Engine.b asked earlier before_the_answer → IsFarRequest Engine.a 1 second_request asked earlier → WasSent 1 (side Engine.a earlier) }
+{}
+
+/// The Invoke that the second delivery tells was asked for and sent before.
+fn an_operation_was_asked_for()
+    ensures net { IsNet repeated_begin }
+    ensures happens { Happens Engine.b repeat_told before_the_repeat repeated_begin.trace }
+    ensures told { Tells repeat_told.answer (invoked 2) }
+    ensures asked { WasAsked (pos 1) None (CodeParts.local (pos 10)) None (side Engine.a before_the_repeat) }
+{}
+
+/// Where a user answers what it wasn't told, an answer may have been asked for before the Invoke was
+/// sent, though the other two premises hold.
+fn an_answer_ahead()
+    ensures net { IsNet answered_ahead }
+    ensures uses_once { UsesOnce Engine.a 1 answered_ahead.trace }
+    ensures opened { WasOpened Engine.a 1 answered_ahead.trace }
+    ensures not_told { AnswersWhatItWasTold Engine.b answered_ahead.trace → ⊥ }
+    ensures ahead { IsAnsweredAhead Engine.a 1 1 answered_ahead.trace }
+{}
+
+/// Where the peer opened the dialogue, so too: one far dialogue may hear two.
+fn two_dialogues_heard_as_one()
+    ensures net { IsNet heard_as_one }
+    ensures uses_once { UsesOnce Engine.a 1 heard_as_one.trace }
+    ensures answers_what_it_was_told { AnswersWhatItWasTold Engine.b heard_as_one.trace }
+    ensures not_opened { WasOpened Engine.a 1 heard_as_one.trace → ⊥ }
+    ensures ahead { IsAnsweredAhead Engine.a 1 2 heard_as_one.trace }
+{}
+
+#[test]
+fn statements_about_two_ends_hold() {
+    an_answer_has_its_origin();
+    an_answer_comes_after_its_invoke();
+    an_operation_was_asked_for();
+    an_answer_ahead();
+    two_dialogues_heard_as_one();
+}

@@ -1,0 +1,86 @@
+//! Isolation on a worked history of two dialogues: the premises hold for four events of the first, and so
+//! does the conclusion; for a fifth, without an invocation number left, it doesn't.
+#![tactic(auto, using(crate::proofs::IsolationWorks::isolation_works), unfolding(crate::specs::Computing::computing))]
+
+ghost use Rattle.std.specs.Prelude.{◌≡◌, ◌≢◌, [], ◌∷◌, IsTrue, None};
+ghost use Rattle.tcap_model.specs.Answer.{Answer};
+ghost use Rattle.tcap_model.specs.Birth.{was_born};
+ghost use Rattle.tcap_model.specs.Fault.{Fault};
+ghost use Rattle.tcap_model.specs.InRange.{InRange};
+ghost use Rattle.tcap_model.specs.Isolation.{IsAlone, history_of};
+ghost use Rattle.tcap_model.specs.Legal.{IsLegal};
+ghost use Rattle.tcap_model.specs.Names.{names};
+ghost use Rattle.tcap_model.specs.Only.{only};
+ghost use Rattle.tcap_model.specs.Output.{Output};
+ghost use Rattle.tcap_model.specs.Reply.{reply};
+ghost use Rattle.tcap_model.specs.WorkedIsolation.{two_dialogues, first_alone, before_the_lapse, before_the_invoke, first_invokes, invokes_again, first_cancels, first_hears, both_lapse, first_lapses, second_lapses, last_but_one, last};
+
+/// What the first dialogue sees of a history of two.
+fn one_dialogue_of_two()
+    ensures legal { IsLegal two_dialogues }
+    ensures born { IsTrue (was_born 1 two_dialogues.pairs) }
+    ensures only { only 1 two_dialogues.pairs ≡ first_alone }
+{}
+
+/// An invoke draws another number, and is accepted in both.
+fn an_invoke_alone()
+    ensures legal { IsLegal before_the_invoke }
+    ensures born { IsTrue (was_born 1 before_the_invoke.pairs) }
+    ensures in_range { InRange first_invokes }
+    ensures named { IsTrue (names first_invokes 1) }
+    ensures replied { reply before_the_invoke first_invokes ≡ Answer.number last }
+    ensures replied_alone { reply (history_of 1 before_the_invoke) first_invokes ≡ Answer.number last_but_one }
+    ensures number_left { reply before_the_invoke first_invokes ≢ Answer.refused Fault.numbers_spent }
+    ensures alone { IsAlone before_the_invoke 1 first_invokes }
+{}
+
+/// A request is answered as if the dialogue were alone.
+fn a_request_alone()
+    ensures legal { IsLegal before_the_lapse }
+    ensures born { IsTrue (was_born 1 before_the_lapse.pairs) }
+    ensures in_range { InRange first_cancels }
+    ensures named { IsTrue (names first_cancels 1) }
+    ensures replied { reply before_the_lapse first_cancels ≡ Answer.given_up last }
+    ensures number_left { reply before_the_lapse first_cancels ≢ Answer.refused Fault.numbers_spent }
+    ensures alone { IsAlone before_the_lapse 1 first_cancels }
+{}
+
+/// So are received bytes.
+fn bytes_alone()
+    ensures legal { IsLegal before_the_lapse }
+    ensures in_range { InRange first_hears }
+    ensures named { IsTrue (names first_hears 1) }
+    ensures number_left { reply before_the_lapse first_hears ≢ Answer.refused Fault.numbers_spent }
+    ensures alone { IsAlone before_the_lapse 1 first_hears }
+{}
+
+/// Of a moment at which both dialogues' invocations lapse, the dialogue's own is compared.
+fn a_moment_alone()
+    ensures legal { IsLegal before_the_lapse }
+    ensures in_range { InRange both_lapse }
+    ensures named { IsTrue (names both_lapse 1) }
+    ensures replied { reply before_the_lapse both_lapse ≡ Answer.outputs (first_lapses ∷ second_lapses ∷ []) }
+    ensures replied_alone { reply (history_of 1 before_the_lapse) both_lapse ≡ Answer.outputs (first_lapses ∷ []) }
+    ensures number_left { reply before_the_lapse both_lapse ≢ Answer.refused Fault.numbers_spent }
+    ensures alone { IsAlone before_the_lapse 1 both_lapse }
+{}
+
+/// Where no number is left, the dialogue alone would have one: the exception is needed.
+fn the_last_number_is_seen()
+    ensures legal { IsLegal two_dialogues }
+    ensures in_range { InRange invokes_again }
+    ensures named { IsTrue (names invokes_again 1) }
+    ensures spent { reply two_dialogues invokes_again ≡ Answer.refused Fault.numbers_spent }
+    ensures not_spent_alone { reply (history_of 1 two_dialogues) invokes_again ≡ Answer.number last }
+    ensures not_alone { IsAlone two_dialogues 1 invokes_again → ⊥ }
+{}
+
+#[test]
+fn statements_about_isolation_hold() {
+    one_dialogue_of_two();
+    an_invoke_alone();
+    a_request_alone();
+    bytes_alone();
+    a_moment_alone();
+    the_last_number_is_seen();
+}
