@@ -11,6 +11,8 @@ mod ComponentPremises
 mod ComponentTellings
 mod ComponentsWork
 mod CountedClosings
+mod DecidedHistories
+mod DecidedOutcomes
 mod DecisionSteps
 mod DrawnInvocations
 mod DrawnLemmas
@@ -30,7 +32,9 @@ mod NamedReceptions
 mod NetsWork
 mod NumberLemmas
 mod NumberedLemmas
+mod OpenEvents
 mod OpenNumbers
+mod OpenReplies
 mod OverDialogues
 mod PeerLemmas
 mod PlaceLemmas

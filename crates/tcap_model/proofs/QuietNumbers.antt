@@ -1,5 +1,5 @@
 -- Of a number whose invocation is decided, or that no invocation has, no answer tells anything.
-use Rattle.std.proofs.Common.{◌≡◌, ℕ, ℤ, ◌+◌, ◌==◌, Bool, true, false, cond, ◌&&◌, nat_le, nat_lt, List, [], ◌∷◌, ◌++◌, Option, Some, None, refl, ap, sym, ◌∙◌, subst, arith}
+use Rattle.std.proofs.Common.{◌≡◌, ℕ, ℤ, ◌==◌, Bool, true, false, cond, ◌&&◌, nat_lt, List, [], Option, Some, None, refl, ap, sym, ◌∙◌, arith}
 use Rattle.std.proofs.lemmas.Bool.Decides.{nat_tests}
 use Rattle.std.specs.Prelude.{is_none, is_some}
 use Rattle.std.specs.Option.{option_or}
@@ -12,7 +12,7 @@ use Rattle.tcap_model.proofs.ToldOutputs.{told, IsOther}
 use Rattle.tcap_model.proofs.ToldReceptions.{Wants, reception_tells}
 use Rattle.tcap_model.specs.Birth.{next_dialogue}
 use Rattle.tcap_model.specs.Clock.{clock}
-use Rattle.tcap_model.specs.Closings.{Told, told_by_answer}
+use Rattle.tcap_model.specs.Closings.{told_by_answer}
 use Rattle.tcap_model.specs.ComponentHandling.{Item, SentInvocation}
 use Rattle.tcap_model.specs.Deadline.{sent_clock, deadline}
 use Rattle.tcap_model.specs.Due.{due, birth_due}
@@ -25,10 +25,10 @@ use Rattle.tcap_model.specs.Legal.{AreReplies}
 use Rattle.tcap_model.specs.Life.{life}
 use Rattle.tcap_model.specs.Marks.{component_marks}
 use Rattle.tcap_model.specs.Outcome.{closing_after, first_closing, is_sent_in, outcome_of, outcome}
-use Rattle.tcap_model.specs.Output.{Output, Closing}
+use Rattle.tcap_model.specs.Output.{Closing}
 use Rattle.tcap_model.specs.Pair.{Past}
 use Rattle.tcap_model.specs.Queue.{marks_up_to, if_sent}
-use Rattle.tcap_model.specs.Reply.{birth_answer, ended_in, lapsing_by, lapses, moment_answer, reply}
+use Rattle.tcap_model.specs.Reply.{birth_answer, ended_in, lapses, moment_answer, reply}
 use Rattle.tcap_model.specs.Span.{span}
 use Rattle.tcap_model.specs.Time.{moment_fault}
 

@@ -1,5 +1,5 @@
 -- What is told of all invocations tells of the number n what it tells of the one of that number.
-use Rattle.std.proofs.Common.{◌≡◌, ℕ, ℤ, ◌==◌, Bool, true, false, cond, ◌&&◌, nat_le, List, [], ◌∷◌, ◌++◌, map, Option, Some, None, refl, ap, sym, ◌∙◌, subst, arith, append_assoc}
+use Rattle.std.proofs.Common.{◌≡◌, ℕ, ◌==◌, Bool, true, false, cond, ◌&&◌, nat_le, List, [], ◌∷◌, ◌++◌, Option, Some, None, refl, ap, sym, ◌∙◌, arith, append_assoc}
 use Rattle.std.proofs.lemmas.Bool.Decides.{nat_tests}
 use Rattle.std.proofs.lemmas.List.{append-nil}
 use Rattle.std.proofs.lemmas.List.Folds.{flat_map-map}
@@ -115,7 +115,7 @@ module _ (n : ℕ) (place past : Past) (dialogue : ℕ) (items : List Item) wher
 -- ---- lapses
 
 module _ (n : ℕ) (place past : Past) where
-  abbrev lapse : Lapsing → List Told
+  abbrev pub lapse : Lapsing → List Told
   lapse l = told_by_output n place (lapse_told l)
 
   abbrev IsOne : Lapsing → Type 0
@@ -162,7 +162,7 @@ module _ (n : ℕ) (place past : Past) where
   told_in_order [] p = refl
   told_in_order (x ∷ xs) p = told_put x (in_order xs) p.0 (each_in_order xs p.1) ∙ ap (λ z. lapse x ++ z) (told_in_order xs p.1)
 
-  abbrev lapse_if_any : Option Lapsing → List Told
+  abbrev pub lapse_if_any : Option Lapsing → List Told
   lapse_if_any None = []
   lapse_if_any (Some l) = lapse l
 

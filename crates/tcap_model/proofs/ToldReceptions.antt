@@ -1,23 +1,23 @@
 -- What received bytes tell of the number n, by what its dialogue tells.
-use Rattle.std.proofs.Common.{◌≡◌, ℕ, ℤ, ◌<◌, ◌≤◌, ◌==◌, Bool, true, false, cond, ◌||◌, nat_le, nat_lt, List, [], ◌∷◌, ◌++◌, length, Option, Some, None, Result, Ok, Err, refl, ap, sym, ◌∙◌, subst, arith}
+use Rattle.std.proofs.Common.{◌≡◌, ℕ, ◌==◌, Bool, true, false, cond, ◌||◌, nat_le, nat_lt, List, [], ◌∷◌, ◌++◌, length, Option, Some, None, Result, Ok, Err, refl, ap, sym, ◌∙◌, subst, arith}
 use Rattle.std.proofs.lemmas.Bool.Decides.{nat_tests}
-use Rattle.std.specs.Prelude.{option_to_list, is_some}
+use Rattle.std.specs.Prelude.{option_to_list}
 use Rattle.tcap_component.specs.ComponentReading.{components_of}
 use Rattle.tcap_model.proofs.QuietDialogues.{IsQuiet, components_quiet, taken_quiet}
 use Rattle.tcap_model.proofs.ToldOutputs.{told, told-append, uni_silent}
 use Rattle.tcap_model.specs.AbortRules.{fault_cause}
 use Rattle.tcap_model.specs.Birth.{next_dialogue}
 use Rattle.tcap_model.specs.Closings.{Told}
-use Rattle.tcap_model.specs.Destination.{destination, begins_addressed, destination_by}
+use Rattle.tcap_model.specs.Destination.{destination_by}
 use Rattle.tcap_model.specs.Event.{Event}
 use Rattle.tcap_model.specs.History.{History}
-use Rattle.tcap_model.specs.Life.{Life, life, live_in}
+use Rattle.tcap_model.specs.Life.{life, live_in}
 use Rattle.tcap_model.specs.LocalId.{dialogue_named, is_that}
 use Rattle.tcap_model.specs.Names.{names, named_within, is_destined}
 use Rattle.tcap_model.specs.Output.{Output, AbortCause, DropCause}
 use Rattle.tcap_model.specs.Pair.{Past}
 use Rattle.tcap_model.specs.PortionRules.{BeginVerdict, begin_verdict, PortionVerdict, uni_verdict}
-use Rattle.tcap_model.specs.Reception.{Reception, reception, reading_by, message_by, uni_by, begin_by, continue_by, last_by, live_named, addressed, addressed_if_any, faulty, fault_by, fault_abort, faulty_last, faulty_continue, aborted_or_dropped}
+use Rattle.tcap_model.specs.Reception.{Reception, reception, reading_by, message_by, uni_by, begin_by, continue_by, last_by, live_named, addressed, addressed_if_any, faulty, fault_abort, faulty_last, faulty_continue, aborted_or_dropped}
 use Rattle.tcap_model.specs.Reply.{reception_outputs, taken_outputs, ended_in}
 use Rattle.tcap_pdu.specs.declared.fault.FrameFault.{FrameFault}
 use Rattle.tcap_pdu.specs.FrameReading.{frame_at}

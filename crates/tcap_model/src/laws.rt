@@ -2,6 +2,7 @@
 
 pub mod bounds;
 pub mod components;
+pub mod deciding;
 pub mod drawing;
 pub mod invoking;
 pub mod messages;
