@@ -2,7 +2,7 @@
 use Rattle.std.proofs.Common.{◌≡◌, ℕ, ℤ, pos, negsuc, List, [], ◌∷◌, Option, Some, None, false, length, refl, sym, ap, subst, ◌∙◌, inl, inr}
 use Rattle.std.specs.Prelude.{drop, take, ◌==◌}
 use Rattle.std.proofs.lemmas.Bool.{false≢true}
-use Rattle.tcap_pdu.specs.FrameSpelling.{Message, SpellsFrame}
+use Rattle.tcap_pdu.specs.FrameSpelling.{SpellsFrame}
 use Rattle.tcap_pdu.proofs.CallerLemmas.{frame_takes}
 use Rattle.tcap_component.specs.Component.{ComponentParts, CodeParts, component_tag}
 use Rattle.tcap_component.specs.ComponentList.{FirstFault}

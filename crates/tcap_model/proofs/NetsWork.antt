@@ -1,5 +1,5 @@
 -- The statements about two ends on worked nets: the premises, and the conclusions.
-use Rattle.std.proofs.Common.{◌≡◌, ℕ, ℤ, pos, true, List, [], ◌∷◌, Option, Some, None, refl, sym, arith}
+use Rattle.std.proofs.Common.{◌≡◌, pos, [], ◌∷◌, Some, None, refl, arith}
 use Rattle.std.specs.Prelude.{drop, take}
 use Rattle.tcap_component.specs.Component.{CodeParts}
 use Rattle.tcap_invocation.specs.declared.class.Class.TheVariants.{One, Four}

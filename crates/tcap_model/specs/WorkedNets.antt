@@ -1,6 +1,6 @@
 -- Two engines on which the statements about two ends are instantiated, and two pairs of engines that
 -- break a premise of "after the Invoke".
-use Rattle.std.specs.Prelude.{ℕ, ℤ, pos, List, [], ◌∷◌, reverse, map, drop, None, Some}
+use Rattle.std.specs.Prelude.{ℕ, ℤ, pos, List, [], ◌∷◌, reverse, drop, None, Some}
 use Rattle.tcap_component.specs.Component.{CodeParts, BodyParts}
 use Rattle.tcap_invocation.specs.declared.class.Class.TheVariants.{One, Four}
 use Rattle.tcap_model.specs.Answer.{Answer}
