@@ -1,9 +1,9 @@
 -- What is sent and told, from what each answer of a list is.
-use Rattle.std.proofs.Common.{◌≡◌, ℕ, ℤ, List, [], ◌∷◌, ◌++◌, Option, Some, None, Ok, Err, Result, refl, ap, subst, sym, ◌∙◌, ◌⊎◌}
+use Rattle.std.proofs.Common.{◌≡◌, ℕ, List, [], ◌∷◌, ◌++◌, Option, Some, None, Ok, Err, Result, refl, ap, subst, sym, ◌∙◌, ◌⊎◌}
 use Rattle.std.specs.List.{AllByRecursion}
 use Rattle.tcap_pdu.specs.declared.fault.FrameFault.{FrameFault}
 use Rattle.tcap_pdu.specs.FrameReading.{frame_at}
-use Rattle.tcap_pdu.specs.FrameSpelling.{Message, SpellsFrame}
+use Rattle.tcap_pdu.specs.FrameSpelling.{Message}
 use Rattle.tcap_pdu.proofs.CallerLemmas.{frame_again}
 use Rattle.tcap_component.specs.Component.{ComponentParts}
 use Rattle.tcap_component.specs.ComponentFault.{FaultParts}
@@ -16,7 +16,7 @@ use Rattle.tcap_model.specs.ComponentLaws.{portion_of, SentFromOne, SentFrom, To
 use Rattle.tcap_model.specs.Event.{Event}
 use Rattle.tcap_model.specs.Output.{Output, Closing, Rejector}
 use Rattle.tcap_model.specs.Pair.{Pair, Past}
-use Rattle.tcap_model.specs.Places.{StandsIn, Tells}
+use Rattle.tcap_model.specs.Places.{Tells}
 
 -- ---- components and the first fault
 

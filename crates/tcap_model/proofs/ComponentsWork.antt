@@ -2,7 +2,7 @@
 use Rattle.std.proofs.Common.{◌≡◌, ℕ, ℤ, pos, negsuc, List, [], ◌∷◌, Option, Some, None, false, length, refl, sym, ap, subst, ◌∙◌, inl, inr}
 use Rattle.std.specs.Prelude.{drop, take, ◌==◌}
 use Rattle.std.proofs.lemmas.Bool.{false≢true}
-use Rattle.tcap_pdu.specs.FrameSpelling.{Message, SpellsFrame}
+use Rattle.tcap_pdu.specs.FrameSpelling.{SpellsFrame}
 use Rattle.tcap_pdu.proofs.CallerLemmas.{frame_takes}
 use Rattle.tcap_component.specs.Component.{ComponentParts, CodeParts, component_tag}
 use Rattle.tcap_component.specs.ComponentList.{FirstFault}
@@ -46,7 +46,9 @@ first-requested = record {
   before = born 1 ∷ [];
   request = Request.invoke (negsuc 127) One (code 10) None None 1000;
   stands = record { later = take 1 before_the_begin; is_past = refl };
-  is_event = refl; accepted = refl; is_component = refl;
+  is_event = refl;
+  accepted = refl;
+  is_component = refl;
 }
 
 second-requested : WasRequested 1 (ComponentParts.invoke (pos 127) None (code 10) None) before_the_begin
@@ -55,7 +57,9 @@ second-requested = record {
   before = drop 1 before_the_begin;
   request = Request.invoke (pos 127) One (code 10) None None 1000;
   stands = record { later = []; is_past = refl };
-  is_event = refl; accepted = refl; is_component = refl;
+  is_event = refl;
+  accepted = refl;
+  is_component = refl;
 }
 
 pub begin-sent-from : SentFromOne begin_pair.event before_the_begin two_invokes None
@@ -98,8 +102,9 @@ reject-sent-from = record { dialogue = 1; request = plain_continue; is_event = r
 pub past-sent-from : SentFrom past
 unfolding computing
 past-sent-from = sent_from past (
-    ((reject_message, reject, None, refl, refl, inr reject-sent-from), tt),
-    ((tt, (tt, (tt, tt))), (((begin_message, two_invokes, None, refl, refl, inr begin-sent-from), tt), (tt, (tt, (tt, tt))))))
+  ((reject_message, reject, None, refl, refl, inr reject-sent-from), tt),
+  ((tt, (tt, (tt, tt))), (((begin_message, two_invokes, None, refl, refl, inr begin-sent-from), tt), (tt, (tt, (tt, tt))))),
+)
 
 -- ---- the result that is told
 
@@ -191,9 +196,9 @@ unfolding computing
 crossed-not-sent-from from = elim (from crossed_queues.last crossed_queues.before crossed_sent crossed_message (crossed_invoke ∷ []) None
     (record { later = []; is_past = refl }) (record { earlier = []; later = []; is_answer = refl })
     (frame_takes crossed_sent crossed_message refl) (first_fault_at (portion_of crossed_message) (crossed_invoke ∷ []) None refl)) [
-  | inl empty ↦ apart length empty refl
-  | inr one ↦ not_from one.dialogue (ap asked one.is_event) one.each.0
-]
+      | inl empty ↦ apart length empty refl
+      | inr one ↦ not_from one.dialogue (ap asked one.is_event) one.each.0
+    ]
 
 -- What the tests state.
 pub ruleset components_work = (begin-stands, begin-tells, begin-spelled, begin-first, begin-sent-from, reject-stands, reject-tells, reject-spelled, reject-first, reject-sent-from, result-stands, result-tells, result-is, result-told-from, begun-stands, begun-tells, begun-is, begun-told-from, crossed-wrong)

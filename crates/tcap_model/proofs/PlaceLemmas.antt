@@ -1,14 +1,16 @@
 -- What holds at every place of a list holds at each that stands in it.
-use Rattle.std.proofs.Common.{◌≡◌, ℕ, Bool, true, List, [], ◌∷◌, ◌++◌, Option, Some, None, refl, ap, subst, sym, ◌∙◌, inl, inr}
+use Rattle.std.proofs.Common.{◌≡◌, ℕ, Bool, false, true, List, [], ◌∷◌, ◌++◌, Some, None, refl, ap, subst, sym, ◌∙◌, inl, inr}
 use Rattle.std.specs.List.{list_any}
-use Rattle.std.proofs.lemmas.Bool.{cases_Bool}
-use Rattle.ber_core.proofs.CallerLemmas.{not_some}
+use Rattle.std.proofs.lemmas.Bool.{cases_Bool, false≢true}
+use Rattle.ber_core.proofs.CallerLemmas.{not_some, some_is}
 use Rattle.tcap_model.specs.Answer.{Answer}
 use Rattle.tcap_model.specs.Invocation.{Invocation, invocation_of}
 use Rattle.tcap_model.specs.Net.{Engine, Marked, Trace}
+use Rattle.tcap_model.specs.Outcome.{was_sent_in}
 use Rattle.tcap_model.specs.Output.{Output}
 use Rattle.tcap_model.specs.Pair.{Pair, Past}
 use Rattle.tcap_model.specs.Places.{StandsIn, Tells}
+use Rattle.tcap_model.specs.Span.{span}
 use Rattle.tcap_model.specs.TwoEnds.{Happens, WasSent}
 
 -- A fact of each entry and of what stands before it.
@@ -28,23 +30,15 @@ at_place P past all pair before stands = there P past stands.later pair before s
 pub at_happening : (P : Marked → Trace → Type 0) (trace : Trace) → Everywhere P trace → (engine : Engine) (pair : Pair) (before : Trace) → Happens engine pair before trace → P (record { engine = engine; pair = pair }) before
 at_happening P trace all engine pair before happens = there P trace happens.later (record { engine = engine; pair = pair }) before happens.is_trace all
 
--- A fact of a list and of all its ends.
-abbrev pub OfEachEnd : {X : Type 0} → (List X → Type 0) → List X → Type 0
-OfEachEnd P [] = P []
-OfEachEnd P (x ∷ xs) = P (x ∷ xs) × OfEachEnd P xs
+-- An invocation that wasn't made wasn't sent.
+pub not_sent : (number : ℕ) (past : Past) → invocation_of number past ≡ None → WasSent number past → ⊥
+not_sent number past none sent = not_some sent.invocation (sym none ∙ sent.is_invocation)
 
-whole : {X : Type 0} (P : List X → Type 0) (xs : List X) → OfEachEnd P xs → P xs
-whole P [] all = all
-whole P (x ∷ xs) all = all.0
-
-pub at_end : {X : Type 0} (P : List X → Type 0) (xs later place : List X) → xs ≡ later ++ place → OfEachEnd P xs → P place
-at_end P xs [] place is all = whole P place (subst (OfEachEnd P) is all)
-at_end P xs (y ∷ later) place is all = at_end P (later ++ place) later place refl ((subst (OfEachEnd P) is all).1)
-
--- An invocation that is made nowhere wasn't sent.
-pub not_sent : (number : ℕ) (past : Past) → OfEachEnd (λ place. invocation_of number place ≡ None) past → WasSent number past → ⊥
-not_sent number past none sent =
-    not_some sent.invocation (sym (at_end (λ place. invocation_of number place ≡ None) past sent.later sent.place sent.is_past none) ∙ sent.is_invocation)
+-- One that was closed before its Invoke could go out wasn't sent.
+pub never_sent : (number : ℕ) (past : Past) (i : Invocation) → invocation_of number past ≡ Some i → was_sent_in i.class i.timeout (span i past) ≡ false → WasSent number past → ⊥
+never_sent number past i is never sent =
+    let same : i ≡ sent.invocation = some_is i sent.invocation (sym is ∙ sent.is_invocation) in
+    false≢true (sym never ∙ (ap (λ (j : Invocation). was_sent_in j.class j.timeout (span j past)) same ∙ sent.is_sent))
 
 -- ---- outputs
 

@@ -1,5 +1,5 @@
 -- The histories on which the statements about components are instantiated, and queues that are crossed.
-use Rattle.std.specs.Prelude.{ℕ, ℤ, pos, negsuc, List, [], ◌∷◌, drop, Option, None, Some, false}
+use Rattle.std.specs.Prelude.{ℕ, pos, negsuc, List, [], ◌∷◌, drop, None, Some, false}
 use Rattle.tcap_pdu.specs.FrameSpelling.{Message}
 use Rattle.tcap_component.specs.Component.{ComponentParts}
 use Rattle.tcap_component.specs.ComponentFault.{FaultParts}

@@ -46,16 +46,19 @@ second_lapses = Output.closed 2 last_but_one (pos 1) Closing.lapsed
 -- Two dialogues, each with an invocation that lapses at the same moment, in order of time; no number is
 -- left after them (own).
 abbrev pub two_dialogues : History
-two_dialogues = record { start = two_left; pairs = reverse (
-    advance 5 []
-    ∷ born 1
-    ∷ born 2
-    ∷ invoke 2 (pos 1) One (pos 10) 1000 (Answer.number last_but_one)
-    ∷ invoke 1 (pos 1) One (pos 10) 1000 (Answer.number last)
-    ∷ begins 2 second_begin
-    ∷ begins 1 first_begin
-    ∷ advance 1005 (first_lapses ∷ second_lapses ∷ [])
-    ∷ []) }
+two_dialogues = record {
+  start = two_left;
+  pairs = reverse (
+      advance 5 []
+      ∷ born 1
+      ∷ born 2
+      ∷ invoke 2 (pos 1) One (pos 10) 1000 (Answer.number last_but_one)
+      ∷ invoke 1 (pos 1) One (pos 10) 1000 (Answer.number last)
+      ∷ begins 2 second_begin
+      ∷ begins 1 first_begin
+      ∷ advance 1005 (first_lapses ∷ second_lapses ∷ [])
+      ∷ []);
+}
 
 -- What the first dialogue sees of it, in order of time (own).
 abbrev pub first_alone : Past

@@ -2,14 +2,17 @@
 //! "after the Invoke".
 #![tactic(auto, using(crate::proofs::NetsWork::nets_work), unfolding(crate::specs::Computing::computing))]
 
-ghost use Rattle.std.specs.Prelude.{◌≡◌, ◌≤◌, pos, length, None};
+ghost use Rattle.std.specs.Prelude.{◌≡◌, ◌≤◌, pos, length, drop, None};
 ghost use Rattle.tcap_component.specs.Component.{CodeParts};
 ghost use Rattle.tcap_model.specs.Closings.{closings};
+ghost use Rattle.tcap_model.specs.ExampleValues.{code};
 ghost use Rattle.tcap_model.specs.Net.{Engine, Trace, IsNet, side};
+ghost use Rattle.tcap_model.specs.Output.{Output};
 ghost use Rattle.tcap_model.specs.Pair.{Pair};
 ghost use Rattle.tcap_model.specs.Places.{Tells};
 ghost use Rattle.tcap_model.specs.TwoEnds.{Happens, IsAnswer, IsFarRequest, ComesFromFar, UsesOnce, AnswersWhatItWasTold, WasOpened, WasSent, WasAsked};
-ghost use Rattle.tcap_model.specs.WorkedNets.{repeated_begin, before_the_answer, answer_told, answer_closes, second_request, before_the_repeat, repeat_told, invoked, answered_ahead, heard_as_one, IsAnsweredAhead};
+ghost use Rattle.tcap_model.specs.WorkedNets.{repeated_begin, before_the_answer, answer_told, answer_closes, second_request, before_the_repeat, repeat_told, invoked, answered_ahead, heard_as_one, alone_told, in_a_unidirectional, end_told, in_an_end, IsAnsweredAhead};
+ghost use Rattle.tcap_model.specs.WorkedReadings.{given_up_before_it_was_sent};
 
 /// A Begin is delivered twice: the answer that closes the invocation comes from the second of the two
 /// far dialogues.
@@ -39,6 +42,23 @@ fn an_operation_was_asked_for()
     ensures asked { WasAsked (pos 1) None (CodeParts.local (pos 10)) None (side Engine.a before_the_repeat) }
 {}
 
+/// An Invoke is sent though the message that carries it ends its dialogue.
+fn an_operation_in_a_last_message()
+    ensures alone_net { IsNet in_a_unidirectional }
+    ensures alone_happens { Happens Engine.b alone_told (drop 1 in_a_unidirectional.trace) in_a_unidirectional.trace }
+    ensures alone_told { Tells alone_told.answer (Output.invoked None (pos 1) None (code 7) None) }
+    ensures alone_asked { WasAsked (pos 1) None (code 7) None (side Engine.a (drop 1 in_a_unidirectional.trace)) }
+    ensures end_net { IsNet in_an_end }
+    ensures end_happens { Happens Engine.a end_told (drop 1 in_an_end.trace) in_an_end.trace }
+    ensures end_told { Tells end_told.answer (invoked 1) }
+    ensures end_asked { WasAsked (pos 1) None (code 10) None (side Engine.b (drop 1 in_an_end.trace)) }
+{}
+
+/// An Invoke that was given up in the queue was never sent, though a message went out after that.
+fn an_invoke_given_up_in_the_queue()
+    ensures { WasSent 1 given_up_before_it_was_sent.history.pairs → ⊥ }
+{}
+
 /// Where a user answers what it wasn't told, an answer may have been asked for before the Invoke was
 /// sent, though the other two premises hold.
 fn an_answer_ahead()
@@ -63,6 +83,8 @@ fn statements_about_two_ends_hold() {
     an_answer_has_its_origin();
     an_answer_comes_after_its_invoke();
     an_operation_was_asked_for();
+    an_operation_in_a_last_message();
+    an_invoke_given_up_in_the_queue();
     an_answer_ahead();
     two_dialogues_heard_as_one();
 }
