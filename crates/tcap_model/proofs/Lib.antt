@@ -6,6 +6,7 @@ mod ClockLemmas
 mod ComponentPremises
 mod ComponentTellings
 mod ComponentsWork
+mod CountedHistories
 mod DecidedHistories
 mod DecidedOutcomes
 mod DecisionSteps
