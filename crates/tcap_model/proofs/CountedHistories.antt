@@ -211,10 +211,11 @@ module _ (start : Start) (past : Past) (n : ℕ) (legal : AreReplies start past)
       go (Some t) e = refl
       go None e = absurd (decided (sym e))
 
+  pub open_before : (i : Invocation) (t : ℕ) → invocation_of n past ≡ Some i → outcome n past ≡ None → deadline i past ≡ Some t → clock past < t
+  open_before i t found none at = deadline_before n past i t found (unused_if_open start past n i legal found none) (found_timely start past n i legal found) none at
+
   late_one : (i : Invocation) (t : ℕ) → invocation_of n past ≡ Some i → deadline i past ≡ Some t → t ≤ clock past → length (closings n past) ≡ 1
-  late_one i t found at late = one_if_decided (λ none.
-      let early : clock past < t = deadline_before n past i t found (unused_if_open start past n i legal found none) (found_timely start past n i legal found) none at in
-      omega arith)
+  late_one i t found at late = one_if_decided (λ none. let early : clock past < t = open_before i t found none at in omega arith)
 
   over_one : (i : Invocation) → invocation_of n past ≡ Some i → life i.dialogue past ≡ Life.over → length (closings n past) ≡ 1
   over_one i found over = one_if_decided (λ none. over_decided start past n i legal found over none)
