@@ -10,7 +10,7 @@ mod ClockLemmas
 mod ComponentPremises
 mod ComponentTellings
 mod ComponentsWork
-mod CountedClosings
+mod CountedHistories
 mod DecidedHistories
 mod DecidedOutcomes
 mod DecisionSteps
@@ -35,7 +35,6 @@ mod NumberedLemmas
 mod OpenEvents
 mod OpenNumbers
 mod OpenReplies
-mod OverDialogues
 mod PeerLemmas
 mod PlaceLemmas
 mod QueuedComponents
