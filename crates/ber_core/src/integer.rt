@@ -67,6 +67,7 @@ pub fn read_int(content: &[u8]) -> Option<i32>
 
 /// Appends an integer in the shortest definite form, or nothing. `tag` is one octet that `read_head`
 /// reads as a tag (X.690, Encoding of an integer value).
+#[inline(always)]
 pub fn write_int<A: Allocator + Copy>(
     out: &mut Vec<u8, A>,
     tag: u8,
