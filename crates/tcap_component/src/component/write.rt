@@ -35,6 +35,15 @@ fn write_identifier<A: Allocator + Copy>(
     write_element(out, &[octet], &[id.cast_unsigned()])
 }
 
+/// Appends a global code.
+#[inline(never)]
+fn write_global<A: Allocator + Copy>(out: &mut Vec<u8, A>, octets: &[u8]) -> Result<(), OutOfMemory>
+    requires { length octets.now ≤ length_limit }
+    ensures { OnOk result (out.new.items ≡ out.old.items ++ written (0x06 ∷ []) octets.now) }
+{
+    write_element(out, &[tag::OBJECT_IDENTIFIER], octets)
+}
+
 /// Appends code, [parameter].
 #[inline(always)]
 fn write_body<A: Allocator + Copy>(out: &mut Vec<u8, A>, body: &Body<'_>) -> Result<(), OutOfMemory>
@@ -43,7 +52,7 @@ fn write_body<A: Allocator + Copy>(out: &mut Vec<u8, A>, body: &Body<'_>) -> Res
 {
     match body.code {
         Code::Local(number) => write_int(out, tag::INTEGER, number)?,
-        Code::Global(octets) => write_element(out, &[tag::OBJECT_IDENTIFIER], octets)?,
+        Code::Global(octets) => write_global(out, octets)?,
     }
     if let Some(octets) = body.parameter {
         out.extend_from_slice(octets)?;
@@ -52,7 +61,6 @@ fn write_body<A: Allocator + Copy>(out: &mut Vec<u8, A>, body: &Body<'_>) -> Res
 }
 
 /// Appends 02 identifier, [30 { code, [parameter] }].
-#[inline(always)]
 fn write_result<A: Allocator + Copy>(
     out: &mut Vec<u8, A>,
     id: i8,
