@@ -1,5 +1,5 @@
-ghost use Rattle.std.specs.Prelude.{◌≡◌, ◌↔◌, IsTrue, is_ok, map, option_map, Ok};
-ghost use Rattle.std.specs.List.{AllPass, list_all};
+ghost use Rattle.std.specs.Prelude.{◌≡◌, is_ok, map, option_map, Ok};
+ghost use Rattle.std.specs.List.{list_all};
 ghost use Rattle.ber_core.specs.ListReading.{items_of, item_at};
 ghost use Rattle.ber_core.specs.Views.{item_view};
 
@@ -34,6 +34,7 @@ impl<'a> Iterator for Elements<'a> {
 
     ghost remaining = { item_count items_left };
 
+    #[inline(always)]
     fn next(&mut self) -> Option<Result<Element<'a>, BerFault>> {
         let (item, rest) = split_item(self.rest);
         self.rest = rest;
@@ -43,6 +44,7 @@ impl<'a> Iterator for Elements<'a> {
 
 /// The first item, and what is left behind it: after a fault, nothing.
 #[tactic(auto, unfolding(crate::specs::ListReading::item_at))]
+#[inline(always)]
 fn split_item<'a>(bytes: &'a [u8]) -> (Option<Result<Element<'a>, BerFault>>, &'a [u8])
     ensures { (option_map item_view result.0, result.1.now) ≡ item_at bytes.now }
 {
@@ -55,14 +57,23 @@ fn split_item<'a>(bytes: &'a [u8]) -> (Option<Result<Element<'a>, BerFault>>, &'
     }
 }
 
-/// Whether all items are elements.
+/// Whether all items are elements: each is passed over, and none kept.
+#[tactic(auto, using(crate::proofs::ItemSteps::all_next, crate::proofs::ItemSteps::all_fault, crate::proofs::ItemSteps::all_none))]
 fn are_elements(bytes: &[u8]) -> bool
-    ensures { IsTrue result ↔ AllPass is_ok (items_of bytes.now) }
+    ensures { result ≡ list_all is_ok (items_of bytes.now) }
 {
-    Elements::new(bytes).all(|item| item.is_ok())
+    let mut rest = bytes;
+    while !rest.is_empty() {
+        let Ok((_, after)) = read_element(rest) else {
+            return false;
+        };
+        rest = after;
+    }
+    true
 }
 
 /// Whether the bytes are a list of elements.
+#[inline(always)]
 pub fn is_element_list(bytes: &[u8]) -> bool
     ensures { result ≡ list_all is_ok (items_of bytes.now) }
 {

@@ -13,6 +13,7 @@ use ber_core::{is_oid, read_int, take_any, take_content, take_tagged};
 
 /// The identifier that one octet is.
 #[tactic(auto, unfolding(crate::specs::ComponentReading::identifier_of))]
+#[inline(always)]
 pub fn identifier(content: &[u8]) -> Option<i8>
     ensures { result ≡ identifier_of content.now }
 {
@@ -24,6 +25,7 @@ pub fn identifier(content: &[u8]) -> Option<i8>
 
 /// 02 identifier, and what follows it.
 #[tactic(auto, unfolding(crate::specs::ComponentReading::identifier_at))]
+#[inline(always)]
 pub fn take_identifier(bytes: &[u8]) -> Option<(i8, &[u8])>
     ensures { option_map (λ r. (r.0, r.1.now)) result ≡ identifier_at bytes.now }
 {
@@ -34,6 +36,7 @@ pub fn take_identifier(bytes: &[u8]) -> Option<(i8, &[u8])>
 
 /// [80 linked identifier], and what follows it.
 #[tactic(auto, unfolding(crate::specs::ComponentReading::linked_at))]
+#[inline(always)]
 pub fn take_linked(bytes: &[u8]) -> Option<(Option<i8>, &[u8])>
     ensures { option_map (λ r. (r.0, r.1.now)) result ≡ linked_at bytes.now }
 {
@@ -48,6 +51,7 @@ pub fn take_linked(bytes: &[u8]) -> Option<(Option<i8>, &[u8])>
 
 /// A code: 02 integer or 06 object identifier, and what follows it.
 #[tactic(auto, unfolding(crate::specs::ComponentReading::code_at))]
+#[inline(always)]
 fn take_code<'a>(bytes: &'a [u8]) -> Option<(Code<'a>, &'a [u8])>
     ensures { option_map (λ r. (code_parts r.0, r.1.now)) result ≡ code_at bytes.now }
 {
@@ -64,6 +68,7 @@ fn take_code<'a>(bytes: &'a [u8]) -> Option<(Code<'a>, &'a [u8])>
 
 /// Code, [parameter].
 #[tactic(auto, unfolding(crate::specs::ComponentReading::body_at))]
+#[inline(always)]
 pub fn read_body<'a>(bytes: &'a [u8]) -> Option<Body<'a>>
     ensures { option_map body_parts result ≡ body_at bytes.now }
 {

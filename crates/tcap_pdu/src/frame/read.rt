@@ -24,6 +24,7 @@ pub enum MessageType {
 
 /// The message type that a tag names.
 #[tactic(auto, unfolding(crate::specs::FrameReading::type_at))]
+#[inline(always)]
 fn message_type(tag: &[u8]) -> Option<MessageType>
     ensures { result ≡ type_at tag.now }
 {
@@ -39,6 +40,7 @@ fn message_type(tag: &[u8]) -> Option<MessageType>
 
 /// A transaction identifier with this tag, and what follows it.
 #[tactic(auto, unfolding(crate::specs::FrameReading::id_at))]
+#[inline(always)]
 fn take_id<'a>(bytes: &'a [u8], tag: u8) -> Option<(TransId, &'a [u8])>
     ensures { option_map (λ r. (r.0, r.1.now)) result ≡ id_at tag bytes.now }
 {
@@ -49,6 +51,7 @@ fn take_id<'a>(bytes: &'a [u8], tag: u8) -> Option<(TransId, &'a [u8])>
 
 /// The contents of 6B and 6C where they stand, with nothing after them.
 #[tactic(auto, unfolding(crate::specs::FrameReading::portions_at))]
+#[inline(always)]
 fn take_portions<'a>(bytes: &'a [u8]) -> Option<(Option<&'a [u8]>, &'a [u8])>
     ensures { option_map (λ r. pair (option_copied r.0) r.1.now) result ≡ portions_at bytes.now }
 {
@@ -78,6 +81,7 @@ fn read_unidirectional<'a>(content: &'a [u8]) -> Option<Frame<'a>>
 
 /// Begin: 48, [6B], [6C].
 #[tactic(auto, unfolding(crate::specs::FrameReading::begin_at))]
+#[inline(always)]
 fn read_begin<'a>(content: &'a [u8]) -> Option<Frame<'a>>
     ensures { option_map message result ≡ begin_at content.now }
 {
@@ -92,6 +96,7 @@ fn read_begin<'a>(content: &'a [u8]) -> Option<Frame<'a>>
 
 /// End: 49, [6B], [6C].
 #[tactic(auto, unfolding(crate::specs::FrameReading::end_at))]
+#[inline(always)]
 fn read_end<'a>(content: &'a [u8]) -> Option<Frame<'a>>
     ensures { option_map message result ≡ end_at content.now }
 {
@@ -106,6 +111,7 @@ fn read_end<'a>(content: &'a [u8]) -> Option<Frame<'a>>
 
 /// Continue: 48, 49, [6B], [6C].
 #[tactic(auto, unfolding(crate::specs::FrameReading::go_on_at))]
+#[inline(always)]
 fn read_continue<'a>(content: &'a [u8]) -> Option<Frame<'a>>
     ensures { option_map message result ≡ go_on_at content.now }
 {
@@ -163,6 +169,7 @@ fn read_abort<'a>(content: &'a [u8]) -> Option<Frame<'a>>
 }
 
 /// The message of this type that a content is.
+#[inline(always)]
 fn read_content<'a>(kind: MessageType, content: &'a [u8]) -> Option<Frame<'a>>
     ensures { option_map message result ≡ message_at kind content.now }
 {
@@ -177,6 +184,7 @@ fn read_content<'a>(kind: MessageType, content: &'a [u8]) -> Option<Frame<'a>>
 
 /// The message that the bytes are, in exact form.
 #[tactic(auto, unfolding(crate::specs::FrameReading::frame_at))]
+#[inline(always)]
 fn split_frame<'a>(bytes: &'a [u8]) -> Result<Frame<'a>, FrameFault>
     ensures { Gives message result (frame_at bytes.now) }
 {
@@ -194,6 +202,7 @@ fn split_frame<'a>(bytes: &'a [u8]) -> Result<Frame<'a>, FrameFault>
 
 /// Reads the message that the bytes are, all of them, of any length. It takes no memory: the slices
 /// of the message are parts of the bytes (Q.773, Structure of TC messages).
+#[inline(always)]
 pub fn read_frame<'a>(bytes: &'a [u8]) -> Result<Frame<'a>, FrameFault>
     // What is read is spelled by the bytes.
     ensures found { IfOk result (λ frame. SpellsFrame (message frame) bytes.now) }
