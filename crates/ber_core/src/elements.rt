@@ -1,4 +1,6 @@
-ghost use Rattle.std.specs.Prelude.{◌≡◌, is_ok, map, option_map, Ok};
+ghost use Rattle.std.specs.Prelude.{◌≡◌, ◌≢◌, ◌↔◌, ◌==◌, ◌<◌, bit_and, false, IsTrue, IfOk, IfErr, is_ok, map, option_map, Ok, Err};
+ghost use Rattle.ber_core.specs.Element.{Parts, depth_limit};
+ghost use Rattle.ber_core.specs.ElementReading.{element_at};
 ghost use Rattle.std.specs.List.{list_all};
 ghost use Rattle.ber_core.specs.ListReading.{items_of, item_at};
 ghost use Rattle.ber_core.specs.Views.{item_view};
@@ -57,14 +59,42 @@ fn split_item<'a>(bytes: &'a [u8]) -> (Option<Result<Element<'a>, BerFault>>, &'
     }
 }
 
+/// Whether an element begins with a tag of this one octet and a length of this one octet.
+#[inline(always)]
+fn is_plain(tag: u8, length: u8) -> bool
+    ensures { IsTrue result ↔ ((tag ≢ 0x00) × (bit_and tag 0x1f == 0x1f ≡ false) × (length < 0x80)) }
+{
+    tag != 0x00 && tag & 0x1f != 0x1f && length < 0x80
+}
+
+/// What follows the first element. One with a tag and a length of one octet each is passed over at
+/// once.
+#[inline(always)]
+fn skip_first(bytes: &[u8]) -> Result<&[u8], BerFault>
+    ensures ok { IfOk result (λ rest. (e : Parts) × (element_at depth_limit bytes.now ≡ Ok (e, rest.now))) }
+    ensures err { IfErr result (λ f. element_at depth_limit bytes.now ≡ Err f) }
+{
+    match bytes {
+        [first, length, body @ ..] if is_plain(*first, *length) && *length as usize <= body.len() =>
+            {
+                let (_, rest) = body.split_at(*length as usize);
+                Ok(rest)
+            }
+        _ => match read_element(bytes) {
+            Ok((_, rest)) => Ok(rest),
+            Err(fault) => Err(fault),
+        },
+    }
+}
+
 /// Whether all items are elements: each is passed over, and none kept.
-#[tactic(auto, using(crate::proofs::ItemSteps::all_next, crate::proofs::ItemSteps::all_fault, crate::proofs::ItemSteps::all_none))]
+#[tactic(auto, using(crate::proofs::ItemSteps::all_fault, crate::proofs::ItemSteps::all_none))]
 fn are_elements(bytes: &[u8]) -> bool
     ensures { result ≡ list_all is_ok (items_of bytes.now) }
 {
     let mut rest = bytes;
     while !rest.is_empty() {
-        let Ok((_, after)) = read_element(rest) else {
+        let Ok(after) = skip_first(rest) else {
             return false;
         };
         rest = after;

@@ -1,6 +1,6 @@
 -- What was read, as numbers, and their checksum: what the benchmark's calls answer.
-use Rattle.std.specs.Prelude.{ℕ, ℤ, ◌+◌, ◌%◌, ◌^◌, Bool, true, false, List, [], ◌∷◌, ◌++◌, length, Option, Some, None, Result, Ok, Err}
-use Rattle.std.specs.Int.{w8, w32, cast_unsigned}
+use Rattle.std.specs.Prelude.{ℕ, ℤ, ◌+◌, ◌%◌, ◌^◌, Bool, true, false, List, [], ◌∷◌, ◌++◌, length, Option, Some, None, Result, Ok, Err, ◌==◌, if◌then◌else◌}
+use Rattle.std.specs.Int.{w8, w32, cast_unsigned, from_be_bytes}
 use Rattle.std.specs.List.{flat_map}
 use Rattle.ber_core.specs.declared.fault.BerFault.{BerFault}
 use Rattle.ber_core.specs.Element.{Parts, depth_limit}
@@ -128,13 +128,17 @@ reason_numbers nothing = []
 reason_numbers (cause n) = n ∷ []
 reason_numbers (portion d) = dialogue_numbers (dialogue_at d)
 
--- What a message says: the octets of its identifiers, and its portions (own).
+-- The number of a transaction identifier of four octets, the length of another (own).
+abbrev pub identifier_number : List ℕ → ℕ
+identifier_number octets = if length octets == 4 then from_be_bytes w32 octets else length octets
+
+-- What a message says: its identifiers and its portions (own).
 abbrev pub message_numbers : Message → List ℕ
 message_numbers (unidirectional d c) = portions_numbers d c
-message_numbers (begin o d c) = o ++ portions_numbers d c
-message_numbers (end t d c) = t ++ portions_numbers d c
-message_numbers (go_on o t d c) = o ++ t ++ portions_numbers d c
-message_numbers (abort t r) = t ++ reason_numbers r
+message_numbers (begin o d c) = identifier_number o ∷ portions_numbers d c
+message_numbers (end t d c) = identifier_number t ∷ portions_numbers d c
+message_numbers (go_on o t d c) = identifier_number o ∷ identifier_number t ∷ portions_numbers d c
+message_numbers (abort t r) = identifier_number t ∷ reason_numbers r
 
 -- The same of what was read; of a fault nothing (own).
 abbrev pub frame_numbers : Result Message FrameFault → List ℕ

@@ -4,11 +4,11 @@ ghost use Rattle.std.specs.Prelude.{◌≡◌, option_copied};
 ghost use Rattle.tcap_pdu.specs.DialogueReading.{dialogue_at};
 ghost use Rattle.tcap_pdu.specs.DialogueViews.{source, pdu_value};
 ghost use Rattle.tcap_pdu.specs.FrameViews.{message, reason_of};
-ghost use Rattle.tcap_bench.specs.Checksum.{checksum, flag, diagnostic_number, pdu_numbers, dialogue_numbers, portion_numbers, portions_numbers, reason_numbers, message_numbers, message_checksum};
+ghost use Rattle.tcap_bench.specs.Checksum.{checksum, flag, diagnostic_number, pdu_numbers, dialogue_numbers, portion_numbers, portions_numbers, reason_numbers, identifier_number, message_numbers, message_checksum};
 
 use crate::component_sum::add_components;
-use crate::sum::{add, add_octets};
-use tcap_pdu::{AbortPart, Diagnostic, DialoguePdu, Frame, read_dialogue, read_frame};
+use crate::sum::add;
+use tcap_pdu::{AbortPart, Diagnostic, DialoguePdu, Frame, TransId, read_dialogue, read_frame};
 
 /// 1 for yes, 0 for no.
 fn flag(yes: bool) -> u64
@@ -96,6 +96,16 @@ fn add_reason(total: u64, reason: &AbortPart<'_>) -> u64
     }
 }
 
+/// The number of a transaction identifier of four octets, the length of another.
+fn identifier_number(id: &TransId) -> u64
+    ensures { result ≡ identifier_number id.now }
+{
+    match id.as_u32() {
+        Some(number) => number as u64,
+        None => id.octets().len() as u64,
+    }
+}
+
 /// Adds a message.
 #[tactic(auto, using(crate::proofs::Sums::checksum_append))]
 fn add_message(total: u64, frame: &Frame<'_>) -> u64
@@ -110,22 +120,22 @@ fn add_message(total: u64, frame: &Frame<'_>) -> u64
             otid,
             dialogue,
             components,
-        } => add_portions(add_octets(total, otid.octets()), dialogue, components),
+        } => add_portions(add(total, identifier_number(otid)), dialogue, components),
         Frame::Continue {
             otid,
             dtid,
             dialogue,
             components,
         } => {
-            let total = add_octets(add_octets(total, otid.octets()), dtid.octets());
+            let total = add(add(total, identifier_number(otid)), identifier_number(dtid));
             add_portions(total, dialogue, components)
         }
         Frame::End {
             dtid,
             dialogue,
             components,
-        } => add_portions(add_octets(total, dtid.octets()), dialogue, components),
-        Frame::Abort { dtid, reason } => add_reason(add_octets(total, dtid.octets()), reason),
+        } => add_portions(add(total, identifier_number(dtid)), dialogue, components),
+        Frame::Abort { dtid, reason } => add_reason(add(total, identifier_number(dtid)), reason),
     }
 }
 

@@ -1,7 +1,7 @@
 //! A checksum, and that of an element.
 
 ghost use Rattle.std.specs.Prelude.{◌≡◌};
-ghost use Rattle.tcap_bench.specs.Checksum.{added, checksum, element_checksum};
+ghost use Rattle.tcap_bench.specs.Checksum.{added, element_checksum};
 
 use ber_core::read_element;
 
@@ -10,18 +10,6 @@ pub fn add(total: u64, number: u64) -> u64
     ensures { result ≡ added total number }
 {
     total.wrapping_add(number)
-}
-
-/// Octets added to a checksum.
-#[tactic(auto, using(crate::proofs::Sums::checksum_drop, crate::proofs::Sums::checksum_end))]
-pub fn add_octets(total: u64, octets: &[u8]) -> u64
-    ensures { result ≡ checksum total octets.now }
-{
-    let mut sum = total;
-    for octet in octets {
-        sum = add(sum, *octet as u64);
-    }
-    sum
 }
 
 /// The checksum of the first element.

@@ -2,8 +2,10 @@
 
 ghost use Rattle.std.specs.Prelude.{◌≡◌, option_copied};
 ghost use Rattle.std.specs.Option.{option_map};
+ghost use Rattle.ber_core.specs.Options.{◌>>=◌ as bound};
+ghost use Rattle.ber_core.specs.SequenceReading.{content_at};
 ghost use Rattle.tcap_component.specs.Problem.{problem_tag};
-ghost use Rattle.tcap_component.specs.ComponentReading.{identifier_of, identifier_at, linked_at, code_at, body_at, result_at, rejected_at, problem_kind, problem_code, problem_at};
+ghost use Rattle.tcap_component.specs.ComponentReading.{identifier_of, identifier_at, linked_at, global_from, code_at, body_at, result_at, rejected_at, problem_kind, problem_code, problem_at};
 ghost use Rattle.tcap_component.specs.Views.{code_parts, body_parts, problem_parts};
 
 use crate::component::{Body, Code};
@@ -49,6 +51,18 @@ pub fn take_linked(bytes: &[u8]) -> Option<(Option<i8>, &[u8])>
     }
 }
 
+/// 06 object identifier, and what follows it. Most codes are local, so it stands apart.
+#[inline(never)]
+fn take_global<'a>(bytes: &'a [u8]) -> Option<(Code<'a>, &'a [u8])>
+    ensures { option_map (λ r. (code_parts r.0, r.1.now)) result ≡ bound (content_at 0x06 bytes.now) global_from }
+{
+    let (octets, rest) = take_content(bytes, tag::OBJECT_IDENTIFIER)?;
+    if !is_oid(octets) {
+        return None;
+    }
+    Some((Code::Global(octets), rest))
+}
+
 /// A code: 02 integer or 06 object identifier, and what follows it.
 #[tactic(auto, unfolding(crate::specs::ComponentReading::code_at))]
 #[inline(always)]
@@ -59,11 +73,7 @@ fn take_code<'a>(bytes: &'a [u8]) -> Option<(Code<'a>, &'a [u8])>
         let number = read_int(content)?;
         return Some((Code::Local(number), rest));
     }
-    let (octets, rest) = take_content(bytes, tag::OBJECT_IDENTIFIER)?;
-    if !is_oid(octets) {
-        return None;
-    }
-    Some((Code::Global(octets), rest))
+    take_global(bytes)
 }
 
 /// Code, [parameter].

@@ -65,6 +65,7 @@ fn take_portions<'a>(bytes: &'a [u8]) -> Option<(Option<&'a [u8]>, &'a [u8])>
 
 /// Unidirectional: [6B], 6C.
 #[tactic(auto, unfolding(crate::specs::FrameReading::unidirectional_at))]
+#[inline(never)]
 fn read_unidirectional<'a>(content: &'a [u8]) -> Option<Frame<'a>>
     ensures { option_map message result ≡ unidirectional_at content.now }
 {
@@ -96,7 +97,6 @@ fn read_begin<'a>(content: &'a [u8]) -> Option<Frame<'a>>
 
 /// End: 49, [6B], [6C].
 #[tactic(auto, unfolding(crate::specs::FrameReading::end_at))]
-#[inline(always)]
 fn read_end<'a>(content: &'a [u8]) -> Option<Frame<'a>>
     ensures { option_map message result ≡ end_at content.now }
 {
@@ -139,6 +139,7 @@ fn read_cause(content: &[u8]) -> Option<AbortPart<'static>>
 
 /// What follows the destination of an Abort: 4A or 6B or nothing.
 #[tactic(auto, unfolding(crate::specs::FrameReading::reason_at))]
+#[inline(never)]
 fn read_reason<'a>(bytes: &'a [u8]) -> Option<AbortPart<'a>>
     ensures { option_map reason_of result ≡ reason_at bytes.now }
 {
@@ -160,6 +161,7 @@ fn read_reason<'a>(bytes: &'a [u8]) -> Option<AbortPart<'a>>
 
 /// Abort: 49, then 4A or 6B or nothing.
 #[tactic(auto, unfolding(crate::specs::FrameReading::abort_at))]
+#[inline(never)]
 fn read_abort<'a>(content: &'a [u8]) -> Option<Frame<'a>>
     ensures { option_map message result ≡ abort_at content.now }
 {
