@@ -1,5 +1,5 @@
 -- What is sent and told, from what each answer of a list is.
-use Rattle.std.proofs.Common.{◌≡◌, ℕ, List, [], ◌∷◌, ◌++◌, Option, Some, None, Ok, Err, Result, refl, ap, subst, sym, ◌∙◌, ◌⊎◌}
+use Rattle.std.proofs.Common.{◌≡◌, ℕ, List, [], ◌∷◌, Option, Some, None, Ok, Err, Result, refl, ap, subst, sym, ◌∙◌, ◌⊎◌}
 use Rattle.std.specs.List.{AllByRecursion}
 use Rattle.tcap_pdu.specs.declared.fault.FrameFault.{FrameFault}
 use Rattle.tcap_pdu.specs.FrameReading.{frame_at}
@@ -10,13 +10,11 @@ use Rattle.tcap_component.specs.ComponentFault.{FaultParts}
 use Rattle.tcap_component.specs.ComponentList.{FirstFault, items}
 use Rattle.tcap_component.specs.ComponentReading.{components_of}
 use Rattle.tcap_component.proofs.CallerLemmas.{first_fault_again, first_fault_is}
-use Rattle.tcap_model.proofs.PlaceLemmas.{Everywhere, at_place, outputs_of}
-use Rattle.tcap_model.specs.Answer.{Answer}
+use Rattle.tcap_model.proofs.PlaceLemmas.{Everywhere, at_place, outputs_of, told_there}
 use Rattle.tcap_model.specs.ComponentLaws.{portion_of, SentFromOne, SentFrom, ToldFromOne, ToldFrom, IsOfComponent}
 use Rattle.tcap_model.specs.Event.{Event}
 use Rattle.tcap_model.specs.Output.{Output, Closing, Rejector}
 use Rattle.tcap_model.specs.Pair.{Pair, Past}
-use Rattle.tcap_model.specs.Places.{Tells}
 
 -- ---- components and the first fault
 
@@ -59,15 +57,6 @@ first_fault_at content cs f is =
     let first = first_fault_is content in
     let same : items first.0 first.1 ≡ items cs f = sym first.3 ∙ is in
     subst (λ (g : Option FaultParts). FirstFault cs g content) (same_unread first.0 cs first.1 f same) (subst (λ (ds : List ComponentParts). FirstFault ds first.1 content) (same_read first.0 cs first.1 f same) first.2)
-
--- ---- outputs
-
-all_there : (P : Output → Type 0) (earlier later : List Output) (output : Output) → AllByRecursion P (earlier ++ output ∷ later) → P output
-all_there P [] later output all = all.0
-all_there P (first ∷ earlier) later output all = all_there P earlier later output all.1
-
-told_there : (P : Output → Type 0) (answer : Answer) (output : Output) → Tells answer output → AllByRecursion P (outputs_of answer) → P output
-told_there P answer output tells all = all_there P tells.earlier tells.later output (subst (λ (a : Answer). AllByRecursion P (outputs_of a)) tells.is_answer all)
 
 -- ---- what is sent
 

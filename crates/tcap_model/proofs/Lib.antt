@@ -66,6 +66,7 @@ mod ToldLemmas
 mod ToldOutputs
 mod ToldParts
 mod ToldReceptions
+mod TwoEndsWork
 mod WalkAgree
 mod WrongAnswersGiven
 mod WrongEndsTold

@@ -1,6 +1,6 @@
 //! The statements about two ends on a worked list of two engines, and two lists that break a premise of
 //! "after the Invoke".
-#![tactic(auto, using(crate::proofs::NetsWork::nets_work), unfolding(crate::specs::Computing::computing))]
+#![tactic(auto, using(crate::proofs::NetsWork::nets_work, crate::proofs::TwoEndsWork::repeated_begin_is_two_ended), unfolding(crate::specs::Computing::computing))]
 
 ghost use Rattle.std.specs.Prelude.{◌≡◌, ◌≤◌, pos, length, drop, None};
 ghost use Rattle.tcap_component.specs.Component.{CodeParts};
@@ -10,7 +10,7 @@ ghost use Rattle.tcap_model.specs.Net.{Engine, Trace, IsNet, side};
 ghost use Rattle.tcap_model.specs.Output.{Output};
 ghost use Rattle.tcap_model.specs.Pair.{Pair};
 ghost use Rattle.tcap_model.specs.Places.{Tells};
-ghost use Rattle.tcap_model.specs.TwoEnds.{Happens, IsAnswer, IsFarRequest, ComesFromFar, UsesOnce, AnswersWhatItWasTold, WasOpened, WasSent, WasAsked};
+ghost use Rattle.tcap_model.specs.TwoEnds.{Happens, IsAnswer, IsFarRequest, ComesFromFar, UsesOnce, AnswersWhatItWasTold, WasOpened, WasSent, WasAsked, TwoEnds};
 ghost use Rattle.tcap_model.specs.WorkedNets.{repeated_begin, before_the_answer, answer_told, answer_closes, second_request, before_the_repeat, repeat_told, invoked, answered_ahead, heard_as_one, alone_told, in_a_unidirectional, end_told, in_an_end, IsAnsweredAhead};
 ghost use Rattle.tcap_model.specs.WorkedReadings.{given_up_before_it_was_sent};
 
@@ -40,6 +40,12 @@ fn an_operation_was_asked_for()
     ensures happens { Happens Engine.b repeat_told before_the_repeat repeated_begin.trace }
     ensures told { Tells repeat_told.answer (invoked 2) }
     ensures asked { WasAsked (pos 1) None (CodeParts.local (pos 10)) None (side Engine.a before_the_repeat) }
+{}
+
+/// All that is stated of two ends holds of it.
+fn a_repeated_begin_is_two_ended()
+    ensures net { IsNet repeated_begin }
+    ensures two_ends { TwoEnds repeated_begin.trace }
 {}
 
 /// An Invoke is sent though the message that carries it ends its dialogue.
@@ -83,6 +89,7 @@ fn statements_about_two_ends_hold() {
     an_answer_has_its_origin();
     an_answer_comes_after_its_invoke();
     an_operation_was_asked_for();
+    a_repeated_begin_is_two_ended();
     an_operation_in_a_last_message();
     an_invoke_given_up_in_the_queue();
     an_answer_ahead();
