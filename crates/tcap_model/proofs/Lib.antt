@@ -29,6 +29,7 @@ mod KeptQueues
 mod LatestInvocations
 mod LifeLemmas
 mod NamedReceptions
+mod NetsBroken
 mod NetsWork
 mod NumberLemmas
 mod NumberedLemmas
