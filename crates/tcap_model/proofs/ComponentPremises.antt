@@ -3,7 +3,7 @@ use Rattle.std.proofs.Common.{◌≡◌, ℕ, List, [], ◌∷◌, Option, Some,
 use Rattle.std.specs.List.{AllByRecursion}
 use Rattle.tcap_pdu.specs.declared.fault.FrameFault.{FrameFault}
 use Rattle.tcap_pdu.specs.FrameReading.{frame_at}
-use Rattle.tcap_pdu.specs.FrameSpelling.{Message}
+use Rattle.tcap_pdu.specs.FrameSpelling.{Message, SpellsFrame}
 use Rattle.tcap_pdu.proofs.CallerLemmas.{frame_again}
 use Rattle.tcap_component.specs.Component.{ComponentParts}
 use Rattle.tcap_component.specs.ComponentFault.{FaultParts}
@@ -58,6 +58,20 @@ first_fault_at content cs f is =
     let same : items first.0 first.1 ≡ items cs f = sym first.3 ∙ is in
     subst (λ (g : Option FaultParts). FirstFault cs g content) (same_unread first.0 cs first.1 f same) (subst (λ (ds : List ComponentParts). FirstFault ds first.1 content) (same_read first.0 cs first.1 f same) first.2)
 
+-- The message that was read, if one was.
+abbrev message_read : Result Message FrameFault → Message
+message_read (Ok m) = m
+message_read (Err f) = Message.unidirectional None []
+
+message_is : (bytes : List ℕ) (m n : Message) → frame_at bytes ≡ Ok m → frame_at bytes ≡ Ok n → m ≡ n
+message_is bytes m n is also = ap message_read (sym is ∙ also)
+
+-- Components that bytes spell are those that are read.
+pub spelled_read : (bytes : List ℕ) (m n : Message) (cs ds : List ComponentParts) (f g : Option FaultParts) → frame_at bytes ≡ Ok n → components_of (portion_of n) ≡ items ds g → SpellsFrame m bytes → FirstFault cs f (portion_of m) → cs ≡ ds
+spelled_read bytes m n cs ds f g is listed spells first =
+    let same : m ≡ n = message_is bytes m n (frame_again m bytes spells) is in
+    same_read cs ds f g (sym (first_fault_again cs f (portion_of m) first) ∙ (ap (λ (k : Message). components_of (portion_of k)) same ∙ listed))
+
 -- ---- what is sent
 
 -- A message that is sent comes from its dialogue, read by the reading functions.
@@ -76,14 +90,6 @@ SentSo event before (Output.local_reject dialogue id problem) = Unit {0}
 SentSo event before (Output.remote_reject dialogue id problem by) = Unit {0}
 SentSo event before (Output.closed dialogue number id closing) = Unit {0}
 SentSo event before (Output.dropped why) = Unit {0}
-
--- The message that was read, if one was.
-abbrev message_read : Result Message FrameFault → Message
-message_read (Ok m) = m
-message_read (Err f) = Message.unidirectional None []
-
-message_is : (bytes : List ℕ) (m n : Message) → frame_at bytes ≡ Ok m → frame_at bytes ≡ Ok n → m ≡ n
-message_is bytes m n is also = ap message_read (sym is ∙ also)
 
 pub sent_from : (past : Past) → Everywhere (λ (pair : Pair) before. AllByRecursion (SentSo pair.event before) (outputs_of pair.answer)) past → SentFrom past
 sent_from past all pair before bytes m components fault stands tells spells first =

@@ -9,6 +9,7 @@ mod BoundedQueues
 mod ClockLemmas
 mod ComponentPremises
 mod ComponentTellings
+mod ComponentsBroken
 mod ComponentsWork
 mod CountedHistories
 mod DecidedHistories

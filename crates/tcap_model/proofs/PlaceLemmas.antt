@@ -51,7 +51,7 @@ outputs_of (Answer.given_up n) = []
 outputs_of (Answer.outputs outputs) = outputs
 outputs_of (Answer.refused fault) = []
 
-any_there : {X : Type 0} (test : X → Bool) (earlier later : List X) (x : X) → test x ≡ true → list_any test (earlier ++ x ∷ later) ≡ true
+pub any_there : {X : Type 0} (test : X → Bool) (earlier later : List X) (x : X) → test x ≡ true → list_any test (earlier ++ x ∷ later) ≡ true
 any_there test [] later x passes = rw passes refl
 any_there test (y ∷ earlier) later x passes = elim (cases_Bool (test y)) [ inl first ↦ rw first refl | inr other ↦ rw (other, any_there test earlier later x passes) refl ]
 

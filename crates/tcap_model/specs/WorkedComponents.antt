@@ -157,3 +157,13 @@ crossed_queues = wrong engine (
     ∷ invoke 1 (pos 1) One (pos 10) 1000 (Answer.number 1)
     ∷ [])
     (request 2 plain_begin (Answer.outputs (Output.send crossed_sent ∷ [])))
+
+-- ---- an Invoke that is misread
+
+-- The Begin asks for operation 2, and operation 3 is told (own).
+abbrev pub misread_told : Output
+misread_told = Output.invoked (Some 1) (pos 1) None (code 3) (Some (hex 5 0x3003_0401AA))
+
+-- It is all that happens (own).
+abbrev pub misread : Wrong
+misread = wrong engine [] (receive begin_with_aarq (Output.begin 1 (Some context) [] ∷ misread_told ∷ []))
