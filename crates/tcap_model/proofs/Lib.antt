@@ -9,6 +9,7 @@ mod BoundedQueues
 mod ClockLemmas
 mod ComponentPremises
 mod ComponentTellings
+mod ComponentsBroken
 mod ComponentsWork
 mod CountedHistories
 mod DecidedHistories
@@ -29,6 +30,7 @@ mod KeptQueues
 mod LatestInvocations
 mod LifeLemmas
 mod NamedReceptions
+mod NetsBroken
 mod NetsWork
 mod NumberLemmas
 mod NumberedLemmas
@@ -66,6 +68,7 @@ mod ToldLemmas
 mod ToldOutputs
 mod ToldParts
 mod ToldReceptions
+mod TwoEndsWork
 mod WalkAgree
 mod WrongAnswersGiven
 mod WrongEndsTold

@@ -1,6 +1,6 @@
 -- What holds at every place of a list holds at each that stands in it.
 use Rattle.std.proofs.Common.{◌≡◌, ℕ, Bool, false, true, List, [], ◌∷◌, ◌++◌, Some, None, refl, ap, subst, sym, ◌∙◌, inl, inr}
-use Rattle.std.specs.List.{list_any}
+use Rattle.std.specs.List.{AllByRecursion, list_any}
 use Rattle.std.proofs.lemmas.Bool.{cases_Bool, false≢true}
 use Rattle.ber_core.proofs.CallerLemmas.{not_some, some_is}
 use Rattle.tcap_model.specs.Answer.{Answer}
@@ -51,10 +51,18 @@ outputs_of (Answer.given_up n) = []
 outputs_of (Answer.outputs outputs) = outputs
 outputs_of (Answer.refused fault) = []
 
-any_there : {X : Type 0} (test : X → Bool) (earlier later : List X) (x : X) → test x ≡ true → list_any test (earlier ++ x ∷ later) ≡ true
+pub any_there : {X : Type 0} (test : X → Bool) (earlier later : List X) (x : X) → test x ≡ true → list_any test (earlier ++ x ∷ later) ≡ true
 any_there test [] later x passes = rw passes refl
 any_there test (y ∷ earlier) later x passes = elim (cases_Bool (test y)) [ inl first ↦ rw first refl | inr other ↦ rw (other, any_there test earlier later x passes) refl ]
 
 -- An output that an answer tells is one of its outputs.
 pub told_any : (test : Output → Bool) (answer : Answer) (output : Output) → Tells answer output → test output ≡ true → list_any test (outputs_of answer) ≡ true
 told_any test answer output tells passes = ap (λ (a : Answer). list_any test (outputs_of a)) tells.is_answer ∙ any_there test tells.earlier tells.later output passes
+
+all_there : (P : Output → Type 0) (earlier later : List Output) (output : Output) → AllByRecursion P (earlier ++ output ∷ later) → P output
+all_there P [] later output all = all.0
+all_there P (first ∷ earlier) later output all = all_there P earlier later output all.1
+
+-- What holds of each output of an answer holds of one that it tells.
+pub told_there : (P : Output → Type 0) (answer : Answer) (output : Output) → Tells answer output → AllByRecursion P (outputs_of answer) → P output
+told_there P answer output tells all = all_there P tells.earlier tells.later output (subst (λ (a : Answer). AllByRecursion P (outputs_of a)) tells.is_answer all)

@@ -14,7 +14,7 @@ use Rattle.tcap_model.specs.Places.{Tells}
 use Rattle.tcap_model.specs.Request.{Request, Ending}
 use Rattle.tcap_model.specs.TwoEnds.{Happens, IsAnswer, IsFarRequest, WasSent}
 use Rattle.tcap_model.specs.WorkedPlay as play
-use Rattle.tcap_model.specs.WorkedWords.{born, invoke, request, receive, plain_begin, plain_continue, continued, empty_result}
+use Rattle.tcap_model.specs.WorkedWords.{born, invoke, request, receive, advance, plain_begin, plain_continue, continued, empty_result}
 
 -- The start of the engines of a play: at most 16 dialogues, a second to wait for a Reject (own).
 abbrev pub play_start : Start
@@ -121,6 +121,25 @@ answered_ahead = played (
     ∷ at_a (receive result (continued 1 ∷ Output.closed 1 1 (pos 1) empty_result ∷ []))
     ∷ [])
 
+-- ---- an identifier used again
+
+-- The first engine is told the result of its first Invoke; when the identifier is free again it sends a
+-- second one with it, and the same Continue is delivered again (own).
+abbrev pub used_again : Net
+used_again = played (
+    at_a (born 1)
+    ∷ at_a (invoke 1 (pos 1) One (pos 10) 5000 (Answer.number 1))
+    ∷ at_a (request 1 plain_begin (sends (hex 18 0x6210_480400000001_6C08_A106_020101_02010A)))
+    ∷ at_b (receive (hex 18 0x6210_480400000001_6C08_A106_020101_02010A) (Output.begin 1 None [] ∷ invoked 1 ∷ []))
+    ∷ at_b (request 1 answer Answer.done)
+    ∷ at_b (request 1 plain_continue (sends result))
+    ∷ at_a (receive result (continued 1 ∷ Output.closed 1 1 (pos 1) empty_result ∷ []))
+    ∷ at_a (advance 1000 [])
+    ∷ at_a (invoke 1 (pos 1) One (pos 10) 5000 (Answer.number 2))
+    ∷ at_a (request 1 plain_continue (sends (hex 24 0x6516_480400000001_490400000001_6C08_A106_020101_02010A)))
+    ∷ at_a (receive result (continued 1 ∷ Output.closed 1 2 (pos 1) empty_result ∷ []))
+    ∷ [])
+
 -- ---- two dialogues heard as one
 
 -- The second engine opens a dialogue, and its Begin is delivered twice. So one dialogue of the second
@@ -180,4 +199,19 @@ in_an_end = played (
     ∷ at_b (invoke 1 (pos 1) One (pos 10) 1000 (Answer.number 1))
     ∷ at_b (request 1 (Request.finish Ending.basic None []) (Answer.outputs (Output.send end_sent ∷ Output.closed 1 1 (pos 1) Closing.ended ∷ [])))
     ∷ at_a end_told
+    ∷ [])
+
+-- ---- forged messages
+
+-- The first engine hears a result that nobody sent, and the second an Invoke that nobody asked for: each
+-- answers as it should, but what they hear isn't what the other sent (own).
+abbrev pub forged : Net
+forged = played (
+    at_a (born 1)
+    ∷ at_a (request 1 plain_begin (sends (hex 8 0x6206_480400000001)))
+    ∷ at_a (invoke 1 (pos 1) One (pos 10) 1000 (Answer.number 1))
+    ∷ at_a (receive (hex 14 0x650C_480400000001_490400000001) (continued 1 ∷ []))
+    ∷ at_a (request 1 plain_continue (sends (hex 24 0x6516_480400000001_490400000001_6C08_A106_020101_02010A)))
+    ∷ at_a (receive result (continued 1 ∷ Output.closed 1 1 (pos 1) empty_result ∷ []))
+    ∷ at_b (receive (hex 18 0x6210_480400000001_6C08_A106_020101_02010B) (Output.begin 1 None [] ∷ Output.invoked (Some 1) (pos 1) None (code 11) None ∷ []))
     ∷ [])
