@@ -1,4 +1,5 @@
 mod AcceptedRequests
+mod AnsweredRows
 mod Apart
 mod BirthLemmas
 mod BornDialogues
@@ -21,6 +22,7 @@ mod EarlierMoments
 mod EndPremises
 mod EndingsAgree
 mod EndsAgree
+mod EndsAnswered
 mod EventMarks
 mod FormedRejects
 mod HeadlineWorks
@@ -49,6 +51,8 @@ mod ReceivedSpans
 mod RequestSending
 mod RequestedComponents
 mod RequestsAgree
+mod Restaged
+mod RowSteps
 mod RowsAgree
 mod RowsApart
 mod SendingLemmas
@@ -58,6 +62,7 @@ mod SentComponents
 mod SentLemmas
 mod SoundReceptions
 mod SpanSteps
+mod StageSteps
 mod StartLemmas
 mod SupersededInvocations
 mod ToldComponents
@@ -68,5 +73,6 @@ mod ToldOutputs
 mod ToldParts
 mod ToldReceptions
 mod WalkAgree
+mod WalkedRows
 mod WrongAnswersGiven
 mod WrongEndsTold
