@@ -30,10 +30,10 @@ use Rattle.tcap_model.specs.World.{dialogue_at, rows_of}
 use Rattle.tcap_pdu.specs.FrameSpelling.{Message, Reason}
 
 module _ (h : History) (dialogue : ℕ) (legal : IsLegal h) where
-  abbrev dialogue_in : State → Option (List ℕ) → Dialogue
+  abbrev pub dialogue_in : State → Option (List ℕ) → Dialogue
   dialogue_in state context = standing_dialogue h dialogue state context
 
-  over-answer : (state : State) (context : Option (List ℕ)) (first : List Output)
+  pub over-answer : (state : State) (context : Option (List ℕ)) (first : List Output)
       → (over_with (dialogue_in state context) first (dialogue_in state context).invocations).answer ≡ Answer.outputs (first ++ ended_in dialogue h.pairs [])
   over-answer state context first = ap (λ z. Answer.outputs (first ++ z)) (ended-agrees h.start.reject_ms dialogue h.start h.pairs legal.1)
 
@@ -86,7 +86,7 @@ module _ (h : History) (dialogue : ℕ) (legal : IsLegal h) where
   like-standing : IsLike dialogue h.pairs (rows_of h.start.reject_ms dialogue h.pairs) []
   like-standing = record { distinct = rows_distinct h.start h.pairs legal.1 h.start.reject_ms dialogue; sent = λ id. sent-rows h.start h.pairs legal.1 h.start.reject_ms dialogue id }
 
-  components-told : (state : State) (context : Option (List ℕ)) (components : List ℕ) → (walked_in (clock h.pairs) (dialogue_in state context) components).told ≡ told_of (handled_in dialogue h.pairs components)
+  pub components-told : (state : State) (context : Option (List ℕ)) (components : List ℕ) → (walked_in (clock h.pairs) (dialogue_in state context) components).told ≡ told_of (handled_in dialogue h.pairs components)
   components-told state context components =
       sym (walk_tells dialogue h.pairs (components_of components) (fault_last (length components) components) (dialogue_in state context).invocations [] tt like-standing)
 

@@ -1,4 +1,5 @@
 mod AcceptedRequests
+mod AnsweredRows
 mod Apart
 mod BirthLemmas
 mod BornDialogues
@@ -22,6 +23,7 @@ mod EarlierMoments
 mod EndPremises
 mod EndingsAgree
 mod EndsAgree
+mod EndsAnswered
 mod EventMarks
 mod FormedRejects
 mod HeadlineWorks
@@ -50,6 +52,8 @@ mod ReceivedSpans
 mod RequestSending
 mod RequestedComponents
 mod RequestsAgree
+mod Restaged
+mod RowSteps
 mod RowsAgree
 mod RowsApart
 mod SendingLemmas
@@ -59,6 +63,7 @@ mod SentComponents
 mod SentLemmas
 mod SoundReceptions
 mod SpanSteps
+mod StageSteps
 mod StartLemmas
 mod SupersededInvocations
 mod ToldComponents
@@ -70,5 +75,6 @@ mod ToldParts
 mod ToldReceptions
 mod TwoEndsWork
 mod WalkAgree
+mod WalkedRows
 mod WrongAnswersGiven
 mod WrongEndsTold

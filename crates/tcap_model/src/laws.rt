@@ -1,5 +1,6 @@
 //! Laws of the definitions, each the contract of a function that does nothing.
 
+pub mod agreeing;
 pub mod bounds;
 pub mod components;
 pub mod deciding;
