@@ -24,6 +24,7 @@ mod NamedReceptions
 mod NetsWork
 mod NumberLemmas
 mod NumberedLemmas
+mod OnlyLives
 mod OpenNumbers
 mod PeerLemmas
 mod PlaceLemmas

@@ -1,5 +1,6 @@
 //! Laws of the definitions, each the contract of a function that does nothing.
 
+pub mod alone;
 pub mod components;
 pub mod drawing;
 pub mod invoking;
