@@ -1,12 +1,18 @@
 //! What one dialogue sees of a history: no other dialogue.
 
-ghost use Rattle.std.specs.Prelude.{◌≡◌, ℕ, ℤ, [], ◌∷◌, true, false};
+ghost use Rattle.std.specs.Prelude.{◌≡◌, ◌==◌, ℕ, ℤ, [], ◌∷◌, true, false, Some, filter};
 ghost use Rattle.tcap_model.specs.Birth.{was_born};
 ghost use Rattle.tcap_model.specs.Clock.{clock};
+ghost use Rattle.tcap_model.specs.Deadline.{deadline};
+ghost use Rattle.tcap_model.specs.History.{History};
+ghost use Rattle.tcap_model.specs.Invocation.{Invocation, invocation_of, invocations, latest};
+ghost use Rattle.tcap_model.specs.Legal.{IsLegal};
 ghost use Rattle.tcap_model.specs.Life.{life};
 ghost use Rattle.tcap_model.specs.Marks.{marks};
 ghost use Rattle.tcap_model.specs.Only.{is_seen_by, only, pair_within};
+ghost use Rattle.tcap_model.specs.Outcome.{outcome};
 ghost use Rattle.tcap_model.specs.Pair.{Pair, Past};
+ghost use Rattle.tcap_model.specs.Span.{span};
 
 /// What a dialogue sees of a history tells the clock, its birth and its life; a pair that it doesn't
 /// see means nothing for its identifiers, and one that it sees the same as in the history (our own).
@@ -18,4 +24,20 @@ pub fn only_tells_life()
         marks dialogue id pair past ≡ [] }
     ensures seen { (dialogue : ℕ) (id : ℤ) (pair : Pair) (past : Past) →
         marks dialogue id (pair_within dialogue pair.event pair.answer) (only dialogue past) ≡ marks dialogue id pair past }
+{}
+
+/// What a dialogue sees of a legal history has its invocations and no others, with their spans,
+/// deadlines and outcomes, and the latest of each identifier (our own).
+pub fn only_tells_invocations()
+    ensures all { (h : History) (dialogue : ℕ) → IsLegal h →
+        invocations (only dialogue h.pairs) ≡ filter (λ (i : Invocation). i.dialogue == dialogue) (invocations h.pairs) }
+    ensures latest { (h : History) (dialogue : ℕ) (id : ℤ) → IsLegal h → latest dialogue id (only dialogue h.pairs) ≡ latest dialogue id h.pairs }
+    ensures found { (h : History) (dialogue n : ℕ) (i : Invocation) → IsLegal h → invocation_of n h.pairs ≡ Some i → i.dialogue ≡ dialogue →
+        invocation_of n (only dialogue h.pairs) ≡ Some i }
+    ensures span { (h : History) (dialogue n : ℕ) (i : Invocation) → IsLegal h → invocation_of n h.pairs ≡ Some i → i.dialogue ≡ dialogue →
+        span i (only dialogue h.pairs) ≡ span i h.pairs }
+    ensures deadline { (h : History) (dialogue n : ℕ) (i : Invocation) → IsLegal h → invocation_of n h.pairs ≡ Some i → i.dialogue ≡ dialogue →
+        deadline i (only dialogue h.pairs) ≡ deadline i h.pairs }
+    ensures outcome { (h : History) (dialogue n : ℕ) (i : Invocation) → IsLegal h → invocation_of n h.pairs ≡ Some i → i.dialogue ≡ dialogue →
+        outcome n (only dialogue h.pairs) ≡ outcome n h.pairs }
 {}
