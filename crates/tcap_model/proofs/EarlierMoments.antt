@@ -106,7 +106,7 @@ module _ (past : Past) (now : ℕ) (answer : Answer) (accepted : is_accepted ans
 
 -- ---- a wait
 
-since_end : (newer place : Past) → since place (newer ++ place) ≡ newer
+pub since_end : (newer place : Past) → since place (newer ++ place) ≡ newer
 since_end newer place =
     let count : length (newer ++ place) - length place ≡ length newer = omega (arith, length-append newer place) in
     ap (λ k. take k (newer ++ place)) count ∙ take-append_seam newer place

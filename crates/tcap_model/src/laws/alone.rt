@@ -1,9 +1,12 @@
 //! What one dialogue sees of a history: no other dialogue.
 
-ghost use Rattle.std.specs.Prelude.{◌≡◌, ◌==◌, ℕ, ℤ, [], ◌∷◌, true, false, Some, filter};
+ghost use Rattle.std.specs.Prelude.{◌≡◌, ◌==◌, ℕ, ℤ, [], ◌∷◌, true, false, Some, filter, option_map};
 ghost use Rattle.tcap_model.specs.Birth.{was_born};
 ghost use Rattle.tcap_model.specs.Clock.{clock};
+ghost use Rattle.tcap_model.specs.Closings.{Told};
 ghost use Rattle.tcap_model.specs.Deadline.{deadline};
+ghost use Rattle.tcap_model.specs.Decision.{decision};
+ghost use Rattle.tcap_model.specs.Held.{held, pending};
 ghost use Rattle.tcap_model.specs.History.{History};
 ghost use Rattle.tcap_model.specs.Invocation.{Invocation, invocation_of, invocations, latest};
 ghost use Rattle.tcap_model.specs.Legal.{IsLegal};
@@ -40,4 +43,15 @@ pub fn only_tells_invocations()
         deadline i (only dialogue h.pairs) ≡ deadline i h.pairs }
     ensures outcome { (h : History) (dialogue n : ℕ) (i : Invocation) → IsLegal h → invocation_of n h.pairs ≡ Some i → i.dialogue ≡ dialogue →
         outcome n (only dialogue h.pairs) ≡ outcome n h.pairs }
+{}
+
+/// What a dialogue sees of a legal history decides its invocations as the history does, each at the place
+/// that it sees; so the same identifiers are in use, and the same invocations are pending (our own).
+pub fn only_tells_decisions()
+    ensures decision { (h : History) (dialogue n : ℕ) (i : Invocation) → IsLegal h → invocation_of n h.pairs ≡ Some i → i.dialogue ≡ dialogue →
+        decision n (only dialogue h.pairs) ≡
+        option_map (λ (t : Told). record { place = only dialogue t.place; dialogue = t.dialogue; id = t.id; closing = t.closing }) (decision n h.pairs) }
+    ensures held { (h : History) (reject_ms dialogue : ℕ) (id : ℤ) → IsLegal h →
+        held reject_ms dialogue id (only dialogue h.pairs) ≡ held reject_ms dialogue id h.pairs }
+    ensures pending { (h : History) (dialogue : ℕ) (id : ℤ) → IsLegal h → pending dialogue id (only dialogue h.pairs) ≡ pending dialogue id h.pairs }
 {}
