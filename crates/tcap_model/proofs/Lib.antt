@@ -27,6 +27,7 @@ mod NumberedLemmas
 mod OnlyDecisions
 mod OnlyInvocations
 mod OnlyLives
+mod OnlyQueues
 mod OpenNumbers
 mod PeerLemmas
 mod PlaceLemmas

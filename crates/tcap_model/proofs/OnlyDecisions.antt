@@ -45,6 +45,12 @@ undecided_at n place e = go (invocation_of n place) refl
     go None q = refl
     go (Some i) q = ap (told_of place i) (ap (λ o. outcome_of o place) (sym q) ∙ e)
 
+-- a request on a dialogue that wasn't born is refused
+pub unborn_refused : (start : Start) (named : ℕ) (r : Request) (answer : Answer) (past : Past) → AreReplies start (with_answer (Event.on_dialogue named r) answer ∷ past) → life named past ≡ Life.unborn → is_accepted answer ≡ false
+unborn_refused start named r answer past legal unborn =
+    let h : History = record { start = start; pairs = past } in
+    ap is_accepted (legal.1 ∙ ap (λ l. request_answer h named r l (due_by h named r l)) unborn)
+
 module _ (start : Start) (dialogue : ℕ) where
   told_same : (past : Past) (i : Invocation) (o : Option Closing) → told_of (only dialogue past) i o ≡ option_map (told_within dialogue) (told_of past i o)
   told_same past i None = refl
@@ -96,12 +102,6 @@ module _ (start : Start) (dialogue : ℕ) where
     ends_within (Event.received bytes) answer = refl
     ends_within (Event.moment now) answer = ap (λ b. b && nat_le until now) (within_accepted dialogue answer)
 
-    -- a request on a dialogue that wasn't born is refused
-    unborn_refused : (named : ℕ) (r : Request) (answer : Answer) (past : Past) → AreReplies start (with_answer (Event.on_dialogue named r) answer ∷ past) → life named past ≡ Life.unborn → is_accepted answer ≡ false
-    unborn_refused named r answer past legal unborn =
-        let h : History = record { start = start; pairs = past } in
-        ap is_accepted (legal.1 ∙ ap (λ l. request_answer h named r l (due_by h named r l)) unborn)
-
     unseen_request : (named : ℕ) (r : Request) (answer : Answer) (past : Past) → AreReplies start (with_answer (Event.on_dialogue named r) answer ∷ past) → IsUnseen dialogue (with_answer (Event.on_dialogue named r) answer) past
         → (is_accepted answer && ((named == dialogue) && rejects_answer id r)) ≡ false
     unseen_request named r answer past legal is = go (named == dialogue) (was_born dialogue past) refl refl
@@ -111,7 +111,7 @@ module _ (start : Start) (dialogue : ℕ) where
         go true true p q = let never : true ≡ false = sym p ∙ is.not_named q in absurd cc
         go true false p q =
             let same : named ≡ dialogue = grind (arith, nat_tests) in
-            ap (λ b. b && (true && rejects_answer id r)) (unborn_refused named r answer past legal (ap (λ d. life d past) same ∙ unborn-life dialogue past q))
+            ap (λ b. b && (true && rejects_answer id r)) (unborn_refused start named r answer past legal (ap (λ d. life d past) same ∙ unborn-life dialogue past q))
 
     unseen_ends : (event : Event) (answer : Answer) (past : Past) → AreReplies start (with_answer event answer ∷ past) → IsUnseen dialogue (with_answer event answer) past → pair_ends_wait until dialogue id (with_answer event answer) ≡ false
     unseen_ends Event.new_dialogue answer past legal is = and_false (is_accepted answer)

@@ -1,6 +1,6 @@
 //! What one dialogue sees of a history: no other dialogue.
 
-ghost use Rattle.std.specs.Prelude.{◌≡◌, ◌==◌, ℕ, ℤ, [], ◌∷◌, true, false, Some, filter, option_map};
+ghost use Rattle.std.specs.Prelude.{◌≡◌, ◌==◌, ℕ, ℤ, List, [], ◌∷◌, true, false, Some, filter, option_map};
 ghost use Rattle.tcap_model.specs.Birth.{was_born};
 ghost use Rattle.tcap_model.specs.Clock.{clock};
 ghost use Rattle.tcap_model.specs.Closings.{Told};
@@ -15,6 +15,7 @@ ghost use Rattle.tcap_model.specs.Marks.{marks};
 ghost use Rattle.tcap_model.specs.Only.{is_seen_by, only, pair_within};
 ghost use Rattle.tcap_model.specs.Outcome.{outcome};
 ghost use Rattle.tcap_model.specs.Pair.{Pair, Past};
+ghost use Rattle.tcap_model.specs.Queue.{handled_in, queue};
 ghost use Rattle.tcap_model.specs.Span.{span};
 
 /// What a dialogue sees of a history tells the clock, its birth and its life; a pair that it doesn't
@@ -54,4 +55,12 @@ pub fn only_tells_decisions()
     ensures held { (h : History) (reject_ms dialogue : ℕ) (id : ℤ) → IsLegal h →
         held reject_ms dialogue id (only dialogue h.pairs) ≡ held reject_ms dialogue id h.pairs }
     ensures pending { (h : History) (dialogue : ℕ) (id : ℤ) → IsLegal h → pending dialogue id (only dialogue h.pairs) ≡ pending dialogue id h.pairs }
+{}
+
+/// What a dialogue sees of a legal history has its queue, and what its components tell and the Rejects
+/// that answer them (our own).
+pub fn only_tells_queue()
+    ensures queue { (h : History) (dialogue : ℕ) → IsLegal h → queue dialogue (only dialogue h.pairs) ≡ queue dialogue h.pairs }
+    ensures handled { (h : History) (dialogue : ℕ) (components : List ℕ) → IsLegal h →
+        handled_in dialogue (only dialogue h.pairs) components ≡ handled_in dialogue h.pairs components }
 {}
