@@ -28,6 +28,7 @@ mod OnlyDecisions
 mod OnlyInvocations
 mod OnlyLives
 mod OnlyQueues
+mod OnlyRequests
 mod OpenNumbers
 mod PeerLemmas
 mod PlaceLemmas

@@ -1,14 +1,20 @@
 //! What one dialogue sees of a history: no other dialogue.
 
-ghost use Rattle.std.specs.Prelude.{◌≡◌, ◌==◌, ℕ, ℤ, List, [], ◌∷◌, true, false, Some, filter, option_map};
+ghost use Rattle.std.specs.Prelude.{◌≡◌, ◌≢◌, ◌==◌, ℕ, ℤ, List, [], ◌∷◌, true, false, Some, filter, option_map};
+ghost use Rattle.tcap_model.specs.Answer.{Answer};
 ghost use Rattle.tcap_model.specs.Birth.{was_born};
 ghost use Rattle.tcap_model.specs.Clock.{clock};
 ghost use Rattle.tcap_model.specs.Closings.{Told};
+ghost use Rattle.tcap_model.specs.ComponentHandling.{Item};
 ghost use Rattle.tcap_model.specs.Deadline.{deadline};
 ghost use Rattle.tcap_model.specs.Decision.{decision};
+ghost use Rattle.tcap_model.specs.Due.{due};
+ghost use Rattle.tcap_model.specs.Event.{Event};
+ghost use Rattle.tcap_model.specs.Fault.{Fault};
 ghost use Rattle.tcap_model.specs.Held.{held, pending};
 ghost use Rattle.tcap_model.specs.History.{History};
 ghost use Rattle.tcap_model.specs.Invocation.{Invocation, invocation_of, invocations, latest};
+ghost use Rattle.tcap_model.specs.Isolation.{IsAlone, history_of};
 ghost use Rattle.tcap_model.specs.Legal.{IsLegal};
 ghost use Rattle.tcap_model.specs.Life.{life};
 ghost use Rattle.tcap_model.specs.Marks.{marks};
@@ -16,6 +22,8 @@ ghost use Rattle.tcap_model.specs.Only.{is_seen_by, only, pair_within};
 ghost use Rattle.tcap_model.specs.Outcome.{outcome};
 ghost use Rattle.tcap_model.specs.Pair.{Pair, Past};
 ghost use Rattle.tcap_model.specs.Queue.{handled_in, queue};
+ghost use Rattle.tcap_model.specs.Reply.{ended_in, reply};
+ghost use Rattle.tcap_model.specs.Request.{Request};
 ghost use Rattle.tcap_model.specs.Span.{span};
 
 /// What a dialogue sees of a history tells the clock, its birth and its life; a pair that it doesn't
@@ -63,4 +71,16 @@ pub fn only_tells_queue()
     ensures queue { (h : History) (dialogue : ℕ) → IsLegal h → queue dialogue (only dialogue h.pairs) ≡ queue dialogue h.pairs }
     ensures handled { (h : History) (dialogue : ℕ) (components : List ℕ) → IsLegal h →
         handled_in dialogue (only dialogue h.pairs) components ≡ handled_in dialogue h.pairs components }
+{}
+
+/// A request on a dialogue is due the fault, and answered, by what the dialogue sees of a legal history,
+/// but for the number that an invoke draws, and unless no number is left (our own).
+pub fn only_tells_requests()
+    ensures ended { (h : History) (dialogue : ℕ) (items : List Item) → IsLegal h →
+        ended_in dialogue (only dialogue h.pairs) items ≡ ended_in dialogue h.pairs items }
+    ensures due { (h : History) (dialogue : ℕ) (request : Request) → IsLegal h → due h dialogue request ≢ Some Fault.numbers_spent →
+        due (history_of dialogue h) dialogue request ≡ due h dialogue request }
+    ensures answer { (h : History) (dialogue : ℕ) (request : Request) → IsLegal h →
+        reply h (Event.on_dialogue dialogue request) ≢ Answer.refused Fault.numbers_spent →
+        IsAlone h dialogue (Event.on_dialogue dialogue request) }
 {}
