@@ -24,6 +24,7 @@ mod NamedReceptions
 mod NetsWork
 mod NumberLemmas
 mod NumberedLemmas
+mod OnlyBytes
 mod OnlyDecisions
 mod OnlyInvocations
 mod OnlyLives

@@ -1,6 +1,6 @@
 //! What one dialogue sees of a history: no other dialogue.
 
-ghost use Rattle.std.specs.Prelude.{◌≡◌, ◌≢◌, ◌==◌, ℕ, ℤ, List, [], ◌∷◌, true, false, Some, filter, option_map};
+ghost use Rattle.std.specs.Prelude.{◌≡◌, ◌≢◌, ◌==◌, ℕ, ℤ, List, [], ◌∷◌, true, false, Some, filter, option_map, IsTrue};
 ghost use Rattle.tcap_model.specs.Answer.{Answer};
 ghost use Rattle.tcap_model.specs.Birth.{was_born};
 ghost use Rattle.tcap_model.specs.Clock.{clock};
@@ -18,6 +18,7 @@ ghost use Rattle.tcap_model.specs.Isolation.{IsAlone, history_of};
 ghost use Rattle.tcap_model.specs.Legal.{IsLegal};
 ghost use Rattle.tcap_model.specs.Life.{life};
 ghost use Rattle.tcap_model.specs.Marks.{marks};
+ghost use Rattle.tcap_model.specs.Names.{names};
 ghost use Rattle.tcap_model.specs.Only.{is_seen_by, only, pair_within};
 ghost use Rattle.tcap_model.specs.Outcome.{outcome};
 ghost use Rattle.tcap_model.specs.Pair.{Pair, Past};
@@ -83,4 +84,11 @@ pub fn only_tells_requests()
     ensures answer { (h : History) (dialogue : ℕ) (request : Request) → IsLegal h →
         reply h (Event.on_dialogue dialogue request) ≢ Answer.refused Fault.numbers_spent →
         IsAlone h dialogue (Event.on_dialogue dialogue request) }
+{}
+
+/// Received bytes that name a dialogue are answered by what the dialogue sees of a legal history (our
+/// own).
+pub fn only_tells_bytes()
+    ensures { (h : History) (dialogue : ℕ) (bytes : List ℕ) → IsLegal h → IsTrue (names (Event.received bytes) dialogue) →
+        IsAlone h dialogue (Event.received bytes) }
 {}
