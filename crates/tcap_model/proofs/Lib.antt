@@ -18,6 +18,7 @@ mod EventMarks
 mod FormedRejects
 mod HeadlineWorks
 mod IsolationWorks
+mod LapseOrder
 mod LatestInvocations
 mod LifeLemmas
 mod NamedReceptions
@@ -28,6 +29,7 @@ mod OnlyBytes
 mod OnlyDecisions
 mod OnlyInvocations
 mod OnlyLives
+mod OnlyMoments
 mod OnlyQueues
 mod OnlyRequests
 mod OpenNumbers

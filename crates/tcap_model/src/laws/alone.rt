@@ -14,16 +14,16 @@ ghost use Rattle.tcap_model.specs.Fault.{Fault};
 ghost use Rattle.tcap_model.specs.Held.{held, pending};
 ghost use Rattle.tcap_model.specs.History.{History};
 ghost use Rattle.tcap_model.specs.Invocation.{Invocation, invocation_of, invocations, latest};
-ghost use Rattle.tcap_model.specs.Isolation.{IsAlone, history_of};
+ghost use Rattle.tcap_model.specs.Isolation.{IsAlone, history_of, EachIsAlone};
 ghost use Rattle.tcap_model.specs.Legal.{IsLegal};
 ghost use Rattle.tcap_model.specs.Life.{life};
 ghost use Rattle.tcap_model.specs.Marks.{marks};
 ghost use Rattle.tcap_model.specs.Names.{names};
-ghost use Rattle.tcap_model.specs.Only.{is_seen_by, only, pair_within};
+ghost use Rattle.tcap_model.specs.Only.{is_seen_by, only, pair_within, is_output_of};
 ghost use Rattle.tcap_model.specs.Outcome.{outcome};
 ghost use Rattle.tcap_model.specs.Pair.{Pair, Past};
 ghost use Rattle.tcap_model.specs.Queue.{handled_in, queue};
-ghost use Rattle.tcap_model.specs.Reply.{ended_in, reply};
+ghost use Rattle.tcap_model.specs.Reply.{ended_in, reply, lapses};
 ghost use Rattle.tcap_model.specs.Request.{Request};
 ghost use Rattle.tcap_model.specs.Span.{span};
 
@@ -91,4 +91,19 @@ pub fn only_tells_requests()
 pub fn only_tells_bytes()
     ensures { (h : History) (dialogue : ℕ) (bytes : List ℕ) → IsLegal h → IsTrue (names (Event.received bytes) dialogue) →
         IsAlone h dialogue (Event.received bytes) }
+{}
+
+/// A moment tells a dialogue, of all that lapses at it, exactly what it would tell the dialogue alone, in
+/// the same order (our own).
+pub fn only_tells_moments()
+    ensures lapses { (h : History) (dialogue now : ℕ) → IsLegal h →
+        filter (is_output_of dialogue) (lapses h.pairs now) ≡ lapses (only dialogue h.pairs) now }
+    ensures answer { (h : History) (dialogue now : ℕ) → IsLegal h → IsAlone h dialogue (Event.moment now) }
+{}
+
+/// No dialogue sees another: each event that names a dialogue is answered by that dialogue's own history,
+/// and neither other dialogues nor their peers are seen in it, unless no invocation number is left (our
+/// own).
+pub fn isolation()
+    ensures { EachIsAlone }
 {}
