@@ -1,8 +1,7 @@
 -- Lapses in order, of which some are left out, are those that are left, in order.
-use Rattle.std.proofs.Common.{◌≡◌, ℕ, ◌≤◌, ◌<◌, ◌==◌, Bool, true, false, cond, ◌&&◌, ◌||◌, nat_lt, List, [], ◌∷◌, refl, sym, ap, ◌∙◌, inl, inr, arith}
-use Rattle.std.proofs.lemmas.Bool.{cases_Bool, or_cases, or_parts, eq-eqb, eqb-true, ltb-false, ltb-true, le-ltb, true≢false}
+use Rattle.std.proofs.Common.{◌≡◌, ◌≤◌, ◌==◌, Bool, true, false, cond, ◌&&◌, ◌||◌, nat_lt, List, [], ◌∷◌, refl, sym, ap, ◌∙◌, inl, inr, arith}
+use Rattle.std.proofs.lemmas.Bool.{or_cases, or_parts, eq-eqb, eqb-true, ltb-false, ltb-true, le-ltb, true≢false}
 use Rattle.std.specs.Prelude.{filter}
-use Rattle.tcap_model.specs.Invocation.{Invocation}
 use Rattle.tcap_model.specs.Reply.{Lapsing, is_before, put, in_order}
 
 -- ---- the order
@@ -35,7 +34,7 @@ from-not a b e =
       deadline = ltb-false a.deadline b.deadline first.0;
       dialogue = λ same. ltb-false a.invocation.dialogue b.invocation.dialogue (second first.1 same).0;
       number = λ same also. ltb-false a.invocation.number b.invocation.number
-        (and_not (a.invocation.dialogue == b.invocation.dialogue) (nat_lt a.invocation.number b.invocation.number) (second first.1 same).1 (eq-eqb a.invocation.dialogue b.invocation.dialogue (sym also)));
+          (and_not (a.invocation.dialogue == b.invocation.dialogue) (nat_lt a.invocation.number b.invocation.number) (second first.1 same).1 (eq-eqb a.invocation.dialogue b.invocation.dialogue (sym also)));
     }
   where
     second : ((a.deadline == b.deadline) && (nat_lt a.invocation.dialogue b.invocation.dialogue || ((a.invocation.dialogue == b.invocation.dialogue) && nat_lt a.invocation.number b.invocation.number))) ≡ false → b.deadline ≡ a.deadline
@@ -48,11 +47,11 @@ not-from a b f =
     neither (nat_lt a.deadline b.deadline) ((a.deadline == b.deadline) && (nat_lt a.invocation.dialogue b.invocation.dialogue || ((a.invocation.dialogue == b.invocation.dialogue) && nat_lt a.invocation.number b.invocation.number)))
     (le-ltb a.deadline b.deadline f.deadline)
     (not_and (a.deadline == b.deadline) (nat_lt a.invocation.dialogue b.invocation.dialogue || ((a.invocation.dialogue == b.invocation.dialogue) && nat_lt a.invocation.number b.invocation.number)) (λ e.
-      let same : b.deadline ≡ a.deadline = sym (eqb-true a.deadline b.deadline e) in
-      neither (nat_lt a.invocation.dialogue b.invocation.dialogue) ((a.invocation.dialogue == b.invocation.dialogue) && nat_lt a.invocation.number b.invocation.number)
-      (le-ltb a.invocation.dialogue b.invocation.dialogue (f.dialogue same))
-      (not_and (a.invocation.dialogue == b.invocation.dialogue) (nat_lt a.invocation.number b.invocation.number) (λ q.
-        le-ltb a.invocation.number b.invocation.number (f.number same (sym (eqb-true a.invocation.dialogue b.invocation.dialogue q)))))))
+    let same : b.deadline ≡ a.deadline = sym (eqb-true a.deadline b.deadline e) in
+    neither (nat_lt a.invocation.dialogue b.invocation.dialogue) ((a.invocation.dialogue == b.invocation.dialogue) && nat_lt a.invocation.number b.invocation.number)
+    (le-ltb a.invocation.dialogue b.invocation.dialogue (f.dialogue same))
+    (not_and (a.invocation.dialogue == b.invocation.dialogue) (nat_lt a.invocation.number b.invocation.number) (λ q.
+    le-ltb a.invocation.number b.invocation.number (f.number same (sym (eqb-true a.invocation.dialogue b.invocation.dialogue q)))))))
 
 -- what stands before is not behind
 before-from : (a b : Lapsing) → is_before a b ≡ true → IsFrom b a
@@ -82,15 +81,15 @@ from-trans a b c p q =
     record {
       deadline = omega (arith, low, high);
       dialogue = λ same.
-        let x = p.dialogue (omega (arith, low, high, same)) in
-        let y = q.dialogue (omega (arith, low, high, same)) in
-        omega (arith, x, y);
+          let x = p.dialogue (omega (arith, low, high, same)) in
+          let y = q.dialogue (omega (arith, low, high, same)) in
+          omega (arith, x, y);
       number = λ same also.
-        let x = p.dialogue (omega (arith, low, high, same)) in
-        let y = q.dialogue (omega (arith, low, high, same)) in
-        let m = p.number (omega (arith, low, high, same)) (omega (arith, x, y, also)) in
-        let n = q.number (omega (arith, low, high, same)) (omega (arith, x, y, also)) in
-        omega (arith, m, n);
+          let x = p.dialogue (omega (arith, low, high, same)) in
+          let y = q.dialogue (omega (arith, low, high, same)) in
+          let m = p.number (omega (arith, low, high, same)) (omega (arith, x, y, also)) in
+          let n = q.number (omega (arith, low, high, same)) (omega (arith, x, y, also)) in
+          omega (arith, m, n);
     }
 
 asym : (x y : Lapsing) → is_before y x ≡ true → is_before x y ≡ false
@@ -155,6 +154,7 @@ module _ (own : Lapsing → Bool) where
       kept : (b : Bool) → is_before y x ≡ true → filter own (put x ys) ≡ put x (filter own ys) → cond b (y ∷ filter own (put x ys)) (filter own (put x ys)) ≡ put x (cond b (y ∷ filter own ys) (filter own ys))
       kept true q ih = ap (λ (l : List Lapsing). y ∷ l) ih ∙ sym (ap (λ b. cond b (y ∷ put x (filter own ys)) (x ∷ y ∷ filter own ys)) q)
       kept false q ih = ih
+
       go : (b : Bool) → is_before y x ≡ b → filter own (put x ys) ≡ put x (filter own ys) → filter own (cond b (y ∷ put x ys) (x ∷ y ∷ ys)) ≡ put x (filter own (y ∷ ys))
       go true q ih = kept (own y) q ih
       go false q ih =

@@ -1,5 +1,5 @@
 -- Received bytes that name a dialogue are answered by what the dialogue sees.
-use Rattle.std.proofs.Common.{◌≡◌, ℕ, true, false, Bool, ◌==◌, ◌||◌, List, [], ◌∷◌, ◌++◌, length, nat_lt, nat_le, option_to_list, is_some, Option, Some, None, Result, Ok, Err, if◌then◌else◌, refl, sym, ap, subst, ◌∙◌, inl, inr}
+use Rattle.std.proofs.Common.{◌≡◌, ℕ, true, false, Bool, ◌==◌, List, [], ◌∷◌, ◌++◌, length, nat_le, option_to_list, is_some, Option, Some, None, Result, Ok, Err, if◌then◌else◌, refl, sym, ap, subst, ◌∙◌, inl, inr}
 use Rattle.std.proofs.lemmas.Bool.{cases_Bool, leb-true, le-ltb, true≢false}
 use Rattle.tcap_pdu.specs.declared.fault.FrameFault.{FrameFault}
 use Rattle.tcap_pdu.specs.FrameReading.{frame_at}
@@ -11,7 +11,7 @@ use Rattle.tcap_model.proofs.NamedReceptions.{that-is}
 use Rattle.tcap_model.proofs.OnlyLives.{only_life}
 use Rattle.tcap_model.proofs.OnlyQueues.{only_handled}
 use Rattle.tcap_model.proofs.OnlyRequests.{only_ended}
-use Rattle.tcap_model.specs.AbortRules.{abort_told, abnormal_abort, fault_cause}
+use Rattle.tcap_model.specs.AbortRules.{abort_told, abnormal_abort}
 use Rattle.tcap_model.specs.Answer.{Answer}
 use Rattle.tcap_model.specs.ComponentHandling.{told_of}
 use Rattle.tcap_model.specs.Destination.{destination, begins_addressed, destination_by}
@@ -87,9 +87,10 @@ module _ (dialogue : ℕ) where
     named-same : (to : Option (List ℕ)) → is_destined dialogue to ≡ true → (addressed_if_any live to ≡ addressed_if_any others to) × IsItsName (addressed_if_any live to)
     named-same None is = absurd (true≢false (sym is))
     named-same (Some octets) is =
-        let named = that-is dialogue (dialogue_named octets) is in
-        (ap (live_named live) named ∙ (ap (λ b. if b then Some dialogue else None) same ∙ sym (ap (live_named others) named)),
-         subst IsItsName (sym (ap (live_named live) named)) (its_name (live dialogue)))
+        let named = that-is dialogue (dialogue_named octets) is in (
+          ap (live_named live) named ∙ (ap (λ b. if b then Some dialogue else None) same ∙ sym (ap (live_named others) named)),
+          subst IsItsName (sym (ap (live_named live) named)) (its_name (live dialogue)),
+        )
 
     abbrev AreSame : Reception → Reception → Type 0
     AreSame r s = (r ≡ s) × IsOf r
@@ -130,10 +131,13 @@ module _ (dialogue : ℕ) where
         by : (short : Bool) → named_within short dialogue bytes ≡ true → short ≡ true
         by true e = refl
         by false e = absurd (true≢false (sym e))
+
         within : nat_le (length bytes) message_limit ≡ true
         within = by (nat_le (length bytes) message_limit) named
+
         destined : is_destined dialogue (destination_by bytes (frame_at bytes)) ≡ true
         destined = sym (ap (λ b. named_within b dialogue bytes) within) ∙ named
+
         whole : (l : ℕ → Bool) (f : Bool) → reception l f bytes ≡ reading_by l f bytes (frame_at bytes)
         whole l f = ap (λ b. if b then Reception.dropped DropCause.too_long else reading_by l f bytes (frame_at bytes)) (le-ltb message_limit (length bytes) (leb-true (length bytes) message_limit within))
 

@@ -1,6 +1,5 @@
 -- What a dialogue sees of a legal history has its decisions, each at the place that it sees.
-use Rattle.std.proofs.Common.{◌≡◌, ℕ, ℤ, ◌+◌, ◌==◌, Bool, true, false, not, ◌&&◌, ◌||◌, nat_le, [], ◌∷◌, ◌++◌, Option, Some, None, refl, ap, sym, ◌∙◌, subst, arith, if◌then◌else◌, inl, inr}
-use Rattle.std.proofs.lemmas.Bool.{cases_Bool}
+use Rattle.std.proofs.Common.{◌≡◌, ℕ, ℤ, ◌+◌, ◌==◌, Bool, true, false, not, ◌&&◌, ◌||◌, nat_le, [], ◌∷◌, ◌++◌, Option, Some, None, refl, ap, sym, ◌∙◌, subst, arith, if◌then◌else◌}
 use Rattle.std.proofs.lemmas.Bool.Decides.{nat_tests}
 use Rattle.std.specs.Prelude.{is_none, option_map}
 use Rattle.std.specs.Option.{option_or}
@@ -18,18 +17,16 @@ use Rattle.tcap_model.specs.Closings.{Told}
 use Rattle.tcap_model.specs.Decision.{decided_of, decided_at, decision, told_of}
 use Rattle.tcap_model.specs.Due.{due_by}
 use Rattle.tcap_model.specs.Event.{Event}
-use Rattle.tcap_model.specs.Fault.{Fault}
 use Rattle.tcap_model.specs.Held.{held, held_by, holds_identifier, is_waiting, is_rejectable, rejects_answer, pair_ends_wait, since, pending, if_pending}
 use Rattle.tcap_model.specs.History.{History, Start}
 use Rattle.tcap_model.specs.Invocation.{Invocation, invocation_of, latest}
 use Rattle.tcap_model.specs.Legal.{AreReplies}
 use Rattle.tcap_model.specs.Life.{Life, life}
-use Rattle.tcap_model.specs.Names.{names}
 use Rattle.tcap_model.specs.Only.{pair_within, is_seen_by, only}
 use Rattle.tcap_model.specs.Outcome.{outcome_of, outcome}
 use Rattle.tcap_model.specs.Output.{Closing}
-use Rattle.tcap_model.specs.Pair.{Pair, Past}
-use Rattle.tcap_model.specs.Reply.{reply, request_answer}
+use Rattle.tcap_model.specs.Pair.{Past}
+use Rattle.tcap_model.specs.Reply.{request_answer}
 use Rattle.tcap_model.specs.Request.{Request}
 
 -- a decision at the place that the dialogue sees
@@ -74,10 +71,12 @@ module _ (start : Start) (dialogue : ℕ) where
     where
       before : IsOwn start dialogue n past
       before = own_before start dialogue n pair past own
+
       not_seen : (d : Option Told) → option_map (λ (t : Told). t.closing) d ≡ outcome n past → outcome n (pair ∷ past) ≡ outcome n past
           → option_map (told_within dialogue) d ≡ option_map (told_within dialogue) (option_or d (decided_at n (pair ∷ past)))
       not_seen None q same = ap (option_map (told_within dialogue)) (sym (undecided_at n (pair ∷ past) (same ∙ sym q)))
       not_seen (Some t) q same = refl
+
       go : (b : Bool) → is_seen_by dialogue pair past ≡ b → decided_at n (seen_or_not dialogue b pair past) ≡ option_map (told_within dialogue) (decided_at n (pair ∷ past))
           → outcome n (seen_or_not dialogue b pair past) ≡ outcome n (pair ∷ past)
           → decision n (only dialogue past) ≡ option_map (told_within dialogue) (decision n past)

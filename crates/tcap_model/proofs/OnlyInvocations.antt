@@ -6,7 +6,7 @@ use Rattle.std.specs.Prelude.{filter, find, is_some, option_map, option_to_list}
 use Rattle.std.specs.Option.{option_or}
 use Rattle.tcap_model.proofs.DecisionSteps.{invocation_stays, number_found}
 use Rattle.tcap_model.proofs.DrawnInvocations.{draws}
-use Rattle.tcap_model.proofs.OnlyLives.{with_answer, IsUnseen, unseen, unnamed_if, unseen_marks, seen_marks, invoked_within, seen_or_not}
+use Rattle.tcap_model.proofs.OnlyLives.{with_answer, unseen, unnamed_if, unseen_marks, seen_marks, invoked_within, seen_or_not}
 use Rattle.tcap_model.proofs.SpanSteps.{reused_new, reused_step, span_new, span_grows, span_stays}
 use Rattle.tcap_model.specs.Answer.{Answer}
 use Rattle.tcap_model.specs.Birth.{was_born}
@@ -187,9 +187,11 @@ module _ (start : Start) (i : Invocation) where
     where
       before : IsOwn start i.dialogue i.number past
       before = own_before start i.dialogue i.number pair past own
+
       not_used : is_seen_by i.dialogue pair past ≡ false → (o : Option Invocation) → invoked_by pair ≡ o → is_invoked (has_id i.dialogue i.id) o ≡ false
       not_used e None q = refl
       not_used e (Some j) q = rw (unseen_own start i.dialogue pair past legal e j q) refl
+
       go : (b m : Bool) → is_seen_by i.dialogue pair past ≡ b → is_some (invocation_of i.number past) ≡ m → is_some (invocation_of i.number (mine past)) ≡ is_some (invocation_of i.number past)
           → is_reused i (mine past) ≡ is_reused i past → is_reused i (seen_or_not i.dialogue b pair past) ≡ is_reused i (pair ∷ past)
       go true true e m made same =
@@ -209,6 +211,7 @@ module _ (start : Start) (i : Invocation) where
     where
       before : IsOwn start i.dialogue i.number past
       before = own_before start i.dialogue i.number pair past own
+
       seen : (m u : Bool) → is_some (invocation_of i.number past) ≡ m → is_reused i (pair ∷ past) ≡ u
           → is_reused i (pair_within i.dialogue pair.event pair.answer ∷ mine past) ≡ is_reused i (pair ∷ past)
           → is_some (invocation_of i.number (mine past)) ≡ is_some (invocation_of i.number past) → span i (mine past) ≡ span i past
@@ -220,11 +223,13 @@ module _ (start : Start) (i : Invocation) where
           ∙ (ap (λ z. z ++ marks i.dialogue i.id (pair_within i.dialogue pair.event pair.answer) (mine past)) same
           ∙ (ap (λ z. span i past ++ z) (seen_marks i.dialogue i.id pair past)
           ∙ sym (span_grows i pair past m r)))
+
       not_seen : (m u : Bool) → is_some (invocation_of i.number past) ≡ m → is_reused i (pair ∷ past) ≡ u → is_seen_by i.dialogue pair past ≡ false → span i past ≡ span i (pair ∷ past)
       not_seen false u m r e = span_none i past m ∙ sym (span_new i pair past m)
       not_seen true true m r e = sym (span_stays i pair past m r)
       not_seen true false m r e =
           sym (span_grows i pair past m r ∙ (ap (λ z. span i past ++ z) (unseen_marks i.dialogue pair past (unseen i.dialogue pair past e) i.id) ∙ append-nil (span i past)))
+
       go : (b : Bool) → is_seen_by i.dialogue pair past ≡ b → is_reused i (seen_or_not i.dialogue b pair past) ≡ is_reused i (pair ∷ past)
           → is_some (invocation_of i.number (mine past)) ≡ is_some (invocation_of i.number past) → span i (mine past) ≡ span i past
           → span i (seen_or_not i.dialogue b pair past) ≡ span i (pair ∷ past)

@@ -1,20 +1,19 @@
 -- What a dialogue sees of a history tells its clock, its life and its marks.
-use Rattle.std.proofs.Common.{◌≡◌, ◌≢◌, ℕ, ℤ, Bool, true, false, cond, ◌&&◌, ◌||◌, List, [], ◌∷◌, Option, Some, None, refl, ap, sym, ◌∙◌, inl, inr}
-use Rattle.std.proofs.lemmas.Bool.{cases_Bool, or_parts, true≢false}
+use Rattle.std.proofs.Common.{◌≡◌, ◌≢◌, ℕ, ℤ, Bool, true, false, cond, ◌&&◌, ◌||◌, List, [], ◌∷◌, refl, ap, sym, ◌∙◌, inl, inr}
+use Rattle.std.proofs.lemmas.Bool.{cases_Bool, or_parts}
 use Rattle.tcap_model.proofs.BirthLemmas.{unborn-life}
 use Rattle.tcap_model.proofs.BornDialogues.{noted_at}
 use Rattle.tcap_model.specs.Answer.{Answer, is_accepted}
 use Rattle.tcap_model.specs.Birth.{born_of, born_by, is_birth_of, was_born}
 use Rattle.tcap_model.specs.Clock.{clock, clock_after}
 use Rattle.tcap_model.specs.Event.{Event}
-use Rattle.tcap_model.specs.Invocation.{Invocation, invoked_of, invoked_by}
+use Rattle.tcap_model.specs.Invocation.{invoked_of, invoked_by}
 use Rattle.tcap_model.specs.Life.{Life, life_at_birth, life_if_named, life_after, life}
 use Rattle.tcap_model.specs.LocalId.{is_that}
-use Rattle.tcap_model.specs.Marks.{Mark, Noted, marks_by_event, marks_if_named, marks_after_birth, marks}
+use Rattle.tcap_model.specs.Marks.{Noted, marks_by_event, marks_after_birth, marks}
 use Rattle.tcap_model.specs.Names.{names}
 use Rattle.tcap_model.specs.Only.{answer_within, pair_within, is_moment, is_seen_by, only}
 use Rattle.tcap_model.specs.Pair.{Pair, Past}
-use Rattle.tcap_model.specs.State.{State}
 
 abbrev pub with_answer : Event → Answer → Pair
 with_answer event answer = record { event = event; answer = answer }
@@ -122,6 +121,7 @@ module _ (dialogue : ℕ) where
       where
         none : List Noted
         none = []
+
         go : (l : Life) → life dialogue past ≡ l → noted_at (clock past) (marks_after_birth dialogue id l pair) ≡ none
         go Life.unborn q = refl
         go (Life.standing state context) q = rw (unnamed_if (Life.standing state context) q (λ e. cc)) refl

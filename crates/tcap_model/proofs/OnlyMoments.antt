@@ -3,7 +3,7 @@ use Rattle.std.proofs.Common.{◌≡◌, ◌≢◌, ℕ, ◌+◌, ◌==◌, Bool
 use Rattle.std.proofs.lemmas.Bool.{eqb-true, true≢false}
 use Rattle.std.proofs.lemmas.List.Elements.{Contains-append_right}
 use Rattle.std.specs.List.{cons_option}
-use Rattle.std.specs.Prelude.{IsTrue, filter, filter_map, map, option_map}
+use Rattle.std.specs.Prelude.{filter, filter_map, map, option_map}
 use Rattle.tcap_model.proofs.LapseOrder.{filter-in_order}
 use Rattle.tcap_model.proofs.NumberedLemmas.{invocation_of-found}
 use Rattle.tcap_model.proofs.OnlyBytes.{alone-bytes}
@@ -11,20 +11,16 @@ use Rattle.tcap_model.proofs.OnlyInvocations.{is_own, own_true, only_invocations
 use Rattle.tcap_model.proofs.OnlyLives.{only_clock}
 use Rattle.tcap_model.proofs.OnlyRequests.{alone_request}
 use Rattle.tcap_model.specs.Answer.{Answer}
-use Rattle.tcap_model.specs.Birth.{was_born}
 use Rattle.tcap_model.specs.Clock.{clock}
 use Rattle.tcap_model.specs.Deadline.{sent_clock, deadline}
 use Rattle.tcap_model.specs.Event.{Event}
 use Rattle.tcap_model.specs.Fault.{Fault}
 use Rattle.tcap_model.specs.History.{History, Start}
-use Rattle.tcap_model.specs.InRange.{InRange}
-use Rattle.tcap_model.specs.Invocation.{Invocation, invocations, invocation_of}
+use Rattle.tcap_model.specs.Invocation.{Invocation, invocations}
 use Rattle.tcap_model.specs.Isolation.{IsAlone, EachIsAlone}
 use Rattle.tcap_model.specs.Legal.{AreReplies, IsLegal}
-use Rattle.tcap_model.specs.Names.{names}
 use Rattle.tcap_model.specs.Only.{is_output_of, answer_within, only}
 use Rattle.tcap_model.specs.Outcome.{is_sent_in}
-use Rattle.tcap_model.specs.Output.{Output}
 use Rattle.tcap_model.specs.Pair.{Past}
 use Rattle.tcap_model.specs.Reply.{Lapsing, in_order, lapsing_by, lapsing_at, lapse_told, lapses, moment_answer, reply}
 use Rattle.tcap_model.specs.Request.{Request}
@@ -56,6 +52,7 @@ filter-of_map {X = X} {Y = Y} own out f g (x ∷ xs) same of = go (own x) (f x) 
   where
     here : Contains (x ∷ xs) x
     here = (0, omega arith, refl)
+
     go : (b : Bool) (o : Option Y) → own x ≡ b → f x ≡ o → filter out (filter_map f xs) ≡ filter_map g (filter own xs) → filter out (cons_option o (filter_map f xs)) ≡ filter_map g (cond b (x ∷ filter own xs) (filter own xs))
     go true None e q ih = ih ∙ ap (λ (o : Option Y). cons_option o (filter_map g (filter own xs))) (sym (same x here e ∙ q))
     go true (Some y) e q ih =
@@ -91,7 +88,7 @@ module _ (start : Start) (dialogue : ℕ) (past : Past) (legal : AreReplies star
       (filter-in_order out (filter_map (lapsing_at past now) (invocations past))
       ∙ ap in_order
       (filter-of_map (is_own dialogue) out (lapsing_at past now) (lapsing_at (only dialogue past) now) (invocations past) lapsing-same
-        (λ i l e. ap (λ (i : Invocation). i.dialogue == dialogue) (lapsing-of now (is_sent_in i.class i.timeout (span i past)) i (deadline i past) l e))
+      (λ i l e. ap (λ (i : Invocation). i.dialogue == dialogue) (lapsing-of now (is_sent_in i.class i.timeout (span i past)) i (deadline i past) l e))
       ∙ ap (filter_map (lapsing_at (only dialogue past) now)) (sym (only_invocations start dialogue past legal))))
 
   told-same : filter (is_output_of dialogue) (lapses past now) ≡ filter (is_output_of dialogue) (lapses (only dialogue past) now)

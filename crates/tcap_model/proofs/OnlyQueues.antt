@@ -14,7 +14,7 @@ use Rattle.tcap_model.proofs.OnlyLives.{with_answer, IsUnseen, unseen, seen_or_n
 use Rattle.tcap_model.specs.Answer.{Answer, is_accepted}
 use Rattle.tcap_model.specs.Birth.{is_birth_of, was_born}
 use Rattle.tcap_model.specs.Clock.{clock}
-use Rattle.tcap_model.specs.ComponentHandling.{Item, SentInvocation, Handled, handled, subject_of}
+use Rattle.tcap_model.specs.ComponentHandling.{Item, Handled, handled, subject_of}
 use Rattle.tcap_model.specs.Event.{Event}
 use Rattle.tcap_model.specs.History.{Start}
 use Rattle.tcap_model.specs.Invocation.{Invocation, invocation_of, latest}
@@ -24,13 +24,13 @@ use Rattle.tcap_model.specs.Marks.{component_marks}
 use Rattle.tcap_model.specs.Names.{names}
 use Rattle.tcap_model.specs.Only.{pair_within, is_seen_by, only}
 use Rattle.tcap_model.specs.Outcome.{is_sent_in}
-use Rattle.tcap_model.specs.Pair.{Pair, Past}
+use Rattle.tcap_model.specs.Pair.{Past}
 use Rattle.tcap_model.specs.PortionRules.{portion_verdict}
 use Rattle.tcap_model.specs.Queue.{marks_up_to, if_sent, sent_there, handled_after, handled_in, rejects_of, queue_by_verdict, queue_by_message, queue_at_birth, queue_if_accepted, queue_by_bytes, queue_after, queue}
 use Rattle.tcap_model.specs.QueueRules.{Queued, queue_limit, queue_each}
 use Rattle.tcap_model.specs.Request.{Request}
 use Rattle.tcap_model.specs.Span.{span}
-use Rattle.tcap_model.specs.State.{State, is_live}
+use Rattle.tcap_model.specs.State.{is_live}
 
 -- ---- components
 
@@ -92,7 +92,7 @@ module _ (start : Start) (dialogue : ℕ) (past : Past) (legal : AreReplies star
       let named = names (Event.received bytes) dialogue in
       ap (λ z. if birth then z else (if named then queue_by_bytes dialogue (only dialogue past) (life dialogue (only dialogue past)) q bytes else q)) (at_birth (frame_at bytes))
       ∙ ap (λ z. if birth then queue_at_birth dialogue past (frame_at bytes) else (if named then z else q))
-          (ap (λ l. queue_by_bytes dialogue (only dialogue past) l q bytes) (only_life dialogue past) ∙ by_bytes (life dialogue past) q bytes)
+      (ap (λ l. queue_by_bytes dialogue (only dialogue past) l q bytes) (only_life dialogue past) ∙ by_bytes (life dialogue past) q bytes)
   queue_within q (Event.moment now) answer = refl
 
 -- ---- the queue

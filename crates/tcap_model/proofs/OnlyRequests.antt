@@ -1,5 +1,5 @@
 -- A request on a dialogue is answered by what the dialogue sees, but for the number that it draws.
-use Rattle.std.proofs.Common.{◌≡◌, ◌≢◌, ℕ, ℤ, ◌+◌, ◌<◌, ◌≤◌, ◌⊎◌, ◌==◌, Bool, true, false, cond, ◌&&◌, ◌||◌, length, List, [], ◌∷◌, ◌++◌, Contains, Option, Some, None, refl, ap, ap₂, sym, ◌∙◌, subst, inl, inr, arith, if◌then◌else◌}
+use Rattle.std.proofs.Common.{◌≡◌, ◌≢◌, ℕ, ℤ, ◌+◌, ◌≤◌, ◌⊎◌, ◌==◌, Bool, true, false, cond, ◌&&◌, ◌||◌, List, [], ◌∷◌, ◌++◌, Contains, Option, Some, None, refl, ap, ap₂, sym, ◌∙◌, subst, inl, inr, arith, if◌then◌else◌}
 use Rattle.std.proofs.lemmas.Bool.{eqb-false, ne_eqb}
 use Rattle.std.proofs.lemmas.List.Elements.{Contains-append_right}
 use Rattle.std.specs.List.{cons_option}
@@ -20,7 +20,7 @@ use Rattle.tcap_model.specs.Event.{Event}
 use Rattle.tcap_model.specs.Fault.{Fault}
 use Rattle.tcap_model.specs.History.{History, Start}
 use Rattle.tcap_model.specs.Identifiers.{last_number, are_numbers_spent}
-use Rattle.tcap_model.specs.Invocation.{Invocation, invoked_by, invokes, invocations, invocation_of, next_number}
+use Rattle.tcap_model.specs.Invocation.{Invocation, invoked_by, invokes, invocations, next_number}
 use Rattle.tcap_model.specs.Isolation.{history_of, without_number, IsAlone}
 use Rattle.tcap_model.specs.Legal.{AreReplies, IsLegal}
 use Rattle.tcap_model.specs.Life.{Life, life}
@@ -46,6 +46,7 @@ filter_map_own {X = X} {Y = Y} own f g (x ∷ xs) same none = go (own x) refl (f
   where
     here : Contains (x ∷ xs) x
     here = (0, omega arith, refl)
+
     go : (b : Bool) → own x ≡ b → filter_map g (filter own xs) ≡ filter_map f xs → filter_map g (cond b (x ∷ filter own xs) (filter own xs)) ≡ cons_option (f x) (filter_map f xs)
     go true e ih = ap (λ (o : Option Y). cons_option o (filter_map g (filter own xs))) (same x here e) ∙ ap (cons_option (f x)) ih
     go false e ih = ih ∙ ap (λ (o : Option Y). cons_option o (filter_map f xs)) (sym (none x e))
@@ -120,9 +121,11 @@ fewer_invokes dialogue (pair ∷ past) = go (is_seen_by dialogue pair past) (is_
     more : (b : Bool) (m n : ℕ) → m ≤ n → cond b (m + 1) m ≤ cond b (n + 1) n
     more true m n le = omega arith
     more false m n le = le
+
     up : (b : Bool) (m n : ℕ) → m ≤ n → m ≤ cond b (n + 1) n
     up true m n le = omega arith
     up false m n le = le
+
     go : (b some : Bool) → invokes (only dialogue past) ≤ invokes past → is_some (invoked_by (pair_within dialogue pair.event pair.answer)) ≡ some → invokes (seen_or_not dialogue b pair past) ≤ cond some (invokes past + 1) (invokes past)
     go true some le e = subst (λ c. cond c (invokes (only dialogue past) + 1) (invokes (only dialogue past)) ≤ cond some (invokes past + 1) (invokes past)) (sym e) (more some (invokes (only dialogue past)) (invokes past) le)
     go false some le e = up some (invokes (only dialogue past)) (invokes past) le
@@ -168,7 +171,7 @@ module _ (h : History) (dialogue : ℕ) (legal : IsLegal h) where
         let pending = pending_if_any dialogue h.pairs (identifier_of r) in
         ap (λ s. due_on s r) (situation_same state context)
         ∙ sym (first_same (holds (situated d in_use pending (next_number h) (are_numbers_spent (next_number h))) r) (holds (situated d in_use pending number (are_numbers_spent number)) r)
-          (holds_same d in_use pending (next_number h) number (are_numbers_spent (next_number h)) (are_numbers_spent number) r) unspent_alone (faults_of r) not)
+        (holds_same d in_use pending (next_number h) number (are_numbers_spent (next_number h)) (are_numbers_spent number) r) unspent_alone (faults_of r) not)
 
     pub only_due : due h dialogue r ≢ Some Fault.numbers_spent → due (history_of dialogue h) dialogue r ≡ due h dialogue r
     only_due not = ap (due_by (history_of dialogue h) dialogue r) (only_life dialogue h.pairs) ∙ due_same (life dialogue h.pairs) not
@@ -205,4 +208,4 @@ module _ (h : History) (dialogue : ℕ) (legal : IsLegal h) where
   alone_request r not =
       answer_same r (life dialogue h.pairs) (due h dialogue r)
       ∙ ap₂ (λ l f. without_number (request_answer (history_of dialogue h) dialogue r l f)) (sym (only_life dialogue h.pairs))
-        (sym (only_due r (λ e. not (ap (request_answer h dialogue r (life dialogue h.pairs)) e))))
+      (sym (only_due r (λ e. not (ap (request_answer h dialogue r (life dialogue h.pairs)) e))))
