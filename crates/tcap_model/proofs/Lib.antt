@@ -29,6 +29,7 @@ mod FormedRejects
 mod HeadlineWorks
 mod IsolationWorks
 mod KeptQueues
+mod LapseOrder
 mod LatestInvocations
 mod LifeLemmas
 mod NamedReceptions
@@ -36,6 +37,13 @@ mod NetsBroken
 mod NetsWork
 mod NumberLemmas
 mod NumberedLemmas
+mod OnlyBytes
+mod OnlyDecisions
+mod OnlyInvocations
+mod OnlyLives
+mod OnlyMoments
+mod OnlyQueues
+mod OnlyRequests
 mod OpenEvents
 mod OpenNumbers
 mod OpenReplies

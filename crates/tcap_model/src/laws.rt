@@ -2,6 +2,7 @@
 
 pub mod agreeing;
 pub mod bounds;
+pub mod alone;
 pub mod components;
 pub mod deciding;
 pub mod drawing;
