@@ -142,20 +142,24 @@ module _ (start : Start) (pair : Pair) (past : Past) (n : ℕ) (i : Invocation) 
     where
       here : invocation_of n (pair ∷ past) ≡ Some i
       here = invocation_stays n pair past i found
+
       grown : span i (pair ∷ past) ≡ span i past ++ marks i.dialogue i.id pair past
       grown = span_grows i pair past (made_found n past i found) (unused_if_open start (pair ∷ past) n i legal here none)
+
       open_here : option_or (first_closing i.class i.timeout (span i past)) (closing_after i.class i.timeout (span i past) (marks i.dialogue i.id pair past)) ≡ None
       open_here = sym (first_closing-append i.class i.timeout (span i past) (marks i.dialogue i.id pair past)) ∙ (ap (first_closing i.class i.timeout) (sym grown) ∙ (ap (λ o. outcome_of o (pair ∷ past)) (sym here) ∙ none))
+
       second : (x y : Option Closing) → option_or x y ≡ None → y ≡ None
       second None y e = e
       second (Some x) y e = absurd cc
+
       go : (b : Bool) → names pair.event i.dialogue ≡ b → life_if_named b s c pair ≡ Life.over → ⊥
       go false q e = absurd cc
       go true q e =
           let closes : is_some (closing_after i.class i.timeout (span i past) (noted_at (clock past) (marks_by_event i.id (Life.standing s c) Life.over pair.event (is_accepted pair.answer)))) ≡ true =
-              event_closes i.class i.timeout (clock past) (span i past) i.id s c pair.event (is_accepted pair.answer) e in
+          event_closes i.class i.timeout (clock past) (span i past) i.id s c pair.event (is_accepted pair.answer) e in
           let marks_here : marks i.dialogue i.id pair past ≡ noted_at (clock past) (marks_by_event i.id (Life.standing s c) Life.over pair.event (is_accepted pair.answer)) =
-              standing_marks i.dialogue i.id pair.event pair.answer past s c stands q ∙ ap (λ l. noted_at (clock past) (marks_by_event i.id (Life.standing s c) l pair.event (is_accepted pair.answer))) e in
+          standing_marks i.dialogue i.id pair.event pair.answer past s c stands q ∙ ap (λ l. noted_at (clock past) (marks_by_event i.id (Life.standing s c) l pair.event (is_accepted pair.answer))) e in
           let never : false ≡ true = ap is_some (sym (second (first_closing i.class i.timeout (span i past)) (closing_after i.class i.timeout (span i past) (marks i.dialogue i.id pair past)) open_here)) ∙ (ap (λ z. is_some (closing_after i.class i.timeout (span i past) z)) marks_here ∙ closes) in
           cc
 
@@ -167,9 +171,11 @@ over_decided start (pair ∷ past) n i legal found over none = go (invocation_of
     by_life Life.unborn q f e ih = let never : false ≡ true = ap was_alive (sym q) ∙ found_alive start past n i legal.2 f in cc
     by_life Life.over q f e ih = ih f q e
     by_life (Life.standing s c) q f e ih = ends_open start pair past n i legal none over f s c q
+
     new : (j : Invocation) (b : Bool) → invoked_by pair ≡ Some j → cond b (Some j) None ≡ Some i → ⊥
     new j false p e = absurd cc
     new j true p e = let same : j ≡ i = cc in new_stands start pair past n i legal none over (p ∙ ap Some same)
+
     go : (o p : Option Invocation) → invocation_of n past ≡ o → invoked_by pair ≡ p → option_or o (find (λ (i : Invocation). i.number == n) (option_to_list p)) ≡ Some i
         → (c : Option Closing) → outcome n past ≡ c → (invocation_of n past ≡ Some i → life i.dialogue past ≡ Life.over → outcome n past ≡ None → ⊥) → ⊥
     go (Some j) p q w e None u ih = by_life (life i.dialogue past) refl (q ∙ e) u ih
@@ -189,6 +195,7 @@ found_timely start (pair ∷ past) n i legal e = go (invocation_of n past) (invo
         let same : j ≡ i = cc in
         let drawn : Draws (record { start = start; pairs = past }) j = draws start pair past j legal p in
         subst (λ (i : Invocation). 0 < i.timeout) same drawn.timely
+
     go : (o p : Option Invocation) → invocation_of n past ≡ o → invoked_by pair ≡ p → option_or o (find (λ (i : Invocation). i.number == n) (option_to_list p)) ≡ Some i → (invocation_of n past ≡ Some i → 0 < i.timeout) → 0 < i.timeout
     go (Some j) p q w e ih = ih (q ∙ e)
     go None None q w e ih = absurd cc

@@ -59,6 +59,7 @@ module _ (start : Start) (pair : Pair) (past : Past) (n : ℕ) (legal : AreRepli
     where
       settled : IsSettled n past
       settled j found = let same : i ≡ j = cc in subst (λ (j : Invocation). (c : Closing) × (first_closing j.class j.timeout (span j past) ≡ Some c)) same (c, w)
+
       go : (d : Option Told) → option_map (λ (t : Told). t.closing) d ≡ outcome n past → as_list d ≡ as_list (option_or d (decided_at n place))
       go (Some t) e = refl
       go None e = let never : None ≡ Some c = e ∙ (ap (λ o. outcome_of o past) q ∙ w) in absurd cc
@@ -109,6 +110,7 @@ module _ (start : Start) (pair : Pair) (past : Past) (n : ℕ) (legal : AreRepli
       one : (i : Invocation) (f : Option Closing) → invocation_of n past ≡ Some i → first_closing i.class i.timeout (span i past) ≡ f → Steps
       one i None q w = open_step i q w
       one i (Some c) q w = decided_step i c q w
+
       go : (o : Option Invocation) → invocation_of n past ≡ o → Steps
       go None q = none_step q
       go (Some i) q = one i (first_closing i.class i.timeout (span i past)) q refl

@@ -55,6 +55,7 @@ timely s id class code parameter linked timeout e = go (nat_lt 0 timeout) refl n
     not_bad : not (nat_lt 0 timeout && nat_le timeout moment_limit) ≡ false
     not_bad = none_that (holds s (Request.invoke id class code parameter linked timeout)) (Fault.unknown_dialogue ∷ []) Fault.bad_timeout
         (Fault.bad_oid ∷ Fault.bad_parameter ∷ Fault.invoke_id_in_use ∷ Fault.numbers_spent ∷ Fault.too_long ∷ Fault.out_of_memory ∷ []) e
+
     go : (b : Bool) → nat_lt 0 timeout ≡ b → not (b && nat_le timeout moment_limit) ≡ false → 0 < timeout
     go true q e = grind (arith, nat_tests)
     go false q e = absurd cc
@@ -72,7 +73,10 @@ module _ (h : History) (dialogue : ℕ) (id : ℤ) (class : Class) (code : CodeP
   draws_standing state context i stands None q e =
       let same : record { number = next_number h; dialogue = dialogue; id = id; class = class; timeout = timeout } ≡ i = cc in
       subst (λ (i : Invocation). Draws h i) same (record {
-        number = refl; state = state; context = context; stands = stands;
+        number = refl;
+        state = state;
+        context = context;
+        stands = stands;
         timely = timely (situation_of h dialogue (standing_of dialogue h.pairs state context) asked) id class code parameter linked timeout q;
         free = not_in_use (situation_of h dialogue (standing_of dialogue h.pairs state context) asked) id class code parameter linked timeout q;
       })
@@ -138,6 +142,7 @@ number_drawn start (pair ∷ past) n i legal e = go (invocation_of n past) (invo
         let same : j.number ≡ n = grind (arith, nat_tests) in
         let counted : invokes (pair ∷ past) ≡ invokes past + 1 = ap (λ o. cond (is_some o) (invokes past + 1) (invokes past)) p in
         record { above = omega arith; below = omega arith }
+
     go : (o : Option Invocation) (p : Option Invocation) → invocation_of n past ≡ o → invoked_by pair ≡ p
         → option_or o (find (λ (i : Invocation). i.number == n) (option_to_list p)) ≡ Some i → ((j : Invocation) → invocation_of n past ≡ Some j → IsDrawn start past n) → IsDrawn start (pair ∷ past) n
     go (Some j) p q w e ih = drawn_earlier start pair past n (ih j q)

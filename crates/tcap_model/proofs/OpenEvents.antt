@@ -49,6 +49,7 @@ refused_moment dialogue id now answer past e = go (life dialogue past)
   where
     none : List Noted
     none = []
+
     go : (l : Life) → noted_at (clock past) (marks_after_birth dialogue id l (at_moment now answer)) ≡ none
     go Life.unborn = refl
     go (Life.standing s c) = rw e refl
@@ -93,6 +94,7 @@ module _ (start : Start) (past place : Past) (n : ℕ) (i : Invocation) (legal :
         named Life.unborn q v e = unborn_marks i.dialogue i.id received answer past q
         named Life.over q v e = over_marks i.dialogue i.id received answer past q e
         named (Life.standing s c) q v e = standing_then s c false q v e
+
         go : (b : Bool) → names received i.dialogue ≡ b → added ≡ []
         go false e = unnamed_marks i.dialogue i.id received answer past e
         go true e = named (life i.dialogue past) refl dead e

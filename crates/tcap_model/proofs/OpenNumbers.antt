@@ -68,6 +68,7 @@ module _ (start : Start) (past place : Past) (n : ℕ) (i : Invocation) (legal :
       one : (j : Invocation) (b : Bool) → latest dialogue id past ≡ Some j → cond b (Some j.number) None ≡ Some m → (m == n) ≡ false
       one j false p e = absurd cc
       one j true p e = let same : j.number ≡ m = cc in ap (λ k. k == n) (sym same) ∙ other_latest start past place n i legal found dialogue id apart j p
+
       go : (o : Option Invocation) → latest dialogue id past ≡ o → if_pending past o ≡ Some m → (m == n) ≡ false
       go None p e = absurd cc
       go (Some j) p e = one j (is_none (outcome j.number past)) p e
@@ -99,12 +100,12 @@ module _ (start : Start) (past place : Past) (n : ℕ) (i : Invocation) (legal :
     parts_and_end content =
         told-append n place (told_of (handled_in i.dialogue past content)) (ended_in i.dialogue past (components_of content))
         ∙ (in_turn place i (first_closing i.class i.timeout (span i past)) (closing_after i.class i.timeout (span i past) ms) (Some Closing.ended)
-            (told n place (told_of (handled_in i.dialogue past content))) (told n place (ended_in i.dialogue past (components_of content)))
-            (parts content)
-            (ended_here (components_of content) ∙ ap (λ o. unless o (gain place i (Some Closing.ended))) (first_closing-append i.class i.timeout (span i past) ms))
+        (told n place (told_of (handled_in i.dialogue past content))) (told n place (ended_in i.dialogue past (components_of content)))
+        (parts content)
+        (ended_here (components_of content) ∙ ap (λ o. unless o (gain place i (Some Closing.ended))) (first_closing-append i.class i.timeout (span i past) ms))
         ∙ ap (λ o. unless (first_closing i.class i.timeout (span i past)) (gain place i o))
-            (sym (ap (closing_after i.class i.timeout (span i past)) (noted-append (clock past) (component_marks i.id (components_of content)) (Mark.end ∷ []))
-            ∙ closing_after-append i.class i.timeout (span i past) ms (noted_at (clock past) (Mark.end ∷ [])))))
+        (sym (ap (closing_after i.class i.timeout (span i past)) (noted-append (clock past) (component_marks i.id (components_of content)) (Mark.end ∷ []))
+        ∙ closing_after-append i.class i.timeout (span i past) ms (noted_at (clock past) (Mark.end ∷ [])))))
       where
         ms : List Noted
         ms = noted_at (clock past) (component_marks i.id (components_of content))

@@ -46,6 +46,7 @@ found_alive start (pair ∷ past) n i legal e = stays_alive i.dialogue (life i.d
         let same : j ≡ i = cc in
         let drawn : Draws (record { start = start; pairs = past }) j = draws start pair past j legal p in
         ap (λ (i : Invocation). was_alive (life i.dialogue past)) (sym same) ∙ ap was_alive drawn.stands
+
     go : (o p : Option Invocation) → invocation_of n past ≡ o → invoked_by pair ≡ p → option_or o (find (λ (i : Invocation). i.number == n) (option_to_list p)) ≡ Some i → (invocation_of n past ≡ Some i → was_alive (life i.dialogue past) ≡ true) → was_alive (life i.dialogue past) ≡ true
     go (Some j) p q w e ih = ih (q ∙ e)
     go None None q w e ih = absurd cc
@@ -87,13 +88,14 @@ module _ (start : Start) (past place : Past) (n : ℕ) (i : Invocation) (legal :
             let number : i.number ≡ m = cc in
             let is : (m == n) ≡ true = ap (λ k. k == n) (sym number) ∙ me in
             rw is (ap (λ (k : ℤ). telling k ∷ []) same)
+
         go : (b : Bool) → int_eq id i.id ≡ b → told_if n m (telling id) ≡ wanted place past i (noted_at (clock past) (cond b (Mark.given_up ∷ []) []))
         go false p = let other = other_identifier start past place n i legal found id p m q in rw other (sym nothing)
         go true p =
             let same : id ≡ i.id = (Decides-int_eq id i.id).0 p in
             let open_number : outcome i.number past ≡ closed = ap (λ o. outcome_of o past) (found_own start past n i legal found) in
             let number : cond (is_none closed) (Some i.number) None ≡ Some m =
-                ap (λ o. cond (is_none o) (Some i.number) None) (sym open_number) ∙ (ap (if_pending past) (sym here) ∙ (ap (λ (k : ℤ). pending i.dialogue k past) (sym same) ∙ q)) in
+            ap (λ o. cond (is_none o) (Some i.number) None) (sym open_number) ∙ (ap (if_pending past) (sym here) ∙ (ap (λ (k : ℤ). pending i.dialogue k past) (sym same) ∙ q)) in
             mine closed refl same number
 
     accepted_here : (r : Request) → AnswersTo r (accepted_answer h (standing_of i.dialogue past s c) r)

@@ -73,6 +73,7 @@ module _ (start : Start) (past place : Past) (n : ℕ) (legal : AreReplies start
           sent true e =
               let same : record { dialogue = j.dialogue; number = j.number; class = j.class } ≡ s = cc in
               ap (λ (s : SentInvocation). s.number == n) (sym same) ∙ q
+
       go : (o : Option Invocation) → latest dialogue id past ≡ o → if_sent past earlier o ≡ Some s → (s.number == n) ≡ false
       go None p e = absurd cc
       go (Some j) p e = one j (j.number == n) refl p e
@@ -99,6 +100,7 @@ module _ (start : Start) (past place : Past) (n : ℕ) (legal : AreReplies start
           let decided : outcome j.number past ≡ Some closed.0 = ap (λ k. outcome k past) number ∙ (ap (λ o. outcome_of o past) found ∙ closed.1) in
           let never : false ≡ true = ap is_none (sym decided) ∙ w in
           absurd cc
+
       go : (o : Option Invocation) → latest dialogue id past ≡ o → if_pending past o ≡ Some m → (m == n) ≡ false
       go None p e = absurd cc
       go (Some j) p e = one j (j.number == n) (is_none (outcome j.number past)) refl refl p e
@@ -112,6 +114,7 @@ module _ (start : Start) (past place : Past) (n : ℕ) (legal : AreReplies start
       one : (i : Invocation) (o : Option ℕ) → is_sent_in i.class i.timeout (span i past) ≡ false → deadline i past ≡ o → lapse_of n place past now i ≡ []
       one i None q w = rw w refl
       one i (Some t) q w = rw (w, q) refl
+
       go : (o : Option Invocation) → invocation_of n past ≡ o → told_one (lapse_of n place past now) o ≡ []
       go None q = refl
       go (Some i) q =

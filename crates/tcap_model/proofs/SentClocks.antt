@@ -39,6 +39,7 @@ sent_at c s (m ∷ ms) e = go (is_sent m) e (sent_at c s ms)
   where
     rest : List Noted
     rest = noted_at c ms
+
     go : (b : Bool) → option_map (λ (noted : Noted). noted.clock) (cond b (Some (record { clock = c; mark = m })) (find (λ (noted : Noted). is_sent noted.mark) rest)) ≡ Some s → (sent_clock rest ≡ Some s → s ≡ c) → s ≡ c
     go true e more = let same : c ≡ s = cc in sym same
     go false e more = more e
@@ -66,6 +67,7 @@ lapses_not class timeout s m e = go (nat_le (s + timeout) m) refl e
   where
     none : Option Closing
     none = None
+
     go : (b : Bool) → nat_le (s + timeout) m ≡ b → option_or (cond b (Some Closing.lapsed) none) none ≡ none → m < s + max 1 timeout
     go true q e = absurd cc
     go false q e = let low : m < s + timeout = grind (arith, nat_tests) in omega arith
@@ -135,7 +137,7 @@ module _ (i : Invocation) (past : Past) (made : is_some (invocation_of i.number 
       go true q =
           let one : added ≡ record { clock = clock past; mark = Mark.moment now } ∷ [] = ap (λ p. marks i.dialogue i.id p past) (sym same) ∙ moment_marks i.dialogue i.id now answer past accepted q in
           within_moment i.class (clock past) s i.timeout now (span i past) (ap (λ z. sent_clock (span i past ++ z)) (sym one) ∙ (ap sent_clock (sym grown) ∙ sent))
-              (ap (closing_after i.class i.timeout (span i past)) (sym one) ∙ nones.1) (ih nones.0)
+          (ap (closing_after i.class i.timeout (span i past)) (sym one) ∙ nones.1) (ih nones.0)
 
   pair_within : (event : Event) (answer : Answer) → record { event = event; answer = answer } ≡ pair → clock (record { event = event; answer = answer } ∷ past) < s + max 1 i.timeout
   pair_within Event.new_dialogue answer e = still_within
@@ -172,6 +174,7 @@ deadline_within n past i until found fresh none at = go (sent_clock (span i past
   where
     open_still : first_closing i.class i.timeout (span i past) ≡ None
     open_still = ap (λ o. outcome_of o past) (sym found) ∙ none
+
     go : (o : Option ℕ) → sent_clock (span i past) ≡ o → option_map (λ sent. sent + i.timeout) o ≡ Some until → clock past ≤ until
     go None q e = absurd cc
     go (Some s) q e = let same : s + i.timeout ≡ until = cc in let bound = clock_within i past s (made_found n past i found) fresh open_still q in omega arith
@@ -182,6 +185,7 @@ deadline_before n past i until found fresh timely none at = go (sent_clock (span
   where
     open_still : first_closing i.class i.timeout (span i past) ≡ None
     open_still = ap (λ o. outcome_of o past) (sym found) ∙ none
+
     go : (o : Option ℕ) → sent_clock (span i past) ≡ o → option_map (λ sent. sent + i.timeout) o ≡ Some until → clock past < until
     go None q e = absurd cc
     go (Some s) q e = let same : s + i.timeout ≡ until = cc in let bound = clock_before i past s (made_found n past i found) fresh open_still q in omega arith

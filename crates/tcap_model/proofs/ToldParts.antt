@@ -167,8 +167,10 @@ module _ (start : Start) (past place : Past) (n : ℕ) (i : Invocation) (legal :
       where
         M : List Noted
         M = marks_up_to past earlier i
+
         ms : List Mark
         ms = marks_of_component i.id c
+
         rest : List Mark
         rest = component_marks i.id items
 

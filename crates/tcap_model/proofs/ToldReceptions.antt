@@ -63,6 +63,7 @@ module _ (n : ℕ) (place : Past) (h : History) (dialogue : ℕ) (bytes : List �
           let is : d ≡ dialogue = grind (arith, nat_tests) in
           subst (λ (d : ℕ). Tells (by (Some d))) (sym is) (here (e ∙ q) (ap (is_live_in h) (sym is) ∙ p))
       at d true false p q e = other d (w.elsewhere d q) (w.unnamed (e ∙ q))
+
       go : (o : Option ℕ) → names (Event.received bytes) dialogue ≡ is_that dialogue o → Tells (by (live_named (is_live_in h) o))
       go None e = none (w.unnamed e)
       go (Some d) e = at d (is_live_in h d) (d == dialogue) refl refl e
@@ -129,7 +130,7 @@ module _ (n : ℕ) (place : Past) (h : History) (dialogue : ℕ) (bytes : List �
 
   first_tells : (f : FrameFault) (front origin : Option (List ℕ)) → frame_at bytes ≡ Err f → (a b c d : Bool) → (a ≡ true → (b || c || d) ≡ false) → names (Event.received bytes) dialogue ≡ is_destined dialogue (cond (b || c || d) front None)
       → Tells (cond a (Reception.dropped DropCause.bad_message) (cond b (faulty_last (addressed_if_any (is_live_in h) front) f)
-        (cond c (faulty_continue (addressed_if_any (is_live_in h) front) (fault_abort f origin) f) (cond d (faulty_last (addressed_if_any (is_live_in h) front) f) (aborted_or_dropped (fault_abort f origin))))))
+      (cond c (faulty_continue (addressed_if_any (is_live_in h) front) (fault_abort f origin) f) (cond d (faulty_last (addressed_if_any (is_live_in h) front) f) (aborted_or_dropped (fault_abort f origin))))))
   first_tells f front origin q true b c d apart e =
       let other : (b || c || d) ≡ false = apart refl in
       sym (w.unnamed (e ∙ ap (λ x. is_destined dialogue (cond x front None)) other))

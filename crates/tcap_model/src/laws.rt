@@ -1,8 +1,8 @@
 //! Laws of the definitions, each the contract of a function that does nothing.
 
 pub mod agreeing;
-pub mod bounds;
 pub mod alone;
+pub mod bounds;
 pub mod components;
 pub mod deciding;
 pub mod drawing;
