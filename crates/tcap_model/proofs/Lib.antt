@@ -30,6 +30,8 @@ mod IsolationWorks
 mod KeptQueues
 mod LatestInvocations
 mod LifeLemmas
+mod MovedDialogues
+mod MovedRows
 mod NamedReceptions
 mod NetsWork
 mod NumberLemmas
@@ -63,6 +65,7 @@ mod SentLemmas
 mod SoundReceptions
 mod SpanSteps
 mod StageSteps
+mod StandingPairs
 mod StartLemmas
 mod SupersededInvocations
 mod ToldComponents

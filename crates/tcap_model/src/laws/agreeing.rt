@@ -1,15 +1,21 @@
 //! How a dialogue that is moved by its table follows the history.
 
-ghost use Rattle.std.specs.Prelude.{◌≡◌, ℕ, List, Option, Some};
-ghost use Rattle.tcap_model.specs.Agreement.{setting_at};
+ghost use Rattle.std.specs.Prelude.{◌≡◌, ℕ, List, Option, Some, None, ◌∷◌, true, false, Ok, Err};
+ghost use Rattle.tcap_model.specs.Agreement.{setting_at, due_pair, left_standing};
 ghost use Rattle.tcap_model.specs.Answer.{Answer};
 ghost use Rattle.tcap_model.specs.Dialogue.{Dialogue};
+ghost use Rattle.tcap_model.specs.Event.{Event};
 ghost use Rattle.tcap_model.specs.History.{History};
 ghost use Rattle.tcap_model.specs.Legal.{IsLegal};
 ghost use Rattle.tcap_model.specs.Life.{life};
+ghost use Rattle.tcap_model.specs.Names.{names};
 ghost use Rattle.tcap_model.specs.Reply.{taken_outputs};
+ghost use Rattle.tcap_model.specs.State.{is_live};
 ghost use Rattle.tcap_model.specs.TableMove.{DialogueEvent, table_move};
+ghost use Rattle.tcap_model.specs.Time.{moment_fault};
 ghost use Rattle.tcap_model.specs.World.{dialogue_at};
+ghost use Rattle.tcap_pdu.specs.declared.fault.FrameFault.{FrameFault};
+ghost use Rattle.tcap_pdu.specs.FrameReading.{frame_at};
 ghost use Rattle.tcap_pdu.specs.FrameSpelling.{Message};
 
 /// An End to a dialogue that stands is answered by the dialogue as the history says it is: its
@@ -18,4 +24,17 @@ ghost use Rattle.tcap_pdu.specs.FrameSpelling.{Message};
 pub fn ends_answered_alike()
     ensures { (h : History) (dialogue : ℕ) (d : Dialogue) (to : List ℕ) (portion : Option (List ℕ)) (components : List ℕ) → IsLegal h → dialogue_at h.start.reject_ms h.pairs dialogue ≡ Some d →
         (table_move (setting_at h) d (DialogueEvent.frame (Message.end to portion components))).answer ≡ Answer.outputs (taken_outputs dialogue h.pairs (life dialogue h.pairs) (Message.end to portion components)) }
+{}
+
+/// After a message that is taken by it, after a faulty one and after a moment, a dialogue that stands is
+/// what the history says it is then, or it is over there too (Q.774, Transaction state machine).
+pub fn dialogues_moved_alike()
+    ensures taken { (h : History) (dialogue : ℕ) (d : Dialogue) (bytes : List ℕ) (m : Message) → IsLegal h → dialogue_at h.start.reject_ms h.pairs dialogue ≡ Some d →
+        names (Event.received bytes) dialogue ≡ true → is_live d.standing.state ≡ true → frame_at bytes ≡ Ok m →
+        dialogue_at h.start.reject_ms (due_pair h (Event.received bytes) ∷ h.pairs) dialogue ≡ left_standing (table_move (setting_at h) d (DialogueEvent.frame m)) }
+    ensures broken { (h : History) (dialogue : ℕ) (d : Dialogue) (bytes : List ℕ) (fault : FrameFault) (cause : ℕ) → IsLegal h → dialogue_at h.start.reject_ms h.pairs dialogue ≡ Some d →
+        names (Event.received bytes) dialogue ≡ true → is_live d.standing.state ≡ true → frame_at bytes ≡ Err fault →
+        dialogue_at h.start.reject_ms (due_pair h (Event.received bytes) ∷ h.pairs) dialogue ≡ left_standing (table_move (setting_at h) d (DialogueEvent.fault cause)) }
+    ensures lapsed { (h : History) (dialogue : ℕ) (d : Dialogue) (now : ℕ) → IsLegal h → dialogue_at h.start.reject_ms h.pairs dialogue ≡ Some d → moment_fault now ≡ None →
+        dialogue_at h.start.reject_ms (due_pair h (Event.moment now) ∷ h.pairs) dialogue ≡ left_standing (table_move (setting_at h) d (DialogueEvent.moment now)) }
 {}
