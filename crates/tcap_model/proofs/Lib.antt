@@ -26,6 +26,7 @@ mod EndsAnswered
 mod EventMarks
 mod FormedRejects
 mod HeadlineWorks
+mod InvokedRows
 mod IsolationWorks
 mod KeptQueues
 mod LatestInvocations
@@ -50,9 +51,11 @@ mod ReceivedMarks
 mod ReceivedQueues
 mod ReceivedRows
 mod ReceivedSpans
+mod RequestMoves
 mod RequestSending
 mod RequestedComponents
 mod RequestsAgree
+mod RequestsMoved
 mod Restaged
 mod RowSteps
 mod RowsAgree

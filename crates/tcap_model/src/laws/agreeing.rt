@@ -6,10 +6,12 @@ ghost use Rattle.tcap_model.specs.Answer.{Answer};
 ghost use Rattle.tcap_model.specs.Dialogue.{Dialogue};
 ghost use Rattle.tcap_model.specs.Event.{Event};
 ghost use Rattle.tcap_model.specs.History.{History};
+ghost use Rattle.tcap_model.specs.InRange.{InRange};
 ghost use Rattle.tcap_model.specs.Legal.{IsLegal};
 ghost use Rattle.tcap_model.specs.Life.{life};
 ghost use Rattle.tcap_model.specs.Names.{names};
 ghost use Rattle.tcap_model.specs.Reply.{taken_outputs};
+ghost use Rattle.tcap_model.specs.Request.{Request};
 ghost use Rattle.tcap_model.specs.State.{is_live};
 ghost use Rattle.tcap_model.specs.TableMove.{DialogueEvent, table_move};
 ghost use Rattle.tcap_model.specs.Time.{moment_fault};
@@ -26,9 +28,11 @@ pub fn ends_answered_alike()
         (table_move (setting_at h) d (DialogueEvent.frame (Message.end to portion components))).answer ≡ Answer.outputs (taken_outputs dialogue h.pairs (life dialogue h.pairs) (Message.end to portion components)) }
 {}
 
-/// After a message that is taken by it, after a faulty one and after a moment, a dialogue that stands is
-/// what the history says it is then, or it is over there too (Q.774, Transaction state machine).
+/// After a request, a message that it takes, a faulty one and a moment, a dialogue that stands is what
+/// the history says it is then, or it is over there too (Q.774, Transaction state machine).
 pub fn dialogues_moved_alike()
+    ensures requested { (h : History) (dialogue : ℕ) (d : Dialogue) (request : Request) → IsLegal h → InRange (Event.on_dialogue dialogue request) → dialogue_at h.start.reject_ms h.pairs dialogue ≡ Some d →
+        dialogue_at h.start.reject_ms (due_pair h (Event.on_dialogue dialogue request) ∷ h.pairs) dialogue ≡ left_standing (table_move (setting_at h) d (DialogueEvent.request request)) }
     ensures taken { (h : History) (dialogue : ℕ) (d : Dialogue) (bytes : List ℕ) (m : Message) → IsLegal h → dialogue_at h.start.reject_ms h.pairs dialogue ≡ Some d →
         names (Event.received bytes) dialogue ≡ true → is_live d.standing.state ≡ true → frame_at bytes ≡ Ok m →
         dialogue_at h.start.reject_ms (due_pair h (Event.received bytes) ∷ h.pairs) dialogue ≡ left_standing (table_move (setting_at h) d (DialogueEvent.frame m)) }
