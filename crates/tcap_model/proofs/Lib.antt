@@ -40,6 +40,7 @@ mod NumberedLemmas
 mod OpenEvents
 mod OpenNumbers
 mod OpenReplies
+mod OtherDialogues
 mod OverDialogues
 mod PeerLemmas
 mod PlaceLemmas

@@ -42,3 +42,9 @@ pub fn dialogues_moved_alike()
     ensures lapsed { (h : History) (dialogue : ℕ) (d : Dialogue) (now : ℕ) → IsLegal h → dialogue_at h.start.reject_ms h.pairs dialogue ≡ Some d → moment_fault now ≡ None →
         dialogue_at h.start.reject_ms (due_pair h (Event.moment now) ∷ h.pairs) dialogue ≡ left_standing (table_move (setting_at h) d (DialogueEvent.moment now)) }
 {}
+
+/// An event that doesn't name a dialogue that stands leaves it as it is (our own).
+pub fn others_stay()
+    ensures { (h : History) (dialogue : ℕ) (d : Dialogue) (event : Event) → IsLegal h → dialogue_at h.start.reject_ms h.pairs dialogue ≡ Some d → names event dialogue ≡ false →
+        dialogue_at h.start.reject_ms (due_pair h event ∷ h.pairs) dialogue ≡ Some d }
+{}
