@@ -4,6 +4,7 @@ mod Apart
 mod BirthLemmas
 mod BornDialogues
 mod BornLemmas
+mod BornRows
 mod BoundedDialogues
 mod BoundedIdentifiers
 mod BoundedQueues

@@ -3,7 +3,9 @@
 ghost use Rattle.std.specs.Prelude.{◌≡◌, ℕ, List, Option, Some, None, ◌∷◌, true, false, Ok, Err};
 ghost use Rattle.tcap_model.specs.Agreement.{setting_at, due_pair, left_standing};
 ghost use Rattle.tcap_model.specs.Answer.{Answer};
-ghost use Rattle.tcap_model.specs.Dialogue.{Dialogue};
+ghost use Rattle.tcap_model.specs.Birth.{next_dialogue};
+ghost use Rattle.tcap_model.specs.Dialogue.{Dialogue, fresh_dialogue};
+ghost use Rattle.tcap_model.specs.Due.{birth_due};
 ghost use Rattle.tcap_model.specs.Event.{Event};
 ghost use Rattle.tcap_model.specs.History.{History};
 ghost use Rattle.tcap_model.specs.InRange.{InRange};
@@ -47,4 +49,11 @@ pub fn dialogues_moved_alike()
 pub fn others_stay()
     ensures { (h : History) (dialogue : ℕ) (d : Dialogue) (event : Event) → IsLegal h → dialogue_at h.start.reject_ms h.pairs dialogue ≡ Some d → names event dialogue ≡ false →
         dialogue_at h.start.reject_ms (due_pair h event ∷ h.pairs) dialogue ≡ Some d }
+{}
+
+/// A dialogue that is asked for, where none of the faults is due, is Idle with nothing queued and no
+/// invocations (Q.774, Transaction state machine).
+pub fn fresh_is_born()
+    ensures { (h : History) → IsLegal h → birth_due h ≡ None →
+        dialogue_at h.start.reject_ms (due_pair h Event.new_dialogue ∷ h.pairs) (next_dialogue h) ≡ Some (fresh_dialogue (next_dialogue h) h.start.reject_ms) }
 {}
