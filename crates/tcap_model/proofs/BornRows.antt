@@ -64,31 +64,37 @@ each-alive start (pair ∷ past) legal = both (invocations past) (each-alive sta
 
 -- ---- so one that wasn't has no rows
 
-module _ (reject_ms : ℕ) (start : Start) (pair : Pair) (past : Past) (legal : AreReplies start past) (none : invoked_by pair ≡ None) (dialogue : ℕ) (unborn : life dialogue past ≡ Life.unborn) where
-  no_row : (i : Invocation) → IsOfBorn past i → row_of reject_ms dialogue (pair ∷ past) i ≡ None
+module _ (start : Start) (past : Past) (legal : AreReplies start past) (dialogue : ℕ) (unborn : life dialogue past ≡ Life.unborn) (test : Invocation → Bool) (made : Invocation → Option Row) where
+  abbrev row_by_test : Invocation → Option Row
+  row_by_test i = cond ((i.dialogue == dialogue) && test i) (made i) None
+
+  no_row : (i : Invocation) → IsOfBorn past i → row_by_test i ≡ None
   no_row i a = go (i.dialogue == dialogue) refl
     where
-      go : (b : Bool) → (i.dialogue == dialogue) ≡ b
-          → cond (b && is_number i.number (latest i.dialogue i.id (pair ∷ past))) (row_by i (stage_by reject_ms (pair ∷ past) i (decision i.number (pair ∷ past)))) None ≡ None
+      go : (b : Bool) → (i.dialogue == dialogue) ≡ b → cond (b && test i) (made i) None ≡ None
       go false e = refl
       go true e =
           let same : i.dialogue ≡ dialogue = grind (arith, nat_tests) in
           let never : true ≡ false = sym a ∙ (ap (λ n. was_alive (life n past)) same ∙ ap was_alive unborn) in
           absurd cc
 
-  no_listed : (is : List Invocation) → AllByRecursion (IsOfBorn past) is → filter_map (row_of reject_ms dialogue (pair ∷ past)) is ≡ []
+  no_listed : (is : List Invocation) → AllByRecursion (IsOfBorn past) is → filter_map (λ i. cond ((i.dialogue == dialogue) && test i) (made i) None) is ≡ []
   no_listed [] a = refl
-  no_listed (i ∷ is) a = ap (λ o. cons_option o (filter_map (row_of reject_ms dialogue (pair ∷ past)) is)) (no_row i a.0) ∙ no_listed is a.1
+  no_listed (i ∷ is) a = ap (λ o. cons_option o (filter_map (λ i. cond ((i.dialogue == dialogue) && test i) (made i) None) is)) (no_row i a.0) ∙ no_listed is a.1
 
+  pub none_listed : filter_map (λ i. cond ((i.dialogue == dialogue) && test i) (made i) None) (invocations past) ≡ []
+  none_listed = no_listed (invocations past) (each-alive start past legal)
+
+module _ (reject_ms : ℕ) (start : Start) (pair : Pair) (past : Past) (legal : AreReplies start past) (none : invoked_by pair ≡ None) (dialogue : ℕ) (unborn : life dialogue past ≡ Life.unborn) where
   pub rows_born : rows_of reject_ms dialogue (pair ∷ past) ≡ []
   rows_born =
       ap (λ o. filter_map (row_of reject_ms dialogue (pair ∷ past)) (invocations past ++ option_to_list o)) none
-      ∙ (ap (filter_map (row_of reject_ms dialogue (pair ∷ past))) (append-nil (invocations past)) ∙ no_listed (invocations past) (each-alive start past legal))
+      ∙ (ap (filter_map (row_of reject_ms dialogue (pair ∷ past))) (append-nil (invocations past)) ∙ none_listed start past legal dialogue unborn (λ i. is_number i.number (latest i.dialogue i.id (pair ∷ past))) (λ i. row_by i (stage_by reject_ms (pair ∷ past) i (decision i.number (pair ∷ past)))))
 
 -- ---- a dialogue that is asked for
 
 module _ (h : History) (legal : IsLegal h) where
-  abbrev next : ℕ
+  abbrev pub next : ℕ
   next = next_dialogue h
 
   pub next_unborn : life next h.pairs ≡ Life.unborn

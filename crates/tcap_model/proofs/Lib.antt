@@ -1,6 +1,7 @@
 mod AcceptedRequests
 mod AnsweredRows
 mod Apart
+mod BegunDialogues
 mod BirthLemmas
 mod BornDialogues
 mod BornLemmas

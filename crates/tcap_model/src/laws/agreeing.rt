@@ -1,6 +1,6 @@
 //! How a dialogue that is moved by its table follows the history.
 
-ghost use Rattle.std.specs.Prelude.{◌≡◌, ℕ, List, Option, Some, None, ◌∷◌, true, false, Ok, Err};
+ghost use Rattle.std.specs.Prelude.{is_some, ◌≡◌, ℕ, List, Option, Some, None, ◌∷◌, true, false, Ok, Err};
 ghost use Rattle.tcap_model.specs.Agreement.{setting_at, due_pair, left_standing};
 ghost use Rattle.tcap_model.specs.Answer.{Answer};
 ghost use Rattle.tcap_model.specs.Birth.{next_dialogue};
@@ -10,12 +10,13 @@ ghost use Rattle.tcap_model.specs.Event.{Event};
 ghost use Rattle.tcap_model.specs.History.{History};
 ghost use Rattle.tcap_model.specs.InRange.{InRange};
 ghost use Rattle.tcap_model.specs.Legal.{IsLegal};
-ghost use Rattle.tcap_model.specs.Life.{life};
+ghost use Rattle.tcap_model.specs.Life.{life, live_in};
 ghost use Rattle.tcap_model.specs.Names.{names};
-ghost use Rattle.tcap_model.specs.Reply.{taken_outputs};
+ghost use Rattle.tcap_model.specs.Reception.{Reception, reception};
+ghost use Rattle.tcap_model.specs.Reply.{taken_outputs, reply};
 ghost use Rattle.tcap_model.specs.Request.{Request};
 ghost use Rattle.tcap_model.specs.State.{is_live};
-ghost use Rattle.tcap_model.specs.TableMove.{DialogueEvent, table_move};
+ghost use Rattle.tcap_model.specs.TableMove.{DialogueEvent, born, table_move};
 ghost use Rattle.tcap_model.specs.Time.{moment_fault};
 ghost use Rattle.tcap_model.specs.World.{dialogue_at};
 ghost use Rattle.tcap_pdu.specs.declared.fault.FrameFault.{FrameFault};
@@ -56,4 +57,15 @@ pub fn others_stay()
 pub fn fresh_is_born()
     ensures { (h : History) → IsLegal h → birth_due h ≡ None →
         dialogue_at h.start.reject_ms (due_pair h Event.new_dialogue ∷ h.pairs) (next_dialogue h) ≡ Some (fresh_dialogue (next_dialogue h) h.start.reject_ms) }
+{}
+
+/// A Begin that is accepted is answered by the dialogue that it gives birth to, and that dialogue is
+/// what the history says (Q.774, Dialogue begin).
+pub fn begun_is_born()
+    ensures answer { (h : History) (bytes : List ℕ) (origin : List ℕ) (context : Option (List ℕ)) (info components : List ℕ) → IsLegal h →
+        reception (λ dialogue. live_in (life dialogue h.pairs)) (is_some (birth_due h)) bytes ≡ Reception.begun origin context info components →
+        (born (setting_at h) (next_dialogue h) h.start.reject_ms origin context info components).answer ≡ reply h (Event.received bytes) }
+    ensures dialogue { (h : History) (bytes : List ℕ) (origin : List ℕ) (portion : Option (List ℕ)) (context : Option (List ℕ)) (info components : List ℕ) → IsLegal h → frame_at bytes ≡ Ok (Message.begin origin portion components) →
+        reception (λ dialogue. live_in (life dialogue h.pairs)) (is_some (birth_due h)) bytes ≡ Reception.begun origin context info components →
+        dialogue_at h.start.reject_ms (due_pair h (Event.received bytes) ∷ h.pairs) (next_dialogue h) ≡ left_standing (born (setting_at h) (next_dialogue h) h.start.reject_ms origin context info components) }
 {}
