@@ -1,14 +1,14 @@
 -- A dialogue that is born by a Begin is what the history says.
-use Rattle.std.proofs.Common.{◌≡◌, ℕ, ℤ, ◌==◌, ◌&&◌, Bool, true, false, cond, List, [], ◌∷◌, ◌++◌, length, nat_lt, Option, Some, None, Result, Ok, Err, refl, ap, sym, ◌∙◌, arith}
+use Rattle.std.proofs.Common.{◌≡◌, ℕ, ◌==◌, Bool, true, false, cond, List, [], ◌∷◌, length, nat_lt, Option, Some, Ok, refl, ap, sym, ◌∙◌, arith}
 use Rattle.std.proofs.lemmas.Bool.Decides.{nat_tests}
 use Rattle.std.specs.Prelude.{is_some}
 use Rattle.tcap_component.specs.ComponentReading.{components_of}
-use Rattle.tcap_invocation.specs.Invocations.{Row, InvocationList}
-use Rattle.tcap_model.proofs.BornRows.{next, next_unborn, none_listed, rows_born}
+use Rattle.tcap_invocation.specs.Invocations.{InvocationList}
+use Rattle.tcap_model.proofs.BornRows.{next_unborn, none_listed, rows_born}
 use Rattle.tcap_model.proofs.RowsApart.{rows_distinct}
 use Rattle.tcap_model.proofs.SentAgree.{sent-rows}
 use Rattle.tcap_model.proofs.WalkAgree.{IsLike, fault_last, walk_tells, walk_rejects}
-use Rattle.tcap_model.proofs.WalkedRows.{walk_at, rows_up, stage_up}
+use Rattle.tcap_model.proofs.WalkedRows.{walk_at, stage_up}
 use Rattle.tcap_model.specs.Agreement.{setting_at, due_pair, left_standing}
 use Rattle.tcap_model.specs.Answer.{Answer}
 use Rattle.tcap_model.specs.Birth.{is_birth_of, born_of, next_dialogue}
@@ -21,7 +21,7 @@ use Rattle.tcap_model.specs.Event.{Event}
 use Rattle.tcap_model.specs.History.{History}
 use Rattle.tcap_model.specs.Invocation.{latest}
 use Rattle.tcap_model.specs.Legal.{IsLegal}
-use Rattle.tcap_model.specs.Life.{Life, life, live_in, life_after, life_at_birth, begin_context, begun_life}
+use Rattle.tcap_model.specs.Life.{life, live_in, life_after, life_at_birth, begin_context, begun_life}
 use Rattle.tcap_model.specs.LocalId.{is_that}
 use Rattle.tcap_model.specs.AbortRules.{abort_with, resource_limitation}
 use Rattle.tcap_model.specs.Output.{Output, DropCause}
@@ -35,7 +35,6 @@ use Rattle.tcap_model.specs.Reply.{reply, reception_outputs}
 use Rattle.tcap_model.specs.State.{State}
 use Rattle.tcap_model.specs.TableMove.{Walked, walked, walked_in, born}
 use Rattle.tcap_model.specs.World.{row_by, stage_by, is_number, rows_of, dialogue_at, dialogue_by}
-use Rattle.tcap_pdu.specs.declared.fault.FrameFault.{FrameFault}
 use Rattle.tcap_pdu.specs.FrameReading.{frame_at}
 use Rattle.tcap_pdu.specs.FrameSpelling.{Message}
 use Rattle.tcap_pdu.specs.FrameWritten.{message_limit}

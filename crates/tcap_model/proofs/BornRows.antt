@@ -1,29 +1,27 @@
 -- A dialogue that is born has no invocations.
-use Rattle.std.proofs.Common.{◌≡◌, ℕ, ◌==◌, ◌&&◌, Bool, true, false, cond, List, [], ◌∷◌, ◌++◌, Option, Some, None, refl, ap, sym, ◌∙◌, arith, subst}
+use Rattle.std.proofs.Common.{◌≡◌, ℕ, ◌==◌, ◌&&◌, Bool, true, false, cond, List, [], ◌∷◌, ◌++◌, Option, Some, None, refl, ap, sym, ◌∙◌, arith}
 use Rattle.std.proofs.lemmas.Bool.Decides.{nat_tests}
 use Rattle.std.proofs.lemmas.List.{append-nil}
 use Rattle.std.specs.Prelude.{filter_map, option_to_list}
 use Rattle.std.specs.List.{AllByRecursion, cons_option}
-use Rattle.tcap_invocation.specs.declared.stage.Stage.{Stage}
 use Rattle.tcap_invocation.specs.Invocations.{Row}
 use Rattle.tcap_model.proofs.AcceptedRequests.{IsAccepted, accepted-request, IsInvoke, invoke-made}
 use Rattle.tcap_model.proofs.BirthLemmas.{beyond-unborn, unborn-life}
 use Rattle.tcap_model.proofs.BornDialogues.{was_alive, stays_alive}
 use Rattle.tcap_model.specs.Agreement.{due_pair}
 use Rattle.tcap_model.specs.Answer.{Answer, is_accepted}
-use Rattle.tcap_model.specs.Birth.{is_birth_of, next_dialogue, births, born_of}
+use Rattle.tcap_model.specs.Birth.{is_birth_of, next_dialogue, born_of}
 use Rattle.tcap_model.specs.Decision.{decision}
 use Rattle.tcap_model.specs.Dialogue.{Dialogue, fresh_dialogue}
 use Rattle.tcap_model.specs.Due.{birth_due}
 use Rattle.tcap_model.specs.Event.{Event}
-use Rattle.tcap_model.specs.Fault.{Fault}
 use Rattle.tcap_model.specs.History.{Start, History}
 use Rattle.tcap_model.specs.Invocation.{Invocation, invoked_by, invocations, latest}
 use Rattle.tcap_model.specs.Legal.{AreReplies, IsLegal}
 use Rattle.tcap_model.specs.Life.{Life, life, life_after, life_at_birth}
 use Rattle.tcap_model.specs.LocalId.{is_that}
 use Rattle.tcap_model.specs.Pair.{Pair, Past}
-use Rattle.tcap_model.specs.Queue.{queue, queue_by_event, queue_born}
+use Rattle.tcap_model.specs.Queue.{queue}
 use Rattle.tcap_model.specs.QueueRules.{Queued}
 use Rattle.tcap_model.specs.Reply.{reply, birth_answer}
 use Rattle.tcap_model.specs.Request.{Request}

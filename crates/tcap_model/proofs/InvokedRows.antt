@@ -1,32 +1,30 @@
 -- The rows of a dialogue after an invoke on it.
-use Rattle.std.proofs.Common.{◌≡◌, ℕ, ℤ, ◌+◌, ◌==◌, ◌&&◌, Bool, true, false, cond, not, List, [], ◌∷◌, ◌++◌, Option, Some, None, refl, ap, sym, ◌∙◌, arith}
+use Rattle.std.proofs.Common.{◌≡◌, ℕ, ℤ, ◌+◌, ◌==◌, ◌&&◌, Bool, true, false, cond, not, [], ◌∷◌, ◌++◌, Option, Some, None, refl, ap, sym, ◌∙◌, arith}
 use Rattle.std.proofs.lemmas.Bool.Decides.{nat_tests}
 use Rattle.std.proofs.lemmas.List.{append-nil}
 use Rattle.std.proofs.lemmas.List.Elements.{filter_map-append}
-use Rattle.std.specs.Prelude.{filter_map, is_some, option_map, option_to_list}
-use Rattle.std.specs.List.{AllByRecursion, cons_option}
+use Rattle.std.specs.Prelude.{filter_map, is_some, option_to_list}
+use Rattle.std.specs.List.{cons_option}
 use Rattle.std.specs.Option.{option_or}
 use Rattle.tcap_invocation.specs.declared.stage.Stage.{Stage}
 use Rattle.tcap_invocation.specs.declared.stage.Stage.TheVariants.{Queued, Waiting}
-use Rattle.tcap_invocation.specs.Invocations.{Row}
-use Rattle.tcap_model.proofs.DecisionSteps.{closing_of_decision, undecided}
+use Rattle.tcap_model.proofs.DecisionSteps.{undecided}
 use Rattle.tcap_model.proofs.EndingsAgree.{same_kept}
 use Rattle.tcap_model.proofs.LatestInvocations.{has_own_id, id_of, own_number, new_number, new_found, other_number}
-use Rattle.tcap_model.proofs.RowSteps.{is_here, stage_more, stage_is, stage_now, stage_then, stage_unless}
+use Rattle.tcap_model.proofs.RowSteps.{stage_more, stage_is, stage_now, stage_then, stage_unless}
 use Rattle.tcap_model.proofs.SpanSteps.{span_new}
-use Rattle.tcap_model.proofs.StageSteps.{closed_stage, marked_stage}
+use Rattle.tcap_model.proofs.StageSteps.{marked_stage}
 use Rattle.tcap_model.proofs.SupersededInvocations.{latest_found}
 use Rattle.tcap_model.proofs.ToldInvocations.{IsFound, each_found}
 use Rattle.tcap_model.specs.Clock.{clock}
 use Rattle.tcap_model.specs.Closings.{Told}
-use Rattle.tcap_model.specs.Deadline.{sent_clock}
 use Rattle.tcap_model.specs.Decision.{decided_of, decided_at, decision}
 use Rattle.tcap_model.specs.Held.{pair_ends_wait, is_waiting, holds_identifier, held_by, held}
 use Rattle.tcap_model.specs.History.{Start}
 use Rattle.tcap_model.specs.Invocation.{Invocation, invoked_by, invocations, has_id, with_id, latest}
 use Rattle.tcap_model.specs.Legal.{AreReplies}
 use Rattle.tcap_model.specs.Marks.{marks}
-use Rattle.tcap_model.specs.Outcome.{first_closing, outcome_of}
+use Rattle.tcap_model.specs.Outcome.{outcome_of}
 use Rattle.tcap_model.specs.Pair.{Pair, Past}
 use Rattle.tcap_model.specs.Span.{is_invoked, span}
 use Rattle.tcap_model.specs.World.{stage_by, row, row_by, is_number, row_of, rows_of}

@@ -9,8 +9,8 @@ use Rattle.tcap_model.proofs.EndsAgree.{components-rejected}
 use Rattle.tcap_model.proofs.EventMarks.{standing_marks}
 use Rattle.tcap_model.proofs.MovedRows.{rows_kept, rows_lapsed}
 use Rattle.tcap_model.proofs.RequestsAgree.{standing_dialogue, at_life}
-use Rattle.tcap_model.proofs.Restaged.{if_passing, restaged, passing_rows}
-use Rattle.tcap_model.proofs.StandingPairs.{here, life_named, queue_named, made_of, assembled}
+use Rattle.tcap_model.proofs.Restaged.{passing_rows}
+use Rattle.tcap_model.proofs.StandingPairs.{here, life_named, queue_named, assembled}
 use Rattle.tcap_model.proofs.WalkAgree.{fault_last}
 use Rattle.tcap_model.proofs.WalkedRows.{walk_at, rows_up, rows_message}
 use Rattle.tcap_model.specs.Agreement.{setting_at, due_pair, left_standing}
@@ -23,11 +23,11 @@ use Rattle.tcap_model.specs.Held.{pair_ends_wait}
 use Rattle.tcap_model.specs.History.{History}
 use Rattle.tcap_model.specs.Legal.{IsLegal}
 use Rattle.tcap_model.specs.Life.{Life, life, answered, life_by_verdict, life_by_message, life_if_live, life_by_event}
-use Rattle.tcap_model.specs.Marks.{Mark, Noted, marks, ending, if_normal, component_marks, marks_by_message, marks_by_event, marks_if_live}
+use Rattle.tcap_model.specs.Marks.{Mark, marks, ending, if_normal, component_marks, marks_by_message, marks_by_event, marks_if_live}
 use Rattle.tcap_model.specs.Names.{names}
 use Rattle.tcap_model.specs.PortionRules.{PortionVerdict, portion_verdict}
-use Rattle.tcap_model.specs.Queue.{queue, handled_in, rejects_of, queue_by_verdict, queue_by_message, queue_by_bytes}
-use Rattle.tcap_model.specs.QueueRules.{Queued, queue_limit, queue_each}
+use Rattle.tcap_model.specs.Queue.{queue, handled_in, queue_by_verdict, queue_by_message, queue_by_bytes}
+use Rattle.tcap_model.specs.QueueRules.{queue_limit, queue_each}
 use Rattle.tcap_model.specs.Reply.{reply, moment_answer, lapses}
 use Rattle.tcap_model.specs.State.{State, is_live, peer_by}
 use Rattle.tcap_model.specs.TableMove.{DialogueEvent, Walked, walked_in, continued_by, ended_by, table_move}

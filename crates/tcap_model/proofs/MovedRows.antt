@@ -1,17 +1,16 @@
 -- The rows of a dialogue after a pair, as an operation on those before it.
-use Rattle.std.proofs.Common.{◌≡◌, ℕ, ℤ, ◌+◌, Bool, true, false, cond, not, ◌&&◌, List, [], ◌∷◌, ◌++◌, map, nat_le, nat_lt, Option, Some, None, refl, ap, sym, ◌∙◌, arith}
+use Rattle.std.proofs.Common.{◌≡◌, ℕ, ℤ, ◌+◌, Bool, true, false, cond, not, ◌&&◌, List, [], ◌∷◌, ◌++◌, nat_le, nat_lt, Option, Some, None, refl, ap, sym, ◌∙◌, arith}
 use Rattle.std.proofs.lemmas.Bool.Decides.{nat_tests}
 use Rattle.std.proofs.lemmas.List.{append-nil}
 use Rattle.std.specs.Prelude.{option_map}
-use Rattle.std.specs.List.{AllByRecursion}
 use Rattle.tcap_invocation.specs.declared.class.Class.{Class}
 use Rattle.tcap_invocation.specs.declared.stage.Stage.{Stage}
-use Rattle.tcap_invocation.specs.declared.stage.Stage.TheVariants.{Queued, Sent, Waiting}
+use Rattle.tcap_invocation.specs.declared.stage.Stage.TheVariants.{Sent, Waiting}
 use Rattle.tcap_invocation.specs.Invocations.{Row, sent_rows}
 use Rattle.tcap_invocation.specs.Lapses.{stays}
 use Rattle.tcap_invocation.specs.Stage.{sent_stage}
 use Rattle.tcap_model.proofs.DecisionSteps.{closing_of_decision}
-use Rattle.tcap_model.proofs.Restaged.{Operation, if_passing, restaged, same_rows}
+use Rattle.tcap_model.proofs.Restaged.{Operation, if_passing, restaged}
 use Rattle.tcap_model.proofs.RowSteps.{stage_more, stage_is, stage_pair, stage_after, stages_moved, rows_after}
 use Rattle.tcap_model.proofs.StageSteps.{open_stage, closed_stage, marked_stage, lapsed_stage, mark_stage, then_stage, waits, mark_steps}
 use Rattle.tcap_model.proofs.ToldInvocations.{IsFound}
@@ -23,9 +22,8 @@ use Rattle.tcap_model.specs.Held.{pair_ends_wait, is_waiting}
 use Rattle.tcap_model.specs.History.{Start}
 use Rattle.tcap_model.specs.Invocation.{Invocation, invoked_by}
 use Rattle.tcap_model.specs.Legal.{AreReplies}
-use Rattle.tcap_model.specs.Marks.{Mark, Noted, marks}
+use Rattle.tcap_model.specs.Marks.{Mark, marks}
 use Rattle.tcap_model.specs.Outcome.{first_closing, outcome_of, outcome}
-use Rattle.tcap_model.specs.Output.{Closing}
 use Rattle.tcap_model.specs.Pair.{Pair, Past}
 use Rattle.tcap_model.specs.Span.{span}
 use Rattle.tcap_model.specs.World.{stage_by, rows_of}

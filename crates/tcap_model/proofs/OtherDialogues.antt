@@ -9,7 +9,6 @@ use Rattle.std.specs.Option.{option_or}
 use Rattle.std.specs.Ordering.{int_eq}
 use Rattle.tcap_invocation.specs.declared.stage.Stage.{Stage}
 use Rattle.tcap_invocation.specs.declared.stage.Stage.TheVariants.{Waiting}
-use Rattle.tcap_invocation.specs.Invocations.{Row}
 use Rattle.tcap_model.proofs.EndingsAgree.{same_kept}
 use Rattle.tcap_model.proofs.EventMarks.{unnamed_marks}
 use Rattle.tcap_model.proofs.MovedDialogues.{by_life}
@@ -20,7 +19,7 @@ use Rattle.tcap_model.proofs.StageSteps.{marked_stage}
 use Rattle.tcap_model.proofs.StandingPairs.{life_unnamed, queue_unnamed, assembled}
 use Rattle.tcap_model.proofs.ToldInvocations.{IsFound, each_found}
 use Rattle.tcap_model.specs.Agreement.{due_pair}
-use Rattle.tcap_model.specs.Answer.{Answer, is_accepted}
+use Rattle.tcap_model.specs.Answer.{is_accepted}
 use Rattle.tcap_model.specs.Clock.{clock}
 use Rattle.tcap_model.specs.Closings.{Told}
 use Rattle.tcap_model.specs.Decision.{decision}
@@ -28,7 +27,7 @@ use Rattle.tcap_model.specs.Dialogue.{Dialogue}
 use Rattle.tcap_model.specs.Event.{Event}
 use Rattle.tcap_model.specs.Held.{pair_ends_wait, rejects_answer, is_waiting}
 use Rattle.tcap_model.specs.History.{Start, History}
-use Rattle.tcap_model.specs.Invocation.{Invocation, invoked_by, invoked_of, invoked_under, invocations, has_id, with_id, latest}
+use Rattle.tcap_model.specs.Invocation.{Invocation, invoked_by, invoked_under, invocations, has_id, with_id, latest}
 use Rattle.tcap_model.specs.Legal.{AreReplies, IsLegal}
 use Rattle.tcap_model.specs.Life.{Life, life}
 use Rattle.tcap_model.specs.Marks.{marks}

@@ -1,56 +1,45 @@
 -- After a request a dialogue that stands is what the history says.
-use Rattle.std.proofs.Common.{◌≡◌, ℕ, ℤ, ◌==◌, ◌&&◌, Bool, true, false, cond, List, [], ◌∷◌, ◌++◌, Option, Some, None, refl, ap, sym, ◌∙◌, arith, subst}
+use Rattle.std.proofs.Common.{◌≡◌, ℕ, ℤ, ◌==◌, ◌&&◌, true, false, cond, List, [], ◌∷◌, Option, Some, None, refl, ap, sym, ◌∙◌, arith, subst}
 use Rattle.std.proofs.lemmas.Bool.Decides.{nat_tests}
 use Rattle.std.specs.Prelude.{is_some}
 use Rattle.std.specs.List.{IsDistinct}
 use Rattle.std.specs.Map.{keys_of}
 use Rattle.std.specs.Ordering.{int_eq}
-use Rattle.tcap_component.specs.Component.{CodeParts}
-use Rattle.tcap_component.specs.Problem.{ProblemParts}
-use Rattle.tcap_component.specs.declared.problem.Kind.{Kind}
-use Rattle.tcap_component.specs.declared.problem.Kind.TheVariants as kind
 use Rattle.tcap_invocation.specs.declared.class.Class.{Class}
 use Rattle.tcap_invocation.specs.declared.invocations.Invocation.{Invocation as Entry}
 use Rattle.tcap_invocation.specs.declared.stage.Stage.{Stage}
 use Rattle.tcap_invocation.specs.declared.stage.Stage.TheVariants.{Queued, Sent, Waiting}
-use Rattle.tcap_invocation.specs.Closing.{number_of as numbered, given_up_at, after_give_up, after_free_wait}
+use Rattle.tcap_invocation.specs.Closing.{number_of as numbered}
 use Rattle.tcap_invocation.specs.Invocations.{Row, InvocationList, entry_at, passing, freed, sent_rows, without}
 use Rattle.tcap_invocation.specs.Stage.{is_waiting, is_pending}
 use Rattle.tcap_model.proofs.BornDialogues.{noted_at}
-use Rattle.tcap_model.proofs.DueLemmas.{first_that-none}
 use Rattle.tcap_model.proofs.EventMarks.{standing_marks}
-use Rattle.tcap_model.proofs.InvokedRows.{rows_invoked}
-use Rattle.tcap_model.proofs.MovedDialogues.{by_life}
-use Rattle.tcap_model.proofs.MovedRows.{rows_moved, rows_marked, rows_kept, sent_all}
-use Rattle.tcap_model.proofs.RequestsAgree.{standing_dialogue, due-agrees}
+use Rattle.tcap_model.proofs.MovedRows.{rows_marked, rows_kept, sent_all}
+use Rattle.tcap_model.proofs.RequestsAgree.{standing_dialogue}
 use Rattle.tcap_model.proofs.Restaged.{on_id, restaged, Leaves, left_rows, freed_rows}
-use Rattle.tcap_model.proofs.RowsAgree.{pending-rows}
 use Rattle.tcap_model.proofs.RowsApart.{rows_distinct}
-use Rattle.tcap_model.proofs.StageSteps.{open_stage, dropped_stage}
+use Rattle.tcap_model.proofs.StageSteps.{dropped_stage}
 use Rattle.tcap_model.proofs.StandingPairs.{life_named, queue_named, assembled}
-use Rattle.tcap_model.specs.Agreement.{setting_at, due_pair, left_standing}
+use Rattle.tcap_model.specs.Agreement.{due_pair}
 use Rattle.tcap_model.specs.Answer.{Answer, is_accepted}
 use Rattle.tcap_model.specs.Clock.{clock}
 use Rattle.tcap_model.specs.Dialogue.{Dialogue}
-use Rattle.tcap_model.specs.Due.{standing_of, situation_of, due, due_by}
+use Rattle.tcap_model.specs.Due.{due}
 use Rattle.tcap_model.specs.Event.{Event}
 use Rattle.tcap_model.specs.Fault.{Fault}
-use Rattle.tcap_model.specs.Held.{pair_ends_wait, rejects_answer, held, pending}
+use Rattle.tcap_model.specs.Held.{pair_ends_wait, rejects_answer}
 use Rattle.tcap_model.specs.History.{History}
-use Rattle.tcap_model.specs.InRange.{InRange}
-use Rattle.tcap_model.specs.Invocation.{Invocation, invoked_by, invoked_under, next_number}
+use Rattle.tcap_model.specs.Invocation.{invoked_by, invoked_under}
 use Rattle.tcap_model.specs.Legal.{IsLegal}
-use Rattle.tcap_model.specs.Life.{Life, life, life_by_request, life_if_accepted, life_by_event}
-use Rattle.tcap_model.specs.Marks.{Mark, Noted, marks, ending, marks_by_request, marks_by_event}
+use Rattle.tcap_model.specs.Life.{Life, life, life_by_request, life_if_accepted}
+use Rattle.tcap_model.specs.Marks.{Mark, marks, marks_by_request, marks_by_event}
 use Rattle.tcap_model.specs.Output.{Output}
 use Rattle.tcap_model.specs.Numbers.{number_of}
-use Rattle.tcap_model.specs.Queue.{queue, queue_by_request, queue_if_accepted}
-use Rattle.tcap_model.specs.QueueRules.{Queued as Component, without_invoke}
-use Rattle.tcap_model.specs.Refusals.{due_on, holds, faults_of}
-use Rattle.tcap_model.specs.Reply.{reply, request_answer, accepted_answer, given_up_answer}
-use Rattle.tcap_model.specs.Request.{Request, Ending}
-use Rattle.tcap_model.specs.State.{State, activated}
-use Rattle.tcap_model.specs.TableMove.{DialogueEvent, Moved, accepted, requested_by, given_up_by, freed_by, situation, table_move}
+use Rattle.tcap_model.specs.Queue.{queue, queue_if_accepted}
+use Rattle.tcap_model.specs.QueueRules.{Queued as Component}
+use Rattle.tcap_model.specs.Reply.{reply, request_answer}
+use Rattle.tcap_model.specs.Request.{Request}
+use Rattle.tcap_model.specs.State.{State}
 use Rattle.tcap_model.specs.World.{dialogue_at, dialogue_by, rows_of}
 
 -- ---- the rows of the table

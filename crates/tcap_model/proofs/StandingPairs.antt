@@ -1,5 +1,5 @@
 -- What a dialogue that stands is after an event that names it.
-use Rattle.std.proofs.Common.{◌≡◌, ℕ, ◌+◌, ◌≤◌, Bool, true, false, cond, List, [], ◌∷◌, Option, Some, None, refl, ap, sym, ◌∙◌, subst, arith}
+use Rattle.std.proofs.Common.{◌≡◌, ℕ, ◌+◌, ◌≤◌, Bool, true, false, cond, List, ◌∷◌, Option, Some, refl, ap, sym, ◌∙◌, arith}
 use Rattle.tcap_invocation.specs.Invocations.{Row}
 use Rattle.tcap_model.proofs.BirthLemmas.{dialogue-next, beyond-unborn, unborn-life}
 use Rattle.tcap_model.proofs.NamedReceptions.{that-is}
