@@ -1,9 +1,11 @@
 mod AcceptedRequests
 mod AnsweredRows
 mod Apart
+mod BegunDialogues
 mod BirthLemmas
 mod BornDialogues
 mod BornLemmas
+mod BornRows
 mod BoundedDialogues
 mod BoundedIdentifiers
 mod BoundedQueues
@@ -27,11 +29,14 @@ mod EndsAnswered
 mod EventMarks
 mod FormedRejects
 mod HeadlineWorks
+mod InvokedRows
 mod IsolationWorks
 mod KeptQueues
 mod LapseOrder
 mod LatestInvocations
 mod LifeLemmas
+mod MovedDialogues
+mod MovedRows
 mod NamedReceptions
 mod NetsBroken
 mod NetsWork
@@ -47,6 +52,7 @@ mod OnlyRequests
 mod OpenEvents
 mod OpenNumbers
 mod OpenReplies
+mod OtherDialogues
 mod PeerLemmas
 mod PlaceLemmas
 mod QueuedComponents
@@ -57,9 +63,11 @@ mod ReceivedMarks
 mod ReceivedQueues
 mod ReceivedRows
 mod ReceivedSpans
+mod RequestMoves
 mod RequestSending
 mod RequestedComponents
 mod RequestsAgree
+mod RequestsMoved
 mod Restaged
 mod RowSteps
 mod RowsAgree
@@ -72,6 +80,7 @@ mod SentLemmas
 mod SoundReceptions
 mod SpanSteps
 mod StageSteps
+mod StandingPairs
 mod StartLemmas
 mod SupersededInvocations
 mod ToldComponents

@@ -119,11 +119,11 @@ module _ (reject_ms : ℕ) (past : Past) where
 
 -- ---- the stage after a pair
 
-module _ (reject_ms : ℕ) (start : Start) (pair : Pair) (past : Past) (legal : AreReplies start past) (none : invoked_by pair ≡ None) where
+module _ (reject_ms : ℕ) (start : Start) (pair : Pair) (past : Past) (legal : AreReplies start past) where
   -- a wait goes on unless the pair ends it; an open invocation is at what its marks say
-  abbrev pub stage_pair : Invocation → Option Told → Option Stage
-  stage_pair i None = marked_stage (clock (pair ∷ past) + reject_ms) i.class i.timeout (span i past ++ marks i.dialogue i.id pair past)
-  stage_pair i (Some told) =
+  abbrev pub stage_then : Invocation → Option Told → Option Stage
+  stage_then i None = marked_stage (clock (pair ∷ past) + reject_ms) i.class i.timeout (span i past ++ marks i.dialogue i.id pair past)
+  stage_then i (Some told) =
       cond (is_waiting reject_ms i.dialogue i.id past told && not (pair_ends_wait (clock told.place + reject_ms) i.dialogue i.id pair)) (Some (Waiting (clock told.place + reject_ms))) None
 
   still_waits : (i : Invocation) (t : Told) → decision i.number past ≡ Some t
@@ -143,24 +143,31 @@ module _ (reject_ms : ℕ) (start : Start) (pair : Pair) (past : Past) (legal : 
       split true false true = refl
       split true false false = refl
 
-  open_after : (i : Invocation) → IsFound past i → outcome i.number past ≡ None → span i (pair ∷ past) ≡ span i past ++ marks i.dialogue i.id pair past
-  open_after i found e =
+  open_after : (i : Invocation) → IsFound past i → is_invoked (has_id i.dialogue i.id) (invoked_by pair) ≡ false → outcome i.number past ≡ None → span i (pair ∷ past) ≡ span i past ++ marks i.dialogue i.id pair past
+  open_after i found none e =
       let made = made_found i.number past i found in
       let fresh = unused_if_open start past i.number i legal found e in
-      span_grows i pair past made (reused_step i pair past made ∙ (ap (λ b. b || is_invoked (has_id i.dialogue i.id) (invoked_by pair)) fresh ∙ ap (is_invoked (has_id i.dialogue i.id)) none))
+      span_grows i pair past made (reused_step i pair past made ∙ (ap (λ b. b || is_invoked (has_id i.dialogue i.id) (invoked_by pair)) fresh ∙ none))
 
-  pub stage_after : (i : Invocation) → IsFound past i → stage_by reject_ms (pair ∷ past) i (decision i.number (pair ∷ past)) ≡ stage_pair i (decision i.number past)
-  stage_after i found = go (decision i.number past) refl (closing_of_decision i.number past)
+  pub stage_unless : (i : Invocation) → IsFound past i → is_invoked (has_id i.dialogue i.id) (invoked_by pair) ≡ false → stage_by reject_ms (pair ∷ past) i (decision i.number (pair ∷ past)) ≡ stage_then i (decision i.number past)
+  stage_unless i found none = go (decision i.number past) refl (closing_of_decision i.number past)
     where
-      go : (d : Option Told) → decision i.number past ≡ d → option_map (λ (t : Told). t.closing) d ≡ outcome i.number past → stage_by reject_ms (pair ∷ past) i (decision i.number (pair ∷ past)) ≡ stage_pair i d
+      go : (d : Option Told) → decision i.number past ≡ d → option_map (λ (t : Told). t.closing) d ≡ outcome i.number past → stage_by reject_ms (pair ∷ past) i (decision i.number (pair ∷ past)) ≡ stage_then i d
       go None q e =
           ap (λ d. stage_by reject_ms (pair ∷ past) i (option_or d (decided_at i.number (pair ∷ past)))) q
           ∙ (ap (λ o. stage_by reject_ms (pair ∷ past) i (decided_of (pair ∷ past) o)) (invocation_stays i.number pair past i found)
           ∙ (stage_now reject_ms (pair ∷ past) i (outcome_of (Some i) (pair ∷ past))
-          ∙ ap (marked_stage (clock (pair ∷ past) + reject_ms) i.class i.timeout) (open_after i found (sym e))))
+          ∙ ap (marked_stage (clock (pair ∷ past) + reject_ms) i.class i.timeout) (open_after i found none (sym e))))
       go (Some t) q e =
           ap (stage_by reject_ms (pair ∷ past) i) (decision_stays i.number pair past t q)
           ∙ ap (λ b. cond b (Some (Waiting (clock t.place + reject_ms))) None) (still_waits i t q)
+
+module _ (reject_ms : ℕ) (start : Start) (pair : Pair) (past : Past) (legal : AreReplies start past) (none : invoked_by pair ≡ None) where
+  abbrev pub stage_pair : Invocation → Option Told → Option Stage
+  stage_pair i told = stage_then reject_ms start pair past legal i told
+
+  pub stage_after : (i : Invocation) → IsFound past i → stage_by reject_ms (pair ∷ past) i (decision i.number (pair ∷ past)) ≡ stage_pair i (decision i.number past)
+  stage_after i found = stage_unless reject_ms start pair past legal i found (ap (is_invoked (has_id i.dialogue i.id)) none)
 
   -- the rows after a pair that invokes nothing
   pub rows_after : (dialogue : ℕ) → rows_of reject_ms dialogue (pair ∷ past) ≡ rows_if dialogue past (λ i. stage_by reject_ms (pair ∷ past) i (decision i.number (pair ∷ past)))

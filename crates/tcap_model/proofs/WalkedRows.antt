@@ -1,5 +1,5 @@
 -- The rows after the components of a message are what the history says after them.
-use Rattle.std.proofs.Common.{◌≡◌, ℕ, ℤ, ◌+◌, ◌==◌, ◌&&◌, Bool, true, false, cond, List, [], ◌∷◌, ◌++◌, map, Option, Some, None, Ok, Err, refl, ap, sym, ◌∙◌, subst, append_assoc}
+use Rattle.std.proofs.Common.{◌≡◌, ℕ, ℤ, ◌+◌, ◌==◌, ◌&&◌, Bool, true, false, cond, not, List, [], ◌∷◌, ◌++◌, map, Option, Some, None, Ok, Err, refl, ap, sym, ◌∙◌, subst, append_assoc}
 use Rattle.std.proofs.lemmas.List.{append-nil}
 use Rattle.std.specs.Prelude.{is_none, is_some, option_map}
 use Rattle.std.specs.List.{AllByRecursion, IsDistinct}
@@ -23,7 +23,7 @@ use Rattle.tcap_model.proofs.EndingsAgree.{row_told, rows_told, same_kept}
 use Rattle.tcap_model.proofs.LatestInvocations.{own_number}
 use Rattle.tcap_model.proofs.ReceivedSpans.{AreRead, more_read, up_to_more}
 use Rattle.tcap_model.proofs.Restaged.{on_id, restaged, same_rows, distinct_restaged}
-use Rattle.tcap_model.proofs.RowSteps.{rows_if, row_if, stage_more, stages_moved, same_stages, stage_is}
+use Rattle.tcap_model.proofs.RowSteps.{rows_if, row_if, stage_more, stages_moved, same_stages, stage_is, stage_pair, stage_after, rows_after}
 use Rattle.tcap_model.proofs.RowsApart.{rows_distinct}
 use Rattle.tcap_model.proofs.StageSteps.{marked_stage, closed_stage, answered_stage, result_keeps, error_keeps, mark_stage, then_stage, mark_steps}
 use Rattle.tcap_model.proofs.SupersededInvocations.{latest_if_open}
@@ -34,14 +34,14 @@ use Rattle.tcap_model.specs.Closings.{Told}
 use Rattle.tcap_model.specs.ComponentHandling.{Item}
 use Rattle.tcap_model.specs.Deadline.{sent_clock}
 use Rattle.tcap_model.specs.Decision.{decision}
-use Rattle.tcap_model.specs.Held.{is_waiting, is_rejectable}
+use Rattle.tcap_model.specs.Held.{is_waiting, is_rejectable, pair_ends_wait}
 use Rattle.tcap_model.specs.History.{Start}
-use Rattle.tcap_model.specs.Invocation.{Invocation, invocations, latest}
+use Rattle.tcap_model.specs.Invocation.{Invocation, invoked_by, invocations, latest}
 use Rattle.tcap_model.specs.Legal.{AreReplies}
-use Rattle.tcap_model.specs.Marks.{Mark, Noted, marked, marks_of_component, component_marks, reject_marks}
+use Rattle.tcap_model.specs.Marks.{Mark, Noted, marked, marks, marks_of_component, component_marks, reject_marks}
 use Rattle.tcap_model.specs.Outcome.{closing_after, first_closing, outcome_of, outcome}
 use Rattle.tcap_model.specs.Output.{Output, Closing}
-use Rattle.tcap_model.specs.Pair.{Past}
+use Rattle.tcap_model.specs.Pair.{Pair, Past}
 use Rattle.tcap_model.specs.Queue.{marks_up_to}
 use Rattle.tcap_model.specs.Reply.{ended_of, ended_in}
 use Rattle.tcap_model.specs.Span.{span}
@@ -270,3 +270,23 @@ module _ (start : Start) (past : Past) (legal : AreReplies start past) (reject_m
   ended_after items =
       rows_told dialogue (row_if dialogue past (stage_up items)) (invocations past)
       ∙ same_kept (IsFound past) (λ i. row_told dialogue (row_if dialogue past (stage_up items) i)) (ended_of dialogue past items) (λ i found. one_told items i found) (invocations past) (each_found start past legal)
+
+  -- ---- after the message
+
+  pub rows_message : (items : List Item) (pair : Pair) (none : invoked_by pair ≡ None) → clock (pair ∷ past) ≡ clock past
+      → ((k : ℤ) → marks dialogue k pair past ≡ map (λ mark. record { clock = clock past; mark = mark }) (component_marks k items)) → ((k : ℤ) (u : ℕ) → pair_ends_wait u dialogue k pair ≡ false)
+      → rows_of reject_ms dialogue (pair ∷ past) ≡ rows_up items
+  rows_message items pair none still marks_are ends =
+      rows_after reject_ms start pair past legal none dialogue
+      ∙ same_stages dialogue past start legal (λ i. stage_by reject_ms (pair ∷ past) i (decision i.number (pair ∷ past))) (stage_up items) (λ i f s. stage_after reject_ms start pair past legal none i f ∙ one i s (decision i.number past))
+    where
+      one : (i : Invocation) → i.dialogue ≡ dialogue → (d : Option Told) → stage_pair reject_ms start pair past legal none i d ≡ stage_more reject_ms past i (clock past) (marks_up_to past items i) d
+      one i same None = ap (λ c. marked_stage (c + reject_ms) i.class i.timeout (span i past ++ marks i.dialogue i.id pair past)) still
+          ∙ ap (λ z. marked_stage until i.class i.timeout (span i past ++ z)) (ap (λ n. marks n i.id pair past) same ∙ marks_are i.id)
+      one i same (Some t) =
+          ap (λ b. cond (is_waiting reject_ms i.dialogue i.id past t && not b) (Some (Waiting (clock t.place + reject_ms))) None) (ap (λ n. pair_ends_wait (clock t.place + reject_ms) n i.id pair) same ∙ ends i.id (clock t.place + reject_ms))
+          ∙ go (is_waiting reject_ms i.dialogue i.id past t)
+        where
+          go : (b : Bool) → cond (b && true) (Some (Waiting (clock t.place + reject_ms))) None ≡ cond b (Some (Waiting (clock t.place + reject_ms))) None
+          go true = refl
+          go false = refl

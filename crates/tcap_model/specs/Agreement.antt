@@ -1,11 +1,15 @@
 -- What a history hands to one of its dialogues.
-use Rattle.std.specs.Prelude.{Bool, true, false}
+use Rattle.std.specs.Prelude.{Bool, true, false, Option, Some, None, if◌then◌else◌}
 use Rattle.tcap_model.specs.Clock.{clock}
+use Rattle.tcap_model.specs.Dialogue.{Dialogue}
+use Rattle.tcap_model.specs.Event.{Event}
 use Rattle.tcap_model.specs.History.{History}
 use Rattle.tcap_model.specs.Invocation.{next_number}
+use Rattle.tcap_model.specs.Pair.{Pair}
 use Rattle.tcap_model.specs.QueueRules.{queue_limit}
+use Rattle.tcap_model.specs.Reply.{reply}
 use Rattle.tcap_model.specs.Request.{Request}
-use Rattle.tcap_model.specs.TableMove.{Setting}
+use Rattle.tcap_model.specs.TableMove.{Setting, Moved}
 
 -- What is around a dialogue at a history (own).
 abbrev pub setting_at : History → Setting
@@ -25,3 +29,11 @@ leaves_standing (Request.begin context info) = true
 leaves_standing (Request.go_on context info) = true
 leaves_standing (Request.finish ending context info) = false
 leaves_standing (Request.u_abort why info) = false
+
+-- An event with the answer that is due to it (own).
+abbrev pub due_pair : History → Event → Pair
+due_pair h event = record { event = event; answer = reply h event }
+
+-- The dialogue after it moved, if it isn't over (own).
+abbrev pub left_standing : Moved → Option Dialogue
+left_standing m = if m.is_over then None else Some m.after
