@@ -8,6 +8,7 @@ use Rattle.tcap_model.proofs.PlaceLemmas.{at_happening, not_sent}
 use Rattle.tcap_model.specs.Answer.{Answer}
 use Rattle.tcap_model.specs.Computing.{computing}
 use Rattle.tcap_model.specs.Legal.{IsLegal}
+use Rattle.tcap_model.specs.Marks.{Mark}
 use Rattle.tcap_model.specs.Net.{Engine, Marked, Trace, IsNet, side, history_in}
 use Rattle.tcap_model.specs.Output.{Output}
 use Rattle.tcap_model.specs.Pair.{Pair}
@@ -80,7 +81,7 @@ repeat-opened = record { pair = born 1; before = []; stands = record { later = t
 
 sent : WasSent 1 (side Engine.a (drop 10 repeated_begin.trace))
 unfolding computing
-sent = record { place = side Engine.a (drop 10 repeated_begin.trace); later = []; invocation = first; is_past = refl; is_invocation = refl; is_sent = refl }
+sent = record { invocation = first; earlier = []; sent = record { clock = 0; mark = Mark.sent }; later = []; is_invocation = refl; is_span = refl; is_mark = refl; is_open = refl }
 
 pub repeat-after : (asked : Pair) (earlier : Trace) → Happens Engine.b asked earlier before_the_answer → IsFarRequest Engine.a 1 second_request asked earlier → WasSent 1 (side Engine.a earlier)
 repeat-after asked earlier happens is =
@@ -131,7 +132,7 @@ ahead-fails = record {
   is_answer = IsAnswer.a_result_last None;
   was_asked = record { later = take 3 (drop 1 answered_ahead.trace); is_trace = refl };
   is_far_request = record { far_dialogue = 1; is_event = refl; accepted = refl; is_peer = refl };
-  not_sent = not_sent 1 (side Engine.a (drop 5 answered_ahead.trace)) (refl, (refl, (refl, refl)));
+  not_sent = not_sent 1 (side Engine.a (drop 5 answered_ahead.trace)) refl;
 }
 
 pub ahead-untold : AnswersWhatItWasTold Engine.b answered_ahead.trace → ⊥
@@ -184,7 +185,7 @@ heard-fails = record {
   is_answer = IsAnswer.a_result_last None;
   was_asked = record { later = take 3 (drop 1 heard_as_one.trace); is_trace = refl };
   is_far_request = record { far_dialogue = 1; is_event = refl; accepted = refl; is_peer = refl };
-  not_sent = not_sent 2 (side Engine.a (drop 5 heard_as_one.trace)) (refl, (refl, (refl, (refl, (refl, refl)))));
+  not_sent = not_sent 2 (side Engine.a (drop 5 heard_as_one.trace)) refl;
 }
 
 pub heard-not_opened : WasOpened Engine.a 1 heard_as_one.trace → ⊥

@@ -28,23 +28,9 @@ at_place P past all pair before stands = there P past stands.later pair before s
 pub at_happening : (P : Marked → Trace → Type 0) (trace : Trace) → Everywhere P trace → (engine : Engine) (pair : Pair) (before : Trace) → Happens engine pair before trace → P (record { engine = engine; pair = pair }) before
 at_happening P trace all engine pair before happens = there P trace happens.later (record { engine = engine; pair = pair }) before happens.is_trace all
 
--- A fact of a list and of all its ends.
-abbrev pub OfEachEnd : {X : Type 0} → (List X → Type 0) → List X → Type 0
-OfEachEnd P [] = P []
-OfEachEnd P (x ∷ xs) = P (x ∷ xs) × OfEachEnd P xs
-
-whole : {X : Type 0} (P : List X → Type 0) (xs : List X) → OfEachEnd P xs → P xs
-whole P [] all = all
-whole P (x ∷ xs) all = all.0
-
-pub at_end : {X : Type 0} (P : List X → Type 0) (xs later place : List X) → xs ≡ later ++ place → OfEachEnd P xs → P place
-at_end P xs [] place is all = whole P place (subst (OfEachEnd P) is all)
-at_end P xs (y ∷ later) place is all = at_end P (later ++ place) later place refl ((subst (OfEachEnd P) is all).1)
-
--- An invocation that is made nowhere wasn't sent.
-pub not_sent : (number : ℕ) (past : Past) → OfEachEnd (λ place. invocation_of number place ≡ None) past → WasSent number past → ⊥
-not_sent number past none sent =
-    not_some sent.invocation (sym (at_end (λ place. invocation_of number place ≡ None) past sent.later sent.place sent.is_past none) ∙ sent.is_invocation)
+-- An invocation that isn't made wasn't sent.
+pub not_sent : (number : ℕ) (past : Past) → invocation_of number past ≡ None → WasSent number past → ⊥
+not_sent number past none sent = not_some sent.invocation (sym none ∙ sent.is_invocation)
 
 -- ---- outputs
 
