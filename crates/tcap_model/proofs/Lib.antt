@@ -11,6 +11,7 @@ mod DrawnInvocations
 mod DrawnLemmas
 mod DueLemmas
 mod EarlierMoments
+mod EndLemmas
 mod EndPremises
 pub mod EndingsAgree
 mod EndsAgree
@@ -22,6 +23,7 @@ mod KeptQueues
 mod LatestInvocations
 mod LifeLemmas
 mod NamedReceptions
+mod NetPlaces
 mod NetsWork
 mod NumberLemmas
 mod NumberedLemmas

@@ -2,6 +2,7 @@
 
 pub mod components;
 pub mod drawing;
+pub mod ends;
 pub mod invoking;
 pub mod messages;
 pub mod standing;

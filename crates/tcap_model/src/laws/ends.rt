@@ -1,0 +1,11 @@
+//! What two engines rely on that hear one another and nobody else.
+
+ghost use Rattle.tcap_model.specs.HeadlineLaws.{EachIsDecided};
+ghost use Rattle.tcap_model.specs.Net.{Net, IsNet};
+ghost use Rattle.tcap_model.specs.TwoEnds.{Once};
+
+/// Of the possibly many answers to an invocation at most one closes it, where each number of a legal
+/// history is decided (our own).
+pub fn once()
+    ensures { EachIsDecided → (net : Net) → IsNet net → Once net.trace }
+{}
