@@ -2,6 +2,7 @@ mod Apart
 mod BirthLemmas
 mod BornDialogues
 mod BornLemmas
+mod CarriedComponents
 mod ClockLemmas
 mod ComponentPremises
 mod ComponentTellings
@@ -31,6 +32,7 @@ mod OpenNumbers
 mod PeerLemmas
 mod PlaceLemmas
 mod QueuedComponents
+mod QueuedMarks
 mod QuietDialogues
 mod QuietNumbers
 mod ReachedReplies
@@ -45,6 +47,7 @@ mod SendingLemmas
 mod SentAgree
 mod SentClocks
 mod SentComponents
+mod SentInvokes
 mod SentLemmas
 mod SoundReceptions
 mod SpanSteps
@@ -57,5 +60,7 @@ mod ToldLemmas
 mod ToldOutputs
 mod ToldParts
 mod ToldReceptions
+mod WaitingInvokes
+mod WaitingQueues
 mod WrongAnswersGiven
 mod WrongEndsTold

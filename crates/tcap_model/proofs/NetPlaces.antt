@@ -1,9 +1,10 @@
 -- Where the pairs of two engines stand: in the list of both, and in the history of each.
-use Rattle.std.proofs.Common.{◌≡◌, ℕ, Bool, true, false, eqb, List, [], ◌∷◌, ◌++◌, refl, sym, ap, subst, ◌∙◌, inl, inr, IsTrue, bytes_eq}
+use Rattle.std.proofs.Common.{◌≡◌, ℕ, true, List, [], ◌∷◌, ◌++◌, refl, sym, ap, subst, ◌∙◌, inl, inr, append_assoc}
 use Rattle.std.specs.List.{list_any}
 use Rattle.std.proofs.lemmas.Bool.{cases_Bool, or_cases}
+use Rattle.std.proofs.lemmas.Slice.Eq.{bytes_eq-Decides}
 use Rattle.tcap_model.specs.Answer.{Answer}
-use Rattle.tcap_model.specs.Net.{Engine, Marked, Trace, far, is_engine, side, is_send, answer_sends, was_sent, IsCarriedTo, IsCarried}
+use Rattle.tcap_model.specs.Net.{Engine, Marked, Trace, is_engine, side, is_send, answer_sends, was_sent, IsCarriedTo, IsCarried}
 use Rattle.tcap_model.specs.Output.{Output}
 use Rattle.tcap_model.specs.Pair.{Pair, Past}
 use Rattle.tcap_model.specs.Places.{StandsIn, Tells}
@@ -28,6 +29,14 @@ side-append engine (m ∷ later) trace = elim (cases_Bool (is_engine engine m.en
 
 side-own : (engine : Engine) (pair : Pair) (before : Trace) → side engine (record { engine = engine; pair = pair } ∷ before) ≡ pair ∷ side engine before
 side-own engine pair before = rw (own engine) refl
+
+-- what stands before a pair of one engine is the older part of what either did
+pub happens-rest : (other engine : Engine) (pair : Pair) (before trace : Trace) → Happens engine pair before trace → (later : Past) × (side other trace ≡ later ++ side other before)
+happens-rest other engine pair before trace happens =
+    let here : Trace = record { engine = engine; pair = pair } ∷ [] in (
+      side other (happens.later ++ here),
+      ap (side other) (happens.is_trace ∙ sym (append_assoc happens.later here before)) ∙ side-append other (happens.later ++ here) before,
+    )
 
 -- ---- from both to one, and back
 
@@ -60,18 +69,18 @@ stands-at : (engine : Engine) (pair : Pair) (past later : Past) (trace : Trace) 
 stands-at engine pair past [] [] is = absurd cc
 stands-at engine pair past (p ∷ later) [] is = absurd cc
 stands-at engine pair past later (m ∷ trace) is = elim (cases_Bool (is_engine engine m.engine)) [
-  | inl here ↦ let is = is in let is : m.pair ∷ side engine trace ≡ later ++ pair ∷ past = rw here at is in by-later later is here
+  | inl here ↦ let is = is in let is : m.pair ∷ side engine trace ≡ later ++ pair ∷ past = rw here at is in by-later (λ rest more. stands-at engine pair past rest trace more) later is here
   | inr there ↦ let is = is in let is : side engine trace ≡ later ++ pair ∷ past = rw there at is in at-later engine pair past m trace (stands-at engine pair past later trace is)
 ]
   where
-    by-later : (later : Past) → m.pair ∷ side engine trace ≡ later ++ pair ∷ past → is_engine engine m.engine ≡ true → IsAt engine pair past (m ∷ trace)
-    by-later [] is here =
+    by-later : ((rest : Past) → side engine trace ≡ rest ++ pair ∷ past → IsAt engine pair past trace) → (later : Past) → m.pair ∷ side engine trace ≡ later ++ pair ∷ past → is_engine engine m.engine ≡ true → IsAt engine pair past (m ∷ trace)
+    by-later again [] is here =
         let first : m.pair ≡ pair = cc in
         let rest : side engine trace ≡ past = cc in
         subst (λ (p : Past). IsAt engine pair p (m ∷ trace)) rest (subst (λ (p : Pair). IsAt engine p (side engine trace) (m ∷ trace)) first (at-here engine m trace (is_own engine m.engine here)))
-    by-later (p ∷ later) is here =
+    by-later again (p ∷ later) is here =
         let rest : side engine trace ≡ later ++ pair ∷ past = cc in
-        at-later engine pair past m trace (stands-at engine pair past later trace rest)
+        at-later engine pair past m trace (again later rest)
 
 pub stands-happens : (engine : Engine) (pair : Pair) (past : Past) (trace : Trace) → StandsIn pair past (side engine trace) → IsAt engine pair past trace
 stands-happens engine pair past trace stands = stands-at engine pair past stands.later trace stands.is_past
@@ -88,7 +97,7 @@ carried-there engine pair before trace happens all = carried-after happens.later
 -- ---- the pair that sent some bytes
 
 send-is : (bytes : List ℕ) (output : Output) → is_send bytes output ≡ true → output ≡ Output.send bytes
-send-is bytes (Output.send sent) e = ?
+send-is bytes (Output.send sent) e = ap (λ (b : List ℕ). Output.send b) ((bytes_eq-Decides sent bytes).0 e)
 send-is bytes (Output.uni context info) e = absurd cc
 send-is bytes (Output.begin dialogue context info) e = absurd cc
 send-is bytes (Output.go_on dialogue context info) e = absurd cc

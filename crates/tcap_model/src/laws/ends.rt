@@ -2,10 +2,16 @@
 
 ghost use Rattle.tcap_model.specs.HeadlineLaws.{EachIsDecided};
 ghost use Rattle.tcap_model.specs.Net.{Net, IsNet};
-ghost use Rattle.tcap_model.specs.TwoEnds.{Once};
+ghost use Rattle.tcap_model.specs.TwoEnds.{Once, Operations};
 
 /// Of the possibly many answers to an invocation at most one closes it, where each number of a legal
 /// history is decided (our own).
 pub fn once()
     ensures { EachIsDecided → (net : Net) → IsNet net → Once net.trace }
+{}
+
+/// Each Invoke that one user is told has the identifier, linked identifier, code and parameter of an
+/// invoke that the other's engine accepted and sent before (our own).
+pub fn operations()
+    ensures { (net : Net) → IsNet net → Operations net.trace }
 {}
