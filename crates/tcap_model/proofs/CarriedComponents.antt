@@ -2,6 +2,7 @@
 use Rattle.std.proofs.Common.{◌≡◌, ℕ, ℤ, ◌⊎◌, List, [], ◌∷◌, ◌++◌, Option, Some, None, refl, sym, ap, subst, ◌∙◌, inl, inr, append_assoc}
 use Rattle.std.specs.List.{AllByRecursion}
 use Rattle.tcap_pdu.specs.FrameSpelling.{Message, Reason, SpellsFrame}
+use Rattle.tcap_pdu.specs.FrameWritten.{written_frame}
 use Rattle.tcap_pdu.proofs.CallerLemmas.{one_frame}
 use Rattle.tcap_component.specs.Component.{ComponentParts}
 use Rattle.tcap_component.specs.ComponentFault.{FaultParts}
@@ -97,12 +98,13 @@ message-takes d (Request.u_abort AbortReason.not_supported info) = refusing-take
 -- ---- the request that sent some components
 
 -- a message with components was sent for a request on a dialogue, as that stood
-pub record SentOn (past : Past) (event : Event) (m : Message) : Type 0 where
+pub record SentOn (past : Past) (event : Event) (bytes : List ℕ) (m : Message) : Type 0 where
   pub dialogue : ℕ
   pub request : Request
   pub state : State
   pub context : Option (List ℕ)
   pub is_event : event ≡ Event.on_dialogue dialogue request
+  pub is_written : bytes ≡ written_frame m
   pub is_life : life dialogue past ≡ Life.standing state context
   pub takes : Takes (standing_of dialogue past state context) request m
 
@@ -111,10 +113,10 @@ no_items [] later c fault e = absurd cc
 no_items (d ∷ earlier) later c fault e = absurd cc
 
 module _ (h : History) (bytes : List ℕ) (m : Message) (spelled : SpellsFrame m bytes) (earlier later : List ComponentParts) (c : ComponentParts) (fault : Option FaultParts) (read : FirstFault (earlier ++ c ∷ later) fault (portion_of m)) where
-  some_components : portion_of m ≡ [] → ⊥
+  pub some_components : portion_of m ≡ [] → ⊥
   some_components none = no_items earlier later c fault (sym (first_fault_again (earlier ++ c ∷ later) fault (portion_of m) read) ∙ (ap components_of none ∙ components_of-empty))
 
-  pub sent-on : (event : Event) → Tells (reply h event) (Output.send bytes) → SentOn h.pairs event m
+  pub sent-on : (event : Event) → Tells (reply h event) (Output.send bytes) → SentOn h.pairs event bytes m
   sent-on Event.new_dialogue tells = absurd (tells-sends Nothing (reply h Event.new_dialogue) bytes (birth-sends h (birth_due h)) tells)
   sent-on (Event.moment now) tells = absurd (tells-sends Nothing (reply h (Event.moment now)) bytes (moment-sends h.pairs now (moment_fault now)) tells)
   sent-on (Event.received octets) tells =
@@ -126,7 +128,7 @@ module _ (h : History) (bytes : List ℕ) (m : Message) (spelled : SpellsFrame m
       let same : sent.message ≡ m = sym (one_frame m sent.message bytes spelled sent.is_message.spelled) in
       elim (subst (IfTakes d request) (sent.is_asked ∙ ap (λ (x : Message). Some x) same) (message-takes d request)) [
         | inl none ↦ absurd (some_components none)
-        | inr takes ↦ record { dialogue = dialogue; request = request; state = sent.state; context = sent.context; is_event = refl; is_life = sent.is_life; takes = takes }
+        | inr takes ↦ record { dialogue = dialogue; request = request; state = sent.state; context = sent.context; is_event = refl; is_written = sent.is_message.is_written ∙ ap written_frame same; is_life = sent.is_life; takes = takes }
       ]
 
 -- ---- the far pair that sent what is told of
@@ -138,7 +140,7 @@ pub record Carried (net : Net) (engine : Engine) (before : Trace) (event : Event
   pub stands : StandsIn sender past (side (far engine) before)
   pub tells : Tells sender.answer (Output.send told.bytes)
   pub is_legal : AreReplies (net.start (far engine)) (sender ∷ past)
-  pub sent : SentOn past sender.event told.message
+  pub sent : SentOn past sender.event told.bytes told.message
 
 module _ (net : Net) (is : IsNet net) (engine : Engine) (pair : Pair) (before : Trace) (happens : Happens engine pair before net.trace) where
   -- what stands before is legal on both sides

@@ -17,6 +17,10 @@ mod EndPremises
 pub mod EndingsAgree
 mod EndsAgree
 mod EventMarks
+mod FairReplies
+mod FairTellings
+mod FarOrigins
+mod FarPeers
 mod FormedRejects
 mod HeadlineWorks
 mod IsolationWorks

@@ -16,10 +16,12 @@ use Rattle.tcap_component.specs.Problem.{ProblemParts}
 use Rattle.tcap_invocation.specs.declared.class.Class.{Class}
 use Rattle.tcap_model.specs.Closes.{closing_of}
 use Rattle.tcap_model.specs.Deadline.{sent_clock}
-use Rattle.tcap_model.specs.Life.{Life, life_by_message, life_by_verdict, life_if_live}
-use Rattle.tcap_model.specs.Marks.{Mark, Noted, marked, reject_marks, marks_of_component, component_marks, ending, if_normal, marks_by_message, marks_if_live}
+use Rattle.tcap_model.specs.Event.{Event}
+use Rattle.tcap_model.specs.Life.{life_by_event, life_by_request, Life, life_by_message, life_by_verdict, life_if_live}
+use Rattle.tcap_model.specs.Marks.{Mark, Noted, marks_by_event, marks_by_request, marked, reject_marks, marks_of_component, component_marks, ending, if_normal, marks_by_message, marks_if_live}
 use Rattle.tcap_model.specs.Outcome.{first_closing}
 use Rattle.tcap_model.specs.PortionRules.{PortionVerdict, portion_verdict}
+use Rattle.tcap_model.specs.Request.{Request}
 use Rattle.tcap_model.specs.State.{State, is_live}
 use Rattle.tcap_model.proofs.BornDialogues.{noted_at}
 use Rattle.tcap_model.proofs.DecisionSteps.{first_closing-append}
@@ -142,3 +144,49 @@ pub bytes-leave : (id : ℤ) (state : State) (context : Option (List ℕ)) (byte
 bytes-leave id state context bytes stands =
     live-leaves (is_live state) id state context (ending (Life.standing state context) (life_if_live (is_live state) state context bytes)) bytes
     (no-ending state context (life_if_live (is_live state) state context bytes) stands) stands
+
+-- ---- requests that leave an invocation queued
+
+-- all but those that take the queue, and the cancel of this identifier
+abbrev pub SparesAt : ℤ → Request → Type 0
+SparesAt id (Request.invoke named class code parameter linked timeout) = Unit {0}
+SparesAt id (Request.result_last named body) = Unit {0}
+SparesAt id (Request.result_more named body) = Unit {0}
+SparesAt id (Request.error_back named code parameter) = Unit {0}
+SparesAt id (Request.u_reject named problem) = Unit {0}
+SparesAt id (Request.u_cancel named) = int_eq named id ≡ false
+SparesAt id (Request.uni context info) = Unit {0}
+SparesAt id (Request.begin context info) = ⊥
+SparesAt id (Request.go_on context info) = ⊥
+SparesAt id (Request.finish ending context info) = Unit {0}
+SparesAt id (Request.u_abort why info) = Unit {0}
+
+request-leaves : (id : ℤ) (s : State) (c : Option (List ℕ)) (r : Request) → Stands (life_by_request s c r) → SparesAt id r → AllLeave (marks_by_request id (Life.standing s c) (life_by_request s c r) r)
+request-leaves id s c (Request.invoke named class code parameter linked timeout) stands spares = tt
+request-leaves id s c (Request.result_last named body) stands spares = tt
+request-leaves id s c (Request.result_more named body) stands spares = tt
+request-leaves id s c (Request.error_back named code parameter) stands spares = tt
+request-leaves id s c (Request.u_reject named problem) stands spares = tt
+request-leaves id s c (Request.u_cancel named) stands spares = rw spares tt
+request-leaves id s c (Request.uni context info) stands spares = absurd stands
+request-leaves id s c (Request.begin context info) stands spares = absurd spares
+request-leaves id s c (Request.go_on context info) stands spares = absurd spares
+request-leaves id s c (Request.finish ending context info) stands spares = absurd stands
+request-leaves id s c (Request.u_abort why info) stands spares = absurd stands
+
+-- all events
+abbrev pub Spares : ℤ → Event → Bool → Type 0
+Spares id Event.new_dialogue accepted = Unit {0}
+Spares id (Event.on_dialogue dialogue request) true = SparesAt id request
+Spares id (Event.on_dialogue dialogue request) false = Unit {0}
+Spares id (Event.received bytes) accepted = Unit {0}
+Spares id (Event.moment now) accepted = Unit {0}
+
+pub event-leaves : (id : ℤ) (s : State) (c : Option (List ℕ)) (event : Event) (accepted : Bool) → Stands (life_by_event s c event accepted) → Spares id event accepted →
+    AllLeave (marks_by_event id (Life.standing s c) (life_by_event s c event accepted) event accepted)
+event-leaves id s c Event.new_dialogue accepted stands spares = tt
+event-leaves id s c (Event.on_dialogue dialogue request) true stands spares = request-leaves id s c request stands spares
+event-leaves id s c (Event.on_dialogue dialogue request) false stands spares = tt
+event-leaves id s c (Event.received bytes) accepted stands spares = bytes-leave id s c bytes stands
+event-leaves id s c (Event.moment now) true stands spares = (tt, tt)
+event-leaves id s c (Event.moment now) false stands spares = tt

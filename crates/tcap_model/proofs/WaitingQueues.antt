@@ -19,7 +19,7 @@ use Rattle.tcap_model.specs.InRange.{is_in_range, is_request, is_short}
 use Rattle.tcap_model.specs.Invocation.{Invocation, invocation_of, latest, next_number}
 use Rattle.tcap_model.specs.Legal.{AreReplies}
 use Rattle.tcap_model.specs.Life.{Life, life, life_at_birth, life_after, life_by_event, life_by_request, life_if_accepted, life_if_named}
-use Rattle.tcap_model.specs.Marks.{marks_by_event, marks_by_request}
+use Rattle.tcap_model.specs.Marks.{marks_by_event}
 use Rattle.tcap_model.specs.Names.{names}
 use Rattle.tcap_model.specs.Outcome.{outcome, outcome_of}
 use Rattle.tcap_model.specs.Pair.{Pair, Past}
@@ -31,59 +31,14 @@ use Rattle.tcap_model.specs.State.{State}
 use Rattle.tcap_model.proofs.EventMarks.{unnamed_marks, standing_marks}
 use Rattle.tcap_model.proofs.LatestInvocations.{new_number, new_found}
 use Rattle.tcap_model.proofs.QueuedComponents.{accepted-parts, accepted-good}
-use Rattle.tcap_model.proofs.QueuedMarks.{AllLeave, IsUnsent, Stands, bytes-leave}
+use Rattle.tcap_model.proofs.QueuedMarks.{IsUnsent, Stands, SparesAt, Spares, event-leaves}
 use Rattle.tcap_model.proofs.RequestedComponents.{IfGood}
 use Rattle.tcap_model.proofs.SpanSteps.{span_new}
 use Rattle.tcap_model.proofs.SupersededInvocations.{latest_if_open}
 use Rattle.tcap_model.proofs.ToldLemmas.{each-append}
 use Rattle.tcap_model.proofs.WaitingInvokes.{invocation_as, IsAsked, IsNoInvoke, Waits, IsWaiting, AllWait, born-waits, bytes-wait, IsLeft, asked-later, all-later}
 
--- ---- requests that leave an invocation queued
-
--- all but those that take the queue, and the cancel of this identifier
-abbrev SparesAt : ℤ → Request → Type 0
-SparesAt id (Request.invoke named class code parameter linked timeout) = Unit {0}
-SparesAt id (Request.result_last named body) = Unit {0}
-SparesAt id (Request.result_more named body) = Unit {0}
-SparesAt id (Request.error_back named code parameter) = Unit {0}
-SparesAt id (Request.u_reject named problem) = Unit {0}
-SparesAt id (Request.u_cancel named) = int_eq named id ≡ false
-SparesAt id (Request.uni context info) = Unit {0}
-SparesAt id (Request.begin context info) = ⊥
-SparesAt id (Request.go_on context info) = ⊥
-SparesAt id (Request.finish ending context info) = Unit {0}
-SparesAt id (Request.u_abort why info) = Unit {0}
-
-request-leaves : (id : ℤ) (s : State) (c : Option (List ℕ)) (r : Request) → Stands (life_by_request s c r) → SparesAt id r → AllLeave (marks_by_request id (Life.standing s c) (life_by_request s c r) r)
-request-leaves id s c (Request.invoke named class code parameter linked timeout) stands spares = tt
-request-leaves id s c (Request.result_last named body) stands spares = tt
-request-leaves id s c (Request.result_more named body) stands spares = tt
-request-leaves id s c (Request.error_back named code parameter) stands spares = tt
-request-leaves id s c (Request.u_reject named problem) stands spares = tt
-request-leaves id s c (Request.u_cancel named) stands spares = rw spares tt
-request-leaves id s c (Request.uni context info) stands spares = absurd stands
-request-leaves id s c (Request.begin context info) stands spares = absurd spares
-request-leaves id s c (Request.go_on context info) stands spares = absurd spares
-request-leaves id s c (Request.finish ending context info) stands spares = absurd stands
-request-leaves id s c (Request.u_abort why info) stands spares = absurd stands
-
 -- ---- events
-
-abbrev Spares : ℤ → Event → Bool → Type 0
-Spares id Event.new_dialogue accepted = Unit {0}
-Spares id (Event.on_dialogue dialogue request) true = SparesAt id request
-Spares id (Event.on_dialogue dialogue request) false = Unit {0}
-Spares id (Event.received bytes) accepted = Unit {0}
-Spares id (Event.moment now) accepted = Unit {0}
-
-event-leaves : (id : ℤ) (s : State) (c : Option (List ℕ)) (event : Event) (accepted : Bool) → Stands (life_by_event s c event accepted) → Spares id event accepted →
-    AllLeave (marks_by_event id (Life.standing s c) (life_by_event s c event accepted) event accepted)
-event-leaves id s c Event.new_dialogue accepted stands spares = tt
-event-leaves id s c (Event.on_dialogue dialogue request) true stands spares = request-leaves id s c request stands spares
-event-leaves id s c (Event.on_dialogue dialogue request) false stands spares = tt
-event-leaves id s c (Event.received bytes) accepted stands spares = bytes-leave id s c bytes stands
-event-leaves id s c (Event.moment now) true stands spares = (tt, tt)
-event-leaves id s c (Event.moment now) false stands spares = tt
 
 module _ (dialogue : ℕ) (event : Event) (answer : Answer) (past : Past) (s : State) (c : Option (List ℕ)) (lives : life dialogue past ≡ Life.standing s c) where
   abbrev here : Pair

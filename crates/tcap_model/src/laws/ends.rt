@@ -2,7 +2,7 @@
 
 ghost use Rattle.tcap_model.specs.HeadlineLaws.{EachIsDecided};
 ghost use Rattle.tcap_model.specs.Net.{Net, IsNet};
-ghost use Rattle.tcap_model.specs.TwoEnds.{Once, Operations};
+ghost use Rattle.tcap_model.specs.TwoEnds.{Once, Operations, Origin};
 
 /// Of the possibly many answers to an invocation at most one closes it, where each number of a legal
 /// history is decided (our own).
@@ -14,4 +14,10 @@ pub fn once()
 /// invoke that the other's engine accepted and sent before (our own).
 pub fn operations()
     ensures { (net : Net) → IsNet net → Operations net.trace }
+{}
+
+/// Each answer that is told of an invocation comes from an earlier accepted request of the far user, for
+/// its identifier and with its contents, in a far dialogue whose peer is this one (our own).
+pub fn origin()
+    ensures { (net : Net) → IsNet net → Origin net.trace }
 {}
