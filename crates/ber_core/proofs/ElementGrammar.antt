@@ -24,7 +24,7 @@ IsElement-tag zero e h = h.is_tag
 IsElement-tag (suc depth) e (inl h) = h.is_tag
 IsElement-tag (suc depth) e (inr h) = h.is_tag
 
-IsElement-begins : (depth : ℕ) (e : Parts) → IsElement depth e → (more : List ℕ) × (e.whole ≡ e.tag ++ more)
+pub IsElement-begins : (depth : ℕ) (e : Parts) → IsElement depth e → (more : List ℕ) × (e.whole ≡ e.tag ++ more)
 unfolding IsElement
 IsElement-begins zero e h = (h.octets ++ e.content, h.is_whole)
 IsElement-begins (suc depth) e (inl h) = (h.octets ++ e.content, h.is_whole)

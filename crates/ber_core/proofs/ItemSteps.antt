@@ -1,18 +1,18 @@
 -- The items of a list of elements.
 use Rattle.std.proofs.Common.{◌≡◌, ℕ, zero, suc, ◌<◌, ◌≤◌, List, [], ◌∷◌, ◌++◌, length, Ok, Err, Result, refl, sym, ap, ◌∙◌, arith, eqb, inl, inr}
-use Rattle.std.specs.Prelude.{map, option_map, MatchOption, Option, Some, None}
+use Rattle.std.specs.Prelude.{Bool, true, false, is_ok, map, option_map, MatchOption, Option, Some, None}
 use Rattle.std.specs.Iterator.{YieldsFirstBy, MakesProgress, item_count}
 use Rattle.std.proofs.lemmas.Bool.{eqb-true, eqb-false}
 use Rattle.ber_core.proofs.Steps.{chosen}
 use Rattle.ber_core.proofs.OptionSteps.{some_is}
-use Rattle.std.specs.List.{AllByRecursion}
+use Rattle.std.specs.List.{AllByRecursion, list_all}
 use Rattle.ber_core.specs.declared.fault.BerFault.{BerFault}
 use Rattle.ber_core.specs.Element.{Parts, IsElement, joined}
 use Rattle.ber_core.specs.ElementReading.{element_at}
 use Rattle.ber_core.specs.ListReading.{items_by, items_of, items_from, item_of, no_item, item_at}
 use Rattle.ber_core.proofs.ElementGrammar.{element_takes, element_again, IsElement-longer}
 
-shorter : (bytes rest : List ℕ) (e : Parts) → element_at 32 bytes ≡ Ok (e, rest) → length rest < length bytes
+pub shorter : (bytes rest : List ℕ) (e : Parts) → element_at 32 bytes ≡ Ok (e, rest) → length rest < length bytes
 shorter bytes rest e is = let t = element_takes 32 bytes (e, rest) is in IsElement-longer 32 e rest bytes t.0 t.1
 
 abbrev from_is : (others : List ℕ → List (Result Parts BerFault)) (more : List ℕ → List (Result Parts BerFault)) (bytes : List ℕ) → ((rest : List ℕ) → length rest < length bytes → others rest ≡ more rest) → (r : Result (Parts × List ℕ) BerFault) → element_at 32 bytes ≡ r → items_from others r ≡ items_from more r
@@ -87,3 +87,17 @@ item_progress view left s t (Some x) h = record { on = λ _. (tt, tt, omega (ari
 pub items_of-list : (es : List Parts) → AllByRecursion (IsElement 32) es → items_of (joined es) ≡ map (λ (e : Parts). Ok e) es
 items_of-list [] h = items_of-empty
 items_of-list (e ∷ es) h = items_of-next (e.whole ++ joined es) (joined es) e (element_again 32 e (joined es) h.0) ∙ ap (λ (w : List (Result Parts BerFault)). Ok e ∷ w) (items_of-list es h.1)
+
+-- ---- whether all items are elements
+
+abbrev all : List ℕ → Bool
+all bytes = list_all is_ok (items_of bytes)
+
+pub all_next : (bytes rest : List ℕ) (e : Parts) → element_at 32 bytes ≡ Ok (e, rest) → all bytes ≡ all rest
+all_next bytes rest e is = rw (items_of-next bytes rest e is) refl
+
+pub all_fault : (bytes : List ℕ) (f : BerFault) → 0 < length bytes → element_at 32 bytes ≡ Err f → all bytes ≡ false
+all_fault bytes f lt is = rw (items_of-fault bytes f lt is) refl
+
+pub all_none : (bytes : List ℕ) → length bytes ≡ 0 → all bytes ≡ true
+all_none bytes e = rw (items_of-none bytes e) refl

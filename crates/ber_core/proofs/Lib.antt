@@ -14,6 +14,7 @@ pub mod IntegerSteps
 pub mod ItemSteps
 pub mod ObjectIdentifierGrammar
 pub mod Octets
+pub mod PlainElement
 pub mod OptionSteps
 pub mod ResultSteps
 pub mod SequenceGrammar

@@ -1,5 +1,5 @@
 -- What is taken for an object identifier is one, and the other way round.
-use Rattle.std.proofs.Common.{◌≡◌, ◌≢◌, ℕ, ◌+◌, ◌<◌, ◌≤◌, Bool, true, false, cond, ltb, eqb, List, [], ◌∷◌, ◌++◌, length, get_or, drop, refl, ap, ◌∙◌, inl, inr, arith, add-one}
+use Rattle.std.proofs.Common.{◌≡◌, ◌≢◌, ℕ, ◌+◌, ◌<◌, ◌≤◌, Bool, true, false, cond, ltb, eqb, List, [], ◌∷◌, ◌++◌, length, get_or, drop, refl, sym, ap, ◌∙◌, inl, inr, arith, add-one}
 use Rattle.std.specs.List.{flat_map, AllByRecursion}
 use Rattle.std.proofs.Math.Seq.{drop-cons}
 use Rattle.std.proofs.lemmas.List.{drop_all}
@@ -14,6 +14,18 @@ joined_of ss = flat_map (λ (s : List ℕ). s) ss
 pub at-passed : (begins : Bool) (i : ℕ) (octets : List ℕ) → i < length octets → cond begins (eqb (get_or octets i 0) 0x80) false ≡ false → subidentifiers_at (ltb (get_or octets i 0) 0x80) (drop (i + 1) octets) ≡ subidentifiers_at begins (drop i octets)
 unfolding subidentifiers_at
 at-passed begins i octets lt goes = rw (drop-cons octets i 0, goes, add-one i) refl
+
+pub neither : (begins : Bool) → cond begins false false ≡ false
+neither true = refl
+neither false = refl
+
+pub passed_low : (begins : Bool) (i : ℕ) (octets : List ℕ) → i < length octets → get_or octets i 0 < 128 → subidentifiers_at true (drop (i + 1) octets) ≡ subidentifiers_at begins (drop i octets)
+passed_low begins i octets lt low =
+    let goes : cond begins (eqb (get_or octets i 0) 128) false ≡ false = rw (ne_eqb (get_or octets i 0) 128 (λ same. omega (arith, low, same))) (neither begins) in
+    ap (λ (b : Bool). subidentifiers_at b (drop (i + 1) octets)) (sym (lt-ltb (get_or octets i 0) 128 low)) ∙ at-passed begins i octets lt goes
+
+pub passed_high : (begins : Bool) (i : ℕ) (octets : List ℕ) → i < length octets → 128 ≤ get_or octets i 0 → cond begins (eqb (get_or octets i 0) 128) false ≡ false → subidentifiers_at false (drop (i + 1) octets) ≡ subidentifiers_at begins (drop i octets)
+passed_high begins i octets lt high goes = ap (λ (b : Bool). subidentifiers_at b (drop (i + 1) octets)) (sym (le-ltb (get_or octets i 0) 128 high)) ∙ at-passed begins i octets lt goes
 
 pub at-padded : (i : ℕ) (octets : List ℕ) → i < length octets → get_or octets i 0 ≡ 0x80 → subidentifiers_at true (drop i octets) ≡ false
 unfolding subidentifiers_at

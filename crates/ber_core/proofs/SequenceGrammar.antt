@@ -1,12 +1,12 @@
 -- Steps of reading a sequence, against the parts in order.
-use Rattle.std.proofs.Common.{◌≡◌, ℕ, ◌<◌, true, false, eqb, List, [], ◌∷◌, ◌++◌, length, Option, Some, None, Ok, Err, Result, unwrap_or, refl, sym, ap, subst, ◌∙◌, ◌⊎◌, inl, inr, arith, eq-eqb, eqb-true}
+use Rattle.std.proofs.Common.{◌≡◌, ◌≢◌, ℕ, ◌<◌, true, false, eqb, List, [], ◌∷◌, ◌++◌, length, get_or, Option, Some, None, Ok, Err, Result, unwrap_or, refl, sym, ap, subst, ◌∙◌, ◌⊎◌, inl, inr, arith, eq-eqb, eqb-true}
 use Rattle.std.proofs.lemmas.Bool.{cases_Bool}
 use Rattle.ber_core.specs.declared.fault.BerFault.{BerFault}
 use Rattle.ber_core.specs.Element.{Parts, IsElement, joined}
 use Rattle.ber_core.specs.ElementList.{IsList}
 use Rattle.ber_core.specs.ElementReading.{element_at}
 use Rattle.ber_core.specs.HeadReading.{head_at, tag_at}
-use Rattle.ber_core.proofs.ElementGrammar.{element_takes, element_again, IsElement-longer}
+use Rattle.ber_core.proofs.ElementGrammar.{element_takes, element_again, IsElement-begins, IsElement-longer}
 use Rattle.ber_core.specs.Sequence.{Field, InOrder, SpellsSequence}
 use Rattle.ber_core.specs.Sequence.Field.{must, may, filled, any}
 use Rattle.ber_core.specs.SequenceReading.{is_tag, tagged, must_be, content_at, first_whole}
@@ -231,3 +231,32 @@ must-longer tag c fs bytes s = must-some tag c fs s.elements bytes s.is_list s.i
 -- where an element of another tag stands, this one isn't found
 pub other_first : (tag n : ℕ) (c : List ℕ) (fs : List Field) (bytes : List ℕ) → eqb n tag ≡ false → SpellsSequence (must n c ∷ fs) bytes → (tagged tag bytes).0 ≡ None
 other_first tag n c fs bytes other s = (may_again tag None (must n c ∷ fs) bytes other (left_out-before tag (must n c ∷ fs) bytes s)).0
+
+-- an element of this tag begins with it
+begins-with : (tag first : ℕ) (bytes : List ℕ) (p : Parts × List ℕ) → element_at 32 (first ∷ bytes) ≡ Ok p → is_tag tag p.0.tag ≡ true → first ≡ tag
+begins-with tag first bytes p e is =
+    let t = element_takes 32 (first ∷ bytes) p e in
+    let b = IsElement-begins 32 p.0 t.0 in
+    let whole : p.0.whole ≡ tag ∷ b.0 = b.1 ∙ ap (λ (w : List ℕ). w ++ b.0) (is_tag-is tag p.0.tag is) in
+    let same : first ∷ bytes ≡ tag ∷ (b.0 ++ p.1) = t.1 ∙ ap (λ (w : List ℕ). w ++ p.1) whole in
+    cc
+
+tagged-other : (tag first : ℕ) (bytes : List ℕ) → first ≢ tag → tagged tag (first ∷ bytes) ≡ (None, first ∷ bytes)
+unfolding tagged
+tagged-other tag first bytes other = elim (by_result (element_at 32 (first ∷ bytes))) [
+  | inl f ↦ rw f.1 refl
+  | inr p ↦ elim (cases_Bool (is_tag tag p.0.0.tag)) [
+    | inl y ↦ absurd (other (begins-with tag first bytes p.0 p.1 y))
+    | inr n ↦ rw (p.1, n) refl
+  ]
+]
+
+-- where another octet stands first, or none, no element of this tag is found
+pub tagged_other : (tag : ℕ) (bytes : List ℕ) → 0 < length bytes → get_or bytes 0 0 ≢ tag → (None, bytes) ≡ tagged tag bytes
+tagged_other tag [] lt other = absurd (omega arith)
+tagged_other tag (first ∷ bytes) lt other = sym (tagged-other tag first bytes other)
+
+pub tagged_none : (tag : ℕ) (bytes : List ℕ) → length bytes ≡ 0 → (None, bytes) ≡ tagged tag bytes
+unfolding tagged element_at head_at tag_at
+tagged_none tag [] e = refl
+tagged_none tag (b ∷ bytes) e = absurd (omega arith)

@@ -25,6 +25,7 @@ pub struct Element<'a> {
 
 /// The first element, in which `depth` indefinite elements may stand one in another, and what follows
 /// it.
+#[inline(always)]
 fn split_within<'a>(bytes: &'a [u8], depth: u8) -> Result<(Element<'a>, &'a [u8]), BerFault>
     ensures value { Gives (λ r. (parts r.0, r.1.now)) result (element_at depth bytes.now) }
     ensures constructed { IfOk result (λ r. r.0.constructed ≡ is_constructor r.0.tag.now) }
@@ -42,6 +43,7 @@ fn split_within<'a>(bytes: &'a [u8], depth: u8) -> Result<(Element<'a>, &'a [u8]
 }
 
 /// The first element and what follows it, in exact form.
+#[inline(always)]
 fn split_element<'a>(bytes: &'a [u8]) -> Result<(Element<'a>, &'a [u8]), BerFault>
     ensures value { Gives (λ r. (parts r.0, r.1.now)) result (element_at depth_limit bytes.now) }
     ensures constructed { IfOk result (λ r. r.0.constructed ≡ is_constructor r.0.tag.now) }
@@ -50,6 +52,7 @@ fn split_element<'a>(bytes: &'a [u8]) -> Result<(Element<'a>, &'a [u8]), BerFaul
 }
 
 /// Reads the first element, and gives what follows it.
+#[inline(always)]
 pub fn read_element<'a>(bytes: &'a [u8]) -> Result<(Element<'a>, &'a [u8]), BerFault>
     // What is read is an element, and what follows it.
     ensures found { IfOk result (λ r. IsElement depth_limit (parts r.0) × (bytes.now ≡ r.0.whole.now ++ r.1.now)) }

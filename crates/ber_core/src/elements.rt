@@ -1,5 +1,7 @@
-ghost use Rattle.std.specs.Prelude.{◌≡◌, ◌↔◌, IsTrue, is_ok, map, option_map, Ok};
-ghost use Rattle.std.specs.List.{AllPass, list_all};
+ghost use Rattle.std.specs.Prelude.{◌≡◌, ◌≢◌, ◌↔◌, ◌==◌, ◌<◌, bit_and, false, IsTrue, IfOk, IfErr, is_ok, map, option_map, Ok, Err};
+ghost use Rattle.ber_core.specs.Element.{Parts, depth_limit};
+ghost use Rattle.ber_core.specs.ElementReading.{element_at};
+ghost use Rattle.std.specs.List.{list_all};
 ghost use Rattle.ber_core.specs.ListReading.{items_of, item_at};
 ghost use Rattle.ber_core.specs.Views.{item_view};
 
@@ -34,6 +36,7 @@ impl<'a> Iterator for Elements<'a> {
 
     ghost remaining = { item_count items_left };
 
+    #[inline(always)]
     fn next(&mut self) -> Option<Result<Element<'a>, BerFault>> {
         let (item, rest) = split_item(self.rest);
         self.rest = rest;
@@ -43,6 +46,7 @@ impl<'a> Iterator for Elements<'a> {
 
 /// The first item, and what is left behind it: after a fault, nothing.
 #[tactic(auto, unfolding(crate::specs::ListReading::item_at))]
+#[inline(always)]
 fn split_item<'a>(bytes: &'a [u8]) -> (Option<Result<Element<'a>, BerFault>>, &'a [u8])
     ensures { (option_map item_view result.0, result.1.now) ≡ item_at bytes.now }
 {
@@ -55,14 +59,51 @@ fn split_item<'a>(bytes: &'a [u8]) -> (Option<Result<Element<'a>, BerFault>>, &'
     }
 }
 
-/// Whether all items are elements.
-fn are_elements(bytes: &[u8]) -> bool
-    ensures { IsTrue result ↔ AllPass is_ok (items_of bytes.now) }
+/// Whether an element begins with a tag of this one octet and a length of this one octet.
+#[inline(always)]
+fn is_plain(tag: u8, length: u8) -> bool
+    ensures { IsTrue result ↔ ((tag ≢ 0x00) × (bit_and tag 0x1f == 0x1f ≡ false) × (length < 0x80)) }
 {
-    Elements::new(bytes).all(|item| item.is_ok())
+    tag != 0x00 && tag & 0x1f != 0x1f && length < 0x80
+}
+
+/// What follows the first element. One with a tag and a length of one octet each is passed over at
+/// once.
+#[inline(always)]
+fn skip_first(bytes: &[u8]) -> Result<&[u8], BerFault>
+    ensures ok { IfOk result (λ rest. (e : Parts) × (element_at depth_limit bytes.now ≡ Ok (e, rest.now))) }
+    ensures err { IfErr result (λ f. element_at depth_limit bytes.now ≡ Err f) }
+{
+    match bytes {
+        [first, length, body @ ..] if is_plain(*first, *length) && *length as usize <= body.len() =>
+            {
+                let (_, rest) = body.split_at(*length as usize);
+                Ok(rest)
+            }
+        _ => match read_element(bytes) {
+            Ok((_, rest)) => Ok(rest),
+            Err(fault) => Err(fault),
+        },
+    }
+}
+
+/// Whether all items are elements: each is passed over, and none kept.
+#[tactic(auto, using(crate::proofs::ItemSteps::all_fault, crate::proofs::ItemSteps::all_none))]
+fn are_elements(bytes: &[u8]) -> bool
+    ensures { result ≡ list_all is_ok (items_of bytes.now) }
+{
+    let mut rest = bytes;
+    while !rest.is_empty() {
+        let Ok(after) = skip_first(rest) else {
+            return false;
+        };
+        rest = after;
+    }
+    true
 }
 
 /// Whether the bytes are a list of elements.
+#[inline(always)]
 pub fn is_element_list(bytes: &[u8]) -> bool
     ensures { result ≡ list_all is_ok (items_of bytes.now) }
 {

@@ -28,6 +28,7 @@ pub struct Head<'a> {
 }
 
 /// How many further octets a tag has, at the front of what follows its first octet.
+#[inline(always)]
 fn count_further(bytes: &[u8]) -> Result<usize, BerFault>
     ensures value { Gives (λ n. n) result (further_at 4 bytes.now) }
     ensures within { IfOk result (λ n. n ≤ length bytes.now) }
@@ -45,6 +46,7 @@ fn count_further(bytes: &[u8]) -> Result<usize, BerFault>
 
 /// The octets of the tag at the front, and what follows them.
 #[tactic(auto, unfolding(crate::specs::HeadReading::tag_at))]
+#[inline(always)]
 fn split_tag(bytes: &[u8]) -> Result<(&[u8], &[u8]), BerFault>
     ensures value { Gives (λ x. (x.0.now, x.1.now)) result (tag_at bytes.now) }
     ensures shorter { IfOk result (λ x. length x.1.now < length bytes.now) }
@@ -63,6 +65,7 @@ fn split_tag(bytes: &[u8]) -> Result<(&[u8], &[u8]), BerFault>
 }
 
 /// The number that the octets spell, most significant first.
+#[inline(always)]
 fn number(octets: &[u8]) -> Result<usize, BerFault>
     ensures { Gives (λ n. n) result (number_at octets.now) }
 {
@@ -78,6 +81,7 @@ fn number(octets: &[u8]) -> Result<usize, BerFault>
 
 /// The length at the front, `None` if it is indefinite, and what follows its octets.
 #[tactic(auto, unfolding(crate::specs::HeadReading::length_at))]
+#[inline(always)]
 fn split_length(constructed: bool, bytes: &[u8]) -> Result<(Option<usize>, &[u8]), BerFault>
     ensures value { Gives (λ x. (x.0, x.1.now)) result (length_at constructed bytes.now) }
     ensures shorter { IfOk result (λ x. length x.1.now < length bytes.now) }
@@ -106,6 +110,7 @@ fn split_length(constructed: bool, bytes: &[u8]) -> Result<(Option<usize>, &[u8]
 
 /// Reads tag and length, in exact form.
 #[tactic(auto, unfolding(crate::specs::HeadReading::head_at))]
+#[inline(always)]
 fn split_head<'a>(bytes: &'a [u8]) -> Result<Head<'a>, BerFault>
     ensures value { Gives head_fields result (head_at bytes.now) }
     ensures shorter { IfOk result (λ h. length h.rest.now < length bytes.now) }
@@ -122,6 +127,7 @@ fn split_head<'a>(bytes: &'a [u8]) -> Result<Head<'a>, BerFault>
 }
 
 /// Reads the head of the first element. It never answers `TooDeep`.
+#[inline(always)]
 pub fn read_head<'a>(bytes: &'a [u8]) -> Result<Head<'a>, BerFault>
     // What is read is a head, and what follows it.
     ensures found { IfOk result (λ h. BeginsWithHead h.tag.now h.length h.rest.now bytes.now) }

@@ -65,9 +65,9 @@ pub fn read_int(content: &[u8]) -> Option<i32>
     integer(content)
 }
 
-/// Appends an integer in the shortest definite form, or nothing. `tag` is one octet that `read_head`
-/// reads as a tag (X.690, Encoding of an integer value).
-pub fn write_int<A: Allocator + Copy>(
+/// The same as `write_int`, for an integer of any length.
+#[inline(never)]
+fn append_int<A: Allocator + Copy>(
     out: &mut Vec<u8, A>,
     tag: u8,
     value: i32,
@@ -75,8 +75,6 @@ pub fn write_int<A: Allocator + Copy>(
     requires { IsTag (tag ∷ []) }
     ensures ok { OnOk result (out.new.items ≡ out.old.items ++ written (tag ∷ []) (integer_octets value)) }
     ensures err { OnErr result (out.new.items ≡ out.old.items) }
-    // What is written is the number.
-    ensures spelled { IsInteger value (integer_octets value) }
 {
     let word = value.cast_unsigned();
     let a = (word / 0x100_0000) as u8;
@@ -91,6 +89,28 @@ pub fn write_int<A: Allocator + Copy>(
         write_element(out, &[tag], &[b, c, d])
     } else {
         write_element(out, &[tag], &[a, b, c, d])
+    }
+}
+
+/// Appends an integer in the shortest definite form, or nothing. `tag` is one octet that `read_head`
+/// reads as a tag (X.690, Encoding of an integer value).
+#[inline(always)]
+pub fn write_int<A: Allocator + Copy>(
+    out: &mut Vec<u8, A>,
+    tag: u8,
+    value: i32,
+) -> Result<(), OutOfMemory>
+    requires { IsTag (tag ∷ []) }
+    ensures ok { OnOk result (out.new.items ≡ out.old.items ++ written (tag ∷ []) (integer_octets value)) }
+    ensures err { OnErr result (out.new.items ≡ out.old.items) }
+    // What is written is the number.
+    ensures spelled { IsInteger value (integer_octets value) }
+{
+    if -0x80 <= value && value < 0x80 {
+        let octet = (value.cast_unsigned() % 0x100) as u8;
+        write_element(out, &[tag], &[octet])
+    } else {
+        append_int(out, tag, value)
     }
 }
 

@@ -10,10 +10,13 @@ fn are_subidentifiers(content: &[u8]) -> bool
 {
     let mut begins = true;
     for octet in content {
-        if begins && *octet == 0x80 {
+        if *octet < 0x80 {
+            begins = true;
+        } else if *octet == 0x80 && begins {
             return false;
+        } else {
+            begins = false;
         }
-        begins = *octet < 0x80;
     }
     begins
 }

@@ -14,6 +14,7 @@ pub const MAX_DEPTH: u8 = 32;
 
 /// Inside an indefinite element: what follows its end, or `None` where an element begins.
 #[tactic(auto, unfolding(crate::specs::ElementReading::end_at))]
+#[inline(always)]
 fn contents_end(bytes: &[u8]) -> Result<Option<&[u8]>, BerFault>
     ensures value { Gives (λ o. option_map (λ rest. rest.now) o) result (end_at bytes.now) }
     ensures shorter { IfOk result (λ o. IfSome o (λ rest. length rest.now + 2 ≤ length bytes.now)) }
@@ -29,6 +30,7 @@ fn contents_end(bytes: &[u8]) -> Result<Option<&[u8]>, BerFault>
 /// The content of an element whose head says `len`, and what follows the element; `depth`
 /// indefinite elements may stand one in another.
 #[cycle(scan)]
+#[inline(always)]
 pub fn split_body<'a>(
     len: Option<usize>,
     body: &'a [u8],
@@ -58,6 +60,7 @@ pub fn split_body<'a>(
 
 /// What follows the first element, in which `depth` indefinite elements may stand one in another.
 #[cycle(scan)]
+#[inline(always)]
 fn skip_element(bytes: &[u8], depth: u8) -> Result<&[u8], BerFault>
     ensures value { Gives (λ rest. rest.now) result (after_at depth bytes.now) }
     ensures shorter { IfOk result (λ rest. length rest.now < length bytes.now) }

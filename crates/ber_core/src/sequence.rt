@@ -4,10 +4,10 @@ ghost use Rattle.ber_core.specs.Views.{parts};
 
 use crate::element::{Element, read_element};
 
-/// The content of the first element, if it has this tag of one octet, and what follows it; else
-/// nothing and all bytes.
+/// The same of bytes that may begin with the tag.
 #[tactic(auto, unfolding(crate::specs::SequenceReading::tagged))]
-pub fn take_tagged<'a>(bytes: &'a [u8], tag: u8) -> (Option<&'a [u8]>, &'a [u8])
+#[inline(always)]
+fn read_tagged<'a>(bytes: &'a [u8], tag: u8) -> (Option<&'a [u8]>, &'a [u8])
     ensures { (option_copied result.0, result.1.now) ≡ tagged tag bytes.now }
 {
     match read_element(bytes) {
@@ -19,7 +19,22 @@ pub fn take_tagged<'a>(bytes: &'a [u8], tag: u8) -> (Option<&'a [u8]>, &'a [u8])
     }
 }
 
+/// The content of the first element, if it has this tag of one octet, and what follows it; else
+/// nothing and all bytes. Where another octet stands first, no element is read.
+#[tactic(auto, using(crate::proofs::SequenceGrammar::tagged_none, crate::proofs::SequenceGrammar::tagged_other))]
+#[inline(always)]
+pub fn take_tagged<'a>(bytes: &'a [u8], tag: u8) -> (Option<&'a [u8]>, &'a [u8])
+    ensures { (option_copied result.0, result.1.now) ≡ tagged tag bytes.now }
+{
+    match bytes {
+        [] => (None, bytes),
+        [first, ..] if *first != tag => (None, bytes),
+        [_, ..] => read_tagged(bytes, tag),
+    }
+}
+
 /// The content of the first element, which has to have this tag, and what follows it.
+#[inline(always)]
 pub fn take_content<'a>(bytes: &'a [u8], tag: u8) -> Option<(&'a [u8], &'a [u8])>
     ensures { option_map (λ r. (r.0.now, r.1.now)) result ≡ content_at tag bytes.now }
 {
@@ -31,6 +46,7 @@ pub fn take_content<'a>(bytes: &'a [u8], tag: u8) -> Option<(&'a [u8], &'a [u8])
 
 /// The octets of the first element, whatever its tag, and what follows it; else nothing and all bytes.
 #[tactic(auto, unfolding(crate::specs::SequenceReading::first_whole))]
+#[inline(always)]
 pub fn take_any<'a>(bytes: &'a [u8]) -> (Option<&'a [u8]>, &'a [u8])
     ensures { (option_copied result.0, result.1.now) ≡ first_whole bytes.now }
 {
@@ -42,6 +58,7 @@ pub fn take_any<'a>(bytes: &'a [u8]) -> (Option<&'a [u8]>, &'a [u8])
 
 /// The content of the one element that the bytes are, which has to have this tag.
 #[tactic(auto, unfolding(crate::specs::SequenceReading::only_at))]
+#[inline(always)]
 pub fn take_only<'a>(bytes: &'a [u8], tag: u8) -> Option<&'a [u8]>
     ensures { option_copied result ≡ only_at tag bytes.now }
 {
@@ -54,6 +71,7 @@ pub fn take_only<'a>(bytes: &'a [u8], tag: u8) -> Option<&'a [u8]>
 
 /// The element, if the bytes are one element and nothing after it.
 #[tactic(auto, unfolding(crate::specs::SequenceReading::alone_at))]
+#[inline(always)]
 pub fn read_alone<'a>(bytes: &'a [u8]) -> Option<Element<'a>>
     ensures { option_map parts result ≡ alone_at bytes.now }
 {

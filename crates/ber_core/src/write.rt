@@ -1,4 +1,4 @@
-ghost use Rattle.std.specs.Prelude.{◌≡◌, ◌≤◌, ◌++◌, OnOk, OnErr, length};
+ghost use Rattle.std.specs.Prelude.{◌≡◌, ◌+◌, ◌≤◌, ◌++◌, [], ◌∷◌, OnOk, OnErr, IsOk, length, vec_len, vec_capacity};
 ghost use Rattle.ber_core.specs.Length.{length_limit};
 ghost use Rattle.ber_core.specs.Tag.{IsTag};
 ghost use Rattle.ber_core.specs.Written.{length_octets, written_head, written};
@@ -7,7 +7,7 @@ use crate::fault::OutOfMemory;
 use std::alloc::Allocator;
 
 /// Appends all three or none.
-fn append<A: Allocator + Copy>(
+fn append_all<A: Allocator + Copy>(
     out: &mut Vec<u8, A>,
     first: &[u8],
     second: &[u8],
@@ -42,16 +42,110 @@ fn append_element<A: Allocator + Copy>(
     let high = (len / 256) as u8;
     let low = (len % 256) as u8;
     if len < 128 {
-        append(out, tag, &[low], content)
+        append_all(out, tag, &[low], content)
     } else if len < 256 {
-        append(out, tag, &[0x81, low], content)
+        append_all(out, tag, &[0x81, low], content)
     } else {
-        append(out, tag, &[0x82, high, low], content)
+        append_all(out, tag, &[0x82, high, low], content)
     }
+}
+
+/// The most octets that are appended one by one.
+const FEW: usize = 8;
+
+/// Appends octets one by one, for which there is room.
+#[inline(always)]
+fn push_all<A: Allocator + Copy>(out: &mut Vec<u8, A>, octets: &[u8])
+    requires { vec_len out.old + length octets.now ≤ vec_capacity out.old }
+    ensures { out.new.items ≡ out.old.items ++ octets.now }
+{
+    for octet in octets {
+        out.push_reserved(*octet);
+    }
+}
+
+/// Appends octets, for which there is room: a few one by one, more at once.
+#[inline(always)]
+fn append<A: Allocator + Copy>(out: &mut Vec<u8, A>, octets: &[u8]) -> Result<(), OutOfMemory>
+    requires { vec_len out.old + length octets.now ≤ vec_capacity out.old }
+    ensures ok { OnOk result (out.new.items ≡ out.old.items ++ octets.now) }
+    ensures err { IsOk result }
+{
+    if octets.len() <= FEW {
+        push_all(out, octets);
+    } else {
+        out.extend_from_slice(octets)?;
+    }
+    Ok(())
+}
+
+/// The same as `write_head`, for a tag of one octet.
+#[inline(always)]
+fn append_head<A: Allocator + Copy>(
+    out: &mut Vec<u8, A>,
+    tag: u8,
+    len: usize,
+) -> Result<(), OutOfMemory>
+    requires { len ≤ length_limit }
+    ensures ok { OnOk result (out.new.items ≡ out.old.items ++ written_head (tag ∷ []) len) }
+    ensures err { OnErr result (out.new.items ≡ out.old.items) }
+{
+    let high = (len / 256) as u8;
+    let low = (len % 256) as u8;
+    if len < 128 {
+        out.reserve(2)?;
+        out.push_reserved(tag);
+        out.push_reserved(low);
+    } else if len < 256 {
+        out.reserve(3)?;
+        out.push_reserved(tag);
+        out.push_reserved(0x81);
+        out.push_reserved(low);
+    } else {
+        out.reserve(4)?;
+        out.push_reserved(tag);
+        out.push_reserved(0x82);
+        out.push_reserved(high);
+        out.push_reserved(low);
+    }
+    Ok(())
+}
+
+/// The same as `write_element`, for a tag of one octet.
+#[inline(always)]
+fn append_content<A: Allocator + Copy>(
+    out: &mut Vec<u8, A>,
+    tag: u8,
+    content: &[u8],
+) -> Result<(), OutOfMemory>
+    requires { length content.now ≤ length_limit }
+    ensures ok { OnOk result (out.new.items ≡ out.old.items ++ written (tag ∷ []) content.now) }
+    ensures err { OnErr result (out.new.items ≡ out.old.items) }
+{
+    let high = (content.len() / 256) as u8;
+    let low = (content.len() % 256) as u8;
+    if content.len() < 128 {
+        out.reserve(2 + content.len())?;
+        out.push_reserved(tag);
+        out.push_reserved(low);
+    } else if content.len() < 256 {
+        out.reserve(3 + content.len())?;
+        out.push_reserved(tag);
+        out.push_reserved(0x81);
+        out.push_reserved(low);
+    } else {
+        out.reserve(4 + content.len())?;
+        out.push_reserved(tag);
+        out.push_reserved(0x82);
+        out.push_reserved(high);
+        out.push_reserved(low);
+    }
+    append(out, content)
 }
 
 /// Appends a tag and the shortest definite length, or nothing. `tag` is one that `read_head` reads,
 /// `len` is in octets, at most 65,535 (X.690, Length octets).
+#[inline(always)]
 pub fn write_head<A: Allocator + Copy>(
     out: &mut Vec<u8, A>,
     tag: &[u8],
@@ -62,11 +156,15 @@ pub fn write_head<A: Allocator + Copy>(
     ensures ok { OnOk result (out.new.items ≡ out.old.items ++ written_head tag.now len) }
     ensures err { OnErr result (out.new.items ≡ out.old.items) }
 {
-    append_element(out, tag, len, &[])
+    match tag {
+        [only] => append_head(out, *only, len),
+        _ => append_element(out, tag, len, &[]),
+    }
 }
 
 /// Appends an element in the shortest definite form, or nothing. `tag` is one that `read_head` reads,
 /// `content` has at most 65,535 octets (X.690, Structure of an encoding).
+#[inline(always)]
 pub fn write_element<A: Allocator + Copy>(
     out: &mut Vec<u8, A>,
     tag: &[u8],
@@ -77,5 +175,8 @@ pub fn write_element<A: Allocator + Copy>(
     ensures ok { OnOk result (out.new.items ≡ out.old.items ++ written tag.now content.now) }
     ensures err { OnErr result (out.new.items ≡ out.old.items) }
 {
-    append_element(out, tag, content.len(), content)
+    match tag {
+        [only] => append_content(out, *only, content),
+        _ => append_element(out, tag, content.len(), content),
+    }
 }

@@ -3,9 +3,9 @@ use Rattle.std.proofs.Common.{◌≡◌, ℕ, List, [], ◌∷◌, Option, Some,
 use Rattle.std.specs.Option.{option_map}
 use Rattle.std.specs.List.{AllByRecursion}
 use Rattle.ber_core.specs.Element.{Parts, IsElement, depth_limit}
-use Rattle.ber_core.specs.Sequence.{Field, InOrder, SpellsSequence}
+use Rattle.ber_core.specs.Sequence.{Field, InOrder}
 use Rattle.ber_core.specs.Sequence.Field.{must, may, any}
-use Rattle.tcap_component.specs.Component.{CodeParts, BodyParts, ComponentParts, identifier, code_field, body_fields, HoldsBody, IsCode, IsBody, InRange, SpellsComponent}
+use Rattle.tcap_component.specs.Component.{CodeParts, BodyParts, ComponentParts, identifier, code_field, HoldsBody, IsCode, IsBody, InRange, SpellsComponent}
 use Rattle.tcap_component.specs.Component.CodeParts.{local, global}
 use Rattle.tcap_component.specs.Component.ComponentParts.{invoke, result_last, error_back, reject_back, result_more}
 use Rattle.tcap_component.specs.Written.{coded_part, CanCode, CanHold, HasCode, HasParameter}

@@ -43,6 +43,7 @@ impl<'a> Iterator for Components<'a> {
 
     ghost remaining = { item_count components_left };
 
+    #[inline(always)]
     fn next(&mut self) -> Option<Result<Component<'a>, ComponentFault>> {
         if self.rest.is_empty() {
             return None;

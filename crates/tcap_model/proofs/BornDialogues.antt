@@ -84,6 +84,7 @@ no_marks dialogue id pair past e = go (life dialogue past) e
   where
     none : List Noted
     none = []
+
     go : (l : Life) → was_alive l ≡ false → noted_at (clock past) (marks_after_birth dialogue id l pair) ≡ none
     go Life.unborn e = refl
     go (Life.standing s c) e = absurd cc
@@ -102,6 +103,7 @@ span_unborn i (pair ∷ past) e = go (is_some (invocation_of i.number past)) (is
   where
     before : was_alive (life i.dialogue past) ≡ false
     before = was_unborn i.dialogue pair past e
+
     go : (m u : Bool) → is_some (invocation_of i.number past) ≡ m → is_reused i (pair ∷ past) ≡ u → span i past ≡ [] → span i (pair ∷ past) ≡ []
     go false u p q more = span_new i pair past p
     go true true p q more = span_stays i pair past p q ∙ more

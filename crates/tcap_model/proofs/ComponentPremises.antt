@@ -1,5 +1,5 @@
 -- What is sent and told, from what each answer of a list is.
-use Rattle.std.proofs.Common.{◌≡◌, ℕ, ℤ, List, [], ◌∷◌, ◌++◌, Option, Some, None, Ok, Err, Result, refl, ap, subst, sym, ◌∙◌, ◌⊎◌}
+use Rattle.std.proofs.Common.{◌≡◌, ℕ, List, [], ◌∷◌, Option, Some, None, Ok, Err, Result, refl, ap, subst, sym, ◌∙◌, ◌⊎◌}
 use Rattle.std.specs.List.{AllByRecursion}
 use Rattle.tcap_pdu.specs.declared.fault.FrameFault.{FrameFault}
 use Rattle.tcap_pdu.specs.FrameReading.{frame_at}
@@ -10,13 +10,11 @@ use Rattle.tcap_component.specs.ComponentFault.{FaultParts}
 use Rattle.tcap_component.specs.ComponentList.{FirstFault, items}
 use Rattle.tcap_component.specs.ComponentReading.{components_of}
 use Rattle.tcap_component.proofs.CallerLemmas.{first_fault_again, first_fault_is}
-use Rattle.tcap_model.proofs.PlaceLemmas.{Everywhere, at_place, outputs_of}
-use Rattle.tcap_model.specs.Answer.{Answer}
+use Rattle.tcap_model.proofs.PlaceLemmas.{Everywhere, at_place, outputs_of, told_there}
 use Rattle.tcap_model.specs.ComponentLaws.{portion_of, SentFromOne, SentFrom, ToldFromOne, ToldFrom, IsOfComponent}
 use Rattle.tcap_model.specs.Event.{Event}
 use Rattle.tcap_model.specs.Output.{Output, Closing, Rejector}
 use Rattle.tcap_model.specs.Pair.{Pair, Past}
-use Rattle.tcap_model.specs.Places.{StandsIn, Tells}
 
 -- ---- components and the first fault
 
@@ -60,14 +58,19 @@ first_fault_at content cs f is =
     let same : items first.0 first.1 ≡ items cs f = sym first.3 ∙ is in
     subst (λ (g : Option FaultParts). FirstFault cs g content) (same_unread first.0 cs first.1 f same) (subst (λ (ds : List ComponentParts). FirstFault ds first.1 content) (same_read first.0 cs first.1 f same) first.2)
 
--- ---- outputs
+-- The message that was read, if one was.
+abbrev message_read : Result Message FrameFault → Message
+message_read (Ok m) = m
+message_read (Err f) = Message.unidirectional None []
 
-all_there : (P : Output → Type 0) (earlier later : List Output) (output : Output) → AllByRecursion P (earlier ++ output ∷ later) → P output
-all_there P [] later output all = all.0
-all_there P (first ∷ earlier) later output all = all_there P earlier later output all.1
+message_is : (bytes : List ℕ) (m n : Message) → frame_at bytes ≡ Ok m → frame_at bytes ≡ Ok n → m ≡ n
+message_is bytes m n is also = ap message_read (sym is ∙ also)
 
-told_there : (P : Output → Type 0) (answer : Answer) (output : Output) → Tells answer output → AllByRecursion P (outputs_of answer) → P output
-told_there P answer output tells all = all_there P tells.earlier tells.later output (subst (λ (a : Answer). AllByRecursion P (outputs_of a)) tells.is_answer all)
+-- Components that bytes spell are those that are read.
+pub spelled_read : (bytes : List ℕ) (m n : Message) (cs ds : List ComponentParts) (f g : Option FaultParts) → frame_at bytes ≡ Ok n → components_of (portion_of n) ≡ items ds g → SpellsFrame m bytes → FirstFault cs f (portion_of m) → cs ≡ ds
+spelled_read bytes m n cs ds f g is listed spells first =
+    let same : m ≡ n = message_is bytes m n (frame_again m bytes spells) is in
+    same_read cs ds f g (sym (first_fault_again cs f (portion_of m) first) ∙ (ap (λ (k : Message). components_of (portion_of k)) same ∙ listed))
 
 -- ---- what is sent
 
@@ -87,14 +90,6 @@ SentSo event before (Output.local_reject dialogue id problem) = Unit {0}
 SentSo event before (Output.remote_reject dialogue id problem by) = Unit {0}
 SentSo event before (Output.closed dialogue number id closing) = Unit {0}
 SentSo event before (Output.dropped why) = Unit {0}
-
--- The message that was read, if one was.
-abbrev message_read : Result Message FrameFault → Message
-message_read (Ok m) = m
-message_read (Err f) = Message.unidirectional None []
-
-message_is : (bytes : List ℕ) (m n : Message) → frame_at bytes ≡ Ok m → frame_at bytes ≡ Ok n → m ≡ n
-message_is bytes m n is also = ap message_read (sym is ∙ also)
 
 pub sent_from : (past : Past) → Everywhere (λ (pair : Pair) before. AllByRecursion (SentSo pair.event before) (outputs_of pair.answer)) past → SentFrom past
 sent_from past all pair before bytes m components fault stands tells spells first =

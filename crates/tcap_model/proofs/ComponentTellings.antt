@@ -1,10 +1,8 @@
 -- What the components of a message tell of an invocation is what their marks decide.
-use Rattle.std.proofs.Common.{◌≡◌, ℕ, ℤ, zero, suc, ◌==◌, Bool, true, false, cond, ◌&&◌, List, [], ◌∷◌, ◌++◌, length, map, Option, Some, None, Result, Ok, Err, refl, ap, sym, ◌∙◌, subst, arith, append_assoc}
-use Rattle.std.proofs.lemmas.Bool.Decides.{nat_tests, Decides-int_eq}
-use Rattle.std.proofs.lemmas.List.{append-nil, map-append}
+use Rattle.std.proofs.Common.{◌≡◌, ℕ, ℤ, zero, suc, ◌==◌, true, cond, ◌&&◌, List, [], ◌∷◌, ◌++◌, length, Option, Some, None, Result, Ok, Err, refl, ap, sym, ◌∙◌, append_assoc}
+use Rattle.std.proofs.lemmas.List.{map-append}
 use Rattle.std.specs.Prelude.{is_none, is_some}
 use Rattle.std.specs.Option.{option_or}
-use Rattle.std.specs.Ordering.{int_eq}
 use Rattle.tcap_component.specs.Component.{ComponentParts, CodeParts, BodyParts}
 use Rattle.tcap_component.specs.ComponentFault.{FaultParts}
 use Rattle.tcap_component.specs.ComponentReading.{component_at, components_from, components_by, components_of}
@@ -13,27 +11,19 @@ use Rattle.tcap_component.specs.declared.problem.Kind.TheVariants as kind
 use Rattle.tcap_component.specs.Problem.{ProblemParts}
 use Rattle.tcap_invocation.specs.declared.class.Class.{Class}
 use Rattle.tcap_invocation.specs.declared.class.Class.TheVariants.{One, Two, Three, Four}
-use Rattle.tcap_invocation.specs.Class.{Received, Consequence, class_rule}
+use Rattle.tcap_invocation.specs.Class.{Received, class_rule}
 use Rattle.tcap_model.proofs.BornDialogues.{noted_at}
-use Rattle.tcap_model.proofs.DecisionSteps.{closing_after-append, first_closing-append, number_found}
-use Rattle.tcap_model.proofs.LatestInvocations.{IsLatest, latest_is}
-use Rattle.tcap_model.proofs.ToldOutputs.{told, IsOther, handled_other, invoke_silent}
-use Rattle.tcap_model.specs.Clock.{clock}
+use Rattle.tcap_model.proofs.ToldOutputs.{told, IsOther, handled_other}
 use Rattle.tcap_model.specs.Closes.{closing_of, closing_by}
 use Rattle.tcap_model.specs.Closings.{Told, told_by_output}
-use Rattle.tcap_model.specs.ComponentHandling.{Item, SentInvocation, handled, subject_of, told_of, result_handled, error_handled, reject_handled, result_by, error_by, reject_by}
-use Rattle.tcap_model.specs.Deadline.{sent_clock}
+use Rattle.tcap_model.specs.ComponentHandling.{Item, SentInvocation, subject_of, told_of, result_handled, error_handled, reject_handled, result_by, error_by, reject_by}
 use Rattle.tcap_model.specs.Decision.{told_of as decided_told, as_list}
-use Rattle.tcap_model.specs.History.{Start}
-use Rattle.tcap_model.specs.Invocation.{Invocation, invocation_of, latest}
-use Rattle.tcap_model.specs.Legal.{AreReplies}
-use Rattle.tcap_model.specs.Marks.{Mark, Noted, marked, reject_marks, marks_of_component, component_marks}
-use Rattle.tcap_model.specs.Outcome.{closing_after, first_closing}
+use Rattle.tcap_model.specs.Invocation.{Invocation, latest}
+use Rattle.tcap_model.specs.Marks.{Mark, marks_of_component, component_marks}
 use Rattle.tcap_model.specs.Output.{Closing}
 use Rattle.tcap_model.specs.Pair.{Past}
 use Rattle.tcap_model.specs.Problems.{remote_rejector}
-use Rattle.tcap_model.specs.Queue.{marks_up_to, if_sent, sent_there, handled_after}
-use Rattle.tcap_model.specs.Span.{span}
+use Rattle.tcap_model.specs.Queue.{if_sent, sent_there, handled_after}
 
 -- ---- a fault is the last of the components
 

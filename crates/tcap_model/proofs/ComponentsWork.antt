@@ -2,7 +2,7 @@
 use Rattle.std.proofs.Common.{◌≡◌, ℕ, ℤ, pos, negsuc, List, [], ◌∷◌, Option, Some, None, false, length, refl, sym, ap, subst, ◌∙◌, inl, inr}
 use Rattle.std.specs.Prelude.{drop, take, ◌==◌}
 use Rattle.std.proofs.lemmas.Bool.{false≢true}
-use Rattle.tcap_pdu.specs.FrameSpelling.{Message, SpellsFrame}
+use Rattle.tcap_pdu.specs.FrameSpelling.{SpellsFrame}
 use Rattle.tcap_pdu.proofs.CallerLemmas.{frame_takes}
 use Rattle.tcap_component.specs.Component.{ComponentParts, CodeParts, component_tag}
 use Rattle.tcap_component.specs.ComponentList.{FirstFault}
@@ -14,15 +14,15 @@ use Rattle.tcap_model.specs.Answer.{Answer}
 use Rattle.tcap_model.specs.ComponentLaws.{portion_of, WasRequested, WasFormed, ComesFrom, SentFromOne, SentFrom, StandsFor, IsOfComponent, ToldFromOne, ToldFrom}
 use Rattle.tcap_model.specs.Computing.{computing}
 use Rattle.tcap_model.specs.Event.{Event}
-use Rattle.tcap_model.specs.ExampleValues.{context, begin_with_aarq, general, code}
+use Rattle.tcap_model.specs.ExampleValues.{context, begin_with_aarq, result_of_first, general, of_result, code}
 use Rattle.tcap_model.specs.Hex.{hex}
 use Rattle.tcap_model.specs.Output.{Output}
 use Rattle.tcap_model.specs.Pair.{Pair, Past}
 use Rattle.tcap_model.specs.Places.{StandsIn, Tells}
 use Rattle.tcap_model.specs.Request.{Request}
-use Rattle.tcap_model.specs.WorkedComponents.{past, begin_sent, begin_pair, begin_message, two_invokes, before_the_begin, reject_sent, reject_pair, reject_message, reject, before_the_reject, result_received, result_told, result_pair, result_message, result, unknown_component, before_the_result, begun, invoke_told, begun_pair, begun_message, invoke_read, crossed_queues, crossed_sent, crossed_message, crossed_invoke}
+use Rattle.tcap_model.specs.WorkedComponents.{past, begin_sent, begin_pair, begin_message, two_invokes, before_the_begin, reject_sent, reject_pair, reject_message, reject, before_the_reject, late, first_message, first_invoke, late_message, late_reject, result_received, result_told, result_pair, result_message, result, unknown_component, before_the_result, begun, invoke_told, begun_pair, begun_message, invoke_read, crossed_queues, crossed_sent, crossed_message, crossed_invoke}
 use Rattle.tcap_model.specs.WorkedWrong.{GoesWrong, whole}
-use Rattle.tcap_model.specs.WorkedWords.{born, invoke, plain_begin, plain_continue, continued}
+use Rattle.tcap_model.specs.WorkedWords.{born, invoke, receive, plain_begin, plain_continue, continued}
 
 -- ---- the Begin that is sent
 
@@ -46,7 +46,9 @@ first-requested = record {
   before = born 1 ∷ [];
   request = Request.invoke (negsuc 127) One (code 10) None None 1000;
   stands = record { later = take 1 before_the_begin; is_past = refl };
-  is_event = refl; accepted = refl; is_component = refl;
+  is_event = refl;
+  accepted = refl;
+  is_component = refl;
 }
 
 second-requested : WasRequested 1 (ComponentParts.invoke (pos 127) None (code 10) None) before_the_begin
@@ -55,7 +57,9 @@ second-requested = record {
   before = drop 1 before_the_begin;
   request = Request.invoke (pos 127) One (code 10) None None 1000;
   stands = record { later = []; is_past = refl };
-  is_event = refl; accepted = refl; is_component = refl;
+  is_event = refl;
+  accepted = refl;
+  is_component = refl;
 }
 
 pub begin-sent-from : SentFromOne begin_pair.event before_the_begin two_invokes None
@@ -98,8 +102,47 @@ reject-sent-from = record { dialogue = 1; request = plain_continue; is_event = r
 pub past-sent-from : SentFrom past
 unfolding computing
 past-sent-from = sent_from past (
-    ((reject_message, reject, None, refl, refl, inr reject-sent-from), tt),
-    ((tt, (tt, (tt, tt))), (((begin_message, two_invokes, None, refl, refl, inr begin-sent-from), tt), (tt, (tt, (tt, tt))))))
+  ((reject_message, reject, None, refl, refl, inr reject-sent-from), tt),
+  ((tt, (tt, (tt, tt))), (((begin_message, two_invokes, None, refl, refl, inr begin-sent-from), tt), (tt, (tt, (tt, tt))))),
+)
+
+-- ---- a late result
+
+late-requested : WasRequested 1 first_invoke (drop 6 late)
+late-requested = record {
+  pair = invoke 1 (pos 1) One (pos 10) 1000 (Answer.number 1);
+  before = born 1 ∷ [];
+  request = Request.invoke (pos 1) One (code 10) None None 1000;
+  stands = record { later = []; is_past = refl };
+  is_event = refl;
+  accepted = refl;
+  is_component = refl;
+}
+
+late-formed : WasFormed 1 late_reject (drop 2 late)
+late-formed = record {
+  pair = receive result_of_first (continued 1 ∷ Output.local_reject (Some 1) (Some (pos 1)) (of_result 0) ∷ []);
+  before = drop 3 late;
+  bytes = result_of_first;
+  id = Some (pos 1);
+  problem = of_result 0;
+  output = Output.local_reject (Some 1) (Some (pos 1)) (of_result 0);
+  stands = record { later = []; is_past = refl };
+  is_event = refl;
+  is_component = refl;
+  tells = record { earlier = continued 1 ∷ []; later = []; is_answer = refl };
+  is_told = inl refl;
+}
+
+pub late-sent-from : SentFrom late
+unfolding computing
+late-sent-from = sent_from late (
+  tt,
+  (
+    ((late_message, late_reject ∷ [], None, refl, refl, inr (record { dialogue = 1; request = plain_continue; is_event = refl; each = (inr late-formed, tt); no_fault = refl })), tt),
+    ((tt, (tt, tt)), ((tt, tt), (tt, (((first_message, first_invoke ∷ [], None, refl, refl, inr (record { dialogue = 1; request = plain_begin; is_event = refl; each = (inl late-requested, tt); no_fault = refl })), tt), (tt, (tt, tt)))))),
+  ),
+)
 
 -- ---- the result that is told
 
@@ -191,9 +234,9 @@ unfolding computing
 crossed-not-sent-from from = elim (from crossed_queues.last crossed_queues.before crossed_sent crossed_message (crossed_invoke ∷ []) None
     (record { later = []; is_past = refl }) (record { earlier = []; later = []; is_answer = refl })
     (frame_takes crossed_sent crossed_message refl) (first_fault_at (portion_of crossed_message) (crossed_invoke ∷ []) None refl)) [
-  | inl empty ↦ apart length empty refl
-  | inr one ↦ not_from one.dialogue (ap asked one.is_event) one.each.0
-]
+      | inl empty ↦ apart length empty refl
+      | inr one ↦ not_from one.dialogue (ap asked one.is_event) one.each.0
+    ]
 
 -- What the tests state.
 pub ruleset components_work = (begin-stands, begin-tells, begin-spelled, begin-first, begin-sent-from, reject-stands, reject-tells, reject-spelled, reject-first, reject-sent-from, result-stands, result-tells, result-is, result-told-from, begun-stands, begun-tells, begun-is, begun-told-from, crossed-wrong)

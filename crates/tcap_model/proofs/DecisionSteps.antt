@@ -135,10 +135,19 @@ decided_here n pair past t none e = go (invocation_of n (pair ∷ past)) refl e
     go2 i (Some c) q w e =
         let same : record { place = pair ∷ past; dialogue = i.dialogue; id = i.id; closing = c } ≡ t = cc in
         subst (λ (t : Told). DecidedAt n (pair ∷ past) t) same (record {
-          pair = pair; before = past; newer = []; place = refl; whole = refl;
+          pair = pair;
+          before = past;
+          newer = [];
+          place = refl;
+          whole = refl;
           outcome_there = ap (λ o. outcome_of o (pair ∷ past)) q ∙ w;
-          none_before = none; invocation = i; is_found = q; dialogue = refl; id = refl;
+          none_before = none;
+          invocation = i;
+          is_found = q;
+          dialogue = refl;
+          id = refl;
         })
+
     go : (o : Option Invocation) → invocation_of n (pair ∷ past) ≡ o → decided_of (pair ∷ past) o ≡ Some t → DecidedAt n (pair ∷ past) t
     go None q e = absurd cc
     go (Some i) q e = go2 i (outcome_of (Some i) (pair ∷ past)) q refl e
@@ -154,7 +163,15 @@ decision_place n (pair ∷ past) t e = go (decision n past) refl e (decision_pla
     go (Some s) q e more =
         let d = more (q ∙ e) in
         record {
-          pair = d.pair; before = d.before; newer = pair ∷ d.newer; place = d.place; whole = ap (λ z. pair ∷ z) d.whole;
-          outcome_there = d.outcome_there; none_before = d.none_before; invocation = d.invocation;
-          is_found = invocation_stays n pair past d.invocation d.is_found; dialogue = d.dialogue; id = d.id;
+          pair = d.pair;
+          before = d.before;
+          newer = pair ∷ d.newer;
+          place = d.place;
+          whole = ap (λ z. pair ∷ z) d.whole;
+          outcome_there = d.outcome_there;
+          none_before = d.none_before;
+          invocation = d.invocation;
+          is_found = invocation_stays n pair past d.invocation d.is_found;
+          dialogue = d.dialogue;
+          id = d.id;
         }

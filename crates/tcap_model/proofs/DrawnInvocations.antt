@@ -1,11 +1,12 @@
 -- An invoke that was accepted drew the next number, for an identifier that was free.
-use Rattle.std.proofs.Common.{◌≡◌, ℕ, ℤ, ◌+◌, ◌<◌, ◌≤◌, ◌==◌, Bool, true, false, cond, List, [], ◌∷◌, ◌++◌, Option, Some, None, refl, ap, sym, ◌∙◌, subst, arith}
+use Rattle.std.proofs.Common.{◌≡◌, ℕ, ℤ, ◌+◌, ◌<◌, ◌≤◌, ◌==◌, Bool, true, false, not, cond, ◌&&◌, nat_lt, nat_le, List, [], ◌∷◌, ◌++◌, Option, Some, None, refl, ap, sym, ◌∙◌, subst, arith}
 use Rattle.std.proofs.lemmas.Bool.Decides.{nat_tests}
 use Rattle.std.proofs.lemmas.List.Folds.{find-append}
 use Rattle.std.specs.Prelude.{find, is_some, option_to_list}
 use Rattle.std.specs.Option.{option_or}
 use Rattle.tcap_component.specs.Component.{CodeParts}
 use Rattle.tcap_invocation.specs.declared.class.Class.{Class}
+use Rattle.tcap_invocation.specs.Stage.{moment_limit}
 use Rattle.tcap_model.specs.Due.{due_by, due, situation_of, standing_of}
 use Rattle.tcap_model.specs.Event.{Event}
 use Rattle.tcap_model.specs.Fault.{Fault}
@@ -28,6 +29,7 @@ pub record Draws (h : History) (i : Invocation) : Type 0 where
   pub context : Option (List ℕ)
   pub stands : life i.dialogue h.pairs ≡ Life.standing state context
   pub free : held h.start.reject_ms i.dialogue i.id h.pairs ≡ false
+  pub timely : 0 < i.timeout
 
 -- where no fault is due, none of the list holds
 none_that : (test : Fault → Bool) (before : List Fault) (f : Fault) (after : List Fault) → first_that test (before ++ f ∷ after) ≡ None → test f ≡ false
@@ -47,6 +49,17 @@ not_in_use s id class code parameter linked timeout e =
     none_that (holds s (Request.invoke id class code parameter linked timeout))
     (Fault.unknown_dialogue ∷ Fault.bad_timeout ∷ Fault.bad_oid ∷ Fault.bad_parameter ∷ []) Fault.invoke_id_in_use (Fault.numbers_spent ∷ Fault.too_long ∷ Fault.out_of_memory ∷ []) e
 
+timely : (s : Situation) (id : ℤ) (class : Class) (code : CodeParts) (parameter : Option (List ℕ)) (linked : Option ℤ) (timeout : ℕ) → due_on s (Request.invoke id class code parameter linked timeout) ≡ None → 0 < timeout
+timely s id class code parameter linked timeout e = go (nat_lt 0 timeout) refl not_bad
+  where
+    not_bad : not (nat_lt 0 timeout && nat_le timeout moment_limit) ≡ false
+    not_bad = none_that (holds s (Request.invoke id class code parameter linked timeout)) (Fault.unknown_dialogue ∷ []) Fault.bad_timeout
+        (Fault.bad_oid ∷ Fault.bad_parameter ∷ Fault.invoke_id_in_use ∷ Fault.numbers_spent ∷ Fault.too_long ∷ Fault.out_of_memory ∷ []) e
+
+    go : (b : Bool) → nat_lt 0 timeout ≡ b → not (b && nat_le timeout moment_limit) ≡ false → 0 < timeout
+    go true q e = grind (arith, nat_tests)
+    go false q e = absurd cc
+
 module _ (h : History) (dialogue : ℕ) (id : ℤ) (class : Class) (code : CodeParts) (parameter : Option (List ℕ)) (linked : Option ℤ) (timeout : ℕ) where
   abbrev asked : Request
   asked = Request.invoke id class code parameter linked timeout
@@ -60,7 +73,11 @@ module _ (h : History) (dialogue : ℕ) (id : ℤ) (class : Class) (code : CodeP
   draws_standing state context i stands None q e =
       let same : record { number = next_number h; dialogue = dialogue; id = id; class = class; timeout = timeout } ≡ i = cc in
       subst (λ (i : Invocation). Draws h i) same (record {
-        number = refl; state = state; context = context; stands = stands;
+        number = refl;
+        state = state;
+        context = context;
+        stands = stands;
+        timely = timely (situation_of h dialogue (standing_of dialogue h.pairs state context) asked) id class code parameter linked timeout q;
         free = not_in_use (situation_of h dialogue (standing_of dialogue h.pairs state context) asked) id class code parameter linked timeout q;
       })
 
@@ -125,6 +142,7 @@ number_drawn start (pair ∷ past) n i legal e = go (invocation_of n past) (invo
         let same : j.number ≡ n = grind (arith, nat_tests) in
         let counted : invokes (pair ∷ past) ≡ invokes past + 1 = ap (λ o. cond (is_some o) (invokes past + 1) (invokes past)) p in
         record { above = omega arith; below = omega arith }
+
     go : (o : Option Invocation) (p : Option Invocation) → invocation_of n past ≡ o → invoked_by pair ≡ p
         → option_or o (find (λ (i : Invocation). i.number == n) (option_to_list p)) ≡ Some i → ((j : Invocation) → invocation_of n past ≡ Some j → IsDrawn start past n) → IsDrawn start (pair ∷ past) n
     go (Some j) p q w e ih = drawn_earlier start pair past n (ih j q)

@@ -37,6 +37,7 @@ closes_not class c timeout now S early bound = first_closing-append class timeou
     last : (k : ℕ) (b : Bool) → nat_le (k + timeout) now ≡ b → c ≤ k + timeout → option_or (cond b (Some Closing.lapsed) None) None ≡ None
     last k true q within = absurd (grind (arith, nat_tests))
     last k false q within = refl
+
     go : (o : Option Closing) (s : Option ℕ) → first_closing class timeout S ≡ o → sent_clock S ≡ s → option_or o (option_or (closing_of class timeout s (Mark.moment now)) None) ≡ o
     go (Some x) s p q = refl
     go None None p q = refl
@@ -73,9 +74,10 @@ module _ (past : Past) (now : ℕ) (answer : Answer) (accepted : is_accepted ans
       go false true p q =
           let before = (none_before (is_reused i past) (is_invoked (has_id i.dialogue i.id) (invoked_by (at_moment now answer))) (sym (reused_step i (at_moment now answer) past made) ∙ p)).0 in
           let more : span i earlier ≡ span i past ++ record { clock = clock past; mark = Mark.moment now } ∷ [] =
-              span_grows i (at_moment now answer) past made p ∙ ap (λ z. span i past ++ z) (moment_marks i.dialogue i.id now answer past accepted q) in
-          (ap (first_closing i.class i.timeout) more ∙ closes_not i.class (clock past) i.timeout now (span i past) early (λ x k y. clock_within i past k made before x y),
-           ap sent_clock more ∙ sent_still (span i past) (clock past) now)
+          span_grows i (at_moment now answer) past made p ∙ ap (λ z. span i past ++ z) (moment_marks i.dialogue i.id now answer past accepted q) in (
+            ap (first_closing i.class i.timeout) more ∙ closes_not i.class (clock past) i.timeout now (span i past) early (λ x k y. clock_within i past k made before x y),
+            ap sent_clock more ∙ sent_still (span i past) (clock past) now,
+          )
 
   pub invocation_still : (n : ℕ) → invocation_of n earlier ≡ invocation_of n past
   invocation_still n = ap (find (λ (i : Invocation). i.number == n)) invocations_still
@@ -106,7 +108,7 @@ module _ (past : Past) (now : ℕ) (answer : Answer) (accepted : is_accepted ans
 
 -- ---- a wait
 
-since_end : (newer place : Past) → since place (newer ++ place) ≡ newer
+pub since_end : (newer place : Past) → since place (newer ++ place) ≡ newer
 since_end newer place =
     let count : length (newer ++ place) - length place ≡ length newer = omega (arith, length-append newer place) in
     ap (λ k. take k (newer ++ place)) count ∙ take-append_seam newer place
@@ -124,8 +126,10 @@ reached_step (Event.moment m) answer past until now dialogue id rest at early mo
   where
     same_clock : is_accepted answer ≡ false → now < clock past
     same_clock q = rw q at early
+
     later_clock : is_accepted answer ≡ true → now < max (clock past) m
     later_clock q = rw q at early
+
     go : (a b : Bool) → is_accepted answer ≡ a → nat_le until m ≡ b → ((is_accepted answer && nat_le until m) || rest) ≡ true
     go true true p q = rw (p, q) refl
     go true false p q =
@@ -149,8 +153,10 @@ module _ (past : Past) (now : ℕ) (answer : Answer) (accepted : is_accepted ans
     where
       shorter : since place past ≡ newer
       shorter = ap (since place) whole ∙ since_end newer place
+
       longer : since place (at_moment now answer ∷ past) ≡ at_moment now answer ∷ newer
       longer = ap (λ z. since place (at_moment now answer ∷ z)) whole ∙ since_end (at_moment now answer ∷ newer) place
+
       go : (b : Bool) → nat_le until now ≡ b → ((is_accepted answer && nat_le until now) || list_any (pair_ends_wait until dialogue id) newer) ≡ list_any (pair_ends_wait until dialogue id) newer
       go false q = rw (accepted, q) refl
       go true q =

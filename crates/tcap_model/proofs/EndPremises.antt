@@ -1,5 +1,5 @@
 -- The premises of "after the Invoke", from what each pair of a list is.
-use Rattle.std.proofs.Common.{◌≡◌, ℕ, ℤ, false, true, Bool, List, Option, Some, None, refl, ap, subst, sym, ◌∙◌}
+use Rattle.std.proofs.Common.{◌≡◌, ℕ, ℤ, false, true, Bool, Option, Some, None, refl, ap, subst, sym, ◌∙◌}
 use Rattle.std.specs.List.{list_any}
 use Rattle.std.proofs.lemmas.Bool.{false≢true}
 use Rattle.tcap_component.specs.declared.problem.Kind.{Kind}

@@ -32,11 +32,11 @@ use Rattle.tcap_model.specs.World.{pending_stage, stage_by, row_by, is_number, r
 -- ---- lists
 
 -- what is told of a row
-abbrev row_told : ℕ → Option Row → Option Output
+abbrev pub row_told : ℕ → Option Row → Option Output
 row_told dialogue None = None
 row_told dialogue (Some r) = if is_pending r.1.stage then Some (Output.closed dialogue r.1.number r.0 Closing.ended) else None
 
-rows_told : (dialogue : ℕ) (h : Invocation → Option Row) (is : List Invocation)
+pub rows_told : (dialogue : ℕ) (h : Invocation → Option Row) (is : List Invocation)
     → map (λ (e : ℕ × ℤ). Output.closed dialogue e.0 e.1 Closing.ended) (ended_at (filter_map h is)) ≡ filter_map (λ i. row_told dialogue (h i)) is
 rows_told dialogue h [] = refl
 rows_told dialogue h (i ∷ is) = go (h i) (rows_told dialogue h is)
@@ -57,7 +57,7 @@ rows_told dialogue h (i ∷ is) = go (h i) (rows_told dialogue h is)
     go None e = e
     go (Some r) e = one r (is_pending r.1.stage) e
 
-same_kept : {X Y : Type 0} (P : X → Type 0) (f g : X → Option Y) (same : (x : X) → P x → f x ≡ g x) (xs : List X) → AllByRecursion P xs → filter_map f xs ≡ filter_map g xs
+pub same_kept : {X Y : Type 0} (P : X → Type 0) (f g : X → Option Y) (same : (x : X) → P x → f x ≡ g x) (xs : List X) → AllByRecursion P xs → filter_map f xs ≡ filter_map g xs
 same_kept P f g same [] a = refl
 same_kept P f g same (x ∷ xs) a = ap (λ o. cons_option o (filter_map f xs)) (same x a.0) ∙ ap (cons_option (g x)) (same_kept P f g same xs a.1)
 

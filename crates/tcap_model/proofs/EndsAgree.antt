@@ -1,10 +1,16 @@
 -- What ends a dialogue is answered alike by what the dialogue keeps and by the history.
-use Rattle.std.proofs.Common.{◌≡◌, ℕ, List, [], ◌∷◌, ◌++◌, Option, Some, None, refl, ap, ◌∙◌}
+use Rattle.std.proofs.Common.{◌≡◌, ℕ, List, [], ◌∷◌, ◌++◌, Option, Some, None, refl, ap, ◌∙◌, sym, length}
 use Rattle.tcap_model.proofs.EndingsAgree.{ended-agrees}
+use Rattle.tcap_component.specs.ComponentReading.{components_of}
 use Rattle.tcap_model.proofs.RequestsAgree.{standing_dialogue, at_life, due-agrees, accepted-agrees}
+use Rattle.tcap_model.proofs.RowsApart.{rows_distinct}
+use Rattle.tcap_model.proofs.SentAgree.{sent-rows}
+use Rattle.tcap_model.proofs.WalkAgree.{IsLike, fault_last, walk_tells, walk_rejects}
 use Rattle.tcap_model.specs.AbortRules.{sent_if_any, abort_told, abnormal_abort}
 use Rattle.tcap_model.specs.Agreement.{setting_at}
 use Rattle.tcap_model.specs.Answer.{Answer}
+use Rattle.tcap_model.specs.Clock.{clock}
+use Rattle.tcap_model.specs.ComponentHandling.{told_of}
 use Rattle.tcap_model.specs.Dialogue.{Dialogue}
 use Rattle.tcap_model.specs.Due.{standing_of, due_by}
 use Rattle.tcap_model.specs.Event.{Event}
@@ -14,19 +20,20 @@ use Rattle.tcap_model.specs.Legal.{IsLegal}
 use Rattle.tcap_model.specs.Life.{Life, life}
 use Rattle.tcap_model.specs.Output.{Output, AbortCause}
 use Rattle.tcap_model.specs.PortionRules.{PortionVerdict, portion_verdict}
+use Rattle.tcap_model.specs.Queue.{handled_in, rejects_of}
 use Rattle.tcap_model.specs.Reply.{reply, request_answer, accepted_answer, taken_outputs, continue_outputs, end_outputs, ended_in}
 use Rattle.tcap_model.specs.Request.{Request}
 use Rattle.tcap_model.specs.RequestMessage.{message_of}
 use Rattle.tcap_model.specs.State.{State, peer_by}
 use Rattle.tcap_model.specs.TableMove.{DialogueEvent, accepted, requested_by, over_with, walked_in, continued_by, ended_by, table_move}
-use Rattle.tcap_model.specs.World.{dialogue_at}
+use Rattle.tcap_model.specs.World.{dialogue_at, rows_of}
 use Rattle.tcap_pdu.specs.FrameSpelling.{Message, Reason}
 
 module _ (h : History) (dialogue : ℕ) (legal : IsLegal h) where
-  abbrev dialogue_in : State → Option (List ℕ) → Dialogue
+  abbrev pub dialogue_in : State → Option (List ℕ) → Dialogue
   dialogue_in state context = standing_dialogue h dialogue state context
 
-  over-answer : (state : State) (context : Option (List ℕ)) (first : List Output)
+  pub over-answer : (state : State) (context : Option (List ℕ)) (first : List Output)
       → (over_with (dialogue_in state context) first (dialogue_in state context).invocations).answer ≡ Answer.outputs (first ++ ended_in dialogue h.pairs [])
   over-answer state context first = ap (λ z. Answer.outputs (first ++ z)) (ended-agrees h.start.reject_ms dialogue h.start h.pairs legal.1)
 
@@ -75,19 +82,30 @@ module _ (h : History) (dialogue : ℕ) (legal : IsLegal h) where
       at_life (λ l d. (table_move (setting_at h) d (DialogueEvent.frame (Message.abort to reason))).answer ≡ Answer.outputs (taken_outputs dialogue h.pairs l (Message.abort to reason))) h dialogue d
       (λ state context. over-answer state context (abort_told dialogue reason ∷ [])) (life dialogue h.pairs) e
 
-  abnormal-continue : (state : State) (context : Option (List ℕ)) (origin components : List ℕ) (verdict : PortionVerdict) → verdict ≡ PortionVerdict.abnormal
-      → (continued_by (setting_at h) (dialogue_in state context) origin verdict (walked_in (setting_at h).clock (dialogue_in state context) components)).answer ≡ Answer.outputs (continue_outputs dialogue h.pairs state origin components verdict)
-  abnormal-continue state context origin components PortionVerdict.abnormal e = over-answer state context (abnormal_abort (peer_by state origin) ∷ Output.p_abort dialogue AbortCause.abnormal ∷ [])
-  abnormal-continue state context origin components (PortionVerdict.normal told info) e = absurd cc
+  -- the rows and the history are alike before the first component
+  like-standing : IsLike dialogue h.pairs (rows_of h.start.reject_ms dialogue h.pairs) []
+  like-standing = record { distinct = rows_distinct h.start h.pairs legal.1 h.start.reject_ms dialogue; sent = λ id. sent-rows h.start h.pairs legal.1 h.start.reject_ms dialogue id }
+
+  pub components-told : (state : State) (context : Option (List ℕ)) (components : List ℕ) → (walked_in (clock h.pairs) (dialogue_in state context) components).told ≡ told_of (handled_in dialogue h.pairs components)
+  components-told state context components =
+      sym (walk_tells dialogue h.pairs (components_of components) (fault_last (length components) components) (dialogue_in state context).invocations [] tt like-standing)
+
+  pub components-rejected : (d : Dialogue) (components : List ℕ) → dialogue_at h.start.reject_ms h.pairs dialogue ≡ Some d → (walked_in (clock h.pairs) d components).rejects ≡ rejects_of (handled_in dialogue h.pairs components)
+  components-rejected d components e =
+      at_life (λ l d. (walked_in (clock h.pairs) d components).rejects ≡ rejects_of (handled_in dialogue h.pairs components)) h dialogue d
+      (λ state context. sym (walk_rejects dialogue h.pairs (components_of components) (fault_last (length components) components) (dialogue_in state context).invocations [] tt like-standing)) (life dialogue h.pairs) e
+
+  any-continue : (state : State) (context : Option (List ℕ)) (origin components : List ℕ) (verdict : PortionVerdict)
+      → (continued_by (setting_at h) (dialogue_in state context) origin verdict (walked_in (clock h.pairs) (dialogue_in state context) components)).answer ≡ Answer.outputs (continue_outputs dialogue h.pairs state origin components verdict)
+  any-continue state context origin components PortionVerdict.abnormal = over-answer state context (abnormal_abort (peer_by state origin) ∷ Output.p_abort dialogue AbortCause.abnormal ∷ [])
+  any-continue state context origin components (PortionVerdict.normal told info) = ap (λ z. Answer.outputs (Output.go_on dialogue told info ∷ z)) (components-told state context components)
 
   pub continue-agrees : (d : Dialogue) (origin to : List ℕ) (portion : Option (List ℕ)) (components : List ℕ) → dialogue_at h.start.reject_ms h.pairs dialogue ≡ Some d
-      → portion_verdict d.standing.state d.standing.context portion ≡ PortionVerdict.abnormal
       → (table_move (setting_at h) d (DialogueEvent.frame (Message.go_on origin to portion components))).answer ≡ Answer.outputs (taken_outputs dialogue h.pairs (life dialogue h.pairs) (Message.go_on origin to portion components))
   unfolding table_move
   continue-agrees d origin to portion components e =
-      at_life (λ l d. portion_verdict d.standing.state d.standing.context portion ≡ PortionVerdict.abnormal
-      → (table_move (setting_at h) d (DialogueEvent.frame (Message.go_on origin to portion components))).answer ≡ Answer.outputs (taken_outputs dialogue h.pairs l (Message.go_on origin to portion components))) h dialogue d
-      (λ state context. abnormal-continue state context origin components (portion_verdict state context portion)) (life dialogue h.pairs) e
+      at_life (λ l d. (table_move (setting_at h) d (DialogueEvent.frame (Message.go_on origin to portion components))).answer ≡ Answer.outputs (taken_outputs dialogue h.pairs l (Message.go_on origin to portion components))) h dialogue d
+      (λ state context. any-continue state context origin components (portion_verdict state context portion)) (life dialogue h.pairs) e
 
   abnormal-end : (state : State) (context : Option (List ℕ)) (components : List ℕ) (verdict : PortionVerdict) → verdict ≡ PortionVerdict.abnormal
       → (ended_by (dialogue_in state context) verdict (walked_in (setting_at h).clock (dialogue_in state context) components)).answer ≡ Answer.outputs (end_outputs dialogue h.pairs components verdict)

@@ -1,11 +1,11 @@
 -- The marks of an event, by the life of the dialogue before it.
-use Rattle.std.proofs.Common.{◌≡◌, ℕ, ℤ, Bool, true, false, List, [], ◌∷◌, Option, Some, None, refl, ap, sym, ◌∙◌}
-use Rattle.tcap_model.proofs.BornDialogues.{was_alive, noted_at}
+use Rattle.std.proofs.Common.{◌≡◌, ℕ, ℤ, true, false, List, [], Option, refl, ap, ◌∙◌}
+use Rattle.tcap_model.proofs.BornDialogues.{noted_at}
 use Rattle.tcap_model.specs.Answer.{Answer, is_accepted}
 use Rattle.tcap_model.specs.Clock.{clock}
 use Rattle.tcap_model.specs.Event.{Event}
 use Rattle.tcap_model.specs.Life.{Life, life, life_by_event}
-use Rattle.tcap_model.specs.Marks.{Mark, Noted, marks, marks_after_birth, marks_by_event}
+use Rattle.tcap_model.specs.Marks.{Noted, marks, marks_after_birth, marks_by_event}
 use Rattle.tcap_model.specs.Names.{names}
 use Rattle.tcap_model.specs.Pair.{Pair, Past}
 use Rattle.tcap_model.specs.State.{State}

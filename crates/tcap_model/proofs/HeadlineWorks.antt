@@ -1,5 +1,5 @@
 -- The statements of the headline on worked histories: the premises, and the conclusions.
-use Rattle.std.proofs.Common.{◌≡◌, ℕ, ◌+◌, ◌≤◌, false, true, List, [], ◌∷◌, length, Option, Some, refl, sym, subst, ◌∙◌, ◌⊎◌, inl, inr, eqb-true, arith}
+use Rattle.std.proofs.Common.{◌≡◌, ℕ, ◌≤◌, false, true, List, [], ◌∷◌, length, Option, Some, refl, sym, subst, ◌∙◌, ◌⊎◌, inl, inr, eqb-true, arith}
 use Rattle.std.specs.Prelude.{map, ◌==◌}
 use Rattle.std.specs.List.{AllByRecursion, filter_map}
 use Rattle.std.proofs.lemmas.Bool.{cases_Bool, false≢true}
@@ -10,7 +10,6 @@ use Rattle.tcap_model.specs.Event.{Event}
 use Rattle.tcap_model.specs.Closings.{closings}
 use Rattle.tcap_model.specs.Computing.{computing}
 use Rattle.tcap_model.specs.HeadlineLaws.{HasOutcome, Counted, Bounded, ending_told, ending_of}
-use Rattle.tcap_model.specs.History.{History}
 use Rattle.tcap_model.specs.Invocation.{Invocation, invocation_of, invocations}
 use Rattle.tcap_model.specs.Names.{names}
 use Rattle.tcap_model.specs.Only.{is_moment}
@@ -18,7 +17,7 @@ use Rattle.tcap_model.specs.Outcome.{outcome_of}
 use Rattle.tcap_model.specs.Pair.{Pair, Past}
 use Rattle.tcap_model.specs.Queue.{queue, queue_by_event}
 use Rattle.tcap_model.specs.QueueRules.{Queued, joined, queue_limit}
-use Rattle.tcap_model.specs.World.{row_of, rows_of}
+use Rattle.tcap_model.specs.World.{row_of}
 use Rattle.tcap_model.specs.WorkedStatements.{repeated_aare, lapse_and_late_result, late_result, first, second}
 
 -- ---- outcome

@@ -7,7 +7,8 @@ use Rattle.tcap_model.specs.Fault.{Fault}
 use Rattle.tcap_model.specs.Isolation.{IsAlone}
 use Rattle.tcap_model.specs.Legal.{IsLegal}
 use Rattle.tcap_model.specs.Reply.{reply}
-use Rattle.tcap_model.specs.WorkedIsolation.{two_dialogues, before_the_lapse, before_the_invoke, first_invokes, invokes_again, first_cancels, first_hears, both_lapse}
+use Rattle.tcap_model.specs.WorkedNets.{play_start}
+use Rattle.tcap_model.specs.WorkedIsolation.{two_left, of_one_begin, with_one_peer, IsAloneThroughout, two_dialogues, before_the_lapse, before_the_invoke, first_invokes, invokes_again, first_cancels, first_hears, both_lapse}
 
 pub two-legal : IsLegal two_dialogues
 unfolding computing
@@ -33,5 +34,29 @@ pub spent-seen : IsAlone two_dialogues 1 invokes_again → ⊥
 unfolding computing
 spent-seen same = apart answer_number same refl
 
+pub first-throughout : IsAloneThroughout 1 two_left two_dialogues.pairs
+unfolding computing
+first-throughout = (refl, (refl, (tt, (refl, (tt, (tt, (tt, (tt, tt))))))))
+
+pub second-throughout : IsAloneThroughout 2 two_left two_dialogues.pairs
+unfolding computing
+second-throughout = (refl, (tt, (refl, (tt, (refl, (tt, (tt, (tt, tt))))))))
+
+pub first-of_one_begin : IsAloneThroughout 1 play_start of_one_begin
+unfolding computing
+first-of_one_begin = (refl, (tt, (tt, (refl, (refl, (tt, (tt, tt)))))))
+
+pub second-of_one_begin : IsAloneThroughout 2 play_start of_one_begin
+unfolding computing
+second-of_one_begin = (refl, (refl, (refl, (tt, (tt, (tt, (tt, tt)))))))
+
+pub first-with_one_peer : IsAloneThroughout 1 play_start with_one_peer
+unfolding computing
+first-with_one_peer = (refl, (refl, (refl, (tt, (tt, (refl, (tt, (tt, tt))))))))
+
+pub second-with_one_peer : IsAloneThroughout 2 play_start with_one_peer
+unfolding computing
+second-with_one_peer = (tt, (tt, (tt, (refl, (refl, (tt, (tt, (tt, tt))))))))
+
 -- What the tests state.
-pub ruleset isolation_works = (two-legal, invoke-left, cancel-left, bytes-left, moment-left, spent-seen)
+pub ruleset isolation_works = (two-legal, invoke-left, cancel-left, bytes-left, moment-left, spent-seen, first-throughout, second-throughout, first-of_one_begin, second-of_one_begin, first-with_one_peer, second-with_one_peer)

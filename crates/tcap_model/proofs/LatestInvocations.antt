@@ -116,6 +116,7 @@ module _ (start : Start) (pair : Pair) (past : Past) (legal : AreReplies start (
     where
       other : (new.number == i.number) ≡ false
       other = other_number start pair past legal new i w (ap is_some q)
+
       go : (b : Bool) → Reused i past → (is_reused i past || b) ≡ not (is_number i.number (option_or (cond b (Some new) None) (latest i.dialogue i.id past)))
       go true r = or_true (is_reused i past) ∙ ap not (sym other)
         where

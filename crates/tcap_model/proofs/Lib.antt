@@ -1,12 +1,21 @@
+mod AcceptedRequests
+mod AnsweredRows
 mod Apart
 mod BirthLemmas
 mod BornDialogues
 mod BornLemmas
+mod BoundedDialogues
+mod BoundedIdentifiers
+mod BoundedQueues
 mod CarriedComponents
 mod ClockLemmas
 mod ComponentPremises
 mod ComponentTellings
+mod ComponentsBroken
 mod ComponentsWork
+mod CountedHistories
+mod DecidedHistories
+mod DecidedOutcomes
 mod DecisionSteps
 mod DrawnInvocations
 mod DrawnLemmas
@@ -14,8 +23,9 @@ mod DueLemmas
 mod EarlierMoments
 mod EndLemmas
 mod EndPremises
-pub mod EndingsAgree
+mod EndingsAgree
 mod EndsAgree
+mod EndsAnswered
 mod EventMarks
 mod FairReplies
 mod FairTellings
@@ -25,14 +35,25 @@ mod FormedRejects
 mod HeadlineWorks
 mod IsolationWorks
 mod KeptQueues
+mod LapseOrder
 mod LatestInvocations
 mod LifeLemmas
 mod NamedReceptions
 mod NetPlaces
+mod NetsBroken
 mod NetsWork
 mod NumberLemmas
 mod NumberedLemmas
+mod OnlyBytes
+mod OnlyDecisions
+mod OnlyInvocations
+mod OnlyLives
+mod OnlyMoments
+mod OnlyQueues
+mod OnlyRequests
+mod OpenEvents
 mod OpenNumbers
+mod OpenReplies
 mod PeerLemmas
 mod PlaceLemmas
 mod QueuedComponents
@@ -42,10 +63,14 @@ mod QuietNumbers
 mod ReachedReplies
 mod ReceivedMarks
 mod ReceivedQueues
+mod ReceivedRows
+mod ReceivedSpans
 mod RequestSending
 mod RequestedComponents
-pub mod RequestsAgree
-pub mod RowsAgree
+mod RequestsAgree
+mod Restaged
+mod RowSteps
+mod RowsAgree
 mod RowsApart
 mod SendingLemmas
 mod SentAgree
@@ -53,8 +78,10 @@ mod SentClocks
 mod SentComponents
 mod SentInvokes
 mod SentLemmas
+mod SentSpans
 mod SoundReceptions
 mod SpanSteps
+mod StageSteps
 mod StartLemmas
 mod SupersededInvocations
 mod ToldComponents
@@ -64,7 +91,10 @@ mod ToldLemmas
 mod ToldOutputs
 mod ToldParts
 mod ToldReceptions
+mod TwoEndsWork
 mod WaitingInvokes
 mod WaitingQueues
+mod WalkAgree
+mod WalkedRows
 mod WrongAnswersGiven
 mod WrongEndsTold

@@ -1,21 +1,23 @@
 -- The statements about two ends on worked nets: the premises, and the conclusions.
-use Rattle.std.proofs.Common.{◌≡◌, ℕ, ℤ, pos, true, List, [], ◌∷◌, Option, Some, None, refl, sym, arith}
+use Rattle.std.proofs.Common.{◌≡◌, pos, [], ◌∷◌, Some, None, refl, arith}
 use Rattle.std.specs.Prelude.{drop, take}
 use Rattle.tcap_component.specs.Component.{CodeParts}
-use Rattle.tcap_invocation.specs.declared.class.Class.TheVariants.{One}
+use Rattle.tcap_invocation.specs.declared.class.Class.TheVariants.{One, Four}
 use Rattle.tcap_model.proofs.EndPremises.{not_both, uses_once, answers_what_it_was_told, not_told, not_opened}
-use Rattle.tcap_model.proofs.PlaceLemmas.{at_happening, not_sent}
+use Rattle.tcap_model.proofs.PlaceLemmas.{at_happening, not_sent, never_sent}
 use Rattle.tcap_model.specs.Answer.{Answer}
 use Rattle.tcap_model.specs.Computing.{computing}
+use Rattle.tcap_model.specs.ExampleValues.{code}
+use Rattle.tcap_model.specs.Invocation.{Invocation}
 use Rattle.tcap_model.specs.Legal.{IsLegal}
-use Rattle.tcap_model.specs.Marks.{Mark}
 use Rattle.tcap_model.specs.Net.{Engine, Marked, Trace, IsNet, side, history_in}
 use Rattle.tcap_model.specs.Output.{Output}
 use Rattle.tcap_model.specs.Pair.{Pair}
 use Rattle.tcap_model.specs.Places.{Tells}
 use Rattle.tcap_model.specs.TwoEnds.{Happens, IsAnswer, IsFarRequest, ComesFromFar, UsesOnce, AnswersInvoke, AnswersWhatItWasTold, WasOpened, WasSent, WasAsked}
-use Rattle.tcap_model.specs.WorkedNets.{repeated_begin, before_the_answer, answer_told, answer_closes, second_body, second_request, before_the_repeat, repeat_told, invoked, answer, result, second_invoke, answered_ahead, heard_as_one, IsAnsweredAhead}
+use Rattle.tcap_model.specs.WorkedNets.{repeated_begin, before_the_answer, answer_told, answer_closes, second_body, second_request, before_the_repeat, repeat_told, invoked, answer, result, second_invoke, answered_ahead, heard_as_one, alone_told, in_a_unidirectional, end_told, in_an_end, IsAnsweredAhead}
 use Rattle.tcap_model.specs.WorkedPlay as play
+use Rattle.tcap_model.specs.WorkedReadings.{given_up_before_it_was_sent}
 use Rattle.tcap_model.specs.WorkedStatements.{first}
 use Rattle.tcap_model.specs.WorkedWords.{born, invoke, request, receive, continued, empty_result}
 
@@ -81,7 +83,7 @@ repeat-opened = record { pair = born 1; before = []; stands = record { later = t
 
 sent : WasSent 1 (side Engine.a (drop 10 repeated_begin.trace))
 unfolding computing
-sent = record { invocation = first; earlier = []; sent = record { clock = 0; mark = Mark.sent }; later = []; is_invocation = refl; is_span = refl; is_mark = refl; is_open = refl }
+sent = record { invocation = first; is_invocation = refl; is_sent = refl }
 
 pub repeat-after : (asked : Pair) (earlier : Trace) → Happens Engine.b asked earlier before_the_answer → IsFarRequest Engine.a 1 second_request asked earlier → WasSent 1 (side Engine.a earlier)
 repeat-after asked earlier happens is =
@@ -191,5 +193,56 @@ heard-fails = record {
 pub heard-not_opened : WasOpened Engine.a 1 heard_as_one.trace → ⊥
 heard-not_opened = not_opened Engine.a 1 heard_as_one.trace (refl, (refl, (refl, (refl, (refl, (refl, (refl, (refl, tt))))))))
 
+-- ---- an Invoke that ends what carries it
+
+alone : Invocation
+alone = record { number = 1; dialogue = 1; id = pos 1; class = Four; timeout = 1000 }
+
+pub alone-happens : Happens Engine.b alone_told (drop 1 in_a_unidirectional.trace) in_a_unidirectional.trace
+alone-happens = record { later = []; is_trace = refl }
+
+pub alone-tells : Tells alone_told.answer (Output.invoked None (pos 1) None (code 7) None)
+alone-tells = record { earlier = Output.uni None [] ∷ []; later = []; is_answer = refl }
+
+pub alone-asked : WasAsked (pos 1) None (code 7) None (side Engine.a (drop 1 in_a_unidirectional.trace))
+unfolding computing alone
+alone-asked = record {
+  pair = invoke 1 (pos 1) Four (pos 7) 1000 (Answer.number 1);
+  before = born 1 ∷ [];
+  dialogue = 1;
+  class = Four;
+  timeout = 1000;
+  number = 1;
+  stands = record { later = take 1 (side Engine.a (drop 1 in_a_unidirectional.trace)); is_past = refl };
+  is_event = refl;
+  is_answer = refl;
+  was_sent = record { invocation = alone; is_invocation = refl; is_sent = refl };
+}
+
+pub end-happens : Happens Engine.a end_told (drop 1 in_an_end.trace) in_an_end.trace
+end-happens = record { later = []; is_trace = refl }
+
+pub end-tells : Tells end_told.answer (invoked 1)
+end-tells = record { earlier = Output.end 1 None [] ∷ []; later = []; is_answer = refl }
+
+pub end-asked : WasAsked (pos 1) None (code 10) None (side Engine.b (drop 1 in_an_end.trace))
+unfolding computing
+end-asked = record {
+  pair = invoke 1 (pos 1) One (pos 10) 1000 (Answer.number 1);
+  before = drop 2 (side Engine.b in_an_end.trace);
+  dialogue = 1;
+  class = One;
+  timeout = 1000;
+  number = 1;
+  stands = record { later = take 1 (side Engine.b in_an_end.trace); is_past = refl };
+  is_event = refl;
+  is_answer = refl;
+  was_sent = record { invocation = first; is_invocation = refl; is_sent = refl };
+}
+
+pub cancelled-never-sent : WasSent 1 given_up_before_it_was_sent.history.pairs → ⊥
+unfolding computing
+cancelled-never-sent = never_sent 1 given_up_before_it_was_sent.history.pairs first refl refl
+
 -- What the tests state.
-pub ruleset nets_work = (repeat-answer-happens, repeat-answer-tells, repeat-is-answer, repeat-origin, repeat-opened, repeat-invoked-happens, repeat-invoked-tells, repeat-asked, ahead-opened, ahead-fails, ahead-untold, heard-net, heard-fails, heard-not_opened)
+pub ruleset nets_work = (repeat-answer-happens, repeat-answer-tells, repeat-is-answer, repeat-origin, repeat-opened, repeat-invoked-happens, repeat-invoked-tells, repeat-asked, ahead-opened, ahead-fails, ahead-untold, heard-net, heard-fails, heard-not_opened, alone-happens, alone-tells, alone-asked, end-happens, end-tells, end-asked, cancelled-never-sent)

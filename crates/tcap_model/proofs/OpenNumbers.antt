@@ -1,19 +1,18 @@
 -- What the end of its dialogue and a message tell of an invocation that is the latest of its identifier.
-use Rattle.std.proofs.Common.{◌≡◌, ℕ, ℤ, ◌+◌, ◌==◌, Bool, true, false, cond, ◌&&◌, nat_le, nat_lt, List, [], ◌∷◌, ◌++◌, Option, Some, None, Result, Ok, Err, refl, ap, sym, ◌∙◌, subst, arith}
+use Rattle.std.proofs.Common.{◌≡◌, ℕ, ℤ, ◌==◌, Bool, true, false, cond, ◌&&◌, List, [], ◌∷◌, ◌++◌, Option, Some, None, Ok, refl, ap, sym, ◌∙◌, arith}
 use Rattle.std.proofs.lemmas.Bool.Decides.{nat_tests, Decides-int_eq}
 use Rattle.std.proofs.lemmas.List.{append-nil}
-use Rattle.std.specs.Prelude.{is_none, is_some}
-use Rattle.std.specs.Option.{option_or}
+use Rattle.std.specs.Prelude.{is_none}
 use Rattle.std.specs.Ordering.{int_eq}
 use Rattle.tcap_component.specs.ComponentReading.{components_of}
 use Rattle.tcap_model.proofs.BornDialogues.{noted_at}
 use Rattle.tcap_model.proofs.ComponentTellings.{unless, unless_nothing, noted-append}
-use Rattle.tcap_model.proofs.DecisionSteps.{closing_after-append, first_closing-append, number_found}
+use Rattle.tcap_model.proofs.DecisionSteps.{closing_after-append, first_closing-append}
 use Rattle.tcap_model.proofs.QuietDialogues.{IsQuiet}
 use Rattle.tcap_model.proofs.ToldInvocations.{told_one, ended_told, ended_number, told_if_any}
 use Rattle.tcap_model.proofs.ToldOutputs.{told, told-append, sent_silent, abort_silent}
 use Rattle.tcap_model.proofs.ToldParts.{gain, in_turn, own, other_latest, other_there, message_parts}
-use Rattle.tcap_model.specs.AbortRules.{sent_if_any, abort_told}
+use Rattle.tcap_model.specs.AbortRules.{sent_if_any}
 use Rattle.tcap_model.specs.Clock.{clock}
 use Rattle.tcap_model.specs.Closings.{Told}
 use Rattle.tcap_model.specs.ComponentHandling.{Item, told_of}
@@ -28,10 +27,9 @@ use Rattle.tcap_model.specs.Output.{Output, Closing}
 use Rattle.tcap_model.specs.Pair.{Past}
 use Rattle.tcap_model.specs.PortionRules.{PortionVerdict, portion_verdict}
 use Rattle.tcap_model.specs.Queue.{marks_up_to, handled_in}
-use Rattle.tcap_model.specs.Reply.{ended_of, ended_in, continue_outputs, end_outputs, message_outputs}
+use Rattle.tcap_model.specs.Reply.{ended_in, continue_outputs, end_outputs, message_outputs}
 use Rattle.tcap_model.specs.Span.{span}
 use Rattle.tcap_model.specs.State.{State}
-use Rattle.tcap_pdu.specs.declared.fault.FrameFault.{FrameFault}
 use Rattle.tcap_pdu.specs.FrameSpelling.{Message}
 
 -- what is to be told of an invocation, where these marks are added to its span
@@ -70,6 +68,7 @@ module _ (start : Start) (past place : Past) (n : ℕ) (i : Invocation) (legal :
       one : (j : Invocation) (b : Bool) → latest dialogue id past ≡ Some j → cond b (Some j.number) None ≡ Some m → (m == n) ≡ false
       one j false p e = absurd cc
       one j true p e = let same : j.number ≡ m = cc in ap (λ k. k == n) (sym same) ∙ other_latest start past place n i legal found dialogue id apart j p
+
       go : (o : Option Invocation) → latest dialogue id past ≡ o → if_pending past o ≡ Some m → (m == n) ≡ false
       go None p e = absurd cc
       go (Some j) p e = one j (is_none (outcome j.number past)) p e
@@ -101,12 +100,12 @@ module _ (start : Start) (past place : Past) (n : ℕ) (i : Invocation) (legal :
     parts_and_end content =
         told-append n place (told_of (handled_in i.dialogue past content)) (ended_in i.dialogue past (components_of content))
         ∙ (in_turn place i (first_closing i.class i.timeout (span i past)) (closing_after i.class i.timeout (span i past) ms) (Some Closing.ended)
-            (told n place (told_of (handled_in i.dialogue past content))) (told n place (ended_in i.dialogue past (components_of content)))
-            (parts content)
-            (ended_here (components_of content) ∙ ap (λ o. unless o (gain place i (Some Closing.ended))) (first_closing-append i.class i.timeout (span i past) ms))
+        (told n place (told_of (handled_in i.dialogue past content))) (told n place (ended_in i.dialogue past (components_of content)))
+        (parts content)
+        (ended_here (components_of content) ∙ ap (λ o. unless o (gain place i (Some Closing.ended))) (first_closing-append i.class i.timeout (span i past) ms))
         ∙ ap (λ o. unless (first_closing i.class i.timeout (span i past)) (gain place i o))
-            (sym (ap (closing_after i.class i.timeout (span i past)) (noted-append (clock past) (component_marks i.id (components_of content)) (Mark.end ∷ []))
-            ∙ closing_after-append i.class i.timeout (span i past) ms (noted_at (clock past) (Mark.end ∷ [])))))
+        (sym (ap (closing_after i.class i.timeout (span i past)) (noted-append (clock past) (component_marks i.id (components_of content)) (Mark.end ∷ []))
+        ∙ closing_after-append i.class i.timeout (span i past) ms (noted_at (clock past) (Mark.end ∷ [])))))
       where
         ms : List Noted
         ms = noted_at (clock past) (component_marks i.id (components_of content))

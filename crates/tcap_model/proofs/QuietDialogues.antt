@@ -1,12 +1,10 @@
 -- Dialogues whose answers tell nothing of the number n.
-use Rattle.std.proofs.Common.{◌≡◌, ℕ, ℤ, ◌==◌, Bool, true, false, cond, List, [], ◌∷◌, ◌++◌, Option, Some, None, Result, Ok, Err, refl, ap, sym, ◌∙◌}
-use Rattle.std.specs.Prelude.{option_to_list}
+use Rattle.std.proofs.Common.{◌≡◌, ℕ, ℤ, ◌==◌, false, List, [], ◌++◌, Option, Some, None, refl, ap, ◌∙◌}
 use Rattle.tcap_component.specs.ComponentReading.{components_of}
 use Rattle.tcap_model.proofs.ComponentTellings.{components_other}
 use Rattle.tcap_model.proofs.ToldOutputs.{told, told-append, IsOther, sent_silent, abort_silent}
-use Rattle.tcap_model.specs.AbortRules.{sent_if_any, abort_told}
-use Rattle.tcap_model.specs.Answer.{Answer}
-use Rattle.tcap_model.specs.Closings.{Told, told_by_answer}
+use Rattle.tcap_model.specs.AbortRules.{sent_if_any}
+use Rattle.tcap_model.specs.Closings.{told_by_answer}
 use Rattle.tcap_model.specs.ComponentHandling.{Item, told_of}
 use Rattle.tcap_model.specs.Due.{standing_of}
 use Rattle.tcap_model.specs.Event.{Event}
@@ -14,11 +12,11 @@ use Rattle.tcap_model.specs.Fault.{Fault}
 use Rattle.tcap_model.specs.Held.{pending}
 use Rattle.tcap_model.specs.History.{History}
 use Rattle.tcap_model.specs.Invocation.{latest}
-use Rattle.tcap_model.specs.Life.{Life, life}
+use Rattle.tcap_model.specs.Life.{Life}
 use Rattle.tcap_model.specs.Pair.{Past}
 use Rattle.tcap_model.specs.PortionRules.{PortionVerdict, portion_verdict}
 use Rattle.tcap_model.specs.Queue.{if_sent, handled_in}
-use Rattle.tcap_model.specs.Reply.{ended_in, given_up_answer, last_answer, accepted_answer, request_answer, continue_outputs, end_outputs, message_outputs, taken_outputs}
+use Rattle.tcap_model.specs.Reply.{ended_in, given_up_answer, accepted_answer, request_answer, continue_outputs, end_outputs, message_outputs, taken_outputs}
 use Rattle.tcap_model.specs.Request.{Request}
 use Rattle.tcap_model.specs.RequestMessage.{message_of}
 use Rattle.tcap_model.specs.State.{State}

@@ -1,5 +1,5 @@
 -- Of a number whose invocation is decided, or that no invocation has, no answer tells anything.
-use Rattle.std.proofs.Common.{◌≡◌, ℕ, ℤ, ◌+◌, ◌==◌, Bool, true, false, cond, ◌&&◌, nat_le, nat_lt, List, [], ◌∷◌, ◌++◌, Option, Some, None, refl, ap, sym, ◌∙◌, subst, arith}
+use Rattle.std.proofs.Common.{◌≡◌, ℕ, ℤ, ◌==◌, Bool, true, false, cond, ◌&&◌, nat_lt, List, [], Option, Some, None, refl, ap, sym, ◌∙◌, arith}
 use Rattle.std.proofs.lemmas.Bool.Decides.{nat_tests}
 use Rattle.std.specs.Prelude.{is_none, is_some}
 use Rattle.std.specs.Option.{option_or}
@@ -12,7 +12,7 @@ use Rattle.tcap_model.proofs.ToldOutputs.{told, IsOther}
 use Rattle.tcap_model.proofs.ToldReceptions.{Wants, reception_tells}
 use Rattle.tcap_model.specs.Birth.{next_dialogue}
 use Rattle.tcap_model.specs.Clock.{clock}
-use Rattle.tcap_model.specs.Closings.{Told, told_by_answer}
+use Rattle.tcap_model.specs.Closings.{told_by_answer}
 use Rattle.tcap_model.specs.ComponentHandling.{Item, SentInvocation}
 use Rattle.tcap_model.specs.Deadline.{sent_clock, deadline}
 use Rattle.tcap_model.specs.Due.{due, birth_due}
@@ -25,10 +25,10 @@ use Rattle.tcap_model.specs.Legal.{AreReplies}
 use Rattle.tcap_model.specs.Life.{life}
 use Rattle.tcap_model.specs.Marks.{component_marks}
 use Rattle.tcap_model.specs.Outcome.{closing_after, first_closing, is_sent_in, outcome_of, outcome}
-use Rattle.tcap_model.specs.Output.{Output, Closing}
+use Rattle.tcap_model.specs.Output.{Closing}
 use Rattle.tcap_model.specs.Pair.{Past}
 use Rattle.tcap_model.specs.Queue.{marks_up_to, if_sent}
-use Rattle.tcap_model.specs.Reply.{birth_answer, ended_in, lapsing_by, lapses, moment_answer, reply}
+use Rattle.tcap_model.specs.Reply.{birth_answer, ended_in, lapses, moment_answer, reply}
 use Rattle.tcap_model.specs.Span.{span}
 use Rattle.tcap_model.specs.Time.{moment_fault}
 
@@ -73,6 +73,7 @@ module _ (start : Start) (past place : Past) (n : ℕ) (legal : AreReplies start
           sent true e =
               let same : record { dialogue = j.dialogue; number = j.number; class = j.class } ≡ s = cc in
               ap (λ (s : SentInvocation). s.number == n) (sym same) ∙ q
+
       go : (o : Option Invocation) → latest dialogue id past ≡ o → if_sent past earlier o ≡ Some s → (s.number == n) ≡ false
       go None p e = absurd cc
       go (Some j) p e = one j (j.number == n) refl p e
@@ -99,6 +100,7 @@ module _ (start : Start) (past place : Past) (n : ℕ) (legal : AreReplies start
           let decided : outcome j.number past ≡ Some closed.0 = ap (λ k. outcome k past) number ∙ (ap (λ o. outcome_of o past) found ∙ closed.1) in
           let never : false ≡ true = ap is_none (sym decided) ∙ w in
           absurd cc
+
       go : (o : Option Invocation) → latest dialogue id past ≡ o → if_pending past o ≡ Some m → (m == n) ≡ false
       go None p e = absurd cc
       go (Some j) p e = one j (j.number == n) (is_none (outcome j.number past)) refl refl p e
@@ -112,6 +114,7 @@ module _ (start : Start) (past place : Past) (n : ℕ) (legal : AreReplies start
       one : (i : Invocation) (o : Option ℕ) → is_sent_in i.class i.timeout (span i past) ≡ false → deadline i past ≡ o → lapse_of n place past now i ≡ []
       one i None q w = rw w refl
       one i (Some t) q w = rw (w, q) refl
+
       go : (o : Option Invocation) → invocation_of n past ≡ o → told_one (lapse_of n place past now) o ≡ []
       go None q = refl
       go (Some i) q =

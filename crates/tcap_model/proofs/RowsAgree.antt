@@ -77,7 +77,7 @@ with_id-some dialogue id (Some i) j e = go (has_id dialogue id i) refl e
     go true q w = (w, let same : i ≡ j = cc in subst (λ (k : Invocation). has_id dialogue id k ≡ true) same q)
     go false q w = absurd cc
 
-latest_has : (dialogue : ℕ) (id : ℤ) (past : Past) (j : Invocation) → latest dialogue id past ≡ Some j → has_id dialogue id j ≡ true
+pub latest_has : (dialogue : ℕ) (id : ℤ) (past : Past) (j : Invocation) → latest dialogue id past ≡ Some j → has_id dialogue id j ≡ true
 latest_has dialogue id [] j e = absurd cc
 latest_has dialogue id (pair ∷ past) j e = go (with_id dialogue id (invoked_by pair)) refl e (latest_has dialogue id past j)
   where

@@ -1,5 +1,5 @@
 -- Each Invoke that is told was asked for by the far user, and was sent.
-use Rattle.std.proofs.Common.{◌≡◌, ℕ, ℤ, Bool, true, false, ◌||◌, List, [], ◌∷◌, ◌++◌, Option, Some, None, refl, sym, ap, subst, ◌∙◌, inl, inr, append_assoc}
+use Rattle.std.proofs.Common.{◌≡◌, ℕ, ℤ, Bool, true, false, ◌||◌, List, [], ◌∷◌, ◌++◌, Option, Some, None, refl, sym, ap, subst, ◌∙◌, inl, inr}
 use Rattle.std.specs.List.{AllByRecursion}
 use Rattle.std.specs.Prelude.{is_some}
 use Rattle.std.proofs.lemmas.Bool.{cases_Bool, eq-eqb}
@@ -20,7 +20,7 @@ use Rattle.tcap_model.specs.Marks.{Mark, Noted, marks, marks_by_event}
 use Rattle.tcap_model.specs.Names.{names}
 use Rattle.tcap_model.specs.Net.{Engine, Trace, far, side, Net, IsNet}
 use Rattle.tcap_model.specs.Numbers.{number_of}
-use Rattle.tcap_model.specs.Outcome.{outcome, outcome_of}
+use Rattle.tcap_model.specs.Outcome.{outcome, outcome_of, was_sent_in}
 use Rattle.tcap_model.specs.Output.{Output}
 use Rattle.tcap_model.specs.Pair.{Pair, Past}
 use Rattle.tcap_model.specs.Places.{Tells}
@@ -36,6 +36,7 @@ use Rattle.tcap_model.proofs.DecisionSteps.{made_found, invocation_stays}
 use Rattle.tcap_model.proofs.EventMarks.{standing_marks}
 use Rattle.tcap_model.proofs.QueuedMarks.{Stands}
 use Rattle.tcap_model.proofs.SentComponents.{all-first, same-items}
+use Rattle.tcap_model.proofs.SentSpans.{was_sent-more, was_sent-at}
 use Rattle.tcap_model.proofs.SpanSteps.{reused_step, span_grows, span_stays}
 use Rattle.tcap_model.proofs.SupersededInvocations.{unused_if_open}
 use Rattle.tcap_model.proofs.WaitingInvokes.{IsWritten, invocation_as, IsAsked, IsNoInvoke, Waits, AllWait}
@@ -51,23 +52,13 @@ sent-next number pair past was =
     elim (cases_Bool (is_reused i (pair ∷ past))) [
       | inl used ↦ record {
           invocation = i;
-          earlier = was.earlier;
-          sent = was.sent;
-          later = was.later;
           is_invocation = is_later;
-          is_span = span_stays i pair past found used ∙ was.is_span;
-          is_mark = was.is_mark;
-          is_open = was.is_open;
+          is_sent = ap (was_sent_in i.class i.timeout) (span_stays i pair past found used) ∙ was.is_sent;
         }
       | inr unused ↦ record {
           invocation = i;
-          earlier = was.earlier;
-          sent = was.sent;
-          later = was.later ++ marks i.dialogue i.id pair past;
           is_invocation = is_later;
-          is_span = span_grows i pair past found unused ∙ (ap (λ (w : List Noted). w ++ marks i.dialogue i.id pair past) was.is_span ∙ append_assoc was.earlier (was.sent ∷ was.later) (marks i.dialogue i.id pair past));
-          is_mark = was.is_mark;
-          is_open = was.is_open;
+          is_sent = ap (was_sent_in i.class i.timeout) (span_grows i pair past found unused) ∙ was_sent-more i.class i.timeout (span i past) (marks i.dialogue i.id pair past) was.is_sent;
         }
     ]
 
@@ -102,13 +93,9 @@ module _ (start : Start) (past : Past) (event : Event) (answer : Answer) (legal 
   pub sent-here : (rest : List Mark) → invoked_by here ≡ None → marks dialogue asked.id here past ≡ noted_at (clock past) (Mark.sent ∷ rest) → WasSent number (here ∷ past)
   sent-here rest none made = record {
     invocation = i;
-    earlier = span i past;
-    sent = record { clock = clock past; mark = Mark.sent };
-    later = noted_at (clock past) rest;
     is_invocation = invocation_stays number here past i asked.is_invocation;
-    is_span = span_grows i here past found (unused none) ∙ ap (λ (w : List Noted). span i past ++ w) made;
-    is_mark = refl;
-    is_open = asked.unsent.unclosed;
+    is_sent = ap (was_sent_in asked.class asked.timeout) (span_grows i here past found (unused none) ∙ ap (λ (w : List Noted). span i past ++ w) made)
+        ∙ was_sent-at asked.class asked.timeout (clock past) (span i past) (noted_at (clock past) rest) asked.unsent.unclosed;
   }
 
 -- ---- the components of a queue

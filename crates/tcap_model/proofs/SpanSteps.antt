@@ -93,6 +93,7 @@ following_one {X = X} test x = go (test x)
   where
     none : List X
     none = []
+
     go : (b : Bool) → cond b none none ≡ none
     go true = refl
     go false = refl
@@ -137,6 +138,7 @@ span_stays i pair past made used = go (is_reused i past) refl
   where
     test : Place → Bool
     test = uses_id i.dialogue i.id
+
     go : (b : Bool) → is_reused i past ≡ b → span i (pair ∷ past) ≡ span i past
     go true e = ap (λ ps. spanned i (up_to test ps)) (after_made i.number pair past made) ∙ ap (spanned i) (up_to-found test (after_invoke i.number past) (place pair past ∷ []) e)
     go false e =

@@ -72,6 +72,7 @@ module _ (start : Start) (pair : Pair) (past : Past) (i : Invocation) (legal : A
     where
       found : invocation_of i.number past ≡ Some i
       found = let stays : invocation_of i.number (pair ∷ past) ≡ Some j = invocation_stays i.number pair past j q in let same : j ≡ i = cc in q ∙ ap Some same
+
       go : (b : Bool) → is_reused i past ≡ b → (p : Option Invocation) → invoked_by pair ≡ p → (is_reused i past || is_invoked (has_id i.dialogue i.id) p) ≡ true → is_some (outcome i.number past) ≡ true
       go true r p w u = ih found r
       go false r None w u = let never : (false || false) ≡ true = rw r at u in absurd cc

@@ -1,5 +1,5 @@
 -- What is told of all invocations tells of the number n what it tells of the one of that number.
-use Rattle.std.proofs.Common.{◌≡◌, ℕ, ℤ, ◌==◌, Bool, true, false, cond, ◌&&◌, nat_le, List, [], ◌∷◌, ◌++◌, map, Option, Some, None, refl, ap, sym, ◌∙◌, subst, arith, append_assoc}
+use Rattle.std.proofs.Common.{◌≡◌, ℕ, ◌==◌, Bool, true, false, cond, ◌&&◌, nat_le, List, [], ◌∷◌, ◌++◌, Option, Some, None, refl, ap, sym, ◌∙◌, arith, append_assoc}
 use Rattle.std.proofs.lemmas.Bool.Decides.{nat_tests}
 use Rattle.std.proofs.lemmas.List.{append-nil}
 use Rattle.std.proofs.lemmas.List.Folds.{flat_map-map}
@@ -90,6 +90,7 @@ told_filter_map n place g (i ∷ is) = go (g i) (told_filter_map n place g is)
   where
     rest : List Told
     rest = flat_map (λ i. told_if_any n place (g i)) is
+
     go : (o : Option Output) → told n place (filter_map g is) ≡ rest → told n place (cons_option o (filter_map g is)) ≡ told_if_any n place o ++ rest
     go None e = e
     go (Some output) e = ap (λ z. told_by_output n place output ++ z) e
@@ -101,7 +102,7 @@ module _ (n : ℕ) (place past : Past) (dialogue : ℕ) (items : List Item) wher
   ended_told i = told_if_any n place (ended_of dialogue past items i)
 
   ended_others : (i : Invocation) → (i.number == n) ≡ false → ended_told i ≡ []
-  ended_others i e = go ((i.dialogue == dialogue) && is_none (first_closing i.class i.timeout (marks_up_to past items i))) 
+  ended_others i e = go ((i.dialogue == dialogue) && is_none (first_closing i.class i.timeout (marks_up_to past items i)))
     where
       go : (b : Bool) → told_if_any n place (cond b (Some (Output.closed dialogue i.number i.id Closing.ended)) None) ≡ []
       go true = rw e refl
@@ -115,7 +116,7 @@ module _ (n : ℕ) (place past : Past) (dialogue : ℕ) (items : List Item) wher
 -- ---- lapses
 
 module _ (n : ℕ) (place past : Past) where
-  abbrev lapse : Lapsing → List Told
+  abbrev pub lapse : Lapsing → List Told
   lapse l = told_by_output n place (lapse_told l)
 
   abbrev IsOne : Lapsing → Type 0
@@ -162,7 +163,7 @@ module _ (n : ℕ) (place past : Past) where
   told_in_order [] p = refl
   told_in_order (x ∷ xs) p = told_put x (in_order xs) p.0 (each_in_order xs p.1) ∙ ap (λ z. lapse x ++ z) (told_in_order xs p.1)
 
-  abbrev lapse_if_any : Option Lapsing → List Told
+  abbrev pub lapse_if_any : Option Lapsing → List Told
   lapse_if_any None = []
   lapse_if_any (Some l) = lapse l
 
@@ -173,9 +174,11 @@ module _ (n : ℕ) (place past : Past) where
       where
         rest : List Lapsing
         rest = filter_map (lapsing_at past now) is
+
         one : (b : Bool) (t : ℕ) → AllByRecursion IsOne rest → AllByRecursion IsOne (cons_option (cond b (Some (record { deadline = t; invocation = i })) None) rest)
         one true t q = (p.0, q)
         one false t q = q
+
         go : (b : Bool) (o : Option ℕ) → AllByRecursion IsOne rest → AllByRecursion IsOne (cons_option (lapsing_by now b i o) rest)
         go b None q = q
         go b (Some t) q = one (b && nat_le t now) t q
@@ -197,6 +200,7 @@ module _ (n : ℕ) (place past : Past) where
         one : (b : Bool) (t : ℕ) → lapse_if_any (cond b (Some (record { deadline = t; invocation = i })) None) ≡ []
         one true t = rw e refl
         one false t = refl
+
         go : (b : Bool) (o : Option ℕ) → lapse_if_any (lapsing_by now b i o) ≡ []
         go b None = refl
         go b (Some t) = one (b && nat_le t now) t

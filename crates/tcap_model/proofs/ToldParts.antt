@@ -1,5 +1,5 @@
 -- What a message tells of the invocation that is the latest of its identifier, component by component.
-use Rattle.std.proofs.Common.{◌≡◌, ℕ, ℤ, ◌==◌, Bool, true, false, cond, List, [], ◌∷◌, ◌++◌, Option, Some, None, Result, Ok, Err, refl, ap, sym, ◌∙◌, subst, arith, append_assoc}
+use Rattle.std.proofs.Common.{◌≡◌, ℕ, ℤ, ◌==◌, Bool, true, false, cond, List, [], ◌∷◌, ◌++◌, Option, Some, None, Ok, Err, refl, ap, sym, ◌∙◌, subst, arith, append_assoc}
 use Rattle.std.proofs.lemmas.Bool.Decides.{nat_tests, Decides-int_eq}
 use Rattle.std.proofs.lemmas.List.{append-nil}
 use Rattle.std.specs.Option.{option_or}
@@ -167,8 +167,10 @@ module _ (start : Start) (past place : Past) (n : ℕ) (i : Invocation) (legal :
       where
         M : List Noted
         M = marks_up_to past earlier i
+
         ms : List Mark
         ms = marks_of_component i.id c
+
         rest : List Mark
         rest = component_marks i.id items
 

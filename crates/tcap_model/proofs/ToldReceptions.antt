@@ -1,23 +1,23 @@
 -- What received bytes tell of the number n, by what its dialogue tells.
-use Rattle.std.proofs.Common.{◌≡◌, ℕ, ℤ, ◌<◌, ◌≤◌, ◌==◌, Bool, true, false, cond, ◌||◌, nat_le, nat_lt, List, [], ◌∷◌, ◌++◌, length, Option, Some, None, Result, Ok, Err, refl, ap, sym, ◌∙◌, subst, arith}
+use Rattle.std.proofs.Common.{◌≡◌, ℕ, ◌==◌, Bool, true, false, cond, ◌||◌, nat_le, nat_lt, List, [], ◌∷◌, ◌++◌, length, Option, Some, None, Result, Ok, Err, refl, ap, sym, ◌∙◌, subst, arith}
 use Rattle.std.proofs.lemmas.Bool.Decides.{nat_tests}
-use Rattle.std.specs.Prelude.{option_to_list, is_some}
+use Rattle.std.specs.Prelude.{option_to_list}
 use Rattle.tcap_component.specs.ComponentReading.{components_of}
 use Rattle.tcap_model.proofs.QuietDialogues.{IsQuiet, components_quiet, taken_quiet}
 use Rattle.tcap_model.proofs.ToldOutputs.{told, told-append, uni_silent}
 use Rattle.tcap_model.specs.AbortRules.{fault_cause}
 use Rattle.tcap_model.specs.Birth.{next_dialogue}
 use Rattle.tcap_model.specs.Closings.{Told}
-use Rattle.tcap_model.specs.Destination.{destination, begins_addressed, destination_by}
+use Rattle.tcap_model.specs.Destination.{destination_by}
 use Rattle.tcap_model.specs.Event.{Event}
 use Rattle.tcap_model.specs.History.{History}
-use Rattle.tcap_model.specs.Life.{Life, life, live_in}
+use Rattle.tcap_model.specs.Life.{life, live_in}
 use Rattle.tcap_model.specs.LocalId.{dialogue_named, is_that}
 use Rattle.tcap_model.specs.Names.{names, named_within, is_destined}
 use Rattle.tcap_model.specs.Output.{Output, AbortCause, DropCause}
 use Rattle.tcap_model.specs.Pair.{Past}
 use Rattle.tcap_model.specs.PortionRules.{BeginVerdict, begin_verdict, PortionVerdict, uni_verdict}
-use Rattle.tcap_model.specs.Reception.{Reception, reception, reading_by, message_by, uni_by, begin_by, continue_by, last_by, live_named, addressed, addressed_if_any, faulty, fault_by, fault_abort, faulty_last, faulty_continue, aborted_or_dropped}
+use Rattle.tcap_model.specs.Reception.{Reception, reception, reading_by, message_by, uni_by, begin_by, continue_by, last_by, live_named, addressed, addressed_if_any, faulty, fault_abort, faulty_last, faulty_continue, aborted_or_dropped}
 use Rattle.tcap_model.specs.Reply.{reception_outputs, taken_outputs, ended_in}
 use Rattle.tcap_pdu.specs.declared.fault.FrameFault.{FrameFault}
 use Rattle.tcap_pdu.specs.FrameReading.{frame_at}
@@ -63,6 +63,7 @@ module _ (n : ℕ) (place : Past) (h : History) (dialogue : ℕ) (bytes : List �
           let is : d ≡ dialogue = grind (arith, nat_tests) in
           subst (λ (d : ℕ). Tells (by (Some d))) (sym is) (here (e ∙ q) (ap (is_live_in h) (sym is) ∙ p))
       at d true false p q e = other d (w.elsewhere d q) (w.unnamed (e ∙ q))
+
       go : (o : Option ℕ) → names (Event.received bytes) dialogue ≡ is_that dialogue o → Tells (by (live_named (is_live_in h) o))
       go None e = none (w.unnamed e)
       go (Some d) e = at d (is_live_in h d) (d == dialogue) refl refl e
@@ -129,7 +130,7 @@ module _ (n : ℕ) (place : Past) (h : History) (dialogue : ℕ) (bytes : List �
 
   first_tells : (f : FrameFault) (front origin : Option (List ℕ)) → frame_at bytes ≡ Err f → (a b c d : Bool) → (a ≡ true → (b || c || d) ≡ false) → names (Event.received bytes) dialogue ≡ is_destined dialogue (cond (b || c || d) front None)
       → Tells (cond a (Reception.dropped DropCause.bad_message) (cond b (faulty_last (addressed_if_any (is_live_in h) front) f)
-        (cond c (faulty_continue (addressed_if_any (is_live_in h) front) (fault_abort f origin) f) (cond d (faulty_last (addressed_if_any (is_live_in h) front) f) (aborted_or_dropped (fault_abort f origin))))))
+      (cond c (faulty_continue (addressed_if_any (is_live_in h) front) (fault_abort f origin) f) (cond d (faulty_last (addressed_if_any (is_live_in h) front) f) (aborted_or_dropped (fault_abort f origin))))))
   first_tells f front origin q true b c d apart e =
       let other : (b || c || d) ≡ false = apart refl in
       sym (w.unnamed (e ∙ ap (λ x. is_destined dialogue (cond x front None)) other))

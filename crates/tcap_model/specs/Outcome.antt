@@ -3,12 +3,12 @@ use Rattle.std.specs.Prelude.{ℕ, ◌&&◌, List, [], ◌∷◌, ◌++◌, Bool
 use Rattle.std.specs.Option.{option_or}
 use Rattle.tcap_invocation.specs.declared.class.Class.{Class}
 use Rattle.tcap_model.specs.Closes.{closes}
-use Rattle.tcap_model.specs.Deadline.{sent_clock}
+use Rattle.tcap_model.specs.Deadline.{is_sent, sent_clock}
 use Rattle.tcap_model.specs.Invocation.{Invocation, invocation_of}
 use Rattle.tcap_model.specs.Marks.{Noted}
 use Rattle.tcap_model.specs.Output.{Closing}
 use Rattle.tcap_model.specs.Pair.{Past}
-use Rattle.tcap_model.specs.Span.{span}
+use Rattle.tcap_model.specs.Span.{up_to, span}
 
 -- What the first of some marks that closes gives, each judged by those before it (own).
 abbrev pub closing_after : Class → ℕ → List Noted → List Noted → Option Closing
@@ -26,6 +26,11 @@ is_sent_in class timeout marks = is_some (sent_clock marks) && is_none (first_cl
 -- The invocation is queued: its Invoke hasn't gone out, and no mark closes it (own).
 abbrev pub is_queued_in : Class → ℕ → List Noted → Bool
 is_queued_in class timeout marks = is_none (sent_clock marks) && is_none (first_closing class timeout marks)
+
+-- The invocation was sent: its Invoke went out, and no mark before that closes it. What closes it after
+-- that doesn't matter, be it in the same event (Q.774, Operation Sent).
+abbrev pub was_sent_in : Class → ℕ → List Noted → Bool
+was_sent_in class timeout marks = is_some (sent_clock marks) && is_none (first_closing class timeout (up_to (λ (noted : Noted). is_sent noted.mark) marks))
 
 -- The outcome of an invocation, where there is one (own).
 abbrev pub outcome_of : Option Invocation → Past → Option Closing

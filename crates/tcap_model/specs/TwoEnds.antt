@@ -10,9 +10,8 @@ use Rattle.tcap_model.specs.Event.{Event}
 use Rattle.tcap_model.specs.Invocation.{Invocation, invocation_of, invoked_by}
 use Rattle.tcap_model.specs.Life.{Life, life}
 use Rattle.tcap_model.specs.LocalId.{local_id}
-use Rattle.tcap_model.specs.Marks.{Mark, Noted}
 use Rattle.tcap_model.specs.Net.{Engine, far, Trace, side, Net, IsNet}
-use Rattle.tcap_model.specs.Outcome.{first_closing}
+use Rattle.tcap_model.specs.Outcome.{was_sent_in}
 use Rattle.tcap_model.specs.Output.{Output, Closing, Rejector}
 use Rattle.tcap_model.specs.Pair.{Pair, Past}
 use Rattle.tcap_model.specs.Places.{StandsIn, Tells}
@@ -104,17 +103,12 @@ pub record WasOpened (engine : Engine) (dialogue : ℕ) (trace : Trace) : Type 0
   pub is_event : pair.event ≡ Event.new_dialogue
   pub is_answer : pair.answer ≡ Answer.new_dialogue dialogue
 
--- The Invoke of the invocation of a number was sent: its marks have a Sent mark, and none before it
--- closes the invocation (Q.774, Operation Sent).
+-- The Invoke of the invocation of a number was sent: a message took it, and nothing had closed the
+-- invocation before (Q.774, Operation Sent).
 pub record WasSent (number : ℕ) (past : Past) : Type 0 where
   pub invocation : Invocation
-  pub earlier : List Noted
-  pub sent : Noted
-  pub later : List Noted
   pub is_invocation : invocation_of number past ≡ Some invocation
-  pub is_span : span invocation past ≡ earlier ++ sent ∷ later
-  pub is_mark : sent.mark ≡ Mark.sent
-  pub is_open : first_closing invocation.class invocation.timeout earlier ≡ None
+  pub is_sent : was_sent_in invocation.class invocation.timeout (span invocation past) ≡ true
 
 -- After the Invoke: every far request that an answer to an invocation may come from was made after the
 -- invocation's Invoke was sent (own).

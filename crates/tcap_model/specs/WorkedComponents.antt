@@ -1,16 +1,16 @@
 -- The histories on which the statements about components are instantiated, and queues that are crossed.
-use Rattle.std.specs.Prelude.{ℕ, ℤ, pos, negsuc, List, [], ◌∷◌, drop, Option, None, Some, false}
+use Rattle.std.specs.Prelude.{ℕ, pos, negsuc, List, [], ◌∷◌, drop, None, Some, false}
 use Rattle.tcap_pdu.specs.FrameSpelling.{Message}
 use Rattle.tcap_component.specs.Component.{ComponentParts}
 use Rattle.tcap_component.specs.ComponentFault.{FaultParts}
 use Rattle.tcap_invocation.specs.declared.class.Class.TheVariants.{One}
 use Rattle.tcap_model.specs.Answer.{Answer}
-use Rattle.tcap_model.specs.ExampleValues.{context, aarq, begin_with_aarq, general, code}
+use Rattle.tcap_model.specs.ExampleValues.{context, aarq, begin_with_aarq, general, of_result, code}
 use Rattle.tcap_model.specs.Hex.{hex}
 use Rattle.tcap_model.specs.Output.{Output}
 use Rattle.tcap_model.specs.Pair.{Pair, Past}
 use Rattle.tcap_model.specs.WorkedReception as reception
-use Rattle.tcap_model.specs.WorkedStatements.{faulty_second_component}
+use Rattle.tcap_model.specs.WorkedStatements.{faulty_second_component, lapse_and_late_result}
 use Rattle.tcap_model.specs.WorkedWords.{born, invoke, request, receive, plain_begin, plain_continue, continued, empty_result, engine}
 use Rattle.tcap_model.specs.WorkedWrong.{Wrong, wrong}
 
@@ -60,6 +60,28 @@ reject = ComponentParts.reject_back (Some (pos 7)) (general 0) ∷ []
 -- What stands before it (own).
 abbrev pub before_the_reject : Past
 before_the_reject = drop 1 past
+
+-- ---- an Invoke that goes out, and a Reject of its late result
+
+-- The pairs of "Lapse and late result" (own).
+abbrev pub late : Past
+late = lapse_and_late_result.pairs
+
+-- The Begin with the Invoke (own).
+abbrev pub first_message : Message
+first_message = Message.begin (hex 4 0x00000001) None (hex 8 0xA106_020101_02010A)
+
+-- Its component (own).
+abbrev pub first_invoke : ComponentParts
+first_invoke = ComponentParts.invoke (pos 1) None (code 10) None
+
+-- The Continue with the Reject (own).
+abbrev pub late_message : Message
+late_message = Message.go_on (hex 4 0x00000001) (hex 4 0x00000005) None (hex 8 0xA406_020101_820100)
+
+-- Its component: there is no such invocation (own).
+abbrev pub late_reject : ComponentParts
+late_reject = ComponentParts.reject_back (Some (pos 1)) (of_result 0)
 
 -- ---- a result that comes
 
@@ -135,3 +157,13 @@ crossed_queues = wrong engine (
     ∷ invoke 1 (pos 1) One (pos 10) 1000 (Answer.number 1)
     ∷ [])
     (request 2 plain_begin (Answer.outputs (Output.send crossed_sent ∷ [])))
+
+-- ---- an Invoke that is misread
+
+-- The Begin asks for operation 2, and operation 3 is told (own).
+abbrev pub misread_told : Output
+misread_told = Output.invoked (Some 1) (pos 1) None (code 3) (Some (hex 5 0x3003_0401AA))
+
+-- It is all that happens (own).
+abbrev pub misread : Wrong
+misread = wrong engine [] (receive begin_with_aarq (Output.begin 1 (Some context) [] ∷ misread_told ∷ []))

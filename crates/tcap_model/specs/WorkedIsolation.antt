@@ -1,14 +1,19 @@
 -- The history on which isolation is instantiated: two dialogues, and two invocation numbers.
-use Rattle.std.specs.Prelude.{ℕ, pos, ◌-◌, ◌^◌, List, [], ◌∷◌, reverse, drop, None}
+use Rattle.std.specs.Prelude.{ℕ, pos, ◌-◌, ◌^◌, List, [], ◌∷◌, reverse, drop, None, Bool, true, false, ◌&&◌}
 use Rattle.tcap_invocation.specs.declared.class.Class.TheVariants.{One}
 use Rattle.tcap_model.specs.Answer.{Answer}
+use Rattle.tcap_model.specs.Birth.{was_born}
 use Rattle.tcap_model.specs.Event.{Event}
 use Rattle.tcap_model.specs.ExampleValues.{code, result_of_first}
 use Rattle.tcap_model.specs.Hex.{hex}
 use Rattle.tcap_model.specs.History.{Start, History}
+use Rattle.tcap_model.specs.Isolation.{IsAlone}
+use Rattle.tcap_model.specs.Names.{names}
+use Rattle.tcap_model.specs.Net.{Engine, side}
 use Rattle.tcap_model.specs.Output.{Output, Closing}
 use Rattle.tcap_model.specs.Pair.{Pair, Past}
 use Rattle.tcap_model.specs.Request.{Request}
+use Rattle.tcap_model.specs.WorkedNets.{repeated_begin, heard_as_one}
 use Rattle.tcap_model.specs.WorkedWords.{born, invoke, request, advance, plain_begin}
 
 -- The first of the last two invocation numbers (own).
@@ -46,16 +51,19 @@ second_lapses = Output.closed 2 last_but_one (pos 1) Closing.lapsed
 -- Two dialogues, each with an invocation that lapses at the same moment, in order of time; no number is
 -- left after them (own).
 abbrev pub two_dialogues : History
-two_dialogues = record { start = two_left; pairs = reverse (
-    advance 5 []
-    ∷ born 1
-    ∷ born 2
-    ∷ invoke 2 (pos 1) One (pos 10) 1000 (Answer.number last_but_one)
-    ∷ invoke 1 (pos 1) One (pos 10) 1000 (Answer.number last)
-    ∷ begins 2 second_begin
-    ∷ begins 1 first_begin
-    ∷ advance 1005 (first_lapses ∷ second_lapses ∷ [])
-    ∷ []) }
+two_dialogues = record {
+  start = two_left;
+  pairs = reverse (
+      advance 5 []
+      ∷ born 1
+      ∷ born 2
+      ∷ invoke 2 (pos 1) One (pos 10) 1000 (Answer.number last_but_one)
+      ∷ invoke 1 (pos 1) One (pos 10) 1000 (Answer.number last)
+      ∷ begins 2 second_begin
+      ∷ begins 1 first_begin
+      ∷ advance 1005 (first_lapses ∷ second_lapses ∷ [])
+      ∷ []);
+}
 
 -- What the first dialogue sees of it, in order of time (own).
 abbrev pub first_alone : Past
@@ -94,3 +102,24 @@ first_hears = Event.received result_of_first
 -- The moment at which both lapse (own).
 abbrev pub both_lapse : Event
 both_lapse = Event.moment 1005
+
+-- ---- at every place
+
+-- A fact that is asked only where the test holds (own).
+abbrev pub where_so : Bool → Type 0 → Type 0
+where_so false fact = Unit {0}
+where_so true fact = fact
+
+-- The dialogue is alone for each event of a history that names it after its birth (own).
+abbrev pub IsAloneThroughout : ℕ → Start → Past → Type 0
+IsAloneThroughout dialogue start [] = Unit {0}
+IsAloneThroughout dialogue start (pair ∷ past) =
+    where_so (was_born dialogue past && names pair.event dialogue) (IsAlone (record { start = start; pairs = past }) dialogue pair.event) × IsAloneThroughout dialogue start past
+
+-- The second engine of "Repeated Begin": two dialogues that are born of one Begin (own).
+abbrev pub of_one_begin : Past
+of_one_begin = side Engine.b repeated_begin.trace
+
+-- The first engine of "two dialogues heard as one": two dialogues with one peer (own).
+abbrev pub with_one_peer : Past
+with_one_peer = side Engine.a heard_as_one.trace

@@ -1,19 +1,20 @@
 -- Two engines on which the statements about two ends are instantiated, and two pairs of engines that
 -- break a premise of "after the Invoke".
-use Rattle.std.specs.Prelude.{ℕ, ℤ, pos, List, [], ◌∷◌, reverse, map, drop, None, Some}
+use Rattle.std.specs.Prelude.{ℕ, ℤ, pos, List, [], ◌∷◌, reverse, drop, None, Some}
 use Rattle.tcap_component.specs.Component.{CodeParts, BodyParts}
-use Rattle.tcap_invocation.specs.declared.class.Class.TheVariants.{One}
+use Rattle.tcap_invocation.specs.declared.class.Class.TheVariants.{One, Four}
 use Rattle.tcap_model.specs.Answer.{Answer}
+use Rattle.tcap_model.specs.ExampleValues.{code}
 use Rattle.tcap_model.specs.Hex.{hex}
 use Rattle.tcap_model.specs.History.{Start}
 use Rattle.tcap_model.specs.Net.{Engine, far, Marked, Trace, side, Net}
 use Rattle.tcap_model.specs.Output.{Output, Closing}
 use Rattle.tcap_model.specs.Pair.{Pair}
 use Rattle.tcap_model.specs.Places.{Tells}
-use Rattle.tcap_model.specs.Request.{Request}
+use Rattle.tcap_model.specs.Request.{Request, Ending}
 use Rattle.tcap_model.specs.TwoEnds.{Happens, IsAnswer, IsFarRequest, WasSent}
 use Rattle.tcap_model.specs.WorkedPlay as play
-use Rattle.tcap_model.specs.WorkedWords.{born, invoke, request, receive, plain_begin, plain_continue, continued, empty_result}
+use Rattle.tcap_model.specs.WorkedWords.{born, invoke, request, receive, advance, plain_begin, plain_continue, continued, empty_result}
 
 -- The start of the engines of a play: at most 16 dialogues, a second to wait for a Reject (own).
 abbrev pub play_start : Start
@@ -120,6 +121,25 @@ answered_ahead = played (
     ∷ at_a (receive result (continued 1 ∷ Output.closed 1 1 (pos 1) empty_result ∷ []))
     ∷ [])
 
+-- ---- an identifier used again
+
+-- The first engine is told the result of its first Invoke; when the identifier is free again it sends a
+-- second one with it, and the same Continue is delivered again (own).
+abbrev pub used_again : Net
+used_again = played (
+    at_a (born 1)
+    ∷ at_a (invoke 1 (pos 1) One (pos 10) 5000 (Answer.number 1))
+    ∷ at_a (request 1 plain_begin (sends (hex 18 0x6210_480400000001_6C08_A106_020101_02010A)))
+    ∷ at_b (receive (hex 18 0x6210_480400000001_6C08_A106_020101_02010A) (Output.begin 1 None [] ∷ invoked 1 ∷ []))
+    ∷ at_b (request 1 answer Answer.done)
+    ∷ at_b (request 1 plain_continue (sends result))
+    ∷ at_a (receive result (continued 1 ∷ Output.closed 1 1 (pos 1) empty_result ∷ []))
+    ∷ at_a (advance 1000 [])
+    ∷ at_a (invoke 1 (pos 1) One (pos 10) 5000 (Answer.number 2))
+    ∷ at_a (request 1 plain_continue (sends (hex 24 0x6516_480400000001_490400000001_6C08_A106_020101_02010A)))
+    ∷ at_a (receive result (continued 1 ∷ Output.closed 1 2 (pos 1) empty_result ∷ []))
+    ∷ [])
+
 -- ---- two dialogues heard as one
 
 -- The second engine opens a dialogue, and its Begin is delivered twice. So one dialogue of the second
@@ -141,4 +161,57 @@ heard_as_one = played (
     ∷ at_a (invoke 1 (pos 1) One (pos 10) 1000 (Answer.number 2))
     ∷ at_a (request 1 plain_continue (sends (hex 24 0x6516_480400000001_490400000001_6C08_A106_020101_02010A)))
     ∷ at_a (receive result (continued 1 ∷ Output.closed 1 2 (pos 1) empty_result ∷ []))
+    ∷ [])
+
+-- ---- an Invoke that ends what carries it
+
+-- A Unidirectional carries an Invoke of class 4 and operation 7, which ends with it (own).
+abbrev pub alone_sent : List ℕ
+alone_sent = hex 12 0x610A_6C08_A106_020101_020107
+
+-- The Unidirectional is told, with its Invoke (own).
+abbrev pub alone_told : Pair
+alone_told = receive alone_sent (Output.uni None [] ∷ Output.invoked None (pos 1) None (code 7) None ∷ [])
+
+-- It goes from the first engine to the second (own).
+abbrev pub in_a_unidirectional : Net
+in_a_unidirectional = played (
+    at_a (born 1)
+    ∷ at_a (invoke 1 (pos 1) Four (pos 7) 1000 (Answer.number 1))
+    ∷ at_a (request 1 (Request.uni None []) (Answer.outputs (Output.send alone_sent ∷ Output.closed 1 1 (pos 1) Closing.ended ∷ [])))
+    ∷ at_b alone_told
+    ∷ [])
+
+-- An End carries an Invoke, which ends with it (own).
+abbrev pub end_sent : List ℕ
+end_sent = hex 18 0x6410_490400000001_6C08_A106_020101_02010A
+
+-- The End is told, with its Invoke (own).
+abbrev pub end_told : Pair
+end_told = receive end_sent (Output.end 1 None [] ∷ invoked 1 ∷ [])
+
+-- The second engine ends a dialogue of the first with an End that has an Invoke (own).
+abbrev pub in_an_end : Net
+in_an_end = played (
+    at_a (born 1)
+    ∷ at_a (request 1 plain_begin (sends (hex 8 0x6206_480400000001)))
+    ∷ at_b (receive (hex 8 0x6206_480400000001) (Output.begin 1 None [] ∷ []))
+    ∷ at_b (invoke 1 (pos 1) One (pos 10) 1000 (Answer.number 1))
+    ∷ at_b (request 1 (Request.finish Ending.basic None []) (Answer.outputs (Output.send end_sent ∷ Output.closed 1 1 (pos 1) Closing.ended ∷ [])))
+    ∷ at_a end_told
+    ∷ [])
+
+-- ---- forged messages
+
+-- The first engine hears a result that nobody sent, and the second an Invoke that nobody asked for: each
+-- answers as it should, but what they hear isn't what the other sent (own).
+abbrev pub forged : Net
+forged = played (
+    at_a (born 1)
+    ∷ at_a (request 1 plain_begin (sends (hex 8 0x6206_480400000001)))
+    ∷ at_a (invoke 1 (pos 1) One (pos 10) 1000 (Answer.number 1))
+    ∷ at_a (receive (hex 14 0x650C_480400000001_490400000001) (continued 1 ∷ []))
+    ∷ at_a (request 1 plain_continue (sends (hex 24 0x6516_480400000001_490400000001_6C08_A106_020101_02010A)))
+    ∷ at_a (receive result (continued 1 ∷ Output.closed 1 1 (pos 1) empty_result ∷ []))
+    ∷ at_b (receive (hex 18 0x6210_480400000001_6C08_A106_020101_02010B) (Output.begin 1 None [] ∷ Output.invoked (Some 1) (pos 1) None (code 11) None ∷ []))
     ∷ [])

@@ -7,7 +7,6 @@ use Rattle.tcap_model.specs.Invocation.{Invocation}
 use Rattle.tcap_model.specs.Output.{Closing}
 use Rattle.tcap_model.specs.WorkedClosing as closing
 use Rattle.tcap_model.specs.WorkedEnds as ends
-use Rattle.tcap_model.specs.WorkedWords.{empty_result}
 
 -- Number 1 is answered; number 2 ends with its dialogue, at a second AARE (own).
 abbrev pub repeated_aare : History

@@ -1,5 +1,5 @@
 -- The parts of a dialogue PDU: what is read is spelled so, and what is spelled so is read.
-use Rattle.std.proofs.Common.{◌≡◌, ℕ, ◌≤◌, Bool, true, false, cond, ltb, leb, eqb, ◌&&◌, List, [], ◌∷◌, map, is_ok, Option, Some, None, Ok, Err, Result, unwrap_or, refl, sym, ap, subst, ◌∙◌, inl, inr, eqb-true, append-nil}
+use Rattle.std.proofs.Common.{◌≡◌, ℕ, ◌≤◌, Bool, true, false, cond, ltb, leb, eqb, ◌&&◌, List, [], ◌∷◌, length, map, is_ok, Option, Some, None, Ok, Err, Result, unwrap_or, refl, sym, ap, subst, ◌∙◌, inl, inr, eqb-true, append-nil}
 use Rattle.std.proofs.lemmas.Bool.{cases_Bool, ltb-false, le-ltb}
 use Rattle.std.specs.List.{AllByRecursion, list_all}
 use Rattle.ber_core.specs.declared.fault.BerFault.{BerFault}
@@ -11,7 +11,7 @@ use Rattle.ber_core.specs.ObjectIdentifier.{IsObjectIdentifier, is_object_identi
 use Rattle.ber_core.specs.Sequence.{Field, InOrder, SpellsSequence, IsOnly}
 use Rattle.ber_core.specs.Sequence.Field.{must, may, filled}
 use Rattle.ber_core.specs.SequenceReading.{tagged, content_at, only_at, alone_at, ending}
-use Rattle.ber_core.proofs.CallerLemmas.{some_is, not_some, bind_some, guard_some, test_some, ending-is, ending-again, items_of-list, is_tag-is, is_tag-one, may_takes, must_takes, filled_takes, end_takes, may_again, must_again, filled_again, end_again, only_takes, only_again, alone_takes, alone_again, list_takes, object_identifier_takes, object_identifier_again}
+use Rattle.ber_core.proofs.CallerLemmas.{some_is, not_some, bind_some, guard_some, test_some, ending-is, ending-again, items_of-list, items_of-none, is_tag-is, is_tag-one, may_takes, must_takes, filled_takes, end_takes, may_again, must_again, filled_again, end_again, only_takes, only_again, alone_takes, alone_again, list_takes, object_identifier_takes, object_identifier_again}
 use Rattle.tcap_pdu.specs.DialogueSpelling.{Source, source_tag, source_number, SaysVersion, IsExternal, IsInformation, SpellsDiagnostic}
 use Rattle.tcap_pdu.specs.DialogueSpelling.Source.{user, provider}
 use Rattle.tcap_pdu.specs.DialoguePartsReading.{one_octet, Tagged, tag_and, one_at, is_external, is_information, information_at, version_of, version_and, version_at, context_at, Opening, opening, opening_at, number_at, source_of, diagnostic_at}
@@ -227,3 +227,6 @@ diagnostic_takes bytes d e =
 pub diagnostic_again : (bytes : List ℕ) (d : Source) → SpellsDiagnostic d bytes → diagnostic_at bytes ≡ Some d
 unfolding diagnostic_at
 diagnostic_again bytes d s = rw (one_again (source_tag d) s.held bytes s.is_source) (rw (number_again s.held (source_number d) s.holds_number) (source_again d s.in_range))
+
+pub information_none : (bytes : List ℕ) → length bytes ≡ 0 → is_information bytes ≡ true
+information_none bytes e = rw (items_of-none bytes e) refl

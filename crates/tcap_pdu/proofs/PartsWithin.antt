@@ -1,10 +1,10 @@
 -- The contents of a portion are no longer than the written message.
-use Rattle.std.proofs.Common.{◌≡◌, ℕ, ◌+◌, ◌≤◌, List, [], ◌∷◌, length, Option, Some, None, unwrap_or, option_map, arith}
-use Rattle.tcap_pdu.specs.FrameSpelling.{Reason, Message}
+use Rattle.std.proofs.Common.{ℕ, ◌≤◌, List, [], ◌∷◌, length, Option, Some, None, unwrap_or, option_map, arith}
+use Rattle.tcap_pdu.specs.FrameSpelling.{Message}
 use Rattle.tcap_pdu.specs.FrameSpelling.Reason.{nothing, cause, portion}
 use Rattle.tcap_pdu.specs.FrameSpelling.Message.{unidirectional, begin, end, go_on, abort}
 use Rattle.tcap_pdu.specs.FrameWritten.{written_frame}
-use Rattle.tcap_pdu.specs.FrameLength.{dialogue_of, dialogue_length, element_length, may_length, filled_length, content_length}
+use Rattle.tcap_pdu.specs.FrameLength.{dialogue_of, dialogue_length, may_length, filled_length, content_length}
 use Rattle.tcap_pdu.proofs.LengthGrammar.{content-fits, length-own}
 
 pub contents_within : (m : Message) → content_length (option_map length (dialogue_of m)) m ≤ length (written_frame m)

@@ -46,6 +46,7 @@ impl Clone for TransId {
 
 impl TransId {
     /// The identifier with these octets; `None` unless they are 1 to 4 (Q.773, Transaction ID).
+    #[inline(always)]
     pub fn new(octets: &[u8]) -> Option<TransId>
         ensures found { IsSome result ↔ IsTransId octets.now }
         ensures value { IfSome result (λ id. id ≡ octets.now) }
@@ -78,6 +79,7 @@ impl TransId {
     }
 
     /// The octets, 1 to 4 (Q.773, Transaction ID).
+    #[inline(always)]
     pub fn octets(&self) -> &[u8]
         ensures value { result.now ≡ self.now }
         ensures within { IsTransId result.now }

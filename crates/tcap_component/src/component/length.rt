@@ -1,6 +1,7 @@
 //! Why a component can't be written, and how long it is written; no memory is taken.
 
-ghost use Rattle.std.specs.Prelude.{◌≡◌, ℕ, ◌+◌, ◌<◌, ◌^◌, length, ◌↔◌, option_copied, IsNone, IfSome};
+ghost use Rattle.std.specs.Prelude.{◌≡◌, ℕ, ◌+◌, ◌<◌, ◌≤◌, ◌^◌, length, ◌↔◌, option_copied, IsNone, IfSome, IfOk, IfErr};
+ghost use Rattle.ber_core.specs.Length.{length_limit};
 ghost use Rattle.std.specs.Option.{option_map};
 ghost use Rattle.ber_core.specs.Integer.{integer_octets};
 ghost use Rattle.ber_core.specs.Sequence.Field.{may, any};
@@ -15,6 +16,7 @@ use crate::fault::WriteFault;
 use ber_core::{MAX_LENGTH, is_oid, read_alone};
 
 /// The code and the parameter of a component; a Reject and a result without a body have none.
+#[inline(always)]
 fn coded<'a>(component: &Component<'a>) -> Option<Body<'a>>
     ensures { option_map body_parts result ≡ coded_part (component_parts component.now) }
 {
@@ -36,6 +38,7 @@ fn coded<'a>(component: &Component<'a>) -> Option<Body<'a>>
 }
 
 /// Whether a global code is an object identifier.
+#[inline(always)]
 fn is_code(code: &Code<'_>) -> bool
     ensures { result ≡ can_code (code_parts code.now) }
 {
@@ -46,6 +49,7 @@ fn is_code(code: &Code<'_>) -> bool
 }
 
 /// Whether a parameter is one element and nothing after it.
+#[inline(always)]
 fn is_parameter(parameter: Option<&[u8]>) -> bool
     ensures { result ≡ can_hold (option_copied parameter.entry) }
 {
@@ -58,7 +62,8 @@ fn is_parameter(parameter: Option<&[u8]>) -> bool
 // ---- lengths
 
 /// The length of an element with a tag of one octet, in octets.
-fn element_len(content: usize) -> usize
+#[inline(always)]
+pub fn element_len(content: usize) -> usize
     requires { content < 2 ^ 63 + 2 ^ 11 }
     ensures { result ≡ 1 + length (length_octets content) + content }
 {
@@ -72,6 +77,7 @@ fn element_len(content: usize) -> usize
 }
 
 /// How many octets an integer has, 1 to 4.
+#[inline(always)]
 fn integer_len(value: i32) -> usize
     ensures { result ≡ length (integer_octets value) }
 {
@@ -87,6 +93,7 @@ fn integer_len(value: i32) -> usize
 }
 
 /// The length of a written code, in octets.
+#[inline(always)]
 fn code_len(code: &Code<'_>) -> usize
     requires { CanCode (code_parts code.now) }
     ensures value { result ≡ length (written_field (code_field (code_parts code.now))) }
@@ -99,6 +106,7 @@ fn code_len(code: &Code<'_>) -> usize
 }
 
 /// The length of a parameter, in octets, 0 if it is missing.
+#[inline(always)]
 fn parameter_len(parameter: Option<&[u8]>) -> usize
     ensures value { result ≡ length (written_field (any (option_copied parameter.entry))) }
     ensures within { result < 2 ^ 63 }
@@ -110,6 +118,7 @@ fn parameter_len(parameter: Option<&[u8]>) -> usize
 }
 
 /// The length of a written code and parameter, in octets.
+#[inline(always)]
 pub fn body_len(body: &Body<'_>) -> usize
     requires { CanCode (code_parts body.now.code) }
     ensures value { result ≡ length (written_fields (body_fields (body_parts body.now))) }
@@ -122,6 +131,7 @@ pub fn body_len(body: &Body<'_>) -> usize
 const IDENTIFIER_LEN: usize = 3;
 
 /// The length of the written 30 of a result, in octets, 0 without a body.
+#[inline(always)]
 fn result_len(body: Option<Body<'_>>) -> usize
     requires { HasCode (option_map body_parts body) }
     ensures value { result ≡ length (written_field (may 0x30 (written_body (option_map body_parts body.entry)))) }
@@ -134,6 +144,7 @@ fn result_len(body: Option<Body<'_>>) -> usize
 }
 
 /// The length of the written contents of a component, in octets.
+#[inline(always)]
 pub fn contents_len(component: &Component<'_>) -> usize
     requires { HasCode (coded_part (component_parts component.now)) }
     ensures value { result ≡ length (written_contents (component_parts component.now)) }
@@ -163,17 +174,10 @@ pub fn contents_len(component: &Component<'_>) -> usize
     }
 }
 
-/// The length of the whole written component, in octets.
-pub fn whole_len(component: &Component<'_>) -> usize
-    requires { HasCode (coded_part (component_parts component.now)) }
-    ensures { result ≡ length (written_component (component_parts component.now)) }
-{
-    element_len(contents_len(component))
-}
-
 // ---- why not
 
 /// Whether the code of a component, if it has one, can be written.
+#[inline(always)]
 fn has_good_code(component: &Component<'_>) -> bool
     ensures { result ≡ has_code (coded_part (component_parts component.now)) }
 {
@@ -184,6 +188,7 @@ fn has_good_code(component: &Component<'_>) -> bool
 }
 
 /// Whether the parameter of a component, if it has one, can be written.
+#[inline(always)]
 fn has_good_parameter(component: &Component<'_>) -> bool
     ensures { result ≡ has_parameter (coded_part (component_parts component.now)) }
 {
@@ -193,21 +198,25 @@ fn has_good_parameter(component: &Component<'_>) -> bool
     }
 }
 
-/// Why a component can't be written, if so: its code, its parameter, its length.
-#[tactic(auto, unfolding(crate::specs::Written::write_fault))]
-pub fn due_fault(component: &Component<'_>) -> Option<WriteFault>
-    ensures { result ≡ write_fault (component_parts component.now) }
+/// The length of the written contents of a component, in octets, or why the component can't be
+/// written: its code, its parameter, its length.
+#[inline(always)]
+pub fn checked_len(component: &Component<'_>) -> Result<usize, WriteFault>
+    ensures ok { IfOk result (λ len. CanWriteComponent (component_parts component.now) × (len ≡ length (written_contents (component_parts component.now)))) }
+    ensures within { IfOk result (λ len. len ≤ length_limit) }
+    ensures err { IfErr result (λ f. IsWriteFault (component_parts component.now) f) }
 {
     if !has_good_code(component) {
-        return Some(WriteFault::BadOid);
+        return Err(WriteFault::BadOid);
     }
     if !has_good_parameter(component) {
-        return Some(WriteFault::BadParameter);
+        return Err(WriteFault::BadParameter);
     }
-    if whole_len(component) > MAX_LENGTH {
-        return Some(WriteFault::TooLong);
+    let len = contents_len(component);
+    if element_len(len) > MAX_LENGTH {
+        return Err(WriteFault::TooLong);
     }
-    None
+    Ok(len)
 }
 
 /// The length of the written component in octets, up to 65,535; `None` exactly where
@@ -218,8 +227,8 @@ pub fn component_len(component: &Component<'_>) -> Option<usize>
     ensures refused { IsNone result ↔ ((f : WriteFault) × IsWriteFault (component_parts component.now) f) }
     ensures value { IfSome result (λ n. CanWriteComponent (component_parts component.now) × (n ≡ length (written_component (component_parts component.now)))) }
 {
-    match due_fault(component) {
-        Some(_) => None,
-        None => Some(whole_len(component)),
+    match checked_len(component) {
+        Ok(len) => Some(element_len(len)),
+        Err(_) => None,
     }
 }

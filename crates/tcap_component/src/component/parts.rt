@@ -2,8 +2,10 @@
 
 ghost use Rattle.std.specs.Prelude.{◌≡◌, option_copied};
 ghost use Rattle.std.specs.Option.{option_map};
+ghost use Rattle.ber_core.specs.Options.{◌>>=◌ as bound};
+ghost use Rattle.ber_core.specs.SequenceReading.{content_at};
 ghost use Rattle.tcap_component.specs.Problem.{problem_tag};
-ghost use Rattle.tcap_component.specs.ComponentReading.{identifier_of, identifier_at, linked_at, code_at, body_at, result_at, rejected_at, problem_kind, problem_code, problem_at};
+ghost use Rattle.tcap_component.specs.ComponentReading.{identifier_of, identifier_at, linked_at, global_from, code_at, body_at, result_at, rejected_at, problem_kind, problem_code, problem_at};
 ghost use Rattle.tcap_component.specs.Views.{code_parts, body_parts, problem_parts};
 
 use crate::component::{Body, Code};
@@ -13,6 +15,7 @@ use ber_core::{is_oid, read_int, take_any, take_content, take_tagged};
 
 /// The identifier that one octet is.
 #[tactic(auto, unfolding(crate::specs::ComponentReading::identifier_of))]
+#[inline(always)]
 pub fn identifier(content: &[u8]) -> Option<i8>
     ensures { result ≡ identifier_of content.now }
 {
@@ -24,6 +27,7 @@ pub fn identifier(content: &[u8]) -> Option<i8>
 
 /// 02 identifier, and what follows it.
 #[tactic(auto, unfolding(crate::specs::ComponentReading::identifier_at))]
+#[inline(always)]
 pub fn take_identifier(bytes: &[u8]) -> Option<(i8, &[u8])>
     ensures { option_map (λ r. (r.0, r.1.now)) result ≡ identifier_at bytes.now }
 {
@@ -34,6 +38,7 @@ pub fn take_identifier(bytes: &[u8]) -> Option<(i8, &[u8])>
 
 /// [80 linked identifier], and what follows it.
 #[tactic(auto, unfolding(crate::specs::ComponentReading::linked_at))]
+#[inline(always)]
 pub fn take_linked(bytes: &[u8]) -> Option<(Option<i8>, &[u8])>
     ensures { option_map (λ r. (r.0, r.1.now)) result ≡ linked_at bytes.now }
 {
@@ -46,15 +51,11 @@ pub fn take_linked(bytes: &[u8]) -> Option<(Option<i8>, &[u8])>
     }
 }
 
-/// A code: 02 integer or 06 object identifier, and what follows it.
-#[tactic(auto, unfolding(crate::specs::ComponentReading::code_at))]
-fn take_code<'a>(bytes: &'a [u8]) -> Option<(Code<'a>, &'a [u8])>
-    ensures { option_map (λ r. (code_parts r.0, r.1.now)) result ≡ code_at bytes.now }
+/// 06 object identifier, and what follows it. Most codes are local, so it stands apart.
+#[inline(never)]
+fn take_global<'a>(bytes: &'a [u8]) -> Option<(Code<'a>, &'a [u8])>
+    ensures { option_map (λ r. (code_parts r.0, r.1.now)) result ≡ bound (content_at 0x06 bytes.now) global_from }
 {
-    if let (Some(content), rest) = take_tagged(bytes, tag::INTEGER) {
-        let number = read_int(content)?;
-        return Some((Code::Local(number), rest));
-    }
     let (octets, rest) = take_content(bytes, tag::OBJECT_IDENTIFIER)?;
     if !is_oid(octets) {
         return None;
@@ -62,8 +63,22 @@ fn take_code<'a>(bytes: &'a [u8]) -> Option<(Code<'a>, &'a [u8])>
     Some((Code::Global(octets), rest))
 }
 
+/// A code: 02 integer or 06 object identifier, and what follows it.
+#[tactic(auto, unfolding(crate::specs::ComponentReading::code_at))]
+#[inline(always)]
+fn take_code<'a>(bytes: &'a [u8]) -> Option<(Code<'a>, &'a [u8])>
+    ensures { option_map (λ r. (code_parts r.0, r.1.now)) result ≡ code_at bytes.now }
+{
+    if let (Some(content), rest) = take_tagged(bytes, tag::INTEGER) {
+        let number = read_int(content)?;
+        return Some((Code::Local(number), rest));
+    }
+    take_global(bytes)
+}
+
 /// Code, [parameter].
 #[tactic(auto, unfolding(crate::specs::ComponentReading::body_at))]
+#[inline(always)]
 pub fn read_body<'a>(bytes: &'a [u8]) -> Option<Body<'a>>
     ensures { option_map body_parts result ≡ body_at bytes.now }
 {

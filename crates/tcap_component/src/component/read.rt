@@ -25,6 +25,7 @@ use ber_core::{Element, is_element_list, read_element, take_any, take_tagged};
 
 /// Invoke: 02 identifier, [80 linked identifier], code, [parameter].
 #[tactic(auto, unfolding(crate::specs::ComponentReading::invoke_at))]
+#[inline(always)]
 fn read_invoke<'a>(content: &'a [u8]) -> Option<Component<'a>>
     ensures { option_map component_parts result ≡ invoke_at content.now }
 {
@@ -82,6 +83,7 @@ fn read_result_more<'a>(content: &'a [u8]) -> Option<Component<'a>>
 }
 
 /// The component that the contents are, by its form.
+#[inline(always)]
 fn read_contents<'a>(form: Form, content: &'a [u8]) -> Option<Component<'a>>
     ensures { option_map component_parts result ≡ contents_at form content.now }
 {
@@ -96,6 +98,7 @@ fn read_contents<'a>(form: Form, content: &'a [u8]) -> Option<Component<'a>>
 
 /// The form that a tag names.
 #[tactic(auto, unfolding(crate::specs::ComponentReading::form_at))]
+#[inline(always)]
 fn form_of(octets: &[u8]) -> Option<Form>
     ensures { result ≡ form_at octets.now }
 {
@@ -123,6 +126,7 @@ fn second_listed(content: &[u8]) -> bool
 
 /// Whether the contents are a list of elements, and so those of a 30 that stands second in a result.
 #[tactic(auto, unfolding(crate::specs::ComponentReading::is_structured))]
+#[inline(always)]
 fn structured(form: Form, content: &[u8]) -> bool
     ensures { result ≡ is_structured form content.now }
 {
@@ -136,6 +140,7 @@ fn structured(form: Form, content: &[u8]) -> bool
 }
 
 /// The component that an element is, or the code of the general problem.
+#[inline(always)]
 fn judge<'a>(octets: &[u8], content: &'a [u8]) -> Result<Component<'a>, u8>
     ensures value { Gives component_parts result (verdict_by (form_at octets.now) content.now) }
     ensures within { IfErr result (λ code. IsProblem (general_problem code)) }
@@ -181,6 +186,7 @@ fn general_fault(code: u8, id: Option<i8>, octets: &[u8]) -> ComponentFault
 
 /// The first component and what follows it, in exact form.
 #[tactic(auto, unfolding(crate::specs::ComponentReading::component_at))]
+#[inline(always)]
 fn split_component<'a>(bytes: &'a [u8]) -> Result<(Component<'a>, &'a [u8]), ComponentFault>
     ensures { Reads (λ r. (component_parts r.0, r.1.now)) result (component_at bytes.now) }
 {
@@ -196,6 +202,7 @@ fn split_component<'a>(bytes: &'a [u8]) -> Result<(Component<'a>, &'a [u8]), Com
 /// Reads the first component, and gives what follows it. A component that can't be read has the
 /// first of four faults: its element can't be read, its tag isn't a component's, its contents aren't a
 /// list of elements, they aren't the listed sequence.
+#[inline(always)]
 pub fn read_component<'a>(bytes: &'a [u8]) -> Result<(Component<'a>, &'a [u8]), ComponentFault>
     // What is read is spelled by the bytes before the rest.
     ensures found { IfOk result (λ r. (whole : List ℕ) × SpellsComponent (component_parts r.0) whole × (bytes.now ≡ whole ++ r.1.now)) }

@@ -13,7 +13,7 @@ ghost use Rattle.tcap_component.specs.Written.{written_body, written_contents, w
 ghost use Rattle.tcap_component.specs.declared.fault.WriteFault.{WriteFault};
 ghost use Rattle.tcap_component.specs.declared.fault.WriteFault.TheVariants as fault;
 
-use crate::component::length::{body_len, contents_len, due_fault, whole_len};
+use crate::component::length::{body_len, checked_len, element_len};
 use crate::component::parts::tag_of;
 use crate::component::{Body, Code, Component};
 use crate::fault::WriteFault;
@@ -23,6 +23,7 @@ use ber_core::{OutOfMemory, write_element, write_head, write_int};
 use std::alloc::Allocator;
 
 /// Appends an identifier, or nothing.
+#[inline(always)]
 fn write_identifier<A: Allocator + Copy>(
     out: &mut Vec<u8, A>,
     octet: u8,
@@ -34,14 +35,24 @@ fn write_identifier<A: Allocator + Copy>(
     write_element(out, &[octet], &[id.cast_unsigned()])
 }
 
+/// Appends a global code.
+#[inline(never)]
+fn write_global<A: Allocator + Copy>(out: &mut Vec<u8, A>, octets: &[u8]) -> Result<(), OutOfMemory>
+    requires { length octets.now ≤ length_limit }
+    ensures { OnOk result (out.new.items ≡ out.old.items ++ written (0x06 ∷ []) octets.now) }
+{
+    write_element(out, &[tag::OBJECT_IDENTIFIER], octets)
+}
+
 /// Appends code, [parameter].
+#[inline(always)]
 fn write_body<A: Allocator + Copy>(out: &mut Vec<u8, A>, body: &Body<'_>) -> Result<(), OutOfMemory>
     requires { CanCode (code_parts body.now.code) }
     ensures { OnOk result (out.new.items ≡ out.old.items ++ written_fields (body_fields (body_parts body.now))) }
 {
     match body.code {
         Code::Local(number) => write_int(out, tag::INTEGER, number)?,
-        Code::Global(octets) => write_element(out, &[tag::OBJECT_IDENTIFIER], octets)?,
+        Code::Global(octets) => write_global(out, octets)?,
     }
     if let Some(octets) = body.parameter {
         out.extend_from_slice(octets)?;
@@ -83,6 +94,7 @@ fn write_reject<A: Allocator + Copy>(
 }
 
 /// Appends the contents of a component.
+#[inline(always)]
 fn write_contents<A: Allocator + Copy>(
     out: &mut Vec<u8, A>,
     component: &Component<'_>,
@@ -119,6 +131,7 @@ fn write_contents<A: Allocator + Copy>(
 }
 
 /// The tag of a component.
+#[inline(always)]
 fn tag_of_component(component: &Component<'_>) -> u8
     ensures { result ≡ component_tag (component_parts component.now) }
 {
@@ -131,27 +144,27 @@ fn tag_of_component(component: &Component<'_>) -> u8
     }
 }
 
-/// The octets of a component that can be written.
+/// The octets of a component that can be written, and whose contents have this length.
+#[inline(always)]
 fn write_all<A: Allocator + Copy>(
     alloc: A,
     component: &Component<'_>,
+    contents: usize,
 ) -> Result<Vec<u8, A>, OutOfMemory>
-    requires { CanWriteComponent (component_parts component.now) }
+    requires can { CanWriteComponent (component_parts component.now) }
+    requires contents { contents ≡ length (written_contents (component_parts component.now)) }
+    requires within { contents ≤ length_limit }
     ensures { IfOk result (λ octets. octets.items ≡ written_component (component_parts component.now)) }
 {
-    let mut octets = Vec::new(alloc);
-    octets.reserve(whole_len(component))?;
-    write_head(
-        &mut octets,
-        &[tag_of_component(component)],
-        contents_len(component),
-    )?;
+    let mut octets = Vec::with_capacity(alloc, element_len(contents))?;
+    write_head(&mut octets, &[tag_of_component(component)], contents)?;
     write_contents(&mut octets, component)?;
     Ok(octets)
 }
 
 /// Writes a component in the canonical form. A fault other than `OutOfMemory` comes exactly where the
 /// component can't be written: BadOid first, then BadParameter, then TooLong.
+#[inline(always)]
 pub fn write_component<A: Allocator + Copy>(
     alloc: A,
     component: &Component<'_>,
@@ -163,11 +176,11 @@ pub fn write_component<A: Allocator + Copy>(
     ensures due { (f : WriteFault) → IsWriteFault (component_parts component.now) f → IsErrOf result f }
     ensures only { IfErr result (λ f. IsWriteFault (component_parts component.now) f ⊎ ((f ≡ fault.OutOfMemory) × CanWriteComponent (component_parts component.now))) }
 {
-    if let Some(fault) = due_fault(component) {
-        return Err(fault);
-    }
-    match write_all(alloc, component) {
-        Ok(octets) => Ok(octets),
-        Err(OutOfMemory) => Err(WriteFault::OutOfMemory),
+    match checked_len(component) {
+        Ok(contents) => match write_all(alloc, component, contents) {
+            Ok(octets) => Ok(octets),
+            Err(OutOfMemory) => Err(WriteFault::OutOfMemory),
+        },
+        Err(fault) => Err(fault),
     }
 }

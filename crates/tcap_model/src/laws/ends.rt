@@ -1,13 +1,11 @@
 //! What two engines rely on that hear one another and nobody else.
 
-ghost use Rattle.tcap_model.specs.HeadlineLaws.{EachIsDecided};
 ghost use Rattle.tcap_model.specs.Net.{Net, IsNet};
 ghost use Rattle.tcap_model.specs.TwoEnds.{Once, Operations, Origin};
 
-/// Of the possibly many answers to an invocation at most one closes it, where each number of a legal
-/// history is decided (our own).
+/// Of the possibly many answers to an invocation at most one closes it (our own).
 pub fn once()
-    ensures { EachIsDecided → (net : Net) → IsNet net → Once net.trace }
+    ensures { (net : Net) → IsNet net → Once net.trace }
 {}
 
 /// Each Invoke that one user is told has the identifier, linked identifier, code and parameter of an

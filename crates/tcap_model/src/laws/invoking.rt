@@ -54,10 +54,12 @@ pub fn decision_is_outcome()
 {}
 
 /// While nothing has decided an invocation that was sent, and its identifier isn't used again, the clock
-/// is at most at its deadline (Q.774, Invocation timer).
+/// is at most at its deadline; in a legal history it is below it (Q.774, Invocation timer).
 pub fn open_until_deadline()
-    ensures { (n : ℕ) (past : Past) (i : Invocation) (until : ℕ) → invocation_of n past ≡ Some i → is_reused i past ≡ false → outcome n past ≡ None →
+    ensures within { (n : ℕ) (past : Past) (i : Invocation) (until : ℕ) → invocation_of n past ≡ Some i → is_reused i past ≡ false → outcome n past ≡ None →
         deadline i past ≡ Some until → clock past ≤ until }
+    ensures before { (h : History) (n : ℕ) (i : Invocation) (until : ℕ) → IsLegal h → invocation_of n h.pairs ≡ Some i → outcome n h.pairs ≡ None →
+        deadline i h.pairs ≡ Some until → clock h.pairs < until }
 {}
 
 /// A moment below the clock changes nothing: it closes no invocation, moves no deadline and frees no

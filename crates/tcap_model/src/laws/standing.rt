@@ -8,6 +8,7 @@ ghost use Rattle.tcap_invocation.specs.Closing.{given_up_at};
 ghost use Rattle.tcap_invocation.specs.Invocations.{entry_at};
 ghost use Rattle.tcap_model.specs.Agreement.{setting_at, leaves_standing};
 ghost use Rattle.tcap_model.specs.Answer.{Answer};
+ghost use Rattle.tcap_model.specs.Clock.{clock};
 ghost use Rattle.tcap_model.specs.Dialogue.{Dialogue, sent_by_rows};
 ghost use Rattle.tcap_model.specs.Due.{situation_of, due};
 ghost use Rattle.tcap_model.specs.Event.{Event};
@@ -19,11 +20,11 @@ ghost use Rattle.tcap_model.specs.Life.{life};
 ghost use Rattle.tcap_model.specs.Output.{Output, AbortCause};
 ghost use Rattle.tcap_model.specs.Pair.{Past};
 ghost use Rattle.tcap_model.specs.PortionRules.{PortionVerdict, portion_verdict};
-ghost use Rattle.tcap_model.specs.Queue.{sent_there};
+ghost use Rattle.tcap_model.specs.Queue.{sent_there, handled_in, rejects_of};
 ghost use Rattle.tcap_model.specs.Refusals.{due_on};
 ghost use Rattle.tcap_model.specs.Reply.{ended_in, taken_outputs, reply};
 ghost use Rattle.tcap_model.specs.Request.{Request};
-ghost use Rattle.tcap_model.specs.TableMove.{DialogueEvent, answered, ended_told, situation, table_move};
+ghost use Rattle.tcap_model.specs.TableMove.{DialogueEvent, answered, ended_told, situation, table_move, walked_in};
 ghost use Rattle.tcap_model.specs.World.{first_world, dialogue_at, rows_of, world_of};
 ghost use Rattle.tcap_pdu.specs.FrameSpelling.{Message, Reason};
 
@@ -68,16 +69,15 @@ pub fn requests_answered_alike()
         (table_move (setting_at h) d (DialogueEvent.request request)).answer ≡ reply h (Event.on_dialogue dialogue request) }
 {}
 
-/// What ends a dialogue with no word on components is told by the dialogue as the history says it is: a
-/// faulty message, an Abort, and a Continue or an End whose dialogue portion is abnormal
-/// (Q.774, Abnormal procedures; Q.774, Abnormal procedures relating to dialogue control).
-pub fn aborts_told_alike()
+/// A message to a dialogue that stands is told by the dialogue as the history says it is: a Continue with
+/// its components, a faulty message, an Abort, and an End whose dialogue portion is abnormal
+/// (Q.774, Dialogue continuation; Q.774, Abnormal procedures).
+pub fn messages_told_alike()
     ensures fault { (h : History) (dialogue : ℕ) (d : Dialogue) (cause : ℕ) → IsLegal h → dialogue_at h.start.reject_ms h.pairs dialogue ≡ Some d →
         (table_move (setting_at h) d (DialogueEvent.fault cause)).answer ≡ Answer.outputs (Output.p_abort dialogue (AbortCause.cause cause) ∷ ended_in dialogue h.pairs []) }
     ensures abort { (h : History) (dialogue : ℕ) (d : Dialogue) (to : List ℕ) (reason : Reason) → IsLegal h → dialogue_at h.start.reject_ms h.pairs dialogue ≡ Some d →
         (table_move (setting_at h) d (DialogueEvent.frame (Message.abort to reason))).answer ≡ Answer.outputs (taken_outputs dialogue h.pairs (life dialogue h.pairs) (Message.abort to reason)) }
-    ensures abnormal_continue { (h : History) (dialogue : ℕ) (d : Dialogue) (origin to : List ℕ) (portion : Option (List ℕ)) (components : List ℕ) → IsLegal h → dialogue_at h.start.reject_ms h.pairs dialogue ≡ Some d →
-        portion_verdict d.standing.state d.standing.context portion ≡ PortionVerdict.abnormal →
+    ensures continued { (h : History) (dialogue : ℕ) (d : Dialogue) (origin to : List ℕ) (portion : Option (List ℕ)) (components : List ℕ) → IsLegal h → dialogue_at h.start.reject_ms h.pairs dialogue ≡ Some d →
         (table_move (setting_at h) d (DialogueEvent.frame (Message.go_on origin to portion components))).answer ≡ Answer.outputs (taken_outputs dialogue h.pairs (life dialogue h.pairs) (Message.go_on origin to portion components)) }
     ensures abnormal_end { (h : History) (dialogue : ℕ) (d : Dialogue) (to : List ℕ) (portion : Option (List ℕ)) (components : List ℕ) → IsLegal h → dialogue_at h.start.reject_ms h.pairs dialogue ≡ Some d →
         portion_verdict d.standing.state d.standing.context portion ≡ PortionVerdict.abnormal →
@@ -94,4 +94,11 @@ pub fn sent_alike()
 /// No invoke identifier occurs twice among the rows of a dialogue (Q.774, Invocation state machine).
 pub fn rows_distinct()
     ensures { (h : History) (dialogue : ℕ) → IsLegal h → IsDistinct int_eq (keys_of (rows_of h.start.reject_ms dialogue h.pairs)) }
+{}
+
+/// The Rejects that answer the components of a message are those of the history, in the same order
+/// (Q.774, Component related abnormal conditions).
+pub fn rejects_alike()
+    ensures { (h : History) (dialogue : ℕ) (d : Dialogue) (components : List ℕ) → IsLegal h → dialogue_at h.start.reject_ms h.pairs dialogue ≡ Some d →
+        (walked_in (clock h.pairs) d components).rejects ≡ rejects_of (handled_in dialogue h.pairs components) }
 {}

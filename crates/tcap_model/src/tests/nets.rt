@@ -1,15 +1,19 @@
 //! The statements about two ends on a worked list of two engines, and two lists that break a premise of
 //! "after the Invoke".
-#![tactic(auto, using(crate::proofs::NetsWork::nets_work), unfolding(crate::specs::Computing::computing))]
+#![tactic(auto, using(crate::proofs::NetsWork::nets_work, crate::proofs::NetsBroken::nets_broken, crate::proofs::TwoEndsWork::repeated_begin_is_two_ended), unfolding(crate::specs::Computing::computing))]
 
-ghost use Rattle.std.specs.Prelude.{◌≡◌, ◌≤◌, pos, length, None};
+ghost use Rattle.std.specs.Prelude.{◌≡◌, ◌≤◌, pos, length, drop, None};
 ghost use Rattle.tcap_component.specs.Component.{CodeParts};
 ghost use Rattle.tcap_model.specs.Closings.{closings};
-ghost use Rattle.tcap_model.specs.Net.{Engine, Trace, IsNet, side};
+ghost use Rattle.tcap_model.specs.ExampleValues.{code};
+ghost use Rattle.tcap_model.specs.Legal.{IsLegal};
+ghost use Rattle.tcap_model.specs.Net.{Engine, Trace, IsNet, IsCarried, history_in, side};
+ghost use Rattle.tcap_model.specs.Output.{Output};
 ghost use Rattle.tcap_model.specs.Pair.{Pair};
 ghost use Rattle.tcap_model.specs.Places.{Tells};
-ghost use Rattle.tcap_model.specs.TwoEnds.{Happens, IsAnswer, IsFarRequest, ComesFromFar, UsesOnce, AnswersWhatItWasTold, WasOpened, WasSent, WasAsked};
-ghost use Rattle.tcap_model.specs.WorkedNets.{repeated_begin, before_the_answer, answer_told, answer_closes, second_request, before_the_repeat, repeat_told, invoked, answered_ahead, heard_as_one, IsAnsweredAhead};
+ghost use Rattle.tcap_model.specs.TwoEnds.{Happens, IsAnswer, IsFarRequest, ComesFromFar, UsesOnce, AnswersWhatItWasTold, WasOpened, WasSent, WasAsked, Origin, Operations, TwoEnds};
+ghost use Rattle.tcap_model.specs.WorkedNets.{repeated_begin, before_the_answer, answer_told, answer_closes, second_request, before_the_repeat, repeat_told, invoked, answered_ahead, heard_as_one, used_again, forged, alone_told, in_a_unidirectional, end_told, in_an_end, IsAnsweredAhead};
+ghost use Rattle.tcap_model.specs.WorkedReadings.{given_up_before_it_was_sent};
 
 /// A Begin is delivered twice: the answer that closes the invocation comes from the second of the two
 /// far dialogues.
@@ -39,6 +43,29 @@ fn an_operation_was_asked_for()
     ensures asked { WasAsked (pos 1) None (CodeParts.local (pos 10)) None (side Engine.a before_the_repeat) }
 {}
 
+/// All that is stated of two ends holds of it.
+fn a_repeated_begin_is_two_ended()
+    ensures net { IsNet repeated_begin }
+    ensures two_ends { TwoEnds repeated_begin.trace }
+{}
+
+/// An Invoke is sent though the message that carries it ends its dialogue.
+fn an_operation_in_a_last_message()
+    ensures alone_net { IsNet in_a_unidirectional }
+    ensures alone_happens { Happens Engine.b alone_told (drop 1 in_a_unidirectional.trace) in_a_unidirectional.trace }
+    ensures alone_told { Tells alone_told.answer (Output.invoked None (pos 1) None (code 7) None) }
+    ensures alone_asked { WasAsked (pos 1) None (code 7) None (side Engine.a (drop 1 in_a_unidirectional.trace)) }
+    ensures end_net { IsNet in_an_end }
+    ensures end_happens { Happens Engine.a end_told (drop 1 in_an_end.trace) in_an_end.trace }
+    ensures end_told { Tells end_told.answer (invoked 1) }
+    ensures end_asked { WasAsked (pos 1) None (code 10) None (side Engine.b (drop 1 in_an_end.trace)) }
+{}
+
+/// An Invoke that was given up in the queue was never sent, though a message went out after that.
+fn an_invoke_given_up_in_the_queue()
+    ensures { WasSent 1 given_up_before_it_was_sent.history.pairs → ⊥ }
+{}
+
 /// Where a user answers what it wasn't told, an answer may have been asked for before the Invoke was
 /// sent, though the other two premises hold.
 fn an_answer_ahead()
@@ -58,11 +85,35 @@ fn two_dialogues_heard_as_one()
     ensures ahead { IsAnsweredAhead Engine.a 1 2 heard_as_one.trace }
 {}
 
+/// Where an identifier is used again, so too: the answer to the first Invoke may close the second
+/// invocation.
+fn an_identifier_used_again()
+    ensures net { IsNet used_again }
+    ensures answers_what_it_was_told { AnswersWhatItWasTold Engine.b used_again.trace }
+    ensures opened { WasOpened Engine.a 1 used_again.trace }
+    ensures used_twice { UsesOnce Engine.a 1 used_again.trace → ⊥ }
+    ensures ahead { IsAnsweredAhead Engine.a 1 2 used_again.trace }
+{}
+
+/// Where messages are forged, each engine alone does as it should, and neither answers nor Invokes need
+/// come from the other user.
+fn messages_that_are_forged()
+    ensures legal { (engine : Engine) → IsLegal (history_in forged engine forged.trace) }
+    ensures not_carried { IsCarried forged.trace → ⊥ }
+    ensures no_origin { Origin forged.trace → ⊥ }
+    ensures no_operation { Operations forged.trace → ⊥ }
+{}
+
 #[test]
 fn statements_about_two_ends_hold() {
     an_answer_has_its_origin();
     an_answer_comes_after_its_invoke();
     an_operation_was_asked_for();
+    a_repeated_begin_is_two_ended();
+    an_operation_in_a_last_message();
+    an_invoke_given_up_in_the_queue();
     an_answer_ahead();
     two_dialogues_heard_as_one();
+    an_identifier_used_again();
+    messages_that_are_forged();
 }

@@ -1,6 +1,6 @@
 //! The statements about components on worked histories: their premises hold, and so do their conclusions;
-//! and queues that are crossed.
-#![tactic(auto, using(crate::proofs::ComponentsWork::components_work))]
+//! and histories that miss them.
+#![tactic(auto, using(crate::proofs::ComponentsWork::components_work, crate::proofs::ComponentsBroken::components_broken))]
 
 ghost use Rattle.std.specs.Prelude.{[], ◌∷◌, None};
 ghost use Rattle.tcap_pdu.specs.FrameSpelling.{SpellsFrame};
@@ -8,7 +8,7 @@ ghost use Rattle.tcap_component.specs.ComponentList.{FirstFault};
 ghost use Rattle.tcap_model.specs.ComponentLaws.{portion_of, SentFromOne, SentFrom, IsOfComponent, ToldFromOne, ToldFrom};
 ghost use Rattle.tcap_model.specs.Output.{Output};
 ghost use Rattle.tcap_model.specs.Places.{StandsIn, Tells};
-ghost use Rattle.tcap_model.specs.WorkedComponents.{past, begin_sent, begin_pair, begin_message, two_invokes, before_the_begin, reject_sent, reject_pair, reject_message, reject, before_the_reject, result_told, result_pair, before_the_result, begun, begun_pair, invoke_told, crossed_queues};
+ghost use Rattle.tcap_model.specs.WorkedComponents.{past, begin_sent, begin_pair, begin_message, two_invokes, before_the_begin, reject_sent, reject_pair, reject_message, reject, before_the_reject, late, result_told, result_pair, before_the_result, begun, begun_pair, invoke_told, crossed_queues, misread};
 ghost use Rattle.tcap_model.specs.WorkedWrong.{GoesWrong, whole};
 
 /// Two Invokes in a Begin: each was asked for by an accepted request of its dialogue.
@@ -28,6 +28,11 @@ fn a_reject_is_that_formed()
     ensures read { FirstFault reject None (portion_of reject_message) }
     ensures sent_from { SentFromOne reject_pair.event before_the_reject reject None }
     ensures all { SentFrom past }
+{}
+
+/// So too where the Reject is of a late result.
+fn a_late_result_is_rejected()
+    ensures { SentFrom late }
 {}
 
 /// A result that is told is the one in the octets that were received.
@@ -55,11 +60,19 @@ fn queues_that_are_crossed()
     ensures not_sent_from { SentFrom (whole crossed_queues) → ⊥ }
 {}
 
+/// Where an Invoke is misread, the answer isn't the reply, and what is told wasn't received.
+fn an_invoke_that_is_misread()
+    ensures wrong { GoesWrong misread }
+    ensures not_told_from { ToldFrom (whole misread) → ⊥ }
+{}
+
 #[test]
 fn statements_about_components_hold() {
     invokes_are_those_requested();
     a_reject_is_that_formed();
+    a_late_result_is_rejected();
     a_result_is_that_received();
     an_invoke_is_that_received();
     queues_that_are_crossed();
+    an_invoke_that_is_misread();
 }

@@ -13,7 +13,8 @@ ghost use Rattle.tcap_model.specs.Names.{names};
 ghost use Rattle.tcap_model.specs.Only.{only};
 ghost use Rattle.tcap_model.specs.Output.{Output};
 ghost use Rattle.tcap_model.specs.Reply.{reply};
-ghost use Rattle.tcap_model.specs.WorkedIsolation.{two_dialogues, first_alone, before_the_lapse, before_the_invoke, first_invokes, invokes_again, first_cancels, first_hears, both_lapse, first_lapses, second_lapses, last_but_one, last};
+ghost use Rattle.tcap_model.specs.WorkedNets.{play_start};
+ghost use Rattle.tcap_model.specs.WorkedIsolation.{two_dialogues, first_alone, before_the_lapse, before_the_invoke, first_invokes, invokes_again, first_cancels, first_hears, both_lapse, first_lapses, second_lapses, last_but_one, last, two_left, of_one_begin, with_one_peer, IsAloneThroughout};
 
 /// What the first dialogue sees of a history of two.
 fn one_dialogue_of_two()
@@ -75,6 +76,17 @@ fn the_last_number_is_seen()
     ensures not_alone { IsAlone two_dialogues 1 invokes_again → ⊥ }
 {}
 
+/// Each of two dialogues is alone at every place: in this history, where both are born of one Begin, and
+/// where both have one peer.
+fn alone_throughout()
+    ensures first { IsAloneThroughout 1 two_left two_dialogues.pairs }
+    ensures second { IsAloneThroughout 2 two_left two_dialogues.pairs }
+    ensures first_of_one_begin { IsAloneThroughout 1 play_start of_one_begin }
+    ensures second_of_one_begin { IsAloneThroughout 2 play_start of_one_begin }
+    ensures first_with_one_peer { IsAloneThroughout 1 play_start with_one_peer }
+    ensures second_with_one_peer { IsAloneThroughout 2 play_start with_one_peer }
+{}
+
 #[test]
 fn statements_about_isolation_hold() {
     one_dialogue_of_two();
@@ -83,4 +95,5 @@ fn statements_about_isolation_hold() {
     bytes_alone();
     a_moment_alone();
     the_last_number_is_seen();
+    alone_throughout();
 }

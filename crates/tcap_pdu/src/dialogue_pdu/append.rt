@@ -22,6 +22,7 @@ use std::alloc::Allocator;
 
 /// Appends what begins an EXTERNAL, up to the contents of the PDU, which have this length.
 #[tactic(auto, using(crate::proofs::DialogueLength::element_least), unfolding(crate::specs::DialogueDue::external_front))]
+#[inline(always)]
 fn append_front<A: Allocator + Copy>(
     out: &mut Vec<u8, A>,
     syntax: &[u8],
@@ -41,6 +42,7 @@ fn append_front<A: Allocator + Copy>(
 
 /// Appends a protocol version, which is always written, and an application context name.
 #[tactic(auto, using(crate::proofs::DialogueLength::element_most))]
+#[inline(always)]
 fn append_opening<A: Allocator + Copy>(
     out: &mut Vec<u8, A>,
     version1: bool,
@@ -57,6 +59,7 @@ fn append_opening<A: Allocator + Copy>(
 
 /// Appends an element that holds an integer of one octet.
 #[tactic(auto, using(crate::proofs::DialogueLength::element_most))]
+#[inline(always)]
 fn append_number<A: Allocator + Copy>(
     out: &mut Vec<u8, A>,
     tag: u8,
@@ -70,6 +73,7 @@ fn append_number<A: Allocator + Copy>(
 }
 
 /// Appends a result.
+#[inline(always)]
 fn append_result<A: Allocator + Copy>(
     out: &mut Vec<u8, A>,
     accepted: bool,
@@ -85,6 +89,7 @@ fn append_result<A: Allocator + Copy>(
 
 /// Appends a result source diagnostic.
 #[tactic(auto, using(crate::proofs::DialogueLength::element_most))]
+#[inline(always)]
 fn append_diagnostic<A: Allocator + Copy>(
     out: &mut Vec<u8, A>,
     diagnostic: Diagnostic,
@@ -103,6 +108,7 @@ fn append_diagnostic<A: Allocator + Copy>(
 }
 
 /// Appends user information; it is left out where it is empty.
+#[inline(always)]
 fn append_information<A: Allocator + Copy>(
     out: &mut Vec<u8, A>,
     info: &[u8],
@@ -118,6 +124,7 @@ fn append_information<A: Allocator + Copy>(
 
 /// Appends an AARQ or an AUDT, by syntax and tag, with its EXTERNAL.
 #[tactic(auto, using(crate::proofs::DialogueLength::element_most, crate::proofs::DialogueLength::information_most))]
+#[inline(always)]
 pub fn append_request<A: Allocator + Copy>(
     out: &mut Vec<u8, A>,
     syntax: &[u8],
@@ -143,6 +150,7 @@ pub fn append_request<A: Allocator + Copy>(
 
 /// Appends an AARE with its EXTERNAL.
 #[tactic(auto, using(crate::proofs::DialogueLength::element_most, crate::proofs::DialogueLength::information_most))]
+#[inline(always)]
 pub fn append_response<A: Allocator + Copy>(
     out: &mut Vec<u8, A>,
     version1: bool,
@@ -182,6 +190,7 @@ fn append_source<A: Allocator + Copy>(
 
 /// Appends an ABRT with its EXTERNAL.
 #[tactic(auto, using(crate::proofs::DialogueLength::element_most, crate::proofs::DialogueLength::information_most))]
+#[inline(always)]
 pub fn append_abort<A: Allocator + Copy>(
     out: &mut Vec<u8, A>,
     by_provider: bool,

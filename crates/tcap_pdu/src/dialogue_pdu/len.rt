@@ -17,6 +17,7 @@ use ber_core::{element_len, is_oid};
 const MAX_PORTION: usize = 65_535;
 
 /// Whether the application context name, where there is one, is an object identifier.
+#[inline(always)]
 fn has_context(pdu: &DialoguePdu<'_>) -> bool
     ensures { result ≡ is_context (context_of (pdu_value pdu.now)) }
 {
@@ -29,6 +30,7 @@ fn has_context(pdu: &DialoguePdu<'_>) -> bool
 }
 
 /// Whether the user information is a list of EXTERNALs, and a foreign EXTERNAL one.
+#[inline(always)]
 fn has_information(pdu: &DialoguePdu<'_>) -> bool
     ensures { result ≡ has_information (pdu_value pdu.now) }
 {
@@ -44,6 +46,7 @@ fn has_information(pdu: &DialoguePdu<'_>) -> bool
 }
 
 /// The first fault of the PDU's contents.
+#[inline(always)]
 fn content_fault(pdu: &DialoguePdu<'_>) -> Option<PduFault>
     ensures { result ≡ content_fault (pdu_value pdu.now) }
 {
@@ -57,6 +60,7 @@ fn content_fault(pdu: &DialoguePdu<'_>) -> Option<PduFault>
 }
 
 /// How many octets user information of this length takes; it is left out where it is empty.
+#[inline(always)]
 pub fn information_len(info: usize) -> usize
     requires { info + 4 < 2 ^ 64 }
     ensures { result ≡ information_length info }
@@ -66,6 +70,7 @@ pub fn information_len(info: usize) -> usize
 
 /// How many octets a version and a context of this length take.
 #[tactic(auto, using(crate::proofs::DialogueLength::element_most))]
+#[inline(always)]
 pub fn opening_len(context: usize) -> usize
     requires { context ≤ object_identifier_limit }
     ensures { result ≡ opening_length context }
@@ -75,6 +80,7 @@ pub fn opening_len(context: usize) -> usize
 
 /// How many octets a result and a diagnostic take.
 #[tactic(auto, using(crate::proofs::DialogueLength::element_most))]
+#[inline(always)]
 pub fn answer_len() -> usize
     ensures { result ≡ answer_length }
 {
@@ -83,6 +89,7 @@ pub fn answer_len() -> usize
 
 /// How many octets an EXTERNAL holds, for a PDU with contents of this length.
 #[tactic(auto, using(crate::proofs::DialogueLength::element_most))]
+#[inline(always)]
 pub fn held_len(contents: usize) -> usize
     requires { contents + 64 < 2 ^ 64 }
     ensures { result ≡ held_length contents }
@@ -92,6 +99,7 @@ pub fn held_len(contents: usize) -> usize
 
 /// How many octets an EXTERNAL takes, for a PDU with contents of this length.
 #[tactic(auto, using(crate::proofs::DialogueLength::element_most))]
+#[inline(always)]
 fn external_len(contents: usize) -> usize
     requires { contents + 64 < 2 ^ 64 }
     ensures { result ≡ external_length contents }
@@ -101,6 +109,7 @@ fn external_len(contents: usize) -> usize
 
 /// How many octets the PDU takes, with its EXTERNAL.
 #[tactic(auto, using(crate::proofs::DialogueLength::element_most, crate::proofs::DialogueLength::information_most), unfolding(crate::specs::DialogueDue::portion_length))]
+#[inline(always)]
 fn portion_len(pdu: &DialoguePdu<'_>) -> usize
     requires { IfSome (context_of (pdu_value pdu.now)) (λ c. length c ≤ object_identifier_limit) }
     ensures { result ≡ portion_length (pdu_value pdu.now) }
@@ -121,6 +130,7 @@ fn portion_len(pdu: &DialoguePdu<'_>) -> usize
 
 /// The length that is written, or the first fault that is due, want of memory apart.
 #[tactic(auto, using(crate::proofs::DueSteps::due_content, crate::proofs::DueSteps::due_long, crate::proofs::DueSteps::due_none))]
+#[inline(always)]
 pub fn checked_len(pdu: &DialoguePdu<'_>) -> Result<usize, PduFault>
     ensures { Gives (λ n. n) result (length_at (pdu_value pdu.now)) }
 {

@@ -47,9 +47,14 @@ fn are_externals(bytes: &[u8]) -> bool
 }
 
 /// The same, computed.
+#[tactic(auto, using(crate::proofs::DialogueParts::information_none))]
+#[inline(always)]
 pub fn is_user_information(bytes: &[u8]) -> bool
     ensures { result ≡ is_information bytes.now }
 {
+    if bytes.is_empty() {
+        return true;
+    }
     are_externals(bytes)
 }
 

@@ -16,6 +16,7 @@ use std::alloc::Allocator;
 
 /// Appends the contents of a dialogue portion.
 #[tactic(auto, unfolding(crate::specs::DialogueWritten::written_dialogue, crate::specs::DialogueDue::portion_length))]
+#[inline(always)]
 fn append_portion<A: Allocator + Copy>(
     out: &mut Vec<u8, A>,
     pdu: &DialoguePdu<'_>,
@@ -57,22 +58,25 @@ fn append_portion<A: Allocator + Copy>(
     }
 }
 
-/// Appends the contents of a dialogue portion of this length, whose room is reserved first.
-fn fill<A: Allocator + Copy>(
-    out: &mut Vec<u8, A>,
+/// The contents of a dialogue portion, of this length. All room is taken first.
+#[inline(always)]
+fn spell_portion<A: Allocator + Copy>(
+    alloc: A,
     len: usize,
     pdu: &DialoguePdu<'_>,
-) -> Result<(), OutOfMemory>
+) -> Result<Vec<u8, A>, OutOfMemory>
     requires context { IfSome (context_of (pdu_value pdu.now)) (λ c. length c ≤ object_identifier_limit) }
     requires short { portion_length (pdu_value pdu.now) ≤ portion_limit }
-    ensures { OnOk result (out.new.items ≡ out.old.items ++ written_dialogue (pdu_value pdu.now)) }
+    ensures { IfOk result (λ out. out.items ≡ written_dialogue (pdu_value pdu.now)) }
 {
-    out.reserve(len)?;
-    append_portion(out, pdu)
+    let mut out = Vec::with_capacity(alloc, len)?;
+    append_portion(&mut out, pdu)?;
+    Ok(out)
 }
 
 /// Writes the contents of a dialogue portion in the canonical form. A diagnostic is at most 127. Of
 /// the faults the first in the order BadOid, BadInfo, TooLong, OutOfMemory is answered.
+#[inline(always)]
 pub fn write_dialogue<A: Allocator + Copy>(
     alloc: A,
     pdu: &DialoguePdu<'_>,
@@ -88,9 +92,8 @@ pub fn write_dialogue<A: Allocator + Copy>(
     ensures due { IfSome (due_fault (pdu_value pdu.now)) (λ f. IsErrOf result f) }
 {
     let len = checked_len(pdu)?;
-    let mut out = Vec::new(alloc);
-    match fill(&mut out, len, pdu) {
-        Ok(()) => Ok(out),
+    match spell_portion(alloc, len, pdu) {
+        Ok(out) => Ok(out),
         Err(OutOfMemory) => Err(PduFault::OutOfMemory),
     }
 }

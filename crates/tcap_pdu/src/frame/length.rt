@@ -14,6 +14,7 @@ pub const MAX_MESSAGE: usize = 65_535;
 /// The bytes of an element with this many bytes of content. Lengths are added up in 128 bits: slices
 /// may be as long as they like, and no sum wraps.
 #[tactic(auto, unfolding(crate::specs::FrameLength::element_length))]
+#[inline(always)]
 pub(super) fn element_len(content: u128) -> u128
     requires { content < 2 ^ 100 }
     ensures value { result ≡ element_length content }
@@ -29,6 +30,7 @@ pub(super) fn element_len(content: u128) -> u128
 }
 
 /// The bytes of an optional element.
+#[inline(always)]
 fn may_len(content: Option<usize>) -> u128
     ensures value { result ≡ may_length content }
     ensures small { result < 2 ^ 65 }
@@ -40,6 +42,7 @@ fn may_len(content: Option<usize>) -> u128
 }
 
 /// A length of contents, `None` where it is 0: the part is left out.
+#[inline(always)]
 fn nonzero(len: usize) -> Option<usize>
     ensures { result ≡ nonzero len }
 {
@@ -47,6 +50,7 @@ fn nonzero(len: usize) -> Option<usize>
 }
 
 /// The bytes of a transaction identifier.
+#[inline(always)]
 fn id_len(id: &TransId) -> u128
     ensures value { result ≡ element_length (length id.now) }
     ensures small { result ≤ 8 }
@@ -68,6 +72,7 @@ fn reason_len(reason: &AbortPart<'_>, dialogue: Option<usize>) -> u128
 }
 
 /// The bytes of the contents, with 6B contents of this many bytes in place of its own.
+#[inline(always)]
 pub(super) fn content_len(frame: &Frame<'_>, dialogue: Option<usize>) -> u128
     ensures value { result ≡ content_length dialogue (message frame.now) }
     ensures small { result < 2 ^ 68 }
@@ -96,6 +101,7 @@ pub(super) fn content_len(frame: &Frame<'_>, dialogue: Option<usize>) -> u128
 }
 
 /// The length of the message's own 6B contents, if it has any.
+#[inline(always)]
 pub(super) fn dialogue_len(frame: &Frame<'_>) -> Option<usize>
     ensures { result ≡ option_map length (dialogue_of (message frame.now)) }
 {

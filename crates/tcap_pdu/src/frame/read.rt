@@ -24,6 +24,7 @@ pub enum MessageType {
 
 /// The message type that a tag names.
 #[tactic(auto, unfolding(crate::specs::FrameReading::type_at))]
+#[inline(always)]
 fn message_type(tag: &[u8]) -> Option<MessageType>
     ensures { result ≡ type_at tag.now }
 {
@@ -39,6 +40,7 @@ fn message_type(tag: &[u8]) -> Option<MessageType>
 
 /// A transaction identifier with this tag, and what follows it.
 #[tactic(auto, unfolding(crate::specs::FrameReading::id_at))]
+#[inline(always)]
 fn take_id<'a>(bytes: &'a [u8], tag: u8) -> Option<(TransId, &'a [u8])>
     ensures { option_map (λ r. (r.0, r.1.now)) result ≡ id_at tag bytes.now }
 {
@@ -49,6 +51,7 @@ fn take_id<'a>(bytes: &'a [u8], tag: u8) -> Option<(TransId, &'a [u8])>
 
 /// The contents of 6B and 6C where they stand, with nothing after them.
 #[tactic(auto, unfolding(crate::specs::FrameReading::portions_at))]
+#[inline(always)]
 fn take_portions<'a>(bytes: &'a [u8]) -> Option<(Option<&'a [u8]>, &'a [u8])>
     ensures { option_map (λ r. pair (option_copied r.0) r.1.now) result ≡ portions_at bytes.now }
 {
@@ -62,6 +65,7 @@ fn take_portions<'a>(bytes: &'a [u8]) -> Option<(Option<&'a [u8]>, &'a [u8])>
 
 /// Unidirectional: [6B], 6C.
 #[tactic(auto, unfolding(crate::specs::FrameReading::unidirectional_at))]
+#[inline(never)]
 fn read_unidirectional<'a>(content: &'a [u8]) -> Option<Frame<'a>>
     ensures { option_map message result ≡ unidirectional_at content.now }
 {
@@ -78,6 +82,7 @@ fn read_unidirectional<'a>(content: &'a [u8]) -> Option<Frame<'a>>
 
 /// Begin: 48, [6B], [6C].
 #[tactic(auto, unfolding(crate::specs::FrameReading::begin_at))]
+#[inline(always)]
 fn read_begin<'a>(content: &'a [u8]) -> Option<Frame<'a>>
     ensures { option_map message result ≡ begin_at content.now }
 {
@@ -106,6 +111,7 @@ fn read_end<'a>(content: &'a [u8]) -> Option<Frame<'a>>
 
 /// Continue: 48, 49, [6B], [6C].
 #[tactic(auto, unfolding(crate::specs::FrameReading::go_on_at))]
+#[inline(always)]
 fn read_continue<'a>(content: &'a [u8]) -> Option<Frame<'a>>
     ensures { option_map message result ≡ go_on_at content.now }
 {
@@ -133,6 +139,7 @@ fn read_cause(content: &[u8]) -> Option<AbortPart<'static>>
 
 /// What follows the destination of an Abort: 4A or 6B or nothing.
 #[tactic(auto, unfolding(crate::specs::FrameReading::reason_at))]
+#[inline(never)]
 fn read_reason<'a>(bytes: &'a [u8]) -> Option<AbortPart<'a>>
     ensures { option_map reason_of result ≡ reason_at bytes.now }
 {
@@ -154,6 +161,7 @@ fn read_reason<'a>(bytes: &'a [u8]) -> Option<AbortPart<'a>>
 
 /// Abort: 49, then 4A or 6B or nothing.
 #[tactic(auto, unfolding(crate::specs::FrameReading::abort_at))]
+#[inline(never)]
 fn read_abort<'a>(content: &'a [u8]) -> Option<Frame<'a>>
     ensures { option_map message result ≡ abort_at content.now }
 {
@@ -163,6 +171,7 @@ fn read_abort<'a>(content: &'a [u8]) -> Option<Frame<'a>>
 }
 
 /// The message of this type that a content is.
+#[inline(always)]
 fn read_content<'a>(kind: MessageType, content: &'a [u8]) -> Option<Frame<'a>>
     ensures { option_map message result ≡ message_at kind content.now }
 {
@@ -177,6 +186,7 @@ fn read_content<'a>(kind: MessageType, content: &'a [u8]) -> Option<Frame<'a>>
 
 /// The message that the bytes are, in exact form.
 #[tactic(auto, unfolding(crate::specs::FrameReading::frame_at))]
+#[inline(always)]
 fn split_frame<'a>(bytes: &'a [u8]) -> Result<Frame<'a>, FrameFault>
     ensures { Gives message result (frame_at bytes.now) }
 {
@@ -194,6 +204,7 @@ fn split_frame<'a>(bytes: &'a [u8]) -> Result<Frame<'a>, FrameFault>
 
 /// Reads the message that the bytes are, all of them, of any length. It takes no memory: the slices
 /// of the message are parts of the bytes (Q.773, Structure of TC messages).
+#[inline(always)]
 pub fn read_frame<'a>(bytes: &'a [u8]) -> Result<Frame<'a>, FrameFault>
     // What is read is spelled by the bytes.
     ensures found { IfOk result (λ frame. SpellsFrame (message frame) bytes.now) }

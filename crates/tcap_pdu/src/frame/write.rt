@@ -18,6 +18,7 @@ use std::alloc::Allocator;
 const MAX_HEAD: usize = 4;
 
 /// Appends an element with this tag.
+#[inline(always)]
 fn write_part<A: Allocator + Copy>(
     out: &mut Vec<u8, A>,
     tag: u8,
@@ -30,6 +31,7 @@ fn write_part<A: Allocator + Copy>(
 }
 
 /// Appends 6B, if the message has it.
+#[inline(always)]
 fn write_dialogue_portion<A: Allocator + Copy>(
     out: &mut Vec<u8, A>,
     content: &Option<&[u8]>,
@@ -44,6 +46,7 @@ fn write_dialogue_portion<A: Allocator + Copy>(
 }
 
 /// Appends 6B, if the message has it, and 6C, unless it is empty.
+#[inline(always)]
 fn write_portions<A: Allocator + Copy>(
     out: &mut Vec<u8, A>,
     dialogue: &Option<&[u8]>,
@@ -76,6 +79,7 @@ fn write_reason<A: Allocator + Copy>(
 }
 
 /// Appends the contents of the message, in their order.
+#[inline(always)]
 fn write_content<A: Allocator + Copy>(
     out: &mut Vec<u8, A>,
     frame: &Frame<'_>,
@@ -125,6 +129,7 @@ fn write_content<A: Allocator + Copy>(
 }
 
 /// The tag of the message type.
+#[inline(always)]
 fn tag_of(frame: &Frame<'_>) -> u8
     ensures { result ≡ message_tag (message frame.now) }
 {
@@ -138,6 +143,7 @@ fn tag_of(frame: &Frame<'_>) -> u8
 }
 
 /// The octets of a message whose contents have this many bytes. All room is taken first.
+#[inline(always)]
 fn spell_frame<A: Allocator + Copy>(
     alloc: A,
     frame: &Frame<'_>,
@@ -158,6 +164,7 @@ fn spell_frame<A: Allocator + Copy>(
 /// left out but in a Unidirectional. The contents of 6B and 6C are copied. A cause is at most 127.
 /// Faults: TooLong above 65,535 bytes, then OutOfMemory (Q.773, Structure of TC messages; the
 /// shortest form and the limit are our own).
+#[inline(always)]
 pub fn write_frame<A: Allocator + Copy>(alloc: A, frame: &Frame<'_>) -> Result<Vec<u8, A>, PduFault>
     requires { HasCause (message frame.now) }
     ensures written { IfOk result (λ bytes. bytes.items ≡ written_frame (message frame.now)) }

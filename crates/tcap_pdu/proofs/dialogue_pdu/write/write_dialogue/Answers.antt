@@ -1,8 +1,7 @@
-use Rattle.std.proofs.Common.{◌≡◌, ℕ, List, ◌++◌, sym, ap, subst, ◌∙◌}
+use Rattle.std.proofs.Common.{sym, subst}
 use Rattle.std.proofs.lemmas.Result.{err_from_is_err_and}
 use Rattle.tcap_pdu.specs.DialogueSpelling.{SpellsDialogue}
 use Rattle.tcap_pdu.specs.DialogueViews.{pdu_value}
-use Rattle.tcap_pdu.specs.DialogueWritten.{written_dialogue}
 use Rattle.tcap_pdu.proofs.WriteAgreement.{length_told, fault_told, context_within, short_within}
 use Rattle.tcap_pdu.proofs.WrittenSpelling.{written_spells}
 use Rattle.tcap_pdu.proofs.dialogue_pdu.write.write_dialogue.Goals as goal
@@ -12,22 +11,19 @@ returns-in_err-len-clause-err g c =
     let p = err_from_is_err_and c.from_residual.result c.from_residual.ensures.1 in
     rw (p.1, p.2) (fault_told (pdu_value c.args.pdu.now) c.in_err-len.field-0.0 c.in_err-len.ensures)
 
-pub fill-requires-clause-context : goal.fill-requires-clause-context
-fill-requires-clause-context g c = context_within (pdu_value c.args.pdu.now) (length_told (pdu_value c.args.pdu.now) c.in_ok-len.len c.in_ok-len.ensures).0
+pub spell_portion-requires-clause-context : goal.spell_portion-requires-clause-context
+spell_portion-requires-clause-context g c = context_within (pdu_value c.args.pdu.now) (length_told (pdu_value c.args.pdu.now) c.in_ok-len.len c.in_ok-len.ensures).0
 
-pub fill-requires-clause-short : goal.fill-requires-clause-short
-fill-requires-clause-short g c = short_within (pdu_value c.args.pdu.now) (length_told (pdu_value c.args.pdu.now) c.in_ok-len.len c.in_ok-len.ensures).0
+pub spell_portion-requires-clause-short : goal.spell_portion-requires-clause-short
+spell_portion-requires-clause-short g c = short_within (pdu_value c.args.pdu.now) (length_told (pdu_value c.args.pdu.now) c.in_ok-len.len c.in_ok-len.ensures).0
 
 pub returns-in-Ok-clause-ok : goal.returns-in-Ok-clause-ok
-returns-in-Ok-clause-ok g c =
-    let p = pdu_value c.args.pdu.now in
-    ((length_told p c.in_ok-len.len c.in_ok-len.ensures).0, c.in-Ok.ensures ∙ ap (λ (w : List ℕ). w ++ written_dialogue p) c.new-out.ensures.items)
+returns-in-Ok-clause-ok g c = ((length_told (pdu_value c.args.pdu.now) c.in_ok-len.len c.in_ok-len.ensures).0, c.in-Ok.ensures)
 
 pub returns-in-Ok-clause-spelled : goal.returns-in-Ok-clause-spelled
 returns-in-Ok-clause-spelled g c =
     let p = pdu_value c.args.pdu.now in
-    let is : c.fill.new.out.items ≡ written_dialogue p = c.in-Ok.ensures ∙ ap (λ (w : List ℕ). w ++ written_dialogue p) c.new-out.ensures.items in
-    subst (SpellsDialogue p) (sym is) (written_spells p (length_told p c.in_ok-len.len c.in_ok-len.ensures).0 c.requires)
+    subst (SpellsDialogue p) (sym c.in-Ok.ensures) (written_spells p (length_told p c.in_ok-len.len c.in_ok-len.ensures).0 c.requires)
 
 pub returns-in-Err-clause-err : goal.returns-in-Err-clause-err
 returns-in-Err-clause-err g c = (length_told (pdu_value c.args.pdu.now) c.in_ok-len.len c.in_ok-len.ensures).0

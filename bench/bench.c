@@ -1,0 +1,201 @@
+/* Calls the codec, by crates/tcap_bench, over and over on one message.
+ *
+ *   bench test                      whether each message is written, and rewritten, as it stands
+ *   bench call MODE SIZE COUNT      COUNT calls; prints nothing
+ *   bench time MODE SIZE COUNT      the same; prints the nanoseconds of one, least of five rounds
+ *   bench length MODE SIZE          the bytes of the message
+ *
+ * MODE read, write, rewrite, element: SIZE is a line of data/messages.txt, counted from 1. MODE invokes: reads a
+ * Begin of SIZE Invokes. MODE nested: reads one element of SIZE indefinite elements one in another,
+ * with 60,000 bytes inside. MODE inside: reads a Begin, all of indefinite form, with SIZE of them in
+ * the parameter of its Invoke.
+ */
+#include <stdint.h>
+#include <stdio.h>
+#include <stdlib.h>
+#include <string.h>
+#include <time.h>
+
+struct invocation {
+  int8_t id;
+  int32_t operation;
+  uint32_t start, end;
+};
+
+uint64_t tcap_bench_read(const uint8_t *bytes, size_t length);
+uint64_t tcap_bench_element(const uint8_t *bytes, size_t length);
+size_t tcap_bench_write_begin(uint32_t otid, const uint8_t *context, size_t context_length,
+                              const struct invocation *invocations, size_t count,
+                              const uint8_t *pool, size_t pool_length, uint8_t *room,
+                              size_t room_length);
+size_t tcap_bench_write_continue(uint32_t otid, uint32_t dtid, const uint8_t *context,
+                                 size_t context_length, int8_t id, uint8_t *room,
+                                 size_t room_length);
+size_t tcap_bench_rewrite(const uint8_t *bytes, size_t length, uint8_t *room, size_t room_length);
+
+/* Where the program's memory is a buffer (buffer.c), all that a call took is given back behind it. */
+size_t memory_used(void) __attribute__((weak));
+void memory_reset(size_t mark) __attribute__((weak));
+
+enum { MOST = 1 << 17, MESSAGES = 6, MOST_INVOKES = 11, ROUNDS = 5 };
+
+static uint8_t message[MOST], room[MOST];
+static size_t length;
+static struct invocation invocations[MOST_INVOKES];
+
+/* The values of each message. The parameter of Invoke i stands in the message from first + 16 i on:
+ * eight bytes, that of the last one to the end. */
+static const struct values {
+  uint32_t otid, dtid;
+  int context;
+  unsigned invokes;
+  int32_t operation;
+  uint32_t first;
+} values[MESSAGES] = {
+    {1, 0, 0, 1, 10, 18}, {1, 0, 0, 1, 2, 18}, {5, 1, 1, 0, 0, 0},
+    {1, 0, 1, 1, 2, 50},  {1, 0, 1, 1, 2, 53}, {1, 0, 1, 11, 2, 52},
+};
+static const uint8_t context[] = {0x04, 0x00, 0x00, 0x01, 0x00, 0x01, 0x03};
+
+static void stop(const char *why) {
+  fprintf(stderr, "bench: %s\n", why);
+  exit(2);
+}
+
+static void read_line(unsigned number) {
+  static char line[1 << 16];
+  FILE *file = fopen("data/messages.txt", "r");
+  if (!file) stop("data/messages.txt can't be read");
+  for (unsigned i = 0; i < number; i++)
+    if (!fgets(line, sizeof line, file)) stop("no such message");
+  fclose(file);
+  length = 0;
+  for (const char *at = line; *at > ' '; at += 2) {
+    unsigned octet;
+    if (sscanf(at, "%2x", &octet) != 1) stop("no hexadecimal");
+    message[length++] = (uint8_t)octet;
+  }
+}
+
+static void add(const char *octets, size_t count) {
+  memcpy(message + length, octets, count);
+  length += count;
+}
+
+/* A head with two length octets. */
+static void add_head(int tag, size_t content) {
+  char head[] = {(char)tag, (char)0x82, (char)(content >> 8), (char)content};
+  add(head, sizeof head);
+}
+
+static void make_invokes(unsigned count) {
+  length = 0;
+  add_head(0x62, 6 + 4 + 16 * (size_t)count);
+  add("\x48\x04\0\0\0\1", 6);
+  add_head(0x6c, 16 * (size_t)count);
+  for (unsigned i = 0; i < count; i++) {
+    char invoke[] = "\xa1\x0e\x02\x01\x01\x02\x01\x02\x30\x06\x04\x04ZZZZ";
+    invoke[4] = (char)i;
+    add(invoke, 16);
+  }
+}
+
+static void add_nested(unsigned depth) {
+  for (unsigned i = 0; i < depth; i++) add("\x30\x80", 2);
+  for (unsigned i = 0; i < 15000; i++) add("\x04\x02ZZ", 4);
+  for (unsigned i = 0; i < depth; i++) add("\0\0", 2);
+}
+
+static void make_inside(unsigned depth) {
+  length = 0;
+  add("\x62\x80\x48\x04\0\0\0\1\x6c\x80\xa1\x80\x02\x01\x01\x02\x01\x02", 18);
+  add_nested(depth);
+  add("\0\0\0\0\0\0", 6);
+}
+
+static void make_values(const struct values *v) {
+  for (unsigned i = 0; i < v->invokes; i++) {
+    uint32_t start = v->first + 16 * i;
+    invocations[i] = (struct invocation){(int8_t)(i + 1), v->operation, start,
+                                         i + 1 < v->invokes ? start + 8 : (uint32_t)length};
+  }
+}
+
+static size_t write_message(const struct values *v) {
+  if (v->dtid)
+    return tcap_bench_write_continue(v->otid, v->dtid, context, sizeof context, 1, room, sizeof room);
+  return tcap_bench_write_begin(v->otid, context, v->context ? sizeof context : 0, invocations,
+                                v->invokes, message, length, room, sizeof room);
+}
+
+static void make(const char *mode, unsigned size) {
+  if (!strcmp(mode, "invokes")) make_invokes(size);
+  else if (!strcmp(mode, "nested")) length = 0, add_nested(size);
+  else if (!strcmp(mode, "inside")) make_inside(size);
+  else if (size < 1 || size > MESSAGES) stop("no such message");
+  else read_line(size), make_values(&values[size - 1]);
+}
+
+static uint64_t repeat(const char *mode, unsigned size, long count) {
+  uint64_t sum = 0;
+  size_t mark = memory_used ? memory_used() : 0;
+  if (!strcmp(mode, "write"))
+    for (long i = 0; i < count; i++) {
+      sum += write_message(&values[size - 1]);
+      if (memory_reset) memory_reset(mark);
+    }
+  else if (!strcmp(mode, "rewrite"))
+    for (long i = 0; i < count; i++) {
+      sum += tcap_bench_rewrite(message, length, room, sizeof room);
+      if (memory_reset) memory_reset(mark);
+    }
+  else if (!strcmp(mode, "element") || !strcmp(mode, "nested"))
+    for (long i = 0; i < count; i++) sum += tcap_bench_element(message, length);
+  else if (!strcmp(mode, "read") || !strcmp(mode, "invokes") || !strcmp(mode, "inside"))
+    for (long i = 0; i < count; i++) sum += tcap_bench_read(message, length);
+  else
+    stop("no such mode");
+  if (count && !sum) stop("the message can't be read or written");
+  return sum;
+}
+
+static double nanoseconds(void) {
+  struct timespec now;
+  clock_gettime(CLOCK_MONOTONIC, &now);
+  return (double)now.tv_sec * 1e9 + (double)now.tv_nsec;
+}
+
+static int test(void) {
+  for (unsigned i = 1; i <= MESSAGES; i++) {
+    make("write", i);
+    if (write_message(&values[i - 1]) != length || memcmp(room, message, length) ||
+        tcap_bench_rewrite(message, length, room, sizeof room) != length ||
+        memcmp(room, message, length)) {
+      fprintf(stderr, "bench: message %u is not written as it stands\n", i);
+      return 1;
+    }
+  }
+  return 0;
+}
+
+int main(int count, char **words) {
+  if (count == 2 && !strcmp(words[1], "test")) return test();
+  if (count < 4) stop("see the head of bench.c");
+  unsigned size = (unsigned)atoi(words[3]);
+  long calls = count > 4 ? atol(words[4]) : 0;
+  make(words[2], size);
+  if (!strcmp(words[1], "call")) repeat(words[2], size, calls);
+  else if (!strcmp(words[1], "length")) printf("%zu\n", length);
+  else if (!strcmp(words[1], "time")) {
+    double least = 0;
+    for (int round = 0; round < ROUNDS; round++) {
+      double start = nanoseconds();
+      repeat(words[2], size, calls);
+      double taken = (nanoseconds() - start) / (double)calls;
+      if (round == 0 || taken < least) least = taken;
+    }
+    printf("%.1f\n", least);
+  } else
+    stop("see the head of bench.c");
+  return 0;
+}

@@ -1,0 +1,81 @@
+//! What the benchmark calls: functions for C that read and write messages, and answer so that nothing
+//! of the work is left out.
+//!
+//! Begin at `tcap_bench_read`. What it answers stands in specs/Checksum.antt.
+#![tactic(auto)]
+
+ghost use Rattle.std.specs.Prelude.{◌≡◌};
+ghost use Rattle.tcap_bench.specs.Checksum.{element_checksum, message_checksum};
+ghost use Rattle.tcap_bench.specs.Messages.{begin_of, continue_of, IsPut};
+ghost use Rattle.tcap_bench.specs.Rewritten.{rewritten};
+
+mod component_sum;
+mod message_sum;
+mod portions;
+mod rewritten;
+mod sum;
+mod values;
+mod written;
+
+use std::alloc::Global;
+pub use values::Invocation;
+
+/// Reads one message whole: the message, its dialogue PDU and each of its components; 0 where it can't
+/// be read (own).
+#[unsafe(no_mangle)]
+pub extern "C" fn tcap_bench_read(bytes: &[u8]) -> u64
+    ensures { result ≡ message_checksum bytes.now }
+{
+    message_sum::read_sum(bytes)
+}
+
+/// Reads the first element; 0 where there is none (own).
+#[unsafe(no_mangle)]
+pub extern "C" fn tcap_bench_element(bytes: &[u8]) -> u64
+    ensures { result ≡ element_checksum bytes.now }
+{
+    sum::element_sum(bytes)
+}
+
+/// Writes a Begin to the front of a room, and answers its length: a dialogue request where the context
+/// has octets, and Invokes. It answers 0 where the message can't be written, where the room is too
+/// short and where memory is wanting (own).
+#[unsafe(no_mangle)]
+pub extern "C" fn tcap_bench_write_begin(
+    alloc: Global,
+    otid: u32,
+    context: &[u8],
+    invocations: &[Invocation],
+    pool: &[u8],
+    room: &mut [u8],
+) -> usize
+    ensures { IsPut (begin_of otid context.now pool.now invocations.now) result room.new }
+{
+    written::put_begin(alloc, otid, context, invocations, pool, room)
+}
+
+/// Writes a Continue to the front of a room, and answers its length: a dialogue response that accepts
+/// the context, and a Return Result Last without a body. It answers 0 as `tcap_bench_write_begin` does
+/// (own).
+#[unsafe(no_mangle)]
+pub extern "C" fn tcap_bench_write_continue(
+    alloc: Global,
+    otid: u32,
+    dtid: u32,
+    context: &[u8],
+    id: i8,
+    room: &mut [u8],
+) -> usize
+    ensures { IsPut (continue_of otid dtid context.now id) result room.new }
+{
+    written::put_continue(alloc, otid, dtid, context, id, room)
+}
+
+/// Reads a message and writes it in the canonical form to the front of a room, and answers its length.
+/// It answers 0 where the message can't be read, and as `tcap_bench_write_begin` does (own).
+#[unsafe(no_mangle)]
+pub extern "C" fn tcap_bench_rewrite(alloc: Global, bytes: &[u8], room: &mut [u8]) -> usize
+    ensures { IsPut (rewritten bytes.now) result room.new }
+{
+    rewritten::put_rewritten(alloc, bytes, room)
+}
