@@ -78,7 +78,7 @@ latest-of dialogue id [] = tt
 latest-of dialogue id (pair ∷ past) =
     first-of dialogue (with_id dialogue id (invoked_by pair)) (latest dialogue id past) (with_id-of dialogue id (invoked_by pair)) (latest-of dialogue id past)
 
-abbrev IsSentOf : ℕ → Option SentInvocation → Type 0
+abbrev pub IsSentOf : ℕ → Option SentInvocation → Type 0
 IsSentOf dialogue None = Unit {0}
 IsSentOf dialogue (Some sent) = sent.dialogue ≡ dialogue
 
@@ -89,7 +89,7 @@ if_sent-of dialogue past earlier (Some i) of = elim (cases_Bool (is_sent_in i.cl
   | inr isnt ↦ rw isnt tt
 ]
 
-sent_there-of : (dialogue : ℕ) (past : Past) (earlier : List Item) (id : Option ℤ) → IsSentOf dialogue (sent_there dialogue past earlier id)
+pub sent_there-of : (dialogue : ℕ) (past : Past) (earlier : List Item) (id : Option ℤ) → IsSentOf dialogue (sent_there dialogue past earlier id)
 sent_there-of dialogue past earlier None = tt
 sent_there-of dialogue past earlier (Some id) = if_sent-of dialogue past earlier (latest dialogue id past) (latest-of dialogue id past)
 

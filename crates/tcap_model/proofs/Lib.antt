@@ -9,6 +9,7 @@ mod BornRows
 mod BoundedDialogues
 mod BoundedIdentifiers
 mod BoundedQueues
+mod CarriedComponents
 mod ClockLemmas
 mod ComponentPremises
 mod ComponentTellings
@@ -22,11 +23,16 @@ mod DrawnInvocations
 mod DrawnLemmas
 mod DueLemmas
 mod EarlierMoments
+mod EndLemmas
 mod EndPremises
 mod EndingsAgree
 mod EndsAgree
 mod EndsAnswered
 mod EventMarks
+mod FairReplies
+mod FairTellings
+mod FarOrigins
+mod FarPeers
 mod FormedRejects
 mod HeadlineWorks
 mod InvokedRows
@@ -38,6 +44,7 @@ mod LifeLemmas
 mod MovedDialogues
 mod MovedRows
 mod NamedReceptions
+mod NetPlaces
 mod NetsBroken
 mod NetsWork
 mod NumberLemmas
@@ -56,6 +63,7 @@ mod OtherDialogues
 mod PeerLemmas
 mod PlaceLemmas
 mod QueuedComponents
+mod QueuedMarks
 mod QuietDialogues
 mod QuietNumbers
 mod ReachedReplies
@@ -76,7 +84,9 @@ mod SendingLemmas
 mod SentAgree
 mod SentClocks
 mod SentComponents
+mod SentInvokes
 mod SentLemmas
+mod SentSpans
 mod SoundReceptions
 mod SpanSteps
 mod StageSteps
@@ -91,6 +101,8 @@ mod ToldOutputs
 mod ToldParts
 mod ToldReceptions
 mod TwoEndsWork
+mod WaitingInvokes
+mod WaitingQueues
 mod WalkAgree
 mod WalkedRows
 mod WrongAnswersGiven

@@ -29,13 +29,13 @@ use Rattle.tcap_model.proofs.ToldLemmas.{each-append}
 
 -- ---- requests
 
-accepted-parts : (h : History) (dialogue : ℕ) (request : Request) (before : Life) (fault : Option Fault) → is_accepted (request_answer h dialogue request before fault) ≡ true → (state : State) × (context : Option (List ℕ)) × (before ≡ Life.standing state context) × (fault ≡ None)
+pub accepted-parts : (h : History) (dialogue : ℕ) (request : Request) (before : Life) (fault : Option Fault) → is_accepted (request_answer h dialogue request before fault) ≡ true → (state : State) × (context : Option (List ℕ)) × (before ≡ Life.standing state context) × (fault ≡ None)
 accepted-parts h dialogue request before (Some f) e = absurd cc
 accepted-parts h dialogue request Life.unborn None e = absurd cc
 accepted-parts h dialogue request Life.over None e = absurd cc
 accepted-parts h dialogue request (Life.standing state context) None e = (state, context, refl, refl)
 
-accepted-good : (h : History) (dialogue : ℕ) (request : Request) → IsTrue (is_request request) → is_accepted (reply h (Event.on_dialogue dialogue request)) ≡ true → IfGood (component_of request)
+pub accepted-good : (h : History) (dialogue : ℕ) (request : Request) → IsTrue (is_request request) → is_accepted (reply h (Event.on_dialogue dialogue request)) ≡ true → IfGood (component_of request)
 accepted-good h dialogue request is accepted =
     let parts = accepted-parts h dialogue request (life dialogue h.pairs) (due h dialogue request) accepted in
     let none : due_by h dialogue request (Life.standing parts.0 parts.1) ≡ None = ap (λ (l : Life). due_by h dialogue request l) (sym parts.2) ∙ parts.3 in

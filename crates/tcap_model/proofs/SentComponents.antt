@@ -45,7 +45,7 @@ joined-from dialogue past (q ∷ waits) kept =
     (c ∷ others.0, (q.octets, joined waits, here, refl, others.1), (first.comes, others.2))
 
 -- components with nothing after them are all of the content
-all-first : (cs : List ComponentParts) (content : List ℕ) → SpellsComponents cs content → FirstFault cs None content
+pub all-first : (cs : List ComponentParts) (content : List ℕ) → SpellsComponents cs content → FirstFault cs None content
 all-first cs content spelled = record {
   front = content;
   rest = [];
@@ -55,7 +55,7 @@ all-first cs content spelled = record {
   ends = refl;
 }
 
-same-items : (cs ds : List ComponentParts) (fault : Option FaultParts) → items cs fault ≡ items ds None → (cs ≡ ds) × (fault ≡ None)
+pub same-items : (cs ds : List ComponentParts) (fault : Option FaultParts) → items cs fault ≡ items ds None → (cs ≡ ds) × (fault ≡ None)
 same-items [] [] None e = (refl, refl)
 same-items [] [] (Some f) e = absurd cc
 same-items [] (d ∷ ds) None e = absurd cc

@@ -6,6 +6,7 @@ pub mod bounds;
 pub mod components;
 pub mod deciding;
 pub mod drawing;
+pub mod ends;
 pub mod invoking;
 pub mod messages;
 pub mod standing;
