@@ -187,9 +187,11 @@ latest-alive start dialogue id (pair ∷ past) i legal e = stays_alive dialogue 
     alive j q same =
         let stood = draws start pair past j legal q in
         ap (λ (d : ℕ). was_alive (life d past)) (sym same) ∙ ap was_alive stood.stands
+
     here : (j : Invocation) → invoked_by pair ≡ Some j → ((j : Invocation) → latest dialogue id past ≡ Some j → was_alive (life dialogue past) ≡ true) → (b : Bool) → has_id dialogue id j ≡ b → option_or (cond b (Some j) None) (latest dialogue id past) ≡ Some i → was_alive (life dialogue past) ≡ true
     here j q before true p e = alive j q (id_of dialogue id j p).0
     here j q before false p e = before i e
+
     made : (o : Option Invocation) → invoked_by pair ≡ o → option_or (with_id dialogue id o) (latest dialogue id past) ≡ Some i → ((j : Invocation) → latest dialogue id past ≡ Some j → was_alive (life dialogue past) ≡ true) → was_alive (life dialogue past) ≡ true
     made None q e before = before i e
     made (Some j) q e before = here j q before (has_id dialogue id j) refl e
@@ -199,6 +201,7 @@ no-latest h id legal = go (latest (next_dialogue h) id h.pairs) refl
   where
     unborn : life (next_dialogue h) h.pairs ≡ Life.unborn
     unborn = unborn-life (next_dialogue h) h.pairs (beyond-unborn h.start h.pairs legal (next_dialogue h) (omega arith))
+
     go : (o : Option Invocation) → latest (next_dialogue h) id h.pairs ≡ o → latest (next_dialogue h) id h.pairs ≡ None
     go None q = q
     go (Some i) q = let never : false ≡ true = ap was_alive (sym unborn) ∙ latest-alive h.start (next_dialogue h) id h.pairs i legal q in absurd cc

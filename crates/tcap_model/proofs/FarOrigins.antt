@@ -222,7 +222,7 @@ module _ (net : Net) (is : IsNet net) (engine : Engine) (pair : Pair) (before : 
       let is_event : was.pair.event ≡ Event.on_dialogue d request = was.is_event ∙ ap (λ (r : Request). Event.on_dialogue d r) same in
       let at = stands-happens (far engine) was.pair was.before before (stands-before was.pair it.sender was.before it.past (side (far engine) before) was.stands it.stands) in
       let peer = peer-then (net.start (far engine)) it.past it.is_legal.2 d request (local_id dialogue) it.sent.state it.sent.context it.sent.is_life far-peer was.pair was.before was.stands is_event was.accepted
-          (λ s c lives accepted. answer-needs (record { start = net.start (far engine); pairs = was.before }) d s c lives dialogue number id output request answers accepted) in
+      (λ s c lives accepted. answer-needs (record { start = net.start (far engine); pairs = was.before }) d s c lives dialogue number id output request answers accepted) in
       record {
         pair = was.pair;
         before = at.before;

@@ -9,6 +9,7 @@ mod BornRows
 mod BoundedDialogues
 mod BoundedIdentifiers
 mod BoundedQueues
+pub mod CallerLemmas
 mod CarriedComponents
 mod ClockLemmas
 mod ComponentPremises

@@ -76,7 +76,7 @@ one-more class timeout clock mark span leaves was = record {
   unsent = sent_clock-append span (record { clock = clock; mark = mark } ∷ []) ∙ both-none (sent_clock span) (sent_clock (record { clock = clock; mark = mark } ∷ [])) was.unsent (no_clock clock mark leaves);
   unclosed = first_closing-append class timeout span (record { clock = clock; mark = mark } ∷ [])
       ∙ both-none (first_closing class timeout span) (option_or (closing_of class timeout (sent_clock span) mark) None) was.unclosed
-          (both-none (closing_of class timeout (sent_clock span) mark) None (ap (λ (s : Option ℕ). closing_of class timeout s mark) was.unsent ∙ no_closing class timeout mark leaves) refl);
+      (both-none (closing_of class timeout (sent_clock span) mark) None (ap (λ (s : Option ℕ). closing_of class timeout s mark) was.unsent ∙ no_closing class timeout mark leaves) refl);
 }
 
 pub still-unsent : (class : Class) (timeout clock : ℕ) (made : List Mark) (span : List Noted) → AllLeave made → IsUnsent class timeout span → IsUnsent class timeout (span ++ noted_at clock made)

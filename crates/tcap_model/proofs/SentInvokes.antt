@@ -51,15 +51,15 @@ sent-next number pair past was =
     let is_later : invocation_of number (pair ∷ past) ≡ Some i = invocation_stays number pair past i was.is_invocation in
     elim (cases_Bool (is_reused i (pair ∷ past))) [
       | inl used ↦ record {
-          invocation = i;
-          is_invocation = is_later;
-          is_sent = ap (was_sent_in i.class i.timeout) (span_stays i pair past found used) ∙ was.is_sent;
-        }
+        invocation = i;
+        is_invocation = is_later;
+        is_sent = ap (was_sent_in i.class i.timeout) (span_stays i pair past found used) ∙ was.is_sent;
+      }
       | inr unused ↦ record {
-          invocation = i;
-          is_invocation = is_later;
-          is_sent = ap (was_sent_in i.class i.timeout) (span_grows i pair past found unused) ∙ was_sent-more i.class i.timeout (span i past) (marks i.dialogue i.id pair past) was.is_sent;
-        }
+        invocation = i;
+        is_invocation = is_later;
+        is_sent = ap (was_sent_in i.class i.timeout) (span_grows i pair past found unused) ∙ was_sent-more i.class i.timeout (span i past) (marks i.dialogue i.id pair past) was.is_sent;
+      }
     ]
 
 pub sent-later : (number : ℕ) (later past : Past) → WasSent number past → WasSent number (later ++ past)
@@ -185,11 +185,11 @@ module _ (net : Net) (is : IsNet net) (engine : Engine) (pair : Pair) (before : 
       let standing : Life = Life.standing sent.state sent.context in
       let marked = sent.takes.is_sent asked.id standing (life_by_event sent.state sent.context sender.event (is_accepted sender.answer)) in
       let made : marks sent.dialogue asked.id sender it.past ≡ noted_at (clock it.past) (Mark.sent ∷ marked.0) =
-          standing_marks sent.dialogue asked.id sender.event sender.answer it.past sent.state sent.context sent.is_life named
-          ∙ ap (noted_at (clock it.past)) (
-            ap (λ (b : Bool). marks_by_event asked.id standing (life_by_event sent.state sent.context sender.event (is_accepted sender.answer)) sender.event b) accepted
-            ∙ (ap (λ (e : Event). marks_by_event asked.id standing (life_by_event sent.state sent.context sender.event (is_accepted sender.answer)) e true) sent.is_event
-            ∙ marked.1)) in
+      standing_marks sent.dialogue asked.id sender.event sender.answer it.past sent.state sent.context sent.is_life named
+      ∙ ap (noted_at (clock it.past)) (
+      ap (λ (b : Bool). marks_by_event asked.id standing (life_by_event sent.state sent.context sender.event (is_accepted sender.answer)) sender.event b) accepted
+      ∙ (ap (λ (e : Event). marks_by_event asked.id standing (life_by_event sent.state sent.context sender.event (is_accepted sender.answer)) e true) sent.is_event
+      ∙ marked.1)) in
       record {
         pair = asked.pair;
         before = asked.before;

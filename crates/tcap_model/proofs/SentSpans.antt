@@ -64,5 +64,5 @@ was_sent-at class timeout clock earlier later none =
     let sent : is_some (sent_clock span) ≡ true = ap is_some (sent_clock-append earlier (noted ∷ later)) ∙ or-some (sent_clock earlier) (sent_clock (noted ∷ later)) refl in
     let front = up_to-prefix earlier noted later refl in
     let unclosed : first_closing class timeout (up_to sends span) ≡ None =
-        (both_none (first_closing class timeout (up_to sends span)) _ (sym (first_closing-append class timeout (up_to sends span) front.0) ∙ (sym (ap (first_closing class timeout) front.1) ∙ none))).0 in
+    (both_none (first_closing class timeout (up_to sends span)) _ (sym (first_closing-append class timeout (up_to sends span) front.0) ∙ (sym (ap (first_closing class timeout) front.1) ∙ none))).0 in
     rw (sent, ap is_none unclosed) refl

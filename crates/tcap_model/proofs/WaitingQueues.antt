@@ -103,12 +103,16 @@ module _ (start : Start) (past : Past) (legal : AreReplies start past) (dialogue
     where
       i : Invocation
       i = invocation_as number dialogue asked.id asked.class asked.timeout
+
       open_there : outcome number past ≡ None
       open_there = ap (λ (o : Option Invocation). outcome_of o past) asked.is_invocation ∙ asked.unsent.unclosed
+
       is_latest : latest dialogue asked.id past ≡ Some i
       is_latest = latest_if_open start past number i legal asked.is_invocation open_there
+
       own_pending : pending dialogue asked.id past ≡ Some number
       own_pending = ap (if_pending past) is_latest ∙ ap (λ (o : Option _). if is_none o then Some number else None) open_there
+
       same-number : int_eq named asked.id ≡ true → number ≡ given
       same-number same =
           let is : Some number ≡ Some given = sym own_pending ∙ (ap (λ (id : ℤ). pending dialogue id past) (sym ((Decides-int_eq named asked.id).0 same)) ∙ is_pending) in
