@@ -31,8 +31,10 @@ mod FairReplies
 mod FairTellings
 mod FarOrigins
 mod FarPeers
+mod FarSenders
 mod FormedRejects
 mod HeadlineWorks
+mod HeardPeers
 mod IsolationWorks
 mod KeptQueues
 mod LapseOrder
@@ -53,6 +55,7 @@ mod OnlyQueues
 mod OnlyRequests
 mod OpenEvents
 mod OpenNumbers
+mod OpenedApart
 mod OpenReplies
 mod PeerLemmas
 mod PlaceLemmas
