@@ -34,8 +34,10 @@ mod FairReplies
 mod FairTellings
 mod FarOrigins
 mod FarPeers
+mod FarSenders
 mod FormedRejects
 mod HeadlineWorks
+mod HeardPeers
 mod InvokedRows
 mod IsolationWorks
 mod KeptQueues
@@ -60,6 +62,7 @@ mod OnlyRequests
 mod OpenEvents
 mod OpenNumbers
 mod OpenReplies
+mod OpenedApart
 mod OtherDialogues
 mod PeerLemmas
 mod PlaceLemmas
