@@ -6,6 +6,7 @@ use Rattle.std.proofs.lemmas.Bool.{cases_Bool, ltb-true, ltb-false}
 use Rattle.tcap_pdu.specs.FrameReading.{frame_at}
 use Rattle.tcap_pdu.specs.FrameSpelling.{Message, Reason, SpellsFrame}
 use Rattle.tcap_pdu.proofs.CallerLemmas.{one_frame}
+use Rattle.tcap_model.specs.Answer.{is_accepted}
 use Rattle.tcap_model.specs.Birth.{births, was_born}
 use Rattle.tcap_model.specs.Due.{birth_due, standing_of}
 use Rattle.tcap_model.specs.Event.{Event}
@@ -34,7 +35,7 @@ use Rattle.tcap_model.proofs.ToldFrom.{legal-before}
 
 -- ---- which message a request sends
 
-abbrev IsSource : Standing → Message → Type 0
+abbrev pub IsSource : Standing → Message → Type 0
 IsSource d (Message.unidirectional portion components) = Unit {0}
 IsSource d (Message.begin origin portion components) = origin ≡ local_id d.identifier
 IsSource d (Message.end to portion components) = peer_of d.state ≡ Some to
@@ -84,7 +85,7 @@ message-source d (Request.u_abort AbortReason.not_supported info) = refusing-sou
 
 -- ---- who sent what was received
 
-abbrev IsNoAbort : Message → Type 0
+abbrev pub IsNoAbort : Message → Type 0
 IsNoAbort (Message.unidirectional portion components) = Unit {0}
 IsNoAbort (Message.begin origin portion components) = Unit {0}
 IsNoAbort (Message.end to portion components) = Unit {0}
@@ -128,6 +129,7 @@ pub record FarSender (net : Net) (engine : Engine) (before : Trace) (m : Message
   pub sender : Pair
   pub past : Past
   pub stands : StandsIn sender past (side (far engine) before)
+  pub accepted : is_accepted sender.answer ≡ true
   pub is_legal : AreReplies (net.start (far engine)) (sender ∷ past)
   pub sent : SentAs past sender.event m
 
@@ -141,6 +143,7 @@ module _ (net : Net) (is : IsNet net) (engine : Engine) (pair : Pair) (before : 
         sender = by.pair;
         past = by.before;
         stands = by.stands;
+        accepted = ap is_accepted by.tells.is_answer;
         is_legal = legal;
         sent = sent-as (record { start = net.start (far engine); pairs = by.before }) bytes m spelled no_abort by.pair.event (subst (λ a. Tells a (Output.send bytes)) legal.1 by.tells);
       }

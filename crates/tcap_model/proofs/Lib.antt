@@ -1,4 +1,5 @@
 mod AcceptedRequests
+mod AfterInvokes
 mod AnsweredRows
 mod Apart
 mod BegunDialogues
@@ -32,6 +33,7 @@ mod EndsAnswered
 mod EventMarks
 mod FairReplies
 mod FairTellings
+mod FarInvokes
 mod FarOrigins
 mod FarPeers
 mod FarSenders
@@ -64,7 +66,10 @@ mod OpenNumbers
 mod OpenReplies
 mod OpenedApart
 mod OtherDialogues
+mod OwnDialogues
 mod PeerLemmas
+mod PlacedReplies
+mod PlacedTellings
 mod PlaceLemmas
 mod QueuedComponents
 mod QueuedMarks

@@ -42,10 +42,10 @@ shorter engine pair before trace happens =
 
 -- ---- names of dialogues
 
-own-name : (dialogue : ℕ) → dialogue < 2 ^ 32 → dialogue_named (local_id dialogue) ≡ Some dialogue
+pub own-name : (dialogue : ℕ) → dialogue < 2 ^ 32 → dialogue_named (local_id dialogue) ≡ Some dialogue
 own-name dialogue short = ap (λ (d : ℕ). Some d) (from_be_bytes-to_be_bytes_4 dialogue short)
 
-continue-names : (dialogue : ℕ) (bytes origin to components : List ℕ) (portion : Option (List ℕ)) → names (Event.received bytes) dialogue ≡ true → frame_at bytes ≡ Ok (Message.go_on origin to portion components) → dialogue_named to ≡ Some dialogue
+pub continue-names : (dialogue : ℕ) (bytes origin to components : List ℕ) (portion : Option (List ℕ)) → names (Event.received bytes) dialogue ≡ true → frame_at bytes ≡ Ok (Message.go_on origin to portion components) → dialogue_named to ≡ Some dialogue
 continue-names dialogue bytes origin to components portion named read = that-is dialogue (dialogue_named to) (ap (λ r. is_destined dialogue (destination_by bytes r)) (sym read) ∙ within (nat_le (length bytes) message_limit) named)
   where
     within : (short : Bool) → named_within short dialogue bytes ≡ true → is_destined dialogue (destination_of bytes) ≡ true
@@ -58,7 +58,7 @@ continue-names dialogue bytes origin to components portion named read = that-is 
 abbrev pub NeverBegun : ℕ → Past → Type 0
 NeverBegun dialogue past = (pair : Pair) (before : Past) (bytes : List ℕ) → StandsIn pair before past → pair.event ≡ Event.received bytes → is_birth_of dialogue pair ≡ true → ⊥
 
-never-before : (dialogue : ℕ) (other engine : Engine) (pair : Pair) (before trace : Trace) → Happens engine pair before trace → NeverBegun dialogue (side other trace) → NeverBegun dialogue (side other before)
+pub never-before : (dialogue : ℕ) (other engine : Engine) (pair : Pair) (before trace : Trace) → Happens engine pair before trace → NeverBegun dialogue (side other trace) → NeverBegun dialogue (side other before)
 never-before dialogue other engine pair before trace happens never asked past bytes stands =
     let rest = happens-rest other engine pair before trace happens in
     never asked past bytes (record { later = rest.0 ++ stands.later; is_past = rest.1 ∙ (ap (λ (p : Past). rest.0 ++ p) stands.is_past ∙ sym (append_assoc rest.0 stands.later (asked ∷ past))) })
