@@ -1,10 +1,9 @@
 -- Every request that an answer may come from was made after the Invoke was sent.
-use Rattle.std.proofs.Common.{◌≡◌, ℕ, ℤ, ◌==◌, ◌<◌, ◌^◌, Bool, true, false, List, [], ◌∷◌, ◌++◌, Option, Some, None, refl, sym, ap, subst, ◌∙◌, inl, inr, append_assoc}
+use Rattle.std.proofs.Common.{◌≡◌, ℕ, ℤ, ◌==◌, Bool, true, false, List, [], ◌∷◌, ◌++◌, Option, Some, None, refl, sym, ap, subst, ◌∙◌, append_assoc}
 use Rattle.std.specs.Prelude.{cond, find, option_to_list}
 use Rattle.std.specs.Option.{option_or}
 use Rattle.tcap_component.specs.declared.problem.Kind.{Kind}
 use Rattle.tcap_component.specs.declared.problem.Kind.TheVariants as kind
-use Rattle.tcap_component.specs.Problem.{ProblemParts}
 use Rattle.tcap_model.specs.Answer.{Answer}
 use Rattle.tcap_model.specs.Birth.{born_on_message}
 use Rattle.tcap_model.specs.ComponentLaws.{ToldFromOne}
@@ -20,7 +19,7 @@ use Rattle.tcap_model.specs.Pair.{Pair, Past}
 use Rattle.tcap_model.specs.Places.{StandsIn, Tells}
 use Rattle.tcap_model.specs.Reply.{reply}
 use Rattle.tcap_model.specs.Request.{Request}
-use Rattle.tcap_model.specs.TwoEnds.{Happens, peer_in, IsAnswer, IsFarRequest, UsesOnce, AnswersInvoke, AnswersWhatItWasTold, WasInvoked, WasOpened, WasSent, AfterInvoke, TwoEnds, EachIsTwoEnded}
+use Rattle.tcap_model.specs.TwoEnds.{Happens, peer_in, IsAnswer, IsFarRequest, UsesOnce, AnswersInvoke, AnswersWhatItWasTold, WasInvoked, WasOpened, WasSent, AfterInvoke, EachIsTwoEnded}
 use Rattle.tcap_model.proofs.CarriedComponents.{Carried, stands-before}
 use Rattle.tcap_model.proofs.DrawnInvocations.{invocation_step}
 use Rattle.tcap_model.proofs.EndLemmas.{once}

@@ -1,9 +1,9 @@
 -- Each Invoke that the far user is told in a dialogue whose peer is a dialogue which was opened here,
 -- was sent by that.
-use Rattle.std.proofs.Common.{◌≡◌, ◌⊎◌, ℕ, ℤ, ◌<◌, ◌≤◌, ◌^◌, Bool, true, false, List, [], ◌∷◌, ◌++◌, length, Option, Some, None, Ok, refl, sym, ap, subst, ◌∙◌, inl, inr, arith, append_assoc}
+use Rattle.std.proofs.Common.{◌≡◌, ◌⊎◌, ℕ, ℤ, ◌<◌, ◌^◌, true, List, [], ◌∷◌, ◌++◌, length, Option, Some, None, Ok, refl, sym, ap, subst, ◌∙◌, inl, inr, arith, append_assoc}
 use Rattle.tcap_pdu.specs.FrameReading.{frame_at}
 use Rattle.tcap_pdu.specs.FrameSpelling.{Message}
-use Rattle.tcap_pdu.proofs.CallerLemmas.{frame_again, frame_takes}
+use Rattle.tcap_pdu.proofs.CallerLemmas.{frame_takes}
 use Rattle.tcap_component.specs.Component.{CodeParts}
 use Rattle.tcap_model.specs.Answer.{Answer, is_accepted}
 use Rattle.tcap_model.specs.Birth.{born_of, born_on_message, is_birth_of}
@@ -11,7 +11,7 @@ use Rattle.tcap_model.specs.ComponentLaws.{IsOfComponent}
 use Rattle.tcap_model.specs.Destination.{destination}
 use Rattle.tcap_model.specs.Due.{standing_of}
 use Rattle.tcap_model.specs.Event.{Event}
-use Rattle.tcap_model.specs.History.{History, Start}
+use Rattle.tcap_model.specs.History.{History}
 use Rattle.tcap_model.specs.Legal.{AreReplies}
 use Rattle.tcap_model.specs.Life.{Life, life}
 use Rattle.tcap_model.specs.LocalId.{dialogue_named, local_id, is_that}
@@ -35,7 +35,6 @@ use Rattle.tcap_model.proofs.NetPlaces.{happens-rest, happens-stands, IsAt, stan
 use Rattle.tcap_model.proofs.OpenedApart.{NeverBegun, net-before, never-peers, own-name, continue-names}
 use Rattle.tcap_model.proofs.OwnDialogues.{IsBegun, birth-begun, never-begun}
 use Rattle.tcap_model.proofs.PlacedReplies.{reply-placed}
-use Rattle.tcap_model.proofs.PlacedTellings.{Placed}
 use Rattle.tcap_model.proofs.ToldFrom.{legal-before}
 
 -- ---- parts of a history
@@ -150,24 +149,24 @@ module _ (net : Net) (is : IsNet net) (engine other : Engine) (forth : far engin
   twice : far (far other) ≡ other
   twice = ap far back ∙ forth
 
-  module _ (p : Pair) (bef : Trace) (happens : Happens other p bef net.trace) (id : ℤ) (linked : Option ℤ) (code : CodeParts) (parameter : Option (List ℕ)) (tells : Tells p.answer (Output.invoked (Some f) id linked code parameter)) where
+  module _ (pair : Pair) (before : Trace) (happens : Happens other pair before net.trace) (id : ℤ) (linked : Option ℤ) (code : CodeParts) (parameter : Option (List ℕ)) (tells : Tells pair.answer (Output.invoked (Some f) id linked code parameter)) where
     abbrev told : Output
     told = Output.invoked (Some f) id linked code parameter
 
-    pub invoke-told : Carried net other bef p.event told
-    invoke-told = carried net is other p bef happens told tells (IsOfComponent.invoke (Some f) id linked code parameter)
+    pub invoke-told : Carried net other before pair.event told
+    invoke-told = carried net is other pair before happens told tells (IsOfComponent.invoke (Some f) id linked code parameter)
 
     abbrev x : ℕ
     x = invoke-told.sent.dialogue
 
     abbrev h : History
-    h = record { start = net.start other; pairs = side other bef }
+    h = record { start = net.start other; pairs = side other before }
 
-    stands : StandsIn p (side other bef) (side other net.trace)
-    stands = happens-stands other p bef net.trace happens
+    stands : StandsIn pair (side other before) (side other net.trace)
+    stands = happens-stands other pair before net.trace happens
 
-    legal-here : AreReplies (net.start other) (p ∷ side other bef)
-    legal-here = legal-before (net.start other) stands.later (p ∷ side other bef) (subst (AreReplies (net.start other)) stands.is_past legal-far)
+    legal-here : AreReplies (net.start other) (pair ∷ side other before)
+    legal-here = legal-before (net.start other) stands.later (pair ∷ side other before) (subst (AreReplies (net.start other)) stands.is_past legal-far)
 
     placed : IsNamedBy invoke-told.told.bytes f ⊎ (is_that f (born_on_message (reply h (Event.received invoke-told.told.bytes))) ≡ true)
     placed = reply-placed h legal-here.2 invoke-told.told.bytes told (subst (λ (e : Event). Tells (reply h e) told) invoke-told.told.is_event (subst (λ (a : Answer). Tells a told) legal-here.1 tells))
@@ -175,11 +174,11 @@ module _ (net : Net) (is : IsNet net) (engine other : Engine) (forth : far engin
     -- it gives birth to the dialogue
     by-birth : is_that f (born_on_message (reply h (Event.received invoke-told.told.bytes))) ≡ true → x ≡ d
     by-birth birth =
-        let born : is_birth_of f p ≡ true =
-        ap (λ (e : Event). is_that f (born_of e p.answer)) invoke-told.told.is_event
+        let born : is_birth_of f pair ≡ true =
+        ap (λ (e : Event). is_that f (born_of e pair.answer)) invoke-told.told.is_event
         ∙ (ap (λ (a : Answer). is_that f (born_on_message a)) (legal-here.1 ∙ ap (reply h) invoke-told.told.is_event) ∙ birth) in
-        let begun : IsBegun f invoke-told.told.bytes p (side other bef) = birth-begun (net.start other) f p (side other bef) legal-here born invoke-told.told.bytes invoke-told.told.is_event in
-        let from-d : begun.origin ≡ local_id d = f-peer (p ∷ side other bef) begun.origin (stands.later, stands.is_past) begun.has_peer in
+        let begun : IsBegun f invoke-told.told.bytes pair (side other before) = birth-begun (net.start other) f pair (side other before) legal-here born invoke-told.told.bytes invoke-told.told.is_event in
+        let from-d : begun.origin ≡ local_id d = f-peer (pair ∷ side other before) begun.origin (stands.later, stands.is_past) begun.has_peer in
         let m : Message = Message.begin begun.origin begun.portion begun.components in
         let there : History = record { start = net.start (far other); pairs = invoke-told.past } in
         let sent : SentAs invoke-told.past invoke-told.sender.event m = sent-as there invoke-told.told.bytes m (frame_takes invoke-told.told.bytes m begun.is_begin) tt invoke-told.sender.event (subst (λ (a : Answer). Tells a (Output.send invoke-told.told.bytes)) invoke-told.is_legal.1 invoke-told.tells) in
@@ -190,21 +189,21 @@ module _ (net : Net) (is : IsNet net) (engine other : Engine) (forth : far engin
 
     -- it names the dialogue: what the sender heard of that it heard by a Continue
     module _ (octets : List ℕ) (names-f : dialogue_named octets ≡ Some f) (heard : HeardOf x octets invoke-told.past) where
-      at : IsAt (far other) heard.pair heard.before bef
-      at = stands-happens (far other) heard.pair heard.before bef (stands-before heard.pair invoke-told.sender heard.before invoke-told.past (side (far other) bef) heard.stands invoke-told.stands)
+      at : IsAt (far other) heard.pair heard.before before
+      at = stands-happens (far other) heard.pair heard.before before (stands-before heard.pair invoke-told.sender heard.before invoke-told.past (side (far other) before) heard.stands invoke-told.stands)
 
       abbrev first : Net
-      first = record { start = net.start; trace = bef }
+      first = record { start = net.start; trace = before }
 
       from : (m : Message) → frame_at heard.hears.bytes ≡ Ok m → IsNoAbort m → FarSender first (far other) at.before m
-      from m e no_abort = far-sender first (net-before net is other p bef happens) (far other) heard.pair at.before at.happens heard.hears.bytes m heard.hears.is_event (frame_takes heard.hears.bytes m e) no_abort
+      from m e no_abort = far-sender first (net-before net is other pair before happens) (far other) heard.pair at.before at.happens heard.hears.bytes m heard.hears.is_event (frame_takes heard.hears.bytes m e) no_abort
 
       module _ (m : Message) (s : FarSender first (far other) at.before m) where
         part : IsIn s.past (side other net.trace)
         part =
             in-in s.past (side other at.before) (side other net.trace)
             (stands-in s.sender s.past (side other at.before) (subst (λ (e : Engine). StandsIn s.sender s.past (side e at.before)) twice s.stands))
-            (in-in (side other at.before) (side other bef) (side other net.trace) (happens-rest other (far other) heard.pair at.before bef at.happens) (happens-rest other other p bef net.trace happens))
+            (in-in (side other at.before) (side other before) (side other net.trace) (happens-rest other (far other) heard.pair at.before before at.happens) (happens-rest other other pair before net.trace happens))
 
         legal-there : AreReplies (net.start other) (s.sender ∷ s.past)
         legal-there = subst (λ (e : Engine). AreReplies (net.start e) (s.sender ∷ s.past)) twice s.is_legal

@@ -1,5 +1,5 @@
 -- A dialogue that its user opened, or whose peer wasn't known once, was never begun by a message.
-use Rattle.std.proofs.Common.{◌≡◌, ◌≢◌, ◌⊎◌, ℕ, ◌+◌, ◌<◌, ◌≤◌, ◌^◌, Bool, true, false, List, [], ◌∷◌, ◌++◌, Option, Some, None, Result, Ok, Err, refl, sym, ap, subst, ◌∙◌, inl, inr, arith}
+use Rattle.std.proofs.Common.{◌≡◌, ◌≢◌, ◌⊎◌, ℕ, ◌+◌, ◌<◌, ◌^◌, Bool, true, List, [], ◌∷◌, ◌++◌, Option, Some, None, Result, Ok, Err, refl, sym, ap, subst, ◌∙◌, inl, inr, arith}
 use Rattle.std.proofs.lemmas.Bool.{eq-eqb}
 use Rattle.tcap_pdu.specs.declared.fault.FrameFault.{FrameFault}
 use Rattle.tcap_pdu.specs.FrameReading.{frame_at}
@@ -7,11 +7,11 @@ use Rattle.tcap_pdu.specs.FrameSpelling.{Message}
 use Rattle.tcap_model.specs.Birth.{born_of, born_by, births, is_birth_of}
 use Rattle.tcap_model.specs.Due.{birth_due}
 use Rattle.tcap_model.specs.Event.{Event}
-use Rattle.tcap_model.specs.History.{History, Start}
-use Rattle.tcap_model.specs.Legal.{AreReplies, is_start}
+use Rattle.tcap_model.specs.History.{Start}
+use Rattle.tcap_model.specs.Legal.{AreReplies}
 use Rattle.tcap_model.specs.Life.{Life, life, life_at_birth, life_after, born_life, begun_life}
 use Rattle.tcap_model.specs.LocalId.{is_that}
-use Rattle.tcap_model.specs.Net.{Engine, Trace, side, Net, IsNet}
+use Rattle.tcap_model.specs.Net.{Engine, side, Net, IsNet}
 use Rattle.tcap_model.specs.Answer.{Answer}
 use Rattle.tcap_model.specs.Pair.{Pair, Past}
 use Rattle.tcap_model.specs.Places.{StandsIn}

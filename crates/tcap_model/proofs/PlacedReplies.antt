@@ -1,5 +1,5 @@
 -- Whatever is told of received bytes in a legal history is told of what it is about.
-use Rattle.std.proofs.Common.{◌≡◌, ℕ, ℤ, true, false, Bool, List, [], ◌∷◌, ◌++◌, filter_map, option_to_list, ◌==◌, ◌&&◌, is_none, is_some, Option, Some, None, Result, Ok, Err, if◌then◌else◌, refl, sym, subst, inl, inr}
+use Rattle.std.proofs.Common.{ℕ, true, false, Bool, List, [], ◌∷◌, ◌++◌, filter_map, option_to_list, ◌==◌, ◌&&◌, is_none, is_some, Option, Some, None, Result, Ok, Err, if◌then◌else◌, refl, sym, subst, inl, inr}
 use Rattle.std.specs.List.{cons_option}
 use Rattle.std.proofs.lemmas.Bool.{eq-eqb}
 use Rattle.tcap_pdu.specs.DialogueReading.{dialogue_at}
@@ -30,7 +30,7 @@ use Rattle.tcap_model.specs.State.{State}
 use Rattle.tcap_model.proofs.CarriedComponents.{one-of}
 use Rattle.tcap_model.proofs.FairTellings.{IsNamedBy}
 use Rattle.tcap_model.proofs.NamedReceptions.{IsNamed, reception-named}
-use Rattle.tcap_model.proofs.PlacedTellings.{IsPlaced, Placed, AllPlaced, components-placed, uni-placed}
+use Rattle.tcap_model.proofs.PlacedTellings.{Placed, AllPlaced, components-placed, uni-placed}
 use Rattle.tcap_model.proofs.SendingLemmas.{Sends}
 use Rattle.tcap_model.proofs.SoundReceptions.{IfSends, IsSound, reception-sound}
 use Rattle.tcap_model.proofs.ToldLemmas.{each-append}

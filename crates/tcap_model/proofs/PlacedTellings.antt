@@ -1,6 +1,6 @@
 -- What is told of received bytes, and of what: an answer of an invocation of its dialogue and its
 -- identifier, an Invoke in a dialogue that the bytes name or give birth to.
-use Rattle.std.proofs.Common.{◌≡◌, ◌⊎◌, ℕ, ℤ, true, false, Bool, List, [], ◌∷◌, ◌++◌, Option, Some, None, Ok, Err, if◌then◌else◌, refl, sym, ap, subst, ◌∙◌}
+use Rattle.std.proofs.Common.{◌≡◌, ◌⊎◌, ℕ, ℤ, true, false, Bool, List, [], ◌∷◌, ◌++◌, Option, Some, None, Ok, Err, if◌then◌else◌, refl}
 use Rattle.std.specs.List.{AllByRecursion}
 use Rattle.std.specs.Prelude.{cond}
 use Rattle.tcap_component.specs.Component.{CodeParts, BodyParts}
@@ -13,7 +13,6 @@ use Rattle.tcap_invocation.specs.declared.class.Class.{Class}
 use Rattle.tcap_invocation.specs.declared.class.Class.TheVariants.{One, Two, Three, Four}
 use Rattle.tcap_invocation.specs.Class.{Received, Consequence, class_rule}
 use Rattle.tcap_model.specs.ComponentHandling.{Item, SentInvocation, subject_of, invoke_handled, result_by, result_handled, error_by, error_handled, reject_by, reject_handled, handled, told_of, uni_told}
-use Rattle.tcap_model.specs.Event.{Event}
 use Rattle.tcap_model.specs.History.{Start}
 use Rattle.tcap_model.specs.Invocation.{Invocation, invocation_of, latest}
 use Rattle.tcap_model.specs.Legal.{AreReplies}
