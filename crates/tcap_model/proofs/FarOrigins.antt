@@ -75,7 +75,7 @@ answer-told dialogue number id _ _ (IsAnswer.a_result_more body) = refl
 answer-told dialogue number id _ _ (IsAnswer.an_error code parameter) = refl
 answer-told dialogue number id _ _ (IsAnswer.a_reject problem) = refl
 
-answer-indicates : (dialogue number : ℕ) (id : ℤ) (output : Output) (request : Request) → IsAnswer dialogue number id output request → IsOfComponent output
+pub answer-indicates : (dialogue number : ℕ) (id : ℤ) (output : Output) (request : Request) → IsAnswer dialogue number id output request → IsOfComponent output
 answer-indicates dialogue number id _ _ (IsAnswer.a_result_last body) = IsOfComponent.result_last dialogue number id body
 answer-indicates dialogue number id _ _ (IsAnswer.a_result_more body) = IsOfComponent.result_more dialogue number id body
 answer-indicates dialogue number id _ _ (IsAnswer.an_error code parameter) = IsOfComponent.error_back dialogue number id code parameter
@@ -142,7 +142,7 @@ answer-no-invoke dialogue number id _ _ (IsAnswer.a_reject problem) c e = let sa
 
 -- ---- the destination of bytes that name a dialogue
 
-named-destined : (dialogue : ℕ) (bytes : List ℕ) (m : Message) → SpellsFrame m bytes → IsNamedBy bytes dialogue → is_destined dialogue (destination m) ≡ true
+pub named-destined : (dialogue : ℕ) (bytes : List ℕ) (m : Message) → SpellsFrame m bytes → IsNamedBy bytes dialogue → is_destined dialogue (destination m) ≡ true
 named-destined dialogue bytes m spelled named =
     ap (λ r. is_destined dialogue (destination_by bytes r)) (sym (frame_again m bytes spelled)) ∙ within (nat_le (length bytes) message_limit) named
   where
@@ -150,7 +150,7 @@ named-destined dialogue bytes m spelled named =
     within true e = e
     within false e = absurd cc
 
-destined-octets : (dialogue : ℕ) (to : Option (List ℕ)) → is_destined dialogue to ≡ true → (octets : List ℕ) × (to ≡ Some octets) × (dialogue_named octets ≡ Some dialogue)
+pub destined-octets : (dialogue : ℕ) (to : Option (List ℕ)) → is_destined dialogue to ≡ true → (octets : List ℕ) × (to ≡ Some octets) × (dialogue_named octets ≡ Some dialogue)
 destined-octets dialogue None e = absurd cc
 destined-octets dialogue (Some octets) e = (octets, refl, that-is dialogue (dialogue_named octets) e)
 

@@ -53,7 +53,7 @@ answered-has peer (State.received known) origin e = e
 answered-has peer (State.active known) origin e = e
 
 -- this is no TC-BEGIN request
-abbrev BeginsNone : Request → Type 0
+abbrev pub BeginsNone : Request → Type 0
 BeginsNone request = (context : Option (List ℕ)) (info : List ℕ) → request ≡ Request.begin context info → ⊥
 
 request-has : (peer : List ℕ) (state : State) (context : Option (List ℕ)) (request : Request) → BeginsNone request → peer_of state ≡ Some peer → HasPeer peer (life_by_request state context request)
@@ -104,7 +104,7 @@ module _ (h : History) (dialogue : ℕ) (request : Request) (s : State) (c : Opt
       let parts = accepted-parts h dialogue request (life dialogue h.pairs) (due h dialogue request) accepted in
       first_that-none (holds situation request) (faults_of request) (ap (λ (l : Life). due_by h dialogue request l) (sym lives) ∙ parts.3)
 
-no-begin : (h : History) (dialogue : ℕ) (peer : List ℕ) (s : State) (c : Option (List ℕ)) → life dialogue h.pairs ≡ Life.standing s c → peer_of s ≡ Some peer → (request : Request) → is_accepted (reply h (Event.on_dialogue dialogue request)) ≡ true → BeginsNone request
+pub no-begin : (h : History) (dialogue : ℕ) (peer : List ℕ) (s : State) (c : Option (List ℕ)) → life dialogue h.pairs ≡ Life.standing s c → peer_of s ≡ Some peer → (request : Request) → is_accepted (reply h (Event.on_dialogue dialogue request)) ≡ true → BeginsNone request
 no-begin h dialogue peer s c lives e request accepted context info is =
     let none = none-due h dialogue (Request.begin context info) s c lives (subst (λ (r : Request). is_accepted (reply h (Event.on_dialogue dialogue r)) ≡ true) is accepted) in
     not-fresh s (flip (is_fresh s) none.1.0) e

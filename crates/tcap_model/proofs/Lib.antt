@@ -1,4 +1,5 @@
 mod AcceptedRequests
+mod AfterInvokes
 mod AnsweredRows
 mod Apart
 mod BegunDialogues
@@ -32,10 +33,13 @@ mod EndsAnswered
 mod EventMarks
 mod FairReplies
 mod FairTellings
+mod FarInvokes
 mod FarOrigins
 mod FarPeers
+mod FarSenders
 mod FormedRejects
 mod HeadlineWorks
+mod HeardPeers
 mod InvokedRows
 mod IsolationWorks
 mod KeptQueues
@@ -60,8 +64,12 @@ mod OnlyRequests
 mod OpenEvents
 mod OpenNumbers
 mod OpenReplies
+mod OpenedApart
 mod OtherDialogues
+mod OwnDialogues
 mod PeerLemmas
+mod PlacedReplies
+mod PlacedTellings
 mod PlaceLemmas
 mod QueuedComponents
 mod QueuedMarks

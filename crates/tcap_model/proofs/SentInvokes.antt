@@ -147,7 +147,7 @@ joined-waits dialogue past (q ∷ waits) all =
 
 -- ---- the Invoke that is told
 
-stands-for-invoke : (output : Output) (c : ComponentParts) → StandsFor output c → (dialogue : Option ℕ) (id : ℤ) (linked : Option ℤ) (code : CodeParts) (parameter : Option (List ℕ)) → output ≡ Output.invoked dialogue id linked code parameter → c ≡ invoke id linked code parameter
+pub stands-for-invoke : (output : Output) (c : ComponentParts) → StandsFor output c → (dialogue : Option ℕ) (id : ℤ) (linked : Option ℤ) (code : CodeParts) (parameter : Option (List ℕ)) → output ≡ Output.invoked dialogue id linked code parameter → c ≡ invoke id linked code parameter
 stands-for-invoke _ _ (StandsFor.an_invoke d i l k p) dialogue id linked code parameter e =
     let a : i ≡ id = cc in
     let b : l ≡ linked = cc in
@@ -160,7 +160,7 @@ stands-for-invoke _ _ (StandsFor.an_error d n i k p) dialogue id linked code par
 stands-for-invoke _ _ (StandsFor.a_reject d n i problem) dialogue id linked code parameter e = absurd cc
 
 module _ (net : Net) (is : IsNet net) (engine : Engine) (pair : Pair) (before : Trace) (happens : Happens engine pair before net.trace) where
-  source : (output : Output) (it : Carried net engine before pair.event output) (id : ℤ) (linked : Option ℤ) (code : CodeParts) (parameter : Option (List ℕ)) → it.told.component ≡ invoke id linked code parameter →
+  pub source : (output : Output) (it : Carried net engine before pair.event output) (id : ℤ) (linked : Option ℤ) (code : CodeParts) (parameter : Option (List ℕ)) → it.told.component ≡ invoke id linked code parameter →
       HasSource it.sent.dialogue it.past id linked code parameter
   source output it id linked code parameter e =
       let told = it.told in
@@ -173,9 +173,10 @@ module _ (net : Net) (is : IsNet net) (engine : Engine) (pair : Pair) (before : 
       let here = one-of (IfInvoke sent.dialogue it.past) told.earlier told.later told.component (subst (AllByRecursion (IfInvoke sent.dialogue it.past)) (sym same.0) all.2) in
       subst (IfInvoke sent.dialogue it.past) e here
 
-  was-asked : (output : Output) (it : Carried net engine before pair.event output) (id : ℤ) (linked : Option ℤ) (code : CodeParts) (parameter : Option (List ℕ)) → HasSource it.sent.dialogue it.past id linked code parameter →
-      WasAsked id linked code parameter (side (far engine) before)
-  was-asked output it id linked code parameter from =
+  -- the Invoke of that was sent
+  pub invoke-sent : (output : Output) (it : Carried net engine before pair.event output) (id : ℤ) (linked : Option ℤ) (code : CodeParts) (parameter : Option (List ℕ)) → (from : HasSource it.sent.dialogue it.past id linked code parameter) →
+      WasSent from.number (side (far engine) before)
+  invoke-sent output it id linked code parameter from =
       let asked = from.asked in
       let sent = it.sent in
       let sender : Pair = it.sender in
@@ -190,6 +191,14 @@ module _ (net : Net) (is : IsNet net) (engine : Engine) (pair : Pair) (before : 
       ap (λ (b : Bool). marks_by_event asked.id standing (life_by_event sent.state sent.context sender.event (is_accepted sender.answer)) sender.event b) accepted
       ∙ (ap (λ (e : Event). marks_by_event asked.id standing (life_by_event sent.state sent.context sender.event (is_accepted sender.answer)) e true) sent.is_event
       ∙ marked.1)) in
+      subst (WasSent from.number) (sym it.stands.is_past)
+      (sent-later from.number it.stands.later (sender ∷ it.past) (sent-here (net.start (far engine)) it.past sender.event sender.answer it.is_legal.2 accepted from.octets from.number sent.dialogue asked marked.0 none made))
+
+  was-asked : (output : Output) (it : Carried net engine before pair.event output) (id : ℤ) (linked : Option ℤ) (code : CodeParts) (parameter : Option (List ℕ)) → HasSource it.sent.dialogue it.past id linked code parameter →
+      WasAsked id linked code parameter (side (far engine) before)
+  was-asked output it id linked code parameter from =
+      let asked = from.asked in
+      let sent = it.sent in
       record {
         pair = asked.pair;
         before = asked.before;
@@ -197,15 +206,14 @@ module _ (net : Net) (is : IsNet net) (engine : Engine) (pair : Pair) (before : 
         class = asked.class;
         timeout = asked.timeout;
         number = from.number;
-        stands = stands-before asked.pair sender asked.before it.past (side (far engine) before) asked.stands it.stands;
+        stands = stands-before asked.pair it.sender asked.before it.past (side (far engine) before) asked.stands it.stands;
         is_event = asked.is_event
             ∙ (ap (λ (x : ℤ). Event.on_dialogue sent.dialogue (Request.invoke x asked.class asked.code asked.parameter asked.linked asked.timeout)) from.is_id
             ∙ (ap (λ (x : CodeParts). Event.on_dialogue sent.dialogue (Request.invoke id asked.class x asked.parameter asked.linked asked.timeout)) from.is_code
             ∙ (ap (λ (x : Option (List ℕ)). Event.on_dialogue sent.dialogue (Request.invoke id asked.class code x asked.linked asked.timeout)) from.is_parameter
             ∙ ap (λ (x : Option ℤ). Event.on_dialogue sent.dialogue (Request.invoke id asked.class code parameter x asked.timeout)) from.is_linked)));
         is_answer = asked.is_answer;
-        was_sent = subst (WasSent from.number) (sym it.stands.is_past)
-            (sent-later from.number it.stands.later (sender ∷ it.past) (sent-here (net.start (far engine)) it.past sender.event sender.answer it.is_legal.2 accepted from.octets from.number sent.dialogue asked marked.0 none made));
+        was_sent = invoke-sent output it id linked code parameter from;
       }
 
 pub operations : (net : Net) → IsNet net → Operations net.trace
