@@ -1,4 +1,5 @@
 -- What the crates above cite: laws of this crate's definitions. Declares nothing.
+pub use Rattle.tcap_model.proofs.AfterInvokes.{after-invoke, two_ends}
 pub use Rattle.tcap_model.proofs.BegunDialogues.{begun-answered, begun-born}
 pub use Rattle.tcap_model.proofs.BirthLemmas.{dialogue-next, dialogues-drawn, dialogues-rise, dialogues-below, was_born-listed, listed-was_born, was_born-lives, beyond-unborn}
 pub use Rattle.tcap_model.proofs.BornRows.{fresh-born}

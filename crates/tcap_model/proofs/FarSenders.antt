@@ -1,17 +1,15 @@
 -- Which far dialogue sent a Begin or a Continue that was received, and how it stood.
-use Rattle.std.proofs.Common.{◌≡◌, ◌≢◌, ℕ, ◌<◌, ◌≤◌, ◌+◌, ◌^◌, Bool, true, false, List, [], ◌∷◌, ◌++◌, Option, Some, None, refl, sym, ap, subst, ◌∙◌, inl, inr, arith, nat_lt}
+use Rattle.std.proofs.Common.{◌≡◌, ◌≢◌, ℕ, ◌<◌, ◌+◌, ◌^◌, true, List, ◌∷◌, Option, Some, None, refl, sym, ap, subst, ◌∙◌, inl, inr, arith, nat_lt}
 use Rattle.std.specs.Int.{w32, from_be_bytes}
 use Rattle.std.proofs.lemmas.Nat.{from_be_bytes-to_be_bytes_4}
 use Rattle.std.proofs.lemmas.Bool.{cases_Bool, ltb-true, ltb-false}
-use Rattle.tcap_pdu.specs.FrameReading.{frame_at}
 use Rattle.tcap_pdu.specs.FrameSpelling.{Message, Reason, SpellsFrame}
 use Rattle.tcap_pdu.proofs.CallerLemmas.{one_frame}
 use Rattle.tcap_model.specs.Answer.{is_accepted}
-use Rattle.tcap_model.specs.Birth.{births, was_born}
+use Rattle.tcap_model.specs.Birth.{births}
 use Rattle.tcap_model.specs.Due.{birth_due, standing_of}
 use Rattle.tcap_model.specs.Event.{Event}
 use Rattle.tcap_model.specs.History.{History, Start}
-use Rattle.tcap_model.specs.Identifiers.{last_dialogue}
 use Rattle.tcap_model.specs.Legal.{AreReplies, is_start}
 use Rattle.tcap_model.specs.Life.{Life, life}
 use Rattle.tcap_model.specs.LocalId.{local_id}

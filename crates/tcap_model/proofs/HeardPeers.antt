@@ -1,13 +1,12 @@
 -- How a dialogue heard of its peer: by the Begin that gave birth to it, or by the first Continue.
-use Rattle.std.proofs.Common.{◌≡◌, ℕ, Bool, true, false, ◌⊎◌, ◌==◌, List, [], ◌∷◌, ◌++◌, Option, Some, None, Result, Ok, Err, refl, sym, ap, subst, ◌∙◌, inl, inr}
-use Rattle.std.proofs.lemmas.Bool.{cases_Bool}
+use Rattle.std.proofs.Common.{◌≡◌, ℕ, Bool, true, false, ◌⊎◌, List, [], ◌∷◌, Option, Some, Result, Ok, Err, refl, ap, inl, inr}
 use Rattle.tcap_pdu.specs.declared.fault.FrameFault.{FrameFault}
 use Rattle.tcap_pdu.specs.FrameReading.{frame_at}
 use Rattle.tcap_pdu.specs.FrameSpelling.{Message}
 use Rattle.tcap_model.specs.Answer.{Answer, is_accepted}
 use Rattle.tcap_model.specs.Birth.{is_birth_of}
 use Rattle.tcap_model.specs.Event.{Event}
-use Rattle.tcap_model.specs.Life.{Life, life, life_at_birth, life_after, life_by_event, life_by_message, life_by_request, life_by_verdict, life_if_accepted, life_if_live, life_if_named, begun_life, born_life, answered}
+use Rattle.tcap_model.specs.Life.{Life, life, life_at_birth, life_after, life_by_event, life_by_message, life_by_request, life_by_verdict, life_if_accepted, life_if_live, life_if_named, begun_life, answered}
 use Rattle.tcap_model.specs.Names.{names}
 use Rattle.tcap_model.specs.Pair.{Pair, Past}
 use Rattle.tcap_model.specs.Places.{StandsIn}

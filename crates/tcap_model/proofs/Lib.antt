@@ -68,9 +68,9 @@ mod OpenedApart
 mod OtherDialogues
 mod OwnDialogues
 mod PeerLemmas
+mod PlaceLemmas
 mod PlacedReplies
 mod PlacedTellings
-mod PlaceLemmas
 mod QueuedComponents
 mod QueuedMarks
 mod QuietDialogues

@@ -1,6 +1,5 @@
 -- Of two dialogues that both were opened by their users neither is the other's peer.
-use Rattle.std.proofs.Common.{◌≡◌, ℕ, zero, suc, ◌<◌, ◌≤◌, ◌==◌, Bool, true, false, List, [], ◌∷◌, ◌++◌, length, Option, Some, None, Ok, refl, sym, ap, subst, ◌∙◌, inl, inr, arith, nat_le, length-append, append_assoc, ◌^◌}
-use Rattle.std.specs.Int.{w32, from_be_bytes}
+use Rattle.std.proofs.Common.{◌≡◌, ℕ, zero, suc, ◌<◌, ◌≤◌, Bool, true, false, List, [], ◌∷◌, ◌++◌, length, Option, Some, Ok, sym, ap, subst, ◌∙◌, inl, inr, arith, nat_le, length-append, append_assoc, ◌^◌}
 use Rattle.std.proofs.lemmas.Nat.{from_be_bytes-to_be_bytes_4}
 use Rattle.tcap_pdu.specs.FrameReading.{frame_at}
 use Rattle.tcap_pdu.specs.FrameSpelling.{Message}
@@ -16,11 +15,11 @@ use Rattle.tcap_model.specs.Net.{Engine, Marked, Trace, far, side, Net, IsNet, I
 use Rattle.tcap_model.specs.Pair.{Pair, Past}
 use Rattle.tcap_model.specs.Places.{StandsIn}
 use Rattle.tcap_model.specs.TwoEnds.{Happens}
-use Rattle.tcap_model.proofs.CarriedComponents.{legal-there, stands-before}
+use Rattle.tcap_model.proofs.CarriedComponents.{legal-there}
 use Rattle.tcap_model.proofs.FarSenders.{FarSender, far-sender, born-short}
-use Rattle.tcap_model.proofs.HeardPeers.{IsPeered, HeardOf, peer-heard}
+use Rattle.tcap_model.proofs.HeardPeers.{IsPeered, peer-heard}
 use Rattle.tcap_model.proofs.NamedReceptions.{that-is}
-use Rattle.tcap_model.proofs.NetPlaces.{happens-rest, IsAt, stands-happens}
+use Rattle.tcap_model.proofs.NetPlaces.{happens-rest, stands-happens}
 
 -- ---- what came before is a net
 
@@ -90,9 +89,9 @@ module _ (n : ℕ) (net : Net) (is : IsNet net) (engine other : Engine) (back : 
             let less = shorter other heard.pair at.before net.trace at.happens in
             let lesser = shorter (far other) from.sender before-it.before at.before before-it.happens in
             let peered_c : IsPeered hears_it.0 (life c (side engine before-it.before)) =
-                subst (λ (e : Engine). IsPeered hears_it.0 (life c (side e before-it.before))) back
-                (subst (λ (p : Past). IsPeered hears_it.0 (life c p)) (sym before-it.is_side)
-                (subst (λ (x : ℕ). IsPeered hears_it.0 (life x from.past)) same (subst (IsPeered hears_it.0) (sym sent.is_life) sent.source.1))) in
+            subst (λ (e : Engine). IsPeered hears_it.0 (life c (side e before-it.before))) back
+            (subst (λ (p : Past). IsPeered hears_it.0 (life c p)) (sym before-it.is_side)
+            (subst (λ (x : ℕ). IsPeered hears_it.0 (life x from.past)) same (subst (IsPeered hears_it.0) (sym sent.is_life) sent.source.1))) in
             again before-it.before hears_it.0 second_is (omega (arith, within, less, lesser)) to_d
             (never-before d other (far other) from.sender before-it.before at.before before-it.happens (never-before d other other heard.pair at.before net.trace at.happens never-d))
             (never-before c engine (far other) from.sender before-it.before at.before before-it.happens (never-before c engine other heard.pair at.before net.trace at.happens never-c)) peered_c
