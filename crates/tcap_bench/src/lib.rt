@@ -14,6 +14,8 @@ mod message_sum;
 mod portions;
 mod rewritten;
 mod sum;
+#[cfg(test)]
+mod tests;
 mod values;
 mod written;
 

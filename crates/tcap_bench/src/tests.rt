@@ -1,0 +1,53 @@
+use crate::{Invocation, tcap_bench_rewrite, tcap_bench_write_begin, tcap_bench_write_continue};
+use std::alloc::Global;
+use std::test::Fail;
+
+/// A Begin with an Invoke, as it is sent.
+const BEGIN: [u8; 18] = [
+    0x62, 0x10, 0x48, 0x04, 0x00, 0x00, 0x00, 0x01, 0x6c, 0x08, 0xa1, 0x06, 0x02, 0x01, 0x01, 0x02,
+    0x01, 0x0a,
+];
+
+/// The same, with a length in one octet more than it needs.
+const LONG_BEGIN: [u8; 19] = [
+    0x62, 0x81, 0x10, 0x48, 0x04, 0x00, 0x00, 0x00, 0x01, 0x6c, 0x08, 0xa1, 0x06, 0x02, 0x01, 0x01,
+    0x02, 0x01, 0x0a,
+];
+
+/// A Continue that accepts a dialogue of the context 1.2 (one octet, 2A), with a result.
+const CONTINUE: [u8; 59] = [
+    0x65, 0x39, 0x48, 0x04, 0x00, 0x00, 0x00, 0x05, 0x49, 0x04, 0x00, 0x00, 0x00, 0x01, 0x6b, 0x24,
+    0x28, 0x22, 0x06, 0x07, 0x00, 0x11, 0x86, 0x05, 0x01, 0x01, 0x01, 0xa0, 0x17, 0x61, 0x15, 0x80,
+    0x02, 0x07, 0x80, 0xa1, 0x03, 0x06, 0x01, 0x2a, 0xa2, 0x03, 0x02, 0x01, 0x00, 0xa3, 0x05, 0xa1,
+    0x03, 0x02, 0x01, 0x00, 0x6c, 0x05, 0xa2, 0x03, 0x02, 0x01, 0x01,
+];
+
+/// Memory is found, and a message that fits into the room is put there.
+#[test]
+fn messages_are_put(rt: HostRuntime) -> Result<(), Fail> {
+    let invocation = Invocation {
+        id: 1,
+        operation: 10,
+        start: 0,
+        end: 0,
+    };
+    let mut room = [0u8; 18];
+    assert_eq!(rt;
+        tcap_bench_write_begin(rt.alloc(), 1, &[], &[invocation], &[], &mut room),
+        18
+    );
+    assert!(rt; room == BEGIN);
+    let mut room = [0u8; 18];
+    assert_eq!(rt; tcap_bench_rewrite(rt.alloc(), &LONG_BEGIN, &mut room), 18);
+    assert!(rt; room == BEGIN);
+    let mut room = [0u8; 59];
+    assert_eq!(rt;
+        tcap_bench_write_continue(rt.alloc(), 5, 1, &[0x2a], 1, &mut room),
+        59
+    );
+    assert!(rt; room == CONTINUE);
+    // The room is one octet too short.
+    let mut room = [0u8; 17];
+    assert_eq!(rt; tcap_bench_rewrite(rt.alloc(), &BEGIN, &mut room), 0);
+    Ok(())
+}
