@@ -1,0 +1,113 @@
+-- The premises of "after the Invoke", from what each pair of a list is.
+use Rattle.std.proofs.Common.{◌≡◌, ℕ, ℤ, false, true, Bool, Option, Some, None, refl, ap, subst, sym, ◌∙◌}
+use Rattle.std.specs.List.{list_any}
+use Rattle.std.proofs.lemmas.Bool.{false≢true}
+use Rattle.tcap_component.specs.declared.problem.Kind.{Kind}
+use Rattle.tcap_component.specs.declared.problem.Kind.TheVariants as kind
+use Rattle.tcap_examples.proofs.PlaceLemmas.{Everywhere, at_place, outputs_of, told_any}
+use Rattle.tcap_model.specs.Words.Event.{Event}
+use Rattle.tcap_model.specs.Invocations.Invocation.{Invocation, invoked_by}
+use Rattle.tcap_model.specs.Statements.Net.{Engine, Trace, side, is_engine}
+use Rattle.tcap_model.specs.Words.Output.{Output}
+use Rattle.tcap_model.specs.Histories.Pair.{Pair, Past}
+use Rattle.tcap_model.specs.Words.Request.{Request}
+use Rattle.tcap_model.specs.Statements.TwoEnds.{UsesOnce, AnswersInvoke, WasInvoked, AnswersWhatItWasTold, WasOpened}
+
+pub not_both : Engine.a ≡ Engine.b → ⊥
+not_both same = false≢true (sym (ap (is_engine Engine.a) same))
+
+-- ---- one invocation
+
+-- An invocation that a pair makes in the dialogue has this number.
+abbrev pub IsOnly : ℕ → ℕ → Option Invocation → Type 0
+IsOnly dialogue number None = Unit {0}
+IsOnly dialogue number (Some i) = i.dialogue ≡ dialogue → i.number ≡ number
+
+pub uses_once : (engine : Engine) (dialogue number : ℕ) (trace : Trace) → Everywhere (λ (pair : Pair) before. IsOnly dialogue number (invoked_by pair)) (side engine trace) → UsesOnce engine dialogue trace
+uses_once engine dialogue number trace all one other before later i j stands stood is_i is_j in_i in_j same =
+    let P : Pair → Past → Type 0 = λ pair before. IsOnly dialogue number (invoked_by pair) in
+    let first : IsOnly dialogue number (Some i) = subst (IsOnly dialogue number) is_i (at_place P (side engine trace) all one before stands) in
+    let second : IsOnly dialogue number (Some j) = subst (IsOnly dialogue number) is_j (at_place P (side engine trace) all other later stood) in
+    first in_i ∙ sym (second in_j)
+
+-- ---- answers
+
+-- The identifier of the Invoke that a Reject is of.
+abbrev pub rejected : ℤ → Kind → Option ℤ
+rejected id kind.General = Some id
+rejected id kind.Invoke = Some id
+rejected id kind.Result = None
+rejected id kind.Error = None
+
+-- The identifier of the Invoke that a request answers.
+abbrev pub answered : Request → Option ℤ
+answered (Request.invoke id class code parameter linked timeout) = None
+answered (Request.result_last id body) = Some id
+answered (Request.result_more id body) = Some id
+answered (Request.error_back id code parameter) = Some id
+answered (Request.u_reject None problem) = None
+answered (Request.u_reject (Some id) problem) = rejected id problem.kind
+answered (Request.u_cancel id) = None
+answered (Request.uni context info) = None
+answered (Request.begin context info) = None
+answered (Request.go_on context info) = None
+answered (Request.finish ending context info) = None
+answered (Request.u_abort why info) = None
+
+answers_is : (id : ℤ) (request : Request) → AnswersInvoke id request → answered request ≡ Some id
+answers_is id request (AnswersInvoke.a_result_last body) = refl
+answers_is id request (AnswersInvoke.a_result_more body) = refl
+answers_is id request (AnswersInvoke.an_error code parameter) = refl
+answers_is id request (AnswersInvoke.a_general_reject code) = refl
+answers_is id request (AnswersInvoke.an_invoke_reject code) = refl
+
+-- An Invoke with the identifier was told before, if there is one.
+abbrev pub ToldFor : ℕ → Past → Option ℤ → Type 0
+ToldFor dialogue before None = Unit {0}
+ToldFor dialogue before (Some id) = WasInvoked dialogue id before
+
+-- The Invoke that an event answers was told before.
+abbrev pub ToldBefore : Event → Past → Type 0
+ToldBefore Event.new_dialogue before = Unit {0}
+ToldBefore (Event.on_dialogue dialogue request) before = ToldFor dialogue before (answered request)
+ToldBefore (Event.received bytes) before = Unit {0}
+ToldBefore (Event.moment now) before = Unit {0}
+
+pub answers_what_it_was_told : (engine : Engine) (trace : Trace) → Everywhere (λ (pair : Pair) before. ToldBefore pair.event before) (side engine trace) → AnswersWhatItWasTold engine trace
+answers_what_it_was_told engine trace all pair before dialogue id request stands is accepted answers =
+    let told : ToldBefore (Event.on_dialogue dialogue request) before = subst (λ (e : Event). ToldBefore e before) is (at_place (λ (pair : Pair) before. ToldBefore pair.event before) (side engine trace) all pair before stands) in
+    subst (ToldFor dialogue before) (answers_is id request answers) told
+
+-- Whether an output tells an Invoke.
+abbrev pub is_invoke : Output → Bool
+is_invoke (Output.send bytes) = false
+is_invoke (Output.uni context info) = false
+is_invoke (Output.begin dialogue context info) = false
+is_invoke (Output.go_on dialogue context info) = false
+is_invoke (Output.end dialogue context info) = false
+is_invoke (Output.u_abort dialogue pdu) = false
+is_invoke (Output.p_abort dialogue why) = false
+is_invoke (Output.invoked dialogue id linked code parameter) = true
+is_invoke (Output.result_more dialogue number id body) = false
+is_invoke (Output.local_reject dialogue id problem) = false
+is_invoke (Output.remote_reject dialogue id problem by) = false
+is_invoke (Output.closed dialogue number id closing) = false
+is_invoke (Output.dropped why) = false
+
+-- No Invoke was told, so none with the identifier.
+pub not_told : (dialogue : ℕ) (id : ℤ) (past : Past) → Everywhere (λ (pair : Pair) before. list_any is_invoke (outputs_of pair.answer) ≡ false) past → WasInvoked dialogue id past → ⊥
+not_told dialogue id past none told =
+    false≢true (sym (at_place (λ (pair : Pair) before. list_any is_invoke (outputs_of pair.answer) ≡ false) past none told.pair told.before told.stands) ∙ told_any is_invoke told.pair.answer (Output.invoked (Some dialogue) id told.linked told.code told.parameter) told.tells refl)
+
+-- ---- who opened a dialogue
+
+-- Whether a dialogue is asked for.
+abbrev pub asks : Event → Bool
+asks Event.new_dialogue = true
+asks (Event.on_dialogue dialogue request) = false
+asks (Event.received bytes) = false
+asks (Event.moment now) = false
+
+pub not_opened : (engine : Engine) (dialogue : ℕ) (trace : Trace) → Everywhere (λ (pair : Pair) before. asks pair.event ≡ false) (side engine trace) → WasOpened engine dialogue trace → ⊥
+not_opened engine dialogue trace none opened =
+    false≢true (sym (at_place (λ (pair : Pair) before. asks pair.event ≡ false) (side engine trace) none opened.pair opened.before opened.stands) ∙ ap asks opened.is_event)

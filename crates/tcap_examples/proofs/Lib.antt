@@ -1,0 +1,13 @@
+mod Apart
+mod ComponentPremises
+mod ComponentsBroken
+mod ComponentsWork
+mod EndPremises
+mod HeadlineWorks
+mod IsolationWorks
+mod NetsBroken
+mod NetsWork
+mod PlaceLemmas
+mod TwoEndsWork
+mod WrongAnswersGiven
+mod WrongEndsTold

@@ -1,0 +1,125 @@
+-- All that is stated of two ends, on the net of a repeated Begin.
+use Rattle.std.proofs.Common.{◌≡◌, ℕ, ℤ, Option, Some, None, refl, subst, arith, inl, inr}
+use Rattle.std.specs.Prelude.{◌==◌}
+use Rattle.std.specs.List.{AllByRecursion}
+use Rattle.std.proofs.lemmas.Bool.{cases_Bool}
+use Rattle.tcap_examples.proofs.NetsWork.{repeat-origin, repeat-after, repeat-asked}
+use Rattle.tcap_examples.proofs.PlaceLemmas.{Everywhere, at_happening, outputs_of, told_there}
+use Rattle.tcap_model.specs.Statements.Net.{Engine, far, Marked, Trace, side}
+use Rattle.tcap_model.specs.Words.Output.{Output, Closing, Rejector}
+use Rattle.tcap_model.specs.Histories.Pair.{Pair}
+use Rattle.tcap_model.specs.Statements.Places.{Tells}
+use Rattle.tcap_model.specs.Words.Request.{Request}
+use Rattle.tcap_model.specs.Statements.TwoEnds.{Happens, IsAnswer, IsFarRequest, ComesFromFar, Origin, WasSent, AfterInvoke, Once, WasAsked, Operations, TwoEnds}
+use Rattle.tcap_examples.specs.Nets.WorkedNets.{repeated_begin}
+
+-- An answer that is told: its dialogue and number, and the request that the far user makes for it.
+record Answered : Type 0 where
+  pub dialogue : ℕ
+  pub number : ℕ
+  pub request : Request
+
+-- The answer that a closing indication is.
+abbrev closing_answer : ℕ → ℕ → ℤ → Closing → Option Answered
+closing_answer dialogue number id (Closing.result_last body) = Some (record { dialogue = dialogue; number = number; request = Request.result_last id body })
+closing_answer dialogue number id (Closing.error_back code parameter) = Some (record { dialogue = dialogue; number = number; request = Request.error_back id code parameter })
+closing_answer dialogue number id (Closing.rejected problem Rejector.remote_user) = Some (record { dialogue = dialogue; number = number; request = Request.u_reject (Some id) problem })
+closing_answer dialogue number id (Closing.rejected problem Rejector.local) = None
+closing_answer dialogue number id (Closing.rejected problem Rejector.remote_provider) = None
+closing_answer dialogue number id Closing.lapsed = None
+closing_answer dialogue number id Closing.ended = None
+closing_answer dialogue number id Closing.given_up = None
+
+-- The answer that an output tells.
+abbrev answer_in : Output → Option Answered
+answer_in (Output.send bytes) = None
+answer_in (Output.uni context info) = None
+answer_in (Output.begin dialogue context info) = None
+answer_in (Output.go_on dialogue context info) = None
+answer_in (Output.end dialogue context info) = None
+answer_in (Output.u_abort dialogue pdu) = None
+answer_in (Output.p_abort dialogue why) = None
+answer_in (Output.invoked dialogue id linked code parameter) = None
+answer_in (Output.result_more dialogue number id body) = Some (record { dialogue = dialogue; number = number; request = Request.result_more id body })
+answer_in (Output.local_reject dialogue id problem) = None
+answer_in (Output.remote_reject dialogue id problem by) = None
+answer_in (Output.closed dialogue number id closing) = closing_answer dialogue number id closing
+answer_in (Output.dropped why) = None
+
+is_in : (dialogue number : ℕ) (id : ℤ) (output : Output) (request : Request) → IsAnswer dialogue number id output request → answer_in output ≡ Some (record { dialogue = dialogue; number = number; request = request })
+is_in dialogue number id output request (IsAnswer.a_result_last body) = refl
+is_in dialogue number id output request (IsAnswer.a_result_more body) = refl
+is_in dialogue number id output request (IsAnswer.an_error code parameter) = refl
+is_in dialogue number id output request (IsAnswer.a_reject problem) = refl
+
+-- A fact of the answer, if one is told.
+abbrev IfAnswer : (Answered → Type 0) → Option Answered → Type 0
+IfAnswer P None = Unit {0}
+IfAnswer P (Some answer) = P answer
+
+-- A fact of each answer that is told.
+abbrev OfAnswers : (Engine → Trace → Answered → Type 0) → Marked → Trace → Type 0
+OfAnswers P m before = AllByRecursion (λ output. IfAnswer (P m.engine before) (answer_in output)) (outputs_of m.pair.answer)
+
+at_answer : (P : Engine → Trace → Answered → Type 0) (trace : Trace) → Everywhere (OfAnswers P) trace → (engine : Engine) (pair : Pair) (before : Trace) (dialogue number : ℕ) (id : ℤ) (output : Output) (request : Request) → Happens engine pair before trace → Tells pair.answer output → IsAnswer dialogue number id output request → P engine before (record { dialogue = dialogue; number = number; request = request })
+at_answer P trace all engine pair before dialogue number id output request happens tells is =
+    let here = at_happening (OfAnswers P) trace all engine pair before happens in
+    subst (IfAnswer (P engine before)) (is_in dialogue number id output request is) (told_there (λ output. IfAnswer (P engine before) (answer_in output)) pair.answer output tells here)
+
+-- ---- origin
+
+abbrev IsFromFar : Engine → Trace → Answered → Type 0
+IsFromFar engine before answer = ComesFromFar engine answer.dialogue answer.request before
+
+origin : Origin repeated_begin.trace
+origin = at_answer IsFromFar repeated_begin.trace
+    (tt, (tt, ((tt, (tt, tt)), ((tt, (repeat-origin, tt)), ((tt, tt), (tt, ((tt, tt), (tt, ((tt, (tt, tt)), ((tt, (tt, tt)), ((tt, tt), (tt, (tt, tt)))))))))))))
+
+-- ---- after the Invoke
+
+abbrev IsAfter : Engine → Trace → Answered → Type 0
+IsAfter engine before answer = (asked : Pair) (earlier : Trace) → Happens (far engine) asked earlier before → IsFarRequest engine answer.dialogue answer.request asked earlier → WasSent answer.number (side engine earlier)
+
+after_invoke : AfterInvoke repeated_begin.trace
+after_invoke engine pair before dialogue number id output request once told opened =
+    at_answer IsAfter repeated_begin.trace
+    (tt, (tt, ((tt, (tt, tt)), ((tt, (repeat-after, tt)), ((tt, tt), (tt, ((tt, tt), (tt, ((tt, (tt, tt)), ((tt, (tt, tt)), ((tt, tt), (tt, (tt, tt)))))))))))))
+    engine pair before dialogue number id output request
+
+-- ---- once
+
+once : Once repeated_begin.trace
+once Engine.a number = elim (cases_Bool (1 == number)) [
+  | inl own ↦ rw own (omega arith)
+  | inr other ↦ rw other (omega arith)
+]
+once Engine.b number = omega arith
+
+-- ---- operations
+
+-- An Invoke that is told was asked for.
+abbrev AskedFor : Engine → Trace → Output → Type 0
+AskedFor engine before (Output.send bytes) = Unit {0}
+AskedFor engine before (Output.uni context info) = Unit {0}
+AskedFor engine before (Output.begin dialogue context info) = Unit {0}
+AskedFor engine before (Output.go_on dialogue context info) = Unit {0}
+AskedFor engine before (Output.end dialogue context info) = Unit {0}
+AskedFor engine before (Output.u_abort dialogue pdu) = Unit {0}
+AskedFor engine before (Output.p_abort dialogue why) = Unit {0}
+AskedFor engine before (Output.invoked dialogue id linked code parameter) = WasAsked id linked code parameter (side (far engine) before)
+AskedFor engine before (Output.result_more dialogue number id body) = Unit {0}
+AskedFor engine before (Output.local_reject dialogue id problem) = Unit {0}
+AskedFor engine before (Output.remote_reject dialogue id problem by) = Unit {0}
+AskedFor engine before (Output.closed dialogue number id closing) = Unit {0}
+AskedFor engine before (Output.dropped why) = Unit {0}
+
+operations : Operations repeated_begin.trace
+operations engine pair before dialogue id linked code parameter happens tells =
+    let Asked : Marked → Trace → Type 0 = λ m before. AllByRecursion (AskedFor m.engine before) (outputs_of m.pair.answer) in
+    let here = at_happening Asked repeated_begin.trace
+    (tt, (tt, ((tt, (tt, tt)), ((tt, (tt, tt)), ((tt, tt), (tt, ((tt, tt), (tt, ((tt, (repeat-asked, tt)), ((tt, (repeat-asked, tt)), ((tt, tt), (tt, (tt, tt)))))))))))))
+    engine pair before happens in
+    told_there (AskedFor engine before) pair.answer (Output.invoked dialogue id linked code parameter) tells here
+
+pub repeated_begin_is_two_ended : TwoEnds repeated_begin.trace
+repeated_begin_is_two_ended = record { origin = origin; after_invoke = after_invoke; once = once; operations = operations }

@@ -1,0 +1,10 @@
+pub mod WalkedHistories
+pub mod Worked
+pub mod WorkedClosing
+pub mod WorkedEnds
+pub mod WorkedNames
+pub mod WorkedReadings
+pub mod WorkedReception
+pub mod WorkedRefusals
+pub mod WorkedRequests
+pub mod WorldSteps

@@ -1,0 +1,3 @@
+pub mod WorkedLoss
+pub mod WorkedNets
+pub mod WorkedPlay

@@ -1,0 +1,3 @@
+pub mod WorkedComponents
+pub mod WorkedIsolation
+pub mod WorkedStatements

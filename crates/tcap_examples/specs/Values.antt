@@ -1,0 +1,4 @@
+pub mod ExampleValues
+pub mod Hex
+pub mod WorkedWords
+pub mod WorldWords

@@ -1,0 +1,88 @@
+-- Words for the events and answers of worked histories.
+use Rattle.std.specs.Prelude.{ℕ, ℤ, pos, List, [], ◌∷◌, None}
+use Rattle.tcap_component.specs.Component.{CodeParts}
+use Rattle.tcap_invocation.specs.declared.class.Class.{Class}
+use Rattle.tcap_invocation.specs.declared.class.Class.TheVariants.{One}
+use Rattle.tcap_model.specs.Words.Answer.{Answer}
+use Rattle.tcap_model.specs.Words.Event.{Event}
+use Rattle.tcap_model.specs.Words.Fault.{Fault}
+use Rattle.tcap_examples.specs.Values.Hex.{hex}
+use Rattle.tcap_model.specs.Histories.History.{Start}
+use Rattle.tcap_model.specs.Words.Output.{Output, Closing}
+use Rattle.tcap_model.specs.Histories.Pair.{Pair}
+use Rattle.tcap_model.specs.Words.Request.{Request}
+
+-- ---- events and answers
+
+-- A dialogue is asked for, and this one is born (own).
+abbrev pub born : ℕ → Pair
+born dialogue = record { event = Event.new_dialogue; answer = Answer.new_dialogue dialogue }
+
+-- A dialogue is asked for, and refused (own).
+abbrev pub not_born : Fault → Pair
+not_born fault = record { event = Event.new_dialogue; answer = Answer.refused fault }
+
+-- TC-INVOKE in a dialogue with this identifier, class, local operation code and timeout, without
+-- parameter and linked identifier (own).
+abbrev pub invoke : ℕ → ℤ → Class → ℤ → ℕ → Answer → Pair
+invoke dialogue id class code timeout answer =
+    record { event = Event.on_dialogue dialogue (Request.invoke id class (CodeParts.local code) None None timeout); answer = answer }
+
+-- A request on a dialogue (own).
+abbrev pub request : ℕ → Request → Answer → Pair
+request dialogue r answer = record { event = Event.on_dialogue dialogue r; answer = answer }
+
+-- Bytes are received, and this is sent and told (own).
+abbrev pub receive : List ℕ → List Output → Pair
+receive bytes outputs = record { event = Event.received bytes; answer = Answer.outputs outputs }
+
+-- A moment, and what is told (own).
+abbrev pub advance : ℕ → List Output → Pair
+advance now outputs = record { event = Event.moment now; answer = Answer.outputs outputs }
+
+-- A moment is refused (own).
+abbrev pub not_advanced : ℕ → Fault → Pair
+not_advanced now fault = record { event = Event.moment now; answer = Answer.refused fault }
+
+-- ---- requests without parameters
+
+-- TC-BEGIN without application context (own).
+abbrev pub plain_begin : Request
+plain_begin = Request.begin None []
+
+-- TC-CONTINUE without application context (own).
+abbrev pub plain_continue : Request
+plain_continue = Request.go_on None []
+
+-- ---- outputs
+
+-- TC-CONTINUE indication without application context (own).
+abbrev pub continued : ℕ → Output
+continued dialogue = Output.go_on dialogue None []
+
+-- TC-END indication without application context (own).
+abbrev pub ended : ℕ → Output
+ended dialogue = Output.end dialogue None []
+
+-- A result without a body (own).
+abbrev pub empty_result : Closing
+empty_result = Closing.result_last None
+
+-- ---- starts and beginnings
+
+-- An engine with at most four dialogues and a second to wait for a Reject (own).
+abbrev pub engine : Start
+engine = record { max_dialogues = 4; reject_ms = 1000; next_dialogue = 1; next_number = 1 }
+
+-- Dialogue 1 is opened with one Invoke: identifier 1, class 1, operation 10, with this timeout; its
+-- number is 1 (own).
+abbrev pub opened_for : ℕ → List Pair → List Pair
+opened_for timeout pairs =
+    born 1
+    ∷ invoke 1 (pos 1) One (pos 10) timeout (Answer.number 1)
+    ∷ request 1 plain_begin (Answer.outputs (Output.send (hex 18 0x6210_480400000001_6C08_A106_020101_02010A) ∷ []))
+    ∷ pairs
+
+-- The same, with a timeout of a second (own).
+abbrev pub opened : List Pair → List Pair
+opened pairs = opened_for 1000 pairs

@@ -1,0 +1,3 @@
+pub mod WorkedWrong
+pub mod WrongAnswers
+pub mod WrongEnds

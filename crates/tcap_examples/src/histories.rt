@@ -1,0 +1,14 @@
+//! Worked histories: the definitions give what was worked out by hand, and they refuse what a wrong
+//! engine would answer.
+
+pub mod closing;
+pub mod ends;
+pub mod names;
+pub mod play;
+pub mod readings;
+pub mod reception;
+pub mod refusals;
+pub mod requests;
+pub mod worlds;
+pub mod wrong_answers;
+pub mod wrong_ends;

@@ -1,0 +1,7 @@
+//! The statements over histories, each on a worked history: its premises and its conclusion; and lists
+//! that break them.
+
+pub mod components;
+pub mod headline;
+pub mod isolation;
+pub mod two_ends;

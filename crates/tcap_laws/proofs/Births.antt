@@ -1,0 +1,9 @@
+pub mod BirthLemmas
+pub mod BornLemmas
+pub mod BoundedDialogues
+pub mod ClockLemmas
+pub mod DrawnLemmas
+pub mod LifeLemmas
+pub mod NumberLemmas
+pub mod NumberedLemmas
+pub mod StartLemmas

@@ -1,0 +1,92 @@
+-- A dialogue goes from unborn to standing to over, and never back.
+use Rattle.std.proofs.Common.{◌≡◌, ◌≢◌, ℕ, Bool, true, false, List, [], ◌∷◌, ◌++◌, Option, Result, Ok, Err, refl, ap}
+use Rattle.tcap_pdu.specs.declared.fault.FrameFault.{FrameFault}
+use Rattle.tcap_pdu.specs.FrameSpelling.{Message}
+use Rattle.tcap_pdu.specs.FrameReading.{frame_at}
+use Rattle.tcap_model.specs.Words.Answer.{is_accepted}
+use Rattle.tcap_model.specs.Words.Event.{Event}
+use Rattle.tcap_model.specs.Histories.Life.{Life, life_by_request, life_if_accepted, life_by_verdict, life_by_message, life_if_live, life_by_event, life_if_named, life_after, life}
+use Rattle.tcap_model.specs.Histories.Names.{names}
+use Rattle.tcap_model.specs.Histories.Pair.{Pair, Past}
+use Rattle.tcap_model.specs.Procedures.PortionRules.{PortionVerdict, portion_verdict}
+use Rattle.tcap_model.specs.Words.Request.{Request}
+use Rattle.tcap_model.specs.Words.State.{State, is_live}
+
+-- ---- over
+
+pub over-step : (dialogue : ℕ) (pair : Pair) (past : Past) → life dialogue past ≡ Life.over → life dialogue (pair ∷ past) ≡ Life.over
+over-step dialogue pair past over = ap (λ (before : Life). life_after dialogue before pair) over
+
+pub over-later : (dialogue : ℕ) (later past : Past) → life dialogue past ≡ Life.over → life dialogue (later ++ past) ≡ Life.over
+over-later dialogue [] past over = over
+over-later dialogue (pair ∷ later) past over = over-step dialogue pair (later ++ past) (over-later dialogue later past over)
+
+-- ---- born
+
+abbrev IsBorn : Life → Type 0
+IsBorn Life.unborn = ⊥
+IsBorn (Life.standing state context) = Unit {0}
+IsBorn Life.over = Unit {0}
+
+request-born : (state : State) (context : Option (List ℕ)) (request : Request) → IsBorn (life_by_request state context request)
+request-born state context (Request.invoke id class code parameter linked timeout) = tt
+request-born state context (Request.result_last id body) = tt
+request-born state context (Request.result_more id body) = tt
+request-born state context (Request.error_back id code parameter) = tt
+request-born state context (Request.u_reject id problem) = tt
+request-born state context (Request.u_cancel id) = tt
+request-born state context (Request.uni asked info) = tt
+request-born state context (Request.begin asked info) = tt
+request-born state context (Request.go_on asked info) = tt
+request-born state context (Request.finish ending asked info) = tt
+request-born state context (Request.u_abort why info) = tt
+
+accepted-born : (accepted : Bool) (state : State) (context : Option (List ℕ)) (request : Request) → IsBorn (life_if_accepted accepted state context request)
+accepted-born true state context request = request-born state context request
+accepted-born false state context request = tt
+
+verdict-born : (state : State) (context : Option (List ℕ)) (origin : List ℕ) (verdict : PortionVerdict) → IsBorn (life_by_verdict state context origin verdict)
+verdict-born state context origin (PortionVerdict.normal told info) = tt
+verdict-born state context origin PortionVerdict.abnormal = tt
+
+message-born : (state : State) (context : Option (List ℕ)) (read : Result Message FrameFault) → IsBorn (life_by_message state context read)
+message-born state context (Ok (Message.go_on origin to portion components)) = verdict-born state context origin (portion_verdict state context portion)
+message-born state context (Ok (Message.end to portion components)) = tt
+message-born state context (Ok (Message.abort to reason)) = tt
+message-born state context (Ok (Message.unidirectional portion components)) = tt
+message-born state context (Ok (Message.begin origin portion components)) = tt
+message-born state context (Err fault) = tt
+
+live-born : (live : Bool) (state : State) (context : Option (List ℕ)) (bytes : List ℕ) → IsBorn (life_if_live live state context bytes)
+live-born true state context bytes = message-born state context (frame_at bytes)
+live-born false state context bytes = tt
+
+event-born : (state : State) (context : Option (List ℕ)) (event : Event) (accepted : Bool) → IsBorn (life_by_event state context event accepted)
+event-born state context Event.new_dialogue accepted = tt
+event-born state context (Event.on_dialogue dialogue request) accepted = accepted-born accepted state context request
+event-born state context (Event.received bytes) accepted = live-born (is_live state) state context bytes
+event-born state context (Event.moment now) accepted = tt
+
+named-born : (named : Bool) (state : State) (context : Option (List ℕ)) (pair : Pair) → IsBorn (life_if_named named state context pair)
+named-born true state context pair = event-born state context pair.event (is_accepted pair.answer)
+named-born false state context pair = tt
+
+after-born : (dialogue : ℕ) (before : Life) (pair : Pair) → IsBorn before → IsBorn (life_after dialogue before pair)
+after-born dialogue Life.unborn pair born = absurd born
+after-born dialogue (Life.standing state context) pair born = named-born (names pair.event dialogue) state context pair
+after-born dialogue Life.over pair born = tt
+
+born-later : (dialogue : ℕ) (later past : Past) → IsBorn (life dialogue past) → IsBorn (life dialogue (later ++ past))
+born-later dialogue [] past born = born
+born-later dialogue (pair ∷ later) past born = after-born dialogue (life dialogue (later ++ past)) pair (born-later dialogue later past born)
+
+is_born : (before : Life) → before ≢ Life.unborn → IsBorn before
+is_born Life.unborn born = born refl
+is_born (Life.standing state context) born = tt
+is_born Life.over born = tt
+
+isnt_unborn : (before : Life) → IsBorn before → before ≢ Life.unborn
+isnt_unborn before born unborn = rw unborn at born
+
+pub born-stays : (dialogue : ℕ) (later past : Past) → life dialogue past ≢ Life.unborn → life dialogue (later ++ past) ≢ Life.unborn
+born-stays dialogue later past born = isnt_unborn (life dialogue (later ++ past)) (born-later dialogue later past (is_born (life dialogue past) born))

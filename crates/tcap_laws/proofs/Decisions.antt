@@ -1,0 +1,13 @@
+pub mod ComponentTellings
+pub mod CountedHistories
+pub mod DecidedHistories
+pub mod DecidedOutcomes
+pub mod OpenEvents
+pub mod OpenNumbers
+pub mod OpenReplies
+pub mod QuietDialogues
+pub mod QuietNumbers
+pub mod ToldInvocations
+pub mod ToldOutputs
+pub mod ToldParts
+pub mod ToldReceptions

@@ -1,0 +1,11 @@
+pub mod AfterInvokes
+pub mod EndLemmas
+pub mod FairReplies
+pub mod FairTellings
+pub mod FarInvokes
+pub mod FarOrigins
+pub mod PlacedReplies
+pub mod PlacedTellings
+pub mod SentInvokes
+pub mod WaitingInvokes
+pub mod WaitingQueues

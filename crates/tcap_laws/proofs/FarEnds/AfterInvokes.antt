@@ -1,0 +1,190 @@
+-- Every request that an answer may come from was made after the Invoke was sent.
+use Rattle.std.proofs.Common.{◌≡◌, ℕ, ℤ, ◌==◌, Bool, true, false, List, [], ◌∷◌, ◌++◌, Option, Some, None, refl, sym, ap, subst, ◌∙◌, append_assoc}
+use Rattle.std.specs.Prelude.{cond, find, option_to_list}
+use Rattle.std.specs.Option.{option_or}
+use Rattle.tcap_component.specs.declared.problem.Kind.{Kind}
+use Rattle.tcap_component.specs.declared.problem.Kind.TheVariants as kind
+use Rattle.tcap_model.specs.Words.Answer.{Answer}
+use Rattle.tcap_model.specs.Histories.Birth.{born_on_message}
+use Rattle.tcap_model.specs.Statements.ComponentLaws.{ToldFromOne}
+use Rattle.tcap_model.specs.Words.Event.{Event}
+use Rattle.tcap_model.specs.Histories.History.{History}
+use Rattle.tcap_model.specs.Invocations.Invocation.{Invocation, invocation_of, invoked_by, invoked_of}
+use Rattle.tcap_model.specs.Replies.Legal.{AreReplies}
+use Rattle.tcap_model.specs.Histories.Life.{Life, life}
+use Rattle.tcap_model.specs.Words.LocalId.{local_id}
+use Rattle.tcap_model.specs.Statements.Net.{Engine, Trace, far, side, history_in, Net, IsNet}
+use Rattle.tcap_model.specs.Words.Output.{Output}
+use Rattle.tcap_model.specs.Histories.Pair.{Pair, Past}
+use Rattle.tcap_model.specs.Statements.Places.{StandsIn, Tells}
+use Rattle.tcap_model.specs.Replies.Reply.{reply}
+use Rattle.tcap_model.specs.Words.Request.{Request}
+use Rattle.tcap_model.specs.Statements.TwoEnds.{Happens, peer_in, IsAnswer, IsFarRequest, UsesOnce, AnswersInvoke, AnswersWhatItWasTold, WasInvoked, WasOpened, WasSent, AfterInvoke, EachIsTwoEnded}
+use Rattle.tcap_laws.proofs.Peers.CarriedComponents.{Carried, stands-before}
+use Rattle.tcap_laws.proofs.Spans.DrawnInvocations.{invocation_step}
+use Rattle.tcap_laws.proofs.FarEnds.EndLemmas.{once}
+use Rattle.tcap_laws.proofs.FarEnds.FarInvokes.{IsIn, in-in, invoke-told, invoke-from}
+use Rattle.tcap_laws.proofs.FarEnds.FarOrigins.{answer-indicates, origin}
+use Rattle.tcap_laws.proofs.Peers.HeardPeers.{IsPeered}
+use Rattle.tcap_laws.proofs.Peers.NetPlaces.{happens-rest, happens-stands, IsAt, stands-happens}
+use Rattle.tcap_laws.proofs.Peers.OpenedApart.{NeverBegun, net-before, never-before}
+use Rattle.tcap_laws.proofs.Peers.OwnDialogues.{opened-never, opened-short}
+use Rattle.tcap_laws.proofs.FarEnds.PlacedReplies.{reply-placed}
+use Rattle.tcap_laws.proofs.FarEnds.PlacedTellings.{IsOf, RejectsInvoke, Placed}
+use Rattle.tcap_laws.proofs.FarEnds.SentInvokes.{HasSource, stands-for-invoke, source, invoke-sent, sent-later, operations}
+use Rattle.tcap_laws.proofs.Receptions.ToldFrom.{legal-before, told-from}
+use Rattle.tcap_laws.proofs.FarEnds.WaitingInvokes.{invocation_as}
+
+-- ---- the pair that made an invocation
+
+record IsMade (i : Invocation) (past : Past) : Type 0 where
+  pair : Pair
+  before : Past
+  stands : StandsIn pair before past
+  makes : invoked_by pair ≡ Some i
+
+made-later : (i : Invocation) (last : Pair) (past : Past) → IsMade i past → IsMade i (last ∷ past)
+made-later i last past made = record {
+  pair = made.pair;
+  before = made.before;
+  stands = record { later = last ∷ made.stands.later; is_past = ap (λ (w : Past). last ∷ w) made.stands.is_past };
+  makes = made.makes;
+}
+
+made-here : (n : ℕ) (i : Invocation) (last : Pair) (past : Past) (o p : Option Invocation) → (o ≡ Some i → IsMade i past) → invoked_by last ≡ p → option_or o (find (λ (x : Invocation). x.number == n) (option_to_list p)) ≡ Some i → IsMade i (last ∷ past)
+made-here n i last past (Some j) p again q e = made-later i last past (again e)
+made-here n i last past None None again q e = absurd cc
+made-here n i last past None (Some new) again q e = go (new.number == n) e
+  where
+    go : (b : Bool) → cond b (Some new) None ≡ Some i → IsMade i (last ∷ past)
+    go true e = record { pair = last; before = past; stands = record { later = []; is_past = refl }; makes = q ∙ e }
+    go false e = absurd cc
+
+made : (n : ℕ) (i : Invocation) (past : Past) → invocation_of n past ≡ Some i → IsMade i past
+made n i [] e = absurd cc
+made n i (last ∷ past) e = made-here n i last past (invocation_of n past) (invoked_by last) (λ q. made n i past q) refl (sym (invocation_step n last past) ∙ e)
+
+-- ---- what is told of an answer
+
+answer-of : (past : Past) (bytes : List ℕ) (born : Option ℕ) (dialogue number : ℕ) (id : ℤ) (output : Output) (request : Request) → IsAnswer dialogue number id output request → Placed past bytes born output → IsOf past dialogue number id × AnswersInvoke id request
+answer-of past bytes born dialogue number id _ _ (IsAnswer.a_result_last body) placed = (placed, AnswersInvoke.a_result_last body)
+answer-of past bytes born dialogue number id _ _ (IsAnswer.a_result_more body) placed = (placed, AnswersInvoke.a_result_more body)
+answer-of past bytes born dialogue number id _ _ (IsAnswer.an_error code parameter) placed = (placed, AnswersInvoke.an_error code parameter)
+answer-of past bytes born dialogue number id _ _ (IsAnswer.a_reject problem) placed = (placed.0, rejects problem.kind placed.1)
+  where
+    rejects : (k : Kind) → RejectsInvoke k → AnswersInvoke id (Request.u_reject (Some id) (record { kind = k; code = problem.code }))
+    rejects kind.General is = AnswersInvoke.a_general_reject problem.code
+    rejects kind.Invoke is = AnswersInvoke.an_invoke_reject problem.code
+    rejects kind.Result is = absurd is
+    rejects kind.Error is = absurd is
+
+-- ---- two engines
+
+far-far : (engine : Engine) → far (far engine) ≡ engine
+far-far Engine.a = refl
+far-far Engine.b = refl
+
+is-peered : (peer : List ℕ) (l : Life) → peer_in l ≡ Some peer → IsPeered peer l
+is-peered peer Life.unborn e = absurd cc
+is-peered peer (Life.standing state context) e = e
+is-peered peer Life.over e = absurd cc
+
+stands-within : (pair : Pair) (before past whole : Past) → StandsIn pair before past → IsIn past whole → StandsIn pair before whole
+stands-within pair before past whole stands part = record {
+  later = part.0 ++ stands.later;
+  is_past = part.1 ∙ (ap (λ (w : Past). part.0 ++ w) stands.is_past ∙ sym (append_assoc part.0 stands.later (pair ∷ before)));
+}
+
+module _ (net : Net) (is : IsNet net) (engine : Engine) (pair : Pair) (before : Trace) (dialogue number : ℕ) (id : ℤ) (output : Output) (request : Request) (uses : UsesOnce engine dialogue net.trace) (only : AnswersWhatItWasTold (far engine) net.trace) (opened : WasOpened engine dialogue net.trace) (happens : Happens engine pair before net.trace) (tells : Tells pair.answer output) (answers : IsAnswer dialogue number id output request) (asked : Pair) (earlier : Trace) (there : Happens (far engine) asked earlier before) (far_request : IsFarRequest engine dialogue request asked earlier) where
+  abbrev other : Engine
+  other = far engine
+
+  abbrev f : ℕ
+  f = far_request.far_dialogue
+
+  -- the invocation and the request
+  answer : IsOf (side engine before) dialogue number id × AnswersInvoke id request
+  answer =
+      let stands = happens-stands engine pair before net.trace happens in
+      let legal = legal-before (net.start engine) stands.later (pair ∷ side engine before) (subst (AreReplies (net.start engine)) stands.is_past (is.is_legal engine).1) in
+      let h : History = record { start = net.start engine; pairs = side engine before } in
+      let told : ToldFromOne pair.event output = told-from (history_in net engine net.trace) (is.is_legal engine) pair (side engine before) output stands tells (answer-indicates dialogue number id output request answers) in
+      let placed = reply-placed h legal.2 told.bytes output (subst (λ (e : Event). Tells (reply h e) output) told.is_event (subst (λ (a : Answer). Tells a output) legal.1 tells)) in
+      answer-of (side engine before) told.bytes (born_on_message (reply h (Event.received told.bytes))) dialogue number id output request answers placed
+
+  here-in : (e : Engine) → IsIn (side e before) (side e net.trace)
+  here-in e = happens-rest e engine pair before net.trace happens
+
+  earlier-in : (e : Engine) → IsIn (side e earlier) (side e before)
+  earlier-in e = happens-rest e other asked earlier before there
+
+  -- the Invoke that the far user was told
+  was : WasInvoked f id (side other earlier)
+  was =
+      let stands = stands-within asked (side other earlier) (side other before) (side other net.trace) (happens-stands other asked earlier before there) (here-in other) in
+      only asked (side other earlier) f id request stands far_request.is_event far_request.accepted answer.1
+
+  at : IsAt other was.pair was.before earlier
+  at = stands-happens other was.pair was.before earlier was.stands
+
+  abbrev then : Net
+  then = record { start = net.start; trace = earlier }
+
+  then-is : IsNet then
+  then-is = net-before (record { start = net.start; trace = before }) (net-before net is engine pair before happens) other asked earlier there
+
+  never : NeverBegun dialogue (side engine earlier)
+  never = never-before dialogue engine other asked earlier before there (never-before dialogue engine engine pair before net.trace happens (opened-never net is engine dialogue opened))
+
+  peered : IsPeered (local_id dialogue) (life f (side other earlier))
+  peered = is-peered (local_id dialogue) (life f (side other earlier)) far_request.is_peer
+
+  abbrev told : Output
+  told = Output.invoked (Some f) id was.linked was.code was.parameter
+
+  it : Carried then other at.before was.pair.event told
+  it = invoke-told then then-is engine other refl (far-far engine) dialogue f (opened-short net is engine dialogue opened) never peered was.pair at.before at.happens id was.linked was.code was.parameter was.tells
+
+  from-here : it.sent.dialogue ≡ dialogue
+  unfolding it
+  from-here = invoke-from then then-is engine other refl (far-far engine) dialogue f (opened-short net is engine dialogue opened) never peered was.pair at.before at.happens id was.linked was.code was.parameter was.tells
+
+  from : HasSource it.sent.dialogue it.past id was.linked was.code was.parameter
+  from = source then then-is other was.pair at.before at.happens told it id was.linked was.code was.parameter (stands-for-invoke told it.told.component it.told.stands_for (Some f) id was.linked was.code was.parameter refl)
+
+  at-in : IsIn (side engine at.before) (side engine earlier)
+  at-in = happens-rest engine other was.pair at.before earlier at.happens
+
+  was-sent : WasSent from.number (side engine earlier)
+  was-sent =
+      let sent : WasSent from.number (side (far other) at.before) = invoke-sent then then-is other was.pair at.before at.happens told it id was.linked was.code was.parameter from in
+      subst (WasSent from.number) (sym at-in.1) (sent-later from.number at-in.0 (side engine at.before) (subst (λ (e : Engine). WasSent from.number (side e at.before)) (far-far engine) sent))
+
+  -- it is the Invoke of the invocation that is answered
+  same : from.number ≡ number
+  same =
+      let a = from.asked in
+      let i : Invocation = invocation_as from.number it.sent.dialogue a.id a.class a.timeout in
+      let makes : invoked_by a.pair ≡ Some i =
+      ap (λ (e : Event). invoked_of e a.pair.answer) a.is_event
+      ∙ ap (invoked_of (Event.on_dialogue it.sent.dialogue (Request.invoke a.id a.class a.code a.parameter a.linked a.timeout))) a.is_answer in
+      let stands-at : StandsIn a.pair a.before (side engine at.before) = subst (λ (e : Engine). StandsIn a.pair a.before (side e at.before)) (far-far engine) (stands-before a.pair it.sender a.before it.past (side (far other) at.before) a.stands it.stands) in
+      let within = in-in (side engine at.before) (side engine earlier) (side engine net.trace) at-in (in-in (side engine earlier) (side engine before) (side engine net.trace) (earlier-in engine) (here-in engine)) in
+      let of = answer.0 in
+      let m : IsMade of.invocation (side engine before) = made of.invocation.number of.invocation (side engine before) of.is_found in
+      uses a.pair m.pair a.before m.before i of.invocation
+      (stands-within a.pair a.before (side engine at.before) (side engine net.trace) stands-at within)
+      (stands-within m.pair m.before (side engine before) (side engine net.trace) m.stands (here-in engine))
+      makes m.makes from-here of.dialogue_is (from.is_id ∙ sym of.id_is) ∙ of.number_is
+
+  pub sent-before : WasSent number (side engine earlier)
+  sent-before = subst (λ (n : ℕ). WasSent n (side engine earlier)) same was-sent
+
+pub after-invoke : (net : Net) → IsNet net → AfterInvoke net.trace
+after-invoke net is engine pair before dialogue number id output request uses only opened happens tells answers asked earlier there far_request =
+    sent-before net is engine pair before dialogue number id output request uses only opened happens tells answers asked earlier there far_request
+
+-- ---- the whole
+
+pub two_ends : EachIsTwoEnded
+two_ends net is = record { origin = origin net is; after_invoke = after-invoke net is; once = once net is; operations = operations net is }

@@ -1,0 +1,241 @@
+-- Each Invoke that the far user is told in a dialogue whose peer is a dialogue which was opened here,
+-- was sent by that.
+use Rattle.std.proofs.Common.{◌≡◌, ◌⊎◌, ℕ, ℤ, ◌<◌, ◌^◌, true, List, [], ◌∷◌, ◌++◌, length, Option, Some, None, Ok, refl, sym, ap, subst, ◌∙◌, inl, inr, arith, append_assoc}
+use Rattle.tcap_pdu.specs.FrameReading.{frame_at}
+use Rattle.tcap_pdu.specs.FrameSpelling.{Message}
+use Rattle.tcap_pdu.proofs.CallerLemmas.{frame_takes}
+use Rattle.tcap_component.specs.Component.{CodeParts}
+use Rattle.tcap_model.specs.Words.Answer.{Answer, is_accepted}
+use Rattle.tcap_model.specs.Histories.Birth.{born_of, born_on_message, is_birth_of}
+use Rattle.tcap_model.specs.Statements.ComponentLaws.{IsOfComponent}
+use Rattle.tcap_model.specs.Procedures.Destination.{destination}
+use Rattle.tcap_model.specs.Replies.Due.{standing_of}
+use Rattle.tcap_model.specs.Words.Event.{Event}
+use Rattle.tcap_model.specs.Histories.History.{History}
+use Rattle.tcap_model.specs.Replies.Legal.{AreReplies}
+use Rattle.tcap_model.specs.Histories.Life.{Life, life}
+use Rattle.tcap_model.specs.Words.LocalId.{dialogue_named, local_id, is_that}
+use Rattle.tcap_model.specs.Statements.Net.{Engine, Trace, far, side, Net, IsNet}
+use Rattle.tcap_model.specs.Words.Output.{Output}
+use Rattle.tcap_model.specs.Histories.Pair.{Pair, Past}
+use Rattle.tcap_model.specs.Statements.Places.{StandsIn, Tells}
+use Rattle.tcap_model.specs.Replies.Reply.{reply}
+use Rattle.tcap_model.specs.Words.Request.{Request, Ending, AbortReason}
+use Rattle.tcap_model.specs.Procedures.RequestMessage.{continue_message, end_message, abort_message, refusing_message, message_of, answer_portion, user_abort, refusing_abort}
+use Rattle.tcap_model.specs.Procedures.Standing.{Standing}
+use Rattle.tcap_model.specs.Words.State.{State, peer_of}
+use Rattle.tcap_model.specs.Statements.TwoEnds.{Happens}
+use Rattle.tcap_laws.proofs.Peers.CarriedComponents.{Carried, carried, stands-before}
+use Rattle.tcap_laws.proofs.FarEnds.FairTellings.{IsNamedBy}
+use Rattle.tcap_laws.proofs.FarEnds.FarOrigins.{named-destined, destined-octets}
+use Rattle.tcap_laws.proofs.Peers.FarPeers.{HasPeer, peer-stays, no-begin}
+use Rattle.tcap_laws.proofs.Peers.FarSenders.{IsNoAbort, SentAs, sent-as, FarSender, far-sender, same-id, born-short}
+use Rattle.tcap_laws.proofs.Peers.HeardPeers.{IsPeered, HeardOf, peer-heard}
+use Rattle.tcap_laws.proofs.Peers.NetPlaces.{happens-rest, happens-stands, IsAt, stands-happens}
+use Rattle.tcap_laws.proofs.Peers.OpenedApart.{NeverBegun, net-before, never-peers, own-name, continue-names}
+use Rattle.tcap_laws.proofs.Peers.OwnDialogues.{IsBegun, birth-begun, never-begun}
+use Rattle.tcap_laws.proofs.FarEnds.PlacedReplies.{reply-placed}
+use Rattle.tcap_laws.proofs.Receptions.ToldFrom.{legal-before}
+
+-- ---- parts of a history
+
+-- what stands before something
+abbrev pub IsIn : Past → Past → Type 0
+IsIn past whole = (later : Past) × (whole ≡ later ++ past)
+
+pub in-in : (a b c : Past) → IsIn a b → IsIn b c → IsIn a c
+in-in a b c inner outer = (outer.0 ++ inner.0, outer.1 ∙ (ap (λ (w : Past). outer.0 ++ w) inner.1 ∙ sym (append_assoc outer.0 inner.0 a)))
+
+stands-in : (pair : Pair) (before past : Past) → StandsIn pair before past → IsIn before past
+stands-in pair before past stands = (stands.later ++ pair ∷ [], stands.is_past ∙ sym (append_assoc stands.later (pair ∷ []) before))
+
+same-peer : (one other : List ℕ) (l : Life) → IsPeered one l → HasPeer other l → other ≡ one
+same-peer one other Life.unborn peered has = absurd has
+same-peer one other (Life.standing state context) peered has =
+    let some : Some other ≡ Some one = sym has ∙ peered in
+    cc
+same-peer one other Life.over peered has = absurd peered
+
+-- ---- the request that sends a Begin
+
+abbrev IsAnyBegin : Message → Type 0
+IsAnyBegin (Message.unidirectional portion components) = ⊥
+IsAnyBegin (Message.begin origin portion components) = Unit {0}
+IsAnyBegin (Message.end to portion components) = ⊥
+IsAnyBegin (Message.go_on origin to portion components) = ⊥
+IsAnyBegin (Message.abort to reason) = ⊥
+
+abbrev IfAnyBegin : Option Message → Type 0
+IfAnyBegin None = ⊥
+IfAnyBegin (Some m) = IsAnyBegin m
+
+begins-none : (d : Standing) (state : State) (portion : Option (List ℕ)) → IfAnyBegin (continue_message d state portion) → ⊥
+begins-none d State.fresh portion is = is
+begins-none d State.sent portion is = is
+begins-none d (State.received peer) portion is = is
+begins-none d (State.active peer) portion is = is
+
+ends-none : (d : Standing) (state : State) (portion : Option (List ℕ)) → IfAnyBegin (end_message d state portion) → ⊥
+ends-none d State.fresh portion is = is
+ends-none d State.sent portion is = is
+ends-none d (State.received peer) portion is = is
+ends-none d (State.active peer) portion is = is
+
+aborts-none : (state : State) (reason : _) → IfAnyBegin (abort_message state reason) → ⊥
+aborts-none State.fresh reason is = is
+aborts-none State.sent reason is = is
+aborts-none (State.received peer) reason is = is
+aborts-none (State.active peer) reason is = is
+
+refuses-none : (state : State) (context : Option (List ℕ)) (info : List ℕ) → IfAnyBegin (refusing_message state context info) → ⊥
+refuses-none state None info is = is
+refuses-none state (Some context) info is = aborts-none state (refusing_abort context info) is
+
+abbrev IsBeginRequest : Request → Type 0
+IsBeginRequest request = (context : Option (List ℕ)) × (info : List ℕ) × (request ≡ Request.begin context info)
+
+begin-request : (d : Standing) (request : Request) → IfAnyBegin (message_of d request) → IsBeginRequest request
+begin-request d (Request.invoke id class code parameter linked timeout) is = absurd is
+begin-request d (Request.result_last id body) is = absurd is
+begin-request d (Request.result_more id body) is = absurd is
+begin-request d (Request.error_back id code parameter) is = absurd is
+begin-request d (Request.u_reject id problem) is = absurd is
+begin-request d (Request.u_cancel id) is = absurd is
+begin-request d (Request.uni context info) is = absurd is
+begin-request d (Request.begin context info) is = (context, info, refl)
+begin-request d (Request.go_on context info) is = absurd (begins-none d d.state (answer_portion d.state d.context context info) is)
+begin-request d (Request.finish Ending.basic context info) is = absurd (ends-none d d.state (answer_portion d.state d.context context info) is)
+begin-request d (Request.finish Ending.prearranged context info) is = absurd is
+begin-request d (Request.u_abort AbortReason.by_user info) is = absurd (aborts-none d.state (user_abort d.context info) is)
+begin-request d (Request.u_abort AbortReason.not_supported info) is = absurd (refuses-none d.state d.context info is)
+
+-- ---- the far dialogue
+
+module _ (net : Net) (is : IsNet net) (engine other : Engine) (forth : far engine ≡ other) (back : far other ≡ engine) (d f : ℕ) (short : d < 2 ^ 32) (never : NeverBegun d (side engine net.trace)) (peered : IsPeered (local_id d) (life f (side other net.trace))) where
+  legal-far : AreReplies (net.start other) (side other net.trace)
+  legal-far = (is.is_legal other).1
+
+  -- its peer is known from its birth on
+  f-known : (past : Past) (state : State) (context : Option (List ℕ)) → IsIn past (side other net.trace) → life f past ≡ Life.standing state context → peer_of state ≡ None → ⊥
+  f-known past state context part lives unknown =
+      let never-f : NeverBegun f (side other net.trace) = subst (NeverBegun f) (sym part.1) (never-begun (net.start other) f part.0 past state context (subst (AreReplies (net.start other)) part.1 legal-far) lives unknown) in
+      never-peers (length net.trace) net is engine other forth back d f (local_id d) (omega arith) (own-name d short) never never-f peered
+
+  -- and stays
+  f-peer : (past : Past) (peer : List ℕ) → IsIn past (side other net.trace) → HasPeer peer (life f past) → peer ≡ local_id d
+  f-peer past peer part has =
+      same-peer (local_id d) peer (life f (side other net.trace)) peered
+      (subst (λ (w : Past). HasPeer peer (life f w)) (sym part.1) (peer-stays (net.start other) f peer part.0 past (subst (AreReplies (net.start other)) part.1 legal-far) has))
+
+  -- it began none
+  f-begins : (past : Past) (sender : Pair) (m : Message) → IsIn past (side other net.trace) → AreReplies (net.start other) (sender ∷ past) → is_accepted sender.answer ≡ true → IsAnyBegin m → (sent : SentAs past sender.event m) → sent.dialogue ≡ f → ⊥
+  f-begins past sender m part legal accepted begins sent same = go (peer_of sent.state) refl
+    where
+      h : History
+      h = record { start = net.start other; pairs = past }
+
+      asks : IsBeginRequest sent.request
+      asks = begin-request (standing_of sent.dialogue past sent.state sent.context) sent.request (subst IfAnyBegin (sym sent.is_asked) begins)
+
+      taken : is_accepted (reply h (Event.on_dialogue sent.dialogue sent.request)) ≡ true
+      taken = ap (λ (e : Event). is_accepted (reply h e)) (sym sent.is_event) ∙ (ap is_accepted (sym legal.1) ∙ accepted)
+
+      go : (known : Option (List ℕ)) → peer_of sent.state ≡ known → ⊥
+      go None e = f-known past sent.state sent.context part (ap (λ (x : ℕ). life x past) (sym same) ∙ sent.is_life) e
+      go (Some peer) e = no-begin h sent.dialogue peer sent.state sent.context sent.is_life e sent.request taken asks.0 asks.1 asks.2
+
+  -- ---- an Invoke that is told in it
+
+  twice : far (far other) ≡ other
+  twice = ap far back ∙ forth
+
+  module _ (pair : Pair) (before : Trace) (happens : Happens other pair before net.trace) (id : ℤ) (linked : Option ℤ) (code : CodeParts) (parameter : Option (List ℕ)) (tells : Tells pair.answer (Output.invoked (Some f) id linked code parameter)) where
+    abbrev told : Output
+    told = Output.invoked (Some f) id linked code parameter
+
+    pub invoke-told : Carried net other before pair.event told
+    invoke-told = carried net is other pair before happens told tells (IsOfComponent.invoke (Some f) id linked code parameter)
+
+    abbrev x : ℕ
+    x = invoke-told.sent.dialogue
+
+    abbrev h : History
+    h = record { start = net.start other; pairs = side other before }
+
+    stands : StandsIn pair (side other before) (side other net.trace)
+    stands = happens-stands other pair before net.trace happens
+
+    legal-here : AreReplies (net.start other) (pair ∷ side other before)
+    legal-here = legal-before (net.start other) stands.later (pair ∷ side other before) (subst (AreReplies (net.start other)) stands.is_past legal-far)
+
+    placed : IsNamedBy invoke-told.told.bytes f ⊎ (is_that f (born_on_message (reply h (Event.received invoke-told.told.bytes))) ≡ true)
+    placed = reply-placed h legal-here.2 invoke-told.told.bytes told (subst (λ (e : Event). Tells (reply h e) told) invoke-told.told.is_event (subst (λ (a : Answer). Tells a told) legal-here.1 tells))
+
+    -- it gives birth to the dialogue
+    by-birth : is_that f (born_on_message (reply h (Event.received invoke-told.told.bytes))) ≡ true → x ≡ d
+    by-birth birth =
+        let born : is_birth_of f pair ≡ true =
+        ap (λ (e : Event). is_that f (born_of e pair.answer)) invoke-told.told.is_event
+        ∙ (ap (λ (a : Answer). is_that f (born_on_message a)) (legal-here.1 ∙ ap (reply h) invoke-told.told.is_event) ∙ birth) in
+        let begun : IsBegun f invoke-told.told.bytes pair (side other before) = birth-begun (net.start other) f pair (side other before) legal-here born invoke-told.told.bytes invoke-told.told.is_event in
+        let from-d : begun.origin ≡ local_id d = f-peer (pair ∷ side other before) begun.origin (stands.later, stands.is_past) begun.has_peer in
+        let m : Message = Message.begin begun.origin begun.portion begun.components in
+        let there : History = record { start = net.start (far other); pairs = invoke-told.past } in
+        let sent : SentAs invoke-told.past invoke-told.sender.event m = sent-as there invoke-told.told.bytes m (frame_takes invoke-told.told.bytes m begun.is_begin) tt invoke-told.sender.event (subst (λ (a : Answer). Tells a (Output.send invoke-told.told.bytes)) invoke-told.is_legal.1 invoke-told.tells) in
+        let events : Event.on_dialogue x invoke-told.sent.request ≡ Event.on_dialogue sent.dialogue sent.request = sym invoke-told.sent.is_event ∙ sent.is_event in
+        let same : x ≡ sent.dialogue = cc in
+        let sent_short = born-short (net.start (far other)) invoke-told.past sent.dialogue (is.is_legal (far other)).0 invoke-told.is_legal.2 (λ unborn. let not : Life.standing sent.state sent.context ≡ Life.unborn = sym sent.is_life ∙ unborn in absurd cc) in
+        same ∙ same-id sent.dialogue d sent_short short (sym sent.source ∙ from-d)
+
+    -- it names the dialogue: what the sender heard of that it heard by a Continue
+    module _ (octets : List ℕ) (names-f : dialogue_named octets ≡ Some f) (heard : HeardOf x octets invoke-told.past) where
+      at : IsAt (far other) heard.pair heard.before before
+      at = stands-happens (far other) heard.pair heard.before before (stands-before heard.pair invoke-told.sender heard.before invoke-told.past (side (far other) before) heard.stands invoke-told.stands)
+
+      abbrev first : Net
+      first = record { start = net.start; trace = before }
+
+      from : (m : Message) → frame_at heard.hears.bytes ≡ Ok m → IsNoAbort m → FarSender first (far other) at.before m
+      from m e no_abort = far-sender first (net-before net is other pair before happens) (far other) heard.pair at.before at.happens heard.hears.bytes m heard.hears.is_event (frame_takes heard.hears.bytes m e) no_abort
+
+      module _ (m : Message) (s : FarSender first (far other) at.before m) where
+        part : IsIn s.past (side other net.trace)
+        part =
+            in-in s.past (side other at.before) (side other net.trace)
+            (stands-in s.sender s.past (side other at.before) (subst (λ (e : Engine). StandsIn s.sender s.past (side e at.before)) twice s.stands))
+            (in-in (side other at.before) (side other before) (side other net.trace) (happens-rest other (far other) heard.pair at.before before at.happens) (happens-rest other other pair before net.trace happens))
+
+        legal-there : AreReplies (net.start other) (s.sender ∷ s.past)
+        legal-there = subst (λ (e : Engine). AreReplies (net.start e) (s.sender ∷ s.past)) twice s.is_legal
+
+        is-f : octets ≡ local_id s.sent.dialogue → s.sent.dialogue ≡ f
+        is-f source =
+            let sent_short = born-short (net.start other) s.past s.sent.dialogue (is.is_legal other).0 legal-there.2 (λ unborn. let not : Life.standing s.sent.state s.sent.context ≡ Life.unborn = sym s.sent.is_life ∙ unborn in absurd cc) in
+            let some : Some s.sent.dialogue ≡ Some f = sym (own-name s.sent.dialogue sent_short) ∙ (ap dialogue_named (sym source) ∙ names-f) in
+            cc
+
+      by-heard : x ≡ d
+      by-heard = elim heard.hears.how [
+        | inl begun ↦
+            let b = begun.2 in
+            let m : Message = Message.begin octets b.0 b.1 in
+            let s : FarSender first (far other) at.before m = from m b.2 tt in
+            absurd (f-begins s.past s.sender m (part m s) (legal-there m s) s.accepted tt s.sent (is-f m s s.sent.source))
+        | inr continued ↦
+            let c = continued.3 in
+            let m : Message = Message.go_on octets c.0 c.1 c.2 in
+            let s : FarSender first (far other) at.before m = from m c.3 tt in
+            let has : HasPeer c.0 (life f s.past) = subst (λ (y : ℕ). HasPeer c.0 (life y s.past)) (is-f m s s.sent.source.0) (subst (HasPeer c.0) (sym s.sent.is_life) s.sent.source.1) in
+            let to-d : c.0 ≡ local_id d = f-peer s.past c.0 (part m s) has in
+            let to-x : dialogue_named c.0 ≡ Some x = continue-names x heard.hears.bytes octets c.0 c.2 c.1 continued.2 c.3 in
+            let some : Some x ≡ Some d = sym to-x ∙ (ap dialogue_named to-d ∙ own-name d short) in
+            cc
+      ]
+
+    by-name : IsNamedBy invoke-told.told.bytes f → x ≡ d
+    by-name named =
+        let to = destined-octets f (destination invoke-told.told.message) (named-destined f invoke-told.told.bytes invoke-told.told.message invoke-told.told.spelled named) in
+        by-heard to.0 to.2 (peer-heard x to.0 invoke-told.past (subst (IsPeered to.0) (sym invoke-told.sent.is_life) (invoke-told.sent.takes.to_peer to.0 to.1)))
+
+    pub invoke-from : invoke-told.sent.dialogue ≡ d
+    invoke-from = elim placed [ inl named ↦ by-name named | inr birth ↦ by-birth birth ]

@@ -1,0 +1,251 @@
+-- Each answer that is told of an invocation comes from a request of the far user.
+use Rattle.std.proofs.Common.{◌≡◌, ℕ, ℤ, Bool, true, false, not, nat_le, length, List, [], ◌∷◌, ◌++◌, Option, Some, None, refl, sym, ap, subst, ◌∙◌, inl, inr, append_assoc}
+use Rattle.std.proofs.lemmas.Bool.{true≢false}
+use Rattle.tcap_pdu.specs.FrameSpelling.{Message, SpellsFrame}
+use Rattle.tcap_pdu.specs.FrameWritten.{message_limit}
+use Rattle.tcap_pdu.proofs.CallerLemmas.{frame_again}
+use Rattle.tcap_component.specs.Component.{ComponentParts}
+use Rattle.tcap_component.specs.Component.ComponentParts.{invoke, result_last, error_back, reject_back, result_more}
+use Rattle.tcap_component.specs.Problem.{ProblemParts, is_by_provider}
+use Rattle.tcap_model.specs.Words.Answer.{Answer, is_accepted}
+use Rattle.tcap_model.specs.Statements.ComponentLaws.{IsOfComponent, StandsFor, ComesFrom, IsLocalReject, WasRequested, WasFormed}
+use Rattle.tcap_model.specs.Procedures.ComponentRequest.{component_of}
+use Rattle.tcap_model.specs.Procedures.Destination.{destination, destination_by, destination_of}
+use Rattle.tcap_model.specs.Replies.Due.{due}
+use Rattle.tcap_model.specs.Words.Event.{Event}
+use Rattle.tcap_model.specs.Histories.History.{History, Start}
+use Rattle.tcap_model.specs.Words.InRange.{is_in_range, are_octets}
+use Rattle.tcap_model.specs.Replies.Legal.{AreReplies, IsLegal}
+use Rattle.tcap_model.specs.Histories.Life.{Life, life}
+use Rattle.tcap_model.specs.Words.LocalId.{dialogue_named, local_id}
+use Rattle.tcap_model.specs.Histories.Names.{is_destined, named_within}
+use Rattle.tcap_model.specs.Statements.Net.{Engine, Trace, far, side, Net, IsNet}
+use Rattle.tcap_model.specs.Words.Output.{Output, Closing}
+use Rattle.tcap_model.specs.Histories.Pair.{Pair, Past}
+use Rattle.tcap_model.specs.Statements.Places.{StandsIn, Tells}
+use Rattle.tcap_model.specs.Replies.Reply.{reply}
+use Rattle.tcap_model.specs.Words.Request.{Request}
+use Rattle.tcap_model.specs.Words.State.{State, peer_of}
+use Rattle.tcap_model.specs.Procedures.States.{has_peer}
+use Rattle.tcap_model.specs.Statements.TwoEnds.{Happens, IsAnswer, ComesFromFar, Origin, peer_in}
+use Rattle.tcap_laws.proofs.Peers.CarriedComponents.{Carried, carried, some_components, one-of, stands-before}
+use Rattle.tcap_laws.proofs.FarEnds.FairReplies.{reply-fair}
+use Rattle.tcap_laws.proofs.FarEnds.FairTellings.{Fair, IsNamedBy}
+use Rattle.tcap_laws.proofs.Peers.FarPeers.{HasPeer, peer-stays, none-due, destination-octets, octets-of}
+use Rattle.tcap_laws.proofs.Receptions.NamedReceptions.{that-is}
+use Rattle.tcap_laws.proofs.Peers.NetPlaces.{happens-stands, stands-happens}
+use Rattle.tcap_laws.proofs.Queues.QueuedComponents.{accepted-parts}
+use Rattle.tcap_laws.proofs.Queues.SentComponents.{sent-from}
+use Rattle.tcap_laws.proofs.Receptions.ToldFrom.{legal-before}
+use Rattle.tcap_laws.proofs.FarEnds.WaitingInvokes.{IsNoInvoke}
+
+-- ---- answers, their components and their requests
+
+-- the component that an indication stands for
+abbrev component_told : Output → Option ComponentParts
+component_told (Output.send bytes) = None
+component_told (Output.uni context info) = None
+component_told (Output.begin dialogue context info) = None
+component_told (Output.go_on dialogue context info) = None
+component_told (Output.end dialogue context info) = None
+component_told (Output.u_abort dialogue pdu) = None
+component_told (Output.p_abort dialogue why) = None
+component_told (Output.invoked dialogue id linked code parameter) = Some (invoke id linked code parameter)
+component_told (Output.result_more dialogue number id body) = Some (result_more id body)
+component_told (Output.local_reject dialogue id problem) = None
+component_told (Output.remote_reject dialogue id problem by) = None
+component_told (Output.closed dialogue number id (Closing.result_last body)) = Some (result_last id body)
+component_told (Output.closed dialogue number id (Closing.error_back code parameter)) = Some (error_back id code parameter)
+component_told (Output.closed dialogue number id (Closing.rejected problem by)) = Some (reject_back (Some id) problem)
+component_told (Output.closed dialogue number id Closing.lapsed) = None
+component_told (Output.closed dialogue number id Closing.ended) = None
+component_told (Output.closed dialogue number id Closing.given_up) = None
+component_told (Output.dropped why) = None
+
+stands-told : (output : Output) (c : ComponentParts) → StandsFor output c → component_told output ≡ Some c
+stands-told _ _ (StandsFor.an_invoke dialogue id linked code parameter) = refl
+stands-told _ _ (StandsFor.a_result_more dialogue number id body) = refl
+stands-told _ _ (StandsFor.a_result_last dialogue number id body) = refl
+stands-told _ _ (StandsFor.an_error dialogue number id code parameter) = refl
+stands-told _ _ (StandsFor.a_reject dialogue number id problem) = refl
+
+answer-told : (dialogue number : ℕ) (id : ℤ) (output : Output) (request : Request) → IsAnswer dialogue number id output request → component_told output ≡ component_of request
+answer-told dialogue number id _ _ (IsAnswer.a_result_last body) = refl
+answer-told dialogue number id _ _ (IsAnswer.a_result_more body) = refl
+answer-told dialogue number id _ _ (IsAnswer.an_error code parameter) = refl
+answer-told dialogue number id _ _ (IsAnswer.a_reject problem) = refl
+
+pub answer-indicates : (dialogue number : ℕ) (id : ℤ) (output : Output) (request : Request) → IsAnswer dialogue number id output request → IsOfComponent output
+answer-indicates dialogue number id _ _ (IsAnswer.a_result_last body) = IsOfComponent.result_last dialogue number id body
+answer-indicates dialogue number id _ _ (IsAnswer.a_result_more body) = IsOfComponent.result_more dialogue number id body
+answer-indicates dialogue number id _ _ (IsAnswer.an_error code parameter) = IsOfComponent.error_back dialogue number id code parameter
+answer-indicates dialogue number id _ _ (IsAnswer.a_reject problem) = IsOfComponent.rejected dialogue number id problem
+
+answer-named : (bytes : List ℕ) (dialogue number : ℕ) (id : ℤ) (output : Output) (request : Request) → IsAnswer dialogue number id output request → Fair bytes output → IsNamedBy bytes dialogue
+answer-named bytes dialogue number id _ _ (IsAnswer.a_result_last body) fair = fair
+answer-named bytes dialogue number id _ _ (IsAnswer.a_result_more body) fair = fair
+answer-named bytes dialogue number id _ _ (IsAnswer.an_error code parameter) fair = fair
+answer-named bytes dialogue number id _ _ (IsAnswer.a_reject problem) fair = fair.0
+
+-- a Reject that is told as the far user's has no problem of the component sublayer
+answer-by-user : (bytes : List ℕ) (dialogue number : ℕ) (id : ℤ) (output : Output) (request : Request) → IsAnswer dialogue number id output request → Fair bytes output → (named : Option ℤ) (problem : ProblemParts) → component_of request ≡ Some (reject_back named problem) → is_by_provider problem ≡ false
+answer-by-user bytes dialogue number id _ _ (IsAnswer.a_result_last body) fair named problem e = absurd cc
+answer-by-user bytes dialogue number id _ _ (IsAnswer.a_result_more body) fair named problem e = absurd cc
+answer-by-user bytes dialogue number id _ _ (IsAnswer.an_error code parameter) fair named problem e = absurd cc
+answer-by-user bytes dialogue number id _ _ (IsAnswer.a_reject told) fair named problem e =
+    let same : told ≡ problem = cc in
+    ap is_by_provider (sym same) ∙ fair.1
+
+-- it needs a peer
+answer-needs : (h : History) (far_dialogue : ℕ) (s : State) (c : Option (List ℕ)) → life far_dialogue h.pairs ≡ Life.standing s c → (dialogue number : ℕ) (id : ℤ) (output : Output) (request : Request) → IsAnswer dialogue number id output request →
+    is_accepted (reply h (Event.on_dialogue far_dialogue request)) ≡ true → not (has_peer s) ≡ false
+answer-needs h d s c lives dialogue number id _ _ (IsAnswer.a_result_last body) accepted = (none-due h d (Request.result_last id body) s c lives accepted).1.0
+answer-needs h d s c lives dialogue number id _ _ (IsAnswer.a_result_more body) accepted = (none-due h d (Request.result_more id body) s c lives accepted).1.0
+answer-needs h d s c lives dialogue number id _ _ (IsAnswer.an_error code parameter) accepted = (none-due h d (Request.error_back id code parameter) s c lives accepted).1.0
+answer-needs h d s c lives dialogue number id _ _ (IsAnswer.a_reject problem) accepted = (none-due h d (Request.u_reject (Some id) problem) s c lives accepted).1.0
+
+some-peer : (s : State) → not (has_peer s) ≡ false → (peer : List ℕ) × (peer_of s ≡ Some peer)
+some-peer State.fresh e = absurd cc
+some-peer State.sent e = absurd cc
+some-peer (State.received peer) e = (peer, refl)
+some-peer (State.active peer) e = (peer, refl)
+
+-- ---- the request of a component
+
+abbrev as_request : ComponentParts → Request
+as_request (invoke id linked code parameter) = Request.u_cancel id
+as_request (result_last id body) = Request.result_last id body
+as_request (error_back id code parameter) = Request.error_back id code parameter
+as_request (reject_back id problem) = Request.u_reject id problem
+as_request (result_more id body) = Request.result_more id body
+
+-- every request of a component that is no Invoke
+request-as : (request : Request) (c : ComponentParts) → IsNoInvoke c → component_of request ≡ Some c → request ≡ as_request c
+request-as (Request.invoke id class code parameter linked timeout) c none e =
+    let same : invoke id linked code parameter ≡ c = cc in absurd (subst IsNoInvoke (sym same) none)
+request-as (Request.result_last id body) c none e = let same : result_last id body ≡ c = cc in ap as_request same
+request-as (Request.result_more id body) c none e = let same : result_more id body ≡ c = cc in ap as_request same
+request-as (Request.error_back id code parameter) c none e = let same : error_back id code parameter ≡ c = cc in ap as_request same
+request-as (Request.u_reject id problem) c none e = let same : reject_back id problem ≡ c = cc in ap as_request same
+request-as (Request.u_cancel id) c none e = absurd cc
+request-as (Request.uni context info) c none e = absurd cc
+request-as (Request.begin context info) c none e = absurd cc
+request-as (Request.go_on context info) c none e = absurd cc
+request-as (Request.finish ending context info) c none e = absurd cc
+request-as (Request.u_abort why info) c none e = absurd cc
+
+answer-no-invoke : (dialogue number : ℕ) (id : ℤ) (output : Output) (request : Request) → IsAnswer dialogue number id output request → (c : ComponentParts) → component_of request ≡ Some c → IsNoInvoke c
+answer-no-invoke dialogue number id _ _ (IsAnswer.a_result_last body) c e = let same : result_last id body ≡ c = cc in subst IsNoInvoke same tt
+answer-no-invoke dialogue number id _ _ (IsAnswer.a_result_more body) c e = let same : result_more id body ≡ c = cc in subst IsNoInvoke same tt
+answer-no-invoke dialogue number id _ _ (IsAnswer.an_error code parameter) c e = let same : error_back id code parameter ≡ c = cc in subst IsNoInvoke same tt
+answer-no-invoke dialogue number id _ _ (IsAnswer.a_reject problem) c e = let same : reject_back (Some id) problem ≡ c = cc in subst IsNoInvoke same tt
+
+-- ---- the destination of bytes that name a dialogue
+
+pub named-destined : (dialogue : ℕ) (bytes : List ℕ) (m : Message) → SpellsFrame m bytes → IsNamedBy bytes dialogue → is_destined dialogue (destination m) ≡ true
+named-destined dialogue bytes m spelled named =
+    ap (λ r. is_destined dialogue (destination_by bytes r)) (sym (frame_again m bytes spelled)) ∙ within (nat_le (length bytes) message_limit) named
+  where
+    within : (short : Bool) → named_within short dialogue bytes ≡ true → is_destined dialogue (destination_of bytes) ≡ true
+    within true e = e
+    within false e = absurd cc
+
+pub destined-octets : (dialogue : ℕ) (to : Option (List ℕ)) → is_destined dialogue to ≡ true → (octets : List ℕ) × (to ≡ Some octets) × (dialogue_named octets ≡ Some dialogue)
+destined-octets dialogue None e = absurd cc
+destined-octets dialogue (Some octets) e = (octets, refl, that-is dialogue (dialogue_named octets) e)
+
+-- ---- the origin
+
+-- a request that was accepted on a dialogue which has a peer when the component is sent
+module _ (start : Start) (past : Past) (legal : AreReplies start past) (d : ℕ) (request : Request) (peer : List ℕ) (state : State) (context : Option (List ℕ)) (lives : life d past ≡ Life.standing state context) (is_peer : peer_of state ≡ Some peer) where
+  peer-then : (asked : Pair) (before : Past) → StandsIn asked before past → asked.event ≡ Event.on_dialogue d request → is_accepted asked.answer ≡ true →
+      ((s : State) (c : Option (List ℕ)) → life d before ≡ Life.standing s c → is_accepted (reply (record { start = start; pairs = before }) (Event.on_dialogue d request)) ≡ true → not (has_peer s) ≡ false) → peer_in (life d before) ≡ Some peer
+  peer-then asked before stands is accepted needs =
+      let h : History = record { start = start; pairs = before } in
+      let there = legal-before start stands.later (asked ∷ before) (subst (AreReplies start) stands.is_past legal) in
+      let taken : is_accepted (reply h (Event.on_dialogue d request)) ≡ true = ap (λ (e : Event). is_accepted (reply h e)) (sym is) ∙ (ap is_accepted (sym there.1) ∙ accepted) in
+      let parts = accepted-parts h d request (life d before) (due h d request) taken in
+      let some = some-peer parts.0 (needs parts.0 parts.1 parts.2 taken) in
+      let between : past ≡ (stands.later ++ asked ∷ []) ++ before = stands.is_past ∙ sym (append_assoc stands.later (asked ∷ []) before) in
+      let has : HasPeer some.0 (life d before) = subst (HasPeer some.0) (sym parts.2) some.1 in
+      let kept : HasPeer some.0 (life d past) = subst (λ (p : Past). HasPeer some.0 (life d p)) (sym between) (peer-stays start d some.0 (stands.later ++ asked ∷ []) before (subst (AreReplies start) between legal) has) in
+      let then : peer_of state ≡ Some some.0 = subst (HasPeer some.0) lives kept in
+      ap peer_in parts.2 ∙ (some.1 ∙ (sym then ∙ is_peer))
+
+module _ (net : Net) (is : IsNet net) (engine : Engine) (pair : Pair) (before : Trace) (happens : Happens engine pair before net.trace) (dialogue number : ℕ) (id : ℤ) (output : Output) (request : Request) (tells : Tells pair.answer output) (answers : IsAnswer dialogue number id output request) where
+  it : Carried net engine before pair.event output
+  it = carried net is engine pair before happens output tells (answer-indicates dialogue number id output request answers)
+
+  abbrev d : ℕ
+  d = it.sent.dialogue
+
+  is_component : component_of request ≡ Some it.told.component
+  is_component = sym (answer-told dialogue number id output request answers) ∙ stands-told output it.told.component it.told.stands_for
+
+  -- the pair is a legal one
+  legal-here : AreReplies (net.start engine) (pair ∷ side engine before)
+  legal-here =
+      let stands = happens-stands engine pair before net.trace happens in
+      legal-before (net.start engine) stands.later (pair ∷ side engine before) (subst (AreReplies (net.start engine)) stands.is_past (is.is_legal engine).1)
+
+  fair : Fair it.told.bytes output
+  fair = reply-fair (record { start = net.start engine; pairs = side engine before }) legal-here.2 it.told.bytes output
+      (subst (λ (e : Event). Tells (reply (record { start = net.start engine; pairs = side engine before }) e) output) it.told.is_event (subst (λ (a : Answer). Tells a output) legal-here.1 tells))
+
+  octets-here : are_octets it.told.bytes ≡ true
+  octets-here = subst (λ (e : Event). is_in_range e ≡ true) it.told.is_event legal-here.0
+
+  -- the sender's peer is this dialogue
+  far-peer : peer_of it.sent.state ≡ Some (local_id dialogue)
+  far-peer =
+      let m : Message = it.told.message in
+      let to = destined-octets dialogue (destination m) (named-destined dialogue it.told.bytes m it.told.spelled (answer-named it.told.bytes dialogue number id output request answers fair)) in
+      let range = destination-octets m to.0 (subst (λ (w : List ℕ). are_octets w ≡ true) it.sent.is_written octets-here) to.1 in
+      it.sent.takes.to_peer to.0 to.1 ∙ ap (λ (w : List ℕ). Some w) (octets-of dialogue to.0 range to.2)
+
+  source : ComesFrom d it.past it.told.component
+  source =
+      let h : History = record { start = net.start (far engine); pairs = it.sender ∷ it.past } in
+      let legal : IsLegal h = ((is.is_legal (far engine)).0, it.is_legal) in
+      elim (sent-from h legal it.sender it.past it.told.bytes it.told.message (it.told.earlier ++ it.told.component ∷ it.told.later) it.told.fault (record { later = []; is_past = refl }) it.tells it.told.spelled it.told.read) [
+        | inl none ↦ absurd (some_components h it.told.bytes it.told.message it.told.spelled it.told.earlier it.told.later it.told.component it.told.fault it.told.read none)
+        | inr one ↦
+            let events : Event.on_dialogue one.dialogue one.request ≡ Event.on_dialogue d it.sent.request = sym one.is_event ∙ it.sent.is_event in
+            let same : one.dialogue ≡ d = cc in
+            subst (λ (x : ℕ). ComesFrom x it.past it.told.component) same (one-of (ComesFrom one.dialogue it.past) it.told.earlier it.told.later it.told.component one.each)
+      ]
+
+  from-request : WasRequested d it.told.component it.past → ComesFromFar engine dialogue request before
+  from-request was =
+      let none = answer-no-invoke dialogue number id output request answers it.told.component is_component in
+      let same : was.request ≡ request = request-as was.request it.told.component none was.is_component ∙ sym (request-as request it.told.component none is_component) in
+      let is_event : was.pair.event ≡ Event.on_dialogue d request = was.is_event ∙ ap (λ (r : Request). Event.on_dialogue d r) same in
+      let at = stands-happens (far engine) was.pair was.before before (stands-before was.pair it.sender was.before it.past (side (far engine) before) was.stands it.stands) in
+      let peer = peer-then (net.start (far engine)) it.past it.is_legal.2 d request (local_id dialogue) it.sent.state it.sent.context it.sent.is_life far-peer was.pair was.before was.stands is_event was.accepted
+      (λ s c lives accepted. answer-needs (record { start = net.start (far engine); pairs = was.before }) d s c lives dialogue number id output request answers accepted) in
+      record {
+        pair = was.pair;
+        before = at.before;
+        happens = at.happens;
+        is_request = record { far_dialogue = d; is_event = is_event; accepted = was.accepted; is_peer = ap (λ (p : Past). peer_in (life d p)) at.is_side ∙ peer };
+      }
+
+  -- a Reject that was formed by the far component sublayer has a problem of that
+  not-formed : WasFormed d it.told.component it.past → ⊥
+  not-formed was =
+      let there = legal-before (net.start (far engine)) was.stands.later (was.pair ∷ was.before) (subst (AreReplies (net.start (far engine))) was.stands.is_past it.is_legal.2) in
+      let h : History = record { start = net.start (far engine); pairs = was.before } in
+      let told = reply-fair h there.2 was.bytes was.output (subst (λ (e : Event). Tells (reply h e) was.output) was.is_event (subst (λ (a : Answer). Tells a was.output) there.1 was.tells)) in
+      let by_user = answer-by-user it.told.bytes dialogue number id output request answers fair was.id was.problem (is_component ∙ ap (λ (c : ComponentParts). Some c) was.is_component) in
+      true≢false (sym (by-provider was.bytes was.output was.id was.problem was.is_told told) ∙ by_user)
+    where
+      by-provider : (bytes : List ℕ) (told : Output) (named : Option ℤ) (problem : ProblemParts) → IsLocalReject d named problem told → Fair bytes told → is_by_provider problem ≡ true
+      by-provider bytes told named problem (inl local) told-fair = subst (Fair bytes) local told-fair
+      by-provider bytes told named problem (inr closed) told-fair = subst (Fair bytes) closed.3 told-fair
+
+  pub comes-from-far : ComesFromFar engine dialogue request before
+  comes-from-far = elim source [ inl was ↦ from-request was | inr was ↦ absurd (not-formed was) ]
+
+pub origin : (net : Net) → IsNet net → Origin net.trace
+origin net is engine pair before dialogue number id output request happens tells answers =
+    comes-from-far net is engine pair before happens dialogue number id output request tells answers

@@ -1,0 +1,105 @@
+-- Of two dialogues that both were opened by their users neither is the other's peer.
+use Rattle.std.proofs.Common.{◌≡◌, ℕ, zero, suc, ◌<◌, ◌≤◌, Bool, true, false, List, [], ◌∷◌, ◌++◌, length, Option, Some, Ok, sym, ap, subst, ◌∙◌, inl, inr, arith, nat_le, length-append, append_assoc, ◌^◌}
+use Rattle.std.proofs.lemmas.Nat.{from_be_bytes-to_be_bytes_4}
+use Rattle.tcap_pdu.specs.FrameReading.{frame_at}
+use Rattle.tcap_pdu.specs.FrameSpelling.{Message}
+use Rattle.tcap_pdu.specs.FrameWritten.{message_limit}
+use Rattle.tcap_pdu.proofs.CallerLemmas.{frame_takes}
+use Rattle.tcap_model.specs.Histories.Birth.{is_birth_of}
+use Rattle.tcap_model.specs.Procedures.Destination.{destination_by, destination_of}
+use Rattle.tcap_model.specs.Words.Event.{Event}
+use Rattle.tcap_model.specs.Histories.Life.{Life, life}
+use Rattle.tcap_model.specs.Words.LocalId.{dialogue_named, local_id}
+use Rattle.tcap_model.specs.Histories.Names.{is_destined, named_within, names}
+use Rattle.tcap_model.specs.Statements.Net.{Engine, Marked, Trace, far, side, Net, IsNet, IsCarried}
+use Rattle.tcap_model.specs.Histories.Pair.{Pair, Past}
+use Rattle.tcap_model.specs.Statements.Places.{StandsIn}
+use Rattle.tcap_model.specs.Statements.TwoEnds.{Happens}
+use Rattle.tcap_laws.proofs.Peers.CarriedComponents.{legal-there}
+use Rattle.tcap_laws.proofs.Peers.FarSenders.{FarSender, far-sender, born-short}
+use Rattle.tcap_laws.proofs.Peers.HeardPeers.{IsPeered, peer-heard}
+use Rattle.tcap_laws.proofs.Receptions.NamedReceptions.{that-is}
+use Rattle.tcap_laws.proofs.Peers.NetPlaces.{happens-rest, stands-happens}
+
+-- ---- what came before is a net
+
+carried-rest : (later : Trace) (m : Marked) (before : Trace) → IsCarried (later ++ m ∷ before) → IsCarried before
+carried-rest [] m before all = all.1
+carried-rest (other ∷ later) m before all = carried-rest later m before all.1
+
+pub net-before : (net : Net) → IsNet net → (engine : Engine) (pair : Pair) (before : Trace) → Happens engine pair before net.trace → IsNet (record { start = net.start; trace = before })
+net-before net is engine pair before happens = record {
+  is_legal = λ other. ((is.is_legal other).0, legal-there net is engine pair before happens other);
+  is_carried = carried-rest happens.later (record { engine = engine; pair = pair }) before (subst IsCarried happens.is_trace is.is_carried);
+}
+
+shorter : (engine : Engine) (pair : Pair) (before trace : Trace) → Happens engine pair before trace → length before < length trace
+shorter engine pair before trace happens =
+    let whole = ap length happens.is_trace in
+    let parts = length-append happens.later (record { engine = engine; pair = pair } ∷ before) in
+    omega (arith, whole, parts)
+
+-- ---- names of dialogues
+
+pub own-name : (dialogue : ℕ) → dialogue < 2 ^ 32 → dialogue_named (local_id dialogue) ≡ Some dialogue
+own-name dialogue short = ap (λ (d : ℕ). Some d) (from_be_bytes-to_be_bytes_4 dialogue short)
+
+pub continue-names : (dialogue : ℕ) (bytes origin to components : List ℕ) (portion : Option (List ℕ)) → names (Event.received bytes) dialogue ≡ true → frame_at bytes ≡ Ok (Message.go_on origin to portion components) → dialogue_named to ≡ Some dialogue
+continue-names dialogue bytes origin to components portion named read = that-is dialogue (dialogue_named to) (ap (λ r. is_destined dialogue (destination_by bytes r)) (sym read) ∙ within (nat_le (length bytes) message_limit) named)
+  where
+    within : (short : Bool) → named_within short dialogue bytes ≡ true → is_destined dialogue (destination_of bytes) ≡ true
+    within true e = e
+    within false e = absurd cc
+
+-- ---- opened on both sides
+
+-- no message of the peer gave birth to the dialogue
+abbrev pub NeverBegun : ℕ → Past → Type 0
+NeverBegun dialogue past = (pair : Pair) (before : Past) (bytes : List ℕ) → StandsIn pair before past → pair.event ≡ Event.received bytes → is_birth_of dialogue pair ≡ true → ⊥
+
+pub never-before : (dialogue : ℕ) (other engine : Engine) (pair : Pair) (before trace : Trace) → Happens engine pair before trace → NeverBegun dialogue (side other trace) → NeverBegun dialogue (side other before)
+never-before dialogue other engine pair before trace happens never asked past bytes stands =
+    let rest = happens-rest other engine pair before trace happens in
+    never asked past bytes (record { later = rest.0 ++ stands.later; is_past = rest.1 ∙ (ap (λ (p : Past). rest.0 ++ p) stands.is_past ∙ sym (append_assoc rest.0 stands.later (asked ∷ past))) })
+
+-- the step: where it holds of all that is shorter
+module _ (n : ℕ) (net : Net) (is : IsNet net) (engine other : Engine) (back : far other ≡ engine) (c d : ℕ) (within : length net.trace ≤ n) where
+  step-peers : (peer : List ℕ) →
+      ((trace : Trace) (to : List ℕ) → IsNet (record { start = net.start; trace = trace }) → length trace < n → dialogue_named to ≡ Some d → NeverBegun d (side other trace) → NeverBegun c (side engine trace) → IsPeered to (life c (side engine trace)) → ⊥) →
+      dialogue_named peer ≡ Some c → NeverBegun c (side engine net.trace) → NeverBegun d (side other net.trace) → IsPeered peer (life d (side other net.trace)) → ⊥
+  step-peers peer again named never-c never-d peered =
+      let heard = peer-heard d peer (side other net.trace) peered in
+      let hears = heard.hears in
+      let at = stands-happens other heard.pair heard.before net.trace heard.stands in
+      elim hears.how [
+        | inl begun ↦ never-d heard.pair heard.before hears.bytes heard.stands hears.is_event begun.1
+        | inr continued ↦
+            let hears_it = continued.3 in
+            let m : Message = Message.go_on peer hears_it.0 hears_it.1 hears_it.2 in
+            let from : FarSender net other at.before m = far-sender net is other heard.pair at.before at.happens hears.bytes m hears.is_event (frame_takes hears.bytes m hears_it.3) tt in
+            let sent = from.sent in
+            let short = born-short (net.start (far other)) from.past sent.dialogue (is.is_legal (far other)).0 from.is_legal.2 (λ unborn. let never : Life.standing sent.state sent.context ≡ Life.unborn = sym sent.is_life ∙ unborn in absurd cc) in
+            let same_name : Some sent.dialogue ≡ Some c = sym (own-name sent.dialogue short) ∙ (ap dialogue_named (sym sent.source.0) ∙ named) in
+            let same : sent.dialogue ≡ c = cc in
+            let to_d = continue-names d hears.bytes peer hears_it.0 hears_it.2 hears_it.1 continued.2 hears_it.3 in
+            let before-it = stands-happens (far other) from.sender from.past at.before from.stands in
+            let first : Net = record { start = net.start; trace = at.before } in
+            let first_is : IsNet first = net-before net is other heard.pair at.before at.happens in
+            let second_is = net-before first first_is (far other) from.sender before-it.before before-it.happens in
+            let less = shorter other heard.pair at.before net.trace at.happens in
+            let lesser = shorter (far other) from.sender before-it.before at.before before-it.happens in
+            let peered_c : IsPeered hears_it.0 (life c (side engine before-it.before)) =
+            subst (λ (e : Engine). IsPeered hears_it.0 (life c (side e before-it.before))) back
+            (subst (λ (p : Past). IsPeered hears_it.0 (life c p)) (sym before-it.is_side)
+            (subst (λ (x : ℕ). IsPeered hears_it.0 (life x from.past)) same (subst (IsPeered hears_it.0) (sym sent.is_life) sent.source.1))) in
+            again before-it.before hears_it.0 second_is (omega (arith, within, less, lesser)) to_d
+            (never-before d other (far other) from.sender before-it.before at.before before-it.happens (never-before d other other heard.pair at.before net.trace at.happens never-d))
+            (never-before c engine (far other) from.sender before-it.before at.before before-it.happens (never-before c engine other heard.pair at.before net.trace at.happens never-c)) peered_c
+      ]
+
+pub never-peers : (n : ℕ) (net : Net) → IsNet net → (engine other : Engine) → far engine ≡ other → far other ≡ engine → (c d : ℕ) (peer : List ℕ) → length net.trace ≤ n → dialogue_named peer ≡ Some c →
+    NeverBegun c (side engine net.trace) → NeverBegun d (side other net.trace) → IsPeered peer (life d (side other net.trace)) → ⊥
+never-peers zero net is engine other forth back c d peer within = step-peers zero net is engine other back c d within peer (λ trace to net_is less. absurd (omega (arith, less)))
+never-peers (suc n) net is engine other forth back c d peer within =
+    step-peers (suc n) net is engine other back c d within peer
+    (λ trace to net_is less. never-peers n (record { start = net.start; trace = trace }) net_is other engine back forth d c to (omega (arith, less)))

@@ -1,0 +1,13 @@
+pub mod AcceptedRequests
+pub mod DueLemmas
+pub mod NamedReceptions
+pub mod PeerLemmas
+pub mod ReachedReplies
+pub mod ReceivedMarks
+pub mod RequestSending
+pub mod SendingLemmas
+pub mod SentLemmas
+pub mod SoundReceptions
+pub mod ToldComponents
+pub mod ToldFrom
+pub mod ToldLemmas

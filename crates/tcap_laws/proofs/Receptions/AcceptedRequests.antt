@@ -1,0 +1,121 @@
+-- What is known of a request that was accepted, and of one that made an invocation.
+use Rattle.std.proofs.Common.{◌≡◌, ℕ, ℤ, ◌<◌, Bool, true, false, not, nat_lt, nat_le, ◌&&◌, List, ◌∷◌, Option, Some, None, refl, sym, ap, ◌∙◌, subst}
+use Rattle.std.proofs.lemmas.Bool.{and_parts, ltb-true}
+use Rattle.tcap_component.specs.Component.{CodeParts}
+use Rattle.tcap_invocation.specs.Stage.{moment_limit}
+use Rattle.tcap_model.specs.Words.Answer.{Answer, is_accepted}
+use Rattle.tcap_model.specs.Replies.Due.{due_by, situation_of, standing_of}
+use Rattle.tcap_model.specs.Words.Event.{Event}
+use Rattle.tcap_model.specs.Words.Fault.{Fault}
+use Rattle.tcap_model.specs.Histories.History.{History, Start}
+use Rattle.tcap_model.specs.Words.InRange.{InRange, are_octets_if_any, is_code, is_identifier, is_identifier_if_any, is_long, is_request, is_short}
+use Rattle.tcap_model.specs.Invocations.Invocation.{Invocation, invoked_by, invoked_of, invoked_under}
+use Rattle.tcap_model.specs.Replies.Legal.{AreReplies}
+use Rattle.tcap_model.specs.Histories.Life.{Life, life}
+use Rattle.tcap_model.specs.Invocations.Numbers.{number_of}
+use Rattle.tcap_model.specs.Histories.Pair.{Pair, Past}
+use Rattle.tcap_model.specs.Procedures.Refusals.{due_on, faults_of, holds}
+use Rattle.tcap_model.specs.Replies.Reply.{reply, request_answer}
+use Rattle.tcap_model.specs.Words.Request.{Request}
+use Rattle.tcap_model.specs.Words.State.{State}
+use Rattle.tcap_laws.proofs.Receptions.DueLemmas.{first_that-none}
+
+-- ---- accepted
+
+-- the dialogue stands, and no fault is due
+pub record IsAccepted (h : History) (dialogue : ℕ) (request : Request) : Type 0 where
+  pub state : State
+  pub context : Option (List ℕ)
+  pub stands : life dialogue h.pairs ≡ Life.standing state context
+  pub faultless : due_on (situation_of h dialogue (standing_of dialogue h.pairs state context) request) request ≡ None
+
+module _ (h : History) (dialogue : ℕ) (request : Request) where
+  accepted-standing : (state : State) (context : Option (List ℕ)) (fault : Option Fault) → life dialogue h.pairs ≡ Life.standing state context
+      → due_on (situation_of h dialogue (standing_of dialogue h.pairs state context) request) request ≡ fault
+      → is_accepted (request_answer h dialogue request (Life.standing state context) fault) ≡ true → IsAccepted h dialogue request
+  accepted-standing state context (Some fault) stands due e = absurd cc
+  accepted-standing state context None stands due e = record { state = state; context = context; stands = stands; faultless = due }
+
+  accepted-living : (before : Life) → life dialogue h.pairs ≡ before → is_accepted (request_answer h dialogue request before (due_by h dialogue request before)) ≡ true → IsAccepted h dialogue request
+  accepted-living Life.unborn q e = absurd cc
+  accepted-living (Life.standing state context) q e = accepted-standing state context (due_on (situation_of h dialogue (standing_of dialogue h.pairs state context) request) request) q refl e
+  accepted-living Life.over q e = absurd cc
+
+  pub accepted-request : is_accepted (reply h (Event.on_dialogue dialogue request)) ≡ true → IsAccepted h dialogue request
+  accepted-request e = accepted-living (life dialogue h.pairs) refl e
+
+-- ---- made
+
+-- the request and the answer that made an invocation
+pub record IsInvoke (pair : Pair) (i : Invocation) : Type 0 where
+  pub code : CodeParts
+  pub parameter : Option (List ℕ)
+  pub linked : Option ℤ
+  pub event : pair.event ≡ Event.on_dialogue i.dialogue (Request.invoke i.id i.class code parameter linked i.timeout)
+  pub answer : pair.answer ≡ Answer.number i.number
+
+numbered : (answer : Answer) (n : ℕ) → number_of answer ≡ Some n → answer ≡ Answer.number n
+numbered (Answer.new_dialogue dialogue) n e = absurd cc
+numbered (Answer.number m) n e = let same : m ≡ n = cc in ap (λ (k : ℕ). Answer.number k) same
+numbered Answer.done n e = absurd cc
+numbered (Answer.given_up m) n e = absurd cc
+numbered (Answer.outputs outputs) n e = absurd cc
+numbered (Answer.refused fault) n e = absurd cc
+
+abbrev requested : ℕ → Request → Answer → Pair
+requested dialogue request answer = record { event = Event.on_dialogue dialogue request; answer = answer }
+
+invoked-under : (dialogue : ℕ) (request : Request) (answer : Answer) (i : Invocation) (o : Option ℕ) → number_of answer ≡ o → invoked_under dialogue request o ≡ Some i → IsInvoke (requested dialogue request answer) i
+invoked-under dialogue request answer i None q e = absurd cc
+invoked-under dialogue (Request.invoke id class code parameter linked timeout) answer i (Some n) q e =
+    let same : record { number = n; dialogue = dialogue; id = id; class = class; timeout = timeout } ≡ i = cc in
+    subst (λ (i : Invocation). IsInvoke (requested dialogue (Request.invoke id class code parameter linked timeout) answer) i) same
+    (record { code = code; parameter = parameter; linked = linked; event = refl; answer = numbered answer n q })
+invoked-under dialogue (Request.result_last id body) answer i (Some n) q e = absurd cc
+invoked-under dialogue (Request.result_more id body) answer i (Some n) q e = absurd cc
+invoked-under dialogue (Request.error_back id code parameter) answer i (Some n) q e = absurd cc
+invoked-under dialogue (Request.u_reject id problem) answer i (Some n) q e = absurd cc
+invoked-under dialogue (Request.u_cancel id) answer i (Some n) q e = absurd cc
+invoked-under dialogue (Request.uni context info) answer i (Some n) q e = absurd cc
+invoked-under dialogue (Request.begin context info) answer i (Some n) q e = absurd cc
+invoked-under dialogue (Request.go_on context info) answer i (Some n) q e = absurd cc
+invoked-under dialogue (Request.finish ending context info) answer i (Some n) q e = absurd cc
+invoked-under dialogue (Request.u_abort why info) answer i (Some n) q e = absurd cc
+
+invoked-of : (event : Event) (answer : Answer) (i : Invocation) → invoked_of event answer ≡ Some i → IsInvoke (record { event = event; answer = answer }) i
+invoked-of Event.new_dialogue answer i e = absurd cc
+invoked-of (Event.on_dialogue dialogue request) answer i e = invoked-under dialogue request answer i (number_of answer) refl e
+invoked-of (Event.received bytes) answer i e = absurd cc
+invoked-of (Event.moment now) answer i e = absurd cc
+
+pub invoke-made : (pair : Pair) (i : Invocation) → invoked_by pair ≡ Some i → IsInvoke pair i
+invoke-made pair i e = invoked-of pair.event pair.answer i e
+
+-- ---- its identifier and its timeout
+
+abbrev asks : Invocation → CodeParts → Option (List ℕ) → Option ℤ → Request
+asks i code parameter linked = Request.invoke i.id i.class code parameter linked i.timeout
+
+pub made-identifier : (pair : Pair) (i : Invocation) → InRange pair.event → invoked_by pair ≡ Some i → is_identifier i.id ≡ true
+made-identifier pair i within e =
+    let made : IsInvoke pair i = invoke-made pair i e in
+    let asked : Request = asks i made.code made.parameter made.linked in
+    let whole = and_parts (is_short i.dialogue) (is_request asked) (subst InRange made.event within) in
+    let timed = and_parts (is_identifier i.id && is_code made.code && are_octets_if_any made.parameter && is_identifier_if_any made.linked) (is_long i.timeout) whole.1 in
+    let linked = and_parts (is_identifier i.id && is_code made.code && are_octets_if_any made.parameter) (is_identifier_if_any made.linked) timed.0 in
+    let parameter = and_parts (is_identifier i.id && is_code made.code) (are_octets_if_any made.parameter) linked.0 in
+    (and_parts (is_identifier i.id) (is_code made.code) parameter.0).0
+
+not-bad : (a b : Bool) → not (a && b) ≡ false → a ≡ true
+not-bad true b e = refl
+not-bad false b e = absurd cc
+
+pub made-timeout : (start : Start) (pair : Pair) (past : Past) (i : Invocation) → AreReplies start (pair ∷ past) → invoked_by pair ≡ Some i → 0 < i.timeout
+made-timeout start pair past i legal e =
+    let h : History = record { start = start; pairs = past } in
+    let made : IsInvoke pair i = invoke-made pair i e in
+    let asked : Request = asks i made.code made.parameter made.linked in
+    let answered : Answer.number i.number ≡ reply h (Event.on_dialogue i.dialogue asked) = sym made.answer ∙ (legal.1 ∙ ap (reply h) made.event) in
+    let a : IsAccepted h i.dialogue asked = accepted-request h i.dialogue asked (sym (ap is_accepted answered)) in
+    let none = first_that-none (holds (situation_of h i.dialogue (standing_of i.dialogue past a.state a.context) asked) asked) (faults_of asked) a.faultless in
+    ltb-true 0 i.timeout (not-bad (nat_lt 0 i.timeout) (nat_le i.timeout moment_limit) none.1.0)

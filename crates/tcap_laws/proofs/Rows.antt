@@ -1,0 +1,15 @@
+pub mod AnsweredRows
+pub mod BornRows
+pub mod EndingsAgree
+pub mod InvokedRows
+pub mod MovedRows
+pub mod ReceivedRows
+pub mod ReceivedSpans
+pub mod Restaged
+pub mod RowSteps
+pub mod RowsAgree
+pub mod RowsApart
+pub mod SentAgree
+pub mod StageSteps
+pub mod WalkAgree
+pub mod WalkedRows

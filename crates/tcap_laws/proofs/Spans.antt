@@ -1,0 +1,11 @@
+pub mod BornDialogues
+pub mod DecisionSteps
+pub mod DrawnInvocations
+pub mod EarlierMoments
+pub mod EventMarks
+pub mod LatestInvocations
+pub mod QueuedMarks
+pub mod SentClocks
+pub mod SentSpans
+pub mod SpanSteps
+pub mod SupersededInvocations

@@ -1,0 +1,10 @@
+pub mod BegunDialogues
+pub mod BoundedIdentifiers
+pub mod EndsAgree
+pub mod EndsAnswered
+pub mod MovedDialogues
+pub mod OtherDialogues
+pub mod RequestMoves
+pub mod RequestsAgree
+pub mod RequestsMoved
+pub mod StandingPairs

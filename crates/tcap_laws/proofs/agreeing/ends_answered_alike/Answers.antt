@@ -1,0 +1,5 @@
+use Rattle.tcap_laws.proofs.Table.EndsAnswered.{end-answered}
+use Rattle.tcap_laws.proofs.agreeing.ends_answered_alike.Goals as goal
+
+pub returns : goal.returns
+returns c h dialogue d to portion components legal = end-answered h dialogue legal d to portion components

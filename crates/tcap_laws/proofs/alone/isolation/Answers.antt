@@ -1,0 +1,5 @@
+use Rattle.tcap_laws.proofs.Isolation.OnlyMoments.{each-alone}
+use Rattle.tcap_laws.proofs.alone.isolation.Goals as goal
+
+pub returns : goal.returns
+returns c = each-alone

@@ -1,0 +1,5 @@
+use Rattle.tcap_laws.proofs.Isolation.OnlyBytes.{alone-bytes}
+use Rattle.tcap_laws.proofs.alone.only_tells_bytes.Goals as goal
+
+pub returns : goal.returns
+returns c = λ h dialogue bytes legal named. alone-bytes h dialogue legal bytes named

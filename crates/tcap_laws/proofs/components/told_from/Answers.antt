@@ -1,0 +1,5 @@
+use Rattle.tcap_laws.proofs.Receptions.ToldFrom.{told-from}
+use Rattle.tcap_laws.proofs.components.told_from.Goals as goal
+
+pub returns : goal.returns
+returns c = told-from

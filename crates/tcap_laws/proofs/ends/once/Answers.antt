@@ -1,0 +1,5 @@
+use Rattle.tcap_laws.proofs.FarEnds.EndLemmas.{once}
+use Rattle.tcap_laws.proofs.ends.once.Goals as goal
+
+pub returns : goal.returns
+returns c = once

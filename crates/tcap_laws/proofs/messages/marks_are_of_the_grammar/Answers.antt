@@ -1,0 +1,16 @@
+use Rattle.std.proofs.Common.{refl}
+use Rattle.tcap_pdu.specs.FrameReading.{frame_at}
+use Rattle.tcap_laws.proofs.Receptions.ReceivedMarks.{components-marks, spelled-names, means-marks, reached-means}
+use Rattle.tcap_laws.proofs.messages.marks_are_of_the_grammar.Goals as goal
+
+pub returns-clause-components : goal.returns-clause-components
+returns-clause-components c = components-marks
+
+pub returns-clause-named : goal.returns-clause-named
+returns-clause-named c = spelled-names
+
+pub returns-clause-made : goal.returns-clause-made
+returns-clause-made c = means-marks
+
+pub returns-clause-some : goal.returns-clause-some
+returns-clause-some c = λ dialogue id state context bytes pair past reaches. reached-means dialogue id state context bytes pair past reaches (frame_at bytes) refl

@@ -1,0 +1,9 @@
+use Rattle.tcap_laws.proofs.Table.EndsAgree.{request-agrees}
+use Rattle.tcap_laws.proofs.Table.RequestsAgree.{answer-agrees}
+use Rattle.tcap_laws.proofs.standing.requests_answered_alike.Goals as goal
+
+pub returns-clause-standing : goal.returns-clause-standing
+returns-clause-standing c = answer-agrees
+
+pub returns-clause-legal : goal.returns-clause-legal
+returns-clause-legal c h dialogue d request legal = request-agrees h dialogue legal d request

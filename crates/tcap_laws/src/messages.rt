@@ -1,0 +1,82 @@
+//! What is received and what is sent.
+
+ghost use Rattle.std.specs.Prelude.{◌≡◌, ◌≢◌, ℕ, ℤ, ◌<◌, ◌≤◌, List, [], ◌∷◌, ◌++◌, Option, IsTrue, length, option_to_list};
+ghost use Rattle.tcap_pdu.specs.declared.fault.FrameFault.{FrameFault};
+ghost use Rattle.tcap_pdu.specs.FrameFaults.{IsFrameFault};
+ghost use Rattle.tcap_pdu.specs.FrameSpelling.{Message, Reason, SpellsFrame};
+ghost use Rattle.tcap_pdu.specs.FrameWritten.{message_limit};
+ghost use Rattle.tcap_component.specs.Component.{ComponentParts};
+ghost use Rattle.tcap_component.specs.ComponentFault.{FaultParts};
+ghost use Rattle.tcap_component.specs.ComponentList.{FirstFault};
+ghost use Rattle.tcap_component.specs.ComponentReading.{components_of};
+ghost use Rattle.tcap_model.specs.Procedures.AbortRules.{fault_cause};
+ghost use Rattle.tcap_model.specs.Words.Answer.{Answer};
+ghost use Rattle.tcap_model.specs.Procedures.Destination.{destination};
+ghost use Rattle.tcap_model.specs.Words.Event.{Event};
+ghost use Rattle.tcap_model.specs.Words.Fault.{Fault};
+ghost use Rattle.tcap_model.specs.Histories.History.{History};
+ghost use Rattle.tcap_model.specs.Histories.Life.{life, live_in};
+ghost use Rattle.tcap_model.specs.Invocations.Marks.{Mark, component_marks, marks};
+ghost use Rattle.tcap_model.specs.Histories.Names.{is_destined, names};
+ghost use Rattle.tcap_model.specs.Words.Output.{AbortCause, DropCause, Output};
+ghost use Rattle.tcap_model.specs.Histories.Pair.{Pair, Past};
+ghost use Rattle.tcap_model.specs.Statements.Places.{Tells};
+ghost use Rattle.tcap_model.specs.Procedures.PortionRules.{PortionVerdict, portion_verdict};
+ghost use Rattle.tcap_model.specs.Statements.ReceivedMark.{Means, Reaches, marks_of_components, noted_at};
+ghost use Rattle.tcap_model.specs.Replies.Reply.{ended_in, reply, taken_outputs};
+ghost use Rattle.tcap_model.specs.Words.Request.{Request};
+ghost use Rattle.tcap_model.specs.Statements.SentMessage.{IsMessage, SentForRequest, SentForBytes};
+ghost use Rattle.tcap_model.specs.Words.State.{State};
+
+/// Received bytes are never refused and never lost in silence: something is always sent or told of
+/// them, if only that they are dropped (our own).
+pub fn bytes_are_never_refused()
+    ensures never { (h : History) (bytes : List ℕ) (fault : Fault) → reply h (Event.received bytes) ≢ Answer.refused fault }
+    ensures told { (h : History) (bytes : List ℕ) →
+        (first : Output) × (others : List Output) × (reply h (Event.received bytes) ≡ Answer.outputs (first ∷ others)) }
+{}
+
+/// Bytes that are longer than a message may be are dropped (our own).
+pub fn too_long_is_dropped()
+    ensures { (h : History) (bytes : List ℕ) → message_limit < length bytes →
+        reply h (Event.received bytes) ≡ Answer.outputs (Output.dropped DropCause.too_long ∷ []) }
+{}
+
+/// A live dialogue answers the bytes that name it: the message that they spell, or a faulty one
+/// (Q.774, Transaction sublayer procedures).
+pub fn bytes_reach_their_dialogue()
+    ensures taken { (h : History) (dialogue : ℕ) (bytes : List ℕ) → IsTrue (names (Event.received bytes) dialogue) →
+        IsTrue (live_in (life dialogue h.pairs)) → (m : Message) → SpellsFrame m bytes →
+        reply h (Event.received bytes) ≡ Answer.outputs (taken_outputs dialogue h.pairs (life dialogue h.pairs) m) }
+    ensures broken { (h : History) (dialogue : ℕ) (bytes : List ℕ) → IsTrue (names (Event.received bytes) dialogue) →
+        IsTrue (live_in (life dialogue h.pairs)) → (f : FrameFault) → IsFrameFault bytes f →
+        (abort : Option Output) × (reply h (Event.received bytes) ≡ Answer.outputs (option_to_list abort ++ Output.p_abort dialogue (AbortCause.cause (fault_cause f)) ∷ ended_in dialogue h.pairs [])) }
+{}
+
+/// What is sent is a message in the canonical form, which the octets spell; for a request it is the
+/// request's own message, and for received bytes an Abort (Q.773, Structure of TC messages).
+pub fn sends_spell()
+    ensures message { (h : History) (event : Event) (bytes : List ℕ) → Tells (reply h event) (Output.send bytes) →
+        (m : Message) × IsMessage m bytes }
+    ensures for_request { (h : History) (dialogue : ℕ) (request : Request) (bytes : List ℕ) →
+        Tells (reply h (Event.on_dialogue dialogue request)) (Output.send bytes) →
+        SentForRequest h dialogue request bytes }
+    ensures for_bytes { (h : History) (received bytes : List ℕ) →
+        Tells (reply h (Event.received received)) (Output.send bytes) → SentForBytes bytes }
+{}
+
+/// The marks of received bytes are those of the message that the bytes spell, and bytes that reach a
+/// dialogue always have a meaning: their components up to the first fault where the dialogue portion
+/// is as it should be, and else the dialogue's end (Q.774, Invocation state machine).
+pub fn marks_are_of_the_grammar()
+    ensures components { (id : ℤ) (components : List ComponentParts) (fault : Option FaultParts) (content : List ℕ) →
+        FirstFault components fault content →
+        component_marks id (components_of content) ≡ marks_of_components id components }
+    ensures named { (dialogue : ℕ) (m : Message) (bytes : List ℕ) → SpellsFrame m bytes → length bytes ≤ message_limit →
+        names (Event.received bytes) dialogue ≡ is_destined dialogue (destination m) }
+    ensures made { (dialogue : ℕ) (id : ℤ) (state : State) (context : Option (List ℕ)) (bytes : List ℕ) (pair : Pair) (past : Past) →
+        Reaches dialogue state context bytes pair past → (made : List Mark) →
+        Means state context id bytes made → marks dialogue id pair past ≡ noted_at past made }
+    ensures some { (dialogue : ℕ) (id : ℤ) (state : State) (context : Option (List ℕ)) (bytes : List ℕ) (pair : Pair) (past : Past) →
+        Reaches dialogue state context bytes pair past → (made : List Mark) × Means state context id bytes made }
+{}

@@ -1,5 +1,0 @@
-use Rattle.tcap_model.proofs.EndsAnswered.{end-answered}
-use Rattle.tcap_model.proofs.laws.agreeing.ends_answered_alike.Goals as goal
-
-pub returns : goal.returns
-returns c h dialogue d to portion components legal = end-answered h dialogue legal d to portion components

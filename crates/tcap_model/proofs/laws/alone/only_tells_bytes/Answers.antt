@@ -1,5 +1,0 @@
-use Rattle.tcap_model.proofs.OnlyBytes.{alone-bytes}
-use Rattle.tcap_model.proofs.laws.alone.only_tells_bytes.Goals as goal
-
-pub returns : goal.returns
-returns c = λ h dialogue bytes legal named. alone-bytes h dialogue legal bytes named

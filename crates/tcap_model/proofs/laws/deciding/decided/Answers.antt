@@ -1,5 +1,0 @@
-use Rattle.tcap_model.proofs.DecidedHistories.{closings_are}
-use Rattle.tcap_model.proofs.laws.deciding.decided.Goals as goal
-
-pub returns : goal.returns
-returns c = λ h n legal. closings_are h.start h.pairs n legal.1

@@ -1,5 +1,0 @@
-use Rattle.tcap_model.proofs.LatestInvocations.{latest_is}
-use Rattle.tcap_model.proofs.laws.invoking.latest_is_of_its_number.Goals as goal
-
-pub returns : goal.returns
-returns c = λ h dialogue id i legal e. let l = latest_is h.start h.pairs dialogue id i legal.1 e in (l.dialogue_is, l.id_is, l.is_found)

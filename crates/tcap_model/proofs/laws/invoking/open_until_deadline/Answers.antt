@@ -1,9 +1,0 @@
-use Rattle.tcap_model.proofs.CountedHistories.{open_before}
-use Rattle.tcap_model.proofs.SentClocks.{deadline_within}
-use Rattle.tcap_model.proofs.laws.invoking.open_until_deadline.Goals as goal
-
-pub returns-clause-within : goal.returns-clause-within
-returns-clause-within c = deadline_within
-
-pub returns-clause-before : goal.returns-clause-before
-returns-clause-before c = λ h n i until legal found none at. open_before h.start h.pairs n legal.1 i until found none at

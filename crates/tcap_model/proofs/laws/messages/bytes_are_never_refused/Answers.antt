@@ -1,5 +1,0 @@
-use Rattle.tcap_model.proofs.ReachedReplies.{some-reply}
-use Rattle.tcap_model.proofs.laws.messages.bytes_are_never_refused.Goals as goal
-
-pub returns-clause-told : goal.returns-clause-told
-returns-clause-told c = some-reply

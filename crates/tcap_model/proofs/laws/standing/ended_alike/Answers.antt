@@ -1,5 +1,0 @@
-use Rattle.tcap_model.proofs.EndingsAgree.{ended-agrees}
-use Rattle.tcap_model.proofs.laws.standing.ended_alike.Goals as goal
-
-pub returns : goal.returns
-returns c h dialogue legal = ended-agrees h.start.reject_ms dialogue h.start h.pairs legal.1

@@ -1,9 +1,0 @@
-use Rattle.tcap_model.proofs.EndsAgree.{request-agrees}
-use Rattle.tcap_model.proofs.RequestsAgree.{answer-agrees}
-use Rattle.tcap_model.proofs.laws.standing.requests_answered_alike.Goals as goal
-
-pub returns-clause-standing : goal.returns-clause-standing
-returns-clause-standing c = answer-agrees
-
-pub returns-clause-legal : goal.returns-clause-legal
-returns-clause-legal c h dialogue d request legal = request-agrees h dialogue legal d request

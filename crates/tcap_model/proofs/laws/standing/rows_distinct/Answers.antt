@@ -1,5 +1,0 @@
-use Rattle.tcap_model.proofs.RowsApart as apart
-use Rattle.tcap_model.proofs.laws.standing.rows_distinct.Goals as goal
-
-pub returns : goal.returns
-returns c h dialogue legal = apart.rows_distinct h.start h.pairs legal.1 h.start.reject_ms dialogue

@@ -1,5 +1,0 @@
-use Rattle.tcap_model.proofs.SentAgree.{sent-rows}
-use Rattle.tcap_model.proofs.laws.standing.sent_alike.Goals as goal
-
-pub returns : goal.returns
-returns c h dialogue id legal = sent-rows h.start h.pairs legal.1 h.start.reject_ms dialogue id

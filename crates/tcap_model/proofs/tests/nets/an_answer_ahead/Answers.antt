@@ -1,5 +1,0 @@
-use Rattle.tcap_model.proofs.NetsWork.{ahead-uses_once}
-use Rattle.tcap_model.proofs.tests.nets.an_answer_ahead.Goals as goal
-
-pub returns-clause-uses_once : goal.returns-clause-uses_once
-returns-clause-uses_once c = ahead-uses_once

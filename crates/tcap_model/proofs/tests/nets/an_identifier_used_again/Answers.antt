@@ -1,8 +1,0 @@
-use Rattle.tcap_model.proofs.NetsBroken.{again-answers, again-used_twice}
-use Rattle.tcap_model.proofs.tests.nets.an_identifier_used_again.Goals as goal
-
-pub returns-clause-answers_what_it_was_told : goal.returns-clause-answers_what_it_was_told
-returns-clause-answers_what_it_was_told c = again-answers
-
-pub returns-clause-used_twice : goal.returns-clause-used_twice
-returns-clause-used_twice c = again-used_twice

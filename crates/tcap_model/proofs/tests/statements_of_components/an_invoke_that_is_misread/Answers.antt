@@ -1,5 +1,0 @@
-use Rattle.tcap_model.proofs.ComponentsBroken.{misread-not_told_from}
-use Rattle.tcap_model.proofs.tests.statements_of_components.an_invoke_that_is_misread.Goals as goal
-
-pub returns-clause-not_told_from : goal.returns-clause-not_told_from
-returns-clause-not_told_from c = misread-not_told_from

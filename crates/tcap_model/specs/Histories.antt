@@ -1,0 +1,6 @@
+pub mod Birth
+pub mod Clock
+pub mod History
+pub mod Life
+pub mod Names
+pub mod Pair

@@ -1,0 +1,81 @@
+-- How dialogues come to be, and which identifier is drawn next.
+use Rattle.std.specs.Prelude.{ℕ, ◌+◌, List, [], ◌∷◌, Bool, Option, Some, None, is_some, option_to_list, if◌then◌else◌}
+use Rattle.std.specs.Option.{option_or}
+use Rattle.std.specs.List.{list_any}
+use Rattle.tcap_model.specs.Words.Answer.{Answer}
+use Rattle.tcap_model.specs.Words.Event.{Event}
+use Rattle.tcap_model.specs.Histories.History.{History}
+use Rattle.tcap_model.specs.Words.LocalId.{is_that}
+use Rattle.tcap_model.specs.Words.Output.{Output}
+use Rattle.tcap_model.specs.Histories.Pair.{Pair, Past, gathered}
+
+-- The dialogue of a TC-BEGIN indication (Q.771, Dialogue begin).
+abbrev pub begun : Output → Option ℕ
+begun (Output.send bytes) = None
+begun (Output.uni context info) = None
+begun (Output.begin dialogue context info) = Some dialogue
+begun (Output.go_on dialogue context info) = None
+begun (Output.end dialogue context info) = None
+begun (Output.u_abort dialogue pdu) = None
+begun (Output.p_abort dialogue why) = None
+begun (Output.invoked dialogue id linked code parameter) = None
+begun (Output.result_more dialogue number id body) = None
+begun (Output.local_reject dialogue id problem) = None
+begun (Output.remote_reject dialogue id problem by) = None
+begun (Output.closed dialogue number id closing) = None
+begun (Output.dropped why) = None
+
+-- The dialogue of the first TC-BEGIN indication among some outputs (Q.771, Dialogue begin).
+abbrev pub first_begun : List Output → Option ℕ
+first_begun [] = None
+first_begun (output ∷ outputs) = option_or (begun output) (first_begun outputs)
+
+-- The dialogue that was asked for and that an answer gives (own).
+abbrev pub born_on_request : Answer → Option ℕ
+born_on_request (Answer.new_dialogue dialogue) = Some dialogue
+born_on_request (Answer.number n) = None
+born_on_request Answer.done = None
+born_on_request (Answer.given_up n) = None
+born_on_request (Answer.outputs outputs) = None
+born_on_request (Answer.refused fault) = None
+
+-- The dialogue that the peer began, by the answer to its message (Q.774, Dialogue begin).
+abbrev pub born_on_message : Answer → Option ℕ
+born_on_message (Answer.new_dialogue dialogue) = None
+born_on_message (Answer.number n) = None
+born_on_message Answer.done = None
+born_on_message (Answer.given_up n) = None
+born_on_message (Answer.outputs outputs) = first_begun outputs
+born_on_message (Answer.refused fault) = None
+
+-- The dialogue that an event with this answer gives birth to (own).
+abbrev pub born_of : Event → Answer → Option ℕ
+born_of Event.new_dialogue answer = born_on_request answer
+born_of (Event.on_dialogue dialogue request) answer = None
+born_of (Event.received bytes) answer = born_on_message answer
+born_of (Event.moment now) answer = None
+
+-- The dialogue that a pair gives birth to, if any (own).
+abbrev pub born_by : Pair → Option ℕ
+born_by pair = born_of pair.event pair.answer
+
+-- How many dialogues were born (own).
+abbrev pub births : Past → ℕ
+births [] = 0
+births (pair ∷ past) = if is_some (born_by pair) then births past + 1 else births past
+
+-- The identifier of the next dialogue: they are drawn from a counter, each once (own).
+abbrev pub next_dialogue : History → ℕ
+next_dialogue history = history.start.next_dialogue + births history.pairs
+
+-- The dialogues that were born, in order of birth (own).
+abbrev pub dialogues : Past → List ℕ
+dialogues past = gathered (λ pair before. option_to_list (born_by pair)) past
+
+-- Whether this pair is the birth of the dialogue (own).
+abbrev pub is_birth_of : ℕ → Pair → Bool
+is_birth_of dialogue pair = is_that dialogue (born_by pair)
+
+-- Whether the dialogue was born (own).
+abbrev pub was_born : ℕ → Past → Bool
+was_born dialogue past = list_any (is_birth_of dialogue) past

@@ -1,0 +1,10 @@
+pub mod Closes
+pub mod Closings
+pub mod Deadline
+pub mod Decision
+pub mod Invocation
+pub mod Marks
+pub mod Numbers
+pub mod Outcome
+pub mod Reuse
+pub mod Span

@@ -1,0 +1,142 @@
+-- What one event means for one invoke identifier of a dialogue.
+use Rattle.std.specs.Prelude.{ℕ, ℤ, List, [], ◌∷◌, ◌++◌, Bool, true, false, Option, Some, None, Result, Ok, Err, map, if◌then◌else◌}
+use Rattle.std.specs.Ordering.{int_eq}
+use Rattle.tcap_pdu.specs.declared.fault.FrameFault.{FrameFault}
+use Rattle.tcap_pdu.specs.FrameSpelling.{Message}
+use Rattle.tcap_pdu.specs.FrameReading.{frame_at}
+use Rattle.tcap_component.specs.declared.problem.Kind.{Kind}
+use Rattle.tcap_component.specs.declared.problem.Kind.TheVariants as kind
+use Rattle.tcap_component.specs.Problem.{ProblemParts}
+use Rattle.tcap_component.specs.Component.{CodeParts, BodyParts, ComponentParts}
+use Rattle.tcap_component.specs.ComponentFault.{FaultParts}
+use Rattle.tcap_component.specs.ComponentReading.{components_of}
+use Rattle.tcap_model.specs.Words.Answer.{is_accepted}
+use Rattle.tcap_model.specs.Histories.Clock.{clock}
+use Rattle.tcap_model.specs.Words.Event.{Event}
+use Rattle.tcap_model.specs.Histories.Life.{Life, is_over, life, life_after}
+use Rattle.tcap_model.specs.Histories.Names.{names}
+use Rattle.tcap_model.specs.Histories.Pair.{Pair, Past}
+use Rattle.tcap_model.specs.Procedures.PortionRules.{PortionVerdict, portion_verdict}
+use Rattle.tcap_model.specs.Words.Request.{Request, Ending}
+use Rattle.tcap_model.specs.Words.State.{State, is_live}
+
+-- A message goes out that takes the queue; the dialogue ends; the user gives the invocation up; a
+-- moment; a Return Result Last, a Return Result Not Last, a Return Error, and a Reject of the Invoke
+-- (Q.774, Invocation state machine).
+pub data Mark : Type 0 where
+  sent end given_up : Mark
+  moment : (now : ℕ) → Mark
+  last : (body : Option BodyParts) → Mark
+  more : (body : Option BodyParts) → Mark
+  error : (code : CodeParts) (parameter : Option (List ℕ)) → Mark
+  reject : (problem : ProblemParts) → Mark
+
+-- A mark, and the clock before its event (own).
+pub record Noted : Type 0 where
+  pub clock : ℕ
+  pub mark : Mark
+
+-- ---- components
+
+-- The mark, if the identifier is this one (own).
+abbrev pub marked : ℤ → ℤ → Mark → List Mark
+marked id named mark = if int_eq named id then mark ∷ [] else []
+
+-- A Reject with a General or Invoke problem rejects the Invoke; one with a Return Result or Return
+-- Error problem rejects an answer that was sent from here (Q.774, Component sublayer procedures).
+abbrev pub reject_marks : ℤ → ℤ → ProblemParts → Kind → List Mark
+reject_marks id named problem kind.General = marked id named (Mark.reject problem)
+reject_marks id named problem kind.Invoke = marked id named (Mark.reject problem)
+reject_marks id named problem kind.Result = []
+reject_marks id named problem kind.Error = []
+
+-- What one component means for an identifier (Q.774, Component sublayer procedures).
+abbrev pub marks_of_component : ℤ → ComponentParts → List Mark
+marks_of_component id (ComponentParts.invoke named linked code parameter) = []
+marks_of_component id (ComponentParts.result_last named body) = marked id named (Mark.last body)
+marks_of_component id (ComponentParts.error_back named code parameter) = marked id named (Mark.error code parameter)
+marks_of_component id (ComponentParts.reject_back None problem) = []
+marks_of_component id (ComponentParts.reject_back (Some named) problem) = reject_marks id named problem problem.kind
+marks_of_component id (ComponentParts.result_more named body) = marked id named (Mark.more body)
+
+-- What the components before the first fault mean for an identifier
+-- (Q.774, Component sublayer procedures; that a fault ends the list is own).
+abbrev pub component_marks : ℤ → List (Result ComponentParts FaultParts) → List Mark
+component_marks id [] = []
+component_marks id (Ok component ∷ others) = marks_of_component id component ++ component_marks id others
+component_marks id (Err fault ∷ others) = []
+
+-- ---- events
+
+-- The dialogue ends by this event (own).
+abbrev pub ending : Life → Life → List Mark
+ending before after = if is_over before then [] else (if is_over after then Mark.end ∷ [] else [])
+
+-- An accepted request: TC-BEGIN, TC-CONTINUE, TC-UNI and a basic TC-END send the queue, TC-UNI and
+-- TC-END end the dialogue besides; TC-U-CANCEL gives up the invocation that it names; a prearranged
+-- end and TC-U-ABORT end the dialogue (Q.774, Invocation state machine).
+abbrev pub marks_by_request : ℤ → Life → Life → Request → List Mark
+marks_by_request id before after (Request.invoke named class code parameter linked timeout) = ending before after
+marks_by_request id before after (Request.result_last named body) = ending before after
+marks_by_request id before after (Request.result_more named body) = ending before after
+marks_by_request id before after (Request.error_back named code parameter) = ending before after
+marks_by_request id before after (Request.u_reject named problem) = ending before after
+marks_by_request id before after (Request.u_cancel named) = marked id named Mark.given_up
+marks_by_request id before after (Request.uni context info) = Mark.sent ∷ Mark.end ∷ []
+marks_by_request id before after (Request.begin context info) = Mark.sent ∷ []
+marks_by_request id before after (Request.go_on context info) = Mark.sent ∷ []
+marks_by_request id before after (Request.finish Ending.basic context info) = Mark.sent ∷ Mark.end ∷ []
+marks_by_request id before after (Request.finish Ending.prearranged context info) = ending before after
+marks_by_request id before after (Request.u_abort why info) = ending before after
+
+-- The components of a message count if its dialogue portion is as it should be (own).
+abbrev pub if_normal : PortionVerdict → List Mark → List Mark → List Mark
+if_normal (PortionVerdict.normal context info) marks other = marks
+if_normal PortionVerdict.abnormal marks other = other
+
+-- A message to a live dialogue: a normal Continue by its components, a normal End by its components
+-- and then the end, any other by the end (Q.774, Invocation state machine).
+abbrev pub marks_by_message : ℤ → State → Option (List ℕ) → List Mark → Result Message FrameFault → List Mark
+marks_by_message id state context other (Ok (Message.go_on origin to portion components)) = if_normal (portion_verdict state context portion) (component_marks id (components_of components)) other
+marks_by_message id state context other (Ok (Message.end to portion components)) = if_normal (portion_verdict state context portion) (component_marks id (components_of components) ++ Mark.end ∷ []) other
+marks_by_message id state context other (Ok (Message.abort to reason)) = other
+marks_by_message id state context other (Ok (Message.unidirectional portion components)) = other
+marks_by_message id state context other (Ok (Message.begin origin portion components)) = other
+marks_by_message id state context other (Err fault) = other
+
+-- A dialogue that isn't live takes no message (own).
+abbrev pub marks_if_live : Bool → ℤ → State → Option (List ℕ) → List Mark → List ℕ → List Mark
+marks_if_live false id state context other bytes = other
+marks_if_live true id state context other bytes = marks_by_message id state context other (frame_at bytes)
+
+-- Received bytes, by the life before them (own).
+abbrev pub marks_by_bytes : ℤ → Life → List Mark → List ℕ → List Mark
+marks_by_bytes id Life.unborn other bytes = other
+marks_by_bytes id (Life.standing state context) other bytes = marks_if_live (is_live state) id state context other bytes
+marks_by_bytes id Life.over other bytes = other
+
+-- What an event that names the dialogue means, by the lives before and after it and by whether it
+-- was accepted (own).
+abbrev pub marks_by_event : ℤ → Life → Life → Event → Bool → List Mark
+marks_by_event id before after Event.new_dialogue accepted = ending before after
+marks_by_event id before after (Event.on_dialogue dialogue request) true = marks_by_request id before after request
+marks_by_event id before after (Event.on_dialogue dialogue request) false = ending before after
+marks_by_event id before after (Event.received bytes) accepted = marks_by_bytes id before (ending before after) bytes
+marks_by_event id before after (Event.moment now) true = Mark.moment now ∷ []
+marks_by_event id before after (Event.moment now) false = ending before after
+
+-- An event that doesn't name the dialogue means nothing (own).
+abbrev pub marks_if_named : Bool → ℕ → ℤ → Life → Pair → List Mark
+marks_if_named false dialogue id before pair = []
+marks_if_named true dialogue id before pair = marks_by_event id before (life_after dialogue before pair) pair.event (is_accepted pair.answer)
+
+-- An event up to the birth means nothing (own).
+abbrev pub marks_after_birth : ℕ → ℤ → Life → Pair → List Mark
+marks_after_birth dialogue id Life.unborn pair = []
+marks_after_birth dialogue id (Life.standing state context) pair = marks_if_named (names pair.event dialogue) dialogue id (Life.standing state context) pair
+marks_after_birth dialogue id Life.over pair = marks_if_named (names pair.event dialogue) dialogue id Life.over pair
+
+-- What a pair means for an identifier of a dialogue, in order, by what stands before it
+-- (Q.774, Invocation state machine).
+abbrev pub marks : ℕ → ℤ → Pair → Past → List Noted
+marks dialogue id pair past = map (λ mark. record { clock = clock past; mark = mark }) (marks_after_birth dialogue id (life dialogue past) pair)

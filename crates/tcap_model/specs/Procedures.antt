@@ -1,0 +1,12 @@
+pub mod AbortRules
+pub mod ComponentHandling
+pub mod ComponentRequest
+pub mod Destination
+pub mod PortionRules
+pub mod Problems
+pub mod QueueRules
+pub mod Reception
+pub mod Refusals
+pub mod RequestMessage
+pub mod Standing
+pub mod States

@@ -1,0 +1,140 @@
+-- What one received component tells and which Reject it has.
+use Rattle.std.specs.Prelude.{ℕ, ℤ, List, Option, Some, None, Result, Ok, Err, map, if◌then◌else◌}
+use Rattle.tcap_component.specs.Problem.{ProblemParts}
+use Rattle.tcap_component.specs.Component.{ComponentParts, CodeParts, BodyParts}
+use Rattle.tcap_component.specs.Component.ComponentParts.{invoke, result_last, error_back, reject_back, result_more}
+use Rattle.tcap_component.specs.ComponentFault.{FaultParts}
+use Rattle.tcap_invocation.specs.declared.class.Class.{Class}
+use Rattle.tcap_invocation.specs.Class.{Received, Consequence, class_rule}
+use Rattle.tcap_model.specs.Words.Output.{Output, Closing, Rejector}
+use Rattle.tcap_model.specs.Procedures.Problems.{unrecognized_linked, unrecognized_result, unexpected_result, unrecognized_error, unexpected_error, remote_rejector}
+
+-- A component that was read, or the fault of one that can't be read (own).
+abbrev pub Item : Type 0
+Item = Result ComponentParts FaultParts
+
+-- An invocation that is Sent: its dialogue, its number and its operation class (own).
+pub record SentInvocation : Type 0 where
+  pub dialogue : ℕ
+  pub number : ℕ
+  pub class : Class
+
+-- The invoke identifier whose invocation a component is about: the linked one of an Invoke, the one
+-- that a result, an error or a Reject answers (Q.774, Component handling).
+abbrev pub subject_of : Item → Option ℤ
+subject_of (Ok (invoke id linked code parameter)) = linked
+subject_of (Ok (result_last id body)) = Some id
+subject_of (Ok (error_back id code parameter)) = Some id
+subject_of (Ok (reject_back id problem)) = id
+subject_of (Ok (result_more id body)) = Some id
+subject_of (Err f) = None
+
+-- What a component tells, and the Reject that answers it, if one does (own).
+pub record Handled : Type 0 where
+  pub told : Output
+  pub reject : Option ComponentParts
+
+-- A component that is told and not rejected (own).
+abbrev pub telling : Output → Handled
+telling output = record { told = output; reject = None }
+
+-- A component that is rejected here: the user is told and the peer gets a Reject
+-- (Q.774, Component related abnormal conditions).
+abbrev pub rejecting : Option ℕ → Option ℤ → ProblemParts → Handled
+rejecting dialogue id problem =
+    record { told = Output.local_reject dialogue id problem; reject = Some (reject_back id problem) }
+
+-- An answer that closes the invocation (Q.774, Invocation state machine).
+abbrev pub closing : SentInvocation → ℤ → Closing → Handled
+closing sent id how = telling (Output.closed sent.dialogue sent.number id how)
+
+-- An answer that the operation class doesn't have: it closes the invocation, which is told as a local
+-- Reject, and the peer gets the Reject (Q.774, Component related abnormal conditions).
+abbrev pub closing_unexpected : SentInvocation → ℤ → ProblemParts → Handled
+closing_unexpected sent id problem =
+    record { told = Output.closed sent.dialogue sent.number id (Closing.rejected problem Rejector.local); reject = Some (reject_back (Some id) problem) }
+
+-- An Invoke is told: it has no linked identifier, or that of an invocation that is Sent; with any
+-- other linked identifier it is rejected (Q.774, Component handling).
+abbrev pub invoke_handled : Option ℕ → Option SentInvocation → ℤ → Option ℤ → CodeParts → Option (List ℕ) → Handled
+invoke_handled dialogue sent id None code parameter = telling (Output.invoked dialogue id None code parameter)
+invoke_handled dialogue (Some sent) id (Some linked) code parameter = telling (Output.invoked dialogue id (Some linked) code parameter)
+invoke_handled dialogue None id (Some linked) code parameter = rejecting dialogue (Some id) unrecognized_linked
+
+-- A Return Result for an invocation that is Sent, by what comes of it for its class; what never comes
+-- of a result is told as for an identifier that isn't Sent (Q.774, Component handling).
+abbrev pub result_by : SentInvocation → ℤ → Option BodyParts → Consequence → Handled
+result_by sent id body Consequence.result_last = closing sent id (Closing.result_last body)
+result_by sent id body Consequence.result_more = telling (Output.result_more sent.dialogue sent.number id body)
+result_by sent id body Consequence.rejected_result = closing_unexpected sent id unexpected_result
+result_by sent id body Consequence.error_back = rejecting (Some sent.dialogue) (Some id) unrecognized_result
+result_by sent id body Consequence.rejected_error = rejecting (Some sent.dialogue) (Some id) unrecognized_result
+result_by sent id body Consequence.rejected = rejecting (Some sent.dialogue) (Some id) unrecognized_result
+result_by sent id body Consequence.not_of_the_invoke = rejecting (Some sent.dialogue) (Some id) unrecognized_result
+
+-- A Return Result, Last or Not Last (Q.774, Component handling).
+abbrev pub result_handled : Option ℕ → Option SentInvocation → ℤ → Option BodyParts → Received → Handled
+result_handled dialogue None id body received = rejecting dialogue (Some id) unrecognized_result
+result_handled dialogue (Some sent) id body received = result_by sent id body (class_rule sent.class received)
+
+-- A Return Error for an invocation that is Sent, by what comes of it for its class; what never comes
+-- of an error is told as for an identifier that isn't Sent (Q.774, Component handling).
+abbrev pub error_by : SentInvocation → ℤ → CodeParts → Option (List ℕ) → Consequence → Handled
+error_by sent id code parameter Consequence.error_back = closing sent id (Closing.error_back code parameter)
+error_by sent id code parameter Consequence.rejected_error = closing_unexpected sent id unexpected_error
+error_by sent id code parameter Consequence.result_last = rejecting (Some sent.dialogue) (Some id) unrecognized_error
+error_by sent id code parameter Consequence.result_more = rejecting (Some sent.dialogue) (Some id) unrecognized_error
+error_by sent id code parameter Consequence.rejected_result = rejecting (Some sent.dialogue) (Some id) unrecognized_error
+error_by sent id code parameter Consequence.rejected = rejecting (Some sent.dialogue) (Some id) unrecognized_error
+error_by sent id code parameter Consequence.not_of_the_invoke = rejecting (Some sent.dialogue) (Some id) unrecognized_error
+
+-- A Return Error (Q.774, Component handling).
+abbrev pub error_handled : Option ℕ → Option SentInvocation → ℤ → CodeParts → Option (List ℕ) → Handled
+error_handled dialogue None id code parameter = rejecting dialogue (Some id) unrecognized_error
+error_handled dialogue (Some sent) id code parameter = error_by sent id code parameter (class_rule sent.class Received.return_error)
+
+-- A Reject that closes no invocation (Q.774, Component handling).
+abbrev pub remote : Option ℕ → Option ℤ → ProblemParts → Handled
+remote dialogue id problem = telling (Output.remote_reject dialogue id problem (remote_rejector problem))
+
+-- A Reject for an invocation that is Sent, by what comes of it: one of the Invoke closes it
+-- (Q.774, Component handling).
+abbrev pub reject_by : SentInvocation → ℤ → ProblemParts → Consequence → Handled
+reject_by sent id problem Consequence.rejected = closing sent id (Closing.rejected problem (remote_rejector problem))
+reject_by sent id problem Consequence.result_last = remote (Some sent.dialogue) (Some id) problem
+reject_by sent id problem Consequence.result_more = remote (Some sent.dialogue) (Some id) problem
+reject_by sent id problem Consequence.error_back = remote (Some sent.dialogue) (Some id) problem
+reject_by sent id problem Consequence.rejected_result = remote (Some sent.dialogue) (Some id) problem
+reject_by sent id problem Consequence.rejected_error = remote (Some sent.dialogue) (Some id) problem
+reject_by sent id problem Consequence.not_of_the_invoke = remote (Some sent.dialogue) (Some id) problem
+
+-- A Reject, which may be without an identifier (Q.774, Component handling).
+abbrev pub reject_handled : Option ℕ → Option SentInvocation → Option ℤ → ProblemParts → Handled
+reject_handled dialogue sent None problem = remote dialogue None problem
+reject_handled dialogue None (Some id) problem = remote dialogue (Some id) problem
+reject_handled dialogue (Some sent) (Some id) problem = reject_by sent id problem (class_rule sent.class (Received.reject problem.kind))
+
+-- The Reject of a component that can't be read; a faulty Reject isn't answered, so that no two sides
+-- reject one another without end (Q.774, Component related abnormal conditions).
+abbrev pub fault_reject : FaultParts → Option ComponentParts
+fault_reject f = if f.was_reject then None else Some (reject_back f.id f.problem)
+
+-- What a component of a dialogue, or of a Unidirectional, tells and which Reject it has, given whether
+-- the invocation that it is about is Sent, and which it is. A component that can't be read is told as
+-- a local Reject and closes nothing (Q.774, Component handling; that it closes nothing is own).
+abbrev pub handled : Option ℕ → Option SentInvocation → Item → Handled
+handled dialogue sent (Ok (invoke id linked code parameter)) = invoke_handled dialogue sent id linked code parameter
+handled dialogue sent (Ok (result_last id body)) = result_handled dialogue sent id body Received.return_result_last
+handled dialogue sent (Ok (result_more id body)) = result_handled dialogue sent id body Received.return_result_not_last
+handled dialogue sent (Ok (error_back id code parameter)) = error_handled dialogue sent id code parameter
+handled dialogue sent (Ok (reject_back id problem)) = reject_handled dialogue sent id problem
+handled dialogue sent (Err f) = record { told = Output.local_reject dialogue f.id f.problem; reject = fault_reject f }
+
+-- What some components tell (Q.774, Component handling).
+abbrev pub told_of : List Handled → List Output
+told_of components = map (λ (h : Handled). h.told) components
+
+-- What the components of a Unidirectional tell: no invocation is Sent there, and no Reject goes out
+-- (Q.774, Unstructured dialogue).
+abbrev pub uni_told : List Item → List Output
+uni_told items = map (λ item. (handled None None item).told) items

@@ -1,0 +1,5 @@
+pub mod Due
+pub mod Held
+pub mod Legal
+pub mod Queue
+pub mod Reply

@@ -1,0 +1,179 @@
+-- What is answered to an event, from the history alone.
+use Rattle.std.specs.Prelude.{ℕ, ◌==◌, ◌&&◌, ◌||◌, Bool, nat_lt, nat_le, List, [], ◌∷◌, ◌++◌, map, option_to_list, filter_map, Option, Some, None, is_none, is_some, if◌then◌else◌}
+use Rattle.tcap_pdu.specs.FrameSpelling.{Message}
+use Rattle.tcap_component.specs.ComponentReading.{components_of}
+use Rattle.tcap_model.specs.Procedures.AbortRules.{sent_if_any, abort_told, abnormal_abort}
+use Rattle.tcap_model.specs.Words.Answer.{Answer}
+use Rattle.tcap_model.specs.Histories.Birth.{next_dialogue}
+use Rattle.tcap_model.specs.Histories.Clock.{clock}
+use Rattle.tcap_model.specs.Procedures.ComponentHandling.{Item, told_of, uni_told}
+use Rattle.tcap_model.specs.Invocations.Deadline.{deadline}
+use Rattle.tcap_model.specs.Replies.Due.{standing_of, due, birth_due}
+use Rattle.tcap_model.specs.Words.Event.{Event}
+use Rattle.tcap_model.specs.Words.Fault.{Fault}
+use Rattle.tcap_model.specs.Replies.Held.{pending}
+use Rattle.tcap_model.specs.Histories.History.{History}
+use Rattle.tcap_model.specs.Invocations.Invocation.{Invocation, invocations, next_number}
+use Rattle.tcap_model.specs.Histories.Life.{Life, life, live_in}
+use Rattle.tcap_model.specs.Invocations.Outcome.{first_closing, is_sent_in}
+use Rattle.tcap_model.specs.Words.Output.{Output, Closing, AbortCause}
+use Rattle.tcap_model.specs.Histories.Pair.{Past}
+use Rattle.tcap_model.specs.Procedures.PortionRules.{PortionVerdict, portion_verdict}
+use Rattle.tcap_model.specs.Replies.Queue.{marks_up_to, handled_in}
+use Rattle.tcap_model.specs.Procedures.Reception.{Reception, reception}
+use Rattle.tcap_model.specs.Words.Request.{Request}
+use Rattle.tcap_model.specs.Procedures.RequestMessage.{message_of}
+use Rattle.tcap_model.specs.Invocations.Span.{span}
+use Rattle.tcap_model.specs.Procedures.Standing.{Standing}
+use Rattle.tcap_model.specs.Words.State.{State, peer_by}
+use Rattle.tcap_model.specs.Words.Time.{moment_fault}
+
+-- ---- the end of a dialogue
+
+-- An invocation of the dialogue is told as ended, if it is still Queued or Sent after these components
+-- of the message that ends it (Q.774, Component handling).
+abbrev pub ended_of : ℕ → Past → List Item → Invocation → Option Output
+ended_of dialogue past components i =
+    if (i.dialogue == dialogue) && is_none (first_closing i.class i.timeout (marks_up_to past components i))
+    then Some (Output.closed dialogue i.number i.id Closing.ended) else None
+
+-- All that are, by number (Q.774, Component handling).
+abbrev pub ended_in : ℕ → Past → List Item → List Output
+ended_in dialogue past components = filter_map (ended_of dialogue past components) (invocations past)
+
+-- ---- requests
+
+-- The answer to TC-U-CANCEL: the number of the invocation that is given up
+-- (Q.774, Invocation state machine).
+abbrev pub given_up_answer : Option ℕ → Answer
+given_up_answer None = Answer.refused Fault.no_such_invocation
+given_up_answer (Some number) = Answer.given_up number
+
+-- The answer to a request that ends its dialogue: the message, and then what is ended
+-- (Q.774, Component handling).
+abbrev pub last_answer : ℕ → Past → Option Message → Answer
+last_answer dialogue past message = Answer.outputs (sent_if_any message ++ ended_in dialogue past [])
+
+-- The answer to a request for which no fault is due (Q.774, Component handling; Q.774, Dialogue control).
+abbrev pub accepted_answer : History → Standing → Request → Answer
+accepted_answer h d (Request.invoke id class code parameter linked timeout) = Answer.number (next_number h)
+accepted_answer h d (Request.result_last id body) = Answer.done
+accepted_answer h d (Request.result_more id body) = Answer.done
+accepted_answer h d (Request.error_back id code parameter) = Answer.done
+accepted_answer h d (Request.u_reject id problem) = Answer.done
+accepted_answer h d (Request.u_cancel id) = given_up_answer (pending d.identifier id h.pairs)
+accepted_answer h d (Request.uni context info) = last_answer d.identifier h.pairs (message_of d (Request.uni context info))
+accepted_answer h d (Request.begin context info) = Answer.outputs (sent_if_any (message_of d (Request.begin context info)))
+accepted_answer h d (Request.go_on context info) = Answer.outputs (sent_if_any (message_of d (Request.go_on context info)))
+accepted_answer h d (Request.finish ending context info) = last_answer d.identifier h.pairs (message_of d (Request.finish ending context info))
+accepted_answer h d (Request.u_abort why info) = last_answer d.identifier h.pairs (message_of d (Request.u_abort why info))
+
+-- The answer to a request, by the fault that is due (own).
+abbrev pub request_answer : History → ℕ → Request → Life → Option Fault → Answer
+request_answer h dialogue request before (Some f) = Answer.refused f
+request_answer h dialogue request Life.unborn None = Answer.refused Fault.unknown_dialogue
+request_answer h dialogue request Life.over None = Answer.refused Fault.unknown_dialogue
+request_answer h dialogue request (Life.standing state context) None = accepted_answer h (standing_of dialogue h.pairs state context) request
+
+-- ---- messages
+
+-- A Continue to a live dialogue is told with its components, or it is abnormal and ends the dialogue
+-- (Q.774, Dialogue continuation; Q.774, Abnormal procedures relating to dialogue control).
+abbrev pub continue_outputs : ℕ → Past → State → List ℕ → List ℕ → PortionVerdict → List Output
+continue_outputs dialogue past state origin components (PortionVerdict.normal context info) =
+    Output.go_on dialogue context info ∷ told_of (handled_in dialogue past components)
+continue_outputs dialogue past state origin components PortionVerdict.abnormal =
+    abnormal_abort (peer_by state origin) ∷ Output.p_abort dialogue AbortCause.abnormal ∷ ended_in dialogue past []
+
+-- An End to a live dialogue is told with its components, or it is abnormal; the dialogue is over
+-- (Q.774, Dialogue end; Q.774, Abnormal procedures relating to dialogue control).
+abbrev pub end_outputs : ℕ → Past → List ℕ → PortionVerdict → List Output
+end_outputs dialogue past components (PortionVerdict.normal context info) =
+    Output.end dialogue context info ∷ told_of (handled_in dialogue past components) ++ ended_in dialogue past (components_of components)
+end_outputs dialogue past components PortionVerdict.abnormal = Output.p_abort dialogue AbortCause.abnormal ∷ ended_in dialogue past []
+
+-- What a message to a live dialogue gives; a Unidirectional and a Begin are to none
+-- (Q.774, Transaction sublayer procedures).
+abbrev pub message_outputs : ℕ → Past → State → Option (List ℕ) → Message → List Output
+message_outputs dialogue past state context (Message.go_on origin to portion components) = continue_outputs dialogue past state origin components (portion_verdict state context portion)
+message_outputs dialogue past state context (Message.end to portion components) = end_outputs dialogue past components (portion_verdict state context portion)
+message_outputs dialogue past state context (Message.abort to reason) = abort_told dialogue reason ∷ ended_in dialogue past []
+message_outputs dialogue past state context (Message.unidirectional portion components) = []
+message_outputs dialogue past state context (Message.begin origin portion components) = []
+
+-- The same, by the dialogue's life; only one that stands takes a message (own).
+abbrev pub taken_outputs : ℕ → Past → Life → Message → List Output
+taken_outputs dialogue past Life.unborn message = []
+taken_outputs dialogue past (Life.standing state context) message = message_outputs dialogue past state context message
+taken_outputs dialogue past Life.over message = []
+
+-- What is sent and told of received bytes (Q.774, Transaction sublayer procedures).
+abbrev pub reception_outputs : History → Reception → List Output
+reception_outputs h (Reception.dropped why) = Output.dropped why ∷ []
+reception_outputs h (Reception.aborted abort) = abort ∷ []
+reception_outputs h (Reception.unidirectional context info components) = Output.uni context info ∷ uni_told (components_of components)
+reception_outputs h (Reception.begun origin context info components) =
+    Output.begin (next_dialogue h) context info ∷ told_of (handled_in (next_dialogue h) h.pairs components)
+reception_outputs h (Reception.taken dialogue message) = taken_outputs dialogue h.pairs (life dialogue h.pairs) message
+reception_outputs h (Reception.broken dialogue abort cause) =
+    option_to_list abort ++ Output.p_abort dialogue (AbortCause.cause cause) ∷ ended_in dialogue h.pairs []
+
+-- ---- moments
+
+-- An invocation and its deadline, which was reached (own).
+pub record Lapsing : Type 0 where
+  pub deadline : ℕ
+  pub invocation : Invocation
+
+-- Lapses are told by deadline, then by dialogue, then by number (own).
+abbrev pub is_before : Lapsing → Lapsing → Bool
+is_before a b =
+    nat_lt a.deadline b.deadline || ((a.deadline == b.deadline) && (nat_lt a.invocation.dialogue b.invocation.dialogue || ((a.invocation.dialogue == b.invocation.dialogue) && nat_lt a.invocation.number b.invocation.number)))
+
+-- A lapse in its place among lapses that are in order (own).
+abbrev pub put : Lapsing → List Lapsing → List Lapsing
+put x [] = x ∷ []
+put x (y ∷ ys) = if is_before y x then y ∷ put x ys else x ∷ y ∷ ys
+
+-- Lapses in the order in which they are told (own).
+abbrev pub in_order : List Lapsing → List Lapsing
+in_order [] = []
+in_order (x ∷ xs) = put x (in_order xs)
+
+-- An invocation that is Sent lapses at a moment at or past its deadline (Q.774, Invocation timer).
+abbrev pub lapsing_by : ℕ → Bool → Invocation → Option ℕ → Option Lapsing
+lapsing_by now sent i None = None
+lapsing_by now sent i (Some deadline) = if sent && nat_le deadline now then Some (record { deadline = deadline; invocation = i }) else None
+
+-- The same, by the marks of the invocation (Q.774, Invocation timer).
+abbrev pub lapsing_at : Past → ℕ → Invocation → Option Lapsing
+lapsing_at past now i = lapsing_by now (is_sent_in i.class i.timeout (span i past)) i (deadline i past)
+
+-- What is told of a lapse: TC-L-CANCEL (Q.774, Invocation timer).
+abbrev pub lapse_told : Lapsing → Output
+lapse_told l = Output.closed l.invocation.dialogue l.invocation.number l.invocation.id Closing.lapsed
+
+-- What lapses at a moment, in the order in which it is told (Q.774, Invocation timer).
+abbrev pub lapses : Past → ℕ → List Output
+lapses past now = map lapse_told (in_order (filter_map (lapsing_at past now) (invocations past)))
+
+-- The answer to a moment: one below the clock does nothing (own).
+abbrev pub moment_answer : Past → ℕ → Option Fault → Answer
+moment_answer past now (Some f) = Answer.refused f
+moment_answer past now None = if nat_lt now (clock past) then Answer.outputs [] else Answer.outputs (lapses past now)
+
+-- ---- the answer
+
+-- The answer to the request for a new dialogue (own).
+abbrev pub birth_answer : History → Option Fault → Answer
+birth_answer h (Some f) = Answer.refused f
+birth_answer h None = Answer.new_dialogue (next_dialogue h)
+
+-- The answer to an event: the fault that is due, or what the procedures give
+-- (Q.774, Transaction sublayer procedures; Q.774, Component handling).
+abbrev pub reply : History → Event → Answer
+reply h Event.new_dialogue = birth_answer h (birth_due h)
+reply h (Event.on_dialogue dialogue request) = request_answer h dialogue request (life dialogue h.pairs) (due h dialogue request)
+reply h (Event.received bytes) =
+    Answer.outputs (reception_outputs h (reception (λ dialogue. live_in (life dialogue h.pairs)) (is_some (birth_due h)) bytes))
+reply h (Event.moment now) = moment_answer h.pairs now (moment_fault now)

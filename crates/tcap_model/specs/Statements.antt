@@ -1,0 +1,9 @@
+pub mod ComponentLaws
+pub mod HeadlineLaws
+pub mod Isolation
+pub mod Net
+pub mod Only
+pub mod Places
+pub mod ReceivedMark
+pub mod SentMessage
+pub mod TwoEnds

@@ -1,0 +1,4 @@
+pub mod Agreement
+pub mod Dialogue
+pub mod TableMove
+pub mod World

@@ -1,0 +1,10 @@
+pub mod Answer
+pub mod Event
+pub mod Fault
+pub mod Identifiers
+pub mod InRange
+pub mod LocalId
+pub mod Output
+pub mod Request
+pub mod State
+pub mod Time
