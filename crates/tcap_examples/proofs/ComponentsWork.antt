@@ -20,9 +20,9 @@ use Rattle.tcap_model.specs.Words.Output.{Output}
 use Rattle.tcap_model.specs.Histories.Pair.{Pair, Past}
 use Rattle.tcap_model.specs.Statements.Places.{StandsIn, Tells}
 use Rattle.tcap_model.specs.Words.Request.{Request}
-use Rattle.tcap_examples.specs.Statements.WorkedComponents.{past, begin_sent, begin_pair, begin_message, two_invokes, before_the_begin, reject_sent, reject_pair, reject_message, reject, before_the_reject, late, first_message, first_invoke, late_message, late_reject, result_received, result_told, result_pair, result_message, result, unknown_component, before_the_result, begun, invoke_told, begun_pair, begun_message, invoke_read, crossed_queues, crossed_sent, crossed_message, crossed_invoke}
+use Rattle.tcap_examples.specs.Statements.WorkedComponents.{past, begin_sent, begin_pair, begin_message, two_invokes, before_the_begin, reject_continue, reject_pair, reject_message, reject, before_the_reject, late, first_message, first_invoke, late_message, late_reject, result_received, result_told, result_pair, result_message, received_result, unknown_component, before_the_result, begin_received, invoke_told, begun_pair, begun_message, invoke_read, crossed_queues, crossed_sent, crossed_message, crossed_invoke}
 use Rattle.tcap_examples.specs.Wrong.WorkedWrong.{GoesWrong, whole}
-use Rattle.tcap_examples.specs.Values.WorkedWords.{born, invoke, receive, plain_begin, plain_continue, continued}
+use Rattle.tcap_examples.specs.Values.WorkedWords.{dialogue_born, invoke_pair, received_pair, begin_request, continue_request, continued}
 
 -- ---- the Begin that is sent
 
@@ -42,8 +42,8 @@ begin-first = first_fault_at (portion_of begin_message) two_invokes None refl
 
 first-requested : WasRequested 1 (ComponentParts.invoke (negsuc 127) None (code 10) None) before_the_begin
 first-requested = record {
-  pair = invoke 1 (negsuc 127) One (pos 10) 1000 (Answer.number 1);
-  before = born 1 ∷ [];
+  pair = invoke_pair 1 (negsuc 127) One (pos 10) 1000 (Answer.number 1);
+  before = dialogue_born 1 ∷ [];
   request = Request.invoke (negsuc 127) One (code 10) None None 1000;
   stands = record { later = take 1 before_the_begin; is_past = refl };
   is_event = refl;
@@ -53,7 +53,7 @@ first-requested = record {
 
 second-requested : WasRequested 1 (ComponentParts.invoke (pos 127) None (code 10) None) before_the_begin
 second-requested = record {
-  pair = invoke 1 (pos 127) One (pos 10) 1000 (Answer.number 2);
+  pair = invoke_pair 1 (pos 127) One (pos 10) 1000 (Answer.number 2);
   before = drop 1 before_the_begin;
   request = Request.invoke (pos 127) One (code 10) None None 1000;
   stands = record { later = []; is_past = refl };
@@ -63,19 +63,19 @@ second-requested = record {
 }
 
 pub begin-sent-from : SentFromOne begin_pair.event before_the_begin two_invokes None
-begin-sent-from = record { dialogue = 1; request = plain_begin; is_event = refl; each = (inl first-requested, (inl second-requested, tt)); no_fault = refl }
+begin-sent-from = record { dialogue = 1; request = begin_request; is_event = refl; each = (inl first-requested, (inl second-requested, tt)); no_fault = refl }
 
 -- ---- the Reject that is sent
 
 pub reject-stands : StandsIn reject_pair before_the_reject past
 reject-stands = record { later = []; is_past = refl }
 
-pub reject-tells : Tells reject_pair.answer (Output.send reject_sent)
+pub reject-tells : Tells reject_pair.answer (Output.send reject_continue)
 reject-tells = record { earlier = []; later = []; is_answer = refl }
 
-pub reject-spelled : SpellsFrame reject_message reject_sent
+pub reject-spelled : SpellsFrame reject_message reject_continue
 unfolding computing
-reject-spelled = frame_takes reject_sent reject_message refl
+reject-spelled = frame_takes reject_continue reject_message refl
 
 pub reject-first : FirstFault reject None (portion_of reject_message)
 unfolding computing
@@ -97,7 +97,7 @@ formed = record {
 }
 
 pub reject-sent-from : SentFromOne reject_pair.event before_the_reject reject None
-reject-sent-from = record { dialogue = 1; request = plain_continue; is_event = refl; each = (inr formed, tt); no_fault = refl }
+reject-sent-from = record { dialogue = 1; request = continue_request; is_event = refl; each = (inr formed, tt); no_fault = refl }
 
 pub past-sent-from : SentFrom past
 unfolding computing
@@ -110,8 +110,8 @@ past-sent-from = sent_from past (
 
 late-requested : WasRequested 1 first_invoke (drop 6 late)
 late-requested = record {
-  pair = invoke 1 (pos 1) One (pos 10) 1000 (Answer.number 1);
-  before = born 1 ∷ [];
+  pair = invoke_pair 1 (pos 1) One (pos 10) 1000 (Answer.number 1);
+  before = dialogue_born 1 ∷ [];
   request = Request.invoke (pos 1) One (code 10) None None 1000;
   stands = record { later = []; is_past = refl };
   is_event = refl;
@@ -121,7 +121,7 @@ late-requested = record {
 
 late-formed : WasFormed 1 late_reject (drop 2 late)
 late-formed = record {
-  pair = receive result_of_first (continued 1 ∷ Output.local_reject (Some 1) (Some (pos 1)) (of_result 0) ∷ []);
+  pair = received_pair result_of_first (continued 1 ∷ Output.local_reject (Some 1) (Some (pos 1)) (of_result 0) ∷ []);
   before = drop 3 late;
   bytes = result_of_first;
   id = Some (pos 1);
@@ -139,8 +139,8 @@ unfolding computing
 late-sent-from = sent_from late (
   tt,
   (
-    ((late_message, late_reject ∷ [], None, refl, refl, inr (record { dialogue = 1; request = plain_continue; is_event = refl; each = (inr late-formed, tt); no_fault = refl })), tt),
-    ((tt, (tt, tt)), ((tt, tt), (tt, (((first_message, first_invoke ∷ [], None, refl, refl, inr (record { dialogue = 1; request = plain_begin; is_event = refl; each = (inl late-requested, tt); no_fault = refl })), tt), (tt, (tt, tt)))))),
+    ((late_message, late_reject ∷ [], None, refl, refl, inr (record { dialogue = 1; request = continue_request; is_event = refl; each = (inr late-formed, tt); no_fault = refl })), tt),
+    ((tt, (tt, tt)), ((tt, tt), (tt, (((first_message, first_invoke ∷ [], None, refl, refl, inr (record { dialogue = 1; request = begin_request; is_event = refl; each = (inl late-requested, tt); no_fault = refl })), tt), (tt, (tt, tt)))))),
   ),
 )
 
@@ -161,12 +161,12 @@ result-told-from = record {
   bytes = result_received;
   message = result_message;
   earlier = [];
-  component = result;
+  component = received_result;
   later = [];
   fault = Some unknown_component;
   is_event = refl;
   spelled = frame_takes result_received result_message refl;
-  read = first_fault_at (portion_of result_message) (result ∷ []) (Some unknown_component) refl;
+  read = first_fault_at (portion_of result_message) (received_result ∷ []) (Some unknown_component) refl;
   stands_for = StandsFor.a_result_last 1 1 (negsuc 127) None;
 }
 
@@ -175,8 +175,8 @@ past-told-from = told_from past ((tt, tt), ((tt, (result-told-from, (tt, tt))), 
 
 -- ---- the Invoke that is told
 
-pub begun-stands : StandsIn begun_pair [] begun
-begun-stands = record { later = take 1 begun; is_past = refl }
+pub begun-stands : StandsIn begun_pair [] begin_received
+begun-stands = record { later = take 1 begin_received; is_past = refl }
 
 pub begun-tells : Tells begun_pair.answer invoke_told
 begun-tells = record { earlier = Output.begin 1 (Some context) [] ∷ []; later = []; is_answer = refl }
@@ -199,8 +199,8 @@ begun-told-from = record {
   stands_for = StandsFor.an_invoke (Some 1) (pos 1) None (code 2) (Some (hex 5 0x3003_0401AA));
 }
 
-pub begun-told : ToldFrom begun
-begun-told = told_from begun ((tt, tt), ((tt, (begun-told-from, tt)), tt))
+pub begin-told : ToldFrom begin_received
+begin-told = told_from begin_received ((tt, tt), ((tt, (begun-told-from, tt)), tt))
 
 -- ---- queues that are crossed
 

@@ -40,21 +40,21 @@ rejected id kind.Result = None
 rejected id kind.Error = None
 
 -- The identifier of the Invoke that a request answers.
-abbrev pub answered : Request → Option ℤ
-answered (Request.invoke id class code parameter linked timeout) = None
-answered (Request.result_last id body) = Some id
-answered (Request.result_more id body) = Some id
-answered (Request.error_back id code parameter) = Some id
-answered (Request.u_reject None problem) = None
-answered (Request.u_reject (Some id) problem) = rejected id problem.kind
-answered (Request.u_cancel id) = None
-answered (Request.uni context info) = None
-answered (Request.begin context info) = None
-answered (Request.go_on context info) = None
-answered (Request.finish ending context info) = None
-answered (Request.u_abort why info) = None
+abbrev pub far_answered : Request → Option ℤ
+far_answered (Request.invoke id class code parameter linked timeout) = None
+far_answered (Request.result_last id body) = Some id
+far_answered (Request.result_more id body) = Some id
+far_answered (Request.error_back id code parameter) = Some id
+far_answered (Request.u_reject None problem) = None
+far_answered (Request.u_reject (Some id) problem) = rejected id problem.kind
+far_answered (Request.u_cancel id) = None
+far_answered (Request.uni context info) = None
+far_answered (Request.begin context info) = None
+far_answered (Request.go_on context info) = None
+far_answered (Request.finish ending context info) = None
+far_answered (Request.u_abort why info) = None
 
-answers_is : (id : ℤ) (request : Request) → AnswersInvoke id request → answered request ≡ Some id
+answers_is : (id : ℤ) (request : Request) → AnswersInvoke id request → far_answered request ≡ Some id
 answers_is id request (AnswersInvoke.a_result_last body) = refl
 answers_is id request (AnswersInvoke.a_result_more body) = refl
 answers_is id request (AnswersInvoke.an_error code parameter) = refl
@@ -69,7 +69,7 @@ ToldFor dialogue before (Some id) = WasInvoked dialogue id before
 -- The Invoke that an event answers was told before.
 abbrev pub ToldBefore : Event → Past → Type 0
 ToldBefore Event.new_dialogue before = Unit {0}
-ToldBefore (Event.on_dialogue dialogue request) before = ToldFor dialogue before (answered request)
+ToldBefore (Event.on_dialogue dialogue request) before = ToldFor dialogue before (far_answered request)
 ToldBefore (Event.received bytes) before = Unit {0}
 ToldBefore (Event.moment now) before = Unit {0}
 
@@ -102,12 +102,12 @@ not_told dialogue id past none told =
 -- ---- who opened a dialogue
 
 -- Whether a dialogue is asked for.
-abbrev pub asks : Event → Bool
-asks Event.new_dialogue = true
-asks (Event.on_dialogue dialogue request) = false
-asks (Event.received bytes) = false
-asks (Event.moment now) = false
+abbrev pub far_asks : Event → Bool
+far_asks Event.new_dialogue = true
+far_asks (Event.on_dialogue dialogue request) = false
+far_asks (Event.received bytes) = false
+far_asks (Event.moment now) = false
 
-pub not_opened : (engine : Engine) (dialogue : ℕ) (trace : Trace) → Everywhere (λ (pair : Pair) before. asks pair.event ≡ false) (side engine trace) → WasOpened engine dialogue trace → ⊥
+pub not_opened : (engine : Engine) (dialogue : ℕ) (trace : Trace) → Everywhere (λ (pair : Pair) before. far_asks pair.event ≡ false) (side engine trace) → WasOpened engine dialogue trace → ⊥
 not_opened engine dialogue trace none opened =
-    false≢true (sym (at_place (λ (pair : Pair) before. asks pair.event ≡ false) (side engine trace) none opened.pair opened.before opened.stands) ∙ ap asks opened.is_event)
+    false≢true (sym (at_place (λ (pair : Pair) before. far_asks pair.event ≡ false) (side engine trace) none opened.pair opened.before opened.stands) ∙ ap far_asks opened.is_event)

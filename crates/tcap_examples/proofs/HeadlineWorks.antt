@@ -9,7 +9,7 @@ use Rattle.tcap_model.specs.Histories.Birth.{is_birth_of}
 use Rattle.tcap_model.specs.Words.Event.{Event}
 use Rattle.tcap_model.specs.Invocations.Closings.{closings}
 use Rattle.tcap_examples.specs.Computing.{computing}
-use Rattle.tcap_model.specs.Statements.HeadlineLaws.{HasOutcome, Counted, Bounded, ending_told, ending_of}
+use Rattle.tcap_model.specs.Statements.HeadlineLaws.{HasOutcome, Counted, Bounded, told_closing, closing_due}
 use Rattle.tcap_model.specs.Invocations.Invocation.{Invocation, invocation_of, invocations}
 use Rattle.tcap_model.specs.Histories.Names.{names}
 use Rattle.tcap_model.specs.Statements.Only.{is_moment}
@@ -18,7 +18,7 @@ use Rattle.tcap_model.specs.Histories.Pair.{Pair, Past}
 use Rattle.tcap_model.specs.Replies.Queue.{queue, queue_by_event}
 use Rattle.tcap_model.specs.Procedures.QueueRules.{Queued, joined, queue_limit}
 use Rattle.tcap_model.specs.Table.World.{row_of}
-use Rattle.tcap_examples.specs.Statements.WorkedStatements.{repeated_aare, lapse_and_late_result, late_result, first, second}
+use Rattle.tcap_examples.specs.Statements.WorkedStatements.{repeated_aare_history, late_result_history, late_result, first, second}
 
 -- ---- outcome
 
@@ -28,27 +28,27 @@ for_found n past k P found holds i is = subst P (some_is k i (sym found ∙ is))
 
 -- What is stated of the outcome of an invocation.
 abbrev TellsOutcome : ℕ → Past → Invocation → Type 0
-TellsOutcome n past i = map ending_told (closings n past) ≡ ending_of i (outcome_of (Some i) past)
+TellsOutcome n past i = map told_closing (closings n past) ≡ closing_due i (outcome_of (Some i) past)
 
-pub first-outcome : HasOutcome repeated_aare 1
+pub first-outcome : HasOutcome repeated_aare_history 1
 unfolding computing
-first-outcome = for_found 1 repeated_aare.pairs first (TellsOutcome 1 repeated_aare.pairs) refl refl
+first-outcome = for_found 1 repeated_aare_history.pairs first (TellsOutcome 1 repeated_aare_history.pairs) refl refl
 
-pub second-outcome : HasOutcome repeated_aare 2
+pub second-outcome : HasOutcome repeated_aare_history 2
 unfolding computing
-second-outcome = for_found 2 repeated_aare.pairs second (TellsOutcome 2 repeated_aare.pairs) refl refl
+second-outcome = for_found 2 repeated_aare_history.pairs second (TellsOutcome 2 repeated_aare_history.pairs) refl refl
 
-pub lapsed-outcome : HasOutcome lapse_and_late_result 1
+pub lapsed-outcome : HasOutcome late_result_history 1
 unfolding computing
-lapsed-outcome = for_found 1 lapse_and_late_result.pairs first (TellsOutcome 1 lapse_and_late_result.pairs) refl refl
+lapsed-outcome = for_found 1 late_result_history.pairs first (TellsOutcome 1 late_result_history.pairs) refl refl
 
 -- ---- counting
 
-pub second-counted : Counted repeated_aare 2
+pub second-counted : Counted repeated_aare_history 2
 unfolding computing
 second-counted = record { most = omega arith; late = λ i t found is past. refl; over = λ i found is. refl }
 
-pub lapsed-counted : Counted lapse_and_late_result 1
+pub lapsed-counted : Counted late_result_history 1
 unfolding computing
 lapsed-counted = record { most = omega arith; late = λ i t found is past. refl; over = λ i found is. refl }
 

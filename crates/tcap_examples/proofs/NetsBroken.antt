@@ -17,8 +17,8 @@ use Rattle.tcap_model.specs.Words.Output.{Output}
 use Rattle.tcap_model.specs.Histories.Pair.{Pair, Past}
 use Rattle.tcap_model.specs.Words.Request.{Request}
 use Rattle.tcap_model.specs.Statements.TwoEnds.{IsAnswer, UsesOnce, AnswersWhatItWasTold, WasOpened, WasAsked, Origin, Operations, ComesFromFar}
-use Rattle.tcap_examples.specs.Nets.WorkedNets.{invoked, answer, result, used_again, forged, IsAnsweredAhead}
-use Rattle.tcap_examples.specs.Values.WorkedWords.{born, invoke, request, receive, continued, empty_result}
+use Rattle.tcap_examples.specs.Nets.WorkedNets.{invoked, answer, result_continue, used_again, forged, IsAnsweredAhead}
+use Rattle.tcap_examples.specs.Values.WorkedWords.{dialogue_born, invoke_pair, request_pair, received_pair, continued, empty_result}
 
 -- ---- an identifier used again
 
@@ -35,7 +35,7 @@ again-answers = answers_what_it_was_told Engine.b used_again.trace (
   tt,
   (
     record {
-      pair = receive (hex 18 0x6210_480400000001_6C08_A106_020101_02010A) (Output.begin 1 None [] ∷ invoked 1 ∷ []);
+      pair = received_pair (hex 18 0x6210_480400000001_6C08_A106_020101_02010A) (Output.begin 1 None [] ∷ invoked 1 ∷ []);
       before = [];
       linked = None;
       code = CodeParts.local (pos 10);
@@ -48,17 +48,17 @@ again-answers = answers_what_it_was_told Engine.b used_again.trace (
 )
 
 pub again-opened : WasOpened Engine.a 1 used_again.trace
-again-opened = record { pair = born 1; before = []; stands = record { later = take 7 (side Engine.a used_again.trace); is_past = refl }; is_event = refl; is_answer = refl }
+again-opened = record { pair = dialogue_born 1; before = []; stands = record { later = take 7 (side Engine.a used_again.trace); is_past = refl }; is_event = refl; is_answer = refl }
 
 pub again-fails : IsAnsweredAhead Engine.a 1 2 used_again.trace
 unfolding computing
 again-fails = record {
-  pair = receive result (continued 1 ∷ Output.closed 1 2 (pos 1) empty_result ∷ []);
+  pair = received_pair result_continue (continued 1 ∷ Output.closed 1 2 (pos 1) empty_result ∷ []);
   before = drop 1 used_again.trace;
   id = pos 1;
   output = Output.closed 1 2 (pos 1) empty_result;
-  request = answer;
-  asked = request 1 answer Answer.done;
+  request_pair = answer;
+  asked = request_pair 1 answer Answer.done;
   earlier = drop 7 used_again.trace;
   happens = record { later = []; is_trace = refl };
   tells = record { earlier = continued 1 ∷ []; later = []; is_answer = refl };
@@ -73,7 +73,7 @@ pub again-used_twice : UsesOnce Engine.a 1 used_again.trace → ⊥
 again-used_twice once =
     let past = side Engine.a used_again.trace in
     let same : 1 ≡ 2 = once
-    (invoke 1 (pos 1) One (pos 10) 5000 (Answer.number 1)) (invoke 1 (pos 1) One (pos 10) 5000 (Answer.number 2)) (drop 7 past) (drop 3 past)
+    (invoke_pair 1 (pos 1) One (pos 10) 5000 (Answer.number 1)) (invoke_pair 1 (pos 1) One (pos 10) 5000 (Answer.number 2)) (drop 7 past) (drop 3 past)
     (record { number = 1; dialogue = 1; id = pos 1; class = One; timeout = 5000 }) (record { number = 2; dialogue = 1; id = pos 1; class = One; timeout = 5000 })
     (record { later = take 6 past; is_past = refl }) (record { later = take 2 past; is_past = refl }) refl refl refl refl refl in
     omega (arith, same)
@@ -95,7 +95,7 @@ not_from_far dialogue asked from =
 
 pub forged-no_origin : Origin forged.trace → ⊥
 forged-no_origin origin = not_from_far 1 answer (origin Engine.a
-    (receive result (continued 1 ∷ Output.closed 1 1 (pos 1) empty_result ∷ [])) (drop 2 forged.trace) 1 1 (pos 1) (Output.closed 1 1 (pos 1) empty_result) answer
+    (received_pair result_continue (continued 1 ∷ Output.closed 1 1 (pos 1) empty_result ∷ [])) (drop 2 forged.trace) 1 1 (pos 1) (Output.closed 1 1 (pos 1) empty_result) answer
     (record { later = take 1 forged.trace; is_trace = refl }) (record { earlier = continued 1 ∷ []; later = []; is_answer = refl }) (IsAnswer.a_result_last None))
 
 -- A local operation code.
@@ -121,7 +121,7 @@ operation (Request.u_abort why info) = 0
 -- The operation that an event asks for.
 abbrev asked_for : Event → ℕ
 asked_for Event.new_dialogue = 0
-asked_for (Event.on_dialogue dialogue request) = operation request
+asked_for (Event.on_dialogue dialogue request_pair) = operation request_pair
 asked_for (Event.received bytes) = 0
 asked_for (Event.moment now) = 0
 
@@ -133,7 +133,7 @@ not_asked asked =
 
 pub forged-no_operation : Operations forged.trace → ⊥
 forged-no_operation operations = not_asked (operations Engine.b
-    (receive (hex 18 0x6210_480400000001_6C08_A106_020101_02010B) (Output.begin 1 None [] ∷ Output.invoked (Some 1) (pos 1) None (code 11) None ∷ []))
+    (received_pair (hex 18 0x6210_480400000001_6C08_A106_020101_02010B) (Output.begin 1 None [] ∷ Output.invoked (Some 1) (pos 1) None (code 11) None ∷ []))
     (drop 1 forged.trace) (Some 1) (pos 1) None (code 11) None
     (record { later = []; is_trace = refl }) (record { earlier = Output.begin 1 None [] ∷ []; later = []; is_answer = refl }))
 

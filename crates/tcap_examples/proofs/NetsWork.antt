@@ -15,11 +15,11 @@ use Rattle.tcap_model.specs.Words.Output.{Output}
 use Rattle.tcap_model.specs.Histories.Pair.{Pair}
 use Rattle.tcap_model.specs.Statements.Places.{Tells}
 use Rattle.tcap_model.specs.Statements.TwoEnds.{Happens, IsAnswer, IsFarRequest, ComesFromFar, UsesOnce, AnswersInvoke, AnswersWhatItWasTold, WasOpened, WasSent, WasAsked}
-use Rattle.tcap_examples.specs.Nets.WorkedNets.{repeated_begin, before_the_answer, answer_told, answer_closes, second_body, second_request, before_the_repeat, repeat_told, invoked, answer, result, second_invoke, answered_ahead, heard_as_one, alone_told, in_a_unidirectional, end_told, in_an_end, IsAnsweredAhead}
+use Rattle.tcap_examples.specs.Nets.WorkedNets.{repeated_begin, before_the_answer, answer_told, answer_closes, second_body, second_request, before_the_repeat, repeat_told, invoked, answer, result_continue, second_invoke, answered_ahead, heard_as_one, alone_told, in_a_unidirectional, end_told, in_an_end, IsAnsweredAhead}
 use Rattle.tcap_examples.specs.Nets.WorkedPlay as play
 use Rattle.tcap_examples.specs.Histories.WorkedReadings.{given_up_before_it_was_sent}
 use Rattle.tcap_examples.specs.Statements.WorkedStatements.{first}
-use Rattle.tcap_examples.specs.Values.WorkedWords.{born, invoke, request, receive, continued, empty_result}
+use Rattle.tcap_examples.specs.Values.WorkedWords.{dialogue_born, invoke_pair, request_pair, received_pair, continued, empty_result}
 
 -- ---- a repeated Begin
 
@@ -35,7 +35,7 @@ repeat-is-answer = IsAnswer.a_result_last (Some second_body)
 pub repeat-origin : ComesFromFar Engine.a 1 second_request before_the_answer
 unfolding computing
 repeat-origin = record {
-  pair = request 2 second_request Answer.done;
+  pair = request_pair 2 second_request Answer.done;
   before = drop 6 repeated_begin.trace;
   happens = record { later = take 1 before_the_answer; is_trace = refl };
   is_request = record { far_dialogue = 2; is_event = refl; accepted = refl; is_peer = refl };
@@ -51,8 +51,8 @@ repeat-answers = answers_what_it_was_told Engine.b repeated_begin.trace (
     tt,
     (
       record {
-        pair = receive play.first_begin (play.begun 2);
-        before = receive play.first_begin (play.begun 1) ∷ [];
+        pair = received_pair play.first_begin (play.begin_told 2);
+        before = received_pair play.first_begin (play.begin_told 1) ∷ [];
         linked = None;
         code = CodeParts.local (pos 10);
         parameter = None;
@@ -63,12 +63,12 @@ repeat-answers = answers_what_it_was_told Engine.b repeated_begin.trace (
         tt,
         (
           record {
-            pair = receive play.first_begin (play.begun 1);
+            pair = received_pair play.first_begin (play.begin_told 1);
             before = [];
             linked = None;
             code = CodeParts.local (pos 10);
             parameter = None;
-            stands = record { later = receive play.first_begin (play.begun 2) ∷ []; is_past = refl };
+            stands = record { later = received_pair play.first_begin (play.begin_told 2) ∷ []; is_past = refl };
             tells = record { earlier = Output.begin 1 None [] ∷ []; later = []; is_answer = refl };
           },
           (tt, (tt, tt)),
@@ -79,7 +79,7 @@ repeat-answers = answers_what_it_was_told Engine.b repeated_begin.trace (
 )
 
 pub repeat-opened : WasOpened Engine.a 1 repeated_begin.trace
-repeat-opened = record { pair = born 1; before = []; stands = record { later = take 5 (side Engine.a repeated_begin.trace); is_past = refl }; is_event = refl; is_answer = refl }
+repeat-opened = record { pair = dialogue_born 1; before = []; stands = record { later = take 5 (side Engine.a repeated_begin.trace); is_past = refl }; is_event = refl; is_answer = refl }
 
 sent : WasSent 1 (side Engine.a (drop 10 repeated_begin.trace))
 unfolding computing
@@ -99,8 +99,8 @@ repeat-invoked-tells = record { earlier = Output.begin 2 None [] ∷ []; later =
 
 pub repeat-asked : WasAsked (pos 1) None (CodeParts.local (pos 10)) None (side Engine.a before_the_repeat)
 repeat-asked = record {
-  pair = invoke 1 (pos 1) One (pos 10) 1000 (Answer.number 1);
-  before = born 1 ∷ [];
+  pair = invoke_pair 1 (pos 1) One (pos 10) 1000 (Answer.number 1);
+  before = dialogue_born 1 ∷ [];
   dialogue = 1;
   class = One;
   timeout = 1000;
@@ -117,17 +117,17 @@ pub ahead-uses_once : UsesOnce Engine.a 1 answered_ahead.trace
 ahead-uses_once = uses_once Engine.a 1 1 answered_ahead.trace (tt, (tt, ((λ own. refl), (tt, (tt, (tt, tt))))))
 
 pub ahead-opened : WasOpened Engine.a 1 answered_ahead.trace
-ahead-opened = record { pair = born 1; before = []; stands = record { later = take 5 (side Engine.a answered_ahead.trace); is_past = refl }; is_event = refl; is_answer = refl }
+ahead-opened = record { pair = dialogue_born 1; before = []; stands = record { later = take 5 (side Engine.a answered_ahead.trace); is_past = refl }; is_event = refl; is_answer = refl }
 
 pub ahead-fails : IsAnsweredAhead Engine.a 1 1 answered_ahead.trace
 unfolding computing
 ahead-fails = record {
-  pair = receive result (continued 1 ∷ Output.closed 1 1 (pos 1) empty_result ∷ []);
+  pair = received_pair result_continue (continued 1 ∷ Output.closed 1 1 (pos 1) empty_result ∷ []);
   before = drop 1 answered_ahead.trace;
   id = pos 1;
   output = Output.closed 1 1 (pos 1) empty_result;
-  request = answer;
-  asked = request 1 answer Answer.done;
+  request_pair = answer;
+  asked = request_pair 1 answer Answer.done;
   earlier = drop 5 answered_ahead.trace;
   happens = record { later = []; is_trace = refl };
   tells = record { earlier = continued 1 ∷ []; later = []; is_answer = refl };
@@ -140,7 +140,7 @@ ahead-fails = record {
 pub ahead-untold : AnswersWhatItWasTold Engine.b answered_ahead.trace → ⊥
 ahead-untold told =
     let past = side Engine.b answered_ahead.trace in
-    not_told 1 (pos 1) (drop 2 past) (refl, (refl, tt)) (told (request 1 answer Answer.done) (drop 2 past) 1 (pos 1) answer (record { later = take 1 past; is_past = refl }) refl refl (AnswersInvoke.a_result_last None))
+    not_told 1 (pos 1) (drop 2 past) (refl, (refl, tt)) (told (request_pair 1 answer Answer.done) (drop 2 past) 1 (pos 1) answer (record { later = take 1 past; is_past = refl }) refl refl (AnswersInvoke.a_result_last None))
 
 -- ---- two dialogues heard as one
 
@@ -160,7 +160,7 @@ heard-answers = answers_what_it_was_told Engine.b heard_as_one.trace (
   tt,
   (
     record {
-      pair = receive second_invoke (continued 1 ∷ invoked 1 ∷ []);
+      pair = received_pair second_invoke (continued 1 ∷ invoked 1 ∷ []);
       before = drop 3 (side Engine.b heard_as_one.trace);
       linked = None;
       code = CodeParts.local (pos 10);
@@ -175,12 +175,12 @@ heard-answers = answers_what_it_was_told Engine.b heard_as_one.trace (
 pub heard-fails : IsAnsweredAhead Engine.a 1 2 heard_as_one.trace
 unfolding computing
 heard-fails = record {
-  pair = receive result (continued 1 ∷ Output.closed 1 2 (pos 1) empty_result ∷ []);
+  pair = received_pair result_continue (continued 1 ∷ Output.closed 1 2 (pos 1) empty_result ∷ []);
   before = drop 1 heard_as_one.trace;
   id = pos 1;
   output = Output.closed 1 2 (pos 1) empty_result;
-  request = answer;
-  asked = request 1 answer Answer.done;
+  request_pair = answer;
+  asked = request_pair 1 answer Answer.done;
   earlier = drop 5 heard_as_one.trace;
   happens = record { later = []; is_trace = refl };
   tells = record { earlier = continued 1 ∷ []; later = []; is_answer = refl };
@@ -207,8 +207,8 @@ alone-tells = record { earlier = Output.uni None [] ∷ []; later = []; is_answe
 pub alone-asked : WasAsked (pos 1) None (code 7) None (side Engine.a (drop 1 in_a_unidirectional.trace))
 unfolding computing alone
 alone-asked = record {
-  pair = invoke 1 (pos 1) Four (pos 7) 1000 (Answer.number 1);
-  before = born 1 ∷ [];
+  pair = invoke_pair 1 (pos 1) Four (pos 7) 1000 (Answer.number 1);
+  before = dialogue_born 1 ∷ [];
   dialogue = 1;
   class = Four;
   timeout = 1000;
@@ -228,7 +228,7 @@ end-tells = record { earlier = Output.end 1 None [] ∷ []; later = []; is_answe
 pub end-asked : WasAsked (pos 1) None (code 10) None (side Engine.b (drop 1 in_an_end.trace))
 unfolding computing
 end-asked = record {
-  pair = invoke 1 (pos 1) One (pos 10) 1000 (Answer.number 1);
+  pair = invoke_pair 1 (pos 1) One (pos 10) 1000 (Answer.number 1);
   before = drop 2 (side Engine.b in_an_end.trace);
   dialogue = 1;
   class = One;

@@ -24,7 +24,7 @@ ghost use Rattle.tcap_model.specs.Replies.Queue.{sent_there, handled_in, rejects
 ghost use Rattle.tcap_model.specs.Procedures.Refusals.{due_on};
 ghost use Rattle.tcap_model.specs.Replies.Reply.{ended_in, taken_outputs, reply};
 ghost use Rattle.tcap_model.specs.Words.Request.{Request};
-ghost use Rattle.tcap_model.specs.Table.TableMove.{DialogueEvent, answered, ended_told, situation, table_move, walked_in};
+ghost use Rattle.tcap_model.specs.Table.TableMove.{DialogueEvent, answering, ended_told, situation, table_move, walked_in};
 ghost use Rattle.tcap_model.specs.Table.World.{first_world, dialogue_at, rows_of, world_of};
 ghost use Rattle.tcap_pdu.specs.FrameSpelling.{Message, Reason};
 
@@ -49,7 +49,7 @@ pub fn requests_judged_alike()
     ensures due { (h : History) (dialogue : ℕ) (d : Dialogue) (request : Request) → dialogue_at h.start.reject_ms h.pairs dialogue ≡ Some d →
         due_on (situation (setting_at h) d request) request ≡ due h dialogue request }
     ensures refused { (h : History) (dialogue : ℕ) (d : Dialogue) (request : Request) (fault : Fault) → dialogue_at h.start.reject_ms h.pairs dialogue ≡ Some d →
-        due h dialogue request ≡ Some fault → table_move (setting_at h) d (DialogueEvent.request request) ≡ answered d (Answer.refused fault) }
+        due h dialogue request ≡ Some fault → table_move (setting_at h) d (DialogueEvent.request request) ≡ answering d (Answer.refused fault) }
 {}
 
 /// At the end of a dialogue its rows and its history tell of the same invocations, in the same order

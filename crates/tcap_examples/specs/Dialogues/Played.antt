@@ -29,11 +29,11 @@ number_after next (Answer.outputs outputs) = next
 number_after next (Answer.refused fault) = next
 
 -- The clock after an event: a moment sets it (own).
-abbrev pub clock_after : ℕ → DialogueEvent → ℕ
-clock_after clock (DialogueEvent.request request) = clock
-clock_after clock (DialogueEvent.frame message) = clock
-clock_after clock (DialogueEvent.fault cause) = clock
-clock_after clock (DialogueEvent.moment now) = now
+abbrev pub clock_played : ℕ → DialogueEvent → ℕ
+clock_played clock (DialogueEvent.request request) = clock
+clock_played clock (DialogueEvent.frame message) = clock
+clock_played clock (DialogueEvent.fault cause) = clock
+clock_played clock (DialogueEvent.moment now) = now
 
 -- How far a dialogue was played: what is around it, the dialogue, its answers, and whether it is over
 -- (own).
@@ -59,7 +59,7 @@ opened = opened_with 1000
 -- After one event more, and what the dialogue did; it stays over once it is (own).
 abbrev pub after_move : Played → DialogueEvent → Moved → Played
 after_move p event m = record {
-  setting = record { clock = clock_after p.setting.clock event; number = number_after p.setting.number m.answer; limit = p.setting.limit };
+  setting = record { clock = clock_played p.setting.clock event; number = number_after p.setting.number m.answer; limit = p.setting.limit };
   dialogue = m.after;
   answers = p.answers ++ m.answer ∷ [];
   is_over = p.is_over || m.is_over;
@@ -96,18 +96,18 @@ unfoldable pub begun_from : List ℕ → Played
 begun_from bytes = begun_by (reception is_none_live false bytes)
 
 -- The answers, and whether the dialogue is over (own).
-pub record Outcome : Type 0 where
+pub record Seen : Type 0 where
   pub answers : List Answer
   pub is_over : Bool
 
 -- How far a dialogue was played, as it is seen from outside (own).
-abbrev pub outcome : Played → Outcome
-outcome p = record { answers = p.answers; is_over = p.is_over }
+abbrev pub as_seen : Played → Seen
+as_seen p = record { answers = p.answers; is_over = p.is_over }
 
 -- To these events the dialogue answers so, and goes on (own).
 abbrev pub Answers : Played → List DialogueEvent → List Answer → Type 0
-Answers p events answers = outcome (play p events) ≡ record { answers = answers; is_over = false }
+Answers p events answers = as_seen (play p events) ≡ record { answers = answers; is_over = false }
 
 -- To these events the dialogue answers so, and is over then (own).
 abbrev pub Ends : Played → List DialogueEvent → List Answer → Type 0
-Ends p events answers = outcome (play p events) ≡ record { answers = answers; is_over = true }
+Ends p events answers = as_seen (play p events) ≡ record { answers = answers; is_over = true }

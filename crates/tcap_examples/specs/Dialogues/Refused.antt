@@ -17,12 +17,12 @@ abbrev pub with_room : ℕ → Played → Played
 with_room limit p = record p { setting = record p.setting { limit = limit } }
 
 -- What a dialogue as it was played does at a request (own).
-abbrev pub requested : Played → Request → Moved
-requested p request = table_move p.setting p.dialogue (DialogueEvent.request request)
+abbrev pub request_move : Played → Request → Moved
+request_move p request = table_move p.setting p.dialogue (DialogueEvent.request request)
 
 -- The request is refused with this fault, and nothing changes (own).
 abbrev pub Refused : Played → Request → Fault → Type 0
-Refused p request fault = requested p request ≡ record { answer = Answer.refused fault; after = p.dialogue; is_over = false }
+Refused p request fault = request_move p request ≡ record { answer = Answer.refused fault; after = p.dialogue; is_over = false }
 
 -- One fault comes right after another in a row of faults (own).
 abbrev pub comes_after : Fault → Fault → List Fault → Bool
@@ -43,7 +43,7 @@ judged p request first second = record {
   are_neighbours = comes_after first second (faults_of request);
   first_holds = holds (situation p.setting p.dialogue request) request first;
   second_holds = holds (situation p.setting p.dialogue request) request second;
-  answer = (requested p request).answer;
+  answer = (request_move p request).answer;
 }
 
 -- Two neighbours in the request's row of faults hold together, and the first is answered (own).

@@ -4,7 +4,7 @@ use Rattle.tcap_model.specs.Words.Event.{Event}
 use Rattle.tcap_examples.specs.Values.ExampleValues.{shown_begin, result_of_first}
 use Rattle.tcap_examples.specs.Values.Hex.{hex}
 use Rattle.tcap_model.specs.Histories.Names.{names}
-use Rattle.tcap_examples.specs.Values.WorkedWords.{plain_begin}
+use Rattle.tcap_examples.specs.Values.WorkedWords.{begin_request}
 
 -- Whether an event names a dialogue, as it is stated (own).
 pub record Named : Type 0 where
@@ -28,8 +28,8 @@ AreAsStated rows = map (λ (r : Named). names r.event r.dialogue) rows ≡ map (
 abbrev pub requests_and_moments : List Named
 requests_and_moments =
     not_naming 1 Event.new_dialogue
-    ∷ naming 1 (Event.on_dialogue 1 plain_begin)
-    ∷ not_naming 2 (Event.on_dialogue 1 plain_begin)
+    ∷ naming 1 (Event.on_dialogue 1 begin_request)
+    ∷ not_naming 2 (Event.on_dialogue 1 begin_request)
     ∷ naming 1 (Event.moment 5)
     ∷ naming 2 (Event.moment 5)
     ∷ []

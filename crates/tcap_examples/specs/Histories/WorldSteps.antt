@@ -54,7 +54,7 @@ pub record GoesOn (s : Setting) (before : Dialogue) (event : DialogueEvent) (ans
   pub stands : (table_move s before event).is_over ≡ false
 
 -- The dialogue answers so and is over (own).
-pub record Ends (s : Setting) (before : Dialogue) (event : DialogueEvent) (answer : Answer) : Type 0 where
+pub record GoesOver (s : Setting) (before : Dialogue) (event : DialogueEvent) (answer : Answer) : Type 0 where
   pub answers : (table_move s before event).answer ≡ answer
   pub is_over : (table_move s before event).is_over ≡ true
 
@@ -62,7 +62,7 @@ pub record Ends (s : Setting) (before : Dialogue) (event : DialogueEvent) (answe
 -- over and none is left; what is nothing for it leaves it as it was (own).
 abbrev pub Moves : Setting → Dialogue → Option DialogueEvent → Answer → List Dialogue → Type 0
 Moves s before None answer after = after ≡ before ∷ []
-Moves s before (Some event) answer [] = Ends s before event answer
+Moves s before (Some event) answer [] = GoesOver s before event answer
 Moves s before (Some event) answer (after ∷ []) = GoesOn s before event answer after
 Moves s before (Some event) answer (after ∷ another ∷ others) = ⊥
 

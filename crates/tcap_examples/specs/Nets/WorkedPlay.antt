@@ -9,11 +9,11 @@ use Rattle.tcap_model.specs.Words.Output.{Output, Closing}
 use Rattle.tcap_model.specs.Histories.Pair.{Pair}
 use Rattle.tcap_model.specs.Words.Request.{Request}
 use Rattle.tcap_examples.specs.Histories.Worked.{Worked, worked, closed_at}
-use Rattle.tcap_examples.specs.Values.WorkedWords.{request, receive, advance, plain_continue, continued, engine, opened}
+use Rattle.tcap_examples.specs.Values.WorkedWords.{request_pair, received_pair, moment_pair, continue_request, continued, usual_start, opened_with_invoke}
 
 -- The body of a result with operation 10 and an OCTET STRING as its parameter (own).
-abbrev pub body : List ℕ → BodyParts
-body parameter = record { code = code 10; parameter = Some parameter }
+abbrev pub result_body : List ℕ → BodyParts
+result_body parameter = record { code = code 10; parameter = Some parameter }
 
 -- The Begin of the first engine (own).
 abbrev pub first_begin : List ℕ
@@ -30,15 +30,15 @@ second_answer = hex 29 0x651B_480400000002_490400000001_6C0D_A20B_020101_3006_02
 -- What happens at the first engine, in order of time: it opens a dialogue, and hears the second answer
 -- before the first (own).
 abbrev pub at_the_first : List Pair
-at_the_first = opened (
-    receive second_answer (continued 1 ∷ Output.closed 1 1 (pos 1) (Closing.result_last (Some (body (hex 3 0x0401BB)))) ∷ [])
-    ∷ receive first_answer (continued 1 ∷ Output.local_reject (Some 1) (Some (pos 1)) (of_result 0) ∷ [])
-    ∷ advance 1000 []
+at_the_first = opened_with_invoke (
+    received_pair second_answer (continued 1 ∷ Output.closed 1 1 (pos 1) (Closing.result_last (Some (result_body (hex 3 0x0401BB)))) ∷ [])
+    ∷ received_pair first_answer (continued 1 ∷ Output.local_reject (Some 1) (Some (pos 1)) (of_result 0) ∷ [])
+    ∷ moment_pair 1000 []
     ∷ [])
 
 -- What the second engine tells of the Begin (own).
-abbrev pub begun : ℕ → List Output
-begun dialogue =
+abbrev pub begin_told : ℕ → List Output
+begin_told dialogue =
     Output.begin dialogue None []
     ∷ Output.invoked (Some dialogue) (pos 1) None (code 10) None
     ∷ []
@@ -47,37 +47,37 @@ begun dialogue =
 -- dialogues (own).
 abbrev pub at_the_second : List Pair
 at_the_second =
-    receive first_begin (begun 1)
-    ∷ receive first_begin (begun 2)
-    ∷ request 1 (Request.result_last (pos 1) (Some (body (hex 3 0x0401AA)))) Answer.done
-    ∷ request 1 plain_continue (Answer.outputs (Output.send first_answer ∷ []))
-    ∷ request 2 (Request.result_last (pos 1) (Some (body (hex 3 0x0401BB)))) Answer.done
-    ∷ request 2 plain_continue (Answer.outputs (Output.send second_answer ∷ []))
-    ∷ advance 1000 []
+    received_pair first_begin (begin_told 1)
+    ∷ received_pair first_begin (begin_told 2)
+    ∷ request_pair 1 (Request.result_last (pos 1) (Some (result_body (hex 3 0x0401AA)))) Answer.done
+    ∷ request_pair 1 continue_request (Answer.outputs (Output.send first_answer ∷ []))
+    ∷ request_pair 2 (Request.result_last (pos 1) (Some (result_body (hex 3 0x0401BB)))) Answer.done
+    ∷ request_pair 2 continue_request (Answer.outputs (Output.send second_answer ∷ []))
+    ∷ moment_pair 1000 []
     ∷ []
 
 -- The first engine: the answer that comes first is told, the other one is late, and no lapse follows
 -- (own).
 abbrev pub repeated_begin_at_the_first : Worked
-repeated_begin_at_the_first = worked engine at_the_first
-    (closed_at 1 4 1 (pos 1) (Closing.result_last (Some (body (hex 3 0x0401BB)))) ∷ [])
+repeated_begin_at_the_first = worked usual_start at_the_first
+    (closed_at 1 4 1 (pos 1) (Closing.result_last (Some (result_body (hex 3 0x0401BB)))) ∷ [])
 
 -- The second engine: a repeated Begin makes a second dialogue, and each has its own answer (own).
 abbrev pub repeated_begin_at_the_second : Worked
-repeated_begin_at_the_second = worked engine at_the_second []
+repeated_begin_at_the_second = worked usual_start at_the_second []
 
 -- Pairs of one of the engines (own).
-abbrev pub marked : Engine → List Pair → List Marked
-marked engine pairs = map (λ pair. record { engine = engine; pair = pair }) pairs
+abbrev pub on_engine : Engine → List Pair → List Marked
+on_engine engine pairs = map (λ pair. record { engine = engine; pair = pair }) pairs
 
 -- Both in order of time: the first sends its Begin, the second hears it twice and answers twice, the
 -- first hears the answers, and then time passes (own).
-abbrev pub repeated_begin : Net
-repeated_begin = record {
-  start = λ which. engine;
+abbrev pub repeated_begin_played : Net
+repeated_begin_played = record {
+  start = λ which. usual_start;
   trace = reverse (
-      marked Engine.a (take 3 at_the_first)
-      ++ marked Engine.b (take 6 at_the_second)
-      ++ marked Engine.a (drop 3 at_the_first)
-      ++ marked Engine.b (drop 6 at_the_second));
+      on_engine Engine.a (take 3 at_the_first)
+      ++ on_engine Engine.b (take 6 at_the_second)
+      ++ on_engine Engine.a (drop 3 at_the_first)
+      ++ on_engine Engine.b (drop 6 at_the_second));
 }

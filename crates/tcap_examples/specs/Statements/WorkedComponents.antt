@@ -10,8 +10,8 @@ use Rattle.tcap_examples.specs.Values.Hex.{hex}
 use Rattle.tcap_model.specs.Words.Output.{Output}
 use Rattle.tcap_model.specs.Histories.Pair.{Pair, Past}
 use Rattle.tcap_examples.specs.Histories.WorkedReception as reception
-use Rattle.tcap_examples.specs.Statements.WorkedStatements.{faulty_second_component, lapse_and_late_result}
-use Rattle.tcap_examples.specs.Values.WorkedWords.{born, invoke, request, receive, plain_begin, plain_continue, continued, empty_result, engine}
+use Rattle.tcap_examples.specs.Statements.WorkedStatements.{faulty_second_history, late_result_history}
+use Rattle.tcap_examples.specs.Values.WorkedWords.{dialogue_born, invoke_pair, request_pair, received_pair, begin_request, continue_request, continued, empty_result, usual_start}
 use Rattle.tcap_examples.specs.Wrong.WorkedWrong.{Wrong, wrong}
 
 -- ---- two Invokes that go out, and a Reject
@@ -19,7 +19,7 @@ use Rattle.tcap_examples.specs.Wrong.WorkedWrong.{Wrong, wrong}
 -- The pairs of "Faulty second component": two Invokes go out, one is answered, what can't be read is
 -- rejected, and the Reject goes out (own).
 abbrev pub past : Past
-past = faulty_second_component.pairs
+past = faulty_second_history.pairs
 
 -- The Begin with the two Invokes (own).
 abbrev pub begin_sent : List ℕ
@@ -27,7 +27,7 @@ begin_sent = hex 26 0x6218_480400000001_6C10_A106_020180_02010A_A106_02017F_0201
 
 -- The request that sends it (own).
 abbrev pub begin_pair : Pair
-begin_pair = request 1 plain_begin (Answer.outputs (Output.send begin_sent ∷ []))
+begin_pair = request_pair 1 begin_request (Answer.outputs (Output.send begin_sent ∷ []))
 
 -- The message (own).
 abbrev pub begin_message : Message
@@ -42,12 +42,12 @@ abbrev pub before_the_begin : Past
 before_the_begin = drop 3 past
 
 -- The Continue with the Reject (own).
-abbrev pub reject_sent : List ℕ
-reject_sent = hex 24 0x6516_480400000001_490400000005_6C08_A406_020107_800100
+abbrev pub reject_continue : List ℕ
+reject_continue = hex 24 0x6516_480400000001_490400000005_6C08_A406_020107_800100
 
 -- The request that sends it (own).
 abbrev pub reject_pair : Pair
-reject_pair = request 1 plain_continue (Answer.outputs (Output.send reject_sent ∷ []))
+reject_pair = request_pair 1 continue_request (Answer.outputs (Output.send reject_continue ∷ []))
 
 -- The message (own).
 abbrev pub reject_message : Message
@@ -65,7 +65,7 @@ before_the_reject = drop 1 past
 
 -- The pairs of "Lapse and late result" (own).
 abbrev pub late : Past
-late = lapse_and_late_result.pairs
+late = late_result_history.pairs
 
 -- The Begin with the Invoke (own).
 abbrev pub first_message : Message
@@ -95,15 +95,15 @@ result_told = Output.closed 1 1 (negsuc 127) empty_result
 
 -- What is told of it (own).
 abbrev pub result_pair : Pair
-result_pair = receive result_received (continued 1 ∷ result_told ∷ Output.local_reject (Some 1) (Some (pos 7)) (general 0) ∷ [])
+result_pair = received_pair result_received (continued 1 ∷ result_told ∷ Output.local_reject (Some 1) (Some (pos 7)) (general 0) ∷ [])
 
 -- The message (own).
 abbrev pub result_message : Message
 result_message = Message.go_on (hex 4 0x00000005) (hex 4 0x00000001) None (hex 23 0xA203_020180_A503_020107_A203_02017F_A306_02017F_020101)
 
 -- Its first component (own).
-abbrev pub result : ComponentParts
-result = ComponentParts.result_last (negsuc 127) None
+abbrev pub received_result : ComponentParts
+received_result = ComponentParts.result_last (negsuc 127) None
 
 -- What can't be read: a component of an unknown type (own).
 abbrev pub unknown_component : FaultParts
@@ -116,8 +116,8 @@ before_the_result = drop 2 past
 -- ---- an Invoke that comes
 
 -- The pairs of "A Begin with AARQ" (own).
-abbrev pub begun : Past
-begun = reception.a_begin_with_aarq.history.pairs
+abbrev pub begin_received : Past
+begin_received = reception.a_begin_with_aarq.history.pairs
 
 -- The Invoke is told (own).
 abbrev pub invoke_told : Output
@@ -125,7 +125,7 @@ invoke_told = Output.invoked (Some 1) (pos 1) None (code 2) (Some (hex 5 0x3003_
 
 -- What is told of the Begin (own).
 abbrev pub begun_pair : Pair
-begun_pair = receive begin_with_aarq (Output.begin 1 (Some context) [] ∷ invoke_told ∷ [])
+begun_pair = received_pair begin_with_aarq (Output.begin 1 (Some context) [] ∷ invoke_told ∷ [])
 
 -- The message: its dialogue portion is the AARQ (own).
 abbrev pub begun_message : Message
@@ -151,12 +151,12 @@ crossed_invoke = ComponentParts.invoke (pos 1) None (code 10) None
 
 -- Dialogue 2 sends what is in the queue of dialogue 1 (own).
 abbrev pub crossed_queues : Wrong
-crossed_queues = wrong engine (
-    born 1
-    ∷ born 2
-    ∷ invoke 1 (pos 1) One (pos 10) 1000 (Answer.number 1)
+crossed_queues = wrong usual_start (
+    dialogue_born 1
+    ∷ dialogue_born 2
+    ∷ invoke_pair 1 (pos 1) One (pos 10) 1000 (Answer.number 1)
     ∷ [])
-    (request 2 plain_begin (Answer.outputs (Output.send crossed_sent ∷ [])))
+    (request_pair 2 begin_request (Answer.outputs (Output.send crossed_sent ∷ [])))
 
 -- ---- an Invoke that is misread
 
@@ -166,4 +166,4 @@ misread_told = Output.invoked (Some 1) (pos 1) None (code 3) (Some (hex 5 0x3003
 
 -- It is all that happens (own).
 abbrev pub misread : Wrong
-misread = wrong engine [] (receive begin_with_aarq (Output.begin 1 (Some context) [] ∷ misread_told ∷ []))
+misread = wrong usual_start [] (received_pair begin_with_aarq (Output.begin 1 (Some context) [] ∷ misread_told ∷ []))

@@ -14,7 +14,7 @@ use Rattle.tcap_model.specs.Words.Output.{Output, Closing}
 use Rattle.tcap_model.specs.Histories.Pair.{Pair, Past}
 use Rattle.tcap_model.specs.Words.Request.{Request}
 use Rattle.tcap_examples.specs.Nets.WorkedNets.{repeated_begin, heard_as_one}
-use Rattle.tcap_examples.specs.Values.WorkedWords.{born, invoke, request, advance, plain_begin}
+use Rattle.tcap_examples.specs.Values.WorkedWords.{dialogue_born, invoke_pair, request_pair, moment_pair, begin_request}
 
 -- The first of the last two invocation numbers (own).
 abbrev pub last_but_one : ℕ
@@ -30,11 +30,11 @@ two_left = record { max_dialogues = 4; reject_ms = 1000; next_dialogue = 1; next
 
 -- A dialogue begins with an Invoke (own).
 abbrev pub begins : ℕ → List ℕ → Pair
-begins dialogue bytes = request dialogue plain_begin (Answer.outputs (Output.send bytes ∷ []))
+begins dialogue bytes = request_pair dialogue begin_request (Answer.outputs (Output.send bytes ∷ []))
 
 -- The Begin of the first dialogue (own).
-abbrev pub first_begin : List ℕ
-first_begin = hex 18 0x6210_480400000001_6C08_A106_020101_02010A
+abbrev pub begin_of_the_first : List ℕ
+begin_of_the_first = hex 18 0x6210_480400000001_6C08_A106_020101_02010A
 
 -- The Begin of the second dialogue (own).
 abbrev pub second_begin : List ℕ
@@ -54,25 +54,25 @@ abbrev pub two_dialogues : History
 two_dialogues = record {
   start = two_left;
   pairs = reverse (
-      advance 5 []
-      ∷ born 1
-      ∷ born 2
-      ∷ invoke 2 (pos 1) One (pos 10) 1000 (Answer.number last_but_one)
-      ∷ invoke 1 (pos 1) One (pos 10) 1000 (Answer.number last)
+      moment_pair 5 []
+      ∷ dialogue_born 1
+      ∷ dialogue_born 2
+      ∷ invoke_pair 2 (pos 1) One (pos 10) 1000 (Answer.number last_but_one)
+      ∷ invoke_pair 1 (pos 1) One (pos 10) 1000 (Answer.number last)
       ∷ begins 2 second_begin
-      ∷ begins 1 first_begin
-      ∷ advance 1005 (first_lapses ∷ second_lapses ∷ [])
+      ∷ begins 1 begin_of_the_first
+      ∷ moment_pair 1005 (first_lapses ∷ second_lapses ∷ [])
       ∷ []);
 }
 
 -- What the first dialogue sees of it, in order of time (own).
 abbrev pub first_alone : Past
 first_alone = reverse (
-    advance 5 []
-    ∷ born 1
-    ∷ invoke 1 (pos 1) One (pos 10) 1000 (Answer.number last)
-    ∷ begins 1 first_begin
-    ∷ advance 1005 (first_lapses ∷ [])
+    moment_pair 5 []
+    ∷ dialogue_born 1
+    ∷ invoke_pair 1 (pos 1) One (pos 10) 1000 (Answer.number last)
+    ∷ begins 1 begin_of_the_first
+    ∷ moment_pair 1005 (first_lapses ∷ [])
     ∷ [])
 
 -- Up to the moment at which both lapse (own).

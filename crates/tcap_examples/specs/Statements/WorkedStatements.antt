@@ -1,7 +1,7 @@
 -- The histories and invocations on which the statements about one engine are instantiated.
 use Rattle.std.specs.Prelude.{pos, drop}
 use Rattle.tcap_invocation.specs.declared.class.Class.TheVariants.{One}
-use Rattle.tcap_model.specs.Statements.HeadlineLaws.{Ending}
+use Rattle.tcap_model.specs.Statements.HeadlineLaws.{ToldClosing}
 use Rattle.tcap_model.specs.Histories.History.{History}
 use Rattle.tcap_model.specs.Invocations.Invocation.{Invocation}
 use Rattle.tcap_model.specs.Words.Output.{Closing}
@@ -9,20 +9,20 @@ use Rattle.tcap_examples.specs.Histories.WorkedClosing as closing
 use Rattle.tcap_examples.specs.Histories.WorkedEnds as ends
 
 -- Number 1 is answered; number 2 ends with its dialogue, at a second AARE (own).
-abbrev pub repeated_aare : History
-repeated_aare = closing.repeated_aare.history
+abbrev pub repeated_aare_history : History
+repeated_aare_history = closing.repeated_aare.history
 
 -- Number 1 lapses at 1000; its result comes after that and is rejected (own).
-abbrev pub lapse_and_late_result : History
-lapse_and_late_result = closing.lapse_and_late_result.history
+abbrev pub late_result_history : History
+late_result_history = closing.lapse_and_late_result.history
 
 -- The same, up to the late result: the Reject of it is queued (own).
 abbrev pub late_result : History
-late_result = record { start = lapse_and_late_result.start; pairs = drop 2 lapse_and_late_result.pairs }
+late_result = record { start = late_result_history.start; pairs = drop 2 late_result_history.pairs }
 
 -- Number 1 is answered; number 2 isn't, since what stands behind a faulty component isn't told (own).
-abbrev pub faulty_second_component : History
-faulty_second_component = closing.faulty_second_component.history
+abbrev pub faulty_second_history : History
+faulty_second_history = closing.faulty_second_component.history
 
 -- Number 1 is given up by its user (own).
 abbrev pub given_up : History
@@ -38,5 +38,5 @@ abbrev pub second : Invocation
 second = record { number = 2; dialogue = 1; id = pos 2; class = One; timeout = 1000 }
 
 -- The first invocation ends so (own).
-abbrev pub first_ending : Closing → Ending
+abbrev pub first_ending : Closing → ToldClosing
 first_ending closing = record { dialogue = 1; id = pos 1; closing = closing }

@@ -15,44 +15,44 @@ use Rattle.tcap_model.specs.Words.Request.{Request}
 -- ---- events and answers
 
 -- A dialogue is asked for, and this one is born (own).
-abbrev pub born : ℕ → Pair
-born dialogue = record { event = Event.new_dialogue; answer = Answer.new_dialogue dialogue }
+abbrev pub dialogue_born : ℕ → Pair
+dialogue_born dialogue = record { event = Event.new_dialogue; answer = Answer.new_dialogue dialogue }
 
 -- A dialogue is asked for, and refused (own).
-abbrev pub not_born : Fault → Pair
-not_born fault = record { event = Event.new_dialogue; answer = Answer.refused fault }
+abbrev pub dialogue_refused : Fault → Pair
+dialogue_refused fault = record { event = Event.new_dialogue; answer = Answer.refused fault }
 
 -- TC-INVOKE in a dialogue with this identifier, class, local operation code and timeout, without
 -- parameter and linked identifier (own).
-abbrev pub invoke : ℕ → ℤ → Class → ℤ → ℕ → Answer → Pair
-invoke dialogue id class code timeout answer =
+abbrev pub invoke_pair : ℕ → ℤ → Class → ℤ → ℕ → Answer → Pair
+invoke_pair dialogue id class code timeout answer =
     record { event = Event.on_dialogue dialogue (Request.invoke id class (CodeParts.local code) None None timeout); answer = answer }
 
 -- A request on a dialogue (own).
-abbrev pub request : ℕ → Request → Answer → Pair
-request dialogue r answer = record { event = Event.on_dialogue dialogue r; answer = answer }
+abbrev pub request_pair : ℕ → Request → Answer → Pair
+request_pair dialogue r answer = record { event = Event.on_dialogue dialogue r; answer = answer }
 
 -- Bytes are received, and this is sent and told (own).
-abbrev pub receive : List ℕ → List Output → Pair
-receive bytes outputs = record { event = Event.received bytes; answer = Answer.outputs outputs }
+abbrev pub received_pair : List ℕ → List Output → Pair
+received_pair bytes outputs = record { event = Event.received bytes; answer = Answer.outputs outputs }
 
 -- A moment, and what is told (own).
-abbrev pub advance : ℕ → List Output → Pair
-advance now outputs = record { event = Event.moment now; answer = Answer.outputs outputs }
+abbrev pub moment_pair : ℕ → List Output → Pair
+moment_pair now outputs = record { event = Event.moment now; answer = Answer.outputs outputs }
 
 -- A moment is refused (own).
-abbrev pub not_advanced : ℕ → Fault → Pair
-not_advanced now fault = record { event = Event.moment now; answer = Answer.refused fault }
+abbrev pub moment_refused : ℕ → Fault → Pair
+moment_refused now fault = record { event = Event.moment now; answer = Answer.refused fault }
 
 -- ---- requests without parameters
 
 -- TC-BEGIN without application context (own).
-abbrev pub plain_begin : Request
-plain_begin = Request.begin None []
+abbrev pub begin_request : Request
+begin_request = Request.begin None []
 
 -- TC-CONTINUE without application context (own).
-abbrev pub plain_continue : Request
-plain_continue = Request.go_on None []
+abbrev pub continue_request : Request
+continue_request = Request.go_on None []
 
 -- ---- outputs
 
@@ -71,18 +71,18 @@ empty_result = Closing.result_last None
 -- ---- starts and beginnings
 
 -- An engine with at most four dialogues and a second to wait for a Reject (own).
-abbrev pub engine : Start
-engine = record { max_dialogues = 4; reject_ms = 1000; next_dialogue = 1; next_number = 1 }
+abbrev pub usual_start : Start
+usual_start = record { max_dialogues = 4; reject_ms = 1000; next_dialogue = 1; next_number = 1 }
 
 -- Dialogue 1 is opened with one Invoke: identifier 1, class 1, operation 10, with this timeout; its
 -- number is 1 (own).
 abbrev pub opened_for : ℕ → List Pair → List Pair
 opened_for timeout pairs =
-    born 1
-    ∷ invoke 1 (pos 1) One (pos 10) timeout (Answer.number 1)
-    ∷ request 1 plain_begin (Answer.outputs (Output.send (hex 18 0x6210_480400000001_6C08_A106_020101_02010A) ∷ []))
+    dialogue_born 1
+    ∷ invoke_pair 1 (pos 1) One (pos 10) timeout (Answer.number 1)
+    ∷ request_pair 1 begin_request (Answer.outputs (Output.send (hex 18 0x6210_480400000001_6C08_A106_020101_02010A) ∷ []))
     ∷ pairs
 
 -- The same, with a timeout of a second (own).
-abbrev pub opened : List Pair → List Pair
-opened pairs = opened_for 1000 pairs
+abbrev pub opened_with_invoke : List Pair → List Pair
+opened_with_invoke pairs = opened_for 1000 pairs

@@ -18,8 +18,8 @@ use Rattle.tcap_examples.specs.Histories.WorldSteps.{Step, Walk}
 -- ---- engines
 
 -- At most four dialogues, a second to wait for a Reject, and both counters at 1 (own).
-abbrev pub started : Start
-started = record { max_dialogues = 4; reject_ms = 1000; next_dialogue = 1; next_number = 1 }
+abbrev pub steps_start : Start
+steps_start = record { max_dialogues = 4; reject_ms = 1000; next_dialogue = 1; next_number = 1 }
 
 -- The engine before its first dialogue (own).
 abbrev pub empty_engine : World
@@ -33,8 +33,8 @@ engine_with clock next_number dialogues =
 
 -- The engine where dialogue 1 stands: the clock, the number of the next invocation, and the dialogue
 -- (own).
-abbrev pub engine : ℕ → ℕ → Dialogue → World
-engine clock next_number dialogue = engine_with clock next_number (dialogue ∷ [])
+abbrev pub engine_of_one : ℕ → ℕ → Dialogue → World
+engine_of_one clock next_number dialogue = engine_with clock next_number (dialogue ∷ [])
 
 -- The engine where dialogue 1 is over: the clock, and the number of the next invocation (own).
 abbrev pub engine_after : ℕ → ℕ → World
@@ -52,38 +52,38 @@ abbrev pub invoke_queued : List ℕ → ℕ → Queued
 invoke_queued octets number = record { octets = octets; invoking = Some (record { number = number; class = One }) }
 
 -- A Reject in the queue, by its octets (own).
-abbrev pub reject_queued : List ℕ → Queued
-reject_queued octets = record { octets = octets; invoking = None }
+abbrev pub queued_reject : List ℕ → Queued
+queued_reject octets = record { octets = octets; invoking = None }
 
 -- An invocation of class 1: its invoke identifier, its number and its stage (own).
-abbrev pub row : ℤ → ℕ → Stage → Row
-row id number stage = (id, record { number = number; class = One; stage = stage })
+abbrev pub class_one_row : ℤ → ℕ → Stage → Row
+class_one_row id number stage = (id, record { number = number; class = One; stage = stage })
 
 -- ---- steps
 
 -- These steps, from the engine before its first dialogue on (own).
 abbrev pub walk : List Step → Walk
-walk steps = record { start = started; before = empty_engine; steps = steps }
+walk steps = record { start = steps_start; before = empty_engine; steps = steps }
 
 -- A dialogue is asked for, and number 1 is born (own).
 abbrev pub new_dialogue_1 : World → Step
 new_dialogue_1 after = record { event = Event.new_dialogue; answer = Answer.new_dialogue 1; after = after }
 
 -- A request on dialogue 1 (own).
-abbrev pub request : Request → Answer → World → Step
-request asked answer after = record { event = Event.on_dialogue 1 asked; answer = answer; after = after }
+abbrev pub request_step : Request → Answer → World → Step
+request_step asked answer after = record { event = Event.on_dialogue 1 asked; answer = answer; after = after }
 
 -- Bytes are received (own).
-abbrev pub receive : List ℕ → List Output → World → Step
-receive bytes outputs after = record { event = Event.received bytes; answer = Answer.outputs outputs; after = after }
+abbrev pub receive_step : List ℕ → List Output → World → Step
+receive_step bytes outputs after = record { event = Event.received bytes; answer = Answer.outputs outputs; after = after }
 
 -- A moment is handed in (own).
-abbrev pub advance : ℕ → List Output → World → Step
-advance now outputs after = record { event = Event.moment now; answer = Answer.outputs outputs; after = after }
+abbrev pub moment_step : ℕ → List Output → World → Step
+moment_step now outputs after = record { event = Event.moment now; answer = Answer.outputs outputs; after = after }
 
 -- ---- requests
 
 -- TC-INVOKE with this invoke identifier, operation and timeout, of class 1, without parameter and
 -- linked identifier (own).
-abbrev pub invoke : ℤ → ℕ → ℕ → Request
-invoke id operation timeout = Request.invoke id One (code operation) None None timeout
+abbrev pub invoke_request : ℤ → ℕ → ℕ → Request
+invoke_request id operation timeout = Request.invoke id One (code operation) None None timeout

@@ -10,7 +10,7 @@ ghost use Rattle.tcap_examples.specs.Nets.WorkedPlay as worked;
 pub fn repeated_begin()
     ensures at_the_first { Works worked.repeated_begin_at_the_first }
     ensures at_the_second { Works worked.repeated_begin_at_the_second }
-    ensures in_the_net { IsNet worked.repeated_begin }
+    ensures in_the_net { IsNet worked.repeated_begin_played }
 {}
 
 /// A result that isn't the last is told as often as it comes, and where the End is lost the invocation

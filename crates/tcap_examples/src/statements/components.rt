@@ -8,7 +8,7 @@ ghost use Rattle.tcap_component.specs.ComponentList.{FirstFault};
 ghost use Rattle.tcap_model.specs.Statements.ComponentLaws.{portion_of, SentFromOne, SentFrom, IsOfComponent, ToldFromOne, ToldFrom};
 ghost use Rattle.tcap_model.specs.Words.Output.{Output};
 ghost use Rattle.tcap_model.specs.Statements.Places.{StandsIn, Tells};
-ghost use Rattle.tcap_examples.specs.Statements.WorkedComponents.{past, begin_sent, begin_pair, begin_message, two_invokes, before_the_begin, reject_sent, reject_pair, reject_message, reject, before_the_reject, late, result_told, result_pair, before_the_result, begun, begun_pair, invoke_told, crossed_queues, misread};
+ghost use Rattle.tcap_examples.specs.Statements.WorkedComponents.{past, begin_sent, begin_pair, begin_message, two_invokes, before_the_begin, reject_continue, reject_pair, reject_message, reject, before_the_reject, late, result_told, result_pair, before_the_result, begin_received, begun_pair, invoke_told, crossed_queues, misread};
 ghost use Rattle.tcap_examples.specs.Wrong.WorkedWrong.{GoesWrong, whole};
 
 /// Two Invokes in a Begin: each was asked for by an accepted request of its dialogue.
@@ -23,8 +23,8 @@ pub fn invokes_are_those_requested()
 /// A Reject in a Continue: it was formed in its dialogue. So all that is sent comes from there.
 pub fn a_reject_is_that_formed()
     ensures stands { StandsIn reject_pair before_the_reject past }
-    ensures tells { Tells reject_pair.answer (Output.send reject_sent) }
-    ensures spelled { SpellsFrame reject_message reject_sent }
+    ensures tells { Tells reject_pair.answer (Output.send reject_continue) }
+    ensures spelled { SpellsFrame reject_message reject_continue }
     ensures read { FirstFault reject None (portion_of reject_message) }
     ensures sent_from { SentFromOne reject_pair.event before_the_reject reject None }
     ensures all { SentFrom past }
@@ -46,11 +46,11 @@ pub fn a_result_is_that_received()
 
 /// So is an Invoke.
 pub fn an_invoke_is_that_received()
-    ensures stands { StandsIn begun_pair [] begun }
+    ensures stands { StandsIn begun_pair [] begin_received }
     ensures tells { Tells begun_pair.answer invoke_told }
     ensures of_component { IsOfComponent invoke_told }
     ensures told_from { ToldFromOne begun_pair.event invoke_told }
-    ensures all { ToldFrom begun }
+    ensures all { ToldFrom begin_received }
 {}
 
 /// Where a dialogue sends the queue of another, the last answer isn't the reply, and what is sent doesn't

@@ -6,51 +6,51 @@ ghost use Rattle.std.specs.Prelude.{◌≡◌, ◌≤◌, [], ◌∷◌, length,
 ghost use Rattle.tcap_model.specs.Histories.Clock.{clock};
 ghost use Rattle.tcap_model.specs.Invocations.Closings.{closings};
 ghost use Rattle.tcap_model.specs.Invocations.Deadline.{deadline};
-ghost use Rattle.tcap_model.specs.Statements.HeadlineLaws.{Decided, HasOutcome, Counted, Bounded, ending_told};
+ghost use Rattle.tcap_model.specs.Statements.HeadlineLaws.{Decided, HasOutcome, Counted, Bounded, told_closing};
 ghost use Rattle.tcap_model.specs.Invocations.Invocation.{invocation_of};
 ghost use Rattle.tcap_model.specs.Replies.Legal.{IsLegal};
 ghost use Rattle.tcap_model.specs.Histories.Life.{Life, life};
 ghost use Rattle.tcap_model.specs.Words.Output.{Closing};
 ghost use Rattle.tcap_model.specs.Replies.Queue.{queue};
 ghost use Rattle.tcap_model.specs.Procedures.QueueRules.{joined};
-ghost use Rattle.tcap_examples.specs.Statements.WorkedStatements.{repeated_aare, lapse_and_late_result, late_result, faulty_second_component, given_up, first, second, first_ending};
+ghost use Rattle.tcap_examples.specs.Statements.WorkedStatements.{repeated_aare_history, late_result_history, late_result, faulty_second_history, given_up, first, second, first_ending};
 
 /// Decided, of invocations that are answered, ended, lapsed, given up and not closed.
 pub fn closings_are_decided()
-    ensures aare_legal { IsLegal repeated_aare }
-    ensures answered { Decided repeated_aare 1 }
-    ensures ended { Decided repeated_aare 2 }
-    ensures lapse_legal { IsLegal lapse_and_late_result }
-    ensures lapsed { Decided lapse_and_late_result 1 }
+    ensures aare_legal { IsLegal repeated_aare_history }
+    ensures answered { Decided repeated_aare_history 1 }
+    ensures ended { Decided repeated_aare_history 2 }
+    ensures lapse_legal { IsLegal late_result_history }
+    ensures lapsed { Decided late_result_history 1 }
     ensures cancel_legal { IsLegal given_up }
     ensures given_up { Decided given_up 1 }
-    ensures faulty_legal { IsLegal faulty_second_component }
-    ensures not_closed { Decided faulty_second_component 2 }
+    ensures faulty_legal { IsLegal faulty_second_history }
+    ensures not_closed { Decided faulty_second_history 2 }
 {}
 
 /// The closing indications are the outcome, of one that is answered and one that lapses.
 pub fn closings_are_the_outcome()
-    ensures aare_legal { IsLegal repeated_aare }
-    ensures first_found { invocation_of 1 repeated_aare.pairs ≡ Some first }
-    ensures first_outcome { HasOutcome repeated_aare 1 }
-    ensures first_told { map ending_told (closings 1 repeated_aare.pairs) ≡ first_ending (Closing.result_last None) ∷ [] }
-    ensures lapse_legal { IsLegal lapse_and_late_result }
-    ensures lapsed_found { invocation_of 1 lapse_and_late_result.pairs ≡ Some first }
-    ensures lapsed_outcome { HasOutcome lapse_and_late_result 1 }
-    ensures lapsed_told { map ending_told (closings 1 lapse_and_late_result.pairs) ≡ first_ending Closing.lapsed ∷ [] }
+    ensures aare_legal { IsLegal repeated_aare_history }
+    ensures first_found { invocation_of 1 repeated_aare_history.pairs ≡ Some first }
+    ensures first_outcome { HasOutcome repeated_aare_history 1 }
+    ensures first_told { map told_closing (closings 1 repeated_aare_history.pairs) ≡ first_ending (Closing.result_last None) ∷ [] }
+    ensures lapse_legal { IsLegal late_result_history }
+    ensures lapsed_found { invocation_of 1 late_result_history.pairs ≡ Some first }
+    ensures lapsed_outcome { HasOutcome late_result_history 1 }
+    ensures lapsed_told { map told_closing (closings 1 late_result_history.pairs) ≡ first_ending Closing.lapsed ∷ [] }
 {}
 
 /// One closing indication, since a moment past the deadline came, and since the dialogue is over.
 pub fn closings_are_counted()
-    ensures lapse_legal { IsLegal lapse_and_late_result }
-    ensures lapsed_found { invocation_of 1 lapse_and_late_result.pairs ≡ Some first }
-    ensures deadline { deadline first lapse_and_late_result.pairs ≡ Some 1000 }
-    ensures late { 1000 ≤ clock lapse_and_late_result.pairs }
-    ensures lapsed_counted { Counted lapse_and_late_result 1 }
-    ensures aare_legal { IsLegal repeated_aare }
-    ensures second_found { invocation_of 2 repeated_aare.pairs ≡ Some second }
-    ensures over { life second.dialogue repeated_aare.pairs ≡ Life.over }
-    ensures second_counted { Counted repeated_aare 2 }
+    ensures lapse_legal { IsLegal late_result_history }
+    ensures lapsed_found { invocation_of 1 late_result_history.pairs ≡ Some first }
+    ensures deadline { deadline first late_result_history.pairs ≡ Some 1000 }
+    ensures late { 1000 ≤ clock late_result_history.pairs }
+    ensures lapsed_counted { Counted late_result_history 1 }
+    ensures aare_legal { IsLegal repeated_aare_history }
+    ensures second_found { invocation_of 2 repeated_aare_history.pairs ≡ Some second }
+    ensures over { life second.dialogue repeated_aare_history.pairs ≡ Life.over }
+    ensures second_counted { Counted repeated_aare_history 2 }
 {}
 
 /// Within its bounds, with a Reject in a queue and an invocation that lapsed.

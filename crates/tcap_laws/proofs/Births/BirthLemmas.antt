@@ -16,7 +16,7 @@ use Rattle.tcap_model.specs.Words.LocalId.{is_that}
 use Rattle.tcap_model.specs.Histories.Pair.{Pair, Past}
 use Rattle.tcap_model.specs.Replies.Reply.{reply}
 use Rattle.tcap_laws.proofs.Births.BornLemmas.{IsBornNext, reply-born}
-use Rattle.tcap_laws.proofs.Births.DrawnLemmas.{IsDrawn, drawn-step, range-rises}
+use Rattle.tcap_laws.proofs.Births.DrawnLemmas.{IsDrawnNext, drawn-step, range-rises}
 use Rattle.tcap_laws.proofs.Births.LifeLemmas.{born-stays}
 
 -- ---- the counter
@@ -32,7 +32,7 @@ pub pair-born : (start : Start) (pair : Pair) (past : Past) → AreReplies start
 pair-born start pair past legal =
     subst (λ (answer : Answer). IsBornNext (start.next_dialogue + births past) (birth_due (record { start = start; pairs = past })) (born_of pair.event answer) (born_life pair.event)) (sym legal.1) (reply-born (record { start = start; pairs = past }) pair.event)
 
-drawn-born : (next : ℕ) (due : Option Fault) (born : Option ℕ) (made : Life) → IsBornNext next due born made → IsDrawn next born
+drawn-born : (next : ℕ) (due : Option Fault) (born : Option ℕ) (made : Life) → IsBornNext next due born made → IsDrawnNext next born
 drawn-born next due born made (inl none) = inl none
 drawn-born next due born made (inr birth) = inr birth.is_next
 
@@ -101,9 +101,9 @@ unspent most standing next e = elim (cases_Bool (nat_le most standing)) [
   ]
 ]
 
-counter-below : (a n : ℕ) (due : Option Fault) (born : Option ℕ) (made : Life) → IsBornNext (a + n) due born made → (due ≡ None → are_dialogues_spent (a + n) ≡ false) → a + n ≤ last_dialogue → a + (if is_some born then n + 1 else n) ≤ last_dialogue
-counter-below a n due born made (inl none) left within = rw none within
-counter-below a n due born made (inr birth) left within =
+dialogue_counter-below : (a n : ℕ) (due : Option Fault) (born : Option ℕ) (made : Life) → IsBornNext (a + n) due born made → (due ≡ None → are_dialogues_spent (a + n) ≡ false) → a + n ≤ last_dialogue → a + (if is_some born then n + 1 else n) ≤ last_dialogue
+dialogue_counter-below a n due born made (inl none) left within = rw none within
+dialogue_counter-below a n due born made (inr birth) left within =
     let apart = eqb-false (a + n) last_dialogue (left birth.is_due) in
     rw birth.is_next (omega arith)
 
@@ -111,7 +111,7 @@ pub dialogues-below : (start : Start) (past : Past) → AreReplies start past �
 dialogues-below start [] legal within = omega arith
 dialogues-below start (pair ∷ past) legal within =
     let h : History = record { start = start; pairs = past } in
-    counter-below start.next_dialogue (births past) (birth_due h) (born_by pair) (born_life pair.event) (pair-born start pair past legal)
+    dialogue_counter-below start.next_dialogue (births past) (birth_due h) (born_by pair) (born_life pair.event) (pair-born start pair past legal)
     (unspent start.max_dialogues (length (standing_dialogues past)) (start.next_dialogue + births past))
     (dialogues-below start past legal.2 within)
 

@@ -5,7 +5,7 @@ use Rattle.tcap_pdu.specs.FrameReading.{frame_at}
 use Rattle.tcap_pdu.specs.FrameSpelling.{Message}
 use Rattle.tcap_component.specs.ComponentReading.{components_of}
 use Rattle.tcap_model.specs.Procedures.AbortRules.{abort_told}
-use Rattle.tcap_model.specs.Histories.Birth.{begun, first_begun, born_of, next_dialogue}
+use Rattle.tcap_model.specs.Histories.Birth.{dialogue_begun, first_begun, born_of, next_dialogue}
 use Rattle.tcap_model.specs.Procedures.ComponentHandling.{told_of, uni_told}
 use Rattle.tcap_model.specs.Replies.Due.{birth_due}
 use Rattle.tcap_model.specs.Words.Event.{Event}
@@ -25,7 +25,7 @@ use Rattle.tcap_laws.proofs.Receptions.ToldLemmas.{IsTold, AreTold, each-append,
 
 -- ---- outputs without a TC-BEGIN indication
 
-begun-told : (output : Output) → IsTold output → begun output ≡ None
+begun-told : (output : Output) → IsTold output → dialogue_begun output ≡ None
 begun-told (Output.send bytes) told = absurd told
 begun-told (Output.uni context info) told = refl
 begun-told (Output.begin dialogue context info) told = absurd told
@@ -40,15 +40,15 @@ begun-told (Output.remote_reject dialogue id problem by) told = refl
 begun-told (Output.closed dialogue number id closing) told = refl
 begun-told (Output.dropped why) told = refl
 
-none-begun : (output : Output) (outputs : List Output) → begun output ≡ None → first_begun outputs ≡ None → first_begun (output ∷ outputs) ≡ None
+none-begun : (output : Output) (outputs : List Output) → dialogue_begun output ≡ None → first_begun outputs ≡ None → first_begun (output ∷ outputs) ≡ None
 none-begun output outputs first others = rw (first, others) refl
 
 told-begun : (outputs : List Output) → AreTold outputs → first_begun outputs ≡ None
 told-begun [] told = refl
 told-begun (output ∷ outputs) told = none-begun output outputs (begun-told output told.0) (told-begun outputs told.1)
 
-sends-begun : (output : Output) → Sends output → begun output ≡ None
-sends-begun output sends = ap begun sends.2
+sends-begun : (output : Output) → Sends output → dialogue_begun output ≡ None
+sends-begun output sends = ap dialogue_begun sends.2
 
 if_sends-begun : (abort : Option Output) (outputs : List Output) → IfSends abort → first_begun outputs ≡ None → first_begun (option_to_list abort ++ outputs) ≡ None
 if_sends-begun None outputs sends others = others
@@ -106,12 +106,12 @@ reception-born h bytes (Reception.taken dialogue message) sound = inl (taken-beg
 reception-born h bytes (Reception.broken dialogue abort cause) sound =
     inl (if_sends-begun abort (Output.p_abort dialogue (AbortCause.cause cause) ∷ ended_in dialogue h.pairs []) sound (told-begun (ended_in dialogue h.pairs []) (ended-told dialogue h.pairs [])))
 
-request-born : (h : History) (fault : Option Fault) → IsBornNext (next_dialogue h) fault (born_of Event.new_dialogue (birth_answer h fault)) (born_life Event.new_dialogue)
-request-born h (Some f) = inl refl
-request-born h None = inr (record { is_next = refl; is_due = refl; state = State.fresh; context = None; is_life = refl })
+asked-born : (h : History) (fault : Option Fault) → IsBornNext (next_dialogue h) fault (born_of Event.new_dialogue (birth_answer h fault)) (born_life Event.new_dialogue)
+asked-born h (Some f) = inl refl
+asked-born h None = inr (record { is_next = refl; is_due = refl; state = State.fresh; context = None; is_life = refl })
 
 pub reply-born : (h : History) (event : Event) → IsBornNext (next_dialogue h) (birth_due h) (born_of event (reply h event)) (born_life event)
-reply-born h Event.new_dialogue = request-born h (birth_due h)
+reply-born h Event.new_dialogue = asked-born h (birth_due h)
 reply-born h (Event.on_dialogue dialogue request) = inl refl
 reply-born h (Event.received bytes) =
     let live = λ (dialogue : ℕ). live_in (life dialogue h.pairs) in

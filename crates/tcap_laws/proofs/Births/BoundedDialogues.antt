@@ -52,9 +52,9 @@ room most standing next e = go (nat_le most standing) refl e
     go true q e = absurd cc
     go false q e = grind (arith, nat_tests)
 
-one-more : (test : ℕ → Bool) (n most next : ℕ) (due : Option Fault) (born : Option ℕ) (made : Life) → IsBornNext next due born made → n ≤ most → (due ≡ None → n + 1 ≤ most) → n + length (filter test (option_to_list born)) ≤ most
-one-more test n most next due born made (inl none) le fits = rw none (omega (arith, le))
-one-more test n most next due born made (inr birth) le fits = rw birth.is_next (go (test next))
+one_born-more : (test : ℕ → Bool) (n most next : ℕ) (due : Option Fault) (born : Option ℕ) (made : Life) → IsBornNext next due born made → n ≤ most → (due ≡ None → n + 1 ≤ most) → n + length (filter test (option_to_list born)) ≤ most
+one_born-more test n most next due born made (inl none) le fits = rw none (omega (arith, le))
+one_born-more test n most next due born made (inr birth) le fits = rw birth.is_next (go (test next))
   where
     empty : List ℕ
     empty = []
@@ -70,6 +70,6 @@ dialogues-bounded start (pair ∷ past) legal =
     let split = ap length (filter-append test (dialogues past) (option_to_list (born_by pair))) in
     let both = length-append (filter test (dialogues past)) (filter test (option_to_list (born_by pair))) in
     let fewer = stood-fewer start pair past legal.2 in
-    let more = one-more test (length (standing_dialogues past)) start.max_dialogues (start.next_dialogue + births past) (birth_due (record { start = start; pairs = past })) (born_by pair) (born_life pair.event)
+    let more = one_born-more test (length (standing_dialogues past)) start.max_dialogues (start.next_dialogue + births past) (birth_due (record { start = start; pairs = past })) (born_by pair) (born_life pair.event)
     (pair-born start pair past legal) (dialogues-bounded start past legal.2) (room start.max_dialogues (length (standing_dialogues past)) (start.next_dialogue + births past)) in
     omega (arith, split, both, fewer, more)

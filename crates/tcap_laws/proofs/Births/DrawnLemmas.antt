@@ -4,8 +4,8 @@ use Rattle.std.specs.List.{range_with_len}
 use Rattle.std.proofs.lemmas.List.FromFn.{length-range_with_len, get_or-range_with_len}
 
 -- nothing, or the next number
-abbrev pub IsDrawn : ℕ → Option ℕ → Type 0
-IsDrawn next drawn = (drawn ≡ None) ⊎ (drawn ≡ Some next)
+abbrev pub IsDrawnNext : ℕ → Option ℕ → Type 0
+IsDrawnNext next drawn = (drawn ≡ None) ⊎ (drawn ≡ Some next)
 
 range-suc : (a n : ℕ) → range_with_len a (suc n) ≡ range_with_len a n ++ (a + n) ∷ []
 range-suc a zero = let e : a ≡ a + 0 = omega arith in ap (λ (x : ℕ). x ∷ []) e
@@ -15,7 +15,7 @@ pub range-more : (a n : ℕ) → range_with_len a (n + 1) ≡ range_with_len a n
 range-more a n = ap (range_with_len a) (add-one n) ∙ range-suc a n
 
 -- one step of a counter
-pub drawn-step : (a n : ℕ) (drawn : Option ℕ) (some : Bool) → some ≡ is_some drawn → IsDrawn (a + n) drawn → range_with_len a n ++ option_to_list drawn ≡ range_with_len a (if some then n + 1 else n)
+pub drawn-step : (a n : ℕ) (drawn : Option ℕ) (some : Bool) → some ≡ is_some drawn → IsDrawnNext (a + n) drawn → range_with_len a n ++ option_to_list drawn ≡ range_with_len a (if some then n + 1 else n)
 drawn-step a n drawn some e (inl none) = rw (e, none) (append-nil (range_with_len a n))
 drawn-step a n drawn some e (inr next) = rw (e, next) (sym (range-more a n))
 

@@ -28,21 +28,21 @@ IsBorn Life.unborn = ⊥
 IsBorn (Life.standing state context) = Unit {0}
 IsBorn Life.over = Unit {0}
 
-request-born : (state : State) (context : Option (List ℕ)) (request : Request) → IsBorn (life_by_request state context request)
-request-born state context (Request.invoke id class code parameter linked timeout) = tt
-request-born state context (Request.result_last id body) = tt
-request-born state context (Request.result_more id body) = tt
-request-born state context (Request.error_back id code parameter) = tt
-request-born state context (Request.u_reject id problem) = tt
-request-born state context (Request.u_cancel id) = tt
-request-born state context (Request.uni asked info) = tt
-request-born state context (Request.begin asked info) = tt
-request-born state context (Request.go_on asked info) = tt
-request-born state context (Request.finish ending asked info) = tt
-request-born state context (Request.u_abort why info) = tt
+request-was_born : (state : State) (context : Option (List ℕ)) (request : Request) → IsBorn (life_by_request state context request)
+request-was_born state context (Request.invoke id class code parameter linked timeout) = tt
+request-was_born state context (Request.result_last id body) = tt
+request-was_born state context (Request.result_more id body) = tt
+request-was_born state context (Request.error_back id code parameter) = tt
+request-was_born state context (Request.u_reject id problem) = tt
+request-was_born state context (Request.u_cancel id) = tt
+request-was_born state context (Request.uni asked info) = tt
+request-was_born state context (Request.begin asked info) = tt
+request-was_born state context (Request.go_on asked info) = tt
+request-was_born state context (Request.finish ending asked info) = tt
+request-was_born state context (Request.u_abort why info) = tt
 
 accepted-born : (accepted : Bool) (state : State) (context : Option (List ℕ)) (request : Request) → IsBorn (life_if_accepted accepted state context request)
-accepted-born true state context request = request-born state context request
+accepted-born true state context request = request-was_born state context request
 accepted-born false state context request = tt
 
 verdict-born : (state : State) (context : Option (List ℕ)) (origin : List ℕ) (verdict : PortionVerdict) → IsBorn (life_by_verdict state context origin verdict)

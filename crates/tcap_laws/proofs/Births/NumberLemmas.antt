@@ -18,14 +18,14 @@ use Rattle.tcap_model.specs.Replies.Reply.{reply, birth_answer, request_answer, 
 use Rattle.tcap_model.specs.Words.Request.{Request}
 use Rattle.tcap_model.specs.Procedures.Standing.{Standing}
 use Rattle.tcap_model.specs.Words.Time.{moment_fault}
-use Rattle.tcap_laws.proofs.Births.DrawnLemmas.{IsDrawn, drawn-step, range-rises}
+use Rattle.tcap_laws.proofs.Births.DrawnLemmas.{IsDrawnNext, drawn-step, range-rises}
 
 abbrev pub number : Invocation → ℕ
 number i = i.number
 
 -- the number that an answer carries is that of the invocation, and the next one
 abbrev pub IsNumbered : ℕ → Event → Answer → Type 0
-IsNumbered next event answer = (number_of answer ≡ option_map number (invoked_of event answer)) × IsDrawn next (number_of answer)
+IsNumbered next event answer = (number_of answer ≡ option_map number (invoked_of event answer)) × IsDrawnNext next (number_of answer)
 
 -- ---- the answers
 
@@ -113,6 +113,6 @@ numbers-rise start past legal =
 pub number-next : (h : History) (event : Event) (n : ℕ) → number_of (reply h event) ≡ Some n → n ≡ next_number h
 number-next h event n e = next (number_of (reply h event)) (reply-numbered h event).1 e
   where
-    next : (drawn : Option ℕ) → IsDrawn (next_number h) drawn → drawn ≡ Some n → n ≡ next_number h
+    next : (drawn : Option ℕ) → IsDrawnNext (next_number h) drawn → drawn ≡ Some n → n ≡ next_number h
     next drawn (inl none) e = absurd cc
     next drawn (inr some) e = cc

@@ -90,9 +90,9 @@ reply-unspent h (Event.on_dialogue dialogue request) n e = request-unspent h dia
 reply-unspent h (Event.received bytes) n e = absurd cc
 reply-unspent h (Event.moment now) n e = absurd (moment-none h.pairs now (moment_fault now) n e)
 
-counter-below : (a n : ℕ) (i : Option Invocation) (drawn : Option ℕ) → drawn ≡ option_map number i → ((m : ℕ) → drawn ≡ Some m → are_numbers_spent (a + n) ≡ false) → a + n ≤ last_number → a + (if is_some i then n + 1 else n) ≤ last_number
-counter-below a n None drawn same unspent within = within
-counter-below a n (Some i) drawn same unspent within =
+number_counter-below : (a n : ℕ) (i : Option Invocation) (drawn : Option ℕ) → drawn ≡ option_map number i → ((m : ℕ) → drawn ≡ Some m → are_numbers_spent (a + n) ≡ false) → a + n ≤ last_number → a + (if is_some i then n + 1 else n) ≤ last_number
+number_counter-below a n None drawn same unspent within = within
+number_counter-below a n (Some i) drawn same unspent within =
     let apart = eqb-false (a + n) last_number (unspent i.number same) in
     omega arith
 
@@ -100,6 +100,6 @@ pub numbers-below : (start : Start) (past : Past) → AreReplies start past → 
 numbers-below start [] legal within = omega arith
 numbers-below start (pair ∷ past) legal within =
     let numbered = pair-numbered start pair past legal in
-    counter-below start.next_number (invokes past) (invoked_by pair) (number_of pair.answer) numbered.0
+    number_counter-below start.next_number (invokes past) (invoked_by pair) (number_of pair.answer) numbered.0
     (λ n e. reply-unspent (record { start = start; pairs = past }) pair.event n (ap number_of (sym legal.1) ∙ e))
     (numbers-below start past legal.2 within)

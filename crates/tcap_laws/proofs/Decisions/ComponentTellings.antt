@@ -12,12 +12,12 @@ use Rattle.tcap_component.specs.Problem.{ProblemParts}
 use Rattle.tcap_invocation.specs.declared.class.Class.{Class}
 use Rattle.tcap_invocation.specs.declared.class.Class.TheVariants.{One, Two, Three, Four}
 use Rattle.tcap_invocation.specs.Class.{Received, class_rule}
-use Rattle.tcap_laws.proofs.Spans.BornDialogues.{noted_at}
+use Rattle.tcap_laws.proofs.Spans.BornDialogues.{noted_at_clock}
 use Rattle.tcap_laws.proofs.Decisions.ToldOutputs.{told, IsOther, handled_other}
 use Rattle.tcap_model.specs.Invocations.Closes.{closing_of, closing_by}
 use Rattle.tcap_model.specs.Invocations.Closings.{Told, told_by_output}
 use Rattle.tcap_model.specs.Procedures.ComponentHandling.{Item, SentInvocation, subject_of, told_of, result_handled, error_handled, reject_handled, result_by, error_by, reject_by}
-use Rattle.tcap_model.specs.Invocations.Decision.{told_of as decided_told, as_list}
+use Rattle.tcap_model.specs.Invocations.Decision.{told_outcome as decided_told, as_list}
 use Rattle.tcap_model.specs.Invocations.Invocation.{Invocation, latest}
 use Rattle.tcap_model.specs.Invocations.Marks.{Mark, marks_of_component, component_marks}
 use Rattle.tcap_model.specs.Words.Output.{Closing}
@@ -60,7 +60,7 @@ marks-append id [] ys g = refl
 marks-append id (Ok c ∷ xs) ys g = ap (λ z. marks_of_component id c ++ z) (marks-append id xs ys g) ∙ sym (append_assoc (marks_of_component id c) (component_marks id xs) (component_marks id ys))
 marks-append id (Err f ∷ xs) ys g = absurd g
 
-pub noted-append : (c : ℕ) (xs ys : List Mark) → noted_at c (xs ++ ys) ≡ noted_at c xs ++ noted_at c ys
+pub noted-append : (c : ℕ) (xs ys : List Mark) → noted_at_clock c (xs ++ ys) ≡ noted_at_clock c xs ++ noted_at_clock c ys
 noted-append c xs ys = map-append (λ (mark : Mark). record { clock = c; mark = mark }) xs ys
 
 -- ---- nothing is told where something has closed

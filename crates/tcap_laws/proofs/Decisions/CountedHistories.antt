@@ -4,7 +4,7 @@ use Rattle.std.specs.Prelude.{find, is_some, option_map, option_to_list}
 use Rattle.std.specs.Option.{option_or}
 use Rattle.tcap_component.specs.ComponentReading.{components_of}
 use Rattle.tcap_invocation.specs.declared.class.Class.{Class}
-use Rattle.tcap_laws.proofs.Spans.BornDialogues.{was_alive, noted_at}
+use Rattle.tcap_laws.proofs.Spans.BornDialogues.{was_alive, noted_at_clock}
 use Rattle.tcap_laws.proofs.Decisions.ComponentTellings.{noted-append}
 use Rattle.tcap_laws.proofs.Decisions.DecidedHistories.{closings_are}
 use Rattle.tcap_laws.proofs.Spans.DecisionSteps.{closing_after-append, first_closing-append, made_found, outcome_stays, closing_of_decision, invocation_stays}
@@ -43,11 +43,11 @@ use Rattle.tcap_pdu.specs.FrameSpelling.{Message}
 
 module _ (class : Class) (timeout : ℕ) (c : ℕ) (before : List Noted) where
   abbrev Closes : List Mark → Type 0
-  Closes ms = is_some (closing_after class timeout before (noted_at c ms)) ≡ true
+  Closes ms = is_some (closing_after class timeout before (noted_at_clock c ms)) ≡ true
 
   end_last : (ms : List Mark) → Closes (ms ++ Mark.end ∷ [])
   end_last ms = ap (λ z. is_some (closing_after class timeout before z)) (noted-append c ms (Mark.end ∷ []))
-      ∙ (ap is_some (closing_after-append class timeout before (noted_at c ms) (noted_at c (Mark.end ∷ []))) ∙ go (closing_after class timeout before (noted_at c ms)))
+      ∙ (ap is_some (closing_after-append class timeout before (noted_at_clock c ms) (noted_at_clock c (Mark.end ∷ []))) ∙ go (closing_after class timeout before (noted_at_clock c ms)))
     where
       go : (o : Option Closing) → is_some (option_or o (Some Closing.ended)) ≡ true
       go None = refl
@@ -156,10 +156,10 @@ module _ (start : Start) (pair : Pair) (past : Past) (n : ℕ) (i : Invocation) 
       go : (b : Bool) → names pair.event i.dialogue ≡ b → life_if_named b s c pair ≡ Life.over → ⊥
       go false q e = absurd cc
       go true q e =
-          let closes : is_some (closing_after i.class i.timeout (span i past) (noted_at (clock past) (marks_by_event i.id (Life.standing s c) Life.over pair.event (is_accepted pair.answer)))) ≡ true =
+          let closes : is_some (closing_after i.class i.timeout (span i past) (noted_at_clock (clock past) (marks_by_event i.id (Life.standing s c) Life.over pair.event (is_accepted pair.answer)))) ≡ true =
           event_closes i.class i.timeout (clock past) (span i past) i.id s c pair.event (is_accepted pair.answer) e in
-          let marks_here : marks i.dialogue i.id pair past ≡ noted_at (clock past) (marks_by_event i.id (Life.standing s c) Life.over pair.event (is_accepted pair.answer)) =
-          standing_marks i.dialogue i.id pair.event pair.answer past s c stands q ∙ ap (λ l. noted_at (clock past) (marks_by_event i.id (Life.standing s c) l pair.event (is_accepted pair.answer))) e in
+          let marks_here : marks i.dialogue i.id pair past ≡ noted_at_clock (clock past) (marks_by_event i.id (Life.standing s c) Life.over pair.event (is_accepted pair.answer)) =
+          standing_marks i.dialogue i.id pair.event pair.answer past s c stands q ∙ ap (λ l. noted_at_clock (clock past) (marks_by_event i.id (Life.standing s c) l pair.event (is_accepted pair.answer))) e in
           let never : false ≡ true = ap is_some (sym (second (first_closing i.class i.timeout (span i past)) (closing_after i.class i.timeout (span i past) (marks i.dialogue i.id pair past)) open_here)) ∙ (ap (λ z. is_some (closing_after i.class i.timeout (span i past) z)) marks_here ∙ closes) in
           cc
 

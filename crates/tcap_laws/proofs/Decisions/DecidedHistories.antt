@@ -13,7 +13,7 @@ use Rattle.tcap_laws.proofs.Spans.SupersededInvocations.{latest_if_open, decided
 use Rattle.tcap_laws.proofs.Decisions.ToldParts.{gain}
 use Rattle.tcap_model.specs.Words.Answer.{Answer}
 use Rattle.tcap_model.specs.Invocations.Closings.{Told, told_by_answer, closings}
-use Rattle.tcap_model.specs.Invocations.Decision.{told_of, decided_of, decided_at, decision, as_list}
+use Rattle.tcap_model.specs.Invocations.Decision.{told_outcome, decided_of, decided_at, decision, as_list}
 use Rattle.tcap_model.specs.Histories.History.{Start}
 use Rattle.tcap_model.specs.Invocations.Invocation.{Invocation, invocation_of, latest}
 use Rattle.tcap_model.specs.Replies.Legal.{AreReplies}
@@ -44,7 +44,7 @@ module _ (start : Start) (pair : Pair) (past : Past) (n : ℕ) (legal : AreRepli
   new_undecided (Some i) q w =
       let number : i.number ≡ n = number_found n place i w in
       let new : is_some (invocation_of i.number past) ≡ false = ap (λ m. is_some (invocation_of m past)) number ∙ ap is_some q in
-      ap (λ ms. told_of place i (first_closing i.class i.timeout ms)) (span_new i pair past new)
+      ap (λ ms. told_outcome place i (first_closing i.class i.timeout ms)) (span_new i pair past new)
 
   none_step : invocation_of n past ≡ None → Steps
   none_step q =
@@ -96,8 +96,8 @@ module _ (start : Start) (pair : Pair) (past : Past) (n : ℕ) (legal : AreRepli
         ap (first_closing i.class i.timeout) (span_grows i pair past (made_found n past i found) unused)
         ∙ (first_closing-append i.class i.timeout (span i past) added ∙ ap (λ o. option_or o (closing_after i.class i.timeout (span i past) added)) still_open)
 
-    decision_now : decision n place ≡ told_of place i (closing_after i.class i.timeout (span i past) added)
-    decision_now = decided_now n pair past no_outcome ∙ (ap (decided_of place) (invocation_stays n pair past i found) ∙ ap (told_of place i) closing_now)
+    decision_now : decision n place ≡ told_outcome place i (closing_after i.class i.timeout (span i past) added)
+    decision_now = decided_now n pair past no_outcome ∙ (ap (decided_of place) (invocation_stays n pair past i found) ∙ ap (told_outcome place i) closing_now)
 
     open_step : Steps
     open_step =

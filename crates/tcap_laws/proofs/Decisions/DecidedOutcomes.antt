@@ -5,7 +5,7 @@ use Rattle.tcap_laws.proofs.Decisions.DecidedHistories.{closings_are}
 use Rattle.tcap_laws.proofs.Spans.DecisionSteps.{closing_of_decision, decision_place}
 use Rattle.tcap_model.specs.Invocations.Closings.{Told, closings}
 use Rattle.tcap_model.specs.Invocations.Decision.{decision, as_list}
-use Rattle.tcap_model.specs.Statements.HeadlineLaws.{ending_told, ending_of}
+use Rattle.tcap_model.specs.Statements.HeadlineLaws.{told_closing, closing_due}
 use Rattle.tcap_model.specs.Histories.History.{Start}
 use Rattle.tcap_model.specs.Invocations.Invocation.{Invocation, invocation_of}
 use Rattle.tcap_model.specs.Replies.Legal.{AreReplies}
@@ -13,17 +13,17 @@ use Rattle.tcap_model.specs.Invocations.Outcome.{outcome_of}
 use Rattle.tcap_model.specs.Histories.Pair.{Past}
 
 module _ (past : Past) (n : ℕ) (i : Invocation) (found : invocation_of n past ≡ Some i) where
-  ending_decided : (d : Option Told) → decision n past ≡ d → option_map (λ (t : Told). t.closing) d ≡ outcome_of (Some i) past → map ending_told (as_list d) ≡ ending_of i (outcome_of (Some i) past)
-  ending_decided None q e = ap (ending_of i) e
+  ending_decided : (d : Option Told) → decision n past ≡ d → option_map (λ (t : Told). t.closing) d ≡ outcome_of (Some i) past → map told_closing (as_list d) ≡ closing_due i (outcome_of (Some i) past)
+  ending_decided None q e = ap (closing_due i) e
   ending_decided (Some t) q e =
       let d = decision_place n past t q in
       let same : d.invocation ≡ i = let there : invocation_of n past ≡ Some d.invocation = d.is_found in cc in
       let dialogue : t.dialogue ≡ i.dialogue = d.dialogue ∙ ap (λ (i : Invocation). i.dialogue) same in
       let id : t.id ≡ i.id = d.id ∙ ap (λ (i : Invocation). i.id) same in
-      rw (dialogue, id) (ap (ending_of i) e)
+      rw (dialogue, id) (ap (closing_due i) e)
 
-  pub ending_is : map ending_told (as_list (decision n past)) ≡ ending_of i (outcome_of (Some i) past)
+  pub ending_is : map told_closing (as_list (decision n past)) ≡ closing_due i (outcome_of (Some i) past)
   ending_is = ending_decided (decision n past) refl (closing_of_decision n past ∙ ap (λ o. outcome_of o past) found)
 
-pub outcome_told : (start : Start) (past : Past) (n : ℕ) (i : Invocation) → AreReplies start past → invocation_of n past ≡ Some i → map ending_told (closings n past) ≡ ending_of i (outcome_of (Some i) past)
-outcome_told start past n i legal found = ap (map ending_told) (closings_are start past n legal) ∙ ending_is past n i found
+pub outcome_told : (start : Start) (past : Past) (n : ℕ) (i : Invocation) → AreReplies start past → invocation_of n past ≡ Some i → map told_closing (closings n past) ≡ closing_due i (outcome_of (Some i) past)
+outcome_told start past n i legal found = ap (map told_closing) (closings_are start past n legal) ∙ ending_is past n i found

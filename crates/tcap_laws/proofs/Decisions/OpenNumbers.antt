@@ -5,7 +5,7 @@ use Rattle.std.proofs.lemmas.List.{append-nil}
 use Rattle.std.specs.Prelude.{is_none}
 use Rattle.std.specs.Ordering.{int_eq}
 use Rattle.tcap_component.specs.ComponentReading.{components_of}
-use Rattle.tcap_laws.proofs.Spans.BornDialogues.{noted_at}
+use Rattle.tcap_laws.proofs.Spans.BornDialogues.{noted_at_clock}
 use Rattle.tcap_laws.proofs.Decisions.ComponentTellings.{unless, unless_nothing, noted-append}
 use Rattle.tcap_laws.proofs.Spans.DecisionSteps.{closing_after-append, first_closing-append}
 use Rattle.tcap_laws.proofs.Decisions.QuietDialogues.{IsQuiet}
@@ -21,7 +21,7 @@ use Rattle.tcap_model.specs.Histories.History.{Start}
 use Rattle.tcap_model.specs.Invocations.Invocation.{Invocation, invocation_of, latest}
 use Rattle.tcap_model.specs.Replies.Legal.{AreReplies}
 use Rattle.tcap_model.specs.Histories.Life.{Life, life_by_message, life_by_verdict}
-use Rattle.tcap_model.specs.Invocations.Marks.{Mark, Noted, ending, if_normal, marks_by_message, component_marks}
+use Rattle.tcap_model.specs.Invocations.Marks.{Mark, Noted, end_if_over, if_normal, marks_by_message, component_marks}
 use Rattle.tcap_model.specs.Invocations.Outcome.{closing_after, first_closing, outcome}
 use Rattle.tcap_model.specs.Words.Output.{Output, Closing}
 use Rattle.tcap_model.specs.Histories.Pair.{Past}
@@ -56,7 +56,7 @@ module _ (start : Start) (past place : Past) (n : ℕ) (i : Invocation) (legal :
       go (Some c) = rw own_dialogue refl
 
   -- with no components before it
-  pub ended_only : told n place (ended_in i.dialogue past []) ≡ wanted place past i (noted_at (clock past) (Mark.end ∷ []))
+  pub ended_only : told n place (ended_in i.dialogue past []) ≡ wanted place past i (noted_at_clock (clock past) (Mark.end ∷ []))
   ended_only = ended_here [] ∙ ap (λ z. unless (first_closing i.class i.timeout z) (gain place i (Some Closing.ended))) (append-nil (span i past))
 
   ended_elsewhere : (dialogue : ℕ) (items : List Item) → (i.dialogue == dialogue) ≡ false → told n place (ended_in dialogue past items) ≡ []
@@ -91,12 +91,12 @@ module _ (start : Start) (past place : Past) (n : ℕ) (i : Invocation) (legal :
   -- ---- messages
 
   module _ (here : latest i.dialogue i.id past ≡ Some i) where
-    parts : (content : List ℕ) → told n place (told_of (handled_in i.dialogue past content)) ≡ wanted place past i (noted_at (clock past) (component_marks i.id (components_of content)))
+    parts : (content : List ℕ) → told n place (told_of (handled_in i.dialogue past content)) ≡ wanted place past i (noted_at_clock (clock past) (component_marks i.id (components_of content)))
     parts content = message_parts start past place n i legal found here content
 
     -- the components of an End, and then what is left
     parts_and_end : (content : List ℕ) → told n place (told_of (handled_in i.dialogue past content) ++ ended_in i.dialogue past (components_of content))
-        ≡ wanted place past i (noted_at (clock past) (component_marks i.id (components_of content) ++ Mark.end ∷ []))
+        ≡ wanted place past i (noted_at_clock (clock past) (component_marks i.id (components_of content) ++ Mark.end ∷ []))
     parts_and_end content =
         told-append n place (told_of (handled_in i.dialogue past content)) (ended_in i.dialogue past (components_of content))
         ∙ (in_turn place i (first_closing i.class i.timeout (span i past)) (closing_after i.class i.timeout (span i past) ms) (Some Closing.ended)
@@ -105,29 +105,29 @@ module _ (start : Start) (past place : Past) (n : ℕ) (i : Invocation) (legal :
         (ended_here (components_of content) ∙ ap (λ o. unless o (gain place i (Some Closing.ended))) (first_closing-append i.class i.timeout (span i past) ms))
         ∙ ap (λ o. unless (first_closing i.class i.timeout (span i past)) (gain place i o))
         (sym (ap (closing_after i.class i.timeout (span i past)) (noted-append (clock past) (component_marks i.id (components_of content)) (Mark.end ∷ []))
-        ∙ closing_after-append i.class i.timeout (span i past) ms (noted_at (clock past) (Mark.end ∷ [])))))
+        ∙ closing_after-append i.class i.timeout (span i past) ms (noted_at_clock (clock past) (Mark.end ∷ [])))))
       where
         ms : List Noted
-        ms = noted_at (clock past) (component_marks i.id (components_of content))
+        ms = noted_at_clock (clock past) (component_marks i.id (components_of content))
 
     module _ (state : State) (context : Option (List ℕ)) where
       continue_here : (origin content : List ℕ) (v : PortionVerdict) → told n place (continue_outputs i.dialogue past state origin content v)
-          ≡ wanted place past i (noted_at (clock past) (if_normal v (component_marks i.id (components_of content)) (ending (Life.standing state context) (life_by_verdict state context origin v))))
+          ≡ wanted place past i (noted_at_clock (clock past) (if_normal v (component_marks i.id (components_of content)) (end_if_over (Life.standing state context) (life_by_verdict state context origin v))))
       continue_here origin content (PortionVerdict.normal told info) = parts content
       continue_here origin content PortionVerdict.abnormal = ended_only
 
       end_here : (content : List ℕ) (v : PortionVerdict) → told n place (end_outputs i.dialogue past content v)
-          ≡ wanted place past i (noted_at (clock past) (if_normal v (component_marks i.id (components_of content) ++ Mark.end ∷ []) (ending (Life.standing state context) Life.over)))
+          ≡ wanted place past i (noted_at_clock (clock past) (if_normal v (component_marks i.id (components_of content) ++ Mark.end ∷ []) (end_if_over (Life.standing state context) Life.over)))
       end_here content (PortionVerdict.normal told info) = parts_and_end content
       end_here content PortionVerdict.abnormal = ended_only
 
       pub message_here : (m : Message) → told n place (message_outputs i.dialogue past state context m)
-          ≡ wanted place past i (noted_at (clock past) (marks_by_message i.id state context (ending (Life.standing state context) (life_by_message state context (Ok m))) (Ok m)))
+          ≡ wanted place past i (noted_at_clock (clock past) (marks_by_message i.id state context (end_if_over (Life.standing state context) (life_by_message state context (Ok m))) (Ok m)))
       message_here (Message.go_on origin to portion components) = continue_here origin components (portion_verdict state context portion)
       message_here (Message.end to portion components) = end_here components (portion_verdict state context portion)
       message_here (Message.abort to reason) = ap (λ z. z ++ told n place (ended_in i.dialogue past [])) (abort_silent n place i.dialogue reason) ∙ ended_only
       message_here (Message.unidirectional portion components) = sym (nothing_wanted place past i)
       message_here (Message.begin origin portion components) = sym (nothing_wanted place past i)
 
-  pub last_here : (message : Option Message) → told n place (sent_if_any message ++ ended_in i.dialogue past []) ≡ wanted place past i (noted_at (clock past) (Mark.end ∷ []))
+  pub last_here : (message : Option Message) → told n place (sent_if_any message ++ ended_in i.dialogue past []) ≡ wanted place past i (noted_at_clock (clock past) (Mark.end ∷ []))
   last_here message = told-append n place (sent_if_any message) (ended_in i.dialogue past []) ∙ (ap (λ z. z ++ told n place (ended_in i.dialogue past [])) (sent_silent n place message) ∙ ended_only)

@@ -4,7 +4,7 @@ use Rattle.std.proofs.lemmas.Bool.Decides.{nat_tests, Decides-int_eq}
 use Rattle.std.specs.Prelude.{find, is_none, option_to_list}
 use Rattle.std.specs.Option.{option_or}
 use Rattle.std.specs.Ordering.{int_eq}
-use Rattle.tcap_laws.proofs.Spans.BornDialogues.{was_alive, stays_alive, noted_at}
+use Rattle.tcap_laws.proofs.Spans.BornDialogues.{was_alive, stays_alive, noted_at_clock}
 use Rattle.tcap_laws.proofs.Decisions.ComponentTellings.{unless}
 use Rattle.tcap_laws.proofs.Spans.DrawnInvocations.{Draws, draws, invocation_step}
 use Rattle.tcap_laws.proofs.Spans.EventMarks.{unnamed_marks, standing_marks, over_marks, unborn_marks}
@@ -76,7 +76,7 @@ module _ (start : Start) (past place : Past) (n : ℕ) (i : Invocation) (legal :
   module _ (s : State) (c : Option (List ℕ)) where
     abbrev AnswersTo : Request → Answer → Type 0
     AnswersTo r a = told_by_answer n place (Event.on_dialogue i.dialogue r) a
-        ≡ wanted place past i (noted_at (clock past) (marks_by_event i.id (Life.standing s c) (life_by_event s c (Event.on_dialogue i.dialogue r) (is_accepted a)) (Event.on_dialogue i.dialogue r) (is_accepted a)))
+        ≡ wanted place past i (noted_at_clock (clock past) (marks_by_event i.id (Life.standing s c) (life_by_event s c (Event.on_dialogue i.dialogue r) (is_accepted a)) (Event.on_dialogue i.dialogue r) (is_accepted a)))
 
     cancel_here : (id : ℤ) (o : Option ℕ) → pending i.dialogue id past ≡ o → AnswersTo (Request.u_cancel id) (given_up_answer o)
     cancel_here id None q = sym nothing
@@ -89,7 +89,7 @@ module _ (start : Start) (past place : Past) (n : ℕ) (i : Invocation) (legal :
             let is : (m == n) ≡ true = ap (λ k. k == n) (sym number) ∙ me in
             rw is (ap (λ (k : ℤ). telling k ∷ []) same)
 
-        go : (b : Bool) → int_eq id i.id ≡ b → told_if n m (telling id) ≡ wanted place past i (noted_at (clock past) (cond b (Mark.given_up ∷ []) []))
+        go : (b : Bool) → int_eq id i.id ≡ b → told_if n m (telling id) ≡ wanted place past i (noted_at_clock (clock past) (cond b (Mark.given_up ∷ []) []))
         go false p = let other = other_identifier start past place n i legal found id p m q in rw other (sym nothing)
         go true p =
             let same : id ≡ i.id = (Decides-int_eq id i.id).0 p in

@@ -3,7 +3,7 @@ use Rattle.std.proofs.Common.{◌≡◌, ℕ, ℤ, ◌==◌, Bool, true, false, 
 use Rattle.std.proofs.lemmas.Bool.Decides.{nat_tests}
 use Rattle.std.specs.Prelude.{is_none, is_some}
 use Rattle.std.specs.Option.{option_or}
-use Rattle.tcap_laws.proofs.Spans.BornDialogues.{noted_at}
+use Rattle.tcap_laws.proofs.Spans.BornDialogues.{noted_at_clock}
 use Rattle.tcap_laws.proofs.Spans.DecisionSteps.{first_closing-append}
 use Rattle.tcap_laws.proofs.Spans.LatestInvocations.{IsLatest, latest_is}
 use Rattle.tcap_laws.proofs.Decisions.QuietDialogues.{IsQuiet, taken_quiet, request_quiet}
@@ -47,8 +47,8 @@ module _ (start : Start) (past place : Past) (n : ℕ) (legal : AreReplies start
   closed_up_to : (i : Invocation) (earlier : List Item) → invocation_of n past ≡ Some i → is_none (first_closing i.class i.timeout (marks_up_to past earlier i)) ≡ false
   closed_up_to i earlier found =
       let closed = settled i found in
-      ap is_none (first_closing-append i.class i.timeout (span i past) (noted_at (clock past) (component_marks i.id earlier))
-      ∙ ap (λ o. option_or o (closing_after i.class i.timeout (span i past) (noted_at (clock past) (component_marks i.id earlier)))) closed.1)
+      ap is_none (first_closing-append i.class i.timeout (span i past) (noted_at_clock (clock past) (component_marks i.id earlier))
+      ∙ ap (λ o. option_or o (closing_after i.class i.timeout (span i past) (noted_at_clock (clock past) (component_marks i.id earlier)))) closed.1)
 
   -- the latest invocation of an identifier, where it has the number
   found_latest : (dialogue : ℕ) (id : ℤ) (j : Invocation) → latest dialogue id past ≡ Some j → (j.number == n) ≡ true → invocation_of n past ≡ Some j

@@ -12,7 +12,7 @@ use Rattle.tcap_component.specs.Problem.{ProblemParts}
 use Rattle.tcap_invocation.specs.declared.class.Class.{Class}
 use Rattle.tcap_invocation.specs.declared.class.Class.TheVariants.{One, Two, Three, Four}
 use Rattle.tcap_invocation.specs.Class.{Received, class_rule}
-use Rattle.tcap_laws.proofs.Spans.BornDialogues.{noted_at}
+use Rattle.tcap_laws.proofs.Spans.BornDialogues.{noted_at_clock}
 use Rattle.tcap_laws.proofs.Spans.DecisionSteps.{closing_after-append, first_closing-append, number_found}
 use Rattle.tcap_laws.proofs.Spans.LatestInvocations.{IsLatest, latest_is}
 use Rattle.tcap_laws.proofs.Decisions.ComponentTellings.{EndsAtFault, AreGood, ends_at_fault, good_more, marks-append, noted-append, unless, unless_nothing, RejectTells, general_class, invoke_class, last_here, more_here, error_here, reject_here}
@@ -22,7 +22,7 @@ use Rattle.tcap_model.specs.Invocations.Closes.{closing_of}
 use Rattle.tcap_model.specs.Invocations.Closings.{Told, told_by_output}
 use Rattle.tcap_model.specs.Procedures.ComponentHandling.{Item, SentInvocation, handled, subject_of, told_of, result_handled, error_handled, reject_handled, reject_by}
 use Rattle.tcap_model.specs.Invocations.Deadline.{sent_clock}
-use Rattle.tcap_model.specs.Invocations.Decision.{told_of as decided_told, as_list}
+use Rattle.tcap_model.specs.Invocations.Decision.{told_outcome as decided_told, as_list}
 use Rattle.tcap_model.specs.Histories.History.{Start}
 use Rattle.tcap_model.specs.Invocations.Invocation.{Invocation, invocation_of, latest}
 use Rattle.tcap_model.specs.Replies.Legal.{AreReplies}
@@ -100,7 +100,7 @@ module _ (start : Start) (past place : Past) (n : ℕ) (i : Invocation) (legal :
     closed_before earlier = first_closing i.class i.timeout (marks_up_to past earlier i)
 
     abbrev closed_then : List Item → List Mark → Option Closing
-    closed_then earlier ms = closing_after i.class i.timeout (marks_up_to past earlier i) (noted_at (clock past) ms)
+    closed_then earlier ms = closing_after i.class i.timeout (marks_up_to past earlier i) (noted_at_clock (clock past) ms)
 
     on_key : (earlier : List Item) (named : ℤ) (tell : ℤ → Option SentInvocation → List Told) (m : Mark) → ((sent : Option SentInvocation) → IsOther n sent → tell named sent ≡ [])
         → tell i.id (if_sent past earlier (Some i)) ≡ unless (closed_before earlier) (gain place i (option_or (closing_of i.class i.timeout (sent_clock (marks_up_to past earlier i)) m) None))
@@ -145,25 +145,25 @@ module _ (start : Start) (past place : Past) (n : ℕ) (i : Invocation) (legal :
     component_here earlier (ComponentParts.reject_back None problem) = sym (unless_nothing (closed_before earlier))
     component_here earlier (ComponentParts.reject_back (Some named) problem) = rejected_here earlier named problem problem.kind refl
 
-    one_more : (earlier : List Item) (c : ComponentParts) → AreGood earlier → marks_up_to past (earlier ++ Ok c ∷ []) i ≡ marks_up_to past earlier i ++ noted_at (clock past) (marks_of_component i.id c)
+    one_more : (earlier : List Item) (c : ComponentParts) → AreGood earlier → marks_up_to past (earlier ++ Ok c ∷ []) i ≡ marks_up_to past earlier i ++ noted_at_clock (clock past) (marks_of_component i.id c)
     one_more earlier c good =
-        ap (λ z. span i past ++ noted_at (clock past) z) (marks-append i.id earlier (Ok c ∷ []) good ∙ ap (λ z. component_marks i.id earlier ++ z) (append-nil (marks_of_component i.id c)))
+        ap (λ z. span i past ++ noted_at_clock (clock past) z) (marks-append i.id earlier (Ok c ∷ []) good ∙ ap (λ z. component_marks i.id earlier ++ z) (append-nil (marks_of_component i.id c)))
         ∙ (ap (λ z. span i past ++ z) (noted-append (clock past) (component_marks i.id earlier) (marks_of_component i.id c))
-        ∙ sym (append_assoc (span i past) (noted_at (clock past) (component_marks i.id earlier)) (noted_at (clock past) (marks_of_component i.id c))))
+        ∙ sym (append_assoc (span i past) (noted_at_clock (clock past) (component_marks i.id earlier)) (noted_at_clock (clock past) (marks_of_component i.id c))))
 
     pub parts_here : (earlier items : List Item) → AreGood earlier → EndsAtFault items
         → told n place (told_of (handled_after i.dialogue past earlier items)) ≡ unless (closed_before earlier) (gain place i (closed_then earlier (component_marks i.id items)))
     parts_here earlier [] good ends = sym (unless_nothing (closed_before earlier))
     parts_here earlier (Err f ∷ items) good ends = ap (λ z. told n place (told_of (handled_after i.dialogue past (earlier ++ Err f ∷ []) z))) ends ∙ sym (unless_nothing (closed_before earlier))
     parts_here earlier (Ok c ∷ items) good ends =
-        in_turn place i (closed_before earlier) (closed_then earlier ms) (closing_after i.class i.timeout (M ++ noted_at (clock past) ms) (noted_at (clock past) rest))
+        in_turn place i (closed_before earlier) (closed_then earlier ms) (closing_after i.class i.timeout (M ++ noted_at_clock (clock past) ms) (noted_at_clock (clock past) rest))
         (told_by_output n place (handled (Some i.dialogue) (sent_there i.dialogue past earlier (subject_of (Ok c))) (Ok c)).told)
         (told n place (told_of (handled_after i.dialogue past (earlier ++ Ok c ∷ []) items)))
         (component_here earlier c)
         (parts_here (earlier ++ Ok c ∷ []) items (good_more earlier c good) ends
-        ∙ (ap (λ z. unless (first_closing i.class i.timeout z) (gain place i (closing_after i.class i.timeout z (noted_at (clock past) rest)))) (one_more earlier c good)
-        ∙ ap (λ o. unless o (gain place i (closing_after i.class i.timeout (M ++ noted_at (clock past) ms) (noted_at (clock past) rest)))) (first_closing-append i.class i.timeout M (noted_at (clock past) ms))))
-        ∙ ap (λ o. unless (closed_before earlier) (gain place i o)) (sym (ap (closing_after i.class i.timeout M) (noted-append (clock past) ms rest) ∙ closing_after-append i.class i.timeout M (noted_at (clock past) ms) (noted_at (clock past) rest)))
+        ∙ (ap (λ z. unless (first_closing i.class i.timeout z) (gain place i (closing_after i.class i.timeout z (noted_at_clock (clock past) rest)))) (one_more earlier c good)
+        ∙ ap (λ o. unless o (gain place i (closing_after i.class i.timeout (M ++ noted_at_clock (clock past) ms) (noted_at_clock (clock past) rest)))) (first_closing-append i.class i.timeout M (noted_at_clock (clock past) ms))))
+        ∙ ap (λ o. unless (closed_before earlier) (gain place i o)) (sym (ap (closing_after i.class i.timeout M) (noted-append (clock past) ms rest) ∙ closing_after-append i.class i.timeout M (noted_at_clock (clock past) ms) (noted_at_clock (clock past) rest)))
       where
         M : List Noted
         M = marks_up_to past earlier i
@@ -176,6 +176,6 @@ module _ (start : Start) (past place : Past) (n : ℕ) (i : Invocation) (legal :
 
     -- all components of a message
     pub message_parts : (content : List ℕ) → told n place (told_of (handled_in i.dialogue past content))
-        ≡ unless (first_closing i.class i.timeout (span i past)) (gain place i (closing_after i.class i.timeout (span i past) (noted_at (clock past) (component_marks i.id (components_of content)))))
+        ≡ unless (first_closing i.class i.timeout (span i past)) (gain place i (closing_after i.class i.timeout (span i past) (noted_at_clock (clock past) (component_marks i.id (components_of content)))))
     message_parts content = parts_here [] (components_of content) tt (ends_at_fault content)
-        ∙ ap (λ z. unless (first_closing i.class i.timeout z) (gain place i (closing_after i.class i.timeout z (noted_at (clock past) (component_marks i.id (components_of content)))))) (append-nil (span i past))
+        ∙ ap (λ z. unless (first_closing i.class i.timeout z) (gain place i (closing_after i.class i.timeout z (noted_at_clock (clock past) (component_marks i.id (components_of content)))))) (append-nil (span i past))

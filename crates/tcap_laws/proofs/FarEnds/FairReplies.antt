@@ -43,15 +43,15 @@ ended-of-fair : (bytes : List ℕ) (test : Bool) (dialogue : ℕ) (i : Invocatio
 ended-of-fair bytes true dialogue i = (tt, tt)
 ended-of-fair bytes false dialogue i = tt
 
-ended-each : (bytes : List ℕ) (dialogue : ℕ) (past : Past) (components : List Item) (is : List Invocation) → AllFair bytes (filter_map (ended_of dialogue past components) is)
-ended-each bytes dialogue past components [] = tt
-ended-each bytes dialogue past components (i ∷ is) =
+each_ended-fair : (bytes : List ℕ) (dialogue : ℕ) (past : Past) (components : List Item) (is : List Invocation) → AllFair bytes (filter_map (ended_of dialogue past components) is)
+each_ended-fair bytes dialogue past components [] = tt
+each_ended-fair bytes dialogue past components (i ∷ is) =
     if-fair bytes (ended_of dialogue past components i) (filter_map (ended_of dialogue past components) is)
     (ended-of-fair bytes ((i.dialogue == dialogue) && is_none (first_closing i.class i.timeout (marks_up_to past components i))) dialogue i)
-    (ended-each bytes dialogue past components is)
+    (each_ended-fair bytes dialogue past components is)
 
 ended-fair : (bytes : List ℕ) (dialogue : ℕ) (past : Past) (components : List Item) → AllFair bytes (ended_in dialogue past components)
-ended-fair bytes dialogue past components = ended-each bytes dialogue past components (invocations past)
+ended-fair bytes dialogue past components = each_ended-fair bytes dialogue past components (invocations past)
 
 sent-fair : (bytes : List ℕ) (output : Output) → Sends output → Fair bytes output
 sent-fair bytes output sends = subst (Fair bytes) (sym sends.2) tt

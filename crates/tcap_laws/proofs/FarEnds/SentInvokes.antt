@@ -30,11 +30,11 @@ use Rattle.tcap_model.specs.Words.Request.{Request}
 use Rattle.tcap_model.specs.Invocations.Reuse.{is_reused}
 use Rattle.tcap_model.specs.Invocations.Span.{is_invoked, span}
 use Rattle.tcap_model.specs.Statements.TwoEnds.{Happens, WasSent, WasAsked, Operations}
-use Rattle.tcap_laws.proofs.Spans.BornDialogues.{noted_at}
+use Rattle.tcap_laws.proofs.Spans.BornDialogues.{noted_at_clock}
 use Rattle.tcap_laws.proofs.Peers.CarriedComponents.{Carried, carried, one-of, stands-before}
 use Rattle.tcap_laws.proofs.Spans.DecisionSteps.{made_found, invocation_stays}
 use Rattle.tcap_laws.proofs.Spans.EventMarks.{standing_marks}
-use Rattle.tcap_laws.proofs.Spans.QueuedMarks.{Stands}
+use Rattle.tcap_laws.proofs.Spans.QueuedMarks.{IsStanding}
 use Rattle.tcap_laws.proofs.Queues.SentComponents.{all-first, same-items}
 use Rattle.tcap_laws.proofs.Spans.SentSpans.{was_sent-more, was_sent-at}
 use Rattle.tcap_laws.proofs.Spans.SpanSteps.{reused_step, span_grows, span_stays}
@@ -90,12 +90,12 @@ module _ (start : Start) (past : Past) (event : Event) (answer : Answer) (legal 
       ∙ (ap (λ (b : Bool). b || is_invoked (has_id dialogue asked.id) (invoked_by here)) (unused_if_open start past number i legal asked.is_invocation undecided)
       ∙ ap (is_invoked (has_id dialogue asked.id)) none)
 
-  pub sent-here : (rest : List Mark) → invoked_by here ≡ None → marks dialogue asked.id here past ≡ noted_at (clock past) (Mark.sent ∷ rest) → WasSent number (here ∷ past)
+  pub sent-here : (rest : List Mark) → invoked_by here ≡ None → marks dialogue asked.id here past ≡ noted_at_clock (clock past) (Mark.sent ∷ rest) → WasSent number (here ∷ past)
   sent-here rest none made = record {
     invocation = i;
     is_invocation = invocation_stays number here past i asked.is_invocation;
     is_sent = ap (was_sent_in asked.class asked.timeout) (span_grows i here past found (unused none) ∙ ap (λ (w : List Noted). span i past ++ w) made)
-        ∙ was_sent-at asked.class asked.timeout (clock past) (span i past) (noted_at (clock past) rest) asked.unsent.unclosed;
+        ∙ was_sent-at asked.class asked.timeout (clock past) (span i past) (noted_at_clock (clock past) rest) asked.unsent.unclosed;
   }
 
 -- ---- the components of a queue
@@ -166,7 +166,7 @@ module _ (net : Net) (is : IsNet net) (engine : Engine) (pair : Pair) (before : 
       let told = it.told in
       let sent = it.sent in
       let waits = queue sent.dialogue it.past in
-      let all = joined-waits sent.dialogue it.past waits (queue-waits (net.start (far engine)) sent.dialogue it.past it.is_legal.2 (subst Stands (sym sent.is_life) tt)) in
+      let all = joined-waits sent.dialogue it.past waits (queue-waits (net.start (far engine)) sent.dialogue it.past it.is_legal.2 (subst IsStanding (sym sent.is_life) tt)) in
       let read = first_fault_again (told.earlier ++ told.component ∷ told.later) told.fault _ told.read in
       let whole = first_fault_again all.0 None (joined waits) (all-first all.0 (joined waits) all.1) in
       let same = same-items (told.earlier ++ told.component ∷ told.later) all.0 told.fault (sym read ∙ (ap components_of sent.takes.is_portion ∙ whole)) in
@@ -185,9 +185,9 @@ module _ (net : Net) (is : IsNet net) (engine : Engine) (pair : Pair) (before : 
       let none : invoked_by sender ≡ None = ap (λ (e : Event). invoked_of e sender.answer) sent.is_event ∙ sent.takes.makes_none sent.dialogue (number_of sender.answer) in
       let standing : Life = Life.standing sent.state sent.context in
       let marked = sent.takes.is_sent asked.id standing (life_by_event sent.state sent.context sender.event (is_accepted sender.answer)) in
-      let made : marks sent.dialogue asked.id sender it.past ≡ noted_at (clock it.past) (Mark.sent ∷ marked.0) =
+      let made : marks sent.dialogue asked.id sender it.past ≡ noted_at_clock (clock it.past) (Mark.sent ∷ marked.0) =
       standing_marks sent.dialogue asked.id sender.event sender.answer it.past sent.state sent.context sent.is_life named
-      ∙ ap (noted_at (clock it.past)) (
+      ∙ ap (noted_at_clock (clock it.past)) (
       ap (λ (b : Bool). marks_by_event asked.id standing (life_by_event sent.state sent.context sender.event (is_accepted sender.answer)) sender.event b) accepted
       ∙ (ap (λ (e : Event). marks_by_event asked.id standing (life_by_event sent.state sent.context sender.event (is_accepted sender.answer)) e true) sent.is_event
       ∙ marked.1)) in

@@ -27,7 +27,7 @@ use Rattle.tcap_model.specs.Words.Request.{Request}
 use Rattle.tcap_model.specs.Invocations.Reuse.{is_reused}
 use Rattle.tcap_model.specs.Invocations.Span.{span}
 use Rattle.tcap_model.specs.Words.State.{State, is_live}
-use Rattle.tcap_laws.proofs.Spans.BornDialogues.{noted_at}
+use Rattle.tcap_laws.proofs.Spans.BornDialogues.{noted_at_clock}
 use Rattle.tcap_laws.proofs.Spans.DecisionSteps.{made_found, invocation_stays}
 use Rattle.tcap_laws.proofs.Queues.FormedRejects.{IsFormed, HasFormed, handled_in-formed, reject-can}
 use Rattle.tcap_laws.proofs.Queues.KeptQueues.{queue_each-each}
@@ -68,13 +68,13 @@ IsNoInvoke (reject_back id problem) = Unit {0}
 IsNoInvoke (result_more id body) = Unit {0}
 
 -- octets are another component
-pub record IsOther (octets : List ℕ) : Type 0 where
+pub record IsOtherComponent (octets : List ℕ) : Type 0 where
   pub component : ComponentParts
   pub written : IsWritten octets component
   pub no_invoke : IsNoInvoke component
 
 abbrev pub Waits : ℕ → Past → List ℕ → Option Invoking → Type 0
-Waits dialogue past octets None = IsOther octets
+Waits dialogue past octets None = IsOtherComponent octets
 Waits dialogue past octets (Some v) = IsAsked dialogue past octets v.number
 
 abbrev pub IsWaiting : ℕ → Past → Queued → Type 0
@@ -142,7 +142,7 @@ module _ (dialogue : ℕ) (past : Past) where
 -- a pair leaves the invocations of an identifier queued
 pub record IsLeft (dialogue : ℕ) (id : ℤ) (pair : Pair) (past : Past) : Type 0 where
   pub made : List Mark
-  pub is_made : marks dialogue id pair past ≡ noted_at (clock past) made
+  pub is_made : marks dialogue id pair past ≡ noted_at_clock (clock past) made
   pub leave : AllLeave made
 
 module _ (dialogue : ℕ) (pair : Pair) (past : Past) where

@@ -31,7 +31,7 @@ use Rattle.tcap_model.specs.Words.State.{State}
 use Rattle.tcap_laws.proofs.Spans.EventMarks.{unnamed_marks, standing_marks}
 use Rattle.tcap_laws.proofs.Spans.LatestInvocations.{new_number, new_found}
 use Rattle.tcap_laws.proofs.Queues.QueuedComponents.{accepted-parts, accepted-good}
-use Rattle.tcap_laws.proofs.Spans.QueuedMarks.{IsUnsent, Stands, SparesAt, Spares, event-leaves}
+use Rattle.tcap_laws.proofs.Spans.QueuedMarks.{IsUnsent, IsStanding, SparesAt, Spares, event-leaves}
 use Rattle.tcap_laws.proofs.Queues.RequestedComponents.{IfGood}
 use Rattle.tcap_laws.proofs.Spans.SpanSteps.{span_new}
 use Rattle.tcap_laws.proofs.Spans.SupersededInvocations.{latest_if_open}
@@ -47,7 +47,7 @@ module _ (dialogue : ℕ) (event : Event) (answer : Answer) (past : Past) (s : S
   unnamed-left : names event dialogue ≡ false → (id : ℤ) → IsLeft dialogue id here past
   unnamed-left named id = record { made = []; is_made = unnamed_marks dialogue id event answer past named; leave = tt }
 
-  named-left : names event dialogue ≡ true → Stands (life_by_event s c event (is_accepted answer)) → (id : ℤ) → Spares id event (is_accepted answer) → IsLeft dialogue id here past
+  named-left : names event dialogue ≡ true → IsStanding (life_by_event s c event (is_accepted answer)) → (id : ℤ) → Spares id event (is_accepted answer) → IsLeft dialogue id here past
   named-left named stands id spares = record {
     made = marks_by_event id (Life.standing s c) (life_by_event s c event (is_accepted answer)) event (is_accepted answer);
     is_made = standing_marks dialogue id event answer past s c lives named;
@@ -151,13 +151,13 @@ module _ (h : History) (dialogue : ℕ) (answer : Answer) (s : State) (c : Optio
   same-dialogue : eqb dialogue dialogue ≡ true
   same-dialogue = eq-eqb dialogue dialogue refl
 
-  left : (request : Request) (a : Answer) → is_accepted a ≡ true → Stands (life_by_request s c request) → (id : ℤ) → SparesAt id request → IsLeft dialogue id (with_answer request a) h.pairs
+  left : (request : Request) (a : Answer) → is_accepted a ≡ true → IsStanding (life_by_request s c request) → (id : ℤ) → SparesAt id request → IsLeft dialogue id (with_answer request a) h.pairs
   left request a accepted stands id spares =
       named-left dialogue (Event.on_dialogue dialogue request) a h.pairs s c lives same-dialogue
-      (subst (λ (b : Bool). Stands (life_if_accepted b s c request)) (sym accepted) stands) id
+      (subst (λ (b : Bool). IsStanding (life_if_accepted b s c request)) (sym accepted) stands) id
       (subst (λ (b : Bool). Spares id (Event.on_dialogue dialogue request) b) (sym accepted) spares)
 
-  plain : (request : Request) (component : ComponentParts) → is_accepted answer ≡ true → Stands (life_by_request s c request) → ((id : ℤ) → SparesAt id request) → IsNoInvoke component → IfGood (Some component) →
+  plain : (request : Request) (component : ComponentParts) → is_accepted answer ≡ true → IsStanding (life_by_request s c request) → ((id : ℤ) → SparesAt id request) → IsNoInvoke component → IfGood (Some component) →
       AllWait dialogue (with_answer request answer ∷ h.pairs) (waits ++ queued None component ∷ [])
   plain request component accepted stands spares none good =
       each-append (IsWaiting dialogue (with_answer request answer ∷ h.pairs)) waits (queued None component ∷ [])
@@ -170,7 +170,7 @@ module _ (h : History) (dialogue : ℕ) (answer : Answer) (s : State) (c : Optio
   cancelled named (Some number) legal is accepted =
       cancel-waits h.start h.pairs legal dialogue named number is (λ id differs. left (Request.u_cancel named) (Answer.given_up number) refl tt id differs) waits all
 
-  request-waits : (request : Request) → IsLegalWith request answer → IfGood (component_of request) → is_accepted answer ≡ true → Stands (life_by_request s c request) →
+  request-waits : (request : Request) → IsLegalWith request answer → IfGood (component_of request) → is_accepted answer ≡ true → IsStanding (life_by_request s c request) →
       AllWait dialogue (with_answer request answer ∷ h.pairs) (queue_by_request waits request answer)
   request-waits (Request.invoke id class code parameter linked timeout) legal good accepted stands =
       let r : Request = Request.invoke id class code parameter linked timeout in
@@ -197,10 +197,10 @@ module _ (h : History) (dialogue : ℕ) (answer : Answer) (s : State) (c : Optio
   refused-left : (request : Request) → is_accepted answer ≡ false → (id : ℤ) → IsLeft dialogue id (with_answer request answer) h.pairs
   refused-left request refused id =
       named-left dialogue (Event.on_dialogue dialogue request) answer h.pairs s c lives same-dialogue
-      (subst (λ (b : Bool). Stands (life_if_accepted b s c request)) (sym refused) tt) id
+      (subst (λ (b : Bool). IsStanding (life_if_accepted b s c request)) (sym refused) tt) id
       (subst (λ (b : Bool). Spares id (Event.on_dialogue dialogue request) b) (sym refused) tt)
 
-  pub asked-waits : (request : Request) → IsTrue (is_request request) → IsLegalWith request answer → (accepted : Bool) → is_accepted answer ≡ accepted → Stands (life_if_accepted accepted s c request) →
+  pub asked-waits : (request : Request) → IsTrue (is_request request) → IsLegalWith request answer → (accepted : Bool) → is_accepted answer ≡ accepted → IsStanding (life_if_accepted accepted s c request) →
       AllWait dialogue (with_answer request answer ∷ h.pairs) (queue_if_accepted accepted waits request answer)
   asked-waits request range legal true e stands = request-waits request legal (accepted-good h dialogue request range (sym (ap is_accepted legal.1) ∙ e)) e stands
   asked-waits request range legal false e stands = all-later dialogue (with_answer request answer) h.pairs waits (refused-left request e) all
@@ -215,7 +215,7 @@ module _ (h : History) (dialogue : ℕ) (answer : Answer) (s : State) (c : Optio
   abbrev at : Event → Pair
   at event = record { event = event; answer = answer }
 
-  event-waits : (event : Event) → IsTrue (is_in_range event) → AreReplies h.start (at event ∷ h.pairs) → names event dialogue ≡ true → Stands (life_by_event s c event (is_accepted answer)) →
+  event-waits : (event : Event) → IsTrue (is_in_range event) → AreReplies h.start (at event ∷ h.pairs) → names event dialogue ≡ true → IsStanding (life_by_event s c event (is_accepted answer)) →
       AllWait dialogue (at event ∷ h.pairs) (queue_by_event dialogue h.pairs (queue dialogue h.pairs) event answer)
   event-waits Event.new_dialogue range legal named stands = absurd (true≢false (sym named))
   event-waits (Event.on_dialogue asked request) range legal named stands =
@@ -236,29 +236,29 @@ module _ (h : History) (dialogue : ℕ) (answer : Answer) (s : State) (c : Optio
       spared : (now : ℕ) (accepted : Bool) (id : ℤ) → Spares id (Event.moment now) accepted
       spared now accepted id = tt
 
-  pub pair-waits : (event : Event) → IsTrue (is_in_range event) → AreReplies h.start (at event ∷ h.pairs) → Stands (life_if_named (names event dialogue) s c (at event)) →
+  pub pair-waits : (event : Event) → IsTrue (is_in_range event) → AreReplies h.start (at event ∷ h.pairs) → IsStanding (life_if_named (names event dialogue) s c (at event)) →
       AllWait dialogue (at event ∷ h.pairs) (queue_after dialogue h.pairs (queue dialogue h.pairs) (at event))
   pair-waits event range legal stands =
       either (IsWaiting dialogue (at event ∷ h.pairs)) (is_birth_of dialogue (at event)) (queue_born dialogue h.pairs event) (if names event dialogue then queue_by_event dialogue h.pairs (queue dialogue h.pairs) event answer else queue dialogue h.pairs)
       (λ birth. born-waits dialogue (at event ∷ h.pairs) h.pairs event)
       (λ none. either (IsWaiting dialogue (at event ∷ h.pairs)) (names event dialogue) (queue_by_event dialogue h.pairs (queue dialogue h.pairs) event answer) (queue dialogue h.pairs)
-      (λ named. event-waits event range legal named (subst (λ (b : Bool). Stands (life_if_named b s c (at event))) named stands))
+      (λ named. event-waits event range legal named (subst (λ (b : Bool). IsStanding (life_if_named b s c (at event))) named stands))
       (λ unnamed. all-later dialogue (at event) h.pairs (queue dialogue h.pairs) (unnamed-left dialogue event answer h.pairs s c lives unnamed) all))
 
 -- a birth, or a pair after it
 step-waits : (h : History) (dialogue : ℕ) (event : Event) (answer : Answer) → IsTrue (is_in_range event) → AreReplies h.start (record { event = event; answer = answer } ∷ h.pairs) →
-    (Stands (life dialogue h.pairs) → AllWait dialogue h.pairs (queue dialogue h.pairs)) → (before : Life) → life dialogue h.pairs ≡ before → Stands (life_after dialogue before (record { event = event; answer = answer })) →
+    (IsStanding (life dialogue h.pairs) → AllWait dialogue h.pairs (queue dialogue h.pairs)) → (before : Life) → life dialogue h.pairs ≡ before → IsStanding (life_after dialogue before (record { event = event; answer = answer })) →
     AllWait dialogue (record { event = event; answer = answer } ∷ h.pairs) (queue_after dialogue h.pairs (queue dialogue h.pairs) (record { event = event; answer = answer }))
 step-waits h dialogue event answer range legal before_it Life.over lives stands = absurd stands
 step-waits h dialogue event answer range legal before_it (Life.standing s c) lives stands =
-    pair-waits h dialogue answer s c lives (before_it (subst Stands (sym lives) tt)) event range legal stands
+    pair-waits h dialogue answer s c lives (before_it (subst IsStanding (sym lives) tt)) event range legal stands
 step-waits h dialogue event answer range legal before_it Life.unborn lives stands =
     let here : Pair = record { event = event; answer = answer } in
     either (IsWaiting dialogue (here ∷ h.pairs)) (is_birth_of dialogue here) (queue_born dialogue h.pairs event) (if names event dialogue then queue_by_event dialogue h.pairs (queue dialogue h.pairs) event answer else queue dialogue h.pairs)
     (λ birth. born-waits dialogue (here ∷ h.pairs) h.pairs event)
-    (λ none. absurd (subst (λ (b : Bool). Stands (life_at_birth b event)) none stands))
+    (λ none. absurd (subst (λ (b : Bool). IsStanding (life_at_birth b event)) none stands))
 
-pub queue-waits : (start : Start) (dialogue : ℕ) (past : Past) → AreReplies start past → Stands (life dialogue past) → AllWait dialogue past (queue dialogue past)
+pub queue-waits : (start : Start) (dialogue : ℕ) (past : Past) → AreReplies start past → IsStanding (life dialogue past) → AllWait dialogue past (queue dialogue past)
 queue-waits start dialogue [] legal stands = tt
 queue-waits start dialogue (pair ∷ past) legal stands =
     step-waits (record { start = start; pairs = past }) dialogue pair.event pair.answer legal.0 legal (queue-waits start dialogue past legal.2) (life dialogue past) refl stands

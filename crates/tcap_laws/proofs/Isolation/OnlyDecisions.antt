@@ -14,7 +14,7 @@ use Rattle.tcap_model.specs.Words.Answer.{Answer, is_accepted}
 use Rattle.tcap_model.specs.Histories.Birth.{was_born}
 use Rattle.tcap_model.specs.Histories.Clock.{clock}
 use Rattle.tcap_model.specs.Invocations.Closings.{Told}
-use Rattle.tcap_model.specs.Invocations.Decision.{decided_of, decided_at, decision, told_of}
+use Rattle.tcap_model.specs.Invocations.Decision.{decided_of, decided_at, decision, told_outcome}
 use Rattle.tcap_model.specs.Replies.Due.{due_by}
 use Rattle.tcap_model.specs.Words.Event.{Event}
 use Rattle.tcap_model.specs.Replies.Held.{held, held_by, holds_identifier, is_waiting, is_rejectable, rejects_answer, pair_ends_wait, since, pending, if_pending}
@@ -40,7 +40,7 @@ undecided_at n place e = go (invocation_of n place) refl
   where
     go : (o : Option Invocation) → invocation_of n place ≡ o → decided_of place o ≡ None
     go None q = refl
-    go (Some i) q = ap (told_of place i) (ap (λ o. outcome_of o place) (sym q) ∙ e)
+    go (Some i) q = ap (told_outcome place i) (ap (λ o. outcome_of o place) (sym q) ∙ e)
 
 -- a request on a dialogue that wasn't born is refused
 pub unborn_refused : (start : Start) (named : ℕ) (r : Request) (answer : Answer) (past : Past) → AreReplies start (with_answer (Event.on_dialogue named r) answer ∷ past) → life named past ≡ Life.unborn → is_accepted answer ≡ false
@@ -49,7 +49,7 @@ unborn_refused start named r answer past legal unborn =
     ap is_accepted (legal.1 ∙ ap (λ l. request_answer h named r l (due_by h named r l)) unborn)
 
 module _ (start : Start) (dialogue : ℕ) where
-  told_same : (past : Past) (i : Invocation) (o : Option Closing) → told_of (only dialogue past) i o ≡ option_map (told_within dialogue) (told_of past i o)
+  told_same : (past : Past) (i : Invocation) (o : Option Closing) → told_outcome (only dialogue past) i o ≡ option_map (told_within dialogue) (told_outcome past i o)
   told_same past i None = refl
   told_same past i (Some c) = refl
 

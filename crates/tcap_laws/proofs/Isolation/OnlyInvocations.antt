@@ -51,20 +51,20 @@ invoked_names (Event.received bytes) answer i e = absurd cc
 invoked_names (Event.moment now) answer i e = absurd cc
 
 -- an invocation of the dialogue
-abbrev pub is_own : ℕ → Invocation → Bool
-is_own dialogue i = i.dialogue == dialogue
+abbrev pub is_of_dialogue : ℕ → Invocation → Bool
+is_of_dialogue dialogue i = i.dialogue == dialogue
 
-pub own_true : (dialogue : ℕ) (i : Invocation) → is_own dialogue i ≡ true → i.dialogue ≡ dialogue
+pub own_true : (dialogue : ℕ) (i : Invocation) → is_of_dialogue dialogue i ≡ true → i.dialogue ≡ dialogue
 own_true dialogue i e = grind (arith, nat_tests)
 
-pub true_own : (dialogue : ℕ) (i : Invocation) → i.dialogue ≡ dialogue → is_own dialogue i ≡ true
+pub true_own : (dialogue : ℕ) (i : Invocation) → i.dialogue ≡ dialogue → is_of_dialogue dialogue i ≡ true
 true_own dialogue i e = grind (arith, nat_tests)
 
 and_right : (a b : Bool) → (a && b) ≡ true → b ≡ true
 and_right true b e = e
 and_right false b e = absurd cc
 
-seen_own : (dialogue : ℕ) (event : Event) (answer : Answer) (past : Past) (i : Invocation) → is_seen_by dialogue (with_answer event answer) past ≡ true → invoked_of event answer ≡ Some i → is_own dialogue i ≡ true
+seen_own : (dialogue : ℕ) (event : Event) (answer : Answer) (past : Past) (i : Invocation) → is_seen_by dialogue (with_answer event answer) past ≡ true → invoked_of event answer ≡ Some i → is_of_dialogue dialogue i ≡ true
 seen_own dialogue Event.new_dialogue answer past i e q = absurd cc
 seen_own dialogue (Event.on_dialogue d r) answer past i e q =
     let named : (d == dialogue) ≡ true = and_right (was_born dialogue past) (d == dialogue) e in
@@ -98,10 +98,10 @@ find_filter {X = X} test own (x ∷ xs) h = go (test x) (own x) refl refl h (fin
 -- ---- the invocations
 
 module _ (start : Start) (dialogue : ℕ) where
-  pub unseen_own : (pair : Pair) (past : Past) → AreReplies start (pair ∷ past) → is_seen_by dialogue pair past ≡ false → (i : Invocation) → invoked_by pair ≡ Some i → is_own dialogue i ≡ false
-  unseen_own pair past legal e i q = go (is_own dialogue i) refl
+  pub unseen_own : (pair : Pair) (past : Past) → AreReplies start (pair ∷ past) → is_seen_by dialogue pair past ≡ false → (i : Invocation) → invoked_by pair ≡ Some i → is_of_dialogue dialogue i ≡ false
+  unseen_own pair past legal e i q = go (is_of_dialogue dialogue i) refl
     where
-      go : (b : Bool) → is_own dialogue i ≡ b → is_own dialogue i ≡ false
+      go : (b : Bool) → is_of_dialogue dialogue i ≡ b → is_of_dialogue dialogue i ≡ false
       go false p = p
       go true p =
           let same = own_true dialogue i p in
@@ -111,22 +111,22 @@ module _ (start : Start) (dialogue : ℕ) where
           let never : true ≡ false = sym named ∙ (ap (names pair.event) same ∙ not) in
           absurd cc
 
-  pub only_invocations : (past : Past) → AreReplies start past → invocations (only dialogue past) ≡ filter (is_own dialogue) (invocations past)
+  pub only_invocations : (past : Past) → AreReplies start past → invocations (only dialogue past) ≡ filter (is_of_dialogue dialogue) (invocations past)
   only_invocations [] legal = refl
   only_invocations (pair ∷ past) legal = go (is_seen_by dialogue pair past) refl (only_invocations past legal.2)
     where
-      go : (b : Bool) → is_seen_by dialogue pair past ≡ b → invocations (only dialogue past) ≡ filter (is_own dialogue) (invocations past)
-          → invocations (seen_or_not dialogue b pair past) ≡ filter (is_own dialogue) (invocations (pair ∷ past))
+      go : (b : Bool) → is_seen_by dialogue pair past ≡ b → invocations (only dialogue past) ≡ filter (is_of_dialogue dialogue) (invocations past)
+          → invocations (seen_or_not dialogue b pair past) ≡ filter (is_of_dialogue dialogue) (invocations (pair ∷ past))
       go true e same =
           ap (λ o. invocations (only dialogue past) ++ option_to_list o) (invoked_within dialogue pair.event pair.answer)
           ∙ (ap (λ z. z ++ option_to_list (invoked_by pair)) same
-          ∙ (ap (λ z. filter (is_own dialogue) (invocations past) ++ z) (sym (kept (is_own dialogue) (invoked_by pair) (λ i q. seen_own dialogue pair.event pair.answer past i e q)))
-          ∙ sym (filter-append (is_own dialogue) (invocations past) (option_to_list (invoked_by pair)))))
+          ∙ (ap (λ z. filter (is_of_dialogue dialogue) (invocations past) ++ z) (sym (kept (is_of_dialogue dialogue) (invoked_by pair) (λ i q. seen_own dialogue pair.event pair.answer past i e q)))
+          ∙ sym (filter-append (is_of_dialogue dialogue) (invocations past) (option_to_list (invoked_by pair)))))
       go false e same =
           same
-          ∙ (sym (append-nil (filter (is_own dialogue) (invocations past)))
-          ∙ (ap (λ z. filter (is_own dialogue) (invocations past) ++ z) (sym (left_out (is_own dialogue) (invoked_by pair) (unseen_own pair past legal e)))
-          ∙ sym (filter-append (is_own dialogue) (invocations past) (option_to_list (invoked_by pair)))))
+          ∙ (sym (append-nil (filter (is_of_dialogue dialogue) (invocations past)))
+          ∙ (ap (λ z. filter (is_of_dialogue dialogue) (invocations past) ++ z) (sym (left_out (is_of_dialogue dialogue) (invoked_by pair) (unseen_own pair past legal e)))
+          ∙ sym (filter-append (is_of_dialogue dialogue) (invocations past) (option_to_list (invoked_by pair)))))
 
   pub only_latest : (id : ℤ) (past : Past) → AreReplies start past → latest dialogue id (only dialogue past) ≡ latest dialogue id past
   only_latest id [] legal = refl
@@ -136,7 +136,7 @@ module _ (start : Start) (dialogue : ℕ) where
       go true e same = ap (λ o. option_or (with_id dialogue id o) (latest dialogue id (only dialogue past))) (invoked_within dialogue pair.event pair.answer) ∙ ap (option_or (with_id dialogue id (invoked_by pair))) same
       go false e same = same ∙ ap (λ o. option_or o (latest dialogue id past)) (sym (none (invoked_by pair) (unseen_own pair past legal e)))
         where
-          none : (o : Option Invocation) → ((i : Invocation) → o ≡ Some i → is_own dialogue i ≡ false) → with_id dialogue id o ≡ None
+          none : (o : Option Invocation) → ((i : Invocation) → o ≡ Some i → is_of_dialogue dialogue i ≡ false) → with_id dialogue id o ≡ None
           none None h = refl
           none (Some i) h = rw (h i refl) refl
 
@@ -150,7 +150,7 @@ module _ (start : Start) (dialogue : ℕ) where
   pub only_invocation : (n : ℕ) (past : Past) → AreReplies start past → IsOwn n past → invocation_of n (only dialogue past) ≡ invocation_of n past
   only_invocation n past legal own =
       ap (find (λ (i : Invocation). i.number == n)) (only_invocations past legal)
-      ∙ find_filter (λ (i : Invocation). i.number == n) (is_own dialogue) (invocations past) (λ i e. true_own dialogue i (own i e))
+      ∙ find_filter (λ (i : Invocation). i.number == n) (is_of_dialogue dialogue) (invocations past) (λ i e. true_own dialogue i (own i e))
 
 -- ---- the spans
 

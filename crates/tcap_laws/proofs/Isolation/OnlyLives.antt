@@ -2,7 +2,7 @@
 use Rattle.std.proofs.Common.{◌≡◌, ◌≢◌, ℕ, ℤ, Bool, true, false, cond, ◌&&◌, ◌||◌, List, [], ◌∷◌, refl, ap, sym, ◌∙◌, inl, inr}
 use Rattle.std.proofs.lemmas.Bool.{cases_Bool, or_parts}
 use Rattle.tcap_laws.proofs.Births.BirthLemmas.{unborn-life}
-use Rattle.tcap_laws.proofs.Spans.BornDialogues.{noted_at}
+use Rattle.tcap_laws.proofs.Spans.BornDialogues.{noted_at_clock}
 use Rattle.tcap_model.specs.Words.Answer.{Answer, is_accepted}
 use Rattle.tcap_model.specs.Histories.Birth.{born_of, born_by, is_birth_of, was_born}
 use Rattle.tcap_model.specs.Histories.Clock.{clock, clock_after}
@@ -122,7 +122,7 @@ module _ (dialogue : ℕ) where
         none : List Noted
         none = []
 
-        go : (l : Life) → life dialogue past ≡ l → noted_at (clock past) (marks_after_birth dialogue id l pair) ≡ none
+        go : (l : Life) → life dialogue past ≡ l → noted_at_clock (clock past) (marks_after_birth dialogue id l pair) ≡ none
         go Life.unborn q = refl
         go (Life.standing state context) q = rw (unnamed_if (Life.standing state context) q (λ e. cc)) refl
         go Life.over q = rw (unnamed_if Life.over q (λ e. cc)) refl
@@ -159,6 +159,6 @@ module _ (dialogue : ℕ) where
 
   pub seen_marks : (id : ℤ) (pair : Pair) (past : Past) → marks dialogue id (pair_within dialogue pair.event pair.answer) (only dialogue past) ≡ marks dialogue id pair past
   seen_marks id pair past =
-      ap (λ c. noted_at c (marks_after_birth dialogue id (life dialogue (only dialogue past)) (pair_within dialogue pair.event pair.answer))) (only_clock past)
-      ∙ (ap (noted_at (clock past)) (marks_within id (life dialogue (only dialogue past)) pair.event pair.answer)
-      ∙ ap (λ l. noted_at (clock past) (marks_after_birth dialogue id l pair)) (only_life past))
+      ap (λ c. noted_at_clock c (marks_after_birth dialogue id (life dialogue (only dialogue past)) (pair_within dialogue pair.event pair.answer))) (only_clock past)
+      ∙ (ap (noted_at_clock (clock past)) (marks_within id (life dialogue (only dialogue past)) pair.event pair.answer)
+      ∙ ap (λ l. noted_at_clock (clock past) (marks_after_birth dialogue id l pair)) (only_life past))

@@ -7,7 +7,7 @@ use Rattle.std.specs.Prelude.{filter, filter_map, map, option_map}
 use Rattle.tcap_laws.proofs.Isolation.LapseOrder.{filter-in_order}
 use Rattle.tcap_laws.proofs.Births.NumberedLemmas.{invocation_of-found}
 use Rattle.tcap_laws.proofs.Isolation.OnlyBytes.{alone-bytes}
-use Rattle.tcap_laws.proofs.Isolation.OnlyInvocations.{is_own, own_true, only_invocations, found_span}
+use Rattle.tcap_laws.proofs.Isolation.OnlyInvocations.{is_of_dialogue, own_true, only_invocations, found_span}
 use Rattle.tcap_laws.proofs.Isolation.OnlyLives.{only_clock}
 use Rattle.tcap_laws.proofs.Isolation.OnlyRequests.{alone_request}
 use Rattle.tcap_model.specs.Words.Answer.{Answer}
@@ -76,7 +76,7 @@ module _ (start : Start) (dialogue : ℕ) (past : Past) (legal : AreReplies star
   abbrev out : Lapsing → Bool
   out l = is_output_of dialogue (lapse_told l)
 
-  lapsing-same : (i : Invocation) → Contains (invocations past) i → is_own dialogue i ≡ true → lapsing_at (only dialogue past) now i ≡ lapsing_at past now i
+  lapsing-same : (i : Invocation) → Contains (invocations past) i → is_of_dialogue dialogue i ≡ true → lapsing_at (only dialogue past) now i ≡ lapsing_at past now i
   lapsing-same i at own =
       ap (λ ms. lapsing_by now (is_sent_in i.class i.timeout ms) i (option_map (λ sent. sent + i.timeout) (sent_clock ms)))
       (found_span start dialogue past legal i.number i (invocation_of-found start past legal i at) (own_true dialogue i own))
@@ -87,7 +87,7 @@ module _ (start : Start) (dialogue : ℕ) (past : Past) (legal : AreReplies star
       ∙ ap (map lapse_told)
       (filter-in_order out (filter_map (lapsing_at past now) (invocations past))
       ∙ ap in_order
-      (filter-of_map (is_own dialogue) out (lapsing_at past now) (lapsing_at (only dialogue past) now) (invocations past) lapsing-same
+      (filter-of_map (is_of_dialogue dialogue) out (lapsing_at past now) (lapsing_at (only dialogue past) now) (invocations past) lapsing-same
       (λ i l e. ap (λ (i : Invocation). i.dialogue == dialogue) (lapsing-of now (is_sent_in i.class i.timeout (span i past)) i (deadline i past) l e))
       ∙ ap (filter_map (lapsing_at (only dialogue past) now)) (sym (only_invocations start dialogue past legal))))
 

@@ -6,7 +6,7 @@ use Rattle.tcap_pdu.specs.FrameReading.{frame_at}
 use Rattle.tcap_pdu.specs.FrameSpelling.{Message}
 use Rattle.tcap_component.specs.ComponentReading.{components_of}
 use Rattle.tcap_laws.proofs.Births.BirthLemmas.{unborn-life}
-use Rattle.tcap_laws.proofs.Spans.BornDialogues.{noted_at}
+use Rattle.tcap_laws.proofs.Spans.BornDialogues.{noted_at_clock}
 use Rattle.tcap_laws.proofs.Spans.LatestInvocations.{latest_is}
 use Rattle.tcap_laws.proofs.Isolation.OnlyDecisions.{unborn_refused}
 use Rattle.tcap_laws.proofs.Isolation.OnlyInvocations.{only_latest, found_span}
@@ -37,8 +37,8 @@ use Rattle.tcap_model.specs.Words.State.{is_live}
 module _ (start : Start) (dialogue : ℕ) (past : Past) (legal : AreReplies start past) where
   pub marks_same : (items : List Item) (i : Invocation) → invocation_of i.number past ≡ Some i → i.dialogue ≡ dialogue → marks_up_to (only dialogue past) items i ≡ marks_up_to past items i
   marks_same items i found own =
-      ap (λ z. z ++ noted_at (clock (only dialogue past)) (component_marks i.id items)) (found_span start dialogue past legal i.number i found own)
-      ∙ ap (λ c. span i past ++ noted_at c (component_marks i.id items)) (only_clock dialogue past)
+      ap (λ z. z ++ noted_at_clock (clock (only dialogue past)) (component_marks i.id items)) (found_span start dialogue past legal i.number i found own)
+      ∙ ap (λ c. span i past ++ noted_at_clock c (component_marks i.id items)) (only_clock dialogue past)
 
   there_same : (earlier : List Item) (subject : Option ℤ) → sent_there dialogue (only dialogue past) earlier subject ≡ sent_there dialogue past earlier subject
   there_same earlier None = refl

@@ -7,7 +7,7 @@ use Rattle.std.specs.Prelude.{filter, filter_map, is_none, is_some}
 use Rattle.tcap_pdu.specs.FrameSpelling.{Message}
 use Rattle.tcap_laws.proofs.Births.NumberedLemmas.{invocation_of-found, numbers-below}
 use Rattle.tcap_laws.proofs.Isolation.OnlyDecisions.{only_held, only_pending}
-use Rattle.tcap_laws.proofs.Isolation.OnlyInvocations.{is_own, own_true, only_invocations}
+use Rattle.tcap_laws.proofs.Isolation.OnlyInvocations.{is_of_dialogue, own_true, only_invocations}
 use Rattle.tcap_laws.proofs.Isolation.OnlyLives.{seen_or_not, invoked_within, only_life}
 use Rattle.tcap_laws.proofs.Isolation.OnlyQueues.{marks_same, only_queue}
 use Rattle.tcap_laws.proofs.Births.StartLemmas.{start_number-within}
@@ -52,7 +52,7 @@ filter_map_own {X = X} {Y = Y} own f g (x ∷ xs) same none = go (own x) refl (f
     go false e ih = ih ∙ ap (λ (o : Option Y). cons_option o (filter_map f xs)) (sym (none x e))
 
 module _ (start : Start) (dialogue : ℕ) (past : Past) (legal : AreReplies start past) where
-  ended_same : (items : List Item) (i : Invocation) → Contains (invocations past) i → is_own dialogue i ≡ true → ended_of dialogue (only dialogue past) items i ≡ ended_of dialogue past items i
+  ended_same : (items : List Item) (i : Invocation) → Contains (invocations past) i → is_of_dialogue dialogue i ≡ true → ended_of dialogue (only dialogue past) items i ≡ ended_of dialogue past items i
   ended_same items i at own =
       ap (λ ms. if (i.dialogue == dialogue) && is_none (first_closing i.class i.timeout ms) then Some (Output.closed dialogue i.number i.id Closing.ended) else None)
       (marks_same start dialogue past legal items i (invocation_of-found start past legal i at) (own_true dialogue i own))
@@ -60,7 +60,7 @@ module _ (start : Start) (dialogue : ℕ) (past : Past) (legal : AreReplies star
   pub only_ended : (items : List Item) → ended_in dialogue (only dialogue past) items ≡ ended_in dialogue past items
   only_ended items =
       ap (filter_map (ended_of dialogue (only dialogue past) items)) (only_invocations start dialogue past legal)
-      ∙ filter_map_own (is_own dialogue) (ended_of dialogue past items) (ended_of dialogue (only dialogue past) items) (invocations past) (ended_same items)
+      ∙ filter_map_own (is_of_dialogue dialogue) (ended_of dialogue past items) (ended_of dialogue (only dialogue past) items) (invocations past) (ended_same items)
       (λ i e. ap (λ b. if b && is_none (first_closing i.class i.timeout (marks_up_to past items i)) then Some (Output.closed dialogue i.number i.id Closing.ended) else None) e)
 
 -- ---- faults

@@ -30,7 +30,7 @@ use Rattle.tcap_model.specs.Procedures.Standing.{Standing}
 use Rattle.tcap_model.specs.Words.State.{State, peer_of}
 use Rattle.tcap_model.specs.Words.Time.{moment_fault}
 use Rattle.tcap_model.specs.Statements.TwoEnds.{Happens}
-use Rattle.tcap_laws.proofs.Peers.NetPlaces.{happens-stands, happens-rest, carried-there, SentBy, sent-by}
+use Rattle.tcap_laws.proofs.Peers.NetPlaces.{happens-stands, happens-rest, carried-there, SentBy, bytes_sent}
 use Rattle.tcap_laws.proofs.Receptions.SentLemmas.{Nothing, tells-sends, birth-sends, moment-sends, sent_for_bytes, sent_for_request}
 use Rattle.tcap_laws.proofs.Receptions.ToldFrom.{legal-before, told-from}
 
@@ -153,7 +153,7 @@ module _ (net : Net) (is : IsNet net) (engine : Engine) (pair : Pair) (before : 
   carried output tells of =
       let told = told-from (history_in net engine net.trace) (is.is_legal engine) pair (side engine before) output (happens-stands engine pair before net.trace happens) tells of in
       let arrives : IsCarriedTo engine (Event.received told.bytes) before = subst (λ (e : Event). IsCarriedTo engine e before) told.is_event (carried-there engine pair before net.trace happens is.is_carried) in
-      let by : SentBy told.bytes (side (far engine) before) = sent-by told.bytes (side (far engine) before) arrives in
+      let by : SentBy told.bytes (side (far engine) before) = bytes_sent told.bytes (side (far engine) before) arrives in
       let legal = legal-before (net.start (far engine)) by.stands.later (by.pair ∷ by.before) (subst (AreReplies (net.start (far engine))) by.stands.is_past (legal-there (far engine))) in
       record {
         told = told;

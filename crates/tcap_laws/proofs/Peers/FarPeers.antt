@@ -19,7 +19,7 @@ use Rattle.tcap_model.specs.Words.Event.{Event}
 use Rattle.tcap_model.specs.Histories.History.{History, Start}
 use Rattle.tcap_model.specs.Words.InRange.{are_octets}
 use Rattle.tcap_model.specs.Replies.Legal.{AreReplies}
-use Rattle.tcap_model.specs.Histories.Life.{Life, life, life_after, life_by_event, life_by_message, life_by_request, life_by_verdict, life_if_accepted, life_if_live, life_if_named, answered}
+use Rattle.tcap_model.specs.Histories.Life.{Life, life, life_after, life_by_event, life_by_message, life_by_request, life_by_verdict, life_if_accepted, life_if_live, life_if_named, state_after_continue}
 use Rattle.tcap_model.specs.Words.LocalId.{dialogue_named, local_id}
 use Rattle.tcap_model.specs.Histories.Names.{names}
 use Rattle.tcap_model.specs.Histories.Pair.{Past}
@@ -46,7 +46,7 @@ activated-has peer State.sent e = e
 activated-has peer (State.received known) e = e
 activated-has peer (State.active known) e = e
 
-answered-has : (peer : List ℕ) (state : State) (origin : List ℕ) → peer_of state ≡ Some peer → peer_of (answered state origin) ≡ Some peer
+answered-has : (peer : List ℕ) (state : State) (origin : List ℕ) → peer_of state ≡ Some peer → peer_of (state_after_continue state origin) ≡ Some peer
 answered-has peer State.fresh origin e = e
 answered-has peer State.sent origin e = absurd cc
 answered-has peer (State.received known) origin e = e

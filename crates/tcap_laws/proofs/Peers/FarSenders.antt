@@ -26,7 +26,7 @@ use Rattle.tcap_model.specs.Words.Time.{moment_fault}
 use Rattle.tcap_model.specs.Statements.TwoEnds.{Happens}
 use Rattle.tcap_laws.proofs.Births.BirthLemmas.{beyond-unborn, unborn-life, dialogues-below}
 use Rattle.tcap_laws.proofs.Peers.CarriedComponents.{legal-there}
-use Rattle.tcap_laws.proofs.Peers.NetPlaces.{carried-there, SentBy, sent-by}
+use Rattle.tcap_laws.proofs.Peers.NetPlaces.{carried-there, SentBy, bytes_sent}
 use Rattle.tcap_laws.proofs.Receptions.SentLemmas.{Nothing, tells-sends, birth-sends, moment-sends, sent_for_bytes, sent_for_request}
 use Rattle.tcap_laws.proofs.Births.StartLemmas.{start_dialogue-within}
 use Rattle.tcap_laws.proofs.Receptions.ToldFrom.{legal-before}
@@ -135,7 +135,7 @@ module _ (net : Net) (is : IsNet net) (engine : Engine) (pair : Pair) (before : 
   pub far-sender : (bytes : List ℕ) (m : Message) → pair.event ≡ Event.received bytes → SpellsFrame m bytes → IsNoAbort m → FarSender net engine before m
   far-sender bytes m is_event spelled no_abort =
       let arrives : IsCarriedTo engine (Event.received bytes) before = subst (λ (e : Event). IsCarriedTo engine e before) is_event (carried-there engine pair before net.trace happens is.is_carried) in
-      let by : SentBy bytes (side (far engine) before) = sent-by bytes (side (far engine) before) arrives in
+      let by : SentBy bytes (side (far engine) before) = bytes_sent bytes (side (far engine) before) arrives in
       let legal = legal-before (net.start (far engine)) by.stands.later (by.pair ∷ by.before) (subst (AreReplies (net.start (far engine))) by.stands.is_past (legal-there net is engine pair before happens (far engine))) in
       record {
         sender = by.pair;

@@ -6,7 +6,7 @@ use Rattle.tcap_pdu.specs.FrameSpelling.{Message}
 use Rattle.tcap_model.specs.Words.Answer.{Answer, is_accepted}
 use Rattle.tcap_model.specs.Histories.Birth.{is_birth_of}
 use Rattle.tcap_model.specs.Words.Event.{Event}
-use Rattle.tcap_model.specs.Histories.Life.{Life, life, life_at_birth, life_after, life_by_event, life_by_message, life_by_request, life_by_verdict, life_if_accepted, life_if_live, life_if_named, begun_life, answered}
+use Rattle.tcap_model.specs.Histories.Life.{Life, life, life_at_birth, life_after, life_by_event, life_by_message, life_by_request, life_by_verdict, life_if_accepted, life_if_live, life_if_named, begun_life, state_after_continue}
 use Rattle.tcap_model.specs.Histories.Names.{names}
 use Rattle.tcap_model.specs.Histories.Pair.{Pair, Past}
 use Rattle.tcap_model.specs.Statements.Places.{StandsIn}
@@ -60,7 +60,7 @@ module _ (peer : List ℕ) where
   if-accepted false state context request is = is
 
   -- a Continue keeps the peer, or tells it
-  by-answer : (state : State) (origin : List ℕ) → peer_of (answered state origin) ≡ Some peer → (peer_of state ≡ Some peer) ⊎ ((state ≡ State.sent) × (origin ≡ peer))
+  by-answer : (state : State) (origin : List ℕ) → peer_of (state_after_continue state origin) ≡ Some peer → (peer_of state ≡ Some peer) ⊎ ((state ≡ State.sent) × (origin ≡ peer))
   by-answer State.fresh origin e = inl e
   by-answer State.sent origin e = let same : origin ≡ peer = cc in inr (refl, same)
   by-answer (State.received known) origin e = inl e

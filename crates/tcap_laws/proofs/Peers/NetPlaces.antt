@@ -14,11 +14,11 @@ own : (engine : Engine) → is_engine engine engine ≡ true
 own Engine.a = refl
 own Engine.b = refl
 
-is_own : (one other : Engine) → is_engine one other ≡ true → other ≡ one
-is_own Engine.a Engine.a e = refl
-is_own Engine.a Engine.b e = absurd cc
-is_own Engine.b Engine.a e = absurd cc
-is_own Engine.b Engine.b e = refl
+engine_is : (one other : Engine) → is_engine one other ≡ true → other ≡ one
+engine_is Engine.a Engine.a e = refl
+engine_is Engine.a Engine.b e = absurd cc
+engine_is Engine.b Engine.a e = absurd cc
+engine_is Engine.b Engine.b e = refl
 
 side-append : (engine : Engine) (later trace : Trace) → side engine (later ++ trace) ≡ side engine later ++ side engine trace
 side-append engine [] trace = refl
@@ -77,7 +77,7 @@ stands-at engine pair past later (m ∷ trace) is = elim (cases_Bool (is_engine 
     by-later again [] is here =
         let first : m.pair ≡ pair = cc in
         let rest : side engine trace ≡ past = cc in
-        subst (λ (p : Past). IsAt engine pair p (m ∷ trace)) rest (subst (λ (p : Pair). IsAt engine p (side engine trace) (m ∷ trace)) first (at-here engine m trace (is_own engine m.engine here)))
+        subst (λ (p : Past). IsAt engine pair p (m ∷ trace)) rest (subst (λ (p : Pair). IsAt engine p (side engine trace) (m ∷ trace)) first (at-here engine m trace (engine_is engine m.engine here)))
     by-later again (p ∷ later) is here =
         let rest : side engine trace ≡ later ++ pair ∷ past = cc in
         at-later engine pair past m trace (again later rest)
@@ -135,17 +135,17 @@ pub record SentBy (bytes : List ℕ) (past : Past) : Type 0 where
   pub stands : StandsIn pair before past
   pub tells : Tells pair.answer (Output.send bytes)
 
-sent-later : (bytes : List ℕ) (pair : Pair) (past : Past) → SentBy bytes past → SentBy bytes (pair ∷ past)
-sent-later bytes pair past sent = record {
+bytes_sent-later : (bytes : List ℕ) (pair : Pair) (past : Past) → SentBy bytes past → SentBy bytes (pair ∷ past)
+bytes_sent-later bytes pair past sent = record {
   pair = sent.pair;
   before = sent.before;
   stands = record { later = pair ∷ sent.stands.later; is_past = ap (λ (p : Past). pair ∷ p) sent.stands.is_past };
   tells = sent.tells;
 }
 
-pub sent-by : (bytes : List ℕ) (past : Past) → was_sent bytes past ≡ true → SentBy bytes past
-sent-by bytes [] e = absurd cc
-sent-by bytes (pair ∷ past) e = elim (or_cases (answer_sends bytes pair.answer) (was_sent bytes past) e) [
+pub bytes_sent : (bytes : List ℕ) (past : Past) → was_sent bytes past ≡ true → SentBy bytes past
+bytes_sent bytes [] e = absurd cc
+bytes_sent bytes (pair ∷ past) e = elim (or_cases (answer_sends bytes pair.answer) (was_sent bytes past) e) [
   | inl here ↦ record { pair = pair; before = past; stands = record { later = []; is_past = refl }; tells = answer-tells bytes pair.answer here }
-  | inr there ↦ sent-later bytes pair past (sent-by bytes past there)
+  | inr there ↦ bytes_sent-later bytes pair past (bytes_sent bytes past there)
 ]

@@ -58,22 +58,22 @@ items-of content =
 
 -- ---- the invocation that is Sent for an identifier is one of the dialogue
 
-abbrev IsOf : ℕ → Option Invocation → Type 0
-IsOf dialogue None = Unit {0}
-IsOf dialogue (Some i) = i.dialogue ≡ dialogue
+abbrev IsOfDialogue : ℕ → Option Invocation → Type 0
+IsOfDialogue dialogue None = Unit {0}
+IsOfDialogue dialogue (Some i) = i.dialogue ≡ dialogue
 
-first-of : (dialogue : ℕ) (a b : Option Invocation) → IsOf dialogue a → IsOf dialogue b → IsOf dialogue (option_or a b)
+first-of : (dialogue : ℕ) (a b : Option Invocation) → IsOfDialogue dialogue a → IsOfDialogue dialogue b → IsOfDialogue dialogue (option_or a b)
 first-of dialogue None b p q = q
 first-of dialogue (Some i) b p q = p
 
-with_id-of : (dialogue : ℕ) (id : ℤ) (i : Option Invocation) → IsOf dialogue (with_id dialogue id i)
+with_id-of : (dialogue : ℕ) (id : ℤ) (i : Option Invocation) → IsOfDialogue dialogue (with_id dialogue id i)
 with_id-of dialogue id None = tt
 with_id-of dialogue id (Some i) = elim (cases_Bool (has_id dialogue id i)) [
   | inl has ↦ rw has (eqb-true i.dialogue dialogue (and_parts (eqb i.dialogue dialogue) (int_eq i.id id) has).0)
   | inr lacks ↦ rw lacks tt
 ]
 
-latest-of : (dialogue : ℕ) (id : ℤ) (past : Past) → IsOf dialogue (latest dialogue id past)
+latest-of : (dialogue : ℕ) (id : ℤ) (past : Past) → IsOfDialogue dialogue (latest dialogue id past)
 latest-of dialogue id [] = tt
 latest-of dialogue id (pair ∷ past) =
     first-of dialogue (with_id dialogue id (invoked_by pair)) (latest dialogue id past) (with_id-of dialogue id (invoked_by pair)) (latest-of dialogue id past)
@@ -82,7 +82,7 @@ abbrev pub IsSentOf : ℕ → Option SentInvocation → Type 0
 IsSentOf dialogue None = Unit {0}
 IsSentOf dialogue (Some sent) = sent.dialogue ≡ dialogue
 
-if_sent-of : (dialogue : ℕ) (past : Past) (earlier : List Item) (i : Option Invocation) → IsOf dialogue i → IsSentOf dialogue (if_sent past earlier i)
+if_sent-of : (dialogue : ℕ) (past : Past) (earlier : List Item) (i : Option Invocation) → IsOfDialogue dialogue i → IsSentOf dialogue (if_sent past earlier i)
 if_sent-of dialogue past earlier None of = tt
 if_sent-of dialogue past earlier (Some i) of = elim (cases_Bool (is_sent_in i.class i.timeout (marks_up_to past earlier i))) [
   | inl is ↦ rw is of
@@ -131,32 +131,32 @@ result-formed : (dialogue : ℕ) (sent : Option SentInvocation) (id : ℤ) (body
 result-formed dialogue None id body received of range = here-formed dialogue dialogue id unrecognized_result refl range (omega arith)
 result-formed dialogue (Some sent) id body received of range = result-by dialogue sent id body (class_rule sent.class received) of range
 
-error-by : (dialogue : ℕ) (sent : SentInvocation) (id : ℤ) (code : CodeParts) (parameter : Option (List ℕ)) (consequence : Consequence) → sent.dialogue ≡ dialogue → IsIdentifierIfAny (Some id) → HasFormed dialogue (error_by sent id code parameter consequence)
-error-by dialogue sent id code parameter Consequence.error_back of range = tt
-error-by dialogue sent id code parameter Consequence.rejected_error of range = closed-formed dialogue sent.dialogue sent.number id unexpected_error of range (omega arith)
-error-by dialogue sent id code parameter Consequence.result_last of range = here-formed dialogue sent.dialogue id unrecognized_error of range (omega arith)
-error-by dialogue sent id code parameter Consequence.result_more of range = here-formed dialogue sent.dialogue id unrecognized_error of range (omega arith)
-error-by dialogue sent id code parameter Consequence.rejected_result of range = here-formed dialogue sent.dialogue id unrecognized_error of range (omega arith)
-error-by dialogue sent id code parameter Consequence.rejected of range = here-formed dialogue sent.dialogue id unrecognized_error of range (omega arith)
-error-by dialogue sent id code parameter Consequence.not_of_the_invoke of range = here-formed dialogue sent.dialogue id unrecognized_error of range (omega arith)
+error_by-formed : (dialogue : ℕ) (sent : SentInvocation) (id : ℤ) (code : CodeParts) (parameter : Option (List ℕ)) (consequence : Consequence) → sent.dialogue ≡ dialogue → IsIdentifierIfAny (Some id) → HasFormed dialogue (error_by sent id code parameter consequence)
+error_by-formed dialogue sent id code parameter Consequence.error_back of range = tt
+error_by-formed dialogue sent id code parameter Consequence.rejected_error of range = closed-formed dialogue sent.dialogue sent.number id unexpected_error of range (omega arith)
+error_by-formed dialogue sent id code parameter Consequence.result_last of range = here-formed dialogue sent.dialogue id unrecognized_error of range (omega arith)
+error_by-formed dialogue sent id code parameter Consequence.result_more of range = here-formed dialogue sent.dialogue id unrecognized_error of range (omega arith)
+error_by-formed dialogue sent id code parameter Consequence.rejected_result of range = here-formed dialogue sent.dialogue id unrecognized_error of range (omega arith)
+error_by-formed dialogue sent id code parameter Consequence.rejected of range = here-formed dialogue sent.dialogue id unrecognized_error of range (omega arith)
+error_by-formed dialogue sent id code parameter Consequence.not_of_the_invoke of range = here-formed dialogue sent.dialogue id unrecognized_error of range (omega arith)
 
 error-formed : (dialogue : ℕ) (sent : Option SentInvocation) (id : ℤ) (code : CodeParts) (parameter : Option (List ℕ)) → IsSentOf dialogue sent → IsIdentifierIfAny (Some id) → HasFormed dialogue (error_handled (Some dialogue) sent id code parameter)
 error-formed dialogue None id code parameter of range = here-formed dialogue dialogue id unrecognized_error refl range (omega arith)
-error-formed dialogue (Some sent) id code parameter of range = error-by dialogue sent id code parameter (class_rule sent.class Received.return_error) of range
+error-formed dialogue (Some sent) id code parameter of range = error_by-formed dialogue sent id code parameter (class_rule sent.class Received.return_error) of range
 
-reject-by : (dialogue : ℕ) (sent : SentInvocation) (id : ℤ) (problem : ProblemParts) (consequence : Consequence) → HasFormed dialogue (reject_by sent id problem consequence)
-reject-by dialogue sent id problem Consequence.rejected = tt
-reject-by dialogue sent id problem Consequence.result_last = tt
-reject-by dialogue sent id problem Consequence.result_more = tt
-reject-by dialogue sent id problem Consequence.error_back = tt
-reject-by dialogue sent id problem Consequence.rejected_result = tt
-reject-by dialogue sent id problem Consequence.rejected_error = tt
-reject-by dialogue sent id problem Consequence.not_of_the_invoke = tt
+reject_by-formed : (dialogue : ℕ) (sent : SentInvocation) (id : ℤ) (problem : ProblemParts) (consequence : Consequence) → HasFormed dialogue (reject_by sent id problem consequence)
+reject_by-formed dialogue sent id problem Consequence.rejected = tt
+reject_by-formed dialogue sent id problem Consequence.result_last = tt
+reject_by-formed dialogue sent id problem Consequence.result_more = tt
+reject_by-formed dialogue sent id problem Consequence.error_back = tt
+reject_by-formed dialogue sent id problem Consequence.rejected_result = tt
+reject_by-formed dialogue sent id problem Consequence.rejected_error = tt
+reject_by-formed dialogue sent id problem Consequence.not_of_the_invoke = tt
 
 reject-formed : (dialogue : ℕ) (sent : Option SentInvocation) (id : Option ℤ) (problem : ProblemParts) → HasFormed dialogue (reject_handled (Some dialogue) sent id problem)
 reject-formed dialogue sent None problem = tt
 reject-formed dialogue None (Some id) problem = tt
-reject-formed dialogue (Some sent) (Some id) problem = reject-by dialogue sent id problem (class_rule sent.class (Received.reject problem.kind))
+reject-formed dialogue (Some sent) (Some id) problem = reject_by-formed dialogue sent id problem (class_rule sent.class (Received.reject problem.kind))
 
 fault-formed : (dialogue : ℕ) (was_reject : Bool) (id : Option ℤ) (problem : ProblemParts) → IsIdentifierIfAny id → IsProblem problem → IsFormed dialogue (Output.local_reject (Some dialogue) id problem) (if was_reject then None else Some (reject_back id problem))
 fault-formed dialogue true id problem range within = tt

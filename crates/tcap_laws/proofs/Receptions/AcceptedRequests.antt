@@ -62,14 +62,14 @@ numbered (Answer.given_up m) n e = absurd cc
 numbered (Answer.outputs outputs) n e = absurd cc
 numbered (Answer.refused fault) n e = absurd cc
 
-abbrev requested : ℕ → Request → Answer → Pair
-requested dialogue request answer = record { event = Event.on_dialogue dialogue request; answer = answer }
+abbrev requested_pair : ℕ → Request → Answer → Pair
+requested_pair dialogue request answer = record { event = Event.on_dialogue dialogue request; answer = answer }
 
-invoked-under : (dialogue : ℕ) (request : Request) (answer : Answer) (i : Invocation) (o : Option ℕ) → number_of answer ≡ o → invoked_under dialogue request o ≡ Some i → IsInvoke (requested dialogue request answer) i
+invoked-under : (dialogue : ℕ) (request : Request) (answer : Answer) (i : Invocation) (o : Option ℕ) → number_of answer ≡ o → invoked_under dialogue request o ≡ Some i → IsInvoke (requested_pair dialogue request answer) i
 invoked-under dialogue request answer i None q e = absurd cc
 invoked-under dialogue (Request.invoke id class code parameter linked timeout) answer i (Some n) q e =
     let same : record { number = n; dialogue = dialogue; id = id; class = class; timeout = timeout } ≡ i = cc in
-    subst (λ (i : Invocation). IsInvoke (requested dialogue (Request.invoke id class code parameter linked timeout) answer) i) same
+    subst (λ (i : Invocation). IsInvoke (requested_pair dialogue (Request.invoke id class code parameter linked timeout) answer) i) same
     (record { code = code; parameter = parameter; linked = linked; event = refl; answer = numbered answer n q })
 invoked-under dialogue (Request.result_last id body) answer i (Some n) q e = absurd cc
 invoked-under dialogue (Request.result_more id body) answer i (Some n) q e = absurd cc
@@ -93,13 +93,13 @@ invoke-made pair i e = invoked-of pair.event pair.answer i e
 
 -- ---- its identifier and its timeout
 
-abbrev asks : Invocation → CodeParts → Option (List ℕ) → Option ℤ → Request
-asks i code parameter linked = Request.invoke i.id i.class code parameter linked i.timeout
+abbrev invoke_asked : Invocation → CodeParts → Option (List ℕ) → Option ℤ → Request
+invoke_asked i code parameter linked = Request.invoke i.id i.class code parameter linked i.timeout
 
 pub made-identifier : (pair : Pair) (i : Invocation) → InRange pair.event → invoked_by pair ≡ Some i → is_identifier i.id ≡ true
 made-identifier pair i within e =
     let made : IsInvoke pair i = invoke-made pair i e in
-    let asked : Request = asks i made.code made.parameter made.linked in
+    let asked : Request = invoke_asked i made.code made.parameter made.linked in
     let whole = and_parts (is_short i.dialogue) (is_request asked) (subst InRange made.event within) in
     let timed = and_parts (is_identifier i.id && is_code made.code && are_octets_if_any made.parameter && is_identifier_if_any made.linked) (is_long i.timeout) whole.1 in
     let linked = and_parts (is_identifier i.id && is_code made.code && are_octets_if_any made.parameter) (is_identifier_if_any made.linked) timed.0 in
@@ -114,7 +114,7 @@ pub made-timeout : (start : Start) (pair : Pair) (past : Past) (i : Invocation) 
 made-timeout start pair past i legal e =
     let h : History = record { start = start; pairs = past } in
     let made : IsInvoke pair i = invoke-made pair i e in
-    let asked : Request = asks i made.code made.parameter made.linked in
+    let asked : Request = invoke_asked i made.code made.parameter made.linked in
     let answered : Answer.number i.number ≡ reply h (Event.on_dialogue i.dialogue asked) = sym made.answer ∙ (legal.1 ∙ ap (reply h) made.event) in
     let a : IsAccepted h i.dialogue asked = accepted-request h i.dialogue asked (sym (ap is_accepted answered)) in
     let none = first_that-none (holds (situation_of h i.dialogue (standing_of i.dialogue past a.state a.context) asked) asked) (faults_of asked) a.faultless in

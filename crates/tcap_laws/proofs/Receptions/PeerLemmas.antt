@@ -7,7 +7,7 @@ use Rattle.tcap_pdu.specs.TransId.{IsTransId}
 use Rattle.tcap_model.specs.Words.Answer.{is_accepted}
 use Rattle.tcap_model.specs.Histories.Birth.{is_birth_of}
 use Rattle.tcap_model.specs.Words.Event.{Event}
-use Rattle.tcap_model.specs.Histories.Life.{Life, begun_life, born_life, life_at_birth, life_by_request, life_if_accepted, answered, life_by_verdict, life_by_message, life_if_live, life_by_event, life_if_named, life_after, life}
+use Rattle.tcap_model.specs.Histories.Life.{Life, begun_life, born_life, life_at_birth, life_by_request, life_if_accepted, state_after_continue, life_by_verdict, life_by_message, life_if_live, life_by_event, life_if_named, life_after, life}
 use Rattle.tcap_model.specs.Histories.Names.{names}
 use Rattle.tcap_model.specs.Histories.Pair.{Pair, Past}
 use Rattle.tcap_model.specs.Procedures.PortionRules.{PortionVerdict, portion_verdict}
@@ -68,7 +68,7 @@ accepted-id : (accepted : Bool) (state : State) (context : Option (List ℕ)) (r
 accepted-id true state context request peer = request-id state context request peer
 accepted-id false state context request peer = peer
 
-answered-id : (state : State) (origin : List ℕ) → StateId state → IsTransId origin → StateId (answered state origin)
+answered-id : (state : State) (origin : List ℕ) → StateId state → IsTransId origin → StateId (state_after_continue state origin)
 answered-id State.fresh origin peer id = tt
 answered-id State.sent origin peer id = id
 answered-id (State.received known) origin peer id = peer

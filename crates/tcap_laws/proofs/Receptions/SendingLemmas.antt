@@ -12,7 +12,7 @@ use Rattle.tcap_pdu.specs.FrameSpelling.{Message, Reason, HasIds, HasCause, caus
 use Rattle.tcap_pdu.specs.FrameWritten.{message_limit, written_frame}
 use Rattle.tcap_pdu.specs.TransId.{IsTransId}
 use Rattle.tcap_pdu.proofs.CallerLemmas.{length-own, written_spelled}
-use Rattle.tcap_model.specs.Procedures.AbortRules.{sent, abort_with, abnormal_abort, version_abort}
+use Rattle.tcap_model.specs.Procedures.AbortRules.{message_sent, abort_with, abnormal_abort, version_abort}
 use Rattle.tcap_model.specs.Words.Output.{Output}
 use Rattle.tcap_model.specs.Statements.SentMessage.{IsMessage}
 
@@ -24,7 +24,7 @@ pub record CanGo (m : Message) : Type 0 where
 
 -- an output that sends an Abort
 abbrev pub Sends : Output → Type 0
-Sends output = (peer : List ℕ) × (reason : Reason) × (output ≡ sent (Message.abort peer reason)) × CanGo (Message.abort peer reason)
+Sends output = (peer : List ℕ) × (reason : Reason) × (output ≡ message_sent (Message.abort peer reason)) × CanGo (Message.abort peer reason)
 
 pub goes-spelled : (m : Message) → CanGo m → IsMessage m (written_frame m)
 goes-spelled m can = record { is_written = refl; spelled = written_spelled m can.has_ids can.has_cause can.is_short }

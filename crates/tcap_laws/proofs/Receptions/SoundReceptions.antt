@@ -126,16 +126,16 @@ ended-sound : (full : Bool) (bytes : List ℕ) (named : Option ℕ) (f : FrameFa
 ended-sound full bytes (Some d) f = tt
 ended-sound full bytes None f = tt
 
-either : (full : Bool) (bytes : List ℕ) (test : Bool) (x y : Reception) → IsSound full bytes x → IsSound full bytes y → IsSound full bytes (if test then x else y)
-either full bytes true x y p q = p
-either full bytes false x y p q = q
+either-sound : (full : Bool) (bytes : List ℕ) (test : Bool) (x y : Reception) → IsSound full bytes x → IsSound full bytes y → IsSound full bytes (if test then x else y)
+either-sound full bytes true x y p q = p
+either-sound full bytes false x y p q = q
 
 fault-sound : (full : Bool) (bytes : List ℕ) (first : ℕ) (named : Option ℕ) (abort : Option Output) (f : FrameFault) → IfSends abort → IsSound full bytes (fault_by first named abort f)
 fault-sound full bytes first named abort f sends =
-    either full bytes (first == 0x61) _ _ tt
-    (either full bytes (first == 0x64) _ _ (ended-sound full bytes named f)
-    (either full bytes (first == 0x65) _ _ (broken-sound full bytes named abort f sends)
-    (either full bytes (first == 0x67) _ _ (ended-sound full bytes named f) (aborted-sound full bytes abort sends))))
+    either-sound full bytes (first == 0x61) _ _ tt
+    (either-sound full bytes (first == 0x64) _ _ (ended-sound full bytes named f)
+    (either-sound full bytes (first == 0x65) _ _ (broken-sound full bytes named abort f sends)
+    (either-sound full bytes (first == 0x67) _ _ (ended-sound full bytes named f) (aborted-sound full bytes abort sends))))
 
 faulty-sound : (full : Bool) (live : ℕ → Bool) (bytes : List ℕ) (f : FrameFault) → IsSound full bytes (faulty live bytes f)
 faulty-sound full live [] f = tt
@@ -152,4 +152,4 @@ reading-sound live full bytes (Err f) e = faulty-sound full live bytes f
 
 pub reception-sound : (live : ℕ → Bool) (full : Bool) (bytes : List ℕ) → IsSound full bytes (reception live full bytes)
 reception-sound live full bytes =
-    either full bytes (nat_lt message_limit (length bytes)) _ _ tt (reading-sound live full bytes (frame_at bytes) refl)
+    either-sound full bytes (nat_lt message_limit (length bytes)) _ _ tt (reading-sound live full bytes (frame_at bytes) refl)

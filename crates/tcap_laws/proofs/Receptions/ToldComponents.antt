@@ -85,33 +85,33 @@ more-shows : (dialogue : Option ℕ) (sent : Option SentInvocation) (id : ℤ) (
 more-shows dialogue None id body is = absurd (indicates _ is)
 more-shows dialogue (Some sent) id body is = more-by sent id body sent.class is
 
-error-by : (sent : SentInvocation) (id : ℤ) (code : CodeParts) (parameter : Option (List ℕ)) (class : Class) → Shows (error_back id code parameter) (error_by sent id code parameter (class_rule class Received.return_error)).told
-error-by sent id code parameter One is = StandsFor.an_error sent.dialogue sent.number id code parameter
-error-by sent id code parameter Two is = StandsFor.an_error sent.dialogue sent.number id code parameter
-error-by sent id code parameter Three is = absurd (indicates _ is)
-error-by sent id code parameter Four is = absurd (indicates _ is)
+error_by-shows : (sent : SentInvocation) (id : ℤ) (code : CodeParts) (parameter : Option (List ℕ)) (class : Class) → Shows (error_back id code parameter) (error_by sent id code parameter (class_rule class Received.return_error)).told
+error_by-shows sent id code parameter One is = StandsFor.an_error sent.dialogue sent.number id code parameter
+error_by-shows sent id code parameter Two is = StandsFor.an_error sent.dialogue sent.number id code parameter
+error_by-shows sent id code parameter Three is = absurd (indicates _ is)
+error_by-shows sent id code parameter Four is = absurd (indicates _ is)
 
 error-shows : (dialogue : Option ℕ) (sent : Option SentInvocation) (id : ℤ) (code : CodeParts) (parameter : Option (List ℕ)) → Shows (error_back id code parameter) (error_handled dialogue sent id code parameter).told
 error-shows dialogue None id code parameter is = absurd (indicates _ is)
-error-shows dialogue (Some sent) id code parameter is = error-by sent id code parameter sent.class is
+error-shows dialogue (Some sent) id code parameter is = error_by-shows sent id code parameter sent.class is
 
 closed-shows : (by_provider : Bool) (dialogue number : ℕ) (id : ℤ) (problem : ProblemParts) → Shows (reject_back (Some id) problem) (Output.closed dialogue number id (Closing.rejected problem (if by_provider then Rejector.remote_provider else Rejector.remote_user)))
 closed-shows true dialogue number id problem is = absurd (indicates _ is)
 closed-shows false dialogue number id problem is = StandsFor.a_reject dialogue number id problem
 
-reject-by : (sent : SentInvocation) (id : ℤ) (problem : ProblemParts) (consequence : Consequence) → Shows (reject_back (Some id) problem) (reject_by sent id problem consequence).told
-reject-by sent id problem Consequence.rejected is = closed-shows (is_by_provider problem) sent.dialogue sent.number id problem is
-reject-by sent id problem Consequence.result_last is = absurd (indicates _ is)
-reject-by sent id problem Consequence.result_more is = absurd (indicates _ is)
-reject-by sent id problem Consequence.error_back is = absurd (indicates _ is)
-reject-by sent id problem Consequence.rejected_result is = absurd (indicates _ is)
-reject-by sent id problem Consequence.rejected_error is = absurd (indicates _ is)
-reject-by sent id problem Consequence.not_of_the_invoke is = absurd (indicates _ is)
+reject_by-shows : (sent : SentInvocation) (id : ℤ) (problem : ProblemParts) (consequence : Consequence) → Shows (reject_back (Some id) problem) (reject_by sent id problem consequence).told
+reject_by-shows sent id problem Consequence.rejected is = closed-shows (is_by_provider problem) sent.dialogue sent.number id problem is
+reject_by-shows sent id problem Consequence.result_last is = absurd (indicates _ is)
+reject_by-shows sent id problem Consequence.result_more is = absurd (indicates _ is)
+reject_by-shows sent id problem Consequence.error_back is = absurd (indicates _ is)
+reject_by-shows sent id problem Consequence.rejected_result is = absurd (indicates _ is)
+reject_by-shows sent id problem Consequence.rejected_error is = absurd (indicates _ is)
+reject_by-shows sent id problem Consequence.not_of_the_invoke is = absurd (indicates _ is)
 
 reject-shows : (dialogue : Option ℕ) (sent : Option SentInvocation) (id : Option ℤ) (problem : ProblemParts) → Shows (reject_back id problem) (reject_handled dialogue sent id problem).told
 reject-shows dialogue sent None problem is = absurd (indicates _ is)
 reject-shows dialogue None (Some id) problem is = absurd (indicates _ is)
-reject-shows dialogue (Some sent) (Some id) problem is = reject-by sent id problem (class_rule sent.class (Received.reject problem.kind)) is
+reject-shows dialogue (Some sent) (Some id) problem is = reject_by-shows sent id problem (class_rule sent.class (Received.reject problem.kind)) is
 
 handled-shows : (dialogue : Option ℕ) (sent : Option SentInvocation) (c : ComponentParts) → Shows c (handled dialogue sent (Ok c)).told
 handled-shows dialogue sent (invoke id linked code parameter) = invoke-shows dialogue sent id linked code parameter
@@ -123,17 +123,17 @@ handled-shows dialogue sent (result_more id body) = more-shows dialogue sent id 
 -- ---- the components of a message
 
 -- what an output stands for, if it is an indication of a component
-abbrev pub Stands : Event → Output → Type 0
-Stands event output = IsOfComponent output → ToldFromOne event output
+abbrev pub StandsForOne : Event → Output → Type 0
+StandsForOne event output = IsOfComponent output → ToldFromOne event output
 
 abbrev pub AllStand : Event → List Output → Type 0
-AllStand event outputs = AllByRecursion (Stands event) outputs
+AllStand event outputs = AllByRecursion (StandsForOne event) outputs
 
 module _ (bytes : List ℕ) (message : Message) (spelled : SpellsFrame message bytes) where
   abbrev IsFirst : List ComponentParts → Option FaultParts → Type 0
   IsFirst cs f = FirstFault cs f (portion_of message)
 
-  one-stands : (all earlier later : List ComponentParts) (c : ComponentParts) (f : Option FaultParts) (output : Output) → IsFirst all f → all ≡ earlier ++ c ∷ later → Shows c output → Stands (Event.received bytes) output
+  one-stands : (all earlier later : List ComponentParts) (c : ComponentParts) (f : Option FaultParts) (output : Output) → IsFirst all f → all ≡ earlier ++ c ∷ later → Shows c output → StandsForOne (Event.received bytes) output
   one-stands all earlier later c f output first is shows of = record {
     bytes = bytes;
     message = message;

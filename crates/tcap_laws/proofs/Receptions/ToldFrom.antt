@@ -36,7 +36,7 @@ use Rattle.tcap_model.specs.Words.State.{State}
 use Rattle.tcap_model.specs.Words.Time.{moment_fault}
 use Rattle.tcap_laws.proofs.Receptions.SendingLemmas.{Sends}
 use Rattle.tcap_laws.proofs.Receptions.SoundReceptions.{IfSends, IsSound, reception-sound}
-use Rattle.tcap_laws.proofs.Receptions.ToldComponents.{indicates, Indicates, Stands, AllStand, components-stand, uni-stand}
+use Rattle.tcap_laws.proofs.Receptions.ToldComponents.{indicates, Indicates, StandsForOne, AllStand, components-stand, uni-stand}
 use Rattle.tcap_laws.proofs.Receptions.ToldLemmas.{each-append}
 
 -- ---- what is told besides
@@ -49,21 +49,21 @@ ended-of-stand : (event : Event) (test : Bool) (dialogue : ℕ) (i : Invocation)
 ended-of-stand event true dialogue i = ((λ of. absurd (indicates _ of)), tt)
 ended-of-stand event false dialogue i = tt
 
-ended-each : (event : Event) (dialogue : ℕ) (past : Past) (components : List Item) (is : List Invocation) → AllStand event (filter_map (ended_of dialogue past components) is)
-ended-each event dialogue past components [] = tt
-ended-each event dialogue past components (i ∷ is) =
+ended-stands : (event : Event) (dialogue : ℕ) (past : Past) (components : List Item) (is : List Invocation) → AllStand event (filter_map (ended_of dialogue past components) is)
+ended-stands event dialogue past components [] = tt
+ended-stands event dialogue past components (i ∷ is) =
     if-stand event (ended_of dialogue past components i) (filter_map (ended_of dialogue past components) is)
     (ended-of-stand event ((i.dialogue == dialogue) && is_none (first_closing i.class i.timeout (marks_up_to past components i))) dialogue i)
-    (ended-each event dialogue past components is)
+    (ended-stands event dialogue past components is)
 
 ended-stand : (event : Event) (dialogue : ℕ) (past : Past) (components : List Item) → AllStand event (ended_in dialogue past components)
-ended-stand event dialogue past components = ended-each event dialogue past components (invocations past)
+ended-stand event dialogue past components = ended-stands event dialogue past components (invocations past)
 
 lapses-stand : (event : Event) (lapsings : List Lapsing) → AllStand event (map lapse_told lapsings)
 lapses-stand event [] = tt
 lapses-stand event (l ∷ lapsings) = ((λ of. absurd (indicates _ of)), lapses-stand event lapsings)
 
-sent-stands : (event : Event) (output : Output) → Sends output → Stands event output
+sent-stands : (event : Event) (output : Output) → Sends output → StandsForOne event output
 sent-stands event output sends of = absurd (indicates _ (subst IsOfComponent sends.2 of))
 
 sent_if_any-stand : (event : Event) (message : Option Message) → AllStand event (sent_if_any message)
@@ -104,7 +104,7 @@ message-stand bytes dialogue past state context (Message.end to portion componen
     by_verdict : (verdict : PortionVerdict) → AllStand (Event.received bytes) (end_outputs dialogue past components verdict)
     by_verdict (PortionVerdict.normal told info) = (
       (λ of. absurd (indicates _ of)),
-      each-append (Stands (Event.received bytes)) (told_of (handled_in dialogue past components)) (ended_in dialogue past (components_of components))
+      each-append (StandsForOne (Event.received bytes)) (told_of (handled_in dialogue past components)) (ended_in dialogue past (components_of components))
           (components-stand bytes (Message.end to portion components) spelled dialogue past)
           (ended-stand (Event.received bytes) dialogue past (components_of components)),
     )
@@ -146,7 +146,7 @@ AnswerStands event (Answer.refused fault) = Unit {0}
 
 last-stands : (event : Event) (dialogue : ℕ) (past : Past) (message : Option Message) → AnswerStands event (last_answer dialogue past message)
 last-stands event dialogue past message =
-    each-append (Stands event) (sent_if_any message) (ended_in dialogue past []) (sent_if_any-stand event message) (ended-stand event dialogue past [])
+    each-append (StandsForOne event) (sent_if_any message) (ended_in dialogue past []) (sent_if_any-stand event message) (ended-stand event dialogue past [])
 
 given_up-stands : (event : Event) (number : Option ℕ) → AnswerStands event (given_up_answer number)
 given_up-stands event None = tt
@@ -193,7 +193,7 @@ reply-stands h (Event.moment now) = moment-stands (Event.moment now) h.pairs now
 
 -- ---- legal histories
 
-one-of : (event : Event) (earlier later : List Output) (output : Output) → AllStand event (earlier ++ output ∷ later) → Stands event output
+one-of : (event : Event) (earlier later : List Output) (output : Output) → AllStand event (earlier ++ output ∷ later) → StandsForOne event output
 one-of event [] later output all = all.0
 one-of event (o ∷ earlier) later output all = one-of event earlier later output all.1
 

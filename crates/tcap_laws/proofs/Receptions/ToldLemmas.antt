@@ -120,15 +120,15 @@ ended-of-told : (test : Bool) (dialogue : ℕ) (i : Invocation) → AreTold (opt
 ended-of-told true dialogue i = (tt, tt)
 ended-of-told false dialogue i = tt
 
-ended-each : (dialogue : ℕ) (past : Past) (components : List Item) (is : List Invocation) → AreTold (filter_map (ended_of dialogue past components) is)
-ended-each dialogue past components [] = tt
-ended-each dialogue past components (i ∷ is) =
+each_ended-told : (dialogue : ℕ) (past : Past) (components : List Item) (is : List Invocation) → AreTold (filter_map (ended_of dialogue past components) is)
+each_ended-told dialogue past components [] = tt
+each_ended-told dialogue past components (i ∷ is) =
     if-told (ended_of dialogue past components i) (filter_map (ended_of dialogue past components) is)
     (ended-of-told ((i.dialogue == dialogue) && is_none (first_closing i.class i.timeout (marks_up_to past components i))) dialogue i)
-    (ended-each dialogue past components is)
+    (each_ended-told dialogue past components is)
 
 pub ended-told : (dialogue : ℕ) (past : Past) (components : List Item) → AreTold (ended_in dialogue past components)
-ended-told dialogue past components = ended-each dialogue past components (invocations past)
+ended-told dialogue past components = each_ended-told dialogue past components (invocations past)
 
 -- ---- moments
 

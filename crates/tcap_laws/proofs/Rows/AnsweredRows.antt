@@ -13,7 +13,7 @@ use Rattle.tcap_invocation.specs.Class.{Received, Consequence, class_rule}
 use Rattle.tcap_invocation.specs.Invocations.{Row, InvocationList, entry_at, passing, freed}
 use Rattle.tcap_invocation.specs.Stage.{is_sent}
 use Rattle.tcap_laws.proofs.Rows.ReceivedRows.{reject_rule}
-use Rattle.tcap_laws.proofs.Rows.Restaged.{Leaves, on_id, restaged, left_rows, freed_rows, moved_rows}
+use Rattle.tcap_laws.proofs.Rows.Restaged.{LeavesStage, on_id, restaged, left_rows, freed_rows, moved_rows}
 use Rattle.tcap_laws.proofs.Rows.StageSteps.{answered_by, answered_stage}
 
 module _ (rows : List Row) (id : ℤ) (received : Received) (until : ℕ) (distinct : IsDistinct int_eq (keys_of rows)) where
@@ -22,10 +22,10 @@ module _ (rows : List Row) (id : ℤ) (received : Received) (until : ℕ) (disti
 
   -- where the identifier's invocation isn't Sent
   none_rows : entry_at rows id ≡ None → answered_rows ≡ rows
-  none_rows at = left_rows id (answered_stage until received) rows distinct (subst (λ o. Leaves (answered_stage until received) o) (sym at) tt)
+  none_rows at = left_rows id (answered_stage until received) rows distinct (subst (λ o. LeavesStage (answered_stage until received) o) (sym at) tt)
 
   kept_rows : (e : Entry) → entry_at rows id ≡ Some e → answered_stage until received e.class e.stage ≡ Some e.stage → answered_rows ≡ rows
-  kept_rows e at same = left_rows id (answered_stage until received) rows distinct (subst (λ o. Leaves (answered_stage until received) o) (sym at) same)
+  kept_rows e at same = left_rows id (answered_stage until received) rows distinct (subst (λ o. LeavesStage (answered_stage until received) o) (sym at) same)
 
   module _ (e : Entry) (at : entry_at rows id ≡ Some e) where
     staged : (s : Stage) → e.stage ≡ s → answered_stage until received e.class e.stage ≡ answered_stage until received e.class s

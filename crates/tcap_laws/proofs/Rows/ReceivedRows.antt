@@ -60,7 +60,7 @@ reject_rule Four kind.Error = inr refl
 -- ---- the rows
 
 -- the rows are still distinct, and the answer took what it closes from its identifier
-pub record Leaves (received : Received) (id : ℤ) (rows after : List Row) : Type 0 where
+pub record LeavesSent (received : Received) (id : ℤ) (rows after : List Row) : Type 0 where
   pub distinct : IsDistinct int_eq (keys_of after)
   pub sent : (named : ℤ) → sent_at after named ≡ cond (int_eq id named) (left received (sent_at rows named)) (sent_at rows named)
 
@@ -91,7 +91,7 @@ sent_inside (Some y) e w = refl
 
 module _ (rows : List Row) (id : ℤ) (received : Received) (distinct : IsDistinct int_eq (keys_of rows)) where
   -- where nothing changes
-  unchanged : left received (sent_at rows id) ≡ sent_at rows id → Leaves received id rows rows
+  unchanged : left received (sent_at rows id) ≡ sent_at rows id → LeavesSent received id rows rows
   unchanged e = record { distinct = distinct; sent = λ named. go named (int_eq id named) refl }
     where
       go : (named : ℤ) (b : Bool) → int_eq id named ≡ b → sent_at rows named ≡ cond b (left received (sent_at rows named)) (sent_at rows named)
@@ -100,7 +100,7 @@ module _ (rows : List Row) (id : ℤ) (received : Received) (distinct : IsDistin
 
   -- where the identifier's invocation isn't Sent any more
   closed : (after : List Row) (o : Option Entry) → IsDistinct int_eq (keys_of after) → passing is_sent o ≡ None → left received (sent_at rows id) ≡ None
-      → ((named : ℤ) → entry_at after named ≡ cond (int_eq id named) o (entry_at rows named)) → Leaves received id rows after
+      → ((named : ℤ) → entry_at after named ≡ cond (int_eq id named) o (entry_at rows named)) → LeavesSent received id rows after
   closed after o d w e look = record { distinct = d; sent = λ named. ap (passing is_sent) (look named) ∙ go named (int_eq id named) refl }
     where
       go : (named : ℤ) (b : Bool) → int_eq id named ≡ b → passing is_sent (cond b o (entry_at rows named)) ≡ cond b (left received (sent_at rows named)) (sent_at rows named)
@@ -111,11 +111,11 @@ module _ (rows : List Row) (id : ℤ) (received : Received) (distinct : IsDistin
     left_is : (b : Bool) → stays e.class received ≡ b → left received (sent_at rows id) ≡ cond b (Some e) None
     left_is b q = ap (left received) is ∙ ap (λ b. cond b (Some e) None) q
 
-    removed : stays e.class received ≡ false → Leaves received id rows (without rows id)
+    removed : stays e.class received ≡ false → LeavesSent received id rows (without rows id)
     removed q = closed (without rows id) None (distinct_removed (int_eq id) rows distinct) refl (left_is false q)
         (λ named. lookup-remove_entry int_eq_equiv (int_eq id) (same_test id) named rows distinct)
 
-    waiting : (until : ℕ) → stays e.class received ≡ false → Leaves received id rows (set_value (int_eq id) rows (record e { stage = Waiting until }))
+    waiting : (until : ℕ) → stays e.class received ≡ false → LeavesSent received id rows (set_value (int_eq id) rows (record e { stage = Waiting until }))
     waiting until q =
         closed (set_value (int_eq id) rows w) (Some w) (subst (IsDistinct int_eq) (sym (keys-set_value (int_eq id) rows w)) distinct) refl (left_is false q)
         (λ named. lookup-set_value int_eq_equiv (int_eq id) (same_test id) named w rows (sent_inside (entry_at rows id) e is))
@@ -123,7 +123,7 @@ module _ (rows : List Row) (id : ℤ) (received : Received) (distinct : IsDistin
         w : Entry
         w = record e { stage = Waiting until }
 
-    by_consequence : (k : Consequence) (until : ℕ) → class_rule e.class received ≡ k → Leaves received id rows (after_consequence k rows id e until)
+    by_consequence : (k : Consequence) (until : ℕ) → class_rule e.class received ≡ k → LeavesSent received id rows (after_consequence k rows id e until)
     by_consequence Consequence.result_last until q = waiting until (ap stays_by q)
     by_consequence Consequence.result_more until q = unchanged (left_is true (ap stays_by q) ∙ sym is)
     by_consequence Consequence.error_back until q = waiting until (ap stays_by q)
@@ -132,25 +132,25 @@ module _ (rows : List Row) (id : ℤ) (received : Received) (distinct : IsDistin
     by_consequence Consequence.rejected until q = removed (ap stays_by q)
     by_consequence Consequence.not_of_the_invoke until q = unchanged (left_is true (ap stays_by q) ∙ sym is)
 
-  pub rows_leave : (until : ℕ) → Leaves received id rows (rows_after (sent_at rows id) received rows id until)
+  pub rows_leave : (until : ℕ) → LeavesSent received id rows (rows_after (sent_at rows id) received rows id until)
   rows_leave until = go (sent_at rows id) refl
     where
-      go : (o : Option Entry) → sent_at rows id ≡ o → Leaves received id rows (rows_after o received rows id until)
+      go : (o : Option Entry) → sent_at rows id ≡ o → LeavesSent received id rows (rows_after o received rows id until)
       go None q = unchanged (ap (left received) q ∙ sym q)
       go (Some e) q = by_consequence e q (class_rule e.class received) until refl
 
 reject_step : (list : InvocationList) (id : ℤ) (k : Kind) (distinct : IsDistinct int_eq (keys_of list.rows)) (e : Entry) → sent_at list.rows id ≡ Some e → (c : Consequence) → class_rule e.class (Received.reject k) ≡ c
-    → (c ≡ Consequence.rejected) ⊎ (c ≡ Consequence.not_of_the_invoke) → Leaves (Received.reject k) id list.rows (freed list id (is_some (rejected_number c e.number))).rows
+    → (c ≡ Consequence.rejected) ⊎ (c ≡ Consequence.not_of_the_invoke) → LeavesSent (Received.reject k) id list.rows (freed list id (is_some (rejected_number c e.number))).rows
 reject_step list id k distinct e is c q (inl p) =
-    subst (λ c. Leaves (Received.reject k) id list.rows (freed list id (is_some (rejected_number c e.number))).rows) (sym p)
+    subst (λ c. LeavesSent (Received.reject k) id list.rows (freed list id (is_some (rejected_number c e.number))).rows) (sym p)
     (removed list.rows id (Received.reject k) distinct e is (ap stays_by (q ∙ p)))
 reject_step list id k distinct e is c q (inr p) =
-    subst (λ c. Leaves (Received.reject k) id list.rows (freed list id (is_some (rejected_number c e.number))).rows) (sym p)
+    subst (λ c. LeavesSent (Received.reject k) id list.rows (freed list id (is_some (rejected_number c e.number))).rows) (sym p)
     (unchanged list.rows id (Received.reject k) distinct (left_is list.rows id (Received.reject k) distinct e is true (ap stays_by (q ∙ p)) ∙ sym is))
 
-pub reject_leaves : (list : InvocationList) (id : ℤ) (k : Kind) → IsDistinct int_eq (keys_of list.rows) → Leaves (Received.reject k) id list.rows (after_reject list id k).rows
+pub reject_leaves : (list : InvocationList) (id : ℤ) (k : Kind) → IsDistinct int_eq (keys_of list.rows) → LeavesSent (Received.reject k) id list.rows (after_reject list id k).rows
 reject_leaves list id k distinct = go (sent_at list.rows id) refl
   where
-    go : (o : Option Entry) → sent_at list.rows id ≡ o → Leaves (Received.reject k) id list.rows (freed list id (is_some (rejected_for o k))).rows
+    go : (o : Option Entry) → sent_at list.rows id ≡ o → LeavesSent (Received.reject k) id list.rows (freed list id (is_some (rejected_for o k))).rows
     go None q = unchanged list.rows id (Received.reject k) distinct (ap (left (Received.reject k)) q ∙ sym q)
     go (Some e) q = reject_step list id k distinct e q (class_rule e.class (Received.reject k)) refl (reject_rule e.class k)

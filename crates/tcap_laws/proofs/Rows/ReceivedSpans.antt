@@ -52,11 +52,11 @@ up_to_more past earlier c i a =
 -- ---- one mark more
 
 -- an answer's mark doesn't send, and leaves an invocation that is Sent so where its class says so
-pub record Answers (received : Received) (mark : Mark) : Type 0 where
+pub record IsMarkOf (received : Received) (mark : Mark) : Type 0 where
   pub sends_not : is_sent mark ≡ false
   pub closes : (class : Class) (timeout sent : ℕ) → is_none (closing_of class timeout (Some sent) mark) ≡ stays class received
 
-pub one_more : (class : Class) (timeout c : ℕ) (received : Received) (mark : Mark) (marks : List Noted) → Answers received mark
+pub one_more : (class : Class) (timeout c : ℕ) (received : Received) (mark : Mark) (marks : List Noted) → IsMarkOf received mark
     → is_sent_in class timeout (marks ++ record { clock = c; mark = mark } ∷ []) ≡ (is_sent_in class timeout marks && stays class received)
 one_more class timeout c received mark marks a =
     ap (λ o. is_some o && is_none (first_closing class timeout (marks ++ new ∷ []))) (sent_clock-append marks (new ∷ []) ∙ none_sent)

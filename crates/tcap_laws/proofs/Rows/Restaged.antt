@@ -41,9 +41,9 @@ missing_rows id f [] a = refl
 missing_rows id f (r ∷ rows) a = ap (λ b. cons_option (row_at r (cond b (f r.1.class r.1.stage) (Some r.1.stage))) (restaged (on_id id f) rows)) a.0 ∙ ap (λ z. r ∷ z) (missing_rows id f rows a.1)
 
 -- the identifier has no row, or one that the operation leaves
-abbrev pub Leaves : (Class → Stage → Option Stage) → Option Entry → Type 0
-Leaves f None = Unit {0}
-Leaves f (Some e) = f e.class e.stage ≡ Some e.stage
+abbrev pub LeavesStage : (Class → Stage → Option Stage) → Option Entry → Type 0
+LeavesStage f None = Unit {0}
+LeavesStage f (Some e) = f e.class e.stage ≡ Some e.stage
 
 other_keys : (id k : ℤ) (ks : List ℤ) → int_eq id k ≡ true → AllByRecursion (λ n. int_eq k n ≡ false) ks → AllByRecursion (λ n. int_eq id n ≡ false) ks
 other_keys id k ks e a = subst (λ (x : ℤ). AllByRecursion (λ n. int_eq x n ≡ false) ks) (sym ((Decides-int_eq id k).0 e)) a
@@ -53,12 +53,12 @@ module _ (id : ℤ) (f : Class → Stage → Option Stage) where
   abbrev step : Row → Bool → List Row → List Row
   step r b rest = cons_option (row_at r (cond b (f r.1.class r.1.stage) (Some r.1.stage))) rest
 
-  pub left_rows : (rows : List Row) → IsDistinct int_eq (keys_of rows) → Leaves f (entry_at rows id) → restaged (on_id id f) rows ≡ rows
+  pub left_rows : (rows : List Row) → IsDistinct int_eq (keys_of rows) → LeavesStage f (entry_at rows id) → restaged (on_id id f) rows ≡ rows
   unfolding IsDistinct
   left_rows [] d l = refl
   left_rows (r ∷ rows) d l = go (int_eq id r.0) refl l (left_rows rows d.1)
     where
-      go : (b : Bool) → int_eq id r.0 ≡ b → Leaves f (cond b (Some r.1) (entry_at rows id)) → (Leaves f (entry_at rows id) → restaged (on_id id f) rows ≡ rows)
+      go : (b : Bool) → int_eq id r.0 ≡ b → LeavesStage f (cond b (Some r.1) (entry_at rows id)) → (LeavesStage f (entry_at rows id) → restaged (on_id id f) rows ≡ rows)
           → step r b (restaged (on_id id f) rows) ≡ r ∷ rows
       go true e l more = ap (λ o. cons_option (row_at r o) (restaged (on_id id f) rows)) l ∙ ap (λ z. r ∷ z) (missing_rows id f rows (other_keys id r.0 (keys_of rows) e d.0))
       go false e l more = ap (λ z. r ∷ z) (more l)

@@ -19,7 +19,7 @@ use Rattle.tcap_laws.proofs.Decisions.ToldInvocations.{IsFound, each_found}
 use Rattle.tcap_model.specs.Histories.Clock.{clock}
 use Rattle.tcap_model.specs.Invocations.Closings.{Told}
 use Rattle.tcap_model.specs.Invocations.Deadline.{sent_clock}
-use Rattle.tcap_model.specs.Invocations.Decision.{told_of, decided_of, decided_at, decision}
+use Rattle.tcap_model.specs.Invocations.Decision.{told_outcome, decided_of, decided_at, decision}
 use Rattle.tcap_model.specs.Replies.Held.{is_rejectable, pair_ends_wait, since, is_waiting}
 use Rattle.tcap_model.specs.Histories.History.{Start}
 use Rattle.tcap_model.specs.Invocations.Invocation.{Invocation, invoked_by, invocations, has_id, with_id, latest}
@@ -105,7 +105,7 @@ module _ (reject_ms : ℕ) (past : Past) where
       go (Some t) e = refl
 
   -- where an outcome is told at this very place
-  pub stage_now : (i : Invocation) (o : Option Closing) → stage_by reject_ms past i (told_of past i o) ≡ closed_stage (clock past + reject_ms) i.timeout o (sent_clock (span i past))
+  pub stage_now : (i : Invocation) (o : Option Closing) → stage_by reject_ms past i (told_outcome past i o) ≡ closed_stage (clock past + reject_ms) i.timeout o (sent_clock (span i past))
   stage_now i None = ap Some (open_is i (sent_clock (span i past)))
   stage_now i (Some c) =
       ap (λ z. cond (is_rejectable c && not (list_any (pair_ends_wait (clock past + reject_ms) i.dialogue i.id) z)) waiting None) (since_end [] past) ∙ go (is_rejectable c)

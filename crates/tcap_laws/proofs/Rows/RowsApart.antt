@@ -49,9 +49,9 @@ apart_step start pair past (Some new) legal e a =
     apart_more (invocations past) new a
     (each (IsFound past) (λ x. (new.number == x.number) ≡ false) (λ x f. other_number start pair past legal new x e (ap is_some f)) (invocations past) (each_found start past legal.2))
 
-apart : (start : Start) (past : Past) → AreReplies start past → Apart (invocations past)
-apart start [] legal = tt
-apart start (pair ∷ past) legal = apart_step start pair past (invoked_by pair) legal refl (apart start past legal.2)
+invocations-apart : (start : Start) (past : Past) → AreReplies start past → Apart (invocations past)
+invocations-apart start [] legal = tt
+invocations-apart start (pair ∷ past) legal = apart_step start pair past (invoked_by pair) legal refl (invocations-apart start past legal.2)
 
 -- ---- the rows
 
@@ -98,4 +98,4 @@ module _ (start : Start) (past : Past) (legal : AreReplies start past) (reject_m
       go (Some r) e d = (other_rows x r a.0 e xs a.1 p.0, d)
 
   pub rows_distinct : IsDistinct int_eq (keys_of (rows_of reject_ms dialogue past))
-  rows_distinct = distinct_rows (invocations past) (each_found start past legal) (apart start past legal)
+  rows_distinct = distinct_rows (invocations past) (each_found start past legal) (invocations-apart start past legal)

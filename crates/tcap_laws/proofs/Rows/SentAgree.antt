@@ -39,8 +39,8 @@ and_true true = refl
 and_true false = refl
 
 -- whether an invocation is Sent where it has an outcome or none
-sent-by : (past : Past) (i : Invocation) → IsFound past i → is_sent_in i.class i.timeout (marks_up_to past [] i) ≡ (is_some (sent_clock (span i past)) && is_none (outcome i.number past))
-sent-by past i found =
+sent-by_outcome : (past : Past) (i : Invocation) → IsFound past i → is_sent_in i.class i.timeout (marks_up_to past [] i) ≡ (is_some (sent_clock (span i past)) && is_none (outcome i.number past))
+sent-by_outcome past i found =
     ap (is_sent_in i.class i.timeout) (append-nil (span i past))
     ∙ ap (λ o. is_some (sent_clock (span i past)) && is_none o) (sym (ap (λ o. outcome_of o past) found))
 
@@ -67,7 +67,7 @@ module _ (start : Start) (past : Past) (legal : AreReplies start past) (reject_m
       → sent_of i.dialogue (passing is_sent (Some (row i s).1)) ≡ sent_there i.dialogue past [] (Some i.id)
   row-sent i s found last at =
       ap sent_if (stage-sent reject_ms past i s (decision i.number past) at
-      ∙ (ap (λ o. is_some (sent_clock (span i past)) && is_none o) (closing_of_decision i.number past) ∙ sym (sent-by past i found)))
+      ∙ (ap (λ o. is_some (sent_clock (span i past)) && is_none o) (closing_of_decision i.number past) ∙ sym (sent-by_outcome past i found)))
       ∙ (one_if (is_sent_in i.class i.timeout (marks_up_to past [] i)) ∙ ap (if_sent past []) (sym last))
     where
       one : SentInvocation
@@ -99,7 +99,7 @@ module _ (start : Start) (past : Past) (legal : AreReplies start past) (reject_m
       go (Some c) p q =
           let found = (latest_is start past dialogue id j legal e).is_found in
           let not_sent : is_sent_in j.class j.timeout (marks_up_to past [] j) ≡ false =
-          sent-by past j found ∙ (ap (λ o. is_some (sent_clock (span j past)) && is_none o) p ∙ sym (and_false (is_some (sent_clock (span j past))))) in
+          sent-by_outcome past j found ∙ (ap (λ o. is_some (sent_clock (span j past)) && is_none o) p ∙ sym (and_false (is_some (sent_clock (span j past))))) in
           sym (ap (λ b. cond b (Some one) None) not_sent)
         where
           one : SentInvocation

@@ -17,8 +17,8 @@ use Rattle.tcap_invocation.specs.declared.invocations.Invocation.{Invocation as 
 use Rattle.tcap_invocation.specs.Class.{Received, Consequence, class_rule}
 use Rattle.tcap_invocation.specs.Invocations.{Row, InvocationList, sent_at}
 use Rattle.tcap_laws.proofs.Spans.LatestInvocations.{id_of}
-use Rattle.tcap_laws.proofs.Rows.ReceivedRows.{stays_by, stays, left, Leaves, rows_leave, reject_leaves}
-use Rattle.tcap_laws.proofs.Rows.ReceivedSpans.{AreRead, more_read, up_to_more, Answers, one_more}
+use Rattle.tcap_laws.proofs.Rows.ReceivedRows.{stays_by, stays, left, LeavesSent, rows_leave, reject_leaves}
+use Rattle.tcap_laws.proofs.Rows.ReceivedSpans.{AreRead, more_read, up_to_more, IsMarkOf, one_more}
 use Rattle.tcap_laws.proofs.Rows.RowsAgree.{latest_has}
 use Rattle.tcap_model.specs.Histories.Clock.{clock}
 use Rattle.tcap_model.specs.Invocations.Closes.{closing_by}
@@ -35,14 +35,14 @@ use Rattle.tcap_model.specs.Table.TableMove.{after_item, reject_queued, walked}
 
 -- ---- the marks of answers
 
-closing_stays : (x : Closing) (k : Consequence) → is_none (closing_by (Some x) k) ≡ stays_by k
-closing_stays x Consequence.result_last = refl
-closing_stays x Consequence.result_more = refl
-closing_stays x Consequence.error_back = refl
-closing_stays x Consequence.rejected_result = refl
-closing_stays x Consequence.rejected_error = refl
-closing_stays x Consequence.rejected = refl
-closing_stays x Consequence.not_of_the_invoke = refl
+closing_by-stays : (x : Closing) (k : Consequence) → is_none (closing_by (Some x) k) ≡ stays_by k
+closing_by-stays x Consequence.result_last = refl
+closing_by-stays x Consequence.result_more = refl
+closing_by-stays x Consequence.error_back = refl
+closing_by-stays x Consequence.rejected_result = refl
+closing_by-stays x Consequence.rejected_error = refl
+closing_by-stays x Consequence.rejected = refl
+closing_by-stays x Consequence.not_of_the_invoke = refl
 
 more_stays : (class : Class) → is_none (closing_by None (class_rule class Received.return_result_not_last)) ≡ stays class Received.return_result_not_last
 more_stays One = refl
@@ -110,7 +110,7 @@ module _ (dialogue : ℕ) (past : Past) (rows : List Row) (earlier : List Item) 
           one : SentInvocation
           one = record { dialogue = i.dialogue; number = i.number; class = i.class }
 
-  module _ (id : ℤ) (received : Received) (mark : Mark) (answers : Answers received mark) (marks : (k : ℤ) → marks_of_component k c ≡ cond (int_eq id k) (mark ∷ []) []) (after : List Row) (leaves : Leaves received id rows after) where
+  module _ (id : ℤ) (received : Received) (mark : Mark) (answers : IsMarkOf received mark) (marks : (k : ℤ) → marks_of_component k c ≡ cond (int_eq id k) (mark ∷ []) []) (after : List Row) (leaves : LeavesSent received id rows after) where
     sent_more : (i : Invocation) → is_sent_in i.class i.timeout (marks_up_to past (earlier ++ Ok c ∷ []) i)
         ≡ cond (int_eq id i.id) (is_sent_in i.class i.timeout (marks_up_to past earlier i) && stays i.class received) (is_sent_in i.class i.timeout (marks_up_to past earlier i))
     sent_more i =
@@ -142,8 +142,8 @@ module _ (dialogue : ℕ) (past : Past) (rows : List Row) (earlier : List Item) 
     like_answer = record { distinct = leaves.distinct; sent = λ k. ap (sent_of dialogue) (leaves.sent k) ∙ like_sent k (latest dialogue k past) refl (like.sent k) }
 
 -- a Reject that is none of the Invoke takes nothing
-kept : (received : Received) → ((class : Class) → stays class received ≡ true) → (id : ℤ) (rows after : List Row) → Leaves received id rows after → (k : ℤ) → sent_at after k ≡ sent_at rows k
-kept received all id rows after l k = l.sent k ∙ go (int_eq id k) (sent_at rows k)
+sent-kept : (received : Received) → ((class : Class) → stays class received ≡ true) → (id : ℤ) (rows after : List Row) → LeavesSent received id rows after → (k : ℤ) → sent_at after k ≡ sent_at rows k
+sent-kept received all id rows after l k = l.sent k ∙ go (int_eq id k) (sent_at rows k)
   where
     left_all : (o : Option Entry) → left received o ≡ o
     left_all None = refl
@@ -156,25 +156,25 @@ kept received all id rows after l k = l.sent k ∙ go (int_eq id k) (sent_at row
 module _ (dialogue : ℕ) (past : Past) (list : InvocationList) (earlier : List Item) (read : AreRead earlier) (like : IsLike dialogue past list.rows earlier) where
   like_reject : (id : ℤ) (problem : ProblemParts) (k : Kind) → problem.kind ≡ k → IsLike dialogue past (after_item (clock past) list (Ok (ComponentParts.reject_back (Some id) problem))).rows (earlier ++ Ok (ComponentParts.reject_back (Some id) problem) ∷ [])
   like_reject id problem kind.General e = like_answer dialogue past list.rows earlier read like (ComponentParts.reject_back (Some id) problem) id (Received.reject problem.kind) (Mark.reject problem)
-      (record { sends_not = refl; closes = λ class timeout sent. closing_stays _ (class_rule class (Received.reject problem.kind)) })
+      (record { sends_not = refl; closes = λ class timeout sent. closing_by-stays _ (class_rule class (Received.reject problem.kind)) })
       (λ n. ap (reject_marks n id problem) e) (after_item (clock past) list (Ok (ComponentParts.reject_back (Some id) problem))).rows (reject_leaves list id problem.kind like.distinct)
   like_reject id problem kind.Invoke e = like_answer dialogue past list.rows earlier read like (ComponentParts.reject_back (Some id) problem) id (Received.reject problem.kind) (Mark.reject problem)
-      (record { sends_not = refl; closes = λ class timeout sent. closing_stays _ (class_rule class (Received.reject problem.kind)) })
+      (record { sends_not = refl; closes = λ class timeout sent. closing_by-stays _ (class_rule class (Received.reject problem.kind)) })
       (λ n. ap (reject_marks n id problem) e) (after_item (clock past) list (Ok (ComponentParts.reject_back (Some id) problem))).rows (reject_leaves list id problem.kind like.distinct)
   like_reject id problem kind.Result e = like_same dialogue past list.rows earlier read like (ComponentParts.reject_back (Some id) problem)
       (λ n. ap (reject_marks n id problem) e) (after_item (clock past) list (Ok (ComponentParts.reject_back (Some id) problem))).rows (reject_leaves list id problem.kind like.distinct).distinct
-      (kept (Received.reject problem.kind) (λ class. ap (λ k. stays class (Received.reject k)) e ∙ result_stays class) id list.rows (after_item (clock past) list (Ok (ComponentParts.reject_back (Some id) problem))).rows (reject_leaves list id problem.kind like.distinct))
+      (sent-kept (Received.reject problem.kind) (λ class. ap (λ k. stays class (Received.reject k)) e ∙ result_stays class) id list.rows (after_item (clock past) list (Ok (ComponentParts.reject_back (Some id) problem))).rows (reject_leaves list id problem.kind like.distinct))
   like_reject id problem kind.Error e = like_same dialogue past list.rows earlier read like (ComponentParts.reject_back (Some id) problem)
       (λ n. ap (reject_marks n id problem) e) (after_item (clock past) list (Ok (ComponentParts.reject_back (Some id) problem))).rows (reject_leaves list id problem.kind like.distinct).distinct
-      (kept (Received.reject problem.kind) (λ class. ap (λ k. stays class (Received.reject k)) e ∙ error_stays class) id list.rows (after_item (clock past) list (Ok (ComponentParts.reject_back (Some id) problem))).rows (reject_leaves list id problem.kind like.distinct))
+      (sent-kept (Received.reject problem.kind) (λ class. ap (λ k. stays class (Received.reject k)) e ∙ error_stays class) id list.rows (after_item (clock past) list (Ok (ComponentParts.reject_back (Some id) problem))).rows (reject_leaves list id problem.kind like.distinct))
 
   pub like_item : (c : ComponentParts) → IsLike dialogue past (after_item (clock past) list (Ok c)).rows (earlier ++ Ok c ∷ [])
   like_item (ComponentParts.invoke id linked code parameter) = like_same dialogue past list.rows earlier read like (ComponentParts.invoke id linked code parameter) (λ k. refl) list.rows like.distinct (λ k. refl)
   like_item (ComponentParts.result_last id body) = like_answer dialogue past list.rows earlier read like (ComponentParts.result_last id body) id Received.return_result_last (Mark.last body)
-      (record { sends_not = refl; closes = λ class timeout sent. closing_stays _ (class_rule class Received.return_result_last) }) (λ k. refl)
+      (record { sends_not = refl; closes = λ class timeout sent. closing_by-stays _ (class_rule class Received.return_result_last) }) (λ k. refl)
       (after_item (clock past) list (Ok (ComponentParts.result_last id body))).rows (rows_leave list.rows id Received.return_result_last like.distinct (clock past + list.reject_ms))
   like_item (ComponentParts.error_back id code parameter) = like_answer dialogue past list.rows earlier read like (ComponentParts.error_back id code parameter) id Received.return_error (Mark.error code parameter)
-      (record { sends_not = refl; closes = λ class timeout sent. closing_stays _ (class_rule class Received.return_error) }) (λ k. refl)
+      (record { sends_not = refl; closes = λ class timeout sent. closing_by-stays _ (class_rule class Received.return_error) }) (λ k. refl)
       (after_item (clock past) list (Ok (ComponentParts.error_back id code parameter))).rows (rows_leave list.rows id Received.return_error like.distinct (clock past + list.reject_ms))
   like_item (ComponentParts.reject_back None problem) = like_same dialogue past list.rows earlier read like (ComponentParts.reject_back None problem) (λ k. refl) list.rows like.distinct (λ k. refl)
   like_item (ComponentParts.reject_back (Some id) problem) = like_reject id problem problem.kind refl

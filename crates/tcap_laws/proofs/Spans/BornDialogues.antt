@@ -74,8 +74,8 @@ stays_alive dialogue Life.unborn pair e = absurd cc
 stays_alive dialogue (Life.standing s c) pair e = alive_if_named (names pair.event dialogue) s c pair
 stays_alive dialogue Life.over pair e = refl
 
-abbrev pub noted_at : ℕ → List Mark → List Noted
-noted_at c ms = map (λ (mark : Mark). record { clock = c; mark = mark }) ms
+abbrev pub noted_at_clock : ℕ → List Mark → List Noted
+noted_at_clock c ms = map (λ (mark : Mark). record { clock = c; mark = mark }) ms
 
 -- ---- before its birth a dialogue has no marks
 
@@ -85,7 +85,7 @@ no_marks dialogue id pair past e = go (life dialogue past) e
     none : List Noted
     none = []
 
-    go : (l : Life) → was_alive l ≡ false → noted_at (clock past) (marks_after_birth dialogue id l pair) ≡ none
+    go : (l : Life) → was_alive l ≡ false → noted_at_clock (clock past) (marks_after_birth dialogue id l pair) ≡ none
     go Life.unborn e = refl
     go (Life.standing s c) e = absurd cc
     go Life.over e = absurd cc

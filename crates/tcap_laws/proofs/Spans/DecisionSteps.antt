@@ -9,7 +9,7 @@ use Rattle.tcap_invocation.specs.declared.class.Class.{Class}
 use Rattle.tcap_laws.proofs.Spans.SpanSteps.{span_grows, span_stays}
 use Rattle.tcap_model.specs.Invocations.Closes.{closes}
 use Rattle.tcap_model.specs.Invocations.Closings.{Told}
-use Rattle.tcap_model.specs.Invocations.Decision.{decided_of, decided_at, decision, told_of}
+use Rattle.tcap_model.specs.Invocations.Decision.{decided_of, decided_at, decision, told_outcome}
 use Rattle.tcap_model.specs.Invocations.Invocation.{Invocation, invoked_by, invocations, invocation_of}
 use Rattle.tcap_model.specs.Invocations.Marks.{Noted, marks}
 use Rattle.tcap_model.specs.Invocations.Outcome.{closing_after, first_closing, outcome_of, outcome}
@@ -88,7 +88,7 @@ decided_closing : (place : Past) (o : Option Invocation) → option_map (λ (t :
 decided_closing place None = refl
 decided_closing place (Some i) = go (outcome_of (Some i) place)
   where
-    go : (c : Option Closing) → option_map (λ (t : Told). t.closing) (told_of place i c) ≡ c
+    go : (c : Option Closing) → option_map (λ (t : Told). t.closing) (told_outcome place i c) ≡ c
     go None = refl
     go (Some c) = refl
 
@@ -130,7 +130,7 @@ pub record DecidedAt (n : ℕ) (past : Past) (t : Told) : Type 0 where
 decided_here : (n : ℕ) (pair : Pair) (past : Past) (t : Told) → outcome n past ≡ None → decided_at n (pair ∷ past) ≡ Some t → DecidedAt n (pair ∷ past) t
 decided_here n pair past t none e = go (invocation_of n (pair ∷ past)) refl e
   where
-    go2 : (i : Invocation) (c : Option Closing) → invocation_of n (pair ∷ past) ≡ Some i → outcome_of (Some i) (pair ∷ past) ≡ c → told_of (pair ∷ past) i c ≡ Some t → DecidedAt n (pair ∷ past) t
+    go2 : (i : Invocation) (c : Option Closing) → invocation_of n (pair ∷ past) ≡ Some i → outcome_of (Some i) (pair ∷ past) ≡ c → told_outcome (pair ∷ past) i c ≡ Some t → DecidedAt n (pair ∷ past) t
     go2 i None q w e = absurd cc
     go2 i (Some c) q w e =
         let same : record { place = pair ∷ past; dialogue = i.dialogue; id = i.id; closing = c } ≡ t = cc in

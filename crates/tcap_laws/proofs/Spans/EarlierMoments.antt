@@ -13,7 +13,7 @@ use Rattle.tcap_model.specs.Histories.Clock.{clock}
 use Rattle.tcap_model.specs.Invocations.Closes.{closing_of}
 use Rattle.tcap_model.specs.Invocations.Closings.{Told}
 use Rattle.tcap_model.specs.Invocations.Deadline.{sent_clock, deadline}
-use Rattle.tcap_model.specs.Invocations.Decision.{decided_of, decided_at, decision, told_of}
+use Rattle.tcap_model.specs.Invocations.Decision.{decided_of, decided_at, decision, told_outcome}
 use Rattle.tcap_model.specs.Words.Event.{Event}
 use Rattle.tcap_model.specs.Replies.Held.{held, held_by, holds_identifier, is_waiting, is_rejectable, pair_ends_wait, since}
 use Rattle.tcap_model.specs.Invocations.Invocation.{Invocation, invoked_by, invocations, invocation_of, has_id, latest}
@@ -97,7 +97,7 @@ module _ (past : Past) (now : ℕ) (answer : Answer) (accepted : is_accepted ans
     where
       go : (o : Option Invocation) → invocation_of n earlier ≡ o → decided_of earlier o ≡ None
       go None q = refl
-      go (Some i) q = ap (told_of earlier i) (ap (λ o. outcome_of o earlier) (sym q) ∙ (outcome_still n ∙ e))
+      go (Some i) q = ap (told_outcome earlier i) (ap (λ o. outcome_of o earlier) (sym q) ∙ (outcome_still n ∙ e))
 
   pub decision_still : (n : ℕ) → decision n earlier ≡ decision n past
   decision_still n = go (decision n past) (closing_of_decision n past)

@@ -18,12 +18,12 @@ use Rattle.tcap_model.specs.Invocations.Closes.{closing_of}
 use Rattle.tcap_model.specs.Invocations.Deadline.{sent_clock}
 use Rattle.tcap_model.specs.Words.Event.{Event}
 use Rattle.tcap_model.specs.Histories.Life.{life_by_event, life_by_request, Life, life_by_message, life_by_verdict, life_if_live}
-use Rattle.tcap_model.specs.Invocations.Marks.{Mark, Noted, marks_by_event, marks_by_request, marked, reject_marks, marks_of_component, component_marks, ending, if_normal, marks_by_message, marks_if_live}
+use Rattle.tcap_model.specs.Invocations.Marks.{Mark, Noted, marks_by_event, marks_by_request, marked, reject_marks, marks_of_component, component_marks, end_if_over, if_normal, marks_by_message, marks_if_live}
 use Rattle.tcap_model.specs.Invocations.Outcome.{first_closing}
 use Rattle.tcap_model.specs.Procedures.PortionRules.{PortionVerdict, portion_verdict}
 use Rattle.tcap_model.specs.Words.Request.{Request}
 use Rattle.tcap_model.specs.Words.State.{State, is_live}
-use Rattle.tcap_laws.proofs.Spans.BornDialogues.{noted_at}
+use Rattle.tcap_laws.proofs.Spans.BornDialogues.{noted_at_clock}
 use Rattle.tcap_laws.proofs.Spans.DecisionSteps.{first_closing-append}
 use Rattle.tcap_laws.proofs.Spans.SentClocks.{sent_clock-append}
 use Rattle.tcap_laws.proofs.Receptions.ToldLemmas.{each-append}
@@ -79,10 +79,10 @@ one-more class timeout clock mark span leaves was = record {
       (both-none (closing_of class timeout (sent_clock span) mark) None (ap (λ (s : Option ℕ). closing_of class timeout s mark) was.unsent ∙ no_closing class timeout mark leaves) refl);
 }
 
-pub still-unsent : (class : Class) (timeout clock : ℕ) (made : List Mark) (span : List Noted) → AllLeave made → IsUnsent class timeout span → IsUnsent class timeout (span ++ noted_at clock made)
+pub still-unsent : (class : Class) (timeout clock : ℕ) (made : List Mark) (span : List Noted) → AllLeave made → IsUnsent class timeout span → IsUnsent class timeout (span ++ noted_at_clock clock made)
 still-unsent class timeout clock [] span leave was = subst (IsUnsent class timeout) (sym (append-nil span)) was
 still-unsent class timeout clock (mark ∷ made) span leave was =
-    subst (IsUnsent class timeout) (append_assoc span (record { clock = clock; mark = mark } ∷ []) (noted_at clock made))
+    subst (IsUnsent class timeout) (append_assoc span (record { clock = clock; mark = mark } ∷ []) (noted_at_clock clock made))
     (still-unsent class timeout clock made (span ++ record { clock = clock; mark = mark } ∷ []) leave.1 (one-more class timeout clock mark span leave.0 was))
 
 -- ---- which marks are so
@@ -113,21 +113,21 @@ components-leave id (Ok c ∷ items) = each-append LeavesQueued (marks_of_compon
 components-leave id (Err f ∷ items) = tt
 
 -- the life that is left
-abbrev pub Stands : Life → Type 0
-Stands Life.unborn = ⊥
-Stands (Life.standing state context) = Unit {0}
-Stands Life.over = ⊥
+abbrev pub IsStanding : Life → Type 0
+IsStanding Life.unborn = ⊥
+IsStanding (Life.standing state context) = Unit {0}
+IsStanding Life.over = ⊥
 
-pub no-ending : (state : State) (context : Option (List ℕ)) (after : Life) → Stands after → AllLeave (ending (Life.standing state context) after)
+pub no-ending : (state : State) (context : Option (List ℕ)) (after : Life) → IsStanding after → AllLeave (end_if_over (Life.standing state context) after)
 no-ending state context Life.unborn stands = absurd stands
 no-ending state context (Life.standing s c) stands = tt
 no-ending state context Life.over stands = absurd stands
 
-continue-leaves : (id : ℤ) (state : State) (context : Option (List ℕ)) (origin content : List ℕ) (other : List Mark) (verdict : PortionVerdict) → Stands (life_by_verdict state context origin verdict) → AllLeave (if_normal verdict (component_marks id (components_of content)) other)
+continue-leaves : (id : ℤ) (state : State) (context : Option (List ℕ)) (origin content : List ℕ) (other : List Mark) (verdict : PortionVerdict) → IsStanding (life_by_verdict state context origin verdict) → AllLeave (if_normal verdict (component_marks id (components_of content)) other)
 continue-leaves id state context origin content other (PortionVerdict.normal told info) stands = components-leave id (components_of content)
 continue-leaves id state context origin content other PortionVerdict.abnormal stands = absurd stands
 
-message-leaves : (id : ℤ) (state : State) (context : Option (List ℕ)) (other : List Mark) (read : Result Message FrameFault) → AllLeave other → Stands (life_by_message state context read) → AllLeave (marks_by_message id state context other read)
+message-leaves : (id : ℤ) (state : State) (context : Option (List ℕ)) (other : List Mark) (read : Result Message FrameFault) → AllLeave other → IsStanding (life_by_message state context read) → AllLeave (marks_by_message id state context other read)
 message-leaves id state context other (Ok (Message.go_on origin to portion components)) leave stands = continue-leaves id state context origin components other (portion_verdict state context portion) stands
 message-leaves id state context other (Ok (Message.end to portion components)) leave stands = absurd stands
 message-leaves id state context other (Ok (Message.abort to reason)) leave stands = absurd stands
@@ -135,14 +135,14 @@ message-leaves id state context other (Ok (Message.unidirectional portion compon
 message-leaves id state context other (Ok (Message.begin origin portion components)) leave stands = leave
 message-leaves id state context other (Err fault) leave stands = absurd stands
 
-live-leaves : (alive : Bool) (id : ℤ) (state : State) (context : Option (List ℕ)) (other : List Mark) (bytes : List ℕ) → AllLeave other → Stands (life_if_live alive state context bytes) → AllLeave (marks_if_live alive id state context other bytes)
+live-leaves : (alive : Bool) (id : ℤ) (state : State) (context : Option (List ℕ)) (other : List Mark) (bytes : List ℕ) → AllLeave other → IsStanding (life_if_live alive state context bytes) → AllLeave (marks_if_live alive id state context other bytes)
 live-leaves true id state context other bytes leave stands = message-leaves id state context other (frame_at bytes) leave stands
 live-leaves false id state context other bytes leave stands = leave
 
-pub bytes-leave : (id : ℤ) (state : State) (context : Option (List ℕ)) (bytes : List ℕ) → Stands (life_if_live (is_live state) state context bytes) →
-    AllLeave (marks_if_live (is_live state) id state context (ending (Life.standing state context) (life_if_live (is_live state) state context bytes)) bytes)
+pub bytes-leave : (id : ℤ) (state : State) (context : Option (List ℕ)) (bytes : List ℕ) → IsStanding (life_if_live (is_live state) state context bytes) →
+    AllLeave (marks_if_live (is_live state) id state context (end_if_over (Life.standing state context) (life_if_live (is_live state) state context bytes)) bytes)
 bytes-leave id state context bytes stands =
-    live-leaves (is_live state) id state context (ending (Life.standing state context) (life_if_live (is_live state) state context bytes)) bytes
+    live-leaves (is_live state) id state context (end_if_over (Life.standing state context) (life_if_live (is_live state) state context bytes)) bytes
     (no-ending state context (life_if_live (is_live state) state context bytes) stands) stands
 
 -- ---- requests that leave an invocation queued
@@ -158,10 +158,10 @@ SparesAt id (Request.u_cancel named) = int_eq named id ≡ false
 SparesAt id (Request.uni context info) = Unit {0}
 SparesAt id (Request.begin context info) = ⊥
 SparesAt id (Request.go_on context info) = ⊥
-SparesAt id (Request.finish ending context info) = Unit {0}
+SparesAt id (Request.finish end_if_over context info) = Unit {0}
 SparesAt id (Request.u_abort why info) = Unit {0}
 
-request-leaves : (id : ℤ) (s : State) (c : Option (List ℕ)) (r : Request) → Stands (life_by_request s c r) → SparesAt id r → AllLeave (marks_by_request id (Life.standing s c) (life_by_request s c r) r)
+request-leaves : (id : ℤ) (s : State) (c : Option (List ℕ)) (r : Request) → IsStanding (life_by_request s c r) → SparesAt id r → AllLeave (marks_by_request id (Life.standing s c) (life_by_request s c r) r)
 request-leaves id s c (Request.invoke named class code parameter linked timeout) stands spares = tt
 request-leaves id s c (Request.result_last named body) stands spares = tt
 request-leaves id s c (Request.result_more named body) stands spares = tt
@@ -171,7 +171,7 @@ request-leaves id s c (Request.u_cancel named) stands spares = rw spares tt
 request-leaves id s c (Request.uni context info) stands spares = absurd stands
 request-leaves id s c (Request.begin context info) stands spares = absurd spares
 request-leaves id s c (Request.go_on context info) stands spares = absurd spares
-request-leaves id s c (Request.finish ending context info) stands spares = absurd stands
+request-leaves id s c (Request.finish end_if_over context info) stands spares = absurd stands
 request-leaves id s c (Request.u_abort why info) stands spares = absurd stands
 
 -- all events
@@ -182,7 +182,7 @@ Spares id (Event.on_dialogue dialogue request) false = Unit {0}
 Spares id (Event.received bytes) accepted = Unit {0}
 Spares id (Event.moment now) accepted = Unit {0}
 
-pub event-leaves : (id : ℤ) (s : State) (c : Option (List ℕ)) (event : Event) (accepted : Bool) → Stands (life_by_event s c event accepted) → Spares id event accepted →
+pub event-leaves : (id : ℤ) (s : State) (c : Option (List ℕ)) (event : Event) (accepted : Bool) → IsStanding (life_by_event s c event accepted) → Spares id event accepted →
     AllLeave (marks_by_event id (Life.standing s c) (life_by_event s c event accepted) event accepted)
 event-leaves id s c Event.new_dialogue accepted stands spares = tt
 event-leaves id s c (Event.on_dialogue dialogue request) true stands spares = request-leaves id s c request stands spares

@@ -20,7 +20,7 @@ use Rattle.tcap_model.specs.Words.Output.{Closing}
 use Rattle.tcap_model.specs.Histories.Pair.{Pair, Past}
 use Rattle.tcap_model.specs.Invocations.Reuse.{is_reused}
 use Rattle.tcap_model.specs.Invocations.Span.{is_invoked, span}
-use Rattle.tcap_laws.proofs.Spans.BornDialogues.{was_alive, noted_at, no_marks, span_unborn}
+use Rattle.tcap_laws.proofs.Spans.BornDialogues.{was_alive, noted_at_clock, no_marks, span_unborn}
 
 -- ---- the clock at the Sent mark
 
@@ -33,12 +33,12 @@ sent_clock-append xs ys =
     let test : Noted → Bool = λ (noted : Noted). is_sent noted.mark in
     ap (option_map (λ (noted : Noted). noted.clock)) (find-append test xs ys) ∙ map_or (find test xs) (find test ys)
 
-pub sent_at : (c s : ℕ) (ms : List Mark) → sent_clock (noted_at c ms) ≡ Some s → s ≡ c
+pub sent_at : (c s : ℕ) (ms : List Mark) → sent_clock (noted_at_clock c ms) ≡ Some s → s ≡ c
 sent_at c s [] e = absurd cc
 sent_at c s (m ∷ ms) e = go (is_sent m) e (sent_at c s ms)
   where
     rest : List Noted
-    rest = noted_at c ms
+    rest = noted_at_clock c ms
 
     go : (b : Bool) → option_map (λ (noted : Noted). noted.clock) (cond b (Some (record { clock = c; mark = m })) (find (λ (noted : Noted). is_sent noted.mark) rest)) ≡ Some s → (sent_clock rest ≡ Some s → s ≡ c) → s ≡ c
     go true e more = let same : c ≡ s = cc in sym same
@@ -53,7 +53,7 @@ pub moment_marks : (dialogue : ℕ) (id : ℤ) (now : ℕ) (answer : Answer) (pa
     → marks dialogue id (at_moment now answer) past ≡ record { clock = clock past; mark = Mark.moment now } ∷ []
 moment_marks dialogue id now answer past accepted e = go (life dialogue past) e
   where
-    go : (l : Life) → was_alive l ≡ true → noted_at (clock past) (marks_after_birth dialogue id l (at_moment now answer)) ≡ record { clock = clock past; mark = Mark.moment now } ∷ []
+    go : (l : Life) → was_alive l ≡ true → noted_at_clock (clock past) (marks_after_birth dialogue id l (at_moment now answer)) ≡ record { clock = clock past; mark = Mark.moment now } ∷ []
     go Life.unborn e = absurd cc
     go (Life.standing s c) e = rw accepted refl
     go Life.over e = rw accepted refl
@@ -81,7 +81,7 @@ abbrev spanned_closing : Invocation → Past → Option Closing
 spanned_closing i past = first_closing i.class i.timeout (span i past)
 
 -- what a pair adds, where the clock stays
-within_still : (c s timeout : ℕ) (before : Option ℕ) (ms : List Mark) → option_or before (sent_clock (noted_at c ms)) ≡ Some s
+within_still : (c s timeout : ℕ) (before : Option ℕ) (ms : List Mark) → option_or before (sent_clock (noted_at_clock c ms)) ≡ Some s
     → ((q : ℕ) → before ≡ Some q → c < q + max 1 timeout) → c < s + max 1 timeout
 within_still c s timeout None ms e ih = let same : s ≡ c = sent_at c s ms e in omega arith
 within_still c s timeout (Some q) ms e ih = let same : q ≡ s = cc in let bound = ih q refl in omega arith

@@ -11,8 +11,8 @@ use Rattle.tcap_model.specs.Invocations.Span.{up_to}
 use Rattle.tcap_laws.proofs.Spans.DecisionSteps.{first_closing-append}
 use Rattle.tcap_laws.proofs.Spans.SentClocks.{sent_clock-append, both_none}
 
-abbrev sends : Noted → Bool
-sends noted = is_sent noted.mark
+abbrev is_sent_mark : Noted → Bool
+is_sent_mark noted = is_sent noted.mark
 
 some-or : {X : Type 0} (x y : Option X) → is_some x ≡ true → is_some (option_or x y) ≡ true
 some-or None y e = absurd cc
@@ -33,26 +33,26 @@ found-mapped None e = e
 found-mapped (Some noted) e = refl
 
 -- up to the first Sent mark nothing changes
-up_to-first : (span more : List Noted) → is_some (find sends span) ≡ true → up_to sends (span ++ more) ≡ up_to sends span
+up_to-first : (span more : List Noted) → is_some (find is_sent_mark span) ≡ true → up_to is_sent_mark (span ++ more) ≡ up_to is_sent_mark span
 up_to-first [] more e = absurd cc
-up_to-first (noted ∷ span) more e = elim (cases_Bool (sends noted)) [
+up_to-first (noted ∷ span) more e = elim (cases_Bool (is_sent_mark noted)) [
   | inl here ↦ rw here refl
   | inr later ↦ let e = e in rw later (ap (λ (w : List Noted). noted ∷ w) (up_to-first span more (rw later at e)))
 ]
 
 pub was_sent-more : (class : Class) (timeout : ℕ) (span more : List Noted) → was_sent_in class timeout span ≡ true → was_sent_in class timeout (span ++ more) ≡ true
 was_sent-more class timeout span more e =
-    let both = and_parts (is_some (sent_clock span)) (is_none (first_closing class timeout (up_to sends span))) e in
+    let both = and_parts (is_some (sent_clock span)) (is_none (first_closing class timeout (up_to is_sent_mark span))) e in
     let sent : is_some (sent_clock (span ++ more)) ≡ true = ap is_some (sent_clock-append span more) ∙ some-or (sent_clock span) (sent_clock more) both.0 in
-    let same : up_to sends (span ++ more) ≡ up_to sends span = up_to-first span more (found-mapped (find sends span) both.0) in
+    let same : up_to is_sent_mark (span ++ more) ≡ up_to is_sent_mark span = up_to-first span more (found-mapped (find is_sent_mark span) both.0) in
     rw (sent, ap (λ (w : List Noted). is_none (first_closing class timeout w)) same ∙ both.1) refl
 
 -- ---- a Sent mark that nothing closed before
 
 -- what stands up to the first Sent mark stands before any Sent mark
-up_to-prefix : (earlier : List Noted) (noted : Noted) (later : List Noted) → sends noted ≡ true → (rest : List Noted) × (earlier ≡ up_to sends (earlier ++ noted ∷ later) ++ rest)
+up_to-prefix : (earlier : List Noted) (noted : Noted) (later : List Noted) → is_sent_mark noted ≡ true → (rest : List Noted) × (earlier ≡ up_to is_sent_mark (earlier ++ noted ∷ later) ++ rest)
 up_to-prefix [] noted later e = ([], rw e refl)
-up_to-prefix (first ∷ earlier) noted later e = elim (cases_Bool (sends first)) [
+up_to-prefix (first ∷ earlier) noted later e = elim (cases_Bool (is_sent_mark first)) [
   | inl here ↦ (first ∷ earlier, rw here refl)
   | inr not ↦ let others = up_to-prefix earlier noted later e in (others.0, rw not (ap (λ (w : List Noted). first ∷ w) others.1))
 ]
@@ -63,6 +63,6 @@ was_sent-at class timeout clock earlier later none =
     let span : List Noted = earlier ++ noted ∷ later in
     let sent : is_some (sent_clock span) ≡ true = ap is_some (sent_clock-append earlier (noted ∷ later)) ∙ or-some (sent_clock earlier) (sent_clock (noted ∷ later)) refl in
     let front = up_to-prefix earlier noted later refl in
-    let unclosed : first_closing class timeout (up_to sends span) ≡ None =
-    (both_none (first_closing class timeout (up_to sends span)) _ (sym (first_closing-append class timeout (up_to sends span) front.0) ∙ (sym (ap (first_closing class timeout) front.1) ∙ none))).0 in
+    let unclosed : first_closing class timeout (up_to is_sent_mark span) ≡ None =
+    (both_none (first_closing class timeout (up_to is_sent_mark span)) _ (sym (first_closing-append class timeout (up_to is_sent_mark span) front.0) ∙ (sym (ap (first_closing class timeout) front.1) ∙ none))).0 in
     rw (sent, ap is_none unclosed) refl

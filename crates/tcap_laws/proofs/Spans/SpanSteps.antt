@@ -9,7 +9,7 @@ use Rattle.std.proofs.lemmas.Grind.{flat_map-append}
 use Rattle.tcap_model.specs.Invocations.Invocation.{Invocation, invoked_by, invocations, invocation_of, has_id}
 use Rattle.tcap_model.specs.Invocations.Marks.{Noted, marks}
 use Rattle.tcap_model.specs.Histories.Pair.{Pair, Past}
-use Rattle.tcap_model.specs.Invocations.Reuse.{after_invoke, is_reused}
+use Rattle.tcap_model.specs.Invocations.Reuse.{places_after_invoke, is_reused}
 use Rattle.tcap_model.specs.Invocations.Span.{Place, place, places, following, up_to, is_invoked, invokes_number, uses_id, span}
 
 -- ---- lists
@@ -85,7 +85,7 @@ places_of_number n (pair ∷ past) =
 
 -- ---- the places after an invoke
 
-after_made : (n : ℕ) (pair : Pair) (past : Past) → is_some (invocation_of n past) ≡ true → after_invoke n (pair ∷ past) ≡ after_invoke n past ++ place pair past ∷ []
+after_made : (n : ℕ) (pair : Pair) (past : Past) → is_some (invocation_of n past) ≡ true → places_after_invoke n (pair ∷ past) ≡ places_after_invoke n past ++ place pair past ∷ []
 after_made n pair past made = following-found (invokes_number n) (places past) (place pair past ∷ []) (places_of_number n past ∙ made)
 
 following_one : {X : Type 0} (test : X → Bool) (x : X) → following test (x ∷ []) ≡ []
@@ -98,7 +98,7 @@ following_one {X = X} test x = go (test x)
     go true = refl
     go false = refl
 
-after_new : (n : ℕ) (pair : Pair) (past : Past) → is_some (invocation_of n past) ≡ false → after_invoke n (pair ∷ past) ≡ []
+after_new : (n : ℕ) (pair : Pair) (past : Past) → is_some (invocation_of n past) ≡ false → places_after_invoke n (pair ∷ past) ≡ []
 after_new n pair past new = following-missing (invokes_number n) (places past) (place pair past ∷ []) (places_of_number n past ∙ new) ∙ following_one (invokes_number n) (place pair past)
 
 or_nothing : (b : Bool) → (b || false) ≡ b
@@ -109,7 +109,7 @@ pub reused_step : (i : Invocation) (pair : Pair) (past : Past) → is_some (invo
     → is_reused i (pair ∷ past) ≡ (is_reused i past || is_invoked (has_id i.dialogue i.id) (invoked_by pair))
 reused_step i pair past made =
     let test : Place → Bool = uses_id i.dialogue i.id in
-    ap (list_any test) (after_made i.number pair past made) ∙ (list_any-append test (after_invoke i.number past) (place pair past ∷ []) ∙ ap (λ b. is_reused i past || b) (or_nothing (test (place pair past))))
+    ap (list_any test) (after_made i.number pair past made) ∙ (list_any-append test (places_after_invoke i.number past) (place pair past ∷ []) ∙ ap (λ b. is_reused i past || b) (or_nothing (test (place pair past))))
 
 pub reused_new : (i : Invocation) (pair : Pair) (past : Past) → is_some (invocation_of i.number past) ≡ false → is_reused i (pair ∷ past) ≡ false
 reused_new i pair past new = ap (list_any (uses_id i.dialogue i.id)) (after_new i.number pair past new)
@@ -127,10 +127,10 @@ pub span_grows : (i : Invocation) (pair : Pair) (past : Past) → is_some (invoc
 span_grows i pair past made fresh =
     let test : Place → Bool = uses_id i.dialogue i.id in
     let before = (none_before (is_reused i past) (is_invoked (has_id i.dialogue i.id) (invoked_by pair)) (sym (reused_step i pair past made) ∙ fresh)).0 in
-    ap (spanned i) (up_to-missing test (after_invoke i.number (pair ∷ past)) fresh)
+    ap (spanned i) (up_to-missing test (places_after_invoke i.number (pair ∷ past)) fresh)
     ∙ (ap (spanned i) (after_made i.number pair past made)
-    ∙ (flat_map-append (λ (p : Place). marks i.dialogue i.id p.pair p.before) (after_invoke i.number past) (place pair past ∷ [])
-    ∙ (ap (λ z. z ++ spanned i (place pair past ∷ [])) (ap (spanned i) (sym (up_to-missing test (after_invoke i.number past) before)))
+    ∙ (flat_map-append (λ (p : Place). marks i.dialogue i.id p.pair p.before) (places_after_invoke i.number past) (place pair past ∷ [])
+    ∙ (ap (λ z. z ++ spanned i (place pair past ∷ [])) (ap (spanned i) (sym (up_to-missing test (places_after_invoke i.number past) before)))
     ∙ ap (λ z. span i past ++ z) (append-nil (marks i.dialogue i.id pair past)))))
 
 pub span_stays : (i : Invocation) (pair : Pair) (past : Past) → is_some (invocation_of i.number past) ≡ true → is_reused i (pair ∷ past) ≡ true → span i (pair ∷ past) ≡ span i past
@@ -140,9 +140,9 @@ span_stays i pair past made used = go (is_reused i past) refl
     test = uses_id i.dialogue i.id
 
     go : (b : Bool) → is_reused i past ≡ b → span i (pair ∷ past) ≡ span i past
-    go true e = ap (λ ps. spanned i (up_to test ps)) (after_made i.number pair past made) ∙ ap (spanned i) (up_to-found test (after_invoke i.number past) (place pair past ∷ []) e)
+    go true e = ap (λ ps. spanned i (up_to test ps)) (after_made i.number pair past made) ∙ ap (spanned i) (up_to-found test (places_after_invoke i.number past) (place pair past ∷ []) e)
     go false e =
         let here : is_invoked (has_id i.dialogue i.id) (invoked_by pair) ≡ true = ap (λ b. b || is_invoked (has_id i.dialogue i.id) (invoked_by pair)) (sym e) ∙ (sym (reused_step i pair past made) ∙ used) in
         ap (λ ps. spanned i (up_to test ps)) (after_made i.number pair past made)
-        ∙ (ap (spanned i) (up_to-stop test (after_invoke i.number past) (place pair past) e here)
-        ∙ ap (spanned i) (sym (up_to-missing test (after_invoke i.number past) e)))
+        ∙ (ap (spanned i) (up_to-stop test (places_after_invoke i.number past) (place pair past) e here)
+        ∙ ap (spanned i) (sym (up_to-missing test (places_after_invoke i.number past) e)))

@@ -24,9 +24,9 @@ use Rattle.tcap_laws.proofs.Receptions.ToldLemmas.{each-append}
 
 -- ---- identifiers as numbers below 256
 
-abbrev code : ℤ → ℕ
-code (pos n) = n
-code (negsuc n) = n + 128
+abbrev octet_of : ℤ → ℕ
+octet_of (pos n) = n
+octet_of (negsuc n) = n + 128
 
 positive : (n : ℕ) → is_identifier (pos n) ≡ true → n ≤ 127
 positive n e = grind (arith, nat_tests)
@@ -34,11 +34,11 @@ positive n e = grind (arith, nat_tests)
 negative : (n : ℕ) → is_identifier (negsuc n) ≡ true → n ≤ 127
 negative n e = let first = (and_parts (nat_le n 127) true e).0 in grind (arith, nat_tests)
 
-code-below : (id : ℤ) → is_identifier id ≡ true → code id < 256
+code-below : (id : ℤ) → is_identifier id ≡ true → octet_of id < 256
 code-below (pos n) e = let le = positive n e in omega (arith, le)
 code-below (negsuc n) e = let le = negative n e in omega (arith, le)
 
-code-same : (x y : ℤ) → is_identifier x ≡ true → is_identifier y ≡ true → code x ≡ code y → x ≡ y
+code-same : (x y : ℤ) → is_identifier x ≡ true → is_identifier y ≡ true → octet_of x ≡ octet_of y → x ≡ y
 code-same (pos m) (pos n) p q e = ap (λ (k : ℕ). pos k) e
 code-same (pos m) (negsuc n) p q e = let le = positive m p in absurd (omega (arith, le, e))
 code-same (negsuc m) (pos n) p q e = let le = positive n q in absurd (omega (arith, le, e))
@@ -49,34 +49,34 @@ code-same (negsuc m) (negsuc n) p q e = let same : m ≡ n = omega (arith, e) in
 abbrev AreIdentifiers : List ℤ → Type 0
 AreIdentifiers ids = AllByRecursion (λ id. is_identifier id ≡ true) ids
 
-codes-apart : (x : ℤ) (ids : List ℤ) → is_identifier x ≡ true → AreIdentifiers ids → AllByRecursion (λ y. int_eq x y ≡ false) ids → AllByRecursion (λ c. eqb (code x) c ≡ false) (map code ids)
+codes-apart : (x : ℤ) (ids : List ℤ) → is_identifier x ≡ true → AreIdentifiers ids → AllByRecursion (λ y. int_eq x y ≡ false) ids → AllByRecursion (λ c. eqb (octet_of x) c ≡ false) (map octet_of ids)
 codes-apart x [] e each apart = tt
-codes-apart x (y ∷ ids) e each apart = (go (eqb (code x) (code y)) refl, codes-apart x ids e each.1 apart.1)
+codes-apart x (y ∷ ids) e each apart = (go (eqb (octet_of x) (octet_of y)) refl, codes-apart x ids e each.1 apart.1)
   where
-    go : (b : Bool) → eqb (code x) (code y) ≡ b → eqb (code x) (code y) ≡ false
+    go : (b : Bool) → eqb (octet_of x) (octet_of y) ≡ b → eqb (octet_of x) (octet_of y) ≡ false
     go false q = q
     go true q =
-        let equal : int_eq x y ≡ true = (Decides-int_eq x y).1 (code-same x y e each.0 ((Decides-eqb (code x) (code y)).0 q)) in
+        let equal : int_eq x y ≡ true = (Decides-int_eq x y).1 (code-same x y e each.0 ((Decides-eqb (octet_of x) (octet_of y)).0 q)) in
         let never : true ≡ false = sym equal ∙ apart.0 in
         absurd cc
 
-codes-distinct : (ids : List ℤ) → AreIdentifiers ids → IsDistinct int_eq ids → IsDistinct eqb (map code ids)
+codes-distinct : (ids : List ℤ) → AreIdentifiers ids → IsDistinct int_eq ids → IsDistinct eqb (map octet_of ids)
 unfolding IsDistinct
 codes-distinct [] each d = tt
 codes-distinct (x ∷ ids) each d = (codes-apart x ids each.0 each.1 d.0, codes-distinct ids each.1 d.1)
 
-codes-below : (ids : List ℤ) → AreIdentifiers ids → (c : ℕ) → list_any (eqb c) (map code ids) ≡ true → c < 256
+codes-below : (ids : List ℤ) → AreIdentifiers ids → (c : ℕ) → list_any (eqb c) (map octet_of ids) ≡ true → c < 256
 codes-below [] each c e = absurd cc
-codes-below (x ∷ ids) each c e = go (eqb c (code x)) refl e (codes-below ids each.1 c)
+codes-below (x ∷ ids) each c e = go (eqb c (octet_of x)) refl e (codes-below ids each.1 c)
   where
-    go : (b : Bool) → eqb c (code x) ≡ b → (b || list_any (eqb c) (map code ids)) ≡ true → (list_any (eqb c) (map code ids) ≡ true → c < 256) → c < 256
-    go true q w rest = subst (λ k. k < 256) (sym ((Decides-eqb c (code x)).0 q)) (code-below x each.0)
+    go : (b : Bool) → eqb c (octet_of x) ≡ b → (b || list_any (eqb c) (map octet_of ids)) ≡ true → (list_any (eqb c) (map octet_of ids) ≡ true → c < 256) → c < 256
+    go true q w rest = subst (λ k. k < 256) (sym ((Decides-eqb c (octet_of x)).0 q)) (code-below x each.0)
     go false q w rest = rest w
 
 distinct-bounded : (ids : List ℤ) → AreIdentifiers ids → IsDistinct int_eq ids → length ids ≤ 256
 distinct-bounded ids each d =
-    let few = length-le_from_distinct_below (map code ids) 256 (codes-distinct ids each d) (codes-below ids each) in
-    let long = length-map ids code in
+    let few = length-le_from_distinct_below (map octet_of ids) 256 (codes-distinct ids each d) (codes-below ids each) in
+    let long = length-map ids octet_of in
     omega (arith, few, long)
 
 -- ---- the identifiers of invocations and of rows

@@ -4,7 +4,7 @@ use Rattle.std.specs.Prelude.{filter}
 use Rattle.tcap_component.specs.ComponentReading.{components_of}
 use Rattle.tcap_invocation.specs.Invocations.{Row}
 use Rattle.tcap_invocation.specs.Lapses.{stays}
-use Rattle.tcap_laws.proofs.Spans.BornDialogues.{noted_at}
+use Rattle.tcap_laws.proofs.Spans.BornDialogues.{noted_at_clock}
 use Rattle.tcap_laws.proofs.Table.EndsAgree.{components-rejected}
 use Rattle.tcap_laws.proofs.Spans.EventMarks.{standing_marks}
 use Rattle.tcap_laws.proofs.Rows.MovedRows.{rows_kept, rows_lapsed}
@@ -22,8 +22,8 @@ use Rattle.tcap_model.specs.Words.Fault.{Fault}
 use Rattle.tcap_model.specs.Replies.Held.{pair_ends_wait}
 use Rattle.tcap_model.specs.Histories.History.{History}
 use Rattle.tcap_model.specs.Replies.Legal.{IsLegal}
-use Rattle.tcap_model.specs.Histories.Life.{Life, life, answered, life_by_verdict, life_by_message, life_if_live, life_by_event}
-use Rattle.tcap_model.specs.Invocations.Marks.{Mark, marks, ending, if_normal, component_marks, marks_by_message, marks_by_event, marks_if_live}
+use Rattle.tcap_model.specs.Histories.Life.{Life, life, state_after_continue, life_by_verdict, life_by_message, life_if_live, life_by_event}
+use Rattle.tcap_model.specs.Invocations.Marks.{Mark, marks, end_if_over, if_normal, component_marks, marks_by_message, marks_by_event, marks_if_live}
 use Rattle.tcap_model.specs.Histories.Names.{names}
 use Rattle.tcap_model.specs.Procedures.PortionRules.{PortionVerdict, portion_verdict}
 use Rattle.tcap_model.specs.Replies.Queue.{queue, handled_in, queue_by_verdict, queue_by_message, queue_by_bytes}
@@ -51,7 +51,7 @@ and_false : (b : Bool) → (b && false) ≡ false
 and_false true = refl
 and_false false = refl
 
-answered_is : (state : State) (origin : List ℕ) → is_live state ≡ true → answered state origin ≡ State.active (peer_by state origin)
+answered_is : (state : State) (origin : List ℕ) → is_live state ≡ true → state_after_continue state origin ≡ State.active (peer_by state origin)
 answered_is State.fresh origin e = absurd cc
 answered_is State.sent origin e = refl
 answered_is (State.received peer) origin e = absurd cc
@@ -78,7 +78,7 @@ module _ (h : History) (dialogue : ℕ) (legal : IsLegal h) (state : State) (con
       ∙ assembled h dialogue legal state context stands (Event.moment now) state context (queue dialogue h.pairs) (filter (λ r. stays now r.1.stage) rows)
       (queue_named h dialogue legal state context stands (Event.moment now) refl)
       (rows_lapsed h.start.reject_ms h.start (due_pair h (Event.moment now)) h.pairs legal.1 refl dialogue now
-      (λ k. standing_marks dialogue k (Event.moment now) (reply h (Event.moment now)) h.pairs state context stands refl ∙ ap (λ b. noted_at (clock h.pairs) (marks_by_event k (Life.standing state context) (Life.standing state context) (Event.moment now) b)) accepted)
+      (λ k. standing_marks dialogue k (Event.moment now) (reply h (Event.moment now)) h.pairs state context stands refl ∙ ap (λ b. noted_at_clock (clock h.pairs) (marks_by_event k (Life.standing state context) (Life.standing state context) (Event.moment now) b)) accepted)
       (λ k u. ap (λ b. b && nat_le u now) accepted)
       ∙ sym (passing_rows (stays now) rows))
 
@@ -95,11 +95,11 @@ module _ (h : History) (dialogue : ℕ) (legal : IsLegal h) (state : State) (con
       found_read : (l : Life) → life_by_message state context read ≡ l → found_at event ≡ dialogue_by h.start.reject_ms dialogue (here h dialogue legal state context stands event ∷ h.pairs) l
       found_read l e = life_named h dialogue legal state context stands event named l (life_read ∙ e)
 
-      marks_read : (k : ℤ) → marks dialogue k (due_pair h event) h.pairs ≡ noted_at (clock h.pairs) (marks_by_message k state context (ending (Life.standing state context) (life_by_message state context read)) read)
+      marks_read : (k : ℤ) → marks dialogue k (due_pair h event) h.pairs ≡ noted_at_clock (clock h.pairs) (marks_by_message k state context (end_if_over (Life.standing state context) (life_by_message state context read)) read)
       marks_read k =
           standing_marks dialogue k event (reply h event) h.pairs state context stands named
-          ∙ (ap (λ b. noted_at (clock h.pairs) (marks_if_live b k state context (ending (Life.standing state context) (life_if_live b state context bytes)) bytes)) live
-          ∙ ap (λ f. noted_at (clock h.pairs) (marks_by_message k state context (ending (Life.standing state context) (life_by_message state context f)) f)) frame)
+          ∙ (ap (λ b. noted_at_clock (clock h.pairs) (marks_if_live b k state context (end_if_over (Life.standing state context) (life_if_live b state context bytes)) bytes)) live
+          ∙ ap (λ f. noted_at_clock (clock h.pairs) (marks_by_message k state context (end_if_over (Life.standing state context) (life_by_message state context f)) f)) frame)
 
       queue_read : queue dialogue (due_pair h event ∷ h.pairs) ≡ queue_by_message dialogue h.pairs (Life.standing state context) (queue dialogue h.pairs) read
       queue_read =
@@ -118,7 +118,7 @@ module _ (h : History) (dialogue : ℕ) (legal : IsLegal h) (state : State) (con
           found_read (Life.standing state context) same
           ∙ assembled h dialogue legal state context stands event state context (queue dialogue h.pairs) (rows_of h.start.reject_ms dialogue h.pairs) (queue_read ∙ kept)
           (rows_kept h.start.reject_ms h.start (due_pair h event) h.pairs legal.1 refl dialogue
-          (λ k. marks_read k ∙ (ap (noted_at (clock h.pairs)) (none k (ending (Life.standing state context) (life_by_message state context read))) ∙ ap (λ l. noted_at (clock h.pairs) (ending (Life.standing state context) l)) same))
+          (λ k. marks_read k ∙ (ap (noted_at_clock (clock h.pairs)) (none k (end_if_over (Life.standing state context) (life_by_message state context read))) ∙ ap (λ l. noted_at_clock (clock h.pairs) (end_if_over (Life.standing state context) l)) same))
           no_end)
 
     -- a Continue
@@ -136,7 +136,7 @@ module _ (h : History) (dialogue : ℕ) (legal : IsLegal h) (state : State) (con
           ∙ (assembled h dialogue legal state context stands event (State.active (peer_by state origin)) context (queue_each queue_limit (queue dialogue h.pairs) walk.rejects) (rows_up h.start h.pairs legal.1 h.start.reject_ms dialogue (components_of components))
           (queue_read read_as frame ∙ (ap (λ v. queue_by_verdict v (queue dialogue h.pairs) (handled_in dialogue h.pairs components)) e ∙ ap (queue_each queue_limit (queue dialogue h.pairs)) (sym (components-rejected h dialogue legal d components stands_at))))
           (rows_message h.start h.pairs legal.1 h.start.reject_ms dialogue (components_of components) (due_pair h event) refl refl
-          (λ k. marks_read read_as frame k ∙ ap (λ v. noted_at (clock h.pairs) (if_normal v (component_marks k (components_of components)) (ending (Life.standing state context) (life_by_verdict state context origin (portion_verdict state context portion))))) e)
+          (λ k. marks_read read_as frame k ∙ ap (λ v. noted_at_clock (clock h.pairs) (if_normal v (component_marks k (components_of components)) (end_if_over (Life.standing state context) (life_by_verdict state context origin (portion_verdict state context portion))))) e)
           (no_end read_as frame))
           ∙ ap (λ l. Some (record { standing = record { identifier = dialogue; state = State.active (peer_by state origin); context = context; queue = queue_each queue_limit (queue dialogue h.pairs) walk.rejects }; invocations = l }))
           (sym (walk_at h.start h.pairs legal.1 h.start.reject_ms dialogue (components_of components) (fault_last (length components) components))))

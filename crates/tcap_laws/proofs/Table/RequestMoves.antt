@@ -12,11 +12,11 @@ use Rattle.tcap_invocation.specs.declared.stage.Stage.TheVariants.{Queued, Sent,
 use Rattle.tcap_invocation.specs.Closing.{number_of as numbered}
 use Rattle.tcap_invocation.specs.Invocations.{Row, InvocationList, entry_at, passing, freed, sent_rows, without}
 use Rattle.tcap_invocation.specs.Stage.{is_waiting, is_pending}
-use Rattle.tcap_laws.proofs.Spans.BornDialogues.{noted_at}
+use Rattle.tcap_laws.proofs.Spans.BornDialogues.{noted_at_clock}
 use Rattle.tcap_laws.proofs.Spans.EventMarks.{standing_marks}
 use Rattle.tcap_laws.proofs.Rows.MovedRows.{rows_marked, rows_kept, sent_all}
 use Rattle.tcap_laws.proofs.Table.RequestsAgree.{standing_dialogue}
-use Rattle.tcap_laws.proofs.Rows.Restaged.{on_id, restaged, Leaves, left_rows, freed_rows}
+use Rattle.tcap_laws.proofs.Rows.Restaged.{on_id, restaged, LeavesStage, left_rows, freed_rows}
 use Rattle.tcap_laws.proofs.Rows.RowsApart.{rows_distinct}
 use Rattle.tcap_laws.proofs.Rows.StageSteps.{dropped_stage}
 use Rattle.tcap_laws.proofs.Table.StandingPairs.{life_named, queue_named, assembled}
@@ -55,7 +55,7 @@ dropped class s = dropped_stage s
 
 module _ (list : InvocationList) (id : ℤ) (distinct : IsDistinct int_eq (keys_of list.rows)) where
   pub freed_wait : (o : Option Entry) → entry_at list.rows id ≡ o → (freed list id (is_some (passing is_waiting o))) ≡ record { reject_ms = list.reject_ms; rows = restaged (on_id id free_wait) list.rows }
-  freed_wait None at = ap (λ z. record { reject_ms = list.reject_ms; rows = z }) (sym (left_rows id free_wait list.rows distinct (subst (λ o. Leaves free_wait o) (sym at) tt)))
+  freed_wait None at = ap (λ z. record { reject_ms = list.reject_ms; rows = z }) (sym (left_rows id free_wait list.rows distinct (subst (λ o. LeavesStage free_wait o) (sym at) tt)))
   freed_wait (Some e) at = go e.stage refl
     where
       go : (s : Stage) → e.stage ≡ s → freed list id (is_some (cond (is_waiting e.stage) (Some e) None)) ≡ record { reject_ms = list.reject_ms; rows = restaged (on_id id free_wait) list.rows }
@@ -64,10 +64,10 @@ module _ (list : InvocationList) (id : ℤ) (distinct : IsDistinct int_eq (keys_
           ∙ ap (λ z. record { reject_ms = list.reject_ms; rows = z }) (sym (freed_rows id free_wait list.rows e distinct at (ap (free_wait e.class) q)))
       go (Queued timeout) q =
           ap (λ s. freed list id (is_some (cond (is_waiting s) (Some e) None))) q
-          ∙ ap (λ z. record { reject_ms = list.reject_ms; rows = z }) (sym (left_rows id free_wait list.rows distinct (subst (λ o. Leaves free_wait o) (sym at) (ap (free_wait e.class) q ∙ ap Some (sym q)))))
+          ∙ ap (λ z. record { reject_ms = list.reject_ms; rows = z }) (sym (left_rows id free_wait list.rows distinct (subst (λ o. LeavesStage free_wait o) (sym at) (ap (free_wait e.class) q ∙ ap Some (sym q)))))
       go (Sent deadline) q =
           ap (λ s. freed list id (is_some (cond (is_waiting s) (Some e) None))) q
-          ∙ ap (λ z. record { reject_ms = list.reject_ms; rows = z }) (sym (left_rows id free_wait list.rows distinct (subst (λ o. Leaves free_wait o) (sym at) (ap (free_wait e.class) q ∙ ap Some (sym q)))))
+          ∙ ap (λ z. record { reject_ms = list.reject_ms; rows = z }) (sym (left_rows id free_wait list.rows distinct (subst (λ o. LeavesStage free_wait o) (sym at) (ap (free_wait e.class) q ∙ ap Some (sym q)))))
 
   pub given_up : (n : ℕ) (o : Option Entry) → entry_at list.rows id ≡ o → numbered (passing is_pending o) ≡ Some n → restaged (on_id id dropped) list.rows ≡ without list.rows id
   given_up n None at e = absurd cc
@@ -113,9 +113,9 @@ module _ (h : History) (dialogue : ℕ) (legal : IsLegal h) (state : State) (con
     pub queue_by : queue dialogue (due_pair h event ∷ h.pairs) ≡ queue_if_accepted (is_accepted a) (queue dialogue h.pairs) request a
     queue_by = queue_named h dialogue legal state context stands event own ∙ ap (λ a. queue_if_accepted (is_accepted a) (queue dialogue h.pairs) request a) is
 
-    pub marks_by : (k : ℤ) → marks dialogue k (due_pair h event) h.pairs ≡ noted_at (clock h.pairs) (marks_by_event k (Life.standing state context) (life_if_accepted (is_accepted a) state context request) event (is_accepted a))
+    pub marks_by : (k : ℤ) → marks dialogue k (due_pair h event) h.pairs ≡ noted_at_clock (clock h.pairs) (marks_by_event k (Life.standing state context) (life_if_accepted (is_accepted a) state context request) event (is_accepted a))
     marks_by k = standing_marks dialogue k event (reply h event) h.pairs state context stands own
-        ∙ ap (λ a. noted_at (clock h.pairs) (marks_by_event k (Life.standing state context) (life_if_accepted (is_accepted a) state context request) event (is_accepted a))) is
+        ∙ ap (λ a. noted_at_clock (clock h.pairs) (marks_by_event k (Life.standing state context) (life_if_accepted (is_accepted a) state context request) event (is_accepted a))) is
 
     pub ends_by : (k : ℤ) (u : ℕ) → pair_ends_wait u dialogue k (due_pair h event) ≡ (is_accepted a && rejects_answer k request)
     ends_by k u = ap (λ b. is_accepted (reply h event) && (b && rejects_answer k request)) own ∙ ap (λ a. is_accepted a && rejects_answer k request) is
@@ -123,7 +123,7 @@ module _ (h : History) (dialogue : ℕ) (legal : IsLegal h) (state : State) (con
     pub rows_quiet : invoked_under dialogue request (number_of a) ≡ None → ((k : ℤ) → marks_by_event k (Life.standing state context) (life_if_accepted (is_accepted a) state context request) event (is_accepted a) ≡ [])
         → ((k : ℤ) → (is_accepted a && rejects_answer k request) ≡ false) → rows_of h.start.reject_ms dialogue (due_pair h event ∷ h.pairs) ≡ rows
     rows_quiet none no_marks ends = rows_kept h.start.reject_ms h.start (due_pair h event) h.pairs legal.1 (invoked_as ∙ none) dialogue
-        (λ k. marks_by k ∙ ap (noted_at (clock h.pairs)) (no_marks k)) (λ k u. ends_by k u ∙ ends k)
+        (λ k. marks_by k ∙ ap (noted_at_clock (clock h.pairs)) (no_marks k)) (λ k u. ends_by k u ∙ ends k)
 
     -- the dialogue of these parts
     pub found_of : (s : State) (c : Option (List ℕ)) (q : List Component) (after : List Row) → life_if_accepted (is_accepted a) state context request ≡ Life.standing s c
@@ -140,5 +140,5 @@ module _ (h : History) (dialogue : ℕ) (legal : IsLegal h) (state : State) (con
       → rows_of h.start.reject_ms dialogue (due_pair h event ∷ h.pairs) ≡ sent_rows (clock h.pairs) rows
   rows_sent outputs is none marked ends =
       rows_marked h.start.reject_ms h.start (due_pair h event) h.pairs legal.1 (invoked_as (Answer.outputs outputs) is ∙ none) dialogue Mark.sent (λ k. true)
-      (λ k. marks_by (Answer.outputs outputs) is k ∙ ap (noted_at (clock h.pairs)) (marked k)) (λ k u. ends_by (Answer.outputs outputs) is k u ∙ ends k)
+      (λ k. marks_by (Answer.outputs outputs) is k ∙ ap (noted_at_clock (clock h.pairs)) (marked k)) (λ k u. ends_by (Answer.outputs outputs) is k u ∙ ends k)
       ∙ sent_all (clock h.pairs) rows

@@ -18,7 +18,7 @@ use Rattle.tcap_model.specs.Procedures.Refusals.{Situation, due_on}
 use Rattle.tcap_model.specs.Replies.Reply.{reply, request_answer, accepted_answer, given_up_answer}
 use Rattle.tcap_model.specs.Words.Request.{Request}
 use Rattle.tcap_model.specs.Words.State.{State}
-use Rattle.tcap_model.specs.Table.TableMove.{DialogueEvent, answered, accepted, requested_by, given_up_by, situation, in_use_by_rows, pending_by_rows, table_move}
+use Rattle.tcap_model.specs.Table.TableMove.{DialogueEvent, answering, accepted, requested_by, giving_up, situation, in_use_by_rows, pending_by_rows, table_move}
 use Rattle.tcap_model.specs.Table.World.{rows_of, dialogue_at, dialogue_by}
 
 -- ---- by what a request is judged
@@ -81,11 +81,11 @@ due-agrees h dialogue d request e = due-life h dialogue d request (life dialogue
 -- ---- the answers
 
 pub refused-agrees : (h : History) (dialogue : ℕ) (d : Dialogue) (request : Request) (fault : Fault) → dialogue_at h.start.reject_ms h.pairs dialogue ≡ Some d
-    → due h dialogue request ≡ Some fault → table_move (setting_at h) d (DialogueEvent.request request) ≡ answered d (Answer.refused fault)
+    → due h dialogue request ≡ Some fault → table_move (setting_at h) d (DialogueEvent.request request) ≡ answering d (Answer.refused fault)
 unfolding table_move
 refused-agrees h dialogue d request fault e f = ap (requested_by (setting_at h) d request) (due-agrees h dialogue d request e ∙ f)
 
-given_up-agrees : (d : Dialogue) (id : ℤ) (number : Option ℕ) → (given_up_by d id number).answer ≡ given_up_answer number
+given_up-agrees : (d : Dialogue) (id : ℤ) (number : Option ℕ) → (giving_up d id number).answer ≡ given_up_answer number
 given_up-agrees d id None = refl
 given_up-agrees d id (Some number) = refl
 

@@ -10,7 +10,7 @@ use Rattle.tcap_invocation.specs.declared.class.Class.{Class}
 use Rattle.tcap_invocation.specs.declared.stage.Stage.TheVariants.{Queued, Waiting}
 use Rattle.tcap_invocation.specs.Closing.{given_up_at, after_free_wait}
 use Rattle.tcap_invocation.specs.Invocations.{Row, InvocationList, entry_at, freed, sent_rows, without}
-use Rattle.tcap_laws.proofs.Spans.BornDialogues.{noted_at}
+use Rattle.tcap_laws.proofs.Spans.BornDialogues.{noted_at_clock}
 use Rattle.tcap_laws.proofs.Receptions.DueLemmas.{first_that-none}
 use Rattle.tcap_laws.proofs.Rows.InvokedRows.{rows_invoked}
 use Rattle.tcap_laws.proofs.Table.MovedDialogues.{by_life}
@@ -32,7 +32,7 @@ use Rattle.tcap_model.specs.Words.InRange.{InRange}
 use Rattle.tcap_model.specs.Invocations.Invocation.{Invocation, invoked_under, next_number}
 use Rattle.tcap_model.specs.Replies.Legal.{IsLegal}
 use Rattle.tcap_model.specs.Histories.Life.{Life, life, life_by_request}
-use Rattle.tcap_model.specs.Invocations.Marks.{Mark, marks, ending, marks_by_request}
+use Rattle.tcap_model.specs.Invocations.Marks.{Mark, marks, end_if_over, marks_by_request}
 use Rattle.tcap_model.specs.Histories.Pair.{Pair}
 use Rattle.tcap_model.specs.Replies.Queue.{queue, queue_by_request}
 use Rattle.tcap_model.specs.Procedures.QueueRules.{Queued as Component, without_invoke}
@@ -40,7 +40,7 @@ use Rattle.tcap_model.specs.Procedures.Refusals.{due_on, holds, faults_of}
 use Rattle.tcap_model.specs.Replies.Reply.{reply, accepted_answer, given_up_answer}
 use Rattle.tcap_model.specs.Words.Request.{Request}
 use Rattle.tcap_model.specs.Words.State.{State, activated}
-use Rattle.tcap_model.specs.Table.TableMove.{DialogueEvent, accepted, requested_by, given_up_by, freed_by, table_move}
+use Rattle.tcap_model.specs.Table.TableMove.{DialogueEvent, accepted, requested_by, giving_up, freed_by, table_move}
 use Rattle.tcap_model.specs.Table.World.{dialogue_at, dialogue_by, rows_of}
 use Rattle.std.proofs.lemmas.List.{append-nil}
 use Rattle.std.specs.Prelude.{option_to_list}
@@ -140,7 +140,7 @@ module _ (h : History) (dialogue : ℕ) (legal : IsLegal h) (state : State) (con
     abbrev cancelling : Request
     cancelling = Request.u_cancel id
 
-    cancel_by : (o : Option ℕ) → given_up_at rows id ≡ o → reply h (Event.on_dialogue dialogue cancelling) ≡ given_up_answer o → found_after cancelling ≡ left_standing (given_up_by stood id o)
+    cancel_by : (o : Option ℕ) → given_up_at rows id ≡ o → reply h (Event.on_dialogue dialogue cancelling) ≡ given_up_answer o → found_after cancelling ≡ left_standing (giving_up stood id o)
     cancel_by None e is = refused_moves h dialogue legal state context stands cancelling Fault.no_such_invocation is
     cancel_by (Some n) e is =
         found_of h dialogue legal state context stands cancelling (Answer.given_up n) is state context (without_invoke n waiting) (without rows id) refl refl
@@ -150,7 +150,7 @@ module _ (h : History) (dialogue : ℕ) (legal : IsLegal h) (state : State) (con
         ∙ given_up stood.invocations id (distinct h dialogue legal state context stands cancelling) n (entry_at rows id) refl e)
         ∙ ap (λ o. Some (record { standing = record { identifier = dialogue; state = state; context = context; queue = without_invoke n waiting }; invocations = freed stood.invocations id (is_some o) })) (sym e)
       where
-        noted : (b : Bool) → noted_at (clock h.pairs) (cond b (Mark.given_up ∷ []) []) ≡ cond b (record { clock = clock h.pairs; mark = Mark.given_up } ∷ []) []
+        noted : (b : Bool) → noted_at_clock (clock h.pairs) (cond b (Mark.given_up ∷ []) []) ≡ cond b (record { clock = clock h.pairs; mark = Mark.given_up } ∷ []) []
         noted true = refl
         noted false = refl
 
@@ -192,7 +192,7 @@ module _ (h : History) (dialogue : ℕ) (legal : IsLegal h) (state : State) (con
   accepted_moves (Request.go_on given info) within e is =
       found_of h dialogue legal state context stands (Request.go_on given info) (accepted_answer h (standing_of dialogue h.pairs state context) (Request.go_on given info)) is (activated state) context [] (sent_rows (clock h.pairs) rows) refl refl
       (rows_sent h dialogue legal state context stands (Request.go_on given info) (sent_if_any (message_of (standing_of dialogue h.pairs state context) (Request.go_on given info))) is refl (λ k. refl) (λ k. refl))
-  accepted_moves (Request.finish ending given info) within e is = found_by h dialogue legal state context stands (Request.finish ending given info) (accepted_answer h (standing_of dialogue h.pairs state context) (Request.finish ending given info)) is Life.over refl
+  accepted_moves (Request.finish end_if_over given info) within e is = found_by h dialogue legal state context stands (Request.finish end_if_over given info) (accepted_answer h (standing_of dialogue h.pairs state context) (Request.finish end_if_over given info)) is Life.over refl
   accepted_moves (Request.u_abort why info) within e is = found_by h dialogue legal state context stands (Request.u_abort why info) (accepted_answer h (standing_of dialogue h.pairs state context) (Request.u_abort why info)) is Life.over refl
 
   request_by : (request : Request) → InRange (Event.on_dialogue dialogue request) → (f : Option Fault) → due h dialogue request ≡ f → found_after request ≡ left_standing (requested_by (setting_at h) stood request f)

@@ -10,25 +10,25 @@ use Rattle.tcap_model.specs.Words.Output.{Output}
 use Rattle.tcap_model.specs.Histories.Pair.{Pair, Past, gathered}
 
 -- The dialogue of a TC-BEGIN indication (Q.771, Dialogue begin).
-abbrev pub begun : Output → Option ℕ
-begun (Output.send bytes) = None
-begun (Output.uni context info) = None
-begun (Output.begin dialogue context info) = Some dialogue
-begun (Output.go_on dialogue context info) = None
-begun (Output.end dialogue context info) = None
-begun (Output.u_abort dialogue pdu) = None
-begun (Output.p_abort dialogue why) = None
-begun (Output.invoked dialogue id linked code parameter) = None
-begun (Output.result_more dialogue number id body) = None
-begun (Output.local_reject dialogue id problem) = None
-begun (Output.remote_reject dialogue id problem by) = None
-begun (Output.closed dialogue number id closing) = None
-begun (Output.dropped why) = None
+abbrev pub dialogue_begun : Output → Option ℕ
+dialogue_begun (Output.send bytes) = None
+dialogue_begun (Output.uni context info) = None
+dialogue_begun (Output.begin dialogue context info) = Some dialogue
+dialogue_begun (Output.go_on dialogue context info) = None
+dialogue_begun (Output.end dialogue context info) = None
+dialogue_begun (Output.u_abort dialogue pdu) = None
+dialogue_begun (Output.p_abort dialogue why) = None
+dialogue_begun (Output.invoked dialogue id linked code parameter) = None
+dialogue_begun (Output.result_more dialogue number id body) = None
+dialogue_begun (Output.local_reject dialogue id problem) = None
+dialogue_begun (Output.remote_reject dialogue id problem by) = None
+dialogue_begun (Output.closed dialogue number id closing) = None
+dialogue_begun (Output.dropped why) = None
 
 -- The dialogue of the first TC-BEGIN indication among some outputs (Q.771, Dialogue begin).
 abbrev pub first_begun : List Output → Option ℕ
 first_begun [] = None
-first_begun (output ∷ outputs) = option_or (begun output) (first_begun outputs)
+first_begun (output ∷ outputs) = option_or (dialogue_begun output) (first_begun outputs)
 
 -- The dialogue that was asked for and that an answer gives (own).
 abbrev pub born_on_request : Answer → Option ℕ

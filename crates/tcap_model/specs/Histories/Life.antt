@@ -96,16 +96,16 @@ life_if_accepted true state context request = life_by_request state context requ
 
 -- The first Continue leads from Initiation Sent to Active, and its origin is the peer's identifier
 -- for good (Q.774, Dialogue continuation; that a later origin isn't compared is own).
-abbrev pub answered : State → List ℕ → State
-answered State.fresh origin = State.fresh
-answered State.sent origin = State.active origin
-answered (State.received peer) origin = State.received peer
-answered (State.active peer) origin = State.active peer
+abbrev pub state_after_continue : State → List ℕ → State
+state_after_continue State.fresh origin = State.fresh
+state_after_continue State.sent origin = State.active origin
+state_after_continue (State.received peer) origin = State.received peer
+state_after_continue (State.active peer) origin = State.active peer
 
 -- A Continue whose dialogue portion is as it should be keeps the dialogue, any other ends it
 -- (Q.774, Abnormal procedures relating to dialogue control).
 abbrev pub life_by_verdict : State → Option (List ℕ) → List ℕ → PortionVerdict → Life
-life_by_verdict state context origin (PortionVerdict.normal told info) = Life.standing (answered state origin) context
+life_by_verdict state context origin (PortionVerdict.normal told info) = Life.standing (state_after_continue state origin) context
 life_by_verdict state context origin PortionVerdict.abnormal = Life.over
 
 -- What a message to a live dialogue makes of it: a Continue may keep it, an End, an Abort and a faulty

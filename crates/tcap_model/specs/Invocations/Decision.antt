@@ -8,14 +8,14 @@ use Rattle.tcap_model.specs.Words.Output.{Closing}
 use Rattle.tcap_model.specs.Histories.Pair.{Past}
 
 -- The closing indication that an outcome asks for at this place (own).
-abbrev pub told_of : Past → Invocation → Option Closing → Option Told
-told_of place i None = None
-told_of place i (Some closing) = Some (record { place = place; dialogue = i.dialogue; id = i.id; closing = closing })
+abbrev pub told_outcome : Past → Invocation → Option Closing → Option Told
+told_outcome place i None = None
+told_outcome place i (Some closing) = Some (record { place = place; dialogue = i.dialogue; id = i.id; closing = closing })
 
 -- The same, where there is such an invocation (own).
 abbrev pub decided_of : Past → Option Invocation → Option Told
 decided_of place None = None
-decided_of place (Some i) = told_of place i (outcome_of (Some i) place)
+decided_of place (Some i) = told_outcome place i (outcome_of (Some i) place)
 
 -- The outcome as it stands at this place (own).
 abbrev pub decided_at : ℕ → Past → Option Told

@@ -69,25 +69,25 @@ component_marks id (Err fault ∷ others) = []
 -- ---- events
 
 -- The dialogue ends by this event (own).
-abbrev pub ending : Life → Life → List Mark
-ending before after = if is_over before then [] else (if is_over after then Mark.end ∷ [] else [])
+abbrev pub end_if_over : Life → Life → List Mark
+end_if_over before after = if is_over before then [] else (if is_over after then Mark.end ∷ [] else [])
 
 -- An accepted request: TC-BEGIN, TC-CONTINUE, TC-UNI and a basic TC-END send the queue, TC-UNI and
 -- TC-END end the dialogue besides; TC-U-CANCEL gives up the invocation that it names; a prearranged
 -- end and TC-U-ABORT end the dialogue (Q.774, Invocation state machine).
 abbrev pub marks_by_request : ℤ → Life → Life → Request → List Mark
-marks_by_request id before after (Request.invoke named class code parameter linked timeout) = ending before after
-marks_by_request id before after (Request.result_last named body) = ending before after
-marks_by_request id before after (Request.result_more named body) = ending before after
-marks_by_request id before after (Request.error_back named code parameter) = ending before after
-marks_by_request id before after (Request.u_reject named problem) = ending before after
+marks_by_request id before after (Request.invoke named class code parameter linked timeout) = end_if_over before after
+marks_by_request id before after (Request.result_last named body) = end_if_over before after
+marks_by_request id before after (Request.result_more named body) = end_if_over before after
+marks_by_request id before after (Request.error_back named code parameter) = end_if_over before after
+marks_by_request id before after (Request.u_reject named problem) = end_if_over before after
 marks_by_request id before after (Request.u_cancel named) = marked id named Mark.given_up
 marks_by_request id before after (Request.uni context info) = Mark.sent ∷ Mark.end ∷ []
 marks_by_request id before after (Request.begin context info) = Mark.sent ∷ []
 marks_by_request id before after (Request.go_on context info) = Mark.sent ∷ []
 marks_by_request id before after (Request.finish Ending.basic context info) = Mark.sent ∷ Mark.end ∷ []
-marks_by_request id before after (Request.finish Ending.prearranged context info) = ending before after
-marks_by_request id before after (Request.u_abort why info) = ending before after
+marks_by_request id before after (Request.finish Ending.prearranged context info) = end_if_over before after
+marks_by_request id before after (Request.u_abort why info) = end_if_over before after
 
 -- The components of a message count if its dialogue portion is as it should be (own).
 abbrev pub if_normal : PortionVerdict → List Mark → List Mark → List Mark
@@ -118,12 +118,12 @@ marks_by_bytes id Life.over other bytes = other
 -- What an event that names the dialogue means, by the lives before and after it and by whether it
 -- was accepted (own).
 abbrev pub marks_by_event : ℤ → Life → Life → Event → Bool → List Mark
-marks_by_event id before after Event.new_dialogue accepted = ending before after
+marks_by_event id before after Event.new_dialogue accepted = end_if_over before after
 marks_by_event id before after (Event.on_dialogue dialogue request) true = marks_by_request id before after request
-marks_by_event id before after (Event.on_dialogue dialogue request) false = ending before after
-marks_by_event id before after (Event.received bytes) accepted = marks_by_bytes id before (ending before after) bytes
+marks_by_event id before after (Event.on_dialogue dialogue request) false = end_if_over before after
+marks_by_event id before after (Event.received bytes) accepted = marks_by_bytes id before (end_if_over before after) bytes
 marks_by_event id before after (Event.moment now) true = Mark.moment now ∷ []
-marks_by_event id before after (Event.moment now) false = ending before after
+marks_by_event id before after (Event.moment now) false = end_if_over before after
 
 -- An event that doesn't name the dialogue means nothing (own).
 abbrev pub marks_if_named : Bool → ℕ → ℤ → Life → Pair → List Mark

@@ -25,23 +25,23 @@ Decided h n = closings n h.pairs ≡ as_list (decision n h.pairs)
 
 -- What is told of the end of an invocation, without its place: its dialogue, its identifier and how it
 -- was closed (own).
-pub record Ending : Type 0 where
+pub record ToldClosing : Type 0 where
   pub dialogue : ℕ
   pub id : ℤ
   pub closing : Closing
 
 -- The ending that a closing indication tells (own).
-abbrev pub ending_told : Told → Ending
-ending_told told = record { dialogue = told.dialogue; id = told.id; closing = told.closing }
+abbrev pub told_closing : Told → ToldClosing
+told_closing told = record { dialogue = told.dialogue; id = told.id; closing = told.closing }
 
 -- The ending of an invocation with this outcome (own).
-abbrev pub ending_of : Invocation → Option Closing → List Ending
-ending_of i outcome = option_to_list (option_map (λ closing. record { dialogue = i.dialogue; id = i.id; closing = closing }) outcome)
+abbrev pub closing_due : Invocation → Option Closing → List ToldClosing
+closing_due i outcome = option_to_list (option_map (λ closing. record { dialogue = i.dialogue; id = i.id; closing = closing }) outcome)
 
 -- The closing indications of an invocation are none where it has no outcome, and else one: its outcome
 -- with its contents, with the invocation's dialogue and identifier (own).
 abbrev pub HasOutcome : History → ℕ → Type 0
-HasOutcome h n = (i : Invocation) → invocation_of n h.pairs ≡ Some i → map ending_told (closings n h.pairs) ≡ ending_of i (outcome_of (Some i) h.pairs)
+HasOutcome h n = (i : Invocation) → invocation_of n h.pairs ≡ Some i → map told_closing (closings n h.pairs) ≡ closing_due i (outcome_of (Some i) h.pairs)
 
 -- ---- counting
 

@@ -104,8 +104,8 @@ over_with d first list =
 -- ---- requests
 
 -- Nothing but the answer (own).
-abbrev pub answered : Dialogue → Answer → Moved
-answered d answer = record { answer = answer; after = d; is_over = false }
+abbrev pub answering : Dialogue → Answer → Moved
+answering d answer = record { answer = answer; after = d; is_over = false }
 
 -- The queue with one component more, if there is one (own).
 abbrev pub with_queued : Dialogue → Option Queued → Dialogue
@@ -127,26 +127,26 @@ freed_by list (Some id) kind.Error = after_free_wait list id
 
 -- The user gives an invocation up: an Invoke that wasn't sent leaves the queue
 -- (Q.774, Invocation state machine).
-abbrev pub given_up_by : Dialogue → ℤ → Option ℕ → Moved
-given_up_by d id None = answered d (Answer.refused Fault.no_such_invocation)
-given_up_by d id (Some number) =
-    answered (with_queue (with_invocations d (after_give_up d.invocations id)) (without_invoke number d.standing.queue)) (Answer.given_up number)
+abbrev pub giving_up : Dialogue → ℤ → Option ℕ → Moved
+giving_up d id None = answering d (Answer.refused Fault.no_such_invocation)
+giving_up d id (Some number) =
+    answering (with_queue (with_invocations d (after_give_up d.invocations id)) (without_invoke number d.standing.queue)) (Answer.given_up number)
 
 -- A request that is accepted (Q.774, Component handling; Q.774, Dialogue control).
 abbrev pub accepted : Setting → Dialogue → Request → Moved
 accepted s d (Request.invoke id class code parameter linked timeout) =
-    answered (with_queued (with_invocations d (added d.invocations id s.number class timeout)) (queued_for s.number (Request.invoke id class code parameter linked timeout))) (Answer.number s.number)
-accepted s d (Request.result_last id body) = answered (with_queued d (queued_for s.number (Request.result_last id body))) Answer.done
-accepted s d (Request.result_more id body) = answered (with_queued d (queued_for s.number (Request.result_more id body))) Answer.done
-accepted s d (Request.error_back id code parameter) = answered (with_queued d (queued_for s.number (Request.error_back id code parameter))) Answer.done
+    answering (with_queued (with_invocations d (added d.invocations id s.number class timeout)) (queued_for s.number (Request.invoke id class code parameter linked timeout))) (Answer.number s.number)
+accepted s d (Request.result_last id body) = answering (with_queued d (queued_for s.number (Request.result_last id body))) Answer.done
+accepted s d (Request.result_more id body) = answering (with_queued d (queued_for s.number (Request.result_more id body))) Answer.done
+accepted s d (Request.error_back id code parameter) = answering (with_queued d (queued_for s.number (Request.error_back id code parameter))) Answer.done
 accepted s d (Request.u_reject id problem) =
-    answered (with_queued (with_invocations d (freed_by d.invocations id problem.kind)) (queued_for s.number (Request.u_reject id problem))) Answer.done
-accepted s d (Request.u_cancel id) = given_up_by d id (given_up_at d.invocations.rows id)
+    answering (with_queued (with_invocations d (freed_by d.invocations id problem.kind)) (queued_for s.number (Request.u_reject id problem))) Answer.done
+accepted s d (Request.u_cancel id) = giving_up d id (given_up_at d.invocations.rows id)
 accepted s d (Request.uni context info) = over_with d (sent_if_any (message_of d.standing (Request.uni context info))) d.invocations
 accepted s d (Request.begin context info) =
-    answered (in_context (in_state (gone_out s d) State.sent) context) (Answer.outputs (sent_if_any (message_of d.standing (Request.begin context info))))
+    answering (in_context (in_state (gone_out s d) State.sent) context) (Answer.outputs (sent_if_any (message_of d.standing (Request.begin context info))))
 accepted s d (Request.go_on context info) =
-    answered (in_state (gone_out s d) (activated d.standing.state)) (Answer.outputs (sent_if_any (message_of d.standing (Request.go_on context info))))
+    answering (in_state (gone_out s d) (activated d.standing.state)) (Answer.outputs (sent_if_any (message_of d.standing (Request.go_on context info))))
 accepted s d (Request.finish ending context info) = over_with d (sent_if_any (message_of d.standing (Request.finish ending context info))) d.invocations
 accepted s d (Request.u_abort why info) = over_with d (sent_if_any (message_of d.standing (Request.u_abort why info))) d.invocations
 
@@ -173,7 +173,7 @@ situation s d r = record {
 
 -- A request is refused with the fault that is due, and nothing changes; else it is accepted (own).
 abbrev pub requested_by : Setting → Dialogue → Request → Option Fault → Moved
-requested_by s d r (Some f) = answered d (Answer.refused f)
+requested_by s d r (Some f) = answering d (Answer.refused f)
 requested_by s d r None = accepted s d r
 
 -- ---- messages
@@ -199,16 +199,16 @@ ended_by d PortionVerdict.abnormal w = over_with d (Output.p_abort d.standing.id
 -- A message to a dialogue that is live; a Unidirectional and a Begin are never to one
 -- (Q.774, Transaction sublayer procedures).
 abbrev pub framed : Setting → Dialogue → Message → Moved
-framed s d (Message.unidirectional portion components) = answered d (Answer.outputs [])
-framed s d (Message.begin origin portion components) = answered d (Answer.outputs [])
+framed s d (Message.unidirectional portion components) = answering d (Answer.outputs [])
+framed s d (Message.begin origin portion components) = answering d (Answer.outputs [])
 framed s d (Message.go_on origin to portion components) = continued_by s d origin (portion_verdict d.standing.state d.standing.context portion) (walked_in s.clock d components)
 framed s d (Message.end to portion components) = ended_by d (portion_verdict d.standing.state d.standing.context portion) (walked_in s.clock d components)
 framed s d (Message.abort to reason) = over_with d (abort_told d.standing.identifier reason ∷ []) d.invocations
 
 -- A dialogue that is born by a Begin: it is told with its components, and the Rejects of these are
 -- queued (Q.774, Dialogue begin).
-abbrev pub begun : Setting → ℕ → ℕ → List ℕ → Option (List ℕ) → List ℕ → Walked → Moved
-begun s identifier reject_ms origin context info w = record {
+abbrev pub begun_with : Setting → ℕ → ℕ → List ℕ → Option (List ℕ) → List ℕ → Walked → Moved
+begun_with s identifier reject_ms origin context info w = record {
   answer = Answer.outputs (Output.begin identifier context info ∷ w.told);
   after = with_queue (in_context (in_state (with_invocations (fresh_dialogue identifier reject_ms) w.invocations) (State.received origin)) context) (queue_each s.limit [] w.rejects);
   is_over = false;
@@ -217,18 +217,18 @@ begun s identifier reject_ms origin context info w = record {
 -- The same, from the contents of the Begin's component portion (Q.774, Dialogue begin).
 abbrev pub born : Setting → ℕ → ℕ → List ℕ → Option (List ℕ) → List ℕ → List ℕ → Moved
 born s identifier reject_ms origin context info components =
-    begun s identifier reject_ms origin context info (walked_in s.clock (fresh_dialogue identifier reject_ms) components)
+    begun_with s identifier reject_ms origin context info (walked_in s.clock (fresh_dialogue identifier reject_ms) components)
 
 -- ---- moments
 
 -- An invocation whose timer ran out is told (Q.774, Invocation timer).
-abbrev pub lapse_told : ℕ → Lapse → Output
-lapse_told dialogue l = Output.closed dialogue l.number l.id Closing.lapsed
+abbrev pub row_lapse_told : ℕ → Lapse → Output
+row_lapse_told dialogue l = Output.closed dialogue l.number l.id Closing.lapsed
 
 -- What lapses at a moment is told, and each identifier that has waited is free
 -- (Q.774, Invocation timer; Q.774, Reject timer).
 abbrev pub lapsed : Dialogue → ℕ → Moved
-lapsed d now = answered (with_invocations d (after_lapse d.invocations now)) (Answer.outputs (map (lapse_told d.standing.identifier) (told_at now d.invocations.rows)))
+lapsed d now = answering (with_invocations d (after_lapse d.invocations now)) (Answer.outputs (map (row_lapse_told d.standing.identifier) (told_at now d.invocations.rows)))
 
 -- What a dialogue does (Q.774, Transaction sublayer procedures; Q.774, Component handling).
 unfoldable pub table_move : Setting → Dialogue → DialogueEvent → Moved
