@@ -11,11 +11,11 @@ use Rattle.tcap_model.specs.Words.Answer.{Answer}
 use Rattle.tcap_model.specs.Statements.ComponentLaws.{StandsFor, IsOfComponent, ToldFromOne, ToldFrom}
 use Rattle.tcap_examples.specs.Computing.{computing}
 use Rattle.tcap_model.specs.Words.Event.{Event}
-use Rattle.tcap_examples.specs.Values.ExampleValues.{context as context_name, begin_with_aarq, code}
+use Rattle.tcap_examples.specs.Values.DialogueValues.{context as context_name, begin_with_aarq, code}
 use Rattle.tcap_examples.specs.Values.Hex.{hex}
 use Rattle.tcap_model.specs.Words.Output.{Output}
-use Rattle.tcap_examples.specs.Statements.WorkedComponents.{begun_message, invoke_read, misread, misread_told}
-use Rattle.tcap_examples.specs.Wrong.WorkedWrong.{GoesWrong, whole}
+use Rattle.tcap_examples.specs.Statements.ComponentExamples.{begun_message, invoke_read, misread, misread_told}
+use Rattle.tcap_examples.specs.Wrong.WrongHistories.{GoesWrong, whole}
 
 -- Whether a code is that of operation 3.
 abbrev is_three : CodeParts → Bool

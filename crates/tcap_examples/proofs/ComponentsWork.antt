@@ -14,15 +14,15 @@ use Rattle.tcap_model.specs.Words.Answer.{Answer}
 use Rattle.tcap_model.specs.Statements.ComponentLaws.{portion_of, WasRequested, WasFormed, ComesFrom, SentFromOne, SentFrom, StandsFor, IsOfComponent, ToldFromOne, ToldFrom}
 use Rattle.tcap_examples.specs.Computing.{computing}
 use Rattle.tcap_model.specs.Words.Event.{Event}
-use Rattle.tcap_examples.specs.Values.ExampleValues.{context, begin_with_aarq, result_of_first, general, of_result, code}
+use Rattle.tcap_examples.specs.Values.DialogueValues.{context, begin_with_aarq, result_of_first, general, of_result, code}
 use Rattle.tcap_examples.specs.Values.Hex.{hex}
 use Rattle.tcap_model.specs.Words.Output.{Output}
 use Rattle.tcap_model.specs.Histories.Pair.{Pair, Past}
 use Rattle.tcap_model.specs.Statements.Places.{StandsIn, Tells}
 use Rattle.tcap_model.specs.Words.Request.{Request}
-use Rattle.tcap_examples.specs.Statements.WorkedComponents.{past, begin_sent, begin_pair, begin_message, two_invokes, before_the_begin, reject_continue, reject_pair, reject_message, reject, before_the_reject, late, first_message, first_invoke, late_message, late_reject, result_received, result_told, result_pair, result_message, received_result, unknown_component, before_the_result, begin_received, invoke_told, begun_pair, begun_message, invoke_read, crossed_queues, crossed_sent, crossed_message, crossed_invoke}
-use Rattle.tcap_examples.specs.Wrong.WorkedWrong.{GoesWrong, whole}
-use Rattle.tcap_examples.specs.Values.WorkedWords.{dialogue_born, invoke_pair, received_pair, begin_request, continue_request, continued}
+use Rattle.tcap_examples.specs.Statements.ComponentExamples.{past, begin_sent, begin_pair, begin_message, two_invokes, before_the_begin, reject_continue, reject_pair, reject_message, reject, before_the_reject, late, first_message, first_invoke, late_message, late_reject, result_received, result_told, result_pair, result_message, received_result, unknown_component, before_the_result, begin_received, invoke_told, begun_pair, begun_message, invoke_read, crossed_queues, crossed_sent, crossed_message, crossed_invoke}
+use Rattle.tcap_examples.specs.Wrong.WrongHistories.{GoesWrong, whole}
+use Rattle.tcap_examples.specs.Values.HistoryWords.{dialogue_born, invoke_pair, received_pair, begin_request, continue_request, continued}
 
 -- ---- the Begin that is sent
 

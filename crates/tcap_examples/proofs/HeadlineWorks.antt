@@ -9,7 +9,7 @@ use Rattle.tcap_model.specs.Histories.Birth.{is_birth_of}
 use Rattle.tcap_model.specs.Words.Event.{Event}
 use Rattle.tcap_model.specs.Invocations.Closings.{closings}
 use Rattle.tcap_examples.specs.Computing.{computing}
-use Rattle.tcap_model.specs.Statements.HeadlineLaws.{HasOutcome, Counted, Bounded, told_closing, closing_due}
+use Rattle.tcap_model.specs.Statements.Headline.{HasOutcome, Counted, Bounded, told_closing, closing_due}
 use Rattle.tcap_model.specs.Invocations.Invocation.{Invocation, invocation_of, invocations}
 use Rattle.tcap_model.specs.Histories.Names.{names}
 use Rattle.tcap_model.specs.Statements.Only.{is_moment}
@@ -18,7 +18,7 @@ use Rattle.tcap_model.specs.Histories.Pair.{Pair, Past}
 use Rattle.tcap_model.specs.Replies.Queue.{queue, queue_by_event}
 use Rattle.tcap_model.specs.Procedures.QueueRules.{Queued, joined, queue_limit}
 use Rattle.tcap_model.specs.Table.World.{row_of}
-use Rattle.tcap_examples.specs.Statements.WorkedStatements.{repeated_aare_history, late_result_history, late_result, first, second}
+use Rattle.tcap_examples.specs.Statements.HeadlineExamples.{repeated_aare_history, late_result_history, late_result, first, second}
 
 -- ---- outcome
 

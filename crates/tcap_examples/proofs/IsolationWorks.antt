@@ -7,8 +7,8 @@ use Rattle.tcap_model.specs.Words.Fault.{Fault}
 use Rattle.tcap_model.specs.Statements.Isolation.{IsAlone}
 use Rattle.tcap_model.specs.Replies.Legal.{IsLegal}
 use Rattle.tcap_model.specs.Replies.Reply.{reply}
-use Rattle.tcap_examples.specs.Nets.WorkedNets.{play_start}
-use Rattle.tcap_examples.specs.Statements.WorkedIsolation.{two_left, of_one_begin, with_one_peer, IsAloneThroughout, two_dialogues, before_the_lapse, before_the_invoke, first_invokes, invokes_again, first_cancels, first_hears, both_lapse}
+use Rattle.tcap_examples.specs.Nets.PlayedNets.{play_start}
+use Rattle.tcap_examples.specs.Statements.IsolationExamples.{two_left, of_one_begin, with_one_peer, IsAloneThroughout, two_dialogues, before_the_lapse, before_the_invoke, first_invokes, invokes_again, first_cancels, first_hears, both_lapse}
 
 pub two-legal : IsLegal two_dialogues
 unfolding computing

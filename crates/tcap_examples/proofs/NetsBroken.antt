@@ -9,7 +9,7 @@ use Rattle.tcap_examples.proofs.PlaceLemmas.{at_place, at_happening, not_sent}
 use Rattle.tcap_model.specs.Words.Answer.{Answer}
 use Rattle.tcap_examples.specs.Computing.{computing}
 use Rattle.tcap_model.specs.Words.Event.{Event}
-use Rattle.tcap_examples.specs.Values.ExampleValues.{code}
+use Rattle.tcap_examples.specs.Values.DialogueValues.{code}
 use Rattle.tcap_examples.specs.Values.Hex.{hex}
 use Rattle.tcap_model.specs.Replies.Legal.{IsLegal}
 use Rattle.tcap_model.specs.Statements.Net.{Engine, Marked, Trace, IsNet, IsCarried, side, history_in}
@@ -17,8 +17,8 @@ use Rattle.tcap_model.specs.Words.Output.{Output}
 use Rattle.tcap_model.specs.Histories.Pair.{Pair, Past}
 use Rattle.tcap_model.specs.Words.Request.{Request}
 use Rattle.tcap_model.specs.Statements.TwoEnds.{IsAnswer, UsesOnce, AnswersWhatItWasTold, WasOpened, WasAsked, Origin, Operations, ComesFromFar}
-use Rattle.tcap_examples.specs.Nets.WorkedNets.{invoked, answer, result_continue, used_again, forged, IsAnsweredAhead}
-use Rattle.tcap_examples.specs.Values.WorkedWords.{dialogue_born, invoke_pair, request_pair, received_pair, continued, empty_result}
+use Rattle.tcap_examples.specs.Nets.PlayedNets.{invoked, answer, result_continue, used_again, forged, IsAnsweredAhead}
+use Rattle.tcap_examples.specs.Values.HistoryWords.{dialogue_born, invoke_pair, request_pair, received_pair, continued, empty_result}
 
 -- ---- an identifier used again
 

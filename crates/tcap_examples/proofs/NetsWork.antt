@@ -7,7 +7,7 @@ use Rattle.tcap_examples.proofs.EndPremises.{not_both, uses_once, answers_what_i
 use Rattle.tcap_examples.proofs.PlaceLemmas.{at_happening, not_sent, never_sent}
 use Rattle.tcap_model.specs.Words.Answer.{Answer}
 use Rattle.tcap_examples.specs.Computing.{computing}
-use Rattle.tcap_examples.specs.Values.ExampleValues.{code}
+use Rattle.tcap_examples.specs.Values.DialogueValues.{code}
 use Rattle.tcap_model.specs.Invocations.Invocation.{Invocation}
 use Rattle.tcap_model.specs.Replies.Legal.{IsLegal}
 use Rattle.tcap_model.specs.Statements.Net.{Engine, Marked, Trace, IsNet, side, history_in}
@@ -15,11 +15,11 @@ use Rattle.tcap_model.specs.Words.Output.{Output}
 use Rattle.tcap_model.specs.Histories.Pair.{Pair}
 use Rattle.tcap_model.specs.Statements.Places.{Tells}
 use Rattle.tcap_model.specs.Statements.TwoEnds.{Happens, IsAnswer, IsFarRequest, ComesFromFar, UsesOnce, AnswersInvoke, AnswersWhatItWasTold, WasOpened, WasSent, WasAsked}
-use Rattle.tcap_examples.specs.Nets.WorkedNets.{repeated_begin, before_the_answer, answer_told, answer_closes, second_body, second_request, before_the_repeat, repeat_told, invoked, answer, result_continue, second_invoke, answered_ahead, heard_as_one, alone_told, in_a_unidirectional, end_told, in_an_end, IsAnsweredAhead}
-use Rattle.tcap_examples.specs.Nets.WorkedPlay as play
-use Rattle.tcap_examples.specs.Histories.WorkedReadings.{given_up_before_it_was_sent}
-use Rattle.tcap_examples.specs.Statements.WorkedStatements.{first}
-use Rattle.tcap_examples.specs.Values.WorkedWords.{dialogue_born, invoke_pair, request_pair, received_pair, continued, empty_result}
+use Rattle.tcap_examples.specs.Nets.PlayedNets.{repeated_begin, before_the_answer, answer_told, answer_closes, second_body, second_request, before_the_repeat, repeat_told, invoked, answer, result_continue, second_invoke, answered_ahead, heard_as_one, alone_told, in_a_unidirectional, end_told, in_an_end, IsAnsweredAhead}
+use Rattle.tcap_examples.specs.Nets.Play as play
+use Rattle.tcap_examples.specs.Histories.Readings.{given_up_before_it_was_sent}
+use Rattle.tcap_examples.specs.Statements.HeadlineExamples.{first}
+use Rattle.tcap_examples.specs.Values.HistoryWords.{dialogue_born, invoke_pair, request_pair, received_pair, continued, empty_result}
 
 -- ---- a repeated Begin
 

@@ -11,7 +11,7 @@ use Rattle.tcap_model.specs.Histories.Pair.{Pair}
 use Rattle.tcap_model.specs.Statements.Places.{Tells}
 use Rattle.tcap_model.specs.Words.Request.{Request}
 use Rattle.tcap_model.specs.Statements.TwoEnds.{Happens, IsAnswer, IsFarRequest, ComesFromFar, Origin, WasSent, AfterInvoke, Once, WasAsked, Operations, TwoEnds}
-use Rattle.tcap_examples.specs.Nets.WorkedNets.{repeated_begin}
+use Rattle.tcap_examples.specs.Nets.PlayedNets.{repeated_begin}
 
 -- An answer that is told: its dialogue and number, and the request that the far user makes for it.
 record Answered : Type 0 where

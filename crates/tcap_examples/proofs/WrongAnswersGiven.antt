@@ -2,7 +2,7 @@
 use Rattle.std.specs.Prelude.{refl}
 use Rattle.tcap_examples.proofs.Apart.{apart, answer_number}
 use Rattle.tcap_examples.specs.Computing.{computing}
-use Rattle.tcap_examples.specs.Wrong.WorkedWrong.{GoesWrong}
+use Rattle.tcap_examples.specs.Wrong.WrongHistories.{GoesWrong}
 use Rattle.tcap_examples.specs.Wrong.WrongAnswers as answers
 
 pub class_two_result : GoesWrong answers.class_two_result

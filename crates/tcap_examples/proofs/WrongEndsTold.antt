@@ -2,7 +2,7 @@
 use Rattle.std.specs.Prelude.{refl}
 use Rattle.tcap_examples.proofs.Apart.{apart, answer_number, told_number}
 use Rattle.tcap_examples.specs.Computing.{computing}
-use Rattle.tcap_examples.specs.Wrong.WorkedWrong.{GoesWrong, TellsWrong, TellsElsewhere, whole}
+use Rattle.tcap_examples.specs.Wrong.WrongHistories.{GoesWrong, TellsWrong, TellsElsewhere, whole}
 use Rattle.tcap_examples.specs.Wrong.WrongEnds as ends
 
 pub double_result : GoesWrong ends.double_result

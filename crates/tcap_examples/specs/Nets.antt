@@ -1,3 +1,3 @@
-pub mod WorkedLoss
-pub mod WorkedNets
-pub mod WorkedPlay
+pub mod Loss
+pub mod Play
+pub mod PlayedNets

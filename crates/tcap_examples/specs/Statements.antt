@@ -1,3 +1,3 @@
-pub mod WorkedComponents
-pub mod WorkedIsolation
-pub mod WorkedStatements
+pub mod ComponentExamples
+pub mod HeadlineExamples
+pub mod IsolationExamples

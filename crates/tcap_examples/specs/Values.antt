@@ -1,4 +1,4 @@
-pub mod ExampleValues
+pub mod DialogueValues
 pub mod Hex
-pub mod WorkedWords
-pub mod WorldWords
+pub mod HistoryWords
+pub mod StepWords

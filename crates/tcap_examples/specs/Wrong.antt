@@ -1,3 +1,3 @@
-pub mod WorkedWrong
 pub mod WrongAnswers
 pub mod WrongEnds
+pub mod WrongHistories

@@ -1,9 +1,9 @@
-pub mod BirthLemmas
-pub mod BornLemmas
+pub mod BirthReplies
 pub mod BoundedDialogues
-pub mod ClockLemmas
-pub mod DrawnLemmas
-pub mod LifeLemmas
-pub mod NumberLemmas
-pub mod NumberedLemmas
-pub mod StartLemmas
+pub mod Clocks
+pub mod DrawnCounters
+pub mod DrawnDialogues
+pub mod DrawnNumbers
+pub mod Lives
+pub mod NumbersFound
+pub mod StartCounters

@@ -1,5 +1,5 @@
 pub mod AfterInvokes
-pub mod EndLemmas
+pub mod ClosedOnce
 pub mod FairReplies
 pub mod FairTellings
 pub mod FarInvokes

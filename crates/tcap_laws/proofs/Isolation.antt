@@ -1,8 +1,8 @@
 pub mod LapseOrder
-pub mod OnlyBytes
-pub mod OnlyDecisions
-pub mod OnlyInvocations
-pub mod OnlyLives
-pub mod OnlyMoments
-pub mod OnlyQueues
-pub mod OnlyRequests
+pub mod SeenBytes
+pub mod SeenDecisions
+pub mod SeenInvocations
+pub mod SeenLives
+pub mod SeenMoments
+pub mod SeenQueues
+pub mod SeenRequests

@@ -1,9 +1,9 @@
-pub mod BornDialogues
 pub mod DecisionSteps
 pub mod DrawnInvocations
 pub mod EarlierMoments
 pub mod EventMarks
 pub mod LatestInvocations
+pub mod MarksAfterBirth
 pub mod QueuedMarks
 pub mod SentClocks
 pub mod SentSpans

@@ -1,10 +1,10 @@
-pub mod BegunDialogues
+pub mod BegunAlike
 pub mod BoundedIdentifiers
-pub mod EndsAgree
-pub mod EndsAnswered
-pub mod MovedDialogues
+pub mod EndMessagesAlike
+pub mod LastAnswersAlike
+pub mod MessagesMovedAlike
 pub mod OtherDialogues
-pub mod RequestMoves
-pub mod RequestsAgree
-pub mod RequestsMoved
+pub mod RequestPairs
+pub mod RequestsJudgedAlike
+pub mod RequestsMovedAlike
 pub mod StandingPairs

@@ -1,6 +1,6 @@
 //! What is told of the end of an invocation.
 
-ghost use Rattle.tcap_model.specs.Statements.HeadlineLaws.{EachHasOutcome, EachIsCounted, EachIsDecided};
+ghost use Rattle.tcap_model.specs.Statements.Headline.{EachHasOutcome, EachIsCounted, EachIsDecided};
 
 /// The closing indications of an invocation number are those that its decision asks for: none before
 /// its outcome, and then the one, in the answer to the event that decided it

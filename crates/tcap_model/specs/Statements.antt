@@ -1,5 +1,5 @@
 pub mod ComponentLaws
-pub mod HeadlineLaws
+pub mod Headline
 pub mod Isolation
 pub mod Net
 pub mod Only

@@ -2,13 +2,13 @@
 use Rattle.std.specs.Prelude.{pos, negsuc, [], ◌∷◌, Some, None}
 use Rattle.tcap_invocation.specs.declared.class.Class.TheVariants.{One, Two}
 use Rattle.tcap_model.specs.Words.Answer.{Answer}
-use Rattle.tcap_examples.specs.Values.ExampleValues.{shown_begin, result_of_first, begin_with_aarq, of_result, general, code}
+use Rattle.tcap_examples.specs.Values.DialogueValues.{shown_begin, result_of_first, begin_with_aarq, of_result, general, code}
 use Rattle.tcap_model.specs.Words.Fault.{Fault}
 use Rattle.tcap_examples.specs.Values.Hex.{hex}
 use Rattle.tcap_model.specs.Words.Output.{Output, Closing, Rejector, DropCause}
 use Rattle.tcap_model.specs.Words.Request.{Request, AbortReason}
-use Rattle.tcap_examples.specs.Values.WorkedWords.{dialogue_born, dialogue_refused, invoke_pair, request_pair, received_pair, moment_pair, begin_request, continue_request, continued, empty_result, usual_start, opened_with_invoke}
-use Rattle.tcap_examples.specs.Wrong.WorkedWrong.{Wrong, wrong}
+use Rattle.tcap_examples.specs.Values.HistoryWords.{dialogue_born, dialogue_refused, invoke_pair, request_pair, received_pair, moment_pair, begin_request, continue_request, continued, empty_result, usual_start, opened_with_invoke}
+use Rattle.tcap_examples.specs.Wrong.WrongHistories.{Wrong, wrong}
 use Rattle.tcap_examples.specs.Wrong.WrongEnds.{answered_once}
 
 -- A result of class 2 is told as a result (own).

@@ -2,12 +2,12 @@
 use Rattle.std.specs.Prelude.{pos, List, [], ◌∷◌, reverse, Some}
 use Rattle.tcap_invocation.specs.declared.class.Class.TheVariants.{One}
 use Rattle.tcap_model.specs.Words.Answer.{Answer}
-use Rattle.tcap_examples.specs.Values.ExampleValues.{result_of_first, of_result}
+use Rattle.tcap_examples.specs.Values.DialogueValues.{result_of_first, of_result}
 use Rattle.tcap_examples.specs.Values.Hex.{hex}
 use Rattle.tcap_model.specs.Words.Output.{Output, Closing}
 use Rattle.tcap_model.specs.Histories.Pair.{Pair, Past}
-use Rattle.tcap_examples.specs.Values.WorkedWords.{dialogue_born, invoke_pair, request_pair, received_pair, moment_pair, begin_request, continued, ended, empty_result, usual_start, opened_with_invoke}
-use Rattle.tcap_examples.specs.Wrong.WorkedWrong.{Wrong, wrong}
+use Rattle.tcap_examples.specs.Values.HistoryWords.{dialogue_born, invoke_pair, request_pair, received_pair, moment_pair, begin_request, continued, ended, empty_result, usual_start, opened_with_invoke}
+use Rattle.tcap_examples.specs.Wrong.WrongHistories.{Wrong, wrong}
 
 -- A result is received and told (own).
 abbrev pub answered_once : List Pair → List Pair

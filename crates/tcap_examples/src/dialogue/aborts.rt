@@ -3,7 +3,7 @@
 ghost use Rattle.std.specs.Prelude.{◌≡◌, pos, List, [], ◌∷◌, ◌++◌, true, false, Option, Some, None};
 ghost use Rattle.tcap_pdu.specs.DialogueSpelling.{PduValue, Source};
 ghost use Rattle.tcap_model.specs.Words.Answer.{Answer};
-ghost use Rattle.tcap_examples.specs.Values.ExampleValues.{context, aarq, aare, aare_result, code, one_invoke, one_invoke_told, first_ended, begin_with_aarq, begin_with_aarq_told, EndsTold};
+ghost use Rattle.tcap_examples.specs.Values.DialogueValues.{context, aarq, aare, aare_result, code, one_invoke, one_invoke_told, first_ended, begin_with_aarq, begin_with_aarq_told, EndsTold};
 ghost use Rattle.tcap_examples.specs.Values.Hex.{hex};
 ghost use Rattle.tcap_model.specs.Words.Output.{Output, AbortCause, Closing};
 ghost use Rattle.tcap_model.specs.Words.Request.{Request, Ending, AbortReason};

@@ -4,7 +4,7 @@ ghost use Rattle.std.specs.Prelude.{◌≡◌, pos, negsuc, List, [], ◌∷◌,
 ghost use Rattle.tcap_component.specs.Component.{CodeParts};
 ghost use Rattle.tcap_invocation.specs.declared.class.Class.TheVariants.{One, Two, Three, Four};
 ghost use Rattle.tcap_model.specs.Words.Answer.{Answer};
-ghost use Rattle.tcap_examples.specs.Values.ExampleValues.{aare_result, code, body, invoke, plain_begin, go_on, one_invoke, one_invoke_told, result_of_first, first_result, shown_begin, shown_begin_told, general, of_invoke, of_result, of_error};
+ghost use Rattle.tcap_examples.specs.Values.DialogueValues.{aare_result, code, body, invoke, plain_begin, go_on, one_invoke, one_invoke_told, result_of_first, first_result, shown_begin, shown_begin_told, general, of_invoke, of_result, of_error};
 ghost use Rattle.tcap_examples.specs.Values.Hex.{hex};
 ghost use Rattle.tcap_model.specs.Words.Output.{Output, AbortCause, Closing, Rejector};
 ghost use Rattle.tcap_model.specs.Words.Request.{Request, Ending};

@@ -4,7 +4,7 @@ ghost use Rattle.std.specs.Prelude.{◌≡◌, pos, List, [], ◌∷◌, ◌++�
 ghost use Rattle.tcap_component.specs.Component.{CodeParts};
 ghost use Rattle.tcap_invocation.specs.declared.class.Class.TheVariants.{One};
 ghost use Rattle.tcap_model.specs.Words.Answer.{Answer};
-ghost use Rattle.tcap_examples.specs.Values.ExampleValues.{context, aarq_version, aarq, aare, code, invoke, go_on, one_invoke, one_invoke_told, first_ended, begin_with_aarq, begin_with_aarq_told};
+ghost use Rattle.tcap_examples.specs.Values.DialogueValues.{context, aarq_version, aarq, aare, code, invoke, go_on, one_invoke, one_invoke_told, first_ended, begin_with_aarq, begin_with_aarq_told};
 ghost use Rattle.tcap_model.specs.Words.Fault.{Fault};
 ghost use Rattle.tcap_examples.specs.Values.Hex.{hex};
 ghost use Rattle.tcap_model.specs.Words.Output.{Output, AbortCause, Closing};

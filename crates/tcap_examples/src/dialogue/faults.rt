@@ -10,7 +10,7 @@
 
 ghost use Rattle.std.specs.Prelude.{◌≡◌, pos, List, [], ◌∷◌, ◌++◌, replicate, Option, Some, None};
 ghost use Rattle.tcap_invocation.specs.declared.class.Class.TheVariants.{One};
-ghost use Rattle.tcap_examples.specs.Values.ExampleValues.{context, bad_code, bad_parameter, code, body, long_parameter, long_bad_parameter, shown_begin, begin_with_aarq, of_result, active, one_queued, full_queue};
+ghost use Rattle.tcap_examples.specs.Values.DialogueValues.{context, bad_code, bad_parameter, code, body, long_parameter, long_bad_parameter, shown_begin, begin_with_aarq, of_result, active, one_queued, full_queue};
 ghost use Rattle.tcap_model.specs.Words.Fault.{Fault};
 ghost use Rattle.tcap_examples.specs.Values.Hex.{hex};
 ghost use Rattle.tcap_model.specs.Words.Request.{Request, Ending, AbortReason};

@@ -3,7 +3,7 @@
 ghost use Rattle.std.specs.Prelude.{◌≡◌, pos, List, [], ◌∷◌, ◌++◌, false, Option, Some, None};
 ghost use Rattle.tcap_invocation.specs.declared.class.Class.TheVariants.{One, Four};
 ghost use Rattle.tcap_model.specs.Words.Answer.{Answer};
-ghost use Rattle.tcap_examples.specs.Values.ExampleValues.{code, invoke, invoke_within, plain_begin, go_on, one_invoke, one_invoke_told, one_long_invoke, result_of_first, first_result, first_ended, of_invoke, of_result};
+ghost use Rattle.tcap_examples.specs.Values.DialogueValues.{code, invoke, invoke_within, plain_begin, go_on, one_invoke, one_invoke_told, one_long_invoke, result_of_first, first_result, first_ended, of_invoke, of_result};
 ghost use Rattle.tcap_model.specs.Words.Fault.{Fault};
 ghost use Rattle.tcap_examples.specs.Values.Hex.{hex};
 ghost use Rattle.tcap_model.specs.Words.Output.{Output, Closing};

@@ -2,7 +2,7 @@
 
 ghost use Rattle.std.specs.Prelude.{◌≡◌, ℕ, List, [], ◌∷◌, ◌++◌, replicate, true, false, Option, Some, None};
 ghost use Rattle.tcap_pdu.specs.FrameSpelling.{Message};
-ghost use Rattle.tcap_examples.specs.Values.ExampleValues.{context, aarq, aarq_version, aare_result, shown_begin, is_first_live};
+ghost use Rattle.tcap_examples.specs.Values.DialogueValues.{context, aarq, aarq_version, aare_result, shown_begin, is_first_live};
 ghost use Rattle.tcap_examples.specs.Values.Hex.{hex};
 ghost use Rattle.tcap_model.specs.Words.Output.{Output, DropCause};
 ghost use Rattle.tcap_examples.specs.Dialogues.Played.{is_none_live};

@@ -2,7 +2,7 @@
 #![tactic(auto, unfolding(crate::specs::Computing::computing))]
 
 ghost use Rattle.tcap_examples.specs.Histories.Worked.{Works};
-ghost use Rattle.tcap_examples.specs.Histories.WorkedClosing as worked;
+ghost use Rattle.tcap_examples.specs.Histories.Closing as worked;
 
 /// An End with a result closes its invocation by the result.
 pub fn result_in_an_end()

@@ -2,7 +2,7 @@
 #![tactic(auto, unfolding(crate::specs::Computing::computing))]
 
 ghost use Rattle.tcap_examples.specs.Histories.Worked.{Works};
-ghost use Rattle.tcap_examples.specs.Histories.WorkedEnds as worked;
+ghost use Rattle.tcap_examples.specs.Histories.Ends as worked;
 
 /// By an Abort, by an error, by the end of the dialogue, or by the user.
 pub fn ways_an_invocation_closes()

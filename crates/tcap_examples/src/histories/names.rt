@@ -1,7 +1,7 @@
 //! Which dialogues events name.
 #![tactic(auto, unfolding(crate::specs::Computing::computing))]
 
-ghost use Rattle.tcap_examples.specs.Histories.WorkedNames.{
+ghost use Rattle.tcap_examples.specs.Histories.NamedDialogues.{
   AreAsStated,
   requests_and_moments,
   good_messages,

@@ -3,8 +3,8 @@
 
 ghost use Rattle.tcap_model.specs.Statements.Net.{IsNet};
 ghost use Rattle.tcap_examples.specs.Histories.Worked.{Works};
-ghost use Rattle.tcap_examples.specs.Nets.WorkedLoss as loss;
-ghost use Rattle.tcap_examples.specs.Nets.WorkedPlay as worked;
+ghost use Rattle.tcap_examples.specs.Nets.Loss as loss;
+ghost use Rattle.tcap_examples.specs.Nets.Play as worked;
 
 /// The repeated Begin makes a second dialogue, and of the two answers the first closes.
 pub fn repeated_begin()

@@ -2,7 +2,7 @@
 #![tactic(auto, unfolding(crate::specs::Computing::computing))]
 
 ghost use Rattle.tcap_examples.specs.Histories.Worked.{Works};
-ghost use Rattle.tcap_examples.specs.Histories.WorkedReadings as worked;
+ghost use Rattle.tcap_examples.specs.Histories.Readings as worked;
 
 /// Where no dialogue can be born, a Begin is answered with cause 4, and a faulty one with its own.
 pub fn resource_limitation_first()

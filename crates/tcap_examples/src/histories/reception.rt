@@ -2,7 +2,7 @@
 #![tactic(auto, unfolding(crate::specs::Computing::computing))]
 
 ghost use Rattle.tcap_examples.specs.Histories.Worked.{Works};
-ghost use Rattle.tcap_examples.specs.Histories.WorkedReception as worked;
+ghost use Rattle.tcap_examples.specs.Histories.Receptions as worked;
 
 /// A Begin with an AARQ is answered by a Continue with an AARE.
 pub fn a_begin_with_aarq()

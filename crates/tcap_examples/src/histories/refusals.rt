@@ -2,7 +2,7 @@
 #![tactic(auto, unfolding(crate::specs::Computing::computing))]
 
 ghost use Rattle.tcap_examples.specs.Histories.Worked.{Works};
-ghost use Rattle.tcap_examples.specs.Histories.WorkedRefusals as worked;
+ghost use Rattle.tcap_examples.specs.Histories.Refusals as worked;
 
 /// The limits of an engine, and what a dialogue that is Idle refuses.
 pub fn limits_and_refusals()

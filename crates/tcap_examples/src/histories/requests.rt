@@ -2,7 +2,7 @@
 #![tactic(auto, unfolding(crate::specs::Computing::computing))]
 
 ghost use Rattle.tcap_examples.specs.Histories.Worked.{Works};
-ghost use Rattle.tcap_examples.specs.Histories.WorkedRequests as worked;
+ghost use Rattle.tcap_examples.specs.Histories.Requests as worked;
 
 /// A Unidirectional is sent by one engine and received by another.
 pub fn unidirectional_both_ways()

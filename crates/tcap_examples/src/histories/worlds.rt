@@ -1,7 +1,7 @@
 #![tactic(auto, unfolding(crate::specs::Computing::computing))]
 
-ghost use Rattle.tcap_examples.specs.Histories.WalkedHistories.{repeated_aare_steps, identifier_freed_steps, late_result_steps};
-ghost use Rattle.tcap_examples.specs.Histories.WorldSteps.{Walks};
+ghost use Rattle.tcap_examples.specs.Histories.SteppedHistories.{repeated_aare_steps, identifier_freed_steps, late_result_steps};
+ghost use Rattle.tcap_examples.specs.Histories.Steps.{Walks};
 
 /// A second AARE ends the dialogue.
 pub fn repeated_aare_step_by_step()

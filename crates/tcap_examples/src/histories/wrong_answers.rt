@@ -1,7 +1,7 @@
 //! Answers that aren't the reply: each history is legal up to its last answer, and not with it.
 #![tactic(auto, using(crate::proofs::WrongAnswersGiven::wrong_answers_given))]
 
-ghost use Rattle.tcap_examples.specs.Wrong.WorkedWrong.{GoesWrong};
+ghost use Rattle.tcap_examples.specs.Wrong.WrongHistories.{GoesWrong};
 ghost use Rattle.tcap_examples.specs.Wrong.WrongAnswers as wrong;
 
 /// A result of class 2 is told as a result.

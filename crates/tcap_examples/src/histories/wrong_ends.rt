@@ -2,7 +2,7 @@
 //! it tells of the invocation isn't what was decided.
 #![tactic(auto, using(crate::proofs::WrongEndsTold::wrong_ends_told))]
 
-ghost use Rattle.tcap_examples.specs.Wrong.WorkedWrong.{GoesWrong, TellsWrong, TellsElsewhere, whole};
+ghost use Rattle.tcap_examples.specs.Wrong.WrongHistories.{GoesWrong, TellsWrong, TellsElsewhere, whole};
 ghost use Rattle.tcap_examples.specs.Wrong.WrongEnds as wrong;
 
 /// A repeated result is told twice.

@@ -6,14 +6,14 @@ ghost use Rattle.std.specs.Prelude.{◌≡◌, ◌≤◌, [], ◌∷◌, length,
 ghost use Rattle.tcap_model.specs.Histories.Clock.{clock};
 ghost use Rattle.tcap_model.specs.Invocations.Closings.{closings};
 ghost use Rattle.tcap_model.specs.Invocations.Deadline.{deadline};
-ghost use Rattle.tcap_model.specs.Statements.HeadlineLaws.{Decided, HasOutcome, Counted, Bounded, told_closing};
+ghost use Rattle.tcap_model.specs.Statements.Headline.{Decided, HasOutcome, Counted, Bounded, told_closing};
 ghost use Rattle.tcap_model.specs.Invocations.Invocation.{invocation_of};
 ghost use Rattle.tcap_model.specs.Replies.Legal.{IsLegal};
 ghost use Rattle.tcap_model.specs.Histories.Life.{Life, life};
 ghost use Rattle.tcap_model.specs.Words.Output.{Closing};
 ghost use Rattle.tcap_model.specs.Replies.Queue.{queue};
 ghost use Rattle.tcap_model.specs.Procedures.QueueRules.{joined};
-ghost use Rattle.tcap_examples.specs.Statements.WorkedStatements.{repeated_aare_history, late_result_history, late_result, faulty_second_history, given_up, first, second, first_ending};
+ghost use Rattle.tcap_examples.specs.Statements.HeadlineExamples.{repeated_aare_history, late_result_history, late_result, faulty_second_history, given_up, first, second, first_ending};
 
 /// Decided, of invocations that are answered, ended, lapsed, given up and not closed.
 pub fn closings_are_decided()

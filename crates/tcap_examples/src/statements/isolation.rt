@@ -13,8 +13,8 @@ ghost use Rattle.tcap_model.specs.Histories.Names.{names};
 ghost use Rattle.tcap_model.specs.Statements.Only.{only};
 ghost use Rattle.tcap_model.specs.Words.Output.{Output};
 ghost use Rattle.tcap_model.specs.Replies.Reply.{reply};
-ghost use Rattle.tcap_examples.specs.Nets.WorkedNets.{play_start};
-ghost use Rattle.tcap_examples.specs.Statements.WorkedIsolation.{two_dialogues, first_alone, before_the_lapse, before_the_invoke, first_invokes, invokes_again, first_cancels, first_hears, both_lapse, first_lapses, second_lapses, last_but_one, last, two_left, of_one_begin, with_one_peer, IsAloneThroughout};
+ghost use Rattle.tcap_examples.specs.Nets.PlayedNets.{play_start};
+ghost use Rattle.tcap_examples.specs.Statements.IsolationExamples.{two_dialogues, first_alone, before_the_lapse, before_the_invoke, first_invokes, invokes_again, first_cancels, first_hears, both_lapse, first_lapses, second_lapses, last_but_one, last, two_left, of_one_begin, with_one_peer, IsAloneThroughout};
 
 /// What the first dialogue sees of a history of two.
 pub fn one_dialogue_of_two()

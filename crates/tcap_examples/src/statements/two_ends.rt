@@ -5,15 +5,15 @@
 ghost use Rattle.std.specs.Prelude.{◌≡◌, ◌≤◌, pos, length, drop, None};
 ghost use Rattle.tcap_component.specs.Component.{CodeParts};
 ghost use Rattle.tcap_model.specs.Invocations.Closings.{closings};
-ghost use Rattle.tcap_examples.specs.Values.ExampleValues.{code};
+ghost use Rattle.tcap_examples.specs.Values.DialogueValues.{code};
 ghost use Rattle.tcap_model.specs.Replies.Legal.{IsLegal};
 ghost use Rattle.tcap_model.specs.Statements.Net.{Engine, Trace, IsNet, IsCarried, history_in, side};
 ghost use Rattle.tcap_model.specs.Words.Output.{Output};
 ghost use Rattle.tcap_model.specs.Histories.Pair.{Pair};
 ghost use Rattle.tcap_model.specs.Statements.Places.{Tells};
 ghost use Rattle.tcap_model.specs.Statements.TwoEnds.{Happens, IsAnswer, IsFarRequest, ComesFromFar, UsesOnce, AnswersWhatItWasTold, WasOpened, WasSent, WasAsked, Origin, Operations, TwoEnds};
-ghost use Rattle.tcap_examples.specs.Nets.WorkedNets.{repeated_begin, before_the_answer, answer_told, answer_closes, second_request, before_the_repeat, repeat_told, invoked, answered_ahead, heard_as_one, used_again, forged, alone_told, in_a_unidirectional, end_told, in_an_end, IsAnsweredAhead};
-ghost use Rattle.tcap_examples.specs.Histories.WorkedReadings.{given_up_before_it_was_sent};
+ghost use Rattle.tcap_examples.specs.Nets.PlayedNets.{repeated_begin, before_the_answer, answer_told, answer_closes, second_request, before_the_repeat, repeat_told, invoked, answered_ahead, heard_as_one, used_again, forged, alone_told, in_a_unidirectional, end_told, in_an_end, IsAnsweredAhead};
+ghost use Rattle.tcap_examples.specs.Histories.Readings.{given_up_before_it_was_sent};
 
 /// A Begin is delivered twice: the answer that closes the invocation comes from the second of the two
 /// far dialogues.

@@ -10,8 +10,8 @@ use Rattle.tcap_model.specs.Words.Identifiers.{birth_fault, are_dialogues_spent}
 use Rattle.tcap_model.specs.Replies.Legal.{AreReplies}
 use Rattle.tcap_model.specs.Histories.Life.{Life, is_standing, life, life_after, born_life, standing_dialogues}
 use Rattle.tcap_model.specs.Histories.Pair.{Pair, Past}
-use Rattle.tcap_laws.proofs.Births.BirthLemmas.{listed-was_born, pair-born, was_born-lives}
-use Rattle.tcap_laws.proofs.Births.BornLemmas.{IsBornNext}
+use Rattle.tcap_laws.proofs.Births.DrawnDialogues.{listed-was_born, pair-born, was_born-lives}
+use Rattle.tcap_laws.proofs.Births.BirthReplies.{IsBornNext}
 
 -- ---- fewer pass a stricter test
 

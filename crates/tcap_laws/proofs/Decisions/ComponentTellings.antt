@@ -12,7 +12,7 @@ use Rattle.tcap_component.specs.Problem.{ProblemParts}
 use Rattle.tcap_invocation.specs.declared.class.Class.{Class}
 use Rattle.tcap_invocation.specs.declared.class.Class.TheVariants.{One, Two, Three, Four}
 use Rattle.tcap_invocation.specs.Class.{Received, class_rule}
-use Rattle.tcap_laws.proofs.Spans.BornDialogues.{noted_at_clock}
+use Rattle.tcap_laws.proofs.Spans.MarksAfterBirth.{noted_at_clock}
 use Rattle.tcap_laws.proofs.Decisions.ToldOutputs.{told, IsOther, handled_other}
 use Rattle.tcap_model.specs.Invocations.Closes.{closing_of, closing_by}
 use Rattle.tcap_model.specs.Invocations.Closings.{Told, told_by_output}

@@ -4,7 +4,7 @@ use Rattle.std.specs.Prelude.{find, is_some, option_map, option_to_list}
 use Rattle.std.specs.Option.{option_or}
 use Rattle.tcap_component.specs.ComponentReading.{components_of}
 use Rattle.tcap_invocation.specs.declared.class.Class.{Class}
-use Rattle.tcap_laws.proofs.Spans.BornDialogues.{was_alive, noted_at_clock}
+use Rattle.tcap_laws.proofs.Spans.MarksAfterBirth.{was_alive, noted_at_clock}
 use Rattle.tcap_laws.proofs.Decisions.ComponentTellings.{noted-append}
 use Rattle.tcap_laws.proofs.Decisions.DecidedHistories.{closings_are}
 use Rattle.tcap_laws.proofs.Spans.DecisionSteps.{closing_after-append, first_closing-append, made_found, outcome_stays, closing_of_decision, invocation_stays}
@@ -20,7 +20,7 @@ use Rattle.tcap_model.specs.Invocations.Closings.{Told, closings}
 use Rattle.tcap_model.specs.Invocations.Deadline.{deadline}
 use Rattle.tcap_model.specs.Invocations.Decision.{decision, as_list}
 use Rattle.tcap_model.specs.Words.Event.{Event}
-use Rattle.tcap_model.specs.Statements.HeadlineLaws.{Counted}
+use Rattle.tcap_model.specs.Statements.Headline.{Counted}
 use Rattle.tcap_model.specs.Histories.History.{History, Start}
 use Rattle.tcap_model.specs.Invocations.Invocation.{Invocation, invoked_by, invoked_of, invoked_under, invocation_of}
 use Rattle.tcap_model.specs.Replies.Legal.{AreReplies}

@@ -5,7 +5,7 @@ use Rattle.tcap_laws.proofs.Decisions.DecidedHistories.{closings_are}
 use Rattle.tcap_laws.proofs.Spans.DecisionSteps.{closing_of_decision, decision_place}
 use Rattle.tcap_model.specs.Invocations.Closings.{Told, closings}
 use Rattle.tcap_model.specs.Invocations.Decision.{decision, as_list}
-use Rattle.tcap_model.specs.Statements.HeadlineLaws.{told_closing, closing_due}
+use Rattle.tcap_model.specs.Statements.Headline.{told_closing, closing_due}
 use Rattle.tcap_model.specs.Histories.History.{Start}
 use Rattle.tcap_model.specs.Invocations.Invocation.{Invocation, invocation_of}
 use Rattle.tcap_model.specs.Replies.Legal.{AreReplies}

@@ -3,8 +3,8 @@ use Rattle.std.proofs.Common.{◌≡◌, ℕ, ℤ, ◌+◌, ◌<◌, ◌≤◌, 
 use Rattle.std.proofs.lemmas.Bool.Decides.{nat_tests}
 use Rattle.std.specs.Prelude.{is_none, is_some, option_map}
 use Rattle.std.specs.Option.{option_or}
-use Rattle.tcap_laws.proofs.Births.BirthLemmas.{beyond-unborn, unborn-life}
-use Rattle.tcap_laws.proofs.Spans.BornDialogues.{was_alive, noted_at_clock, no_marks, span_unborn}
+use Rattle.tcap_laws.proofs.Births.DrawnDialogues.{beyond-unborn, unborn-life}
+use Rattle.tcap_laws.proofs.Spans.MarksAfterBirth.{was_alive, noted_at_clock, no_marks, span_unborn}
 use Rattle.tcap_laws.proofs.Decisions.ComponentTellings.{unless}
 use Rattle.tcap_laws.proofs.Spans.EventMarks.{unnamed_marks, standing_marks, over_marks, unborn_marks}
 use Rattle.tcap_laws.proofs.Decisions.OpenNumbers.{wanted, nothing_wanted, ended_only, quiet_elsewhere, message_here}

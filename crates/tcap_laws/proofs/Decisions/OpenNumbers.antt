@@ -5,7 +5,7 @@ use Rattle.std.proofs.lemmas.List.{append-nil}
 use Rattle.std.specs.Prelude.{is_none}
 use Rattle.std.specs.Ordering.{int_eq}
 use Rattle.tcap_component.specs.ComponentReading.{components_of}
-use Rattle.tcap_laws.proofs.Spans.BornDialogues.{noted_at_clock}
+use Rattle.tcap_laws.proofs.Spans.MarksAfterBirth.{noted_at_clock}
 use Rattle.tcap_laws.proofs.Decisions.ComponentTellings.{unless, unless_nothing, noted-append}
 use Rattle.tcap_laws.proofs.Spans.DecisionSteps.{closing_after-append, first_closing-append}
 use Rattle.tcap_laws.proofs.Decisions.QuietDialogues.{IsQuiet}

@@ -4,7 +4,7 @@ use Rattle.std.proofs.lemmas.Bool.Decides.{nat_tests, Decides-int_eq}
 use Rattle.std.specs.Prelude.{find, is_none, option_to_list}
 use Rattle.std.specs.Option.{option_or}
 use Rattle.std.specs.Ordering.{int_eq}
-use Rattle.tcap_laws.proofs.Spans.BornDialogues.{was_alive, stays_alive, noted_at_clock}
+use Rattle.tcap_laws.proofs.Spans.MarksAfterBirth.{was_alive, stays_alive, noted_at_clock}
 use Rattle.tcap_laws.proofs.Decisions.ComponentTellings.{unless}
 use Rattle.tcap_laws.proofs.Spans.DrawnInvocations.{Draws, draws, invocation_step}
 use Rattle.tcap_laws.proofs.Spans.EventMarks.{unnamed_marks, standing_marks, over_marks, unborn_marks}

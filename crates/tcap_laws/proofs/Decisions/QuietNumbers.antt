@@ -3,7 +3,7 @@ use Rattle.std.proofs.Common.{◌≡◌, ℕ, ℤ, ◌==◌, Bool, true, false, 
 use Rattle.std.proofs.lemmas.Bool.Decides.{nat_tests}
 use Rattle.std.specs.Prelude.{is_none, is_some}
 use Rattle.std.specs.Option.{option_or}
-use Rattle.tcap_laws.proofs.Spans.BornDialogues.{noted_at_clock}
+use Rattle.tcap_laws.proofs.Spans.MarksAfterBirth.{noted_at_clock}
 use Rattle.tcap_laws.proofs.Spans.DecisionSteps.{first_closing-append}
 use Rattle.tcap_laws.proofs.Spans.LatestInvocations.{IsLatest, latest_is}
 use Rattle.tcap_laws.proofs.Decisions.QuietDialogues.{IsQuiet, taken_quiet, request_quiet}

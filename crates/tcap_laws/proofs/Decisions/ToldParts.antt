@@ -12,7 +12,7 @@ use Rattle.tcap_component.specs.Problem.{ProblemParts}
 use Rattle.tcap_invocation.specs.declared.class.Class.{Class}
 use Rattle.tcap_invocation.specs.declared.class.Class.TheVariants.{One, Two, Three, Four}
 use Rattle.tcap_invocation.specs.Class.{Received, class_rule}
-use Rattle.tcap_laws.proofs.Spans.BornDialogues.{noted_at_clock}
+use Rattle.tcap_laws.proofs.Spans.MarksAfterBirth.{noted_at_clock}
 use Rattle.tcap_laws.proofs.Spans.DecisionSteps.{closing_after-append, first_closing-append, number_found}
 use Rattle.tcap_laws.proofs.Spans.LatestInvocations.{IsLatest, latest_is}
 use Rattle.tcap_laws.proofs.Decisions.ComponentTellings.{EndsAtFault, AreGood, ends_at_fault, good_more, marks-append, noted-append, unless, unless_nothing, RejectTells, general_class, invoke_class, last_here, more_here, error_here, reject_here}

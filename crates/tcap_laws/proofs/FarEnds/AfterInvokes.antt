@@ -22,7 +22,7 @@ use Rattle.tcap_model.specs.Words.Request.{Request}
 use Rattle.tcap_model.specs.Statements.TwoEnds.{Happens, peer_in, IsAnswer, IsFarRequest, UsesOnce, AnswersInvoke, AnswersWhatItWasTold, WasInvoked, WasOpened, WasSent, AfterInvoke, EachIsTwoEnded}
 use Rattle.tcap_laws.proofs.Peers.CarriedComponents.{Carried, stands-before}
 use Rattle.tcap_laws.proofs.Spans.DrawnInvocations.{invocation_step}
-use Rattle.tcap_laws.proofs.FarEnds.EndLemmas.{once}
+use Rattle.tcap_laws.proofs.FarEnds.ClosedOnce.{once}
 use Rattle.tcap_laws.proofs.FarEnds.FarInvokes.{IsIn, in-in, invoke-told, invoke-from}
 use Rattle.tcap_laws.proofs.FarEnds.FarOrigins.{answer-indicates, origin}
 use Rattle.tcap_laws.proofs.Peers.HeardPeers.{IsPeered}
@@ -32,7 +32,7 @@ use Rattle.tcap_laws.proofs.Peers.OwnDialogues.{opened-never, opened-short}
 use Rattle.tcap_laws.proofs.FarEnds.PlacedReplies.{reply-placed}
 use Rattle.tcap_laws.proofs.FarEnds.PlacedTellings.{IsOf, RejectsInvoke, Placed}
 use Rattle.tcap_laws.proofs.FarEnds.SentInvokes.{HasSource, stands-for-invoke, source, invoke-sent, sent-later, operations}
-use Rattle.tcap_laws.proofs.Receptions.ToldFrom.{legal-before, told-from}
+use Rattle.tcap_laws.proofs.Receptions.ToldFromOctets.{legal-before, told-from}
 use Rattle.tcap_laws.proofs.FarEnds.WaitingInvokes.{invocation_as}
 
 -- ---- the pair that made an invocation

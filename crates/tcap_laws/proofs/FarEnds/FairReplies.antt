@@ -29,9 +29,9 @@ use Rattle.tcap_model.specs.Words.State.{State}
 use Rattle.tcap_laws.proofs.Peers.CarriedComponents.{one-of}
 use Rattle.tcap_laws.proofs.FarEnds.FairTellings.{IsNamedBy, Fair, AllFair, components-fair, reached-there, uni-fair, next-reached}
 use Rattle.tcap_laws.proofs.Receptions.NamedReceptions.{IsNamed, reception-named}
-use Rattle.tcap_laws.proofs.Receptions.SendingLemmas.{Sends}
+use Rattle.tcap_laws.proofs.Receptions.ProviderAborts.{Sends}
 use Rattle.tcap_laws.proofs.Receptions.SoundReceptions.{IfSends, IsSound, reception-sound}
-use Rattle.tcap_laws.proofs.Receptions.ToldLemmas.{each-append}
+use Rattle.tcap_laws.proofs.Receptions.ToldOutputKinds.{each-append}
 
 -- ---- what is told besides components
 

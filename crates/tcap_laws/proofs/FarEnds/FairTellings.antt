@@ -24,8 +24,8 @@ use Rattle.tcap_model.specs.Histories.Names.{names}
 use Rattle.tcap_model.specs.Words.Output.{Output, Closing, Rejector}
 use Rattle.tcap_model.specs.Histories.Pair.{Past}
 use Rattle.tcap_model.specs.Replies.Queue.{if_sent, sent_there, handled_after, handled_in}
-use Rattle.tcap_laws.proofs.Births.BirthLemmas.{beyond-unborn, unborn-life}
-use Rattle.tcap_laws.proofs.Spans.BornDialogues.{was_alive, stays_alive}
+use Rattle.tcap_laws.proofs.Births.DrawnDialogues.{beyond-unborn, unborn-life}
+use Rattle.tcap_laws.proofs.Spans.MarksAfterBirth.{was_alive, stays_alive}
 use Rattle.tcap_laws.proofs.Spans.DrawnInvocations.{draws}
 use Rattle.tcap_laws.proofs.Queues.FormedRejects.{IsSentOf, sent_there-of}
 use Rattle.tcap_laws.proofs.Spans.LatestInvocations.{id_of}

@@ -35,7 +35,7 @@ use Rattle.tcap_laws.proofs.Peers.NetPlaces.{happens-rest, happens-stands, IsAt,
 use Rattle.tcap_laws.proofs.Peers.OpenedApart.{NeverBegun, net-before, never-peers, own-name, continue-names}
 use Rattle.tcap_laws.proofs.Peers.OwnDialogues.{IsBegun, birth-begun, never-begun}
 use Rattle.tcap_laws.proofs.FarEnds.PlacedReplies.{reply-placed}
-use Rattle.tcap_laws.proofs.Receptions.ToldFrom.{legal-before}
+use Rattle.tcap_laws.proofs.Receptions.ToldFromOctets.{legal-before}
 
 -- ---- parts of a history
 

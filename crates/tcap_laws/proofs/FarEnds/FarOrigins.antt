@@ -36,7 +36,7 @@ use Rattle.tcap_laws.proofs.Receptions.NamedReceptions.{that-is}
 use Rattle.tcap_laws.proofs.Peers.NetPlaces.{happens-stands, stands-happens}
 use Rattle.tcap_laws.proofs.Queues.QueuedComponents.{accepted-parts}
 use Rattle.tcap_laws.proofs.Queues.SentComponents.{sent-from}
-use Rattle.tcap_laws.proofs.Receptions.ToldFrom.{legal-before}
+use Rattle.tcap_laws.proofs.Receptions.ToldFromOctets.{legal-before}
 use Rattle.tcap_laws.proofs.FarEnds.WaitingInvokes.{IsNoInvoke}
 
 -- ---- answers, their components and their requests

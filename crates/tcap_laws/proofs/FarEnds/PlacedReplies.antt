@@ -31,9 +31,9 @@ use Rattle.tcap_laws.proofs.Peers.CarriedComponents.{one-of}
 use Rattle.tcap_laws.proofs.FarEnds.FairTellings.{IsNamedBy}
 use Rattle.tcap_laws.proofs.Receptions.NamedReceptions.{IsNamed, reception-named}
 use Rattle.tcap_laws.proofs.FarEnds.PlacedTellings.{Placed, AllPlaced, components-placed, uni-placed}
-use Rattle.tcap_laws.proofs.Receptions.SendingLemmas.{Sends}
+use Rattle.tcap_laws.proofs.Receptions.ProviderAborts.{Sends}
 use Rattle.tcap_laws.proofs.Receptions.SoundReceptions.{IfSends, IsSound, reception-sound}
-use Rattle.tcap_laws.proofs.Receptions.ToldLemmas.{each-append}
+use Rattle.tcap_laws.proofs.Receptions.ToldOutputKinds.{each-append}
 
 -- ---- what is told besides components
 

@@ -30,7 +30,7 @@ use Rattle.tcap_model.specs.Words.Request.{Request}
 use Rattle.tcap_model.specs.Invocations.Reuse.{is_reused}
 use Rattle.tcap_model.specs.Invocations.Span.{is_invoked, span}
 use Rattle.tcap_model.specs.Statements.TwoEnds.{Happens, WasSent, WasAsked, Operations}
-use Rattle.tcap_laws.proofs.Spans.BornDialogues.{noted_at_clock}
+use Rattle.tcap_laws.proofs.Spans.MarksAfterBirth.{noted_at_clock}
 use Rattle.tcap_laws.proofs.Peers.CarriedComponents.{Carried, carried, one-of, stands-before}
 use Rattle.tcap_laws.proofs.Spans.DecisionSteps.{made_found, invocation_stays}
 use Rattle.tcap_laws.proofs.Spans.EventMarks.{standing_marks}

@@ -27,7 +27,7 @@ use Rattle.tcap_model.specs.Words.Request.{Request}
 use Rattle.tcap_model.specs.Invocations.Reuse.{is_reused}
 use Rattle.tcap_model.specs.Invocations.Span.{span}
 use Rattle.tcap_model.specs.Words.State.{State, is_live}
-use Rattle.tcap_laws.proofs.Spans.BornDialogues.{noted_at_clock}
+use Rattle.tcap_laws.proofs.Spans.MarksAfterBirth.{noted_at_clock}
 use Rattle.tcap_laws.proofs.Spans.DecisionSteps.{made_found, invocation_stays}
 use Rattle.tcap_laws.proofs.Queues.FormedRejects.{IsFormed, HasFormed, handled_in-formed, reject-can}
 use Rattle.tcap_laws.proofs.Queues.KeptQueues.{queue_each-each}

@@ -35,7 +35,7 @@ use Rattle.tcap_laws.proofs.Spans.QueuedMarks.{IsUnsent, IsStanding, SparesAt, S
 use Rattle.tcap_laws.proofs.Queues.RequestedComponents.{IfGood}
 use Rattle.tcap_laws.proofs.Spans.SpanSteps.{span_new}
 use Rattle.tcap_laws.proofs.Spans.SupersededInvocations.{latest_if_open}
-use Rattle.tcap_laws.proofs.Receptions.ToldLemmas.{each-append}
+use Rattle.tcap_laws.proofs.Receptions.ToldOutputKinds.{each-append}
 use Rattle.tcap_laws.proofs.FarEnds.WaitingInvokes.{invocation_as, IsAsked, IsNoInvoke, Waits, IsWaiting, AllWait, born-waits, bytes-wait, IsLeft, asked-later, all-later}
 
 -- ---- events

@@ -29,7 +29,7 @@ use Rattle.tcap_model.specs.Replies.Reply.{reply}
 use Rattle.tcap_model.specs.Words.Request.{Request}
 use Rattle.tcap_model.specs.Words.State.{State, peer_of, activated, is_live}
 use Rattle.tcap_model.specs.Procedures.States.{is_fresh}
-use Rattle.tcap_laws.proofs.Receptions.DueLemmas.{first_that-none}
+use Rattle.tcap_laws.proofs.Receptions.NothingDue.{first_that-none}
 use Rattle.tcap_laws.proofs.Queues.QueuedComponents.{accepted-parts}
 
 -- ---- the peer stays

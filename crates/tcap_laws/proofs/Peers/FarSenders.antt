@@ -24,12 +24,12 @@ use Rattle.tcap_model.specs.Procedures.Standing.{Standing}
 use Rattle.tcap_model.specs.Words.State.{State, peer_of}
 use Rattle.tcap_model.specs.Words.Time.{moment_fault}
 use Rattle.tcap_model.specs.Statements.TwoEnds.{Happens}
-use Rattle.tcap_laws.proofs.Births.BirthLemmas.{beyond-unborn, unborn-life, dialogues-below}
+use Rattle.tcap_laws.proofs.Births.DrawnDialogues.{beyond-unborn, unborn-life, dialogues-below}
 use Rattle.tcap_laws.proofs.Peers.CarriedComponents.{legal-there}
 use Rattle.tcap_laws.proofs.Peers.NetPlaces.{carried-there, SentBy, bytes_sent}
-use Rattle.tcap_laws.proofs.Receptions.SentLemmas.{Nothing, tells-sends, birth-sends, moment-sends, sent_for_bytes, sent_for_request}
-use Rattle.tcap_laws.proofs.Births.StartLemmas.{start_dialogue-within}
-use Rattle.tcap_laws.proofs.Receptions.ToldFrom.{legal-before}
+use Rattle.tcap_laws.proofs.Receptions.SentMessages.{Nothing, tells-sends, birth-sends, moment-sends, sent_for_bytes, sent_for_request}
+use Rattle.tcap_laws.proofs.Births.StartCounters.{start_dialogue-within}
+use Rattle.tcap_laws.proofs.Receptions.ToldFromOctets.{legal-before}
 
 -- ---- which message a request sends
 

@@ -17,14 +17,14 @@ use Rattle.tcap_model.specs.Histories.Pair.{Pair, Past}
 use Rattle.tcap_model.specs.Statements.Places.{StandsIn}
 use Rattle.tcap_model.specs.Words.State.{State, peer_of}
 use Rattle.tcap_model.specs.Statements.TwoEnds.{WasOpened}
-use Rattle.tcap_laws.proofs.Births.BirthLemmas.{pair-born, beyond-unborn, unborn-life}
-use Rattle.tcap_laws.proofs.Births.BornLemmas.{IsBornNext, IsBirth}
+use Rattle.tcap_laws.proofs.Births.DrawnDialogues.{pair-born, beyond-unborn, unborn-life}
+use Rattle.tcap_laws.proofs.Births.BirthReplies.{IsBornNext, IsBirth}
 use Rattle.tcap_laws.proofs.Peers.FarPeers.{HasPeer, peer-stays}
 use Rattle.tcap_laws.proofs.Peers.FarSenders.{born-short}
-use Rattle.tcap_laws.proofs.Births.LifeLemmas.{born-stays}
+use Rattle.tcap_laws.proofs.Births.Lives.{born-stays}
 use Rattle.tcap_laws.proofs.Receptions.NamedReceptions.{that-is}
 use Rattle.tcap_laws.proofs.Peers.OpenedApart.{NeverBegun}
-use Rattle.tcap_laws.proofs.Receptions.ToldFrom.{legal-before}
+use Rattle.tcap_laws.proofs.Receptions.ToldFromOctets.{legal-before}
 
 -- ---- a birth
 

@@ -30,7 +30,7 @@ use Rattle.tcap_model.specs.Words.Request.{Request, Ending}
 use Rattle.tcap_model.specs.Procedures.RequestMessage.{message_of}
 use Rattle.tcap_model.specs.Words.State.{State, is_live}
 use Rattle.tcap_laws.proofs.Receptions.AcceptedRequests.{IsAccepted, accepted-request}
-use Rattle.tcap_laws.proofs.Receptions.DueLemmas.{first_that-none}
+use Rattle.tcap_laws.proofs.Receptions.NothingDue.{first_that-none}
 
 -- a queue within a limit
 abbrev IsWithin : ℕ → List Queued → Type 0

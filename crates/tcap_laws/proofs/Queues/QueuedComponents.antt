@@ -25,7 +25,7 @@ use Rattle.tcap_model.specs.Words.State.{State}
 use Rattle.tcap_laws.proofs.Queues.KeptQueues.{IsKept, AllKept, kept-later, without-each}
 use Rattle.tcap_laws.proofs.Queues.ReceivedQueues.{born-queue, named-queue}
 use Rattle.tcap_laws.proofs.Queues.RequestedComponents.{IfGood, request-good}
-use Rattle.tcap_laws.proofs.Receptions.ToldLemmas.{each-append}
+use Rattle.tcap_laws.proofs.Receptions.ToldOutputKinds.{each-append}
 
 -- ---- requests
 

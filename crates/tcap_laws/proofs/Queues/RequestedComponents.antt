@@ -16,7 +16,7 @@ use Rattle.tcap_model.specs.Procedures.Refusals.{Situation, can_name, can_code, 
 use Rattle.tcap_model.specs.Words.Request.{Request}
 use Rattle.tcap_model.specs.Procedures.RequestMessage.{message_of}
 use Rattle.tcap_pdu.specs.DialoguePartsReading.{is_information}
-use Rattle.tcap_laws.proofs.Receptions.DueLemmas.{first_that-none}
+use Rattle.tcap_laws.proofs.Receptions.NothingDue.{first_that-none}
 
 flip : (b : Bool) → not b ≡ false → b ≡ true
 flip true e = refl

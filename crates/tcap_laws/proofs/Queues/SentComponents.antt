@@ -27,8 +27,8 @@ use Rattle.tcap_model.specs.Words.State.{State}
 use Rattle.tcap_model.specs.Words.Time.{moment_fault}
 use Rattle.tcap_laws.proofs.Queues.KeptQueues.{AllKept}
 use Rattle.tcap_laws.proofs.Queues.QueuedComponents.{queue-kept}
-use Rattle.tcap_laws.proofs.Receptions.SentLemmas.{Nothing, tells-sends, birth-sends, moment-sends, sent_for_bytes, sent_for_request}
-use Rattle.tcap_laws.proofs.Receptions.ToldFrom.{legal-before}
+use Rattle.tcap_laws.proofs.Receptions.SentMessages.{Nothing, tells-sends, birth-sends, moment-sends, sent_for_bytes, sent_for_request}
+use Rattle.tcap_laws.proofs.Receptions.ToldFromOctets.{legal-before}
 
 -- ---- the octets of a queue are its components
 

@@ -18,7 +18,7 @@ use Rattle.tcap_model.specs.Procedures.Refusals.{due_on, faults_of, holds}
 use Rattle.tcap_model.specs.Replies.Reply.{reply, request_answer}
 use Rattle.tcap_model.specs.Words.Request.{Request}
 use Rattle.tcap_model.specs.Words.State.{State}
-use Rattle.tcap_laws.proofs.Receptions.DueLemmas.{first_that-none}
+use Rattle.tcap_laws.proofs.Receptions.NothingDue.{first_that-none}
 
 -- ---- accepted
 

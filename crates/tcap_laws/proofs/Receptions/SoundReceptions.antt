@@ -19,7 +19,7 @@ use Rattle.tcap_model.specs.Histories.Life.{begin_context}
 use Rattle.tcap_model.specs.Words.Output.{Output}
 use Rattle.tcap_model.specs.Procedures.PortionRules.{BeginVerdict, begin_verdict, begin_verdict_by, PortionVerdict, uni_verdict}
 use Rattle.tcap_model.specs.Procedures.Reception.{Reception, addressed, addressed_if_any, uni_by, begin_by, continue_by, last_by, message_by, fault_abort, aborted_or_dropped, faulty_continue, faulty_last, fault_by, faulty, reading_by, reception}
-use Rattle.tcap_laws.proofs.Receptions.SendingLemmas.{Sends, cause-sends, abnormal-sends, version-sends}
+use Rattle.tcap_laws.proofs.Receptions.ProviderAborts.{Sends, cause-sends, abnormal-sends, version-sends}
 
 -- an Abort that goes out, if one does, can be sent
 abbrev pub IfSends : Option Output → Type 0

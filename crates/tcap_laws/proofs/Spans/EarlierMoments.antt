@@ -25,7 +25,7 @@ use Rattle.tcap_model.specs.Histories.Pair.{Past}
 use Rattle.tcap_model.specs.Invocations.Reuse.{is_reused}
 use Rattle.tcap_model.specs.Invocations.Span.{is_invoked, span}
 use Rattle.std.proofs.Math.Seq.{take-append_seam}
-use Rattle.tcap_laws.proofs.Spans.BornDialogues.{was_alive, no_marks}
+use Rattle.tcap_laws.proofs.Spans.MarksAfterBirth.{was_alive, no_marks}
 use Rattle.tcap_laws.proofs.Spans.SentClocks.{sent_clock-append, at_moment, moment_marks, clock_within}
 
 -- ---- a moment below the clock

@@ -1,6 +1,6 @@
 -- The marks of an event, by the life of the dialogue before it.
 use Rattle.std.proofs.Common.{◌≡◌, ℕ, ℤ, true, false, List, [], Option, refl, ap, ◌∙◌}
-use Rattle.tcap_laws.proofs.Spans.BornDialogues.{noted_at_clock}
+use Rattle.tcap_laws.proofs.Spans.MarksAfterBirth.{noted_at_clock}
 use Rattle.tcap_model.specs.Words.Answer.{Answer, is_accepted}
 use Rattle.tcap_model.specs.Histories.Clock.{clock}
 use Rattle.tcap_model.specs.Words.Event.{Event}

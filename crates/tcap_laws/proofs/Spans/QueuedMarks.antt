@@ -23,10 +23,10 @@ use Rattle.tcap_model.specs.Invocations.Outcome.{first_closing}
 use Rattle.tcap_model.specs.Procedures.PortionRules.{PortionVerdict, portion_verdict}
 use Rattle.tcap_model.specs.Words.Request.{Request}
 use Rattle.tcap_model.specs.Words.State.{State, is_live}
-use Rattle.tcap_laws.proofs.Spans.BornDialogues.{noted_at_clock}
+use Rattle.tcap_laws.proofs.Spans.MarksAfterBirth.{noted_at_clock}
 use Rattle.tcap_laws.proofs.Spans.DecisionSteps.{first_closing-append}
 use Rattle.tcap_laws.proofs.Spans.SentClocks.{sent_clock-append}
-use Rattle.tcap_laws.proofs.Receptions.ToldLemmas.{each-append}
+use Rattle.tcap_laws.proofs.Receptions.ToldOutputKinds.{each-append}
 
 abbrev pub LeavesQueued : Mark → Type 0
 LeavesQueued Mark.sent = ⊥

@@ -20,7 +20,7 @@ use Rattle.tcap_model.specs.Words.Output.{Closing}
 use Rattle.tcap_model.specs.Histories.Pair.{Pair, Past}
 use Rattle.tcap_model.specs.Invocations.Reuse.{is_reused}
 use Rattle.tcap_model.specs.Invocations.Span.{is_invoked, span}
-use Rattle.tcap_laws.proofs.Spans.BornDialogues.{was_alive, noted_at_clock, no_marks, span_unborn}
+use Rattle.tcap_laws.proofs.Spans.MarksAfterBirth.{was_alive, noted_at_clock, no_marks, span_unborn}
 
 -- ---- the clock at the Sent mark
 

@@ -19,8 +19,8 @@ use Rattle.tcap_model.specs.Replies.Legal.{AreReplies}
 use Rattle.tcap_model.specs.Histories.Pair.{Past}
 use Rattle.tcap_model.specs.Table.World.{stage_by, row_by, is_number, row_of, rows_of}
 use Rattle.tcap_laws.proofs.Receptions.AcceptedRequests.{made-identifier}
-use Rattle.tcap_laws.proofs.Rows.RowsApart.{rows_distinct}
-use Rattle.tcap_laws.proofs.Receptions.ToldLemmas.{each-append}
+use Rattle.tcap_laws.proofs.Rows.DistinctRows.{rows_distinct}
+use Rattle.tcap_laws.proofs.Receptions.ToldOutputKinds.{each-append}
 
 -- ---- identifiers as numbers below 256
 

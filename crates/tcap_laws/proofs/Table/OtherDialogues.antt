@@ -9,13 +9,13 @@ use Rattle.std.specs.Option.{option_or}
 use Rattle.std.specs.Ordering.{int_eq}
 use Rattle.tcap_invocation.specs.declared.stage.Stage.{Stage}
 use Rattle.tcap_invocation.specs.declared.stage.Stage.TheVariants.{Waiting}
-use Rattle.tcap_laws.proofs.Rows.EndingsAgree.{same_kept}
+use Rattle.tcap_laws.proofs.Rows.InvocationsLeft.{same_kept}
 use Rattle.tcap_laws.proofs.Spans.EventMarks.{unnamed_marks}
-use Rattle.tcap_laws.proofs.Table.MovedDialogues.{by_life}
-use Rattle.tcap_laws.proofs.Rows.MovedRows.{rows_kept}
-use Rattle.tcap_laws.proofs.Table.RequestsAgree.{standing_dialogue}
-use Rattle.tcap_laws.proofs.Rows.RowSteps.{stage_more, stage_is, stage_then, stage_unless}
-use Rattle.tcap_laws.proofs.Rows.StageSteps.{marked_stage}
+use Rattle.tcap_laws.proofs.Table.MessagesMovedAlike.{by_life}
+use Rattle.tcap_laws.proofs.Rows.RowsAfterPairs.{rows_kept}
+use Rattle.tcap_laws.proofs.Table.RequestsJudgedAlike.{standing_dialogue}
+use Rattle.tcap_laws.proofs.Rows.RowStages.{stage_more, stage_is, stage_then, stage_unless}
+use Rattle.tcap_laws.proofs.Rows.StagesByMarks.{marked_stage}
 use Rattle.tcap_laws.proofs.Table.StandingPairs.{life_unnamed, queue_unnamed, assembled}
 use Rattle.tcap_laws.proofs.Decisions.ToldInvocations.{IsFound, each_found}
 use Rattle.tcap_model.specs.Table.Agreement.{due_pair}

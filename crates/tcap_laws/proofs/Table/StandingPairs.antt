@@ -1,7 +1,7 @@
 -- What a dialogue that stands is after an event that names it.
 use Rattle.std.proofs.Common.{◌≡◌, ℕ, ◌+◌, ◌≤◌, Bool, true, false, cond, List, ◌∷◌, Option, Some, refl, ap, sym, ◌∙◌, arith}
 use Rattle.tcap_invocation.specs.Invocations.{Row}
-use Rattle.tcap_laws.proofs.Births.BirthLemmas.{dialogue-next, beyond-unborn, unborn-life}
+use Rattle.tcap_laws.proofs.Births.DrawnDialogues.{dialogue-next, beyond-unborn, unborn-life}
 use Rattle.tcap_laws.proofs.Receptions.NamedReceptions.{that-is}
 use Rattle.tcap_model.specs.Table.Agreement.{due_pair}
 use Rattle.tcap_model.specs.Words.Answer.{is_accepted}

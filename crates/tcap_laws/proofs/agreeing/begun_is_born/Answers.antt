@@ -1,4 +1,4 @@
-use Rattle.tcap_laws.proofs.Table.BegunDialogues.{begun-answered, begun-born}
+use Rattle.tcap_laws.proofs.Table.BegunAlike.{begun-answered, begun-born}
 use Rattle.tcap_laws.proofs.agreeing.begun_is_born.Goals as goal
 
 pub returns-clause-answer : goal.returns-clause-answer

@@ -1,5 +1,5 @@
-use Rattle.tcap_laws.proofs.Table.RequestsMoved.{request-moves}
-use Rattle.tcap_laws.proofs.Table.MovedDialogues as moved
+use Rattle.tcap_laws.proofs.Table.RequestsMovedAlike.{request-moves}
+use Rattle.tcap_laws.proofs.Table.MessagesMovedAlike as moved
 use Rattle.tcap_laws.proofs.agreeing.dialogues_moved_alike.Goals as goal
 
 pub returns-clause-requested : goal.returns-clause-requested

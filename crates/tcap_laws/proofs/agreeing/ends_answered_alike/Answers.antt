@@ -1,4 +1,4 @@
-use Rattle.tcap_laws.proofs.Table.EndsAnswered.{end-answered}
+use Rattle.tcap_laws.proofs.Table.EndMessagesAlike.{end-answered}
 use Rattle.tcap_laws.proofs.agreeing.ends_answered_alike.Goals as goal
 
 pub returns : goal.returns

@@ -1,4 +1,4 @@
-use Rattle.tcap_laws.proofs.Rows.BornRows.{fresh-born}
+use Rattle.tcap_laws.proofs.Rows.NoRowsAtBirth.{fresh-born}
 use Rattle.tcap_laws.proofs.agreeing.fresh_is_born.Goals as goal
 
 pub returns : goal.returns

@@ -1,4 +1,4 @@
-use Rattle.tcap_laws.proofs.Isolation.OnlyBytes.{alone-bytes}
+use Rattle.tcap_laws.proofs.Isolation.SeenBytes.{alone-bytes}
 use Rattle.tcap_laws.proofs.alone.only_tells_bytes.Goals as goal
 
 pub returns : goal.returns

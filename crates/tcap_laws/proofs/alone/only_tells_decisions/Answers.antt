@@ -1,5 +1,5 @@
-use Rattle.tcap_laws.proofs.Isolation.OnlyDecisions.{only_decision, only_held, only_pending}
-use Rattle.tcap_laws.proofs.Isolation.OnlyInvocations.{found_own}
+use Rattle.tcap_laws.proofs.Isolation.SeenDecisions.{only_decision, only_held, only_pending}
+use Rattle.tcap_laws.proofs.Isolation.SeenInvocations.{found_own}
 use Rattle.tcap_laws.proofs.alone.only_tells_decisions.Goals as goal
 
 pub returns-clause-decision : goal.returns-clause-decision

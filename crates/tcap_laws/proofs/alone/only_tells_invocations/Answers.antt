@@ -1,4 +1,4 @@
-use Rattle.tcap_laws.proofs.Isolation.OnlyInvocations.{only_invocations, only_latest, found_only, found_own, found_span, found_deadline, only_outcome}
+use Rattle.tcap_laws.proofs.Isolation.SeenInvocations.{only_invocations, only_latest, found_only, found_own, found_span, found_deadline, only_outcome}
 use Rattle.tcap_laws.proofs.alone.only_tells_invocations.Goals as goal
 
 pub returns-clause-all : goal.returns-clause-all

@@ -1,4 +1,4 @@
-use Rattle.tcap_laws.proofs.Isolation.OnlyLives.{only_clock, only_born, only_life, unseen, unseen_marks, seen_marks}
+use Rattle.tcap_laws.proofs.Isolation.SeenLives.{only_clock, only_born, only_life, unseen, unseen_marks, seen_marks}
 use Rattle.tcap_laws.proofs.alone.only_tells_life.Goals as goal
 
 pub returns-clause-clock : goal.returns-clause-clock

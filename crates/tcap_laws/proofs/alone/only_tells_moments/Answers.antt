@@ -1,4 +1,4 @@
-use Rattle.tcap_laws.proofs.Isolation.OnlyMoments.{only_lapses, alone-moment}
+use Rattle.tcap_laws.proofs.Isolation.SeenMoments.{only_lapses, alone-moment}
 use Rattle.tcap_laws.proofs.alone.only_tells_moments.Goals as goal
 
 pub returns-clause-lapses : goal.returns-clause-lapses

@@ -1,4 +1,4 @@
-use Rattle.tcap_laws.proofs.Isolation.OnlyQueues.{only_handled, only_queue}
+use Rattle.tcap_laws.proofs.Isolation.SeenQueues.{only_handled, only_queue}
 use Rattle.tcap_laws.proofs.alone.only_tells_queue.Goals as goal
 
 pub returns-clause-queue : goal.returns-clause-queue

@@ -1,4 +1,4 @@
-use Rattle.tcap_laws.proofs.Isolation.OnlyRequests.{only_ended, only_due, alone_request}
+use Rattle.tcap_laws.proofs.Isolation.SeenRequests.{only_ended, only_due, alone_request}
 use Rattle.tcap_laws.proofs.alone.only_tells_requests.Goals as goal
 
 pub returns-clause-ended : goal.returns-clause-ended

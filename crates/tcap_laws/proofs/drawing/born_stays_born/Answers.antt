@@ -1,4 +1,4 @@
-use Rattle.tcap_laws.proofs.Births.LifeLemmas.{born-stays}
+use Rattle.tcap_laws.proofs.Births.Lives.{born-stays}
 use Rattle.tcap_laws.proofs.drawing.born_stays_born.Goals as goal
 
 pub returns : goal.returns

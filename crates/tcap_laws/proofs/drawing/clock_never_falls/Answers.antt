@@ -1,4 +1,4 @@
-use Rattle.tcap_laws.proofs.Births.ClockLemmas.{clock-step, clock-later}
+use Rattle.tcap_laws.proofs.Births.Clocks.{clock-step, clock-later}
 use Rattle.tcap_laws.proofs.drawing.clock_never_falls.Goals as goal
 
 pub returns-clause-step : goal.returns-clause-step

@@ -1,5 +1,5 @@
-use Rattle.tcap_laws.proofs.Births.BirthLemmas.{dialogue-next, dialogues-drawn, dialogues-rise, dialogues-below, was_born-listed, listed-was_born, was_born-lives, beyond-unborn}
-use Rattle.tcap_laws.proofs.Births.StartLemmas.{start_dialogue-within}
+use Rattle.tcap_laws.proofs.Births.DrawnDialogues.{dialogue-next, dialogues-drawn, dialogues-rise, dialogues-below, was_born-listed, listed-was_born, was_born-lives, beyond-unborn}
+use Rattle.tcap_laws.proofs.Births.StartCounters.{start_dialogue-within}
 use Rattle.tcap_laws.proofs.drawing.dialogue_is_born_once.Goals as goal
 
 pub returns-clause-next : goal.returns-clause-next

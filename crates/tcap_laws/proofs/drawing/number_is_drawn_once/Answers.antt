@@ -1,6 +1,6 @@
-use Rattle.tcap_laws.proofs.Births.NumberLemmas.{reply-numbered, number-next, numbers-drawn, numbers-rise, numbers-invocations}
-use Rattle.tcap_laws.proofs.Births.NumberedLemmas.{invocation_of-found, numbers-below}
-use Rattle.tcap_laws.proofs.Births.StartLemmas.{start_number-within}
+use Rattle.tcap_laws.proofs.Births.DrawnNumbers.{reply-numbered, number-next, numbers-drawn, numbers-rise, numbers-invocations}
+use Rattle.tcap_laws.proofs.Births.NumbersFound.{invocation_of-found, numbers-below}
+use Rattle.tcap_laws.proofs.Births.StartCounters.{start_number-within}
 use Rattle.tcap_laws.proofs.drawing.number_is_drawn_once.Goals as goal
 
 pub returns-clause-to_invoke : goal.returns-clause-to_invoke

@@ -1,4 +1,4 @@
-use Rattle.tcap_laws.proofs.Births.LifeLemmas.{over-step, over-later}
+use Rattle.tcap_laws.proofs.Births.Lives.{over-step, over-later}
 use Rattle.tcap_laws.proofs.drawing.over_stays_over.Goals as goal
 
 pub returns-clause-step : goal.returns-clause-step

@@ -1,4 +1,4 @@
-use Rattle.tcap_laws.proofs.FarEnds.EndLemmas.{once}
+use Rattle.tcap_laws.proofs.FarEnds.ClosedOnce.{once}
 use Rattle.tcap_laws.proofs.ends.once.Goals as goal
 
 pub returns : goal.returns

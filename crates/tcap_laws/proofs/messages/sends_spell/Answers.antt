@@ -1,4 +1,4 @@
-use Rattle.tcap_laws.proofs.Receptions.SentLemmas.{sent_message, sent_for_request, sent_for_bytes}
+use Rattle.tcap_laws.proofs.Receptions.SentMessages.{sent_message, sent_for_request, sent_for_bytes}
 use Rattle.tcap_laws.proofs.messages.sends_spell.Goals as goal
 
 pub returns-clause-message : goal.returns-clause-message

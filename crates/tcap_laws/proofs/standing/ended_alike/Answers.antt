@@ -1,4 +1,4 @@
-use Rattle.tcap_laws.proofs.Rows.EndingsAgree.{ended-agrees}
+use Rattle.tcap_laws.proofs.Rows.InvocationsLeft.{ended-agrees}
 use Rattle.tcap_laws.proofs.standing.ended_alike.Goals as goal
 
 pub returns : goal.returns

@@ -1,4 +1,4 @@
-use Rattle.tcap_laws.proofs.Table.EndsAgree.{fault-agrees, abort-agrees, continue-agrees, end-agrees}
+use Rattle.tcap_laws.proofs.Table.LastAnswersAlike.{fault-agrees, abort-agrees, continue-agrees, end-agrees}
 use Rattle.tcap_laws.proofs.standing.messages_told_alike.Goals as goal
 
 pub returns-clause-fault : goal.returns-clause-fault

@@ -1,4 +1,4 @@
-use Rattle.tcap_laws.proofs.Table.EndsAgree.{components-rejected}
+use Rattle.tcap_laws.proofs.Table.LastAnswersAlike.{components-rejected}
 use Rattle.tcap_laws.proofs.standing.rejects_alike.Goals as goal
 
 pub returns : goal.returns

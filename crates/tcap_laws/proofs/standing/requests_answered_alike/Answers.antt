@@ -1,5 +1,5 @@
-use Rattle.tcap_laws.proofs.Table.EndsAgree.{request-agrees}
-use Rattle.tcap_laws.proofs.Table.RequestsAgree.{answer-agrees}
+use Rattle.tcap_laws.proofs.Table.LastAnswersAlike.{request-agrees}
+use Rattle.tcap_laws.proofs.Table.RequestsJudgedAlike.{answer-agrees}
 use Rattle.tcap_laws.proofs.standing.requests_answered_alike.Goals as goal
 
 pub returns-clause-standing : goal.returns-clause-standing

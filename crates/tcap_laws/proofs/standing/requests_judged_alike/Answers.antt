@@ -1,4 +1,4 @@
-use Rattle.tcap_laws.proofs.Table.RequestsAgree.{situation-agrees, due-agrees, refused-agrees}
+use Rattle.tcap_laws.proofs.Table.RequestsJudgedAlike.{situation-agrees, due-agrees, refused-agrees}
 use Rattle.tcap_laws.proofs.standing.requests_judged_alike.Goals as goal
 
 pub returns-clause-situation : goal.returns-clause-situation

@@ -1,4 +1,4 @@
-use Rattle.tcap_laws.proofs.Rows.RowsAgree.{in_use-rows, pending-rows}
+use Rattle.tcap_laws.proofs.Rows.IdentifiersInRows.{in_use-rows, pending-rows}
 use Rattle.tcap_laws.proofs.standing.rows_agree.Goals as goal
 
 pub returns-clause-in_use : goal.returns-clause-in_use

@@ -1,4 +1,4 @@
-use Rattle.tcap_laws.proofs.Rows.RowsApart as apart
+use Rattle.tcap_laws.proofs.Rows.DistinctRows as apart
 use Rattle.tcap_laws.proofs.standing.rows_distinct.Goals as goal
 
 pub returns : goal.returns

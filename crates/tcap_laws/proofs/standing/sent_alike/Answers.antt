@@ -1,4 +1,4 @@
-use Rattle.tcap_laws.proofs.Rows.SentAgree.{sent-rows}
+use Rattle.tcap_laws.proofs.Rows.SentInRows.{sent-rows}
 use Rattle.tcap_laws.proofs.standing.sent_alike.Goals as goal
 
 pub returns : goal.returns
