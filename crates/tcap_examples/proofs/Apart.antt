@@ -4,7 +4,7 @@ use Rattle.std.specs.Prelude.{◌==◌, sum, sum_by}
 use Rattle.tcap_model.specs.Words.Answer.{Answer}
 use Rattle.tcap_model.specs.Invocations.Closings.{Told}
 use Rattle.tcap_model.specs.Words.Fault.{fault_number}
-use Rattle.tcap_model.specs.Words.Output.{Output, Closing}
+use Rattle.tcap_model.specs.Words.Output.{Output, Closing, ComponentIndication, DialogueIndication}
 
 -- Two numbers that the test tells apart aren't equal.
 differ : (m n : ℕ) → m ≡ n → (m == n) ≡ false → ⊥
@@ -26,17 +26,17 @@ closing_number Closing.given_up = 25
 -- A number for each output.
 abbrev pub output_number : Output → ℕ
 output_number (Output.send bytes) = 100 + sum bytes
-output_number (Output.uni context info) = 1
-output_number (Output.begin dialogue context info) = 2
-output_number (Output.go_on dialogue context info) = 3
-output_number (Output.end dialogue context info) = 4
-output_number (Output.u_abort dialogue pdu) = 5
-output_number (Output.p_abort dialogue why) = 6
-output_number (Output.invoked dialogue id linked code parameter) = 7
-output_number (Output.result_more dialogue number id body) = 8
-output_number (Output.local_reject dialogue id problem) = 9
-output_number (Output.remote_reject dialogue id problem by) = 10
-output_number (Output.closed dialogue number id closing) = closing_number closing
+output_number (Output.dialogue (DialogueIndication.uni context info)) = 1
+output_number (Output.dialogue (DialogueIndication.begin dialogue context info)) = 2
+output_number (Output.dialogue (DialogueIndication.go_on dialogue context info)) = 3
+output_number (Output.dialogue (DialogueIndication.end dialogue context info)) = 4
+output_number (Output.dialogue (DialogueIndication.u_abort dialogue pdu)) = 5
+output_number (Output.dialogue (DialogueIndication.p_abort dialogue why)) = 6
+output_number (Output.component (ComponentIndication.invoked dialogue id linked code parameter)) = 7
+output_number (Output.component (ComponentIndication.result_more dialogue number id body)) = 8
+output_number (Output.component (ComponentIndication.local_reject dialogue id problem)) = 9
+output_number (Output.component (ComponentIndication.remote_reject dialogue id problem by)) = 10
+output_number (Output.component (ComponentIndication.closed dialogue number id closing)) = closing_number closing
 output_number (Output.dropped why) = 11
 
 -- A number for an answer: where two have different ones, they aren't the same.

@@ -13,7 +13,7 @@ use Rattle.tcap_component.proofs.CallerLemmas.{first_fault_again, first_fault_is
 use Rattle.tcap_examples.proofs.PlaceLemmas.{Everywhere, at_place, outputs_of, told_there}
 use Rattle.tcap_model.specs.Statements.ComponentLaws.{portion_of, SentFromOne, SentFrom, ToldFromOne, ToldFrom, IsOfComponent}
 use Rattle.tcap_model.specs.Words.Event.{Event}
-use Rattle.tcap_model.specs.Words.Output.{Output, Closing, Rejector}
+use Rattle.tcap_model.specs.Words.Output.{Output, Closing, Rejector, ComponentIndication}
 use Rattle.tcap_model.specs.Histories.Pair.{Pair, Past}
 
 -- ---- components and the first fault
@@ -78,17 +78,8 @@ spelled_read bytes m n cs ds f g is listed spells first =
 abbrev pub SentSo : Event → Past → Output → Type 0
 SentSo event before (Output.send bytes) =
     (m : Message) × (cs : List ComponentParts) × (f : Option FaultParts) × (frame_at bytes ≡ Ok m) × (components_of (portion_of m) ≡ items cs f) × ((portion_of m ≡ []) ⊎ SentFromOne event before cs f)
-SentSo event before (Output.uni context info) = Unit {0}
-SentSo event before (Output.begin dialogue context info) = Unit {0}
-SentSo event before (Output.go_on dialogue context info) = Unit {0}
-SentSo event before (Output.end dialogue context info) = Unit {0}
-SentSo event before (Output.u_abort dialogue pdu) = Unit {0}
-SentSo event before (Output.p_abort dialogue why) = Unit {0}
-SentSo event before (Output.invoked dialogue id linked code parameter) = Unit {0}
-SentSo event before (Output.result_more dialogue number id body) = Unit {0}
-SentSo event before (Output.local_reject dialogue id problem) = Unit {0}
-SentSo event before (Output.remote_reject dialogue id problem by) = Unit {0}
-SentSo event before (Output.closed dialogue number id closing) = Unit {0}
+SentSo event before (Output.dialogue indication) = Unit {0}
+SentSo event before (Output.component indication) = Unit {0}
 SentSo event before (Output.dropped why) = Unit {0}
 
 pub sent_from : (past : Past) → Everywhere (λ (pair : Pair) before. AllByRecursion (SentSo pair.event before) (outputs_of pair.answer)) past → SentFrom past
@@ -116,17 +107,12 @@ ClosedSo event output Closing.given_up = Unit {0}
 -- An indication that stands for a component comes from the bytes received.
 abbrev pub ToldSo : Event → Output → Type 0
 ToldSo event (Output.send bytes) = Unit {0}
-ToldSo event (Output.uni context info) = Unit {0}
-ToldSo event (Output.begin dialogue context info) = Unit {0}
-ToldSo event (Output.go_on dialogue context info) = Unit {0}
-ToldSo event (Output.end dialogue context info) = Unit {0}
-ToldSo event (Output.u_abort dialogue pdu) = Unit {0}
-ToldSo event (Output.p_abort dialogue why) = Unit {0}
-ToldSo event (Output.invoked dialogue id linked code parameter) = ToldFromOne event (Output.invoked dialogue id linked code parameter)
-ToldSo event (Output.result_more dialogue number id body) = ToldFromOne event (Output.result_more dialogue number id body)
-ToldSo event (Output.local_reject dialogue id problem) = Unit {0}
-ToldSo event (Output.remote_reject dialogue id problem by) = Unit {0}
-ToldSo event (Output.closed dialogue number id closing) = ClosedSo event (Output.closed dialogue number id closing) closing
+ToldSo event (Output.dialogue indication) = Unit {0}
+ToldSo event (Output.component (ComponentIndication.invoked dialogue id linked code parameter)) = ToldFromOne event (Output.component (ComponentIndication.invoked dialogue id linked code parameter))
+ToldSo event (Output.component (ComponentIndication.result_more dialogue number id body)) = ToldFromOne event (Output.component (ComponentIndication.result_more dialogue number id body))
+ToldSo event (Output.component (ComponentIndication.local_reject dialogue id problem)) = Unit {0}
+ToldSo event (Output.component (ComponentIndication.remote_reject dialogue id problem by)) = Unit {0}
+ToldSo event (Output.component (ComponentIndication.closed dialogue number id closing)) = ClosedSo event (Output.component (ComponentIndication.closed dialogue number id closing)) closing
 ToldSo event (Output.dropped why) = Unit {0}
 
 told_so : (event : Event) (output : Output) → IsOfComponent output → ToldSo event output → ToldFromOne event output

@@ -13,7 +13,7 @@ use Rattle.tcap_examples.specs.Computing.{computing}
 use Rattle.tcap_model.specs.Words.Event.{Event}
 use Rattle.tcap_examples.specs.Values.DialogueValues.{context as context_name, begin_with_aarq, code}
 use Rattle.tcap_examples.specs.Values.Hex.{hex}
-use Rattle.tcap_model.specs.Words.Output.{Output}
+use Rattle.tcap_model.specs.Words.Output.{Output, ComponentIndication, DialogueIndication}
 use Rattle.tcap_examples.specs.Statements.ComponentExamples.{begun_message, invoke_read, misread, misread_told}
 use Rattle.tcap_examples.specs.Wrong.WrongHistories.{GoesWrong, whole}
 
@@ -34,17 +34,12 @@ asks_for_three (ComponentParts.result_more id body) = false
 -- Whether an output tells operation 3.
 abbrev tells_three : Output → Bool
 tells_three (Output.send bytes) = false
-tells_three (Output.uni context info) = false
-tells_three (Output.begin dialogue context info) = false
-tells_three (Output.go_on dialogue context info) = false
-tells_three (Output.end dialogue context info) = false
-tells_three (Output.u_abort dialogue pdu) = false
-tells_three (Output.p_abort dialogue why) = false
-tells_three (Output.invoked dialogue id linked code parameter) = is_three code
-tells_three (Output.result_more dialogue number id body) = false
-tells_three (Output.local_reject dialogue id problem) = false
-tells_three (Output.remote_reject dialogue id problem by) = false
-tells_three (Output.closed dialogue number id closing) = false
+tells_three (Output.dialogue indication) = false
+tells_three (Output.component (ComponentIndication.invoked dialogue id linked code parameter)) = is_three code
+tells_three (Output.component (ComponentIndication.result_more dialogue number id body)) = false
+tells_three (Output.component (ComponentIndication.local_reject dialogue id problem)) = false
+tells_three (Output.component (ComponentIndication.remote_reject dialogue id problem by)) = false
+tells_three (Output.component (ComponentIndication.closed dialogue number id closing)) = false
 tells_three (Output.dropped why) = false
 
 stands_for_three : (output : Output) (component : ComponentParts) → StandsFor output component → tells_three output ≡ asks_for_three component
@@ -72,7 +67,7 @@ not_received told =
 pub misread-not_told_from : ToldFrom (whole misread) → ⊥
 misread-not_told_from from = not_received (from misread.last [] misread_told
     (record { later = []; is_past = refl })
-    (record { earlier = Output.begin 1 (Some context_name) [] ∷ []; later = []; is_answer = refl })
+    (record { earlier = Output.dialogue (DialogueIndication.begin 1 (Some context_name) []) ∷ []; later = []; is_answer = refl })
     (IsOfComponent.invoke (Some 1) (pos 1) None (code 3) (Some (hex 5 0x3003_0401AA))))
 
 pub misread-wrong : GoesWrong misread

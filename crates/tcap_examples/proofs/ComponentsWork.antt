@@ -16,10 +16,10 @@ use Rattle.tcap_examples.specs.Computing.{computing}
 use Rattle.tcap_model.specs.Words.Event.{Event}
 use Rattle.tcap_examples.specs.Values.DialogueValues.{context, begin_with_aarq, result_of_first, general, of_result, code}
 use Rattle.tcap_examples.specs.Values.Hex.{hex}
-use Rattle.tcap_model.specs.Words.Output.{Output}
+use Rattle.tcap_model.specs.Words.Output.{Output, ComponentIndication, DialogueIndication}
 use Rattle.tcap_model.specs.Histories.Pair.{Pair, Past}
 use Rattle.tcap_model.specs.Statements.Places.{StandsIn, Tells}
-use Rattle.tcap_model.specs.Words.Request.{Request}
+use Rattle.tcap_model.specs.Words.Request.{Request, ComponentRequest}
 use Rattle.tcap_examples.specs.Statements.ComponentExamples.{past, begin_sent, begin_pair, begin_message, two_invokes, before_the_begin, reject_continue, reject_pair, reject_message, reject, before_the_reject, late, first_message, first_invoke, late_message, late_reject, result_received, result_told, result_pair, result_message, received_result, unknown_component, before_the_result, begin_received, invoke_told, begun_pair, begun_message, invoke_read, crossed_queues, crossed_sent, crossed_message, crossed_invoke}
 use Rattle.tcap_examples.specs.Wrong.WrongHistories.{GoesWrong, whole}
 use Rattle.tcap_examples.specs.Values.HistoryWords.{dialogue_born, invoke_pair, received_pair, begin_request, continue_request, continued}
@@ -44,7 +44,7 @@ first-requested : WasRequested 1 (ComponentParts.invoke (negsuc 127) None (code 
 first-requested = record {
   pair = invoke_pair 1 (negsuc 127) One (pos 10) 1000 (Answer.number 1);
   before = dialogue_born 1 ∷ [];
-  request = Request.invoke (negsuc 127) One (code 10) None None 1000;
+  request = Request.component (ComponentRequest.invoke (negsuc 127) One (code 10) None None 1000);
   stands = record { later = take 1 before_the_begin; is_past = refl };
   is_event = refl;
   accepted = refl;
@@ -55,7 +55,7 @@ second-requested : WasRequested 1 (ComponentParts.invoke (pos 127) None (code 10
 second-requested = record {
   pair = invoke_pair 1 (pos 127) One (pos 10) 1000 (Answer.number 2);
   before = drop 1 before_the_begin;
-  request = Request.invoke (pos 127) One (code 10) None None 1000;
+  request = Request.component (ComponentRequest.invoke (pos 127) One (code 10) None None 1000);
   stands = record { later = []; is_past = refl };
   is_event = refl;
   accepted = refl;
@@ -88,7 +88,7 @@ formed = record {
   bytes = result_received;
   id = Some (pos 7);
   problem = general 0;
-  output = Output.local_reject (Some 1) (Some (pos 7)) (general 0);
+  output = Output.component (ComponentIndication.local_reject (Some 1) (Some (pos 7)) (general 0));
   stands = record { later = []; is_past = refl };
   is_event = refl;
   is_component = refl;
@@ -112,7 +112,7 @@ late-requested : WasRequested 1 first_invoke (drop 6 late)
 late-requested = record {
   pair = invoke_pair 1 (pos 1) One (pos 10) 1000 (Answer.number 1);
   before = dialogue_born 1 ∷ [];
-  request = Request.invoke (pos 1) One (code 10) None None 1000;
+  request = Request.component (ComponentRequest.invoke (pos 1) One (code 10) None None 1000);
   stands = record { later = []; is_past = refl };
   is_event = refl;
   accepted = refl;
@@ -121,12 +121,12 @@ late-requested = record {
 
 late-formed : WasFormed 1 late_reject (drop 2 late)
 late-formed = record {
-  pair = received_pair result_of_first (continued 1 ∷ Output.local_reject (Some 1) (Some (pos 1)) (of_result 0) ∷ []);
+  pair = received_pair result_of_first (continued 1 ∷ Output.component (ComponentIndication.local_reject (Some 1) (Some (pos 1)) (of_result 0)) ∷ []);
   before = drop 3 late;
   bytes = result_of_first;
   id = Some (pos 1);
   problem = of_result 0;
-  output = Output.local_reject (Some 1) (Some (pos 1)) (of_result 0);
+  output = Output.component (ComponentIndication.local_reject (Some 1) (Some (pos 1)) (of_result 0));
   stands = record { later = []; is_past = refl };
   is_event = refl;
   is_component = refl;
@@ -150,7 +150,7 @@ pub result-stands : StandsIn result_pair before_the_result past
 result-stands = record { later = take 1 past; is_past = refl }
 
 pub result-tells : Tells result_pair.answer result_told
-result-tells = record { earlier = continued 1 ∷ []; later = Output.local_reject (Some 1) (Some (pos 7)) (general 0) ∷ []; is_answer = refl }
+result-tells = record { earlier = continued 1 ∷ []; later = Output.component (ComponentIndication.local_reject (Some 1) (Some (pos 7)) (general 0)) ∷ []; is_answer = refl }
 
 pub result-is : IsOfComponent result_told
 result-is = IsOfComponent.result_last 1 1 (negsuc 127) None
@@ -179,7 +179,7 @@ pub begun-stands : StandsIn begun_pair [] begin_received
 begun-stands = record { later = take 1 begin_received; is_past = refl }
 
 pub begun-tells : Tells begun_pair.answer invoke_told
-begun-tells = record { earlier = Output.begin 1 (Some context) [] ∷ []; later = []; is_answer = refl }
+begun-tells = record { earlier = Output.dialogue (DialogueIndication.begin 1 (Some context) []) ∷ []; later = []; is_answer = refl }
 
 pub begun-is : IsOfComponent invoke_told
 begun-is = IsOfComponent.invoke (Some 1) (pos 1) None (code 2) (Some (hex 5 0x3003_0401AA))

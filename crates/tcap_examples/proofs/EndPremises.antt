@@ -8,9 +8,9 @@ use Rattle.tcap_examples.proofs.PlaceLemmas.{Everywhere, at_place, outputs_of, t
 use Rattle.tcap_model.specs.Words.Event.{Event}
 use Rattle.tcap_model.specs.Invocations.Invocation.{Invocation, invoked_by}
 use Rattle.tcap_model.specs.Statements.Net.{Engine, Trace, side, is_engine}
-use Rattle.tcap_model.specs.Words.Output.{Output}
+use Rattle.tcap_model.specs.Words.Output.{Output, ComponentIndication}
 use Rattle.tcap_model.specs.Histories.Pair.{Pair, Past}
-use Rattle.tcap_model.specs.Words.Request.{Request}
+use Rattle.tcap_model.specs.Words.Request.{Request, ComponentRequest}
 use Rattle.tcap_model.specs.Statements.TwoEnds.{UsesOnce, AnswersInvoke, WasInvoked, AnswersWhatItWasTold, WasOpened}
 
 pub not_both : Engine.a ≡ Engine.b → ⊥
@@ -41,18 +41,14 @@ rejected id kind.Error = None
 
 -- The identifier of the Invoke that a request answers.
 abbrev pub far_answered : Request → Option ℤ
-far_answered (Request.invoke id class code parameter linked timeout) = None
-far_answered (Request.result_last id body) = Some id
-far_answered (Request.result_more id body) = Some id
-far_answered (Request.error_back id code parameter) = Some id
-far_answered (Request.u_reject None problem) = None
-far_answered (Request.u_reject (Some id) problem) = rejected id problem.kind
-far_answered (Request.u_cancel id) = None
-far_answered (Request.uni context info) = None
-far_answered (Request.begin context info) = None
-far_answered (Request.go_on context info) = None
-far_answered (Request.finish ending context info) = None
-far_answered (Request.u_abort why info) = None
+far_answered (Request.component (ComponentRequest.invoke id class code parameter linked timeout)) = None
+far_answered (Request.component (ComponentRequest.result_last id body)) = Some id
+far_answered (Request.component (ComponentRequest.result_more id body)) = Some id
+far_answered (Request.component (ComponentRequest.error_back id code parameter)) = Some id
+far_answered (Request.component (ComponentRequest.u_reject None problem)) = None
+far_answered (Request.component (ComponentRequest.u_reject (Some id) problem)) = rejected id problem.kind
+far_answered (Request.component (ComponentRequest.u_cancel id)) = None
+far_answered (Request.dialogue asked) = None
 
 answers_is : (id : ℤ) (request : Request) → AnswersInvoke id request → far_answered request ≡ Some id
 answers_is id request (AnswersInvoke.a_result_last body) = refl
@@ -81,23 +77,18 @@ answers_what_it_was_told engine trace all pair before dialogue id request stands
 -- Whether an output tells an Invoke.
 abbrev pub is_invoke : Output → Bool
 is_invoke (Output.send bytes) = false
-is_invoke (Output.uni context info) = false
-is_invoke (Output.begin dialogue context info) = false
-is_invoke (Output.go_on dialogue context info) = false
-is_invoke (Output.end dialogue context info) = false
-is_invoke (Output.u_abort dialogue pdu) = false
-is_invoke (Output.p_abort dialogue why) = false
-is_invoke (Output.invoked dialogue id linked code parameter) = true
-is_invoke (Output.result_more dialogue number id body) = false
-is_invoke (Output.local_reject dialogue id problem) = false
-is_invoke (Output.remote_reject dialogue id problem by) = false
-is_invoke (Output.closed dialogue number id closing) = false
+is_invoke (Output.dialogue indication) = false
+is_invoke (Output.component (ComponentIndication.invoked dialogue id linked code parameter)) = true
+is_invoke (Output.component (ComponentIndication.result_more dialogue number id body)) = false
+is_invoke (Output.component (ComponentIndication.local_reject dialogue id problem)) = false
+is_invoke (Output.component (ComponentIndication.remote_reject dialogue id problem by)) = false
+is_invoke (Output.component (ComponentIndication.closed dialogue number id closing)) = false
 is_invoke (Output.dropped why) = false
 
 -- No Invoke was told, so none with the identifier.
 pub not_told : (dialogue : ℕ) (id : ℤ) (past : Past) → Everywhere (λ (pair : Pair) before. list_any is_invoke (outputs_of pair.answer) ≡ false) past → WasInvoked dialogue id past → ⊥
 not_told dialogue id past none told =
-    false≢true (sym (at_place (λ (pair : Pair) before. list_any is_invoke (outputs_of pair.answer) ≡ false) past none told.pair told.before told.stands) ∙ told_any is_invoke told.pair.answer (Output.invoked (Some dialogue) id told.linked told.code told.parameter) told.tells refl)
+    false≢true (sym (at_place (λ (pair : Pair) before. list_any is_invoke (outputs_of pair.answer) ≡ false) past none told.pair told.before told.stands) ∙ told_any is_invoke told.pair.answer (Output.component (ComponentIndication.invoked (Some dialogue) id told.linked told.code told.parameter)) told.tells refl)
 
 -- ---- who opened a dialogue
 

@@ -13,9 +13,9 @@ use Rattle.tcap_examples.specs.Values.DialogueValues.{code}
 use Rattle.tcap_examples.specs.Values.Hex.{hex}
 use Rattle.tcap_model.specs.Replies.Legal.{IsLegal}
 use Rattle.tcap_model.specs.Statements.Net.{Engine, Marked, Trace, IsNet, IsCarried, side, history_in}
-use Rattle.tcap_model.specs.Words.Output.{Output}
+use Rattle.tcap_model.specs.Words.Output.{Output, ComponentIndication, DialogueIndication}
 use Rattle.tcap_model.specs.Histories.Pair.{Pair, Past}
-use Rattle.tcap_model.specs.Words.Request.{Request}
+use Rattle.tcap_model.specs.Words.Request.{Request, ComponentRequest}
 use Rattle.tcap_model.specs.Statements.TwoEnds.{IsAnswer, UsesOnce, AnswersWhatItWasTold, WasOpened, WasAsked, Origin, Operations, ComesFromFar}
 use Rattle.tcap_examples.specs.Nets.PlayedNets.{invoked, answer, result_continue, used_again, forged, IsAnsweredAhead}
 use Rattle.tcap_examples.specs.Values.HistoryWords.{dialogue_born, invoke_pair, request_pair, received_pair, continued, empty_result}
@@ -35,13 +35,13 @@ again-answers = answers_what_it_was_told Engine.b used_again.trace (
   tt,
   (
     record {
-      pair = received_pair (hex 18 0x6210_480400000001_6C08_A106_020101_02010A) (Output.begin 1 None [] ∷ invoked 1 ∷ []);
+      pair = received_pair (hex 18 0x6210_480400000001_6C08_A106_020101_02010A) (Output.dialogue (DialogueIndication.begin 1 None []) ∷ invoked 1 ∷ []);
       before = [];
       linked = None;
       code = CodeParts.local (pos 10);
       parameter = None;
       stands = record { later = []; is_past = refl };
-      tells = record { earlier = Output.begin 1 None [] ∷ []; later = []; is_answer = refl };
+      tells = record { earlier = Output.dialogue (DialogueIndication.begin 1 None []) ∷ []; later = []; is_answer = refl };
     },
     (tt, tt),
   ),
@@ -53,10 +53,10 @@ again-opened = record { pair = dialogue_born 1; before = []; stands = record { l
 pub again-fails : IsAnsweredAhead Engine.a 1 2 used_again.trace
 unfolding computing
 again-fails = record {
-  pair = received_pair result_continue (continued 1 ∷ Output.closed 1 2 (pos 1) empty_result ∷ []);
+  pair = received_pair result_continue (continued 1 ∷ Output.component (ComponentIndication.closed 1 2 (pos 1) empty_result) ∷ []);
   before = drop 1 used_again.trace;
   id = pos 1;
-  output = Output.closed 1 2 (pos 1) empty_result;
+  output = Output.component (ComponentIndication.closed 1 2 (pos 1) empty_result);
   request_pair = answer;
   asked = request_pair 1 answer Answer.done;
   earlier = drop 7 used_again.trace;
@@ -95,7 +95,7 @@ not_from_far dialogue asked from =
 
 pub forged-no_origin : Origin forged.trace → ⊥
 forged-no_origin origin = not_from_far 1 answer (origin Engine.a
-    (received_pair result_continue (continued 1 ∷ Output.closed 1 1 (pos 1) empty_result ∷ [])) (drop 2 forged.trace) 1 1 (pos 1) (Output.closed 1 1 (pos 1) empty_result) answer
+    (received_pair result_continue (continued 1 ∷ Output.component (ComponentIndication.closed 1 1 (pos 1) empty_result) ∷ [])) (drop 2 forged.trace) 1 1 (pos 1) (Output.component (ComponentIndication.closed 1 1 (pos 1) empty_result)) answer
     (record { later = take 1 forged.trace; is_trace = refl }) (record { earlier = continued 1 ∷ []; later = []; is_answer = refl }) (IsAnswer.a_result_last None))
 
 -- A local operation code.
@@ -106,17 +106,13 @@ local_code (CodeParts.global octets) = 0
 
 -- The operation that a request asks for; 0 where it asks for none.
 abbrev operation : Request → ℕ
-operation (Request.invoke id class code parameter linked timeout) = local_code code
-operation (Request.result_last id body) = 0
-operation (Request.result_more id body) = 0
-operation (Request.error_back id code parameter) = 0
-operation (Request.u_reject id problem) = 0
-operation (Request.u_cancel id) = 0
-operation (Request.uni context info) = 0
-operation (Request.begin context info) = 0
-operation (Request.go_on context info) = 0
-operation (Request.finish ending context info) = 0
-operation (Request.u_abort why info) = 0
+operation (Request.component (ComponentRequest.invoke id class code parameter linked timeout)) = local_code code
+operation (Request.component (ComponentRequest.result_last id body)) = 0
+operation (Request.component (ComponentRequest.result_more id body)) = 0
+operation (Request.component (ComponentRequest.error_back id code parameter)) = 0
+operation (Request.component (ComponentRequest.u_reject id problem)) = 0
+operation (Request.component (ComponentRequest.u_cancel id)) = 0
+operation (Request.dialogue asked) = 0
 
 -- The operation that an event asks for.
 abbrev asked_for : Event → ℕ
@@ -133,9 +129,9 @@ not_asked asked =
 
 pub forged-no_operation : Operations forged.trace → ⊥
 forged-no_operation operations = not_asked (operations Engine.b
-    (received_pair (hex 18 0x6210_480400000001_6C08_A106_020101_02010B) (Output.begin 1 None [] ∷ Output.invoked (Some 1) (pos 1) None (code 11) None ∷ []))
+    (received_pair (hex 18 0x6210_480400000001_6C08_A106_020101_02010B) (Output.dialogue (DialogueIndication.begin 1 None []) ∷ Output.component (ComponentIndication.invoked (Some 1) (pos 1) None (code 11) None) ∷ []))
     (drop 1 forged.trace) (Some 1) (pos 1) None (code 11) None
-    (record { later = []; is_trace = refl }) (record { earlier = Output.begin 1 None [] ∷ []; later = []; is_answer = refl }))
+    (record { later = []; is_trace = refl }) (record { earlier = Output.dialogue (DialogueIndication.begin 1 None []) ∷ []; later = []; is_answer = refl }))
 
 -- What the tests state.
 pub ruleset nets_broken = (again-net, again-opened, again-fails)

@@ -11,7 +11,7 @@ use Rattle.tcap_examples.specs.Values.DialogueValues.{code}
 use Rattle.tcap_model.specs.Invocations.Invocation.{Invocation}
 use Rattle.tcap_model.specs.Replies.Legal.{IsLegal}
 use Rattle.tcap_model.specs.Statements.Net.{Engine, Marked, Trace, IsNet, side, history_in}
-use Rattle.tcap_model.specs.Words.Output.{Output}
+use Rattle.tcap_model.specs.Words.Output.{Output, ComponentIndication, DialogueIndication}
 use Rattle.tcap_model.specs.Histories.Pair.{Pair}
 use Rattle.tcap_model.specs.Statements.Places.{Tells}
 use Rattle.tcap_model.specs.Statements.TwoEnds.{Happens, IsAnswer, IsFarRequest, ComesFromFar, UsesOnce, AnswersInvoke, AnswersWhatItWasTold, WasOpened, WasSent, WasAsked}
@@ -57,7 +57,7 @@ repeat-answers = answers_what_it_was_told Engine.b repeated_begin.trace (
         code = CodeParts.local (pos 10);
         parameter = None;
         stands = record { later = drop 3 (take 5 (side Engine.b repeated_begin.trace)); is_past = refl };
-        tells = record { earlier = Output.begin 2 None [] ∷ []; later = []; is_answer = refl };
+        tells = record { earlier = Output.dialogue (DialogueIndication.begin 2 None []) ∷ []; later = []; is_answer = refl };
       },
       (
         tt,
@@ -69,7 +69,7 @@ repeat-answers = answers_what_it_was_told Engine.b repeated_begin.trace (
             code = CodeParts.local (pos 10);
             parameter = None;
             stands = record { later = received_pair play.first_begin (play.begin_told 2) ∷ []; is_past = refl };
-            tells = record { earlier = Output.begin 1 None [] ∷ []; later = []; is_answer = refl };
+            tells = record { earlier = Output.dialogue (DialogueIndication.begin 1 None []) ∷ []; later = []; is_answer = refl };
           },
           (tt, (tt, tt)),
         ),
@@ -95,7 +95,7 @@ pub repeat-invoked-happens : Happens Engine.b repeat_told before_the_repeat repe
 repeat-invoked-happens = record { later = take 8 repeated_begin.trace; is_trace = refl }
 
 pub repeat-invoked-tells : Tells repeat_told.answer (invoked 2)
-repeat-invoked-tells = record { earlier = Output.begin 2 None [] ∷ []; later = []; is_answer = refl }
+repeat-invoked-tells = record { earlier = Output.dialogue (DialogueIndication.begin 2 None []) ∷ []; later = []; is_answer = refl }
 
 pub repeat-asked : WasAsked (pos 1) None (CodeParts.local (pos 10)) None (side Engine.a before_the_repeat)
 repeat-asked = record {
@@ -122,10 +122,10 @@ ahead-opened = record { pair = dialogue_born 1; before = []; stands = record { l
 pub ahead-fails : IsAnsweredAhead Engine.a 1 1 answered_ahead.trace
 unfolding computing
 ahead-fails = record {
-  pair = received_pair result_continue (continued 1 ∷ Output.closed 1 1 (pos 1) empty_result ∷ []);
+  pair = received_pair result_continue (continued 1 ∷ Output.component (ComponentIndication.closed 1 1 (pos 1) empty_result) ∷ []);
   before = drop 1 answered_ahead.trace;
   id = pos 1;
-  output = Output.closed 1 1 (pos 1) empty_result;
+  output = Output.component (ComponentIndication.closed 1 1 (pos 1) empty_result);
   request_pair = answer;
   asked = request_pair 1 answer Answer.done;
   earlier = drop 5 answered_ahead.trace;
@@ -175,10 +175,10 @@ heard-answers = answers_what_it_was_told Engine.b heard_as_one.trace (
 pub heard-fails : IsAnsweredAhead Engine.a 1 2 heard_as_one.trace
 unfolding computing
 heard-fails = record {
-  pair = received_pair result_continue (continued 1 ∷ Output.closed 1 2 (pos 1) empty_result ∷ []);
+  pair = received_pair result_continue (continued 1 ∷ Output.component (ComponentIndication.closed 1 2 (pos 1) empty_result) ∷ []);
   before = drop 1 heard_as_one.trace;
   id = pos 1;
-  output = Output.closed 1 2 (pos 1) empty_result;
+  output = Output.component (ComponentIndication.closed 1 2 (pos 1) empty_result);
   request_pair = answer;
   asked = request_pair 1 answer Answer.done;
   earlier = drop 5 heard_as_one.trace;
@@ -201,8 +201,8 @@ alone = record { number = 1; dialogue = 1; id = pos 1; class = Four; timeout = 1
 pub alone-happens : Happens Engine.b alone_told (drop 1 in_a_unidirectional.trace) in_a_unidirectional.trace
 alone-happens = record { later = []; is_trace = refl }
 
-pub alone-tells : Tells alone_told.answer (Output.invoked None (pos 1) None (code 7) None)
-alone-tells = record { earlier = Output.uni None [] ∷ []; later = []; is_answer = refl }
+pub alone-tells : Tells alone_told.answer (Output.component (ComponentIndication.invoked None (pos 1) None (code 7) None))
+alone-tells = record { earlier = Output.dialogue (DialogueIndication.uni None []) ∷ []; later = []; is_answer = refl }
 
 pub alone-asked : WasAsked (pos 1) None (code 7) None (side Engine.a (drop 1 in_a_unidirectional.trace))
 unfolding computing alone
@@ -223,7 +223,7 @@ pub end-happens : Happens Engine.a end_told (drop 1 in_an_end.trace) in_an_end.t
 end-happens = record { later = []; is_trace = refl }
 
 pub end-tells : Tells end_told.answer (invoked 1)
-end-tells = record { earlier = Output.end 1 None [] ∷ []; later = []; is_answer = refl }
+end-tells = record { earlier = Output.dialogue (DialogueIndication.end 1 None []) ∷ []; later = []; is_answer = refl }
 
 pub end-asked : WasAsked (pos 1) None (code 10) None (side Engine.b (drop 1 in_an_end.trace))
 unfolding computing

@@ -6,10 +6,10 @@ use Rattle.std.proofs.lemmas.Bool.{cases_Bool}
 use Rattle.tcap_examples.proofs.NetsWork.{repeat-origin, repeat-after, repeat-asked}
 use Rattle.tcap_examples.proofs.PlaceLemmas.{Everywhere, at_happening, outputs_of, told_there}
 use Rattle.tcap_model.specs.Statements.Net.{Engine, far, Marked, Trace, side}
-use Rattle.tcap_model.specs.Words.Output.{Output, Closing, Rejector}
+use Rattle.tcap_model.specs.Words.Output.{Output, Closing, Rejector, ComponentIndication}
 use Rattle.tcap_model.specs.Histories.Pair.{Pair}
 use Rattle.tcap_model.specs.Statements.Places.{Tells}
-use Rattle.tcap_model.specs.Words.Request.{Request}
+use Rattle.tcap_model.specs.Words.Request.{Request, ComponentRequest}
 use Rattle.tcap_model.specs.Statements.TwoEnds.{Happens, IsAnswer, IsFarRequest, ComesFromFar, Origin, WasSent, AfterInvoke, Once, WasAsked, Operations, TwoEnds}
 use Rattle.tcap_examples.specs.Nets.PlayedNets.{repeated_begin}
 
@@ -21,9 +21,9 @@ record Answered : Type 0 where
 
 -- The answer that a closing indication is.
 abbrev closing_answer : ℕ → ℕ → ℤ → Closing → Option Answered
-closing_answer dialogue number id (Closing.result_last body) = Some (record { dialogue = dialogue; number = number; request = Request.result_last id body })
-closing_answer dialogue number id (Closing.error_back code parameter) = Some (record { dialogue = dialogue; number = number; request = Request.error_back id code parameter })
-closing_answer dialogue number id (Closing.rejected problem Rejector.remote_user) = Some (record { dialogue = dialogue; number = number; request = Request.u_reject (Some id) problem })
+closing_answer dialogue number id (Closing.result_last body) = Some (record { dialogue = dialogue; number = number; request = Request.component (ComponentRequest.result_last id body) })
+closing_answer dialogue number id (Closing.error_back code parameter) = Some (record { dialogue = dialogue; number = number; request = Request.component (ComponentRequest.error_back id code parameter) })
+closing_answer dialogue number id (Closing.rejected problem Rejector.remote_user) = Some (record { dialogue = dialogue; number = number; request = Request.component (ComponentRequest.u_reject (Some id) problem) })
 closing_answer dialogue number id (Closing.rejected problem Rejector.local) = None
 closing_answer dialogue number id (Closing.rejected problem Rejector.remote_provider) = None
 closing_answer dialogue number id Closing.lapsed = None
@@ -33,17 +33,12 @@ closing_answer dialogue number id Closing.given_up = None
 -- The answer that an output tells.
 abbrev answer_in : Output → Option Answered
 answer_in (Output.send bytes) = None
-answer_in (Output.uni context info) = None
-answer_in (Output.begin dialogue context info) = None
-answer_in (Output.go_on dialogue context info) = None
-answer_in (Output.end dialogue context info) = None
-answer_in (Output.u_abort dialogue pdu) = None
-answer_in (Output.p_abort dialogue why) = None
-answer_in (Output.invoked dialogue id linked code parameter) = None
-answer_in (Output.result_more dialogue number id body) = Some (record { dialogue = dialogue; number = number; request = Request.result_more id body })
-answer_in (Output.local_reject dialogue id problem) = None
-answer_in (Output.remote_reject dialogue id problem by) = None
-answer_in (Output.closed dialogue number id closing) = closing_answer dialogue number id closing
+answer_in (Output.dialogue indication) = None
+answer_in (Output.component (ComponentIndication.invoked dialogue id linked code parameter)) = None
+answer_in (Output.component (ComponentIndication.result_more dialogue number id body)) = Some (record { dialogue = dialogue; number = number; request = Request.component (ComponentRequest.result_more id body) })
+answer_in (Output.component (ComponentIndication.local_reject dialogue id problem)) = None
+answer_in (Output.component (ComponentIndication.remote_reject dialogue id problem by)) = None
+answer_in (Output.component (ComponentIndication.closed dialogue number id closing)) = closing_answer dialogue number id closing
 answer_in (Output.dropped why) = None
 
 is_in : (dialogue number : ℕ) (id : ℤ) (output : Output) (request : Request) → IsAnswer dialogue number id output request → answer_in output ≡ Some (record { dialogue = dialogue; number = number; request = request })
@@ -100,17 +95,12 @@ once Engine.b number = omega arith
 -- An Invoke that is told was asked for.
 abbrev AskedFor : Engine → Trace → Output → Type 0
 AskedFor engine before (Output.send bytes) = Unit {0}
-AskedFor engine before (Output.uni context info) = Unit {0}
-AskedFor engine before (Output.begin dialogue context info) = Unit {0}
-AskedFor engine before (Output.go_on dialogue context info) = Unit {0}
-AskedFor engine before (Output.end dialogue context info) = Unit {0}
-AskedFor engine before (Output.u_abort dialogue pdu) = Unit {0}
-AskedFor engine before (Output.p_abort dialogue why) = Unit {0}
-AskedFor engine before (Output.invoked dialogue id linked code parameter) = WasAsked id linked code parameter (side (far engine) before)
-AskedFor engine before (Output.result_more dialogue number id body) = Unit {0}
-AskedFor engine before (Output.local_reject dialogue id problem) = Unit {0}
-AskedFor engine before (Output.remote_reject dialogue id problem by) = Unit {0}
-AskedFor engine before (Output.closed dialogue number id closing) = Unit {0}
+AskedFor engine before (Output.dialogue indication) = Unit {0}
+AskedFor engine before (Output.component (ComponentIndication.invoked dialogue id linked code parameter)) = WasAsked id linked code parameter (side (far engine) before)
+AskedFor engine before (Output.component (ComponentIndication.result_more dialogue number id body)) = Unit {0}
+AskedFor engine before (Output.component (ComponentIndication.local_reject dialogue id problem)) = Unit {0}
+AskedFor engine before (Output.component (ComponentIndication.remote_reject dialogue id problem by)) = Unit {0}
+AskedFor engine before (Output.component (ComponentIndication.closed dialogue number id closing)) = Unit {0}
 AskedFor engine before (Output.dropped why) = Unit {0}
 
 operations : Operations repeated_begin.trace
@@ -119,7 +109,7 @@ operations engine pair before dialogue id linked code parameter happens tells =
     let here = at_happening Asked repeated_begin.trace
     (tt, (tt, ((tt, (tt, tt)), ((tt, (tt, tt)), ((tt, tt), (tt, ((tt, tt), (tt, ((tt, (repeat-asked, tt)), ((tt, (repeat-asked, tt)), ((tt, tt), (tt, (tt, tt)))))))))))))
     engine pair before happens in
-    told_there (AskedFor engine before) pair.answer (Output.invoked dialogue id linked code parameter) tells here
+    told_there (AskedFor engine before) pair.answer (Output.component (ComponentIndication.invoked dialogue id linked code parameter)) tells here
 
 pub repeated_begin_is_two_ended : TwoEnds repeated_begin.trace
 repeated_begin_is_two_ended = record { origin = origin; after_invoke = after_invoke; once = once; operations = operations }

@@ -18,7 +18,7 @@ ghost use Rattle.tcap_model.specs.Histories.History.{History};
 ghost use Rattle.tcap_model.specs.Histories.Life.{life, live_in};
 ghost use Rattle.tcap_model.specs.Invocations.Marks.{Mark, component_marks, marks};
 ghost use Rattle.tcap_model.specs.Histories.Names.{is_destined, names};
-ghost use Rattle.tcap_model.specs.Words.Output.{AbortCause, DropCause, Output};
+ghost use Rattle.tcap_model.specs.Words.Output.{AbortCause, DropCause, Output, DialogueIndication};
 ghost use Rattle.tcap_model.specs.Histories.Pair.{Pair, Past};
 ghost use Rattle.tcap_model.specs.Statements.Places.{Tells};
 ghost use Rattle.tcap_model.specs.Procedures.PortionRules.{PortionVerdict, portion_verdict};
@@ -50,7 +50,7 @@ pub fn bytes_reach_their_dialogue()
         reply h (Event.received bytes) ≡ Answer.outputs (taken_outputs dialogue h.pairs (life dialogue h.pairs) m) }
     ensures broken { (h : History) (dialogue : ℕ) (bytes : List ℕ) → IsTrue (names (Event.received bytes) dialogue) →
         IsTrue (live_in (life dialogue h.pairs)) → (f : FrameFault) → IsFrameFault bytes f →
-        (abort : Option Output) × (reply h (Event.received bytes) ≡ Answer.outputs (option_to_list abort ++ Output.p_abort dialogue (AbortCause.cause (fault_cause f)) ∷ ended_in dialogue h.pairs [])) }
+        (abort : Option Output) × (reply h (Event.received bytes) ≡ Answer.outputs (option_to_list abort ++ Output.dialogue (DialogueIndication.p_abort dialogue (AbortCause.cause (fault_cause f))) ∷ ended_in dialogue h.pairs [])) }
 {}
 
 /// What is sent is a message in the canonical form, which the octets spell; for a request it is the

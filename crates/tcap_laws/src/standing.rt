@@ -17,7 +17,7 @@ ghost use Rattle.tcap_model.specs.Replies.Held.{held, pending};
 ghost use Rattle.tcap_model.specs.Histories.History.{Start, History};
 ghost use Rattle.tcap_model.specs.Replies.Legal.{IsLegal};
 ghost use Rattle.tcap_model.specs.Histories.Life.{life};
-ghost use Rattle.tcap_model.specs.Words.Output.{Output, AbortCause};
+ghost use Rattle.tcap_model.specs.Words.Output.{Output, AbortCause, DialogueIndication};
 ghost use Rattle.tcap_model.specs.Histories.Pair.{Past};
 ghost use Rattle.tcap_model.specs.Procedures.PortionRules.{PortionVerdict, portion_verdict};
 ghost use Rattle.tcap_model.specs.Replies.Queue.{sent_there, handled_in, rejects_of};
@@ -74,7 +74,7 @@ pub fn requests_answered_alike()
 /// (Q.774, Dialogue continuation; Q.774, Abnormal procedures).
 pub fn messages_told_alike()
     ensures fault { (h : History) (dialogue : ℕ) (d : Dialogue) (cause : ℕ) → IsLegal h → dialogue_at h.start.reject_ms h.pairs dialogue ≡ Some d →
-        (table_move (setting_at h) d (DialogueEvent.fault cause)).answer ≡ Answer.outputs (Output.p_abort dialogue (AbortCause.cause cause) ∷ ended_in dialogue h.pairs []) }
+        (table_move (setting_at h) d (DialogueEvent.fault cause)).answer ≡ Answer.outputs (Output.dialogue (DialogueIndication.p_abort dialogue (AbortCause.cause cause)) ∷ ended_in dialogue h.pairs []) }
     ensures abort { (h : History) (dialogue : ℕ) (d : Dialogue) (to : List ℕ) (reason : Reason) → IsLegal h → dialogue_at h.start.reject_ms h.pairs dialogue ≡ Some d →
         (table_move (setting_at h) d (DialogueEvent.frame (Message.abort to reason))).answer ≡ Answer.outputs (taken_outputs dialogue h.pairs (life dialogue h.pairs) (Message.abort to reason)) }
     ensures continued { (h : History) (dialogue : ℕ) (d : Dialogue) (origin to : List ℕ) (portion : Option (List ℕ)) (components : List ℕ) → IsLegal h → dialogue_at h.start.reject_ms h.pairs dialogue ≡ Some d →

@@ -7,8 +7,8 @@ use Rattle.tcap_invocation.specs.declared.class.Class.{Class}
 use Rattle.tcap_invocation.specs.declared.class.Class.TheVariants.{One}
 use Rattle.tcap_examples.specs.Values.Hex.{hex}
 use Rattle.tcap_model.specs.Words.Answer.{Answer}
-use Rattle.tcap_model.specs.Words.Output.{Output, Closing}
-use Rattle.tcap_model.specs.Words.Request.{Request}
+use Rattle.tcap_model.specs.Words.Output.{Output, Closing, ComponentIndication, DialogueIndication}
+use Rattle.tcap_model.specs.Words.Request.{Request, ComponentRequest, DialogueRequest}
 use Rattle.tcap_model.specs.Table.TableMove.{DialogueEvent}
 use Rattle.tcap_examples.specs.Dialogues.Played.{Played, opened, play, heard, Ends}
 
@@ -40,7 +40,7 @@ code number = CodeParts.local (pos number)
 -- TC-INVOKE of this identifier, class and operation, without parameter and linked identifier, with this
 -- timeout in milliseconds (own).
 abbrev pub invoke_within : ℕ → ℤ → Class → ℕ → DialogueEvent
-invoke_within timeout id class operation = DialogueEvent.request (Request.invoke id class (code operation) None None timeout)
+invoke_within timeout id class operation = DialogueEvent.request (Request.component (ComponentRequest.invoke id class (code operation) None None timeout))
 
 -- The same with a timeout of 1000 milliseconds (own).
 abbrev pub invoke : ℤ → Class → ℕ → DialogueEvent
@@ -48,11 +48,11 @@ invoke id class operation = invoke_within 1000 id class operation
 
 -- TC-BEGIN without application context (own).
 abbrev pub plain_begin : DialogueEvent
-plain_begin = DialogueEvent.request (Request.begin None [])
+plain_begin = DialogueEvent.request (Request.dialogue (DialogueRequest.begin None []))
 
 -- TC-CONTINUE without application context (own).
 abbrev pub go_on : DialogueEvent
-go_on = DialogueEvent.request (Request.go_on None [])
+go_on = DialogueEvent.request (Request.dialogue (DialogueRequest.go_on None []))
 
 -- A dialogue is begun with one Invoke: identifier 1, class 1, operation 10 (own).
 abbrev pub one_invoke : List DialogueEvent
@@ -68,11 +68,11 @@ one_long_invoke = invoke_within 10000 (pos 1) One 10 ∷ plain_begin ∷ []
 
 -- The Invoke's invocation is told as ended with its dialogue (own).
 abbrev pub first_ended : Output
-first_ended = Output.closed 1 1 (pos 1) Closing.ended
+first_ended = Output.component (ComponentIndication.closed 1 1 (pos 1) Closing.ended)
 
 -- The Invoke's invocation is told as closed by a result that holds nothing (own).
 abbrev pub first_result : Output
-first_result = Output.closed 1 1 (pos 1) (Closing.result_last None)
+first_result = Output.component (ComponentIndication.closed 1 1 (pos 1) (Closing.result_last None))
 
 -- A Continue with the last result of identifier 1 (own).
 abbrev pub result_of_first : List ℕ
@@ -84,7 +84,7 @@ shown_begin = hex 23 0x6215_480400000001_6C0D_A10B020101_020102_30030401AA
 
 -- What is told of it (own).
 abbrev pub shown_begin_told : Answer
-shown_begin_told = Answer.outputs (Output.begin 1 None [] ∷ Output.invoked (Some 1) (pos 1) None (code 2) (Some (hex 5 0x30030401AA)) ∷ [])
+shown_begin_told = Answer.outputs (Output.dialogue (DialogueIndication.begin 1 None []) ∷ Output.component (ComponentIndication.invoked (Some 1) (pos 1) None (code 2) (Some (hex 5 0x30030401AA))) ∷ [])
 
 -- A Begin with an AARQ and the same Invoke (own).
 abbrev pub begin_with_aarq : List ℕ
@@ -92,7 +92,7 @@ begin_with_aarq = hex 8 0x6235_480400000001 ++ aarq ++ hex 15 0x6C0D_A10B020101_
 
 -- What is told of it (own).
 abbrev pub begin_with_aarq_told : Answer
-begin_with_aarq_told = Answer.outputs (Output.begin 1 (Some context) [] ∷ Output.invoked (Some 1) (pos 1) None (code 2) (Some (hex 5 0x30030401AA)) ∷ [])
+begin_with_aarq_told = Answer.outputs (Output.dialogue (DialogueIndication.begin 1 (Some context) []) ∷ Output.component (ComponentIndication.invoked (Some 1) (pos 1) None (code 2) (Some (hex 5 0x30030401AA))) ∷ [])
 
 -- A general problem (own).
 abbrev pub general : ℕ → ProblemParts
@@ -140,7 +140,7 @@ one_queued = play opened (invoke (pos 1) One 10 ∷ [])
 
 -- A dialogue with one Invoke in its queue, of exactly 60,000 octets (own).
 abbrev pub full_queue : Played
-full_queue = play opened (DialogueEvent.request (Request.invoke (pos 1) One (code 10) (Some (hex 4 0x0482EA52 ++ replicate 59986 0)) None 1000) ∷ [])
+full_queue = play opened (DialogueEvent.request (Request.component (ComponentRequest.invoke (pos 1) One (code 10) (Some (hex 4 0x0482EA52 ++ replicate 59986 0)) None 1000)) ∷ [])
 
 -- One dialogue is live, that of identifier 1 (own).
 abbrev pub is_first_live : ℕ → Bool

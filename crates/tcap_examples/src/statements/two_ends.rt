@@ -8,7 +8,7 @@ ghost use Rattle.tcap_model.specs.Invocations.Closings.{closings};
 ghost use Rattle.tcap_examples.specs.Values.DialogueValues.{code};
 ghost use Rattle.tcap_model.specs.Replies.Legal.{IsLegal};
 ghost use Rattle.tcap_model.specs.Statements.Net.{Engine, Trace, IsNet, IsCarried, history_in, side};
-ghost use Rattle.tcap_model.specs.Words.Output.{Output};
+ghost use Rattle.tcap_model.specs.Words.Output.{Output, ComponentIndication};
 ghost use Rattle.tcap_model.specs.Histories.Pair.{Pair};
 ghost use Rattle.tcap_model.specs.Statements.Places.{Tells};
 ghost use Rattle.tcap_model.specs.Statements.TwoEnds.{Happens, IsAnswer, IsFarRequest, ComesFromFar, UsesOnce, AnswersWhatItWasTold, WasOpened, WasSent, WasAsked, Origin, Operations, TwoEnds};
@@ -53,7 +53,7 @@ pub fn a_repeated_begin_is_two_ended()
 pub fn an_operation_in_a_last_message()
     ensures alone_net { IsNet in_a_unidirectional }
     ensures alone_happens { Happens Engine.b alone_told (drop 1 in_a_unidirectional.trace) in_a_unidirectional.trace }
-    ensures alone_told { Tells alone_told.answer (Output.invoked None (pos 1) None (code 7) None) }
+    ensures alone_told { Tells alone_told.answer (Output.component (ComponentIndication.invoked None (pos 1) None (code 7) None)) }
     ensures alone_asked { WasAsked (pos 1) None (code 7) None (side Engine.a (drop 1 in_a_unidirectional.trace)) }
     ensures end_net { IsNet in_an_end }
     ensures end_happens { Happens Engine.a end_told (drop 1 in_an_end.trace) in_an_end.trace }

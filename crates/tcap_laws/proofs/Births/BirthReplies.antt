@@ -12,7 +12,7 @@ use Rattle.tcap_model.specs.Words.Event.{Event}
 use Rattle.tcap_model.specs.Words.Fault.{Fault}
 use Rattle.tcap_model.specs.Histories.History.{History}
 use Rattle.tcap_model.specs.Histories.Life.{Life, life, live_in, begin_context, begun_life, born_life}
-use Rattle.tcap_model.specs.Words.Output.{Output, AbortCause}
+use Rattle.tcap_model.specs.Words.Output.{Output, AbortCause, DialogueIndication}
 use Rattle.tcap_model.specs.Histories.Pair.{Past}
 use Rattle.tcap_model.specs.Procedures.PortionRules.{PortionVerdict, portion_verdict, begin_verdict}
 use Rattle.tcap_model.specs.Replies.Queue.{handled_in}
@@ -27,17 +27,13 @@ use Rattle.tcap_laws.proofs.Receptions.ToldOutputKinds.{IsTold, AreTold, each-ap
 
 begun-told : (output : Output) → IsTold output → dialogue_begun output ≡ None
 begun-told (Output.send bytes) told = absurd told
-begun-told (Output.uni context info) told = refl
-begun-told (Output.begin dialogue context info) told = absurd told
-begun-told (Output.go_on dialogue context info) told = refl
-begun-told (Output.end dialogue context info) told = refl
-begun-told (Output.u_abort dialogue pdu) told = refl
-begun-told (Output.p_abort dialogue why) told = refl
-begun-told (Output.invoked dialogue id linked code parameter) told = refl
-begun-told (Output.result_more dialogue number id body) told = refl
-begun-told (Output.local_reject dialogue id problem) told = refl
-begun-told (Output.remote_reject dialogue id problem by) told = refl
-begun-told (Output.closed dialogue number id closing) told = refl
+begun-told (Output.dialogue (DialogueIndication.uni context info)) told = refl
+begun-told (Output.dialogue (DialogueIndication.begin dialogue context info)) told = absurd told
+begun-told (Output.dialogue (DialogueIndication.go_on dialogue context info)) told = refl
+begun-told (Output.dialogue (DialogueIndication.end dialogue context info)) told = refl
+begun-told (Output.dialogue (DialogueIndication.u_abort dialogue pdu)) told = refl
+begun-told (Output.dialogue (DialogueIndication.p_abort dialogue why)) told = refl
+begun-told (Output.component indication) told = refl
 begun-told (Output.dropped why) told = refl
 
 none-begun : (output : Output) (outputs : List Output) → dialogue_begun output ≡ None → first_begun outputs ≡ None → first_begun (output ∷ outputs) ≡ None
@@ -104,7 +100,7 @@ reception-born h bytes (Reception.unidirectional context info components) sound 
 reception-born h bytes (Reception.begun origin context info components) sound = inr (record { is_next = refl; is_due = no_fault (birth_due h) sound.3; state = State.received origin; context = begin_context (begin_verdict sound.0); is_life = ap begun_life sound.1 })
 reception-born h bytes (Reception.taken dialogue message) sound = inl (taken-begun dialogue h.pairs (life dialogue h.pairs) message)
 reception-born h bytes (Reception.broken dialogue abort cause) sound =
-    inl (if_sends-begun abort (Output.p_abort dialogue (AbortCause.cause cause) ∷ ended_in dialogue h.pairs []) sound (told-begun (ended_in dialogue h.pairs []) (ended-told dialogue h.pairs [])))
+    inl (if_sends-begun abort (Output.dialogue (DialogueIndication.p_abort dialogue (AbortCause.cause cause)) ∷ ended_in dialogue h.pairs []) sound (told-begun (ended_in dialogue h.pairs []) (ended-told dialogue h.pairs [])))
 
 asked-born : (h : History) (fault : Option Fault) → IsBornNext (next_dialogue h) fault (born_of Event.new_dialogue (birth_answer h fault)) (born_life Event.new_dialogue)
 asked-born h (Some f) = inl refl

@@ -15,7 +15,7 @@ use Rattle.tcap_model.specs.Histories.Life.{Life, life}
 use Rattle.tcap_model.specs.Invocations.Numbers.{number_of, numbers}
 use Rattle.tcap_model.specs.Histories.Pair.{Pair, Past}
 use Rattle.tcap_model.specs.Replies.Reply.{reply, birth_answer, request_answer, accepted_answer, given_up_answer, moment_answer, lapses}
-use Rattle.tcap_model.specs.Words.Request.{Request}
+use Rattle.tcap_model.specs.Words.Request.{Request, ComponentRequest, DialogueRequest}
 use Rattle.tcap_model.specs.Procedures.Standing.{Standing}
 use Rattle.tcap_model.specs.Words.Time.{moment_fault}
 use Rattle.tcap_laws.proofs.Births.DrawnCounters.{IsDrawnNext, drawn-step, range-rises}
@@ -38,17 +38,17 @@ given_up-numbered next dialogue request None = (refl, inl refl)
 given_up-numbered next dialogue request (Some n) = (refl, inl refl)
 
 accepted-numbered : (h : History) (dialogue : ℕ) (d : Standing) (request : Request) → IsNumbered (next_number h) (Event.on_dialogue dialogue request) (accepted_answer h d request)
-accepted-numbered h dialogue d (Request.invoke id class code parameter linked timeout) = (refl, inr refl)
-accepted-numbered h dialogue d (Request.result_last id body) = (refl, inl refl)
-accepted-numbered h dialogue d (Request.result_more id body) = (refl, inl refl)
-accepted-numbered h dialogue d (Request.error_back id code parameter) = (refl, inl refl)
-accepted-numbered h dialogue d (Request.u_reject id problem) = (refl, inl refl)
-accepted-numbered h dialogue d (Request.u_cancel id) = given_up-numbered (next_number h) dialogue (Request.u_cancel id) (pending d.identifier id h.pairs)
-accepted-numbered h dialogue d (Request.uni context info) = (refl, inl refl)
-accepted-numbered h dialogue d (Request.begin context info) = (refl, inl refl)
-accepted-numbered h dialogue d (Request.go_on context info) = (refl, inl refl)
-accepted-numbered h dialogue d (Request.finish ending context info) = (refl, inl refl)
-accepted-numbered h dialogue d (Request.u_abort why info) = (refl, inl refl)
+accepted-numbered h dialogue d (Request.component (ComponentRequest.invoke id class code parameter linked timeout)) = (refl, inr refl)
+accepted-numbered h dialogue d (Request.component (ComponentRequest.result_last id body)) = (refl, inl refl)
+accepted-numbered h dialogue d (Request.component (ComponentRequest.result_more id body)) = (refl, inl refl)
+accepted-numbered h dialogue d (Request.component (ComponentRequest.error_back id code parameter)) = (refl, inl refl)
+accepted-numbered h dialogue d (Request.component (ComponentRequest.u_reject id problem)) = (refl, inl refl)
+accepted-numbered h dialogue d (Request.component (ComponentRequest.u_cancel id)) = given_up-numbered (next_number h) dialogue (Request.component (ComponentRequest.u_cancel id)) (pending d.identifier id h.pairs)
+accepted-numbered h dialogue d (Request.dialogue (DialogueRequest.uni context info)) = (refl, inl refl)
+accepted-numbered h dialogue d (Request.dialogue (DialogueRequest.begin context info)) = (refl, inl refl)
+accepted-numbered h dialogue d (Request.dialogue (DialogueRequest.go_on context info)) = (refl, inl refl)
+accepted-numbered h dialogue d (Request.dialogue (DialogueRequest.finish ending context info)) = (refl, inl refl)
+accepted-numbered h dialogue d (Request.dialogue (DialogueRequest.u_abort why info)) = (refl, inl refl)
 
 request-numbered : (h : History) (dialogue : ℕ) (request : Request) (before : Life) (fault : Option Fault) → IsNumbered (next_number h) (Event.on_dialogue dialogue request) (request_answer h dialogue request before fault)
 request-numbered h dialogue request before (Some f) = (refl, inl refl)

@@ -9,7 +9,7 @@ use Rattle.tcap_model.specs.Histories.Life.{Life, life_by_request, life_if_accep
 use Rattle.tcap_model.specs.Histories.Names.{names}
 use Rattle.tcap_model.specs.Histories.Pair.{Pair, Past}
 use Rattle.tcap_model.specs.Procedures.PortionRules.{PortionVerdict, portion_verdict}
-use Rattle.tcap_model.specs.Words.Request.{Request}
+use Rattle.tcap_model.specs.Words.Request.{Request, ComponentRequest, DialogueRequest}
 use Rattle.tcap_model.specs.Words.State.{State, is_live}
 
 -- ---- over
@@ -29,17 +29,17 @@ IsBorn (Life.standing state context) = Unit {0}
 IsBorn Life.over = Unit {0}
 
 request-was_born : (state : State) (context : Option (List ℕ)) (request : Request) → IsBorn (life_by_request state context request)
-request-was_born state context (Request.invoke id class code parameter linked timeout) = tt
-request-was_born state context (Request.result_last id body) = tt
-request-was_born state context (Request.result_more id body) = tt
-request-was_born state context (Request.error_back id code parameter) = tt
-request-was_born state context (Request.u_reject id problem) = tt
-request-was_born state context (Request.u_cancel id) = tt
-request-was_born state context (Request.uni asked info) = tt
-request-was_born state context (Request.begin asked info) = tt
-request-was_born state context (Request.go_on asked info) = tt
-request-was_born state context (Request.finish ending asked info) = tt
-request-was_born state context (Request.u_abort why info) = tt
+request-was_born state context (Request.component (ComponentRequest.invoke id class code parameter linked timeout)) = tt
+request-was_born state context (Request.component (ComponentRequest.result_last id body)) = tt
+request-was_born state context (Request.component (ComponentRequest.result_more id body)) = tt
+request-was_born state context (Request.component (ComponentRequest.error_back id code parameter)) = tt
+request-was_born state context (Request.component (ComponentRequest.u_reject id problem)) = tt
+request-was_born state context (Request.component (ComponentRequest.u_cancel id)) = tt
+request-was_born state context (Request.dialogue (DialogueRequest.uni asked info)) = tt
+request-was_born state context (Request.dialogue (DialogueRequest.begin asked info)) = tt
+request-was_born state context (Request.dialogue (DialogueRequest.go_on asked info)) = tt
+request-was_born state context (Request.dialogue (DialogueRequest.finish ending asked info)) = tt
+request-was_born state context (Request.dialogue (DialogueRequest.u_abort why info)) = tt
 
 accepted-born : (accepted : Bool) (state : State) (context : Option (List ℕ)) (request : Request) → IsBorn (life_if_accepted accepted state context request)
 accepted-born true state context request = request-was_born state context request

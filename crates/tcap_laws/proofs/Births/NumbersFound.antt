@@ -19,7 +19,7 @@ use Rattle.tcap_model.specs.Invocations.Numbers.{number_of}
 use Rattle.tcap_model.specs.Histories.Pair.{Past}
 use Rattle.tcap_model.specs.Procedures.Refusals.{holds, faults_of, due_on}
 use Rattle.tcap_model.specs.Replies.Reply.{reply, birth_answer, request_answer, accepted_answer, given_up_answer, moment_answer, lapses}
-use Rattle.tcap_model.specs.Words.Request.{Request}
+use Rattle.tcap_model.specs.Words.Request.{Request, ComponentRequest, DialogueRequest}
 use Rattle.tcap_model.specs.Words.State.{State}
 use Rattle.tcap_model.specs.Words.Time.{moment_fault}
 use Rattle.tcap_laws.proofs.Receptions.NothingDue.{first_that-none}
@@ -47,24 +47,24 @@ invocation_of-found start past legal i at =
 -- ---- the end of the numbers
 
 accepted-unspent : (h : History) (dialogue : ℕ) (state : State) (context : Option (List ℕ)) (request : Request) (n : ℕ) → due_on (situation_of h dialogue (standing_of dialogue h.pairs state context) request) request ≡ None → number_of (accepted_answer h (standing_of dialogue h.pairs state context) request) ≡ Some n → are_numbers_spent (next_number h) ≡ false
-accepted-unspent h dialogue state context (Request.invoke id class code parameter linked timeout) n due e =
-    let request : Request = Request.invoke id class code parameter linked timeout in
+accepted-unspent h dialogue state context (Request.component (ComponentRequest.invoke id class code parameter linked timeout)) n due e =
+    let request : Request = Request.component (ComponentRequest.invoke id class code parameter linked timeout) in
     let none = first_that-none (holds (situation_of h dialogue (standing_of dialogue h.pairs state context) request) request) (faults_of request) due in
     none.1.1.1.1.1.0
-accepted-unspent h dialogue state context (Request.result_last id body) n due e = absurd cc
-accepted-unspent h dialogue state context (Request.result_more id body) n due e = absurd cc
-accepted-unspent h dialogue state context (Request.error_back id code parameter) n due e = absurd cc
-accepted-unspent h dialogue state context (Request.u_reject id problem) n due e = absurd cc
-accepted-unspent h dialogue state context (Request.u_cancel id) n due e = absurd (given_up-none (pending dialogue id h.pairs) n e)
+accepted-unspent h dialogue state context (Request.component (ComponentRequest.result_last id body)) n due e = absurd cc
+accepted-unspent h dialogue state context (Request.component (ComponentRequest.result_more id body)) n due e = absurd cc
+accepted-unspent h dialogue state context (Request.component (ComponentRequest.error_back id code parameter)) n due e = absurd cc
+accepted-unspent h dialogue state context (Request.component (ComponentRequest.u_reject id problem)) n due e = absurd cc
+accepted-unspent h dialogue state context (Request.component (ComponentRequest.u_cancel id)) n due e = absurd (given_up-none (pending dialogue id h.pairs) n e)
   where
     given_up-none : (found : Option ℕ) (n : ℕ) → number_of (given_up_answer found) ≡ Some n → ⊥
     given_up-none None n e = cc
     given_up-none (Some m) n e = cc
-accepted-unspent h dialogue state context (Request.uni context' info) n due e = absurd cc
-accepted-unspent h dialogue state context (Request.begin context' info) n due e = absurd cc
-accepted-unspent h dialogue state context (Request.go_on context' info) n due e = absurd cc
-accepted-unspent h dialogue state context (Request.finish ending context' info) n due e = absurd cc
-accepted-unspent h dialogue state context (Request.u_abort why info) n due e = absurd cc
+accepted-unspent h dialogue state context (Request.dialogue (DialogueRequest.uni context' info)) n due e = absurd cc
+accepted-unspent h dialogue state context (Request.dialogue (DialogueRequest.begin context' info)) n due e = absurd cc
+accepted-unspent h dialogue state context (Request.dialogue (DialogueRequest.go_on context' info)) n due e = absurd cc
+accepted-unspent h dialogue state context (Request.dialogue (DialogueRequest.finish ending context' info)) n due e = absurd cc
+accepted-unspent h dialogue state context (Request.dialogue (DialogueRequest.u_abort why info)) n due e = absurd cc
 
 request-unspent : (h : History) (dialogue : ℕ) (request : Request) (before : Life) (fault : Option Fault) (n : ℕ) → due_by h dialogue request before ≡ fault → number_of (request_answer h dialogue request before fault) ≡ Some n → are_numbers_spent (next_number h) ≡ false
 request-unspent h dialogue request before (Some f) n due e = absurd cc

@@ -32,7 +32,7 @@ use Rattle.tcap_model.specs.Invocations.Outcome.{closing_after, first_closing, o
 use Rattle.tcap_model.specs.Words.Output.{Closing}
 use Rattle.tcap_model.specs.Histories.Pair.{Pair, Past}
 use Rattle.tcap_model.specs.Procedures.PortionRules.{PortionVerdict, portion_verdict}
-use Rattle.tcap_model.specs.Words.Request.{Request, Ending}
+use Rattle.tcap_model.specs.Words.Request.{Request, Ending, ComponentRequest, DialogueRequest}
 use Rattle.tcap_model.specs.Invocations.Span.{span}
 use Rattle.tcap_model.specs.Words.State.{State, is_live}
 use Rattle.tcap_pdu.specs.declared.fault.FrameFault.{FrameFault}
@@ -58,18 +58,18 @@ module _ (class : Class) (timeout : ℕ) (c : ℕ) (before : List Noted) where
     standing = Life.standing s context
 
     request_closes : (r : Request) → life_by_request s context r ≡ Life.over → Closes (marks_by_request id standing Life.over r)
-    request_closes (Request.invoke named k code parameter linked t) e = absurd cc
-    request_closes (Request.result_last named body) e = absurd cc
-    request_closes (Request.result_more named body) e = absurd cc
-    request_closes (Request.error_back named code parameter) e = absurd cc
-    request_closes (Request.u_reject named problem) e = absurd cc
-    request_closes (Request.u_cancel named) e = absurd cc
-    request_closes (Request.begin asked info) e = absurd cc
-    request_closes (Request.go_on asked info) e = absurd cc
-    request_closes (Request.uni asked info) e = end_last (Mark.sent ∷ [])
-    request_closes (Request.finish Ending.basic asked info) e = end_last (Mark.sent ∷ [])
-    request_closes (Request.finish Ending.prearranged asked info) e = end_last []
-    request_closes (Request.u_abort why info) e = end_last []
+    request_closes (Request.component (ComponentRequest.invoke named k code parameter linked t)) e = absurd cc
+    request_closes (Request.component (ComponentRequest.result_last named body)) e = absurd cc
+    request_closes (Request.component (ComponentRequest.result_more named body)) e = absurd cc
+    request_closes (Request.component (ComponentRequest.error_back named code parameter)) e = absurd cc
+    request_closes (Request.component (ComponentRequest.u_reject named problem)) e = absurd cc
+    request_closes (Request.component (ComponentRequest.u_cancel named)) e = absurd cc
+    request_closes (Request.dialogue (DialogueRequest.begin asked info)) e = absurd cc
+    request_closes (Request.dialogue (DialogueRequest.go_on asked info)) e = absurd cc
+    request_closes (Request.dialogue (DialogueRequest.uni asked info)) e = end_last (Mark.sent ∷ [])
+    request_closes (Request.dialogue (DialogueRequest.finish Ending.basic asked info)) e = end_last (Mark.sent ∷ [])
+    request_closes (Request.dialogue (DialogueRequest.finish Ending.prearranged asked info)) e = end_last []
+    request_closes (Request.dialogue (DialogueRequest.u_abort why info)) e = end_last []
 
     verdict_closes : (origin : List ℕ) (ms : List Mark) (v : PortionVerdict) → life_by_verdict s context origin v ≡ Life.over → Closes (if_normal v ms (Mark.end ∷ []))
     verdict_closes origin ms (PortionVerdict.normal told info) e = absurd cc
@@ -110,17 +110,17 @@ invoke_leaves d s c i r answer (Some n) q e true over = go r (is_accepted answer
   where
     go : (r : Request) (a : Bool) → invoked_under d r (Some n) ≡ Some i → life_if_accepted a s c r ≡ Life.over → ⊥
     go r false e over = absurd cc
-    go (Request.invoke id class code parameter linked timeout) true e over = absurd cc
-    go (Request.result_last id body) true e over = absurd cc
-    go (Request.result_more id body) true e over = absurd cc
-    go (Request.error_back id code parameter) true e over = absurd cc
-    go (Request.u_reject id problem) true e over = absurd cc
-    go (Request.u_cancel id) true e over = absurd cc
-    go (Request.uni context info) true e over = absurd cc
-    go (Request.begin context info) true e over = absurd cc
-    go (Request.go_on context info) true e over = absurd cc
-    go (Request.finish how context info) true e over = absurd cc
-    go (Request.u_abort why info) true e over = absurd cc
+    go (Request.component (ComponentRequest.invoke id class code parameter linked timeout)) true e over = absurd cc
+    go (Request.component (ComponentRequest.result_last id body)) true e over = absurd cc
+    go (Request.component (ComponentRequest.result_more id body)) true e over = absurd cc
+    go (Request.component (ComponentRequest.error_back id code parameter)) true e over = absurd cc
+    go (Request.component (ComponentRequest.u_reject id problem)) true e over = absurd cc
+    go (Request.component (ComponentRequest.u_cancel id)) true e over = absurd cc
+    go (Request.dialogue (DialogueRequest.uni context info)) true e over = absurd cc
+    go (Request.dialogue (DialogueRequest.begin context info)) true e over = absurd cc
+    go (Request.dialogue (DialogueRequest.go_on context info)) true e over = absurd cc
+    go (Request.dialogue (DialogueRequest.finish how context info)) true e over = absurd cc
+    go (Request.dialogue (DialogueRequest.u_abort why info)) true e over = absurd cc
 
 invoked_leaves : (event : Event) (answer : Answer) (i : Invocation) (s : State) (c : Option (List ℕ)) → invoked_of event answer ≡ Some i → (b : Bool) → life_if_named b s c (record { event = event; answer = answer }) ≡ Life.over → ⊥
 invoked_leaves Event.new_dialogue answer i s c e b over = absurd cc

@@ -23,7 +23,7 @@ use Rattle.tcap_model.specs.Replies.Legal.{AreReplies}
 use Rattle.tcap_model.specs.Histories.Life.{Life, life_by_message, life_by_verdict}
 use Rattle.tcap_model.specs.Invocations.Marks.{Mark, Noted, end_if_over, if_normal, marks_by_message, component_marks}
 use Rattle.tcap_model.specs.Invocations.Outcome.{closing_after, first_closing, outcome}
-use Rattle.tcap_model.specs.Words.Output.{Output, Closing}
+use Rattle.tcap_model.specs.Words.Output.{Output, Closing, ComponentIndication}
 use Rattle.tcap_model.specs.Histories.Pair.{Past}
 use Rattle.tcap_model.specs.Procedures.PortionRules.{PortionVerdict, portion_verdict}
 use Rattle.tcap_model.specs.Replies.Queue.{marks_up_to, handled_in}
@@ -51,7 +51,7 @@ module _ (start : Start) (past place : Past) (n : ℕ) (i : Invocation) (legal :
   ended_here : (items : List Item) → told n place (ended_in i.dialogue past items) ≡ unless (first_closing i.class i.timeout (marks_up_to past items i)) (gain place i (Some Closing.ended))
   ended_here items = ended_number n place past i.dialogue items start legal ∙ (ap (told_one (ended_told n place past i.dialogue items)) found ∙ go (first_closing i.class i.timeout (marks_up_to past items i)))
     where
-      go : (f : Option Closing) → told_if_any n place (cond ((i.dialogue == i.dialogue) && is_none f) (Some (Output.closed i.dialogue i.number i.id Closing.ended)) None) ≡ unless f (gain place i (Some Closing.ended))
+      go : (f : Option Closing) → told_if_any n place (cond ((i.dialogue == i.dialogue) && is_none f) (Some (Output.component (ComponentIndication.closed i.dialogue i.number i.id Closing.ended))) None) ≡ unless f (gain place i (Some Closing.ended))
       go None = rw (own_dialogue, me) refl
       go (Some c) = rw own_dialogue refl
 

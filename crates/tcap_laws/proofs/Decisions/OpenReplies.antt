@@ -29,7 +29,7 @@ use Rattle.tcap_model.specs.Invocations.Outcome.{first_closing, outcome_of, outc
 use Rattle.tcap_model.specs.Words.Output.{Closing}
 use Rattle.tcap_model.specs.Histories.Pair.{Past}
 use Rattle.tcap_model.specs.Replies.Reply.{given_up_answer, accepted_answer, request_answer, reply}
-use Rattle.tcap_model.specs.Words.Request.{Request, Ending}
+use Rattle.tcap_model.specs.Words.Request.{Request, Ending, ComponentRequest, DialogueRequest}
 use Rattle.tcap_model.specs.Procedures.RequestMessage.{message_of}
 use Rattle.tcap_model.specs.Invocations.Span.{span}
 use Rattle.tcap_model.specs.Words.State.{State}
@@ -78,7 +78,7 @@ module _ (start : Start) (past place : Past) (n : ℕ) (i : Invocation) (legal :
     AnswersTo r a = told_by_answer n place (Event.on_dialogue i.dialogue r) a
         ≡ wanted place past i (noted_at_clock (clock past) (marks_by_event i.id (Life.standing s c) (life_by_event s c (Event.on_dialogue i.dialogue r) (is_accepted a)) (Event.on_dialogue i.dialogue r) (is_accepted a)))
 
-    cancel_here : (id : ℤ) (o : Option ℕ) → pending i.dialogue id past ≡ o → AnswersTo (Request.u_cancel id) (given_up_answer o)
+    cancel_here : (id : ℤ) (o : Option ℕ) → pending i.dialogue id past ≡ o → AnswersTo (Request.component (ComponentRequest.u_cancel id)) (given_up_answer o)
     cancel_here id None q = sym nothing
     cancel_here id (Some m) q = go (int_eq id i.id) refl
       where
@@ -99,18 +99,18 @@ module _ (start : Start) (past place : Past) (n : ℕ) (i : Invocation) (legal :
             mine closed refl same number
 
     accepted_here : (r : Request) → AnswersTo r (accepted_answer h (standing_of i.dialogue past s c) r)
-    accepted_here (Request.invoke id class code parameter linked timeout) = sym nothing
-    accepted_here (Request.result_last id body) = sym nothing
-    accepted_here (Request.result_more id body) = sym nothing
-    accepted_here (Request.error_back id code parameter) = sym nothing
-    accepted_here (Request.u_reject id problem) = sym nothing
-    accepted_here (Request.u_cancel id) = cancel_here id (pending i.dialogue id past) refl
-    accepted_here (Request.uni asked info) = last_here start past place n i legal found (message_of (standing_of i.dialogue past s c) (Request.uni asked info))
-    accepted_here (Request.begin asked info) = sent_silent n place (message_of (standing_of i.dialogue past s c) (Request.begin asked info)) ∙ sym nothing
-    accepted_here (Request.go_on asked info) = sent_silent n place (message_of (standing_of i.dialogue past s c) (Request.go_on asked info)) ∙ sym nothing
-    accepted_here (Request.finish Ending.basic asked info) = last_here start past place n i legal found (message_of (standing_of i.dialogue past s c) (Request.finish Ending.basic asked info))
-    accepted_here (Request.finish Ending.prearranged asked info) = last_here start past place n i legal found (message_of (standing_of i.dialogue past s c) (Request.finish Ending.prearranged asked info))
-    accepted_here (Request.u_abort why info) = last_here start past place n i legal found (message_of (standing_of i.dialogue past s c) (Request.u_abort why info))
+    accepted_here (Request.component (ComponentRequest.invoke id class code parameter linked timeout)) = sym nothing
+    accepted_here (Request.component (ComponentRequest.result_last id body)) = sym nothing
+    accepted_here (Request.component (ComponentRequest.result_more id body)) = sym nothing
+    accepted_here (Request.component (ComponentRequest.error_back id code parameter)) = sym nothing
+    accepted_here (Request.component (ComponentRequest.u_reject id problem)) = sym nothing
+    accepted_here (Request.component (ComponentRequest.u_cancel id)) = cancel_here id (pending i.dialogue id past) refl
+    accepted_here (Request.dialogue (DialogueRequest.uni asked info)) = last_here start past place n i legal found (message_of (standing_of i.dialogue past s c) (Request.dialogue (DialogueRequest.uni asked info)))
+    accepted_here (Request.dialogue (DialogueRequest.begin asked info)) = sent_silent n place (message_of (standing_of i.dialogue past s c) (Request.dialogue (DialogueRequest.begin asked info))) ∙ sym nothing
+    accepted_here (Request.dialogue (DialogueRequest.go_on asked info)) = sent_silent n place (message_of (standing_of i.dialogue past s c) (Request.dialogue (DialogueRequest.go_on asked info))) ∙ sym nothing
+    accepted_here (Request.dialogue (DialogueRequest.finish Ending.basic asked info)) = last_here start past place n i legal found (message_of (standing_of i.dialogue past s c) (Request.dialogue (DialogueRequest.finish Ending.basic asked info)))
+    accepted_here (Request.dialogue (DialogueRequest.finish Ending.prearranged asked info)) = last_here start past place n i legal found (message_of (standing_of i.dialogue past s c) (Request.dialogue (DialogueRequest.finish Ending.prearranged asked info)))
+    accepted_here (Request.dialogue (DialogueRequest.u_abort why info)) = last_here start past place n i legal found (message_of (standing_of i.dialogue past s c) (Request.dialogue (DialogueRequest.u_abort why info)))
 
     request_here : (r : Request) (f : Option Fault) → AnswersTo r (request_answer h i.dialogue r (Life.standing s c) f)
     request_here r (Some f) = sym nothing

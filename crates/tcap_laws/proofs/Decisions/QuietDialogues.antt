@@ -17,7 +17,7 @@ use Rattle.tcap_model.specs.Histories.Pair.{Past}
 use Rattle.tcap_model.specs.Procedures.PortionRules.{PortionVerdict, portion_verdict}
 use Rattle.tcap_model.specs.Replies.Queue.{if_sent, handled_in}
 use Rattle.tcap_model.specs.Replies.Reply.{ended_in, given_up_answer, accepted_answer, request_answer, continue_outputs, end_outputs, message_outputs, taken_outputs}
-use Rattle.tcap_model.specs.Words.Request.{Request}
+use Rattle.tcap_model.specs.Words.Request.{Request, ComponentRequest, DialogueRequest}
 use Rattle.tcap_model.specs.Procedures.RequestMessage.{message_of}
 use Rattle.tcap_model.specs.Words.State.{State}
 use Rattle.tcap_pdu.specs.FrameSpelling.{Message}
@@ -57,23 +57,23 @@ module _ (n : ℕ) (place past : Past) (dialogue : ℕ) (quiet : IsQuiet n place
   last_quiet : (message : Option Message) → told n place (sent_if_any message ++ ended_in dialogue past []) ≡ []
   last_quiet message = told-append n place (sent_if_any message) (ended_in dialogue past []) ∙ (ap (λ z. z ++ told n place (ended_in dialogue past [])) (sent_silent n place message) ∙ quiet.ends [])
 
-  cancel_quiet : (id : ℤ) (o : Option ℕ) → pending dialogue id past ≡ o → told_by_answer n place (Event.on_dialogue dialogue (Request.u_cancel id)) (given_up_answer o) ≡ []
+  cancel_quiet : (id : ℤ) (o : Option ℕ) → pending dialogue id past ≡ o → told_by_answer n place (Event.on_dialogue dialogue (Request.component (ComponentRequest.u_cancel id))) (given_up_answer o) ≡ []
   cancel_quiet id None q = refl
   cancel_quiet id (Some m) q = let other = quiet.cancels id m q in rw other refl
 
 module _ (n : ℕ) (place : Past) (h : History) (dialogue : ℕ) (quiet : IsQuiet n place h.pairs dialogue) where
   accepted_quiet : (state : State) (context : Option (List ℕ)) (r : Request) → told_by_answer n place (Event.on_dialogue dialogue r) (accepted_answer h (standing_of dialogue h.pairs state context) r) ≡ []
-  accepted_quiet state context (Request.invoke id class code parameter linked timeout) = refl
-  accepted_quiet state context (Request.result_last id body) = refl
-  accepted_quiet state context (Request.result_more id body) = refl
-  accepted_quiet state context (Request.error_back id code parameter) = refl
-  accepted_quiet state context (Request.u_reject id problem) = refl
-  accepted_quiet state context (Request.u_cancel id) = cancel_quiet n place h.pairs dialogue quiet id (pending dialogue id h.pairs) refl
-  accepted_quiet state context (Request.uni asked info) = last_quiet n place h.pairs dialogue quiet (message_of (standing_of dialogue h.pairs state context) (Request.uni asked info))
-  accepted_quiet state context (Request.begin asked info) = sent_silent n place (message_of (standing_of dialogue h.pairs state context) (Request.begin asked info))
-  accepted_quiet state context (Request.go_on asked info) = sent_silent n place (message_of (standing_of dialogue h.pairs state context) (Request.go_on asked info))
-  accepted_quiet state context (Request.finish ending asked info) = last_quiet n place h.pairs dialogue quiet (message_of (standing_of dialogue h.pairs state context) (Request.finish ending asked info))
-  accepted_quiet state context (Request.u_abort why info) = last_quiet n place h.pairs dialogue quiet (message_of (standing_of dialogue h.pairs state context) (Request.u_abort why info))
+  accepted_quiet state context (Request.component (ComponentRequest.invoke id class code parameter linked timeout)) = refl
+  accepted_quiet state context (Request.component (ComponentRequest.result_last id body)) = refl
+  accepted_quiet state context (Request.component (ComponentRequest.result_more id body)) = refl
+  accepted_quiet state context (Request.component (ComponentRequest.error_back id code parameter)) = refl
+  accepted_quiet state context (Request.component (ComponentRequest.u_reject id problem)) = refl
+  accepted_quiet state context (Request.component (ComponentRequest.u_cancel id)) = cancel_quiet n place h.pairs dialogue quiet id (pending dialogue id h.pairs) refl
+  accepted_quiet state context (Request.dialogue (DialogueRequest.uni asked info)) = last_quiet n place h.pairs dialogue quiet (message_of (standing_of dialogue h.pairs state context) (Request.dialogue (DialogueRequest.uni asked info)))
+  accepted_quiet state context (Request.dialogue (DialogueRequest.begin asked info)) = sent_silent n place (message_of (standing_of dialogue h.pairs state context) (Request.dialogue (DialogueRequest.begin asked info)))
+  accepted_quiet state context (Request.dialogue (DialogueRequest.go_on asked info)) = sent_silent n place (message_of (standing_of dialogue h.pairs state context) (Request.dialogue (DialogueRequest.go_on asked info)))
+  accepted_quiet state context (Request.dialogue (DialogueRequest.finish ending asked info)) = last_quiet n place h.pairs dialogue quiet (message_of (standing_of dialogue h.pairs state context) (Request.dialogue (DialogueRequest.finish ending asked info)))
+  accepted_quiet state context (Request.dialogue (DialogueRequest.u_abort why info)) = last_quiet n place h.pairs dialogue quiet (message_of (standing_of dialogue h.pairs state context) (Request.dialogue (DialogueRequest.u_abort why info)))
 
   pub request_quiet : (r : Request) (l : Life) (f : Option Fault) → told_by_answer n place (Event.on_dialogue dialogue r) (request_answer h dialogue r l f) ≡ []
   request_quiet r l (Some f) = refl

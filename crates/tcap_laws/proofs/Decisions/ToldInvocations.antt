@@ -18,7 +18,7 @@ use Rattle.tcap_model.specs.Histories.History.{Start}
 use Rattle.tcap_model.specs.Invocations.Invocation.{Invocation, invoked_by, invocations, invocation_of}
 use Rattle.tcap_model.specs.Replies.Legal.{AreReplies}
 use Rattle.tcap_model.specs.Invocations.Outcome.{first_closing, is_sent_in}
-use Rattle.tcap_model.specs.Words.Output.{Output, Closing}
+use Rattle.tcap_model.specs.Words.Output.{Output, Closing, ComponentIndication}
 use Rattle.tcap_model.specs.Histories.Pair.{Pair, Past}
 use Rattle.tcap_model.specs.Replies.Queue.{marks_up_to}
 use Rattle.tcap_model.specs.Replies.Reply.{ended_of, ended_in, Lapsing, is_before, put, in_order, lapsing_by, lapsing_at, lapse_told, lapses}
@@ -104,7 +104,7 @@ module _ (n : ℕ) (place past : Past) (dialogue : ℕ) (items : List Item) wher
   ended_others : (i : Invocation) → (i.number == n) ≡ false → ended_told i ≡ []
   ended_others i e = go ((i.dialogue == dialogue) && is_none (first_closing i.class i.timeout (marks_up_to past items i)))
     where
-      go : (b : Bool) → told_if_any n place (cond b (Some (Output.closed dialogue i.number i.id Closing.ended)) None) ≡ []
+      go : (b : Bool) → told_if_any n place (cond b (Some (Output.component (ComponentIndication.closed dialogue i.number i.id Closing.ended))) None) ≡ []
       go true = rw e refl
       go false = refl
 
@@ -132,7 +132,7 @@ module _ (n : ℕ) (place past : Past) where
           let found_x : invocation_of n past ≡ Some x.invocation = ap (λ m. invocation_of m past) (sym at_x) ∙ p in
           let found_y : invocation_of n past ≡ Some y.invocation = ap (λ m. invocation_of m past) (sym at_y) ∙ q in
           let same : x.invocation ≡ y.invocation = cc in
-          let equal : lapse x ≡ lapse y = ap (λ (i : Invocation). told_by_output n place (Output.closed i.dialogue i.number i.id Closing.lapsed)) same in
+          let equal : lapse x ≡ lapse y = ap (λ (i : Invocation). told_by_output n place (Output.component (ComponentIndication.closed i.dialogue i.number i.id Closing.lapsed))) same in
           ap (λ z. lapse y ++ z) equal ∙ ap (λ z. z ++ lapse y) (sym equal)
       go true false u w = rw w (sym (append-nil (lapse x)))
       go false b u w = rw u (append-nil (lapse y))

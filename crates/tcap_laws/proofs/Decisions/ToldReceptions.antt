@@ -14,7 +14,7 @@ use Rattle.tcap_model.specs.Histories.History.{History}
 use Rattle.tcap_model.specs.Histories.Life.{life, live_in}
 use Rattle.tcap_model.specs.Words.LocalId.{dialogue_named, is_that}
 use Rattle.tcap_model.specs.Histories.Names.{names, named_within, is_destined}
-use Rattle.tcap_model.specs.Words.Output.{Output, AbortCause, DropCause}
+use Rattle.tcap_model.specs.Words.Output.{Output, AbortCause, DropCause, DialogueIndication}
 use Rattle.tcap_model.specs.Histories.Pair.{Past}
 use Rattle.tcap_model.specs.Procedures.PortionRules.{BeginVerdict, begin_verdict, PortionVerdict, uni_verdict}
 use Rattle.tcap_model.specs.Procedures.Reception.{Reception, reception, reading_by, message_by, uni_by, begin_by, continue_by, last_by, live_named, addressed, addressed_if_any, faulty, fault_abort, faulty_last, faulty_continue, aborted_or_dropped}
@@ -109,7 +109,7 @@ module _ (n : ℕ) (place : Past) (h : History) (dialogue : ℕ) (bytes : List �
 
   broken_by : (f : FrameFault) (origin : Option (List ℕ)) (d cause : ℕ) → told n place (ended_in d h.pairs []) ≡ wanted → Tells (Reception.broken d (fault_abort f origin) cause)
   broken_by f origin d cause e =
-      told-append n place (option_to_list (fault_abort f origin)) (Output.p_abort d (AbortCause.cause cause) ∷ ended_in d h.pairs [])
+      told-append n place (option_to_list (fault_abort f origin)) (Output.dialogue (DialogueIndication.p_abort d (AbortCause.cause cause)) ∷ ended_in d h.pairs [])
       ∙ (ap (λ z. z ++ told n place (ended_in d h.pairs [])) (abort_told_of f origin) ∙ e)
 
   -- a destination at the front of a faulty message

@@ -14,11 +14,11 @@ use Rattle.tcap_model.specs.Replies.Legal.{AreReplies}
 use Rattle.tcap_model.specs.Histories.Life.{Life, life}
 use Rattle.tcap_model.specs.Words.LocalId.{local_id}
 use Rattle.tcap_model.specs.Statements.Net.{Engine, Trace, far, side, history_in, Net, IsNet}
-use Rattle.tcap_model.specs.Words.Output.{Output}
+use Rattle.tcap_model.specs.Words.Output.{Output, ComponentIndication}
 use Rattle.tcap_model.specs.Histories.Pair.{Pair, Past}
 use Rattle.tcap_model.specs.Statements.Places.{StandsIn, Tells}
 use Rattle.tcap_model.specs.Replies.Reply.{reply}
-use Rattle.tcap_model.specs.Words.Request.{Request}
+use Rattle.tcap_model.specs.Words.Request.{Request, ComponentRequest}
 use Rattle.tcap_model.specs.Statements.TwoEnds.{Happens, peer_in, IsAnswer, IsFarRequest, UsesOnce, AnswersInvoke, AnswersWhatItWasTold, WasInvoked, WasOpened, WasSent, AfterInvoke, EachIsTwoEnded}
 use Rattle.tcap_laws.proofs.Peers.CarriedComponents.{Carried, stands-before}
 use Rattle.tcap_laws.proofs.Spans.DrawnInvocations.{invocation_step}
@@ -72,7 +72,7 @@ answer-of past bytes born dialogue number id _ _ (IsAnswer.a_result_more body) p
 answer-of past bytes born dialogue number id _ _ (IsAnswer.an_error code parameter) placed = (placed, AnswersInvoke.an_error code parameter)
 answer-of past bytes born dialogue number id _ _ (IsAnswer.a_reject problem) placed = (placed.0, rejects problem.kind placed.1)
   where
-    rejects : (k : Kind) → RejectsInvoke k → AnswersInvoke id (Request.u_reject (Some id) (record { kind = k; code = problem.code }))
+    rejects : (k : Kind) → RejectsInvoke k → AnswersInvoke id (Request.component (ComponentRequest.u_reject (Some id) (record { kind = k; code = problem.code })))
     rejects kind.General is = AnswersInvoke.a_general_reject problem.code
     rejects kind.Invoke is = AnswersInvoke.an_invoke_reject problem.code
     rejects kind.Result is = absurd is
@@ -140,7 +140,7 @@ module _ (net : Net) (is : IsNet net) (engine : Engine) (pair : Pair) (before : 
   peered = is-peered (local_id dialogue) (life f (side other earlier)) far_request.is_peer
 
   abbrev told : Output
-  told = Output.invoked (Some f) id was.linked was.code was.parameter
+  told = Output.component (ComponentIndication.invoked (Some f) id was.linked was.code was.parameter)
 
   it : Carried then other at.before was.pair.event told
   it = invoke-told then then-is engine other refl (far-far engine) dialogue f (opened-short net is engine dialogue opened) never peered was.pair at.before at.happens id was.linked was.code was.parameter was.tells
@@ -167,7 +167,7 @@ module _ (net : Net) (is : IsNet net) (engine : Engine) (pair : Pair) (before : 
       let i : Invocation = invocation_as from.number it.sent.dialogue a.id a.class a.timeout in
       let makes : invoked_by a.pair ≡ Some i =
       ap (λ (e : Event). invoked_of e a.pair.answer) a.is_event
-      ∙ ap (invoked_of (Event.on_dialogue it.sent.dialogue (Request.invoke a.id a.class a.code a.parameter a.linked a.timeout))) a.is_answer in
+      ∙ ap (invoked_of (Event.on_dialogue it.sent.dialogue (Request.component (ComponentRequest.invoke a.id a.class a.code a.parameter a.linked a.timeout)))) a.is_answer in
       let stands-at : StandsIn a.pair a.before (side engine at.before) = subst (λ (e : Engine). StandsIn a.pair a.before (side e at.before)) (far-far engine) (stands-before a.pair it.sender a.before it.past (side (far other) at.before) a.stands it.stands) in
       let within = in-in (side engine at.before) (side engine earlier) (side engine net.trace) at-in (in-in (side engine earlier) (side engine before) (side engine net.trace) (earlier-in engine) (here-in engine)) in
       let of = answer.0 in

@@ -18,7 +18,7 @@ use Rattle.tcap_model.specs.Invocations.Invocation.{Invocation, invocations}
 use Rattle.tcap_model.specs.Replies.Legal.{AreReplies}
 use Rattle.tcap_model.specs.Histories.Life.{Life, life, live_in}
 use Rattle.tcap_model.specs.Invocations.Outcome.{first_closing}
-use Rattle.tcap_model.specs.Words.Output.{Output, Closing, AbortCause}
+use Rattle.tcap_model.specs.Words.Output.{Output, Closing, AbortCause, ComponentIndication, DialogueIndication}
 use Rattle.tcap_model.specs.Histories.Pair.{Past}
 use Rattle.tcap_model.specs.Statements.Places.{Tells}
 use Rattle.tcap_model.specs.Procedures.PortionRules.{PortionVerdict, portion_verdict}
@@ -39,7 +39,7 @@ if-fair : (bytes : List ℕ) (output : Option Output) (outputs : List Output) �
 if-fair bytes None outputs p q = q
 if-fair bytes (Some output) outputs p q = (p.0, q)
 
-ended-of-fair : (bytes : List ℕ) (test : Bool) (dialogue : ℕ) (i : Invocation) → AllFair bytes (option_to_list (if test then Some (Output.closed dialogue i.number i.id Closing.ended) else None))
+ended-of-fair : (bytes : List ℕ) (test : Bool) (dialogue : ℕ) (i : Invocation) → AllFair bytes (option_to_list (if test then Some (Output.component (ComponentIndication.closed dialogue i.number i.id Closing.ended)) else None))
 ended-of-fair bytes true dialogue i = (tt, tt)
 ended-of-fair bytes false dialogue i = tt
 
@@ -56,7 +56,7 @@ ended-fair bytes dialogue past components = each_ended-fair bytes dialogue past 
 sent-fair : (bytes : List ℕ) (output : Output) → Sends output → Fair bytes output
 sent-fair bytes output sends = subst (Fair bytes) (sym sends.2) tt
 
-no_common-fair : (bytes : List ℕ) (test : Bool) (dialogue : ℕ) (pdu : Option PduValue) → Fair bytes (if test then Output.p_abort dialogue AbortCause.no_common else Output.u_abort dialogue pdu)
+no_common-fair : (bytes : List ℕ) (test : Bool) (dialogue : ℕ) (pdu : Option PduValue) → Fair bytes (if test then Output.dialogue (DialogueIndication.p_abort dialogue AbortCause.no_common) else Output.dialogue (DialogueIndication.u_abort dialogue pdu))
 no_common-fair bytes true dialogue pdu = tt
 no_common-fair bytes false dialogue pdu = tt
 
@@ -102,7 +102,7 @@ module _ (bytes : List ℕ) (dialogue : ℕ) (past : Past) (named : IsNamedBy by
   taken-fair (Life.standing state context) m = message-fair state context m
   taken-fair Life.over m = tt
 
-broken-fair : (bytes : List ℕ) (dialogue cause : ℕ) (past : Past) (abort : Option Output) → IfSends abort → AllFair bytes (option_to_list abort ++ Output.p_abort dialogue (AbortCause.cause cause) ∷ ended_in dialogue past [])
+broken-fair : (bytes : List ℕ) (dialogue cause : ℕ) (past : Past) (abort : Option Output) → IfSends abort → AllFair bytes (option_to_list abort ++ Output.dialogue (DialogueIndication.p_abort dialogue (AbortCause.cause cause)) ∷ ended_in dialogue past [])
 broken-fair bytes dialogue cause past None sends = (tt, ended-fair bytes dialogue past [])
 broken-fair bytes dialogue cause past (Some abort) sends = (sent-fair bytes abort sends, (tt, ended-fair bytes dialogue past []))
 

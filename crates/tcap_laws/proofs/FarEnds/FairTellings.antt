@@ -21,7 +21,7 @@ use Rattle.tcap_model.specs.Invocations.Invocation.{Invocation, invoked_by, late
 use Rattle.tcap_model.specs.Replies.Legal.{AreReplies}
 use Rattle.tcap_model.specs.Histories.Life.{Life, life}
 use Rattle.tcap_model.specs.Histories.Names.{names}
-use Rattle.tcap_model.specs.Words.Output.{Output, Closing, Rejector}
+use Rattle.tcap_model.specs.Words.Output.{Output, Closing, Rejector, ComponentIndication}
 use Rattle.tcap_model.specs.Histories.Pair.{Past}
 use Rattle.tcap_model.specs.Replies.Queue.{if_sent, sent_there, handled_after, handled_in}
 use Rattle.tcap_laws.proofs.Births.DrawnDialogues.{beyond-unborn, unborn-life}
@@ -47,17 +47,12 @@ FairClosing bytes dialogue Closing.given_up = Unit {0}
 
 abbrev pub Fair : List ℕ → Output → Type 0
 Fair bytes (Output.send octets) = Unit {0}
-Fair bytes (Output.uni context info) = Unit {0}
-Fair bytes (Output.begin dialogue context info) = Unit {0}
-Fair bytes (Output.go_on dialogue context info) = Unit {0}
-Fair bytes (Output.end dialogue context info) = Unit {0}
-Fair bytes (Output.u_abort dialogue pdu) = Unit {0}
-Fair bytes (Output.p_abort dialogue why) = Unit {0}
-Fair bytes (Output.invoked dialogue id linked code parameter) = Unit {0}
-Fair bytes (Output.result_more dialogue number id body) = IsNamedBy bytes dialogue
-Fair bytes (Output.local_reject dialogue id problem) = is_by_provider problem ≡ true
-Fair bytes (Output.remote_reject dialogue id problem by) = Unit {0}
-Fair bytes (Output.closed dialogue number id closing) = FairClosing bytes dialogue closing
+Fair bytes (Output.dialogue indication) = Unit {0}
+Fair bytes (Output.component (ComponentIndication.invoked dialogue id linked code parameter)) = Unit {0}
+Fair bytes (Output.component (ComponentIndication.result_more dialogue number id body)) = IsNamedBy bytes dialogue
+Fair bytes (Output.component (ComponentIndication.local_reject dialogue id problem)) = is_by_provider problem ≡ true
+Fair bytes (Output.component (ComponentIndication.remote_reject dialogue id problem by)) = Unit {0}
+Fair bytes (Output.component (ComponentIndication.closed dialogue number id closing)) = FairClosing bytes dialogue closing
 Fair bytes (Output.dropped why) = Unit {0}
 
 abbrev pub AllFair : List ℕ → List Output → Type 0

@@ -16,11 +16,11 @@ use Rattle.tcap_model.specs.Replies.Legal.{AreReplies}
 use Rattle.tcap_model.specs.Histories.Life.{Life, life}
 use Rattle.tcap_model.specs.Words.LocalId.{dialogue_named, local_id, is_that}
 use Rattle.tcap_model.specs.Statements.Net.{Engine, Trace, far, side, Net, IsNet}
-use Rattle.tcap_model.specs.Words.Output.{Output}
+use Rattle.tcap_model.specs.Words.Output.{Output, ComponentIndication}
 use Rattle.tcap_model.specs.Histories.Pair.{Pair, Past}
 use Rattle.tcap_model.specs.Statements.Places.{StandsIn, Tells}
 use Rattle.tcap_model.specs.Replies.Reply.{reply}
-use Rattle.tcap_model.specs.Words.Request.{Request, Ending, AbortReason}
+use Rattle.tcap_model.specs.Words.Request.{Request, Ending, AbortReason, DialogueRequest}
 use Rattle.tcap_model.specs.Procedures.RequestMessage.{continue_message, end_message, abort_message, refusing_message, message_of, answer_portion, user_abort, refusing_abort}
 use Rattle.tcap_model.specs.Procedures.Standing.{Standing}
 use Rattle.tcap_model.specs.Words.State.{State, peer_of}
@@ -92,22 +92,17 @@ refuses-none state None info is = is
 refuses-none state (Some context) info is = aborts-none state (refusing_abort context info) is
 
 abbrev IsBeginRequest : Request → Type 0
-IsBeginRequest request = (context : Option (List ℕ)) × (info : List ℕ) × (request ≡ Request.begin context info)
+IsBeginRequest request = (context : Option (List ℕ)) × (info : List ℕ) × (request ≡ Request.dialogue (DialogueRequest.begin context info))
 
 begin-request : (d : Standing) (request : Request) → IfAnyBegin (message_of d request) → IsBeginRequest request
-begin-request d (Request.invoke id class code parameter linked timeout) is = absurd is
-begin-request d (Request.result_last id body) is = absurd is
-begin-request d (Request.result_more id body) is = absurd is
-begin-request d (Request.error_back id code parameter) is = absurd is
-begin-request d (Request.u_reject id problem) is = absurd is
-begin-request d (Request.u_cancel id) is = absurd is
-begin-request d (Request.uni context info) is = absurd is
-begin-request d (Request.begin context info) is = (context, info, refl)
-begin-request d (Request.go_on context info) is = absurd (begins-none d d.state (answer_portion d.state d.context context info) is)
-begin-request d (Request.finish Ending.basic context info) is = absurd (ends-none d d.state (answer_portion d.state d.context context info) is)
-begin-request d (Request.finish Ending.prearranged context info) is = absurd is
-begin-request d (Request.u_abort AbortReason.by_user info) is = absurd (aborts-none d.state (user_abort d.context info) is)
-begin-request d (Request.u_abort AbortReason.not_supported info) is = absurd (refuses-none d.state d.context info is)
+begin-request d (Request.component asked) is = absurd is
+begin-request d (Request.dialogue (DialogueRequest.uni context info)) is = absurd is
+begin-request d (Request.dialogue (DialogueRequest.begin context info)) is = (context, info, refl)
+begin-request d (Request.dialogue (DialogueRequest.go_on context info)) is = absurd (begins-none d d.state (answer_portion d.state d.context context info) is)
+begin-request d (Request.dialogue (DialogueRequest.finish Ending.basic context info)) is = absurd (ends-none d d.state (answer_portion d.state d.context context info) is)
+begin-request d (Request.dialogue (DialogueRequest.finish Ending.prearranged context info)) is = absurd is
+begin-request d (Request.dialogue (DialogueRequest.u_abort AbortReason.by_user info)) is = absurd (aborts-none d.state (user_abort d.context info) is)
+begin-request d (Request.dialogue (DialogueRequest.u_abort AbortReason.not_supported info)) is = absurd (refuses-none d.state d.context info is)
 
 -- ---- the far dialogue
 
@@ -149,9 +144,9 @@ module _ (net : Net) (is : IsNet net) (engine other : Engine) (forth : far engin
   twice : far (far other) ≡ other
   twice = ap far back ∙ forth
 
-  module _ (pair : Pair) (before : Trace) (happens : Happens other pair before net.trace) (id : ℤ) (linked : Option ℤ) (code : CodeParts) (parameter : Option (List ℕ)) (tells : Tells pair.answer (Output.invoked (Some f) id linked code parameter)) where
+  module _ (pair : Pair) (before : Trace) (happens : Happens other pair before net.trace) (id : ℤ) (linked : Option ℤ) (code : CodeParts) (parameter : Option (List ℕ)) (tells : Tells pair.answer (Output.component (ComponentIndication.invoked (Some f) id linked code parameter))) where
     abbrev told : Output
-    told = Output.invoked (Some f) id linked code parameter
+    told = Output.component (ComponentIndication.invoked (Some f) id linked code parameter)
 
     pub invoke-told : Carried net other before pair.event told
     invoke-told = carried net is other pair before happens told tells (IsOfComponent.invoke (Some f) id linked code parameter)

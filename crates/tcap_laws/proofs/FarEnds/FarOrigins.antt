@@ -20,11 +20,11 @@ use Rattle.tcap_model.specs.Histories.Life.{Life, life}
 use Rattle.tcap_model.specs.Words.LocalId.{dialogue_named, local_id}
 use Rattle.tcap_model.specs.Histories.Names.{is_destined, named_within}
 use Rattle.tcap_model.specs.Statements.Net.{Engine, Trace, far, side, Net, IsNet}
-use Rattle.tcap_model.specs.Words.Output.{Output, Closing}
+use Rattle.tcap_model.specs.Words.Output.{Output, Closing, ComponentIndication}
 use Rattle.tcap_model.specs.Histories.Pair.{Pair, Past}
 use Rattle.tcap_model.specs.Statements.Places.{StandsIn, Tells}
 use Rattle.tcap_model.specs.Replies.Reply.{reply}
-use Rattle.tcap_model.specs.Words.Request.{Request}
+use Rattle.tcap_model.specs.Words.Request.{Request, ComponentRequest}
 use Rattle.tcap_model.specs.Words.State.{State, peer_of}
 use Rattle.tcap_model.specs.Procedures.States.{has_peer}
 use Rattle.tcap_model.specs.Statements.TwoEnds.{Happens, IsAnswer, ComesFromFar, Origin, peer_in}
@@ -44,22 +44,17 @@ use Rattle.tcap_laws.proofs.FarEnds.WaitingInvokes.{IsNoInvoke}
 -- the component that an indication stands for
 abbrev component_told : Output → Option ComponentParts
 component_told (Output.send bytes) = None
-component_told (Output.uni context info) = None
-component_told (Output.begin dialogue context info) = None
-component_told (Output.go_on dialogue context info) = None
-component_told (Output.end dialogue context info) = None
-component_told (Output.u_abort dialogue pdu) = None
-component_told (Output.p_abort dialogue why) = None
-component_told (Output.invoked dialogue id linked code parameter) = Some (invoke id linked code parameter)
-component_told (Output.result_more dialogue number id body) = Some (result_more id body)
-component_told (Output.local_reject dialogue id problem) = None
-component_told (Output.remote_reject dialogue id problem by) = None
-component_told (Output.closed dialogue number id (Closing.result_last body)) = Some (result_last id body)
-component_told (Output.closed dialogue number id (Closing.error_back code parameter)) = Some (error_back id code parameter)
-component_told (Output.closed dialogue number id (Closing.rejected problem by)) = Some (reject_back (Some id) problem)
-component_told (Output.closed dialogue number id Closing.lapsed) = None
-component_told (Output.closed dialogue number id Closing.ended) = None
-component_told (Output.closed dialogue number id Closing.given_up) = None
+component_told (Output.dialogue indication) = None
+component_told (Output.component (ComponentIndication.invoked dialogue id linked code parameter)) = Some (invoke id linked code parameter)
+component_told (Output.component (ComponentIndication.result_more dialogue number id body)) = Some (result_more id body)
+component_told (Output.component (ComponentIndication.local_reject dialogue id problem)) = None
+component_told (Output.component (ComponentIndication.remote_reject dialogue id problem by)) = None
+component_told (Output.component (ComponentIndication.closed dialogue number id (Closing.result_last body))) = Some (result_last id body)
+component_told (Output.component (ComponentIndication.closed dialogue number id (Closing.error_back code parameter))) = Some (error_back id code parameter)
+component_told (Output.component (ComponentIndication.closed dialogue number id (Closing.rejected problem by))) = Some (reject_back (Some id) problem)
+component_told (Output.component (ComponentIndication.closed dialogue number id Closing.lapsed)) = None
+component_told (Output.component (ComponentIndication.closed dialogue number id Closing.ended)) = None
+component_told (Output.component (ComponentIndication.closed dialogue number id Closing.given_up)) = None
 component_told (Output.dropped why) = None
 
 stands-told : (output : Output) (c : ComponentParts) → StandsFor output c → component_told output ≡ Some c
@@ -99,10 +94,10 @@ answer-by-user bytes dialogue number id _ _ (IsAnswer.a_reject told) fair named 
 -- it needs a peer
 answer-needs : (h : History) (far_dialogue : ℕ) (s : State) (c : Option (List ℕ)) → life far_dialogue h.pairs ≡ Life.standing s c → (dialogue number : ℕ) (id : ℤ) (output : Output) (request : Request) → IsAnswer dialogue number id output request →
     is_accepted (reply h (Event.on_dialogue far_dialogue request)) ≡ true → not (has_peer s) ≡ false
-answer-needs h d s c lives dialogue number id _ _ (IsAnswer.a_result_last body) accepted = (none-due h d (Request.result_last id body) s c lives accepted).1.0
-answer-needs h d s c lives dialogue number id _ _ (IsAnswer.a_result_more body) accepted = (none-due h d (Request.result_more id body) s c lives accepted).1.0
-answer-needs h d s c lives dialogue number id _ _ (IsAnswer.an_error code parameter) accepted = (none-due h d (Request.error_back id code parameter) s c lives accepted).1.0
-answer-needs h d s c lives dialogue number id _ _ (IsAnswer.a_reject problem) accepted = (none-due h d (Request.u_reject (Some id) problem) s c lives accepted).1.0
+answer-needs h d s c lives dialogue number id _ _ (IsAnswer.a_result_last body) accepted = (none-due h d (Request.component (ComponentRequest.result_last id body)) s c lives accepted).1.0
+answer-needs h d s c lives dialogue number id _ _ (IsAnswer.a_result_more body) accepted = (none-due h d (Request.component (ComponentRequest.result_more id body)) s c lives accepted).1.0
+answer-needs h d s c lives dialogue number id _ _ (IsAnswer.an_error code parameter) accepted = (none-due h d (Request.component (ComponentRequest.error_back id code parameter)) s c lives accepted).1.0
+answer-needs h d s c lives dialogue number id _ _ (IsAnswer.a_reject problem) accepted = (none-due h d (Request.component (ComponentRequest.u_reject (Some id) problem)) s c lives accepted).1.0
 
 some-peer : (s : State) → not (has_peer s) ≡ false → (peer : List ℕ) × (peer_of s ≡ Some peer)
 some-peer State.fresh e = absurd cc
@@ -113,26 +108,22 @@ some-peer (State.active peer) e = (peer, refl)
 -- ---- the request of a component
 
 abbrev as_request : ComponentParts → Request
-as_request (invoke id linked code parameter) = Request.u_cancel id
-as_request (result_last id body) = Request.result_last id body
-as_request (error_back id code parameter) = Request.error_back id code parameter
-as_request (reject_back id problem) = Request.u_reject id problem
-as_request (result_more id body) = Request.result_more id body
+as_request (invoke id linked code parameter) = Request.component (ComponentRequest.u_cancel id)
+as_request (result_last id body) = Request.component (ComponentRequest.result_last id body)
+as_request (error_back id code parameter) = Request.component (ComponentRequest.error_back id code parameter)
+as_request (reject_back id problem) = Request.component (ComponentRequest.u_reject id problem)
+as_request (result_more id body) = Request.component (ComponentRequest.result_more id body)
 
 -- every request of a component that is no Invoke
 request-as : (request : Request) (c : ComponentParts) → IsNoInvoke c → component_of request ≡ Some c → request ≡ as_request c
-request-as (Request.invoke id class code parameter linked timeout) c none e =
+request-as (Request.component (ComponentRequest.invoke id class code parameter linked timeout)) c none e =
     let same : invoke id linked code parameter ≡ c = cc in absurd (subst IsNoInvoke (sym same) none)
-request-as (Request.result_last id body) c none e = let same : result_last id body ≡ c = cc in ap as_request same
-request-as (Request.result_more id body) c none e = let same : result_more id body ≡ c = cc in ap as_request same
-request-as (Request.error_back id code parameter) c none e = let same : error_back id code parameter ≡ c = cc in ap as_request same
-request-as (Request.u_reject id problem) c none e = let same : reject_back id problem ≡ c = cc in ap as_request same
-request-as (Request.u_cancel id) c none e = absurd cc
-request-as (Request.uni context info) c none e = absurd cc
-request-as (Request.begin context info) c none e = absurd cc
-request-as (Request.go_on context info) c none e = absurd cc
-request-as (Request.finish ending context info) c none e = absurd cc
-request-as (Request.u_abort why info) c none e = absurd cc
+request-as (Request.component (ComponentRequest.result_last id body)) c none e = let same : result_last id body ≡ c = cc in ap as_request same
+request-as (Request.component (ComponentRequest.result_more id body)) c none e = let same : result_more id body ≡ c = cc in ap as_request same
+request-as (Request.component (ComponentRequest.error_back id code parameter)) c none e = let same : error_back id code parameter ≡ c = cc in ap as_request same
+request-as (Request.component (ComponentRequest.u_reject id problem)) c none e = let same : reject_back id problem ≡ c = cc in ap as_request same
+request-as (Request.component (ComponentRequest.u_cancel id)) c none e = absurd cc
+request-as (Request.dialogue asked) c none e = absurd cc
 
 answer-no-invoke : (dialogue number : ℕ) (id : ℤ) (output : Output) (request : Request) → IsAnswer dialogue number id output request → (c : ComponentParts) → component_of request ≡ Some c → IsNoInvoke c
 answer-no-invoke dialogue number id _ _ (IsAnswer.a_result_last body) c e = let same : result_last id body ≡ c = cc in subst IsNoInvoke same tt

@@ -19,7 +19,7 @@ use Rattle.tcap_model.specs.Invocations.Invocation.{Invocation, invocations}
 use Rattle.tcap_model.specs.Replies.Legal.{AreReplies}
 use Rattle.tcap_model.specs.Histories.Life.{Life, life, live_in}
 use Rattle.tcap_model.specs.Invocations.Outcome.{first_closing}
-use Rattle.tcap_model.specs.Words.Output.{Output, Closing, AbortCause}
+use Rattle.tcap_model.specs.Words.Output.{Output, Closing, AbortCause, ComponentIndication, DialogueIndication}
 use Rattle.tcap_model.specs.Histories.Pair.{Past}
 use Rattle.tcap_model.specs.Statements.Places.{Tells}
 use Rattle.tcap_model.specs.Procedures.PortionRules.{PortionVerdict, portion_verdict}
@@ -48,7 +48,7 @@ module _ (start : Start) (past : Past) (legal : AreReplies start past) (bytes : 
   if-placed None outputs p q = q
   if-placed (Some output) outputs p q = (p.0, q)
 
-  ended-of-placed : (test : Bool) (dialogue : ℕ) (i : Invocation) → All (option_to_list (if test then Some (Output.closed dialogue i.number i.id Closing.ended) else None))
+  ended-of-placed : (test : Bool) (dialogue : ℕ) (i : Invocation) → All (option_to_list (if test then Some (Output.component (ComponentIndication.closed dialogue i.number i.id Closing.ended)) else None))
   ended-of-placed true dialogue i = (tt, tt)
   ended-of-placed false dialogue i = tt
 
@@ -65,7 +65,7 @@ module _ (start : Start) (past : Past) (legal : AreReplies start past) (bytes : 
   sent-placed : (output : Output) → Sends output → One output
   sent-placed output sends = subst (Placed past bytes born) (sym sends.2) tt
 
-  no_common-placed : (test : Bool) (dialogue : ℕ) (pdu : Option PduValue) → One (if test then Output.p_abort dialogue AbortCause.no_common else Output.u_abort dialogue pdu)
+  no_common-placed : (test : Bool) (dialogue : ℕ) (pdu : Option PduValue) → One (if test then Output.dialogue (DialogueIndication.p_abort dialogue AbortCause.no_common) else Output.dialogue (DialogueIndication.u_abort dialogue pdu))
   no_common-placed true dialogue pdu = tt
   no_common-placed false dialogue pdu = tt
 
@@ -111,7 +111,7 @@ module _ (start : Start) (past : Past) (legal : AreReplies start past) (bytes : 
     taken-placed (Life.standing state context) m = message-placed state context m
     taken-placed Life.over m = tt
 
-  broken-placed : (dialogue cause : ℕ) (abort : Option Output) → IfSends abort → All (option_to_list abort ++ Output.p_abort dialogue (AbortCause.cause cause) ∷ ended_in dialogue past [])
+  broken-placed : (dialogue cause : ℕ) (abort : Option Output) → IfSends abort → All (option_to_list abort ++ Output.dialogue (DialogueIndication.p_abort dialogue (AbortCause.cause cause)) ∷ ended_in dialogue past [])
   broken-placed dialogue cause None sends = (tt, ended-placed dialogue [])
   broken-placed dialogue cause (Some abort) sends = (sent-placed abort sends, (tt, ended-placed dialogue []))
 

@@ -18,7 +18,7 @@ use Rattle.tcap_model.specs.Invocations.Invocation.{Invocation, invocation_of, l
 use Rattle.tcap_model.specs.Replies.Legal.{AreReplies}
 use Rattle.tcap_model.specs.Words.LocalId.{is_that}
 use Rattle.tcap_model.specs.Invocations.Outcome.{is_sent_in}
-use Rattle.tcap_model.specs.Words.Output.{Output, Closing, Rejector}
+use Rattle.tcap_model.specs.Words.Output.{Output, Closing, Rejector, ComponentIndication}
 use Rattle.tcap_model.specs.Histories.Pair.{Past}
 use Rattle.tcap_model.specs.Replies.Queue.{if_sent, marks_up_to, sent_there, handled_after, handled_in}
 use Rattle.tcap_laws.proofs.FarEnds.FairTellings.{IsNamedBy}
@@ -58,17 +58,12 @@ PlacedClosing past dialogue number id Closing.given_up = Unit {0}
 
 abbrev pub Placed : Past → List ℕ → Option ℕ → Output → Type 0
 Placed past bytes born (Output.send octets) = Unit {0}
-Placed past bytes born (Output.uni context info) = Unit {0}
-Placed past bytes born (Output.begin dialogue context info) = Unit {0}
-Placed past bytes born (Output.go_on dialogue context info) = Unit {0}
-Placed past bytes born (Output.end dialogue context info) = Unit {0}
-Placed past bytes born (Output.u_abort dialogue pdu) = Unit {0}
-Placed past bytes born (Output.p_abort dialogue why) = Unit {0}
-Placed past bytes born (Output.invoked dialogue id linked code parameter) = IsPlaced bytes born dialogue
-Placed past bytes born (Output.result_more dialogue number id body) = IsOf past dialogue number id
-Placed past bytes born (Output.local_reject dialogue id problem) = Unit {0}
-Placed past bytes born (Output.remote_reject dialogue id problem by) = Unit {0}
-Placed past bytes born (Output.closed dialogue number id closing) = PlacedClosing past dialogue number id closing
+Placed past bytes born (Output.dialogue indication) = Unit {0}
+Placed past bytes born (Output.component (ComponentIndication.invoked dialogue id linked code parameter)) = IsPlaced bytes born dialogue
+Placed past bytes born (Output.component (ComponentIndication.result_more dialogue number id body)) = IsOf past dialogue number id
+Placed past bytes born (Output.component (ComponentIndication.local_reject dialogue id problem)) = Unit {0}
+Placed past bytes born (Output.component (ComponentIndication.remote_reject dialogue id problem by)) = Unit {0}
+Placed past bytes born (Output.component (ComponentIndication.closed dialogue number id closing)) = PlacedClosing past dialogue number id closing
 Placed past bytes born (Output.dropped why) = Unit {0}
 
 abbrev pub AllPlaced : Past → List ℕ → Option ℕ → List Output → Type 0

@@ -21,12 +21,12 @@ use Rattle.tcap_model.specs.Histories.Names.{names}
 use Rattle.tcap_model.specs.Statements.Net.{Engine, Trace, far, side, Net, IsNet}
 use Rattle.tcap_model.specs.Invocations.Numbers.{number_of}
 use Rattle.tcap_model.specs.Invocations.Outcome.{outcome, outcome_of, was_sent_in}
-use Rattle.tcap_model.specs.Words.Output.{Output}
+use Rattle.tcap_model.specs.Words.Output.{Output, ComponentIndication}
 use Rattle.tcap_model.specs.Histories.Pair.{Pair, Past}
 use Rattle.tcap_model.specs.Statements.Places.{Tells}
 use Rattle.tcap_model.specs.Replies.Queue.{queue}
 use Rattle.tcap_model.specs.Procedures.QueueRules.{Invoking, Queued, joined}
-use Rattle.tcap_model.specs.Words.Request.{Request}
+use Rattle.tcap_model.specs.Words.Request.{Request, ComponentRequest}
 use Rattle.tcap_model.specs.Invocations.Reuse.{is_reused}
 use Rattle.tcap_model.specs.Invocations.Span.{is_invoked, span}
 use Rattle.tcap_model.specs.Statements.TwoEnds.{Happens, WasSent, WasAsked, Operations}
@@ -147,7 +147,7 @@ joined-waits dialogue past (q ∷ waits) all =
 
 -- ---- the Invoke that is told
 
-pub stands-for-invoke : (output : Output) (c : ComponentParts) → StandsFor output c → (dialogue : Option ℕ) (id : ℤ) (linked : Option ℤ) (code : CodeParts) (parameter : Option (List ℕ)) → output ≡ Output.invoked dialogue id linked code parameter → c ≡ invoke id linked code parameter
+pub stands-for-invoke : (output : Output) (c : ComponentParts) → StandsFor output c → (dialogue : Option ℕ) (id : ℤ) (linked : Option ℤ) (code : CodeParts) (parameter : Option (List ℕ)) → output ≡ Output.component (ComponentIndication.invoked dialogue id linked code parameter) → c ≡ invoke id linked code parameter
 stands-for-invoke _ _ (StandsFor.an_invoke d i l k p) dialogue id linked code parameter e =
     let a : i ≡ id = cc in
     let b : l ≡ linked = cc in
@@ -208,17 +208,17 @@ module _ (net : Net) (is : IsNet net) (engine : Engine) (pair : Pair) (before : 
         number = from.number;
         stands = stands-before asked.pair it.sender asked.before it.past (side (far engine) before) asked.stands it.stands;
         is_event = asked.is_event
-            ∙ (ap (λ (x : ℤ). Event.on_dialogue sent.dialogue (Request.invoke x asked.class asked.code asked.parameter asked.linked asked.timeout)) from.is_id
-            ∙ (ap (λ (x : CodeParts). Event.on_dialogue sent.dialogue (Request.invoke id asked.class x asked.parameter asked.linked asked.timeout)) from.is_code
-            ∙ (ap (λ (x : Option (List ℕ)). Event.on_dialogue sent.dialogue (Request.invoke id asked.class code x asked.linked asked.timeout)) from.is_parameter
-            ∙ ap (λ (x : Option ℤ). Event.on_dialogue sent.dialogue (Request.invoke id asked.class code parameter x asked.timeout)) from.is_linked)));
+            ∙ (ap (λ (x : ℤ). Event.on_dialogue sent.dialogue (Request.component (ComponentRequest.invoke x asked.class asked.code asked.parameter asked.linked asked.timeout))) from.is_id
+            ∙ (ap (λ (x : CodeParts). Event.on_dialogue sent.dialogue (Request.component (ComponentRequest.invoke id asked.class x asked.parameter asked.linked asked.timeout))) from.is_code
+            ∙ (ap (λ (x : Option (List ℕ)). Event.on_dialogue sent.dialogue (Request.component (ComponentRequest.invoke id asked.class code x asked.linked asked.timeout))) from.is_parameter
+            ∙ ap (λ (x : Option ℤ). Event.on_dialogue sent.dialogue (Request.component (ComponentRequest.invoke id asked.class code parameter x asked.timeout))) from.is_linked)));
         is_answer = asked.is_answer;
         was_sent = invoke-sent output it id linked code parameter from;
       }
 
 pub operations : (net : Net) → IsNet net → Operations net.trace
 operations net is engine pair before dialogue id linked code parameter happens tells =
-    let output : Output = Output.invoked dialogue id linked code parameter in
+    let output : Output = Output.component (ComponentIndication.invoked dialogue id linked code parameter) in
     let it = carried net is engine pair before happens output tells (IsOfComponent.invoke dialogue id linked code parameter) in
     was-asked net is engine pair before happens output it id linked code parameter
     (source net is engine pair before happens output it id linked code parameter (stands-for-invoke output it.told.component it.told.stands_for dialogue id linked code parameter refl))

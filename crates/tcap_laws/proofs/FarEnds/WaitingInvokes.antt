@@ -23,7 +23,7 @@ use Rattle.tcap_model.specs.Statements.Places.{StandsIn}
 use Rattle.tcap_model.specs.Procedures.PortionRules.{PortionVerdict, portion_verdict}
 use Rattle.tcap_model.specs.Replies.Queue.{handled_in, rejects_of, queue_by_verdict, queue_by_message, queue_at_birth, queue_born, queue_by_bytes}
 use Rattle.tcap_model.specs.Procedures.QueueRules.{Invoking, Queued, queued, queue_limit}
-use Rattle.tcap_model.specs.Words.Request.{Request}
+use Rattle.tcap_model.specs.Words.Request.{Request, ComponentRequest}
 use Rattle.tcap_model.specs.Invocations.Reuse.{is_reused}
 use Rattle.tcap_model.specs.Invocations.Span.{span}
 use Rattle.tcap_model.specs.Words.State.{State, is_live}
@@ -54,7 +54,7 @@ pub record IsAsked (dialogue : ℕ) (past : Past) (octets : List ℕ) (number : 
   pub linked : Option ℤ
   pub timeout : ℕ
   pub stands : StandsIn pair before past
-  pub is_event : pair.event ≡ Event.on_dialogue dialogue (Request.invoke id class code parameter linked timeout)
+  pub is_event : pair.event ≡ Event.on_dialogue dialogue (Request.component (ComponentRequest.invoke id class code parameter linked timeout))
   pub is_answer : pair.answer ≡ Answer.number number
   pub written : IsWritten octets (invoke id linked code parameter)
   pub is_invocation : invocation_of number past ≡ Some (invocation_as number dialogue id class timeout)

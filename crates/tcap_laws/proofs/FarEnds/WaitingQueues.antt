@@ -26,7 +26,7 @@ use Rattle.tcap_model.specs.Histories.Pair.{Pair, Past}
 use Rattle.tcap_model.specs.Replies.Queue.{queue_born, queue_by_bytes, queue_after_cancel, queue_by_request, queue_if_accepted, queue_by_event, queue_after, queue}
 use Rattle.tcap_model.specs.Procedures.QueueRules.{Invoking, Queued, queued, asks_for, without_invoke}
 use Rattle.tcap_model.specs.Replies.Reply.{accepted_answer, given_up_answer, request_answer, reply}
-use Rattle.tcap_model.specs.Words.Request.{Request}
+use Rattle.tcap_model.specs.Words.Request.{Request, ComponentRequest, DialogueRequest}
 use Rattle.tcap_model.specs.Words.State.{State}
 use Rattle.tcap_laws.proofs.Spans.EventMarks.{unnamed_marks, standing_marks}
 use Rattle.tcap_laws.proofs.Spans.LatestInvocations.{new_number, new_found}
@@ -61,11 +61,11 @@ none-found number past none = ap is_some none
 
 -- the Invoke of a new invocation
 new-waits : (start : Start) (dialogue number : ℕ) (past : Past) (id : ℤ) (class : Class) (code : CodeParts) (parameter : Option (List ℕ)) (linked : Option ℤ) (timeout : ℕ) →
-    AreReplies start (record { event = Event.on_dialogue dialogue (Request.invoke id class code parameter linked timeout); answer = Answer.number number } ∷ past) →
+    AreReplies start (record { event = Event.on_dialogue dialogue (Request.component (ComponentRequest.invoke id class code parameter linked timeout)); answer = Answer.number number } ∷ past) →
     IfGood (Some (invoke id linked code parameter)) →
-    IsWaiting dialogue (record { event = Event.on_dialogue dialogue (Request.invoke id class code parameter linked timeout); answer = Answer.number number } ∷ past) (queued (Some (record { number = number; class = class })) (invoke id linked code parameter))
+    IsWaiting dialogue (record { event = Event.on_dialogue dialogue (Request.component (ComponentRequest.invoke id class code parameter linked timeout)); answer = Answer.number number } ∷ past) (queued (Some (record { number = number; class = class })) (invoke id linked code parameter))
 new-waits start dialogue number past id class code parameter linked timeout legal good =
-    let here : Pair = record { event = Event.on_dialogue dialogue (Request.invoke id class code parameter linked timeout); answer = Answer.number number } in
+    let here : Pair = record { event = Event.on_dialogue dialogue (Request.component (ComponentRequest.invoke id class code parameter linked timeout)); answer = Answer.number number } in
     let i : Invocation = invocation_as number dialogue id class timeout in
     let new : invocation_of number past ≡ None = new_number start here past legal i refl in
     record {
@@ -91,7 +91,7 @@ other-waits dialogue past c none good = record { component = c; written = record
 -- ---- a cancel
 
 abbrev cancel : ℕ → ℤ → ℕ → Pair
-cancel dialogue named number = record { event = Event.on_dialogue dialogue (Request.u_cancel named); answer = Answer.given_up number }
+cancel dialogue named number = record { event = Event.on_dialogue dialogue (Request.component (ComponentRequest.u_cancel named)); answer = Answer.given_up number }
 
 module _ (start : Start) (past : Past) (legal : AreReplies start past) (dialogue : ℕ) (named : ℤ) (given : ℕ) (is_pending : pending dialogue named past ≡ Some given) where
   -- another invocation has another identifier
@@ -165,34 +165,34 @@ module _ (h : History) (dialogue : ℕ) (answer : Answer) (s : State) (c : Optio
       (other-waits dialogue (with_answer request answer ∷ h.pairs) component none good, tt)
 
   cancelled : (named : ℤ) (given : Option ℕ) → AreReplies h.start h.pairs → pending dialogue named h.pairs ≡ given → is_accepted (given_up_answer given) ≡ true →
-      AllWait dialogue (with_answer (Request.u_cancel named) (given_up_answer given) ∷ h.pairs) (queue_after_cancel (given_up_answer given) waits)
+      AllWait dialogue (with_answer (Request.component (ComponentRequest.u_cancel named)) (given_up_answer given) ∷ h.pairs) (queue_after_cancel (given_up_answer given) waits)
   cancelled named None legal is accepted = absurd (true≢false (sym accepted))
   cancelled named (Some number) legal is accepted =
-      cancel-waits h.start h.pairs legal dialogue named number is (λ id differs. left (Request.u_cancel named) (Answer.given_up number) refl tt id differs) waits all
+      cancel-waits h.start h.pairs legal dialogue named number is (λ id differs. left (Request.component (ComponentRequest.u_cancel named)) (Answer.given_up number) refl tt id differs) waits all
 
   request-waits : (request : Request) → IsLegalWith request answer → IfGood (component_of request) → is_accepted answer ≡ true → IsStanding (life_by_request s c request) →
       AllWait dialogue (with_answer request answer ∷ h.pairs) (queue_by_request waits request answer)
-  request-waits (Request.invoke id class code parameter linked timeout) legal good accepted stands =
-      let r : Request = Request.invoke id class code parameter linked timeout in
+  request-waits (Request.component (ComponentRequest.invoke id class code parameter linked timeout)) legal good accepted stands =
+      let r : Request = Request.component (ComponentRequest.invoke id class code parameter linked timeout) in
       let is : answer ≡ Answer.number (next_number h) = answer-is r legal.1 accepted in
       subst (λ (a : Answer). AllWait dialogue (with_answer r a ∷ h.pairs) (queue_by_request waits r a)) (sym is)
       (each-append (IsWaiting dialogue (with_answer r (Answer.number (next_number h)) ∷ h.pairs)) waits (queued (Some (record { number = next_number h; class = class })) (invoke id linked code parameter) ∷ [])
       (all-later dialogue (with_answer r (Answer.number (next_number h))) h.pairs waits (λ other. left r (Answer.number (next_number h)) refl tt other tt) all)
       (new-waits h.start dialogue (next_number h) h.pairs id class code parameter linked timeout (subst (λ (a : Answer). IsLegalWith r a) is legal) good, tt))
-  request-waits (Request.result_last id body) legal good accepted stands = plain (Request.result_last id body) (result_last id body) accepted tt (λ other. tt) tt good
-  request-waits (Request.result_more id body) legal good accepted stands = plain (Request.result_more id body) (result_more id body) accepted tt (λ other. tt) tt good
-  request-waits (Request.error_back id code parameter) legal good accepted stands = plain (Request.error_back id code parameter) (error_back id code parameter) accepted tt (λ other. tt) tt good
-  request-waits (Request.u_reject id problem) legal good accepted stands = plain (Request.u_reject id problem) (reject_back id problem) accepted tt (λ other. tt) tt good
-  request-waits (Request.u_cancel id) legal good accepted stands =
-      let r : Request = Request.u_cancel id in
+  request-waits (Request.component (ComponentRequest.result_last id body)) legal good accepted stands = plain (Request.component (ComponentRequest.result_last id body)) (result_last id body) accepted tt (λ other. tt) tt good
+  request-waits (Request.component (ComponentRequest.result_more id body)) legal good accepted stands = plain (Request.component (ComponentRequest.result_more id body)) (result_more id body) accepted tt (λ other. tt) tt good
+  request-waits (Request.component (ComponentRequest.error_back id code parameter)) legal good accepted stands = plain (Request.component (ComponentRequest.error_back id code parameter)) (error_back id code parameter) accepted tt (λ other. tt) tt good
+  request-waits (Request.component (ComponentRequest.u_reject id problem)) legal good accepted stands = plain (Request.component (ComponentRequest.u_reject id problem)) (reject_back id problem) accepted tt (λ other. tt) tt good
+  request-waits (Request.component (ComponentRequest.u_cancel id)) legal good accepted stands =
+      let r : Request = Request.component (ComponentRequest.u_cancel id) in
       let is : answer ≡ given_up_answer (pending dialogue id h.pairs) = answer-is r legal.1 accepted in
       subst (λ (a : Answer). AllWait dialogue (with_answer r a ∷ h.pairs) (queue_by_request waits r a)) (sym is)
       (cancelled id (pending dialogue id h.pairs) legal.2 refl (sym (ap is_accepted is) ∙ accepted))
-  request-waits (Request.uni context info) legal good accepted stands = tt
-  request-waits (Request.begin context info) legal good accepted stands = tt
-  request-waits (Request.go_on context info) legal good accepted stands = tt
-  request-waits (Request.finish ending context info) legal good accepted stands = absurd stands
-  request-waits (Request.u_abort why info) legal good accepted stands = absurd stands
+  request-waits (Request.dialogue (DialogueRequest.uni context info)) legal good accepted stands = tt
+  request-waits (Request.dialogue (DialogueRequest.begin context info)) legal good accepted stands = tt
+  request-waits (Request.dialogue (DialogueRequest.go_on context info)) legal good accepted stands = tt
+  request-waits (Request.dialogue (DialogueRequest.finish ending context info)) legal good accepted stands = absurd stands
+  request-waits (Request.dialogue (DialogueRequest.u_abort why info)) legal good accepted stands = absurd stands
 
   refused-left : (request : Request) → is_accepted answer ≡ false → (id : ℤ) → IsLeft dialogue id (with_answer request answer) h.pairs
   refused-left request refused id =

@@ -24,7 +24,7 @@ use Rattle.tcap_model.specs.Histories.Life.{Life, life, live_in}
 use Rattle.tcap_model.specs.Words.LocalId.{dialogue_named}
 use Rattle.tcap_model.specs.Histories.Names.{is_destined, named_within, names}
 use Rattle.tcap_model.specs.Statements.Only.{only}
-use Rattle.tcap_model.specs.Words.Output.{Output, AbortCause, DropCause}
+use Rattle.tcap_model.specs.Words.Output.{Output, AbortCause, DropCause, DialogueIndication}
 use Rattle.tcap_model.specs.Procedures.PortionRules.{PortionVerdict, portion_verdict}
 use Rattle.tcap_model.specs.Replies.Queue.{handled_in}
 use Rattle.tcap_model.specs.Procedures.Reception.{Reception, live_named, addressed_if_any, continue_by, last_by, message_by, fault_abort, aborted_or_dropped, faulty_continue, faulty_last, fault_by, faulty, reading_by, reception}
@@ -148,15 +148,15 @@ module _ (h : History) (dialogue : ℕ) (legal : IsLegal h) where
   handled-same content = sym (only_handled h.start dialogue h.pairs legal.1 content)
 
   continue-same : (state : State) (origin components : List ℕ) (verdict : PortionVerdict) → continue_outputs dialogue h.pairs state origin components verdict ≡ continue_outputs dialogue (only dialogue h.pairs) state origin components verdict
-  continue-same state origin components (PortionVerdict.normal context info) = ap (λ hs. Output.go_on dialogue context info ∷ told_of hs) (handled-same components)
+  continue-same state origin components (PortionVerdict.normal context info) = ap (λ hs. Output.dialogue (DialogueIndication.go_on dialogue context info) ∷ told_of hs) (handled-same components)
   continue-same state origin components PortionVerdict.abnormal =
-      ap (λ (os : List Output). abnormal_abort (peer_by state origin) ∷ Output.p_abort dialogue AbortCause.abnormal ∷ os) (sym (only_ended h.start dialogue h.pairs legal.1 []))
+      ap (λ (os : List Output). abnormal_abort (peer_by state origin) ∷ Output.dialogue (DialogueIndication.p_abort dialogue AbortCause.abnormal) ∷ os) (sym (only_ended h.start dialogue h.pairs legal.1 []))
 
   end-same : (components : List ℕ) (verdict : PortionVerdict) → end_outputs dialogue h.pairs components verdict ≡ end_outputs dialogue (only dialogue h.pairs) components verdict
   end-same components (PortionVerdict.normal context info) =
-      ap (λ hs. Output.end dialogue context info ∷ told_of hs ++ ended_in dialogue h.pairs (components_of components)) (handled-same components)
-      ∙ ap (λ os. Output.end dialogue context info ∷ told_of (handled_in dialogue (only dialogue h.pairs) components) ++ os) (sym (only_ended h.start dialogue h.pairs legal.1 (components_of components)))
-  end-same components PortionVerdict.abnormal = ap (λ (os : List Output). Output.p_abort dialogue AbortCause.abnormal ∷ os) (sym (only_ended h.start dialogue h.pairs legal.1 []))
+      ap (λ hs. Output.dialogue (DialogueIndication.end dialogue context info) ∷ told_of hs ++ ended_in dialogue h.pairs (components_of components)) (handled-same components)
+      ∙ ap (λ os. Output.dialogue (DialogueIndication.end dialogue context info) ∷ told_of (handled_in dialogue (only dialogue h.pairs) components) ++ os) (sym (only_ended h.start dialogue h.pairs legal.1 (components_of components)))
+  end-same components PortionVerdict.abnormal = ap (λ (os : List Output). Output.dialogue (DialogueIndication.p_abort dialogue AbortCause.abnormal) ∷ os) (sym (only_ended h.start dialogue h.pairs legal.1 []))
 
   outputs-same : (state : State) (context : Option (List ℕ)) (m : Message) → message_outputs dialogue h.pairs state context m ≡ message_outputs dialogue (only dialogue h.pairs) state context m
   outputs-same state context (Message.go_on origin to portion components) = continue-same state origin components (portion_verdict state context portion)
@@ -180,7 +180,7 @@ module _ (h : History) (dialogue : ℕ) (legal : IsLegal h) where
       (taken-same (life dialogue h.pairs) message ∙ ap (λ l. taken_outputs dialogue (only dialogue h.pairs) l message) (sym (only_life dialogue h.pairs)))
   told-same (Reception.broken named abort cause) is =
       subst (λ d. reception_outputs h (Reception.broken d abort cause) ≡ reception_outputs (history_of dialogue h) (Reception.broken d abort cause)) (sym is)
-      (ap (λ (os : List Output). option_to_list abort ++ Output.p_abort dialogue (AbortCause.cause cause) ∷ os) (sym (only_ended h.start dialogue h.pairs legal.1 [])))
+      (ap (λ (os : List Output). option_to_list abort ++ Output.dialogue (DialogueIndication.p_abort dialogue (AbortCause.cause cause)) ∷ os) (sym (only_ended h.start dialogue h.pairs legal.1 [])))
 
   pub alone-bytes : (bytes : List ℕ) → names (Event.received bytes) dialogue ≡ true → IsAlone h dialogue (Event.received bytes)
   alone-bytes bytes named =

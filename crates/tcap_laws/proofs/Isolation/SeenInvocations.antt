@@ -22,7 +22,7 @@ use Rattle.tcap_model.specs.Invocations.Numbers.{number_of}
 use Rattle.tcap_model.specs.Statements.Only.{pair_within, is_seen_by, only}
 use Rattle.tcap_model.specs.Invocations.Outcome.{outcome_of, outcome}
 use Rattle.tcap_model.specs.Histories.Pair.{Pair, Past}
-use Rattle.tcap_model.specs.Words.Request.{Request}
+use Rattle.tcap_model.specs.Words.Request.{Request, ComponentRequest}
 use Rattle.tcap_model.specs.Invocations.Reuse.{is_reused}
 use Rattle.tcap_model.specs.Invocations.Span.{is_invoked, span}
 
@@ -30,19 +30,15 @@ use Rattle.tcap_model.specs.Invocations.Span.{is_invoked, span}
 
 own_request : (d : ℕ) (r : Request) (o : Option ℕ) (i : Invocation) → invoked_under d r o ≡ Some i → i.dialogue ≡ d
 own_request d r None i e = absurd cc
-own_request d (Request.invoke id class code parameter linked timeout) (Some n) i e =
+own_request d (Request.component (ComponentRequest.invoke id class code parameter linked timeout)) (Some n) i e =
     let same : record { number = n; dialogue = d; id = id; class = class; timeout = timeout } ≡ i = cc in
     ap (λ (i : Invocation). i.dialogue) (sym same)
-own_request d (Request.result_last id body) (Some n) i e = absurd cc
-own_request d (Request.result_more id body) (Some n) i e = absurd cc
-own_request d (Request.error_back id code parameter) (Some n) i e = absurd cc
-own_request d (Request.u_reject id problem) (Some n) i e = absurd cc
-own_request d (Request.u_cancel id) (Some n) i e = absurd cc
-own_request d (Request.uni context info) (Some n) i e = absurd cc
-own_request d (Request.begin context info) (Some n) i e = absurd cc
-own_request d (Request.go_on context info) (Some n) i e = absurd cc
-own_request d (Request.finish ending context info) (Some n) i e = absurd cc
-own_request d (Request.u_abort why info) (Some n) i e = absurd cc
+own_request d (Request.component (ComponentRequest.result_last id body)) (Some n) i e = absurd cc
+own_request d (Request.component (ComponentRequest.result_more id body)) (Some n) i e = absurd cc
+own_request d (Request.component (ComponentRequest.error_back id code parameter)) (Some n) i e = absurd cc
+own_request d (Request.component (ComponentRequest.u_reject id problem)) (Some n) i e = absurd cc
+own_request d (Request.component (ComponentRequest.u_cancel id)) (Some n) i e = absurd cc
+own_request d (Request.dialogue asked) (Some n) i e = absurd cc
 
 invoked_names : (event : Event) (answer : Answer) (i : Invocation) → invoked_of event answer ≡ Some i → names event i.dialogue ≡ true
 invoked_names Event.new_dialogue answer i e = absurd cc

@@ -26,13 +26,13 @@ use Rattle.tcap_model.specs.Replies.Legal.{AreReplies, IsLegal}
 use Rattle.tcap_model.specs.Histories.Life.{Life, life}
 use Rattle.tcap_model.specs.Statements.Only.{pair_within, is_seen_by, only}
 use Rattle.tcap_model.specs.Invocations.Outcome.{first_closing}
-use Rattle.tcap_model.specs.Words.Output.{Output, Closing}
+use Rattle.tcap_model.specs.Words.Output.{Output, Closing, ComponentIndication}
 use Rattle.tcap_model.specs.Histories.Pair.{Past}
 use Rattle.tcap_model.specs.Replies.Queue.{marks_up_to}
 use Rattle.tcap_model.specs.Procedures.QueueRules.{Queued, queue_limit}
 use Rattle.tcap_model.specs.Procedures.Refusals.{Situation, first_that, holds, faults_of, due_on, passes_queue, passes_message}
 use Rattle.tcap_model.specs.Replies.Reply.{ended_of, ended_in, given_up_answer, last_answer, accepted_answer, request_answer, reply}
-use Rattle.tcap_model.specs.Words.Request.{Request}
+use Rattle.tcap_model.specs.Words.Request.{Request, ComponentRequest, DialogueRequest}
 use Rattle.tcap_model.specs.Procedures.RequestMessage.{message_of}
 use Rattle.tcap_model.specs.Procedures.Standing.{Standing}
 use Rattle.tcap_model.specs.Words.State.{State}
@@ -54,14 +54,14 @@ filter_map_own {X = X} {Y = Y} own f g (x ∷ xs) same none = go (own x) refl (f
 module _ (start : Start) (dialogue : ℕ) (past : Past) (legal : AreReplies start past) where
   ended_same : (items : List Item) (i : Invocation) → Contains (invocations past) i → is_of_dialogue dialogue i ≡ true → ended_of dialogue (only dialogue past) items i ≡ ended_of dialogue past items i
   ended_same items i at own =
-      ap (λ ms. if (i.dialogue == dialogue) && is_none (first_closing i.class i.timeout ms) then Some (Output.closed dialogue i.number i.id Closing.ended) else None)
+      ap (λ ms. if (i.dialogue == dialogue) && is_none (first_closing i.class i.timeout ms) then Some (Output.component (ComponentIndication.closed dialogue i.number i.id Closing.ended)) else None)
       (marks_same start dialogue past legal items i (invocation_of-found start past legal i at) (own_true dialogue i own))
 
   pub only_ended : (items : List Item) → ended_in dialogue (only dialogue past) items ≡ ended_in dialogue past items
   only_ended items =
       ap (filter_map (ended_of dialogue (only dialogue past) items)) (only_invocations start dialogue past legal)
       ∙ filter_map_own (is_of_dialogue dialogue) (ended_of dialogue past items) (ended_of dialogue (only dialogue past) items) (invocations past) (ended_same items)
-      (λ i e. ap (λ b. if b && is_none (first_closing i.class i.timeout (marks_up_to past items i)) then Some (Output.closed dialogue i.number i.id Closing.ended) else None) e)
+      (λ i e. ap (λ b. if b && is_none (first_closing i.class i.timeout (marks_up_to past items i)) then Some (Output.component (ComponentIndication.closed dialogue i.number i.id Closing.ended)) else None) e)
 
 -- ---- faults
 
@@ -82,17 +82,17 @@ abbrev situated : Standing → Bool → Option ℕ → ℕ → Bool → Situatio
 situated d in_use pending number spent = record { standing = d; limit = queue_limit; is_in_use = in_use; pending = pending; number = number; is_spent = spent }
 
 passes_same : (limit : ℕ) (queue : List Queued) (m n : ℕ) (r : Request) → passes_queue limit queue (queued_for m r) ≡ passes_queue limit queue (queued_for n r)
-passes_same limit queue m n (Request.invoke id class code parameter linked timeout) = refl
-passes_same limit queue m n (Request.result_last id body) = refl
-passes_same limit queue m n (Request.result_more id body) = refl
-passes_same limit queue m n (Request.error_back id code parameter) = refl
-passes_same limit queue m n (Request.u_reject id problem) = refl
-passes_same limit queue m n (Request.u_cancel id) = refl
-passes_same limit queue m n (Request.uni context info) = refl
-passes_same limit queue m n (Request.begin context info) = refl
-passes_same limit queue m n (Request.go_on context info) = refl
-passes_same limit queue m n (Request.finish ending context info) = refl
-passes_same limit queue m n (Request.u_abort why info) = refl
+passes_same limit queue m n (Request.component (ComponentRequest.invoke id class code parameter linked timeout)) = refl
+passes_same limit queue m n (Request.component (ComponentRequest.result_last id body)) = refl
+passes_same limit queue m n (Request.component (ComponentRequest.result_more id body)) = refl
+passes_same limit queue m n (Request.component (ComponentRequest.error_back id code parameter)) = refl
+passes_same limit queue m n (Request.component (ComponentRequest.u_reject id problem)) = refl
+passes_same limit queue m n (Request.component (ComponentRequest.u_cancel id)) = refl
+passes_same limit queue m n (Request.dialogue (DialogueRequest.uni context info)) = refl
+passes_same limit queue m n (Request.dialogue (DialogueRequest.begin context info)) = refl
+passes_same limit queue m n (Request.dialogue (DialogueRequest.go_on context info)) = refl
+passes_same limit queue m n (Request.dialogue (DialogueRequest.finish ending context info)) = refl
+passes_same limit queue m n (Request.dialogue (DialogueRequest.u_abort why info)) = refl
 
 holds_same : (d : Standing) (in_use : Bool) (pending : Option ℕ) (m n : ℕ) (b c : Bool) (r : Request) (f : Fault)
     → (holds (situated d in_use pending m b) r f ≡ holds (situated d in_use pending n c) r f) ⊎ (f ≡ Fault.numbers_spent)
@@ -184,17 +184,17 @@ module _ (h : History) (dialogue : ℕ) (legal : IsLegal h) where
   accepted_same : (state : State) (context : Option (List ℕ)) (q : List Queued) (r : Request)
       → without_number (accepted_answer h (record { identifier = dialogue; state = state; context = context; queue = q }) r)
       ≡ without_number (accepted_answer (history_of dialogue h) (record { identifier = dialogue; state = state; context = context; queue = q }) r)
-  accepted_same state context q (Request.invoke id class code parameter linked timeout) = refl
-  accepted_same state context q (Request.result_last id body) = refl
-  accepted_same state context q (Request.result_more id body) = refl
-  accepted_same state context q (Request.error_back id code parameter) = refl
-  accepted_same state context q (Request.u_reject id problem) = refl
-  accepted_same state context q (Request.u_cancel id) = ap (λ o. without_number (given_up_answer o)) (sym (only_pending h.start dialogue id h.pairs legal.1))
-  accepted_same state context q (Request.uni asked info) = last_same (message_of (record { identifier = dialogue; state = state; context = context; queue = q }) (Request.uni asked info))
-  accepted_same state context q (Request.begin asked info) = refl
-  accepted_same state context q (Request.go_on asked info) = refl
-  accepted_same state context q (Request.finish ending asked info) = last_same (message_of (record { identifier = dialogue; state = state; context = context; queue = q }) (Request.finish ending asked info))
-  accepted_same state context q (Request.u_abort why info) = last_same (message_of (record { identifier = dialogue; state = state; context = context; queue = q }) (Request.u_abort why info))
+  accepted_same state context q (Request.component (ComponentRequest.invoke id class code parameter linked timeout)) = refl
+  accepted_same state context q (Request.component (ComponentRequest.result_last id body)) = refl
+  accepted_same state context q (Request.component (ComponentRequest.result_more id body)) = refl
+  accepted_same state context q (Request.component (ComponentRequest.error_back id code parameter)) = refl
+  accepted_same state context q (Request.component (ComponentRequest.u_reject id problem)) = refl
+  accepted_same state context q (Request.component (ComponentRequest.u_cancel id)) = ap (λ o. without_number (given_up_answer o)) (sym (only_pending h.start dialogue id h.pairs legal.1))
+  accepted_same state context q (Request.dialogue (DialogueRequest.uni asked info)) = last_same (message_of (record { identifier = dialogue; state = state; context = context; queue = q }) (Request.dialogue (DialogueRequest.uni asked info)))
+  accepted_same state context q (Request.dialogue (DialogueRequest.begin asked info)) = refl
+  accepted_same state context q (Request.dialogue (DialogueRequest.go_on asked info)) = refl
+  accepted_same state context q (Request.dialogue (DialogueRequest.finish ending asked info)) = last_same (message_of (record { identifier = dialogue; state = state; context = context; queue = q }) (Request.dialogue (DialogueRequest.finish ending asked info)))
+  accepted_same state context q (Request.dialogue (DialogueRequest.u_abort why info)) = last_same (message_of (record { identifier = dialogue; state = state; context = context; queue = q }) (Request.dialogue (DialogueRequest.u_abort why info)))
 
   answer_same : (r : Request) (l : Life) (f : Option Fault) → without_number (request_answer h dialogue r l f) ≡ without_number (request_answer (history_of dialogue h) dialogue r l f)
   answer_same r l (Some f) = refl

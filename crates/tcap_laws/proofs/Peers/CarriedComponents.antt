@@ -24,7 +24,7 @@ use Rattle.tcap_model.specs.Histories.Pair.{Pair, Past}
 use Rattle.tcap_model.specs.Statements.Places.{StandsIn, Tells}
 use Rattle.tcap_model.specs.Procedures.QueueRules.{joined}
 use Rattle.tcap_model.specs.Replies.Reply.{reply}
-use Rattle.tcap_model.specs.Words.Request.{Request, Ending, AbortReason}
+use Rattle.tcap_model.specs.Words.Request.{Request, Ending, AbortReason, DialogueRequest}
 use Rattle.tcap_model.specs.Procedures.RequestMessage.{answer_portion, user_abort, refusing_abort, continue_message, end_message, abort_message, refusing_message, message_of}
 use Rattle.tcap_model.specs.Procedures.Standing.{Standing}
 use Rattle.tcap_model.specs.Words.State.{State, peer_of}
@@ -52,21 +52,21 @@ no_invocation : (dialogue : ℕ) (request : Request) (number : Option ℕ) → (
 no_invocation dialogue request None none = refl
 no_invocation dialogue request (Some n) none = none n
 
-continue-takes : (d : Standing) (state : State) (context : Option (List ℕ)) (info : List ℕ) (portion : Option (List ℕ)) → d.state ≡ state → IfTakes d (Request.go_on context info) (continue_message d state portion)
+continue-takes : (d : Standing) (state : State) (context : Option (List ℕ)) (info : List ℕ) (portion : Option (List ℕ)) → d.state ≡ state → IfTakes d (Request.dialogue (DialogueRequest.go_on context info)) (continue_message d state portion)
 continue-takes d State.fresh context info portion is = tt
 continue-takes d State.sent context info portion is = tt
 continue-takes d (State.received peer) context info portion is =
-    inr (record { is_portion = refl; is_sent = λ id before after. ([], refl); makes_none = λ dialogue number. no_invocation dialogue (Request.go_on context info) number (λ n. refl); to_peer = λ octets e. ap peer_of is ∙ e })
+    inr (record { is_portion = refl; is_sent = λ id before after. ([], refl); makes_none = λ dialogue number. no_invocation dialogue (Request.dialogue (DialogueRequest.go_on context info)) number (λ n. refl); to_peer = λ octets e. ap peer_of is ∙ e })
 continue-takes d (State.active peer) context info portion is =
-    inr (record { is_portion = refl; is_sent = λ id before after. ([], refl); makes_none = λ dialogue number. no_invocation dialogue (Request.go_on context info) number (λ n. refl); to_peer = λ octets e. ap peer_of is ∙ e })
+    inr (record { is_portion = refl; is_sent = λ id before after. ([], refl); makes_none = λ dialogue number. no_invocation dialogue (Request.dialogue (DialogueRequest.go_on context info)) number (λ n. refl); to_peer = λ octets e. ap peer_of is ∙ e })
 
-end-takes : (d : Standing) (state : State) (context : Option (List ℕ)) (info : List ℕ) (portion : Option (List ℕ)) → d.state ≡ state → IfTakes d (Request.finish Ending.basic context info) (end_message d state portion)
+end-takes : (d : Standing) (state : State) (context : Option (List ℕ)) (info : List ℕ) (portion : Option (List ℕ)) → d.state ≡ state → IfTakes d (Request.dialogue (DialogueRequest.finish Ending.basic context info)) (end_message d state portion)
 end-takes d State.fresh context info portion is = tt
 end-takes d State.sent context info portion is = tt
 end-takes d (State.received peer) context info portion is =
-    inr (record { is_portion = refl; is_sent = λ id before after. (Mark.end ∷ [], refl); makes_none = λ dialogue number. no_invocation dialogue (Request.finish Ending.basic context info) number (λ n. refl); to_peer = λ octets e. ap peer_of is ∙ e })
+    inr (record { is_portion = refl; is_sent = λ id before after. (Mark.end ∷ [], refl); makes_none = λ dialogue number. no_invocation dialogue (Request.dialogue (DialogueRequest.finish Ending.basic context info)) number (λ n. refl); to_peer = λ octets e. ap peer_of is ∙ e })
 end-takes d (State.active peer) context info portion is =
-    inr (record { is_portion = refl; is_sent = λ id before after. (Mark.end ∷ [], refl); makes_none = λ dialogue number. no_invocation dialogue (Request.finish Ending.basic context info) number (λ n. refl); to_peer = λ octets e. ap peer_of is ∙ e })
+    inr (record { is_portion = refl; is_sent = λ id before after. (Mark.end ∷ [], refl); makes_none = λ dialogue number. no_invocation dialogue (Request.dialogue (DialogueRequest.finish Ending.basic context info)) number (λ n. refl); to_peer = λ octets e. ap peer_of is ∙ e })
 
 abort-takes : (d : Standing) (request : Request) (state : State) (reason : Reason) → IfTakes d request (abort_message state reason)
 abort-takes d request State.fresh reason = tt
@@ -79,21 +79,16 @@ refusing-takes d request state None info = tt
 refusing-takes d request state (Some context) info = abort-takes d request state (refusing_abort context info)
 
 message-takes : (d : Standing) (request : Request) → IfTakes d request (message_of d request)
-message-takes d (Request.invoke id class code parameter linked timeout) = tt
-message-takes d (Request.result_last id body) = tt
-message-takes d (Request.result_more id body) = tt
-message-takes d (Request.error_back id code parameter) = tt
-message-takes d (Request.u_reject id problem) = tt
-message-takes d (Request.u_cancel id) = tt
-message-takes d (Request.uni context info) =
-    inr (record { is_portion = refl; is_sent = λ id before after. (Mark.end ∷ [], refl); makes_none = λ dialogue number. no_invocation dialogue (Request.uni context info) number (λ n. refl); to_peer = λ octets e. absurd cc })
-message-takes d (Request.begin context info) =
-    inr (record { is_portion = refl; is_sent = λ id before after. ([], refl); makes_none = λ dialogue number. no_invocation dialogue (Request.begin context info) number (λ n. refl); to_peer = λ octets e. absurd cc })
-message-takes d (Request.go_on context info) = continue-takes d d.state context info (answer_portion d.state d.context context info) refl
-message-takes d (Request.finish Ending.basic context info) = end-takes d d.state context info (answer_portion d.state d.context context info) refl
-message-takes d (Request.finish Ending.prearranged context info) = tt
-message-takes d (Request.u_abort AbortReason.by_user info) = abort-takes d (Request.u_abort AbortReason.by_user info) d.state (user_abort d.context info)
-message-takes d (Request.u_abort AbortReason.not_supported info) = refusing-takes d (Request.u_abort AbortReason.not_supported info) d.state d.context info
+message-takes d (Request.component asked) = tt
+message-takes d (Request.dialogue (DialogueRequest.uni context info)) =
+    inr (record { is_portion = refl; is_sent = λ id before after. (Mark.end ∷ [], refl); makes_none = λ dialogue number. no_invocation dialogue (Request.dialogue (DialogueRequest.uni context info)) number (λ n. refl); to_peer = λ octets e. absurd cc })
+message-takes d (Request.dialogue (DialogueRequest.begin context info)) =
+    inr (record { is_portion = refl; is_sent = λ id before after. ([], refl); makes_none = λ dialogue number. no_invocation dialogue (Request.dialogue (DialogueRequest.begin context info)) number (λ n. refl); to_peer = λ octets e. absurd cc })
+message-takes d (Request.dialogue (DialogueRequest.go_on context info)) = continue-takes d d.state context info (answer_portion d.state d.context context info) refl
+message-takes d (Request.dialogue (DialogueRequest.finish Ending.basic context info)) = end-takes d d.state context info (answer_portion d.state d.context context info) refl
+message-takes d (Request.dialogue (DialogueRequest.finish Ending.prearranged context info)) = tt
+message-takes d (Request.dialogue (DialogueRequest.u_abort AbortReason.by_user info)) = abort-takes d (Request.dialogue (DialogueRequest.u_abort AbortReason.by_user info)) d.state (user_abort d.context info)
+message-takes d (Request.dialogue (DialogueRequest.u_abort AbortReason.not_supported info)) = refusing-takes d (Request.dialogue (DialogueRequest.u_abort AbortReason.not_supported info)) d.state d.context info
 
 -- ---- the request that sent some components
 

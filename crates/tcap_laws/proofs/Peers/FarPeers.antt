@@ -26,7 +26,7 @@ use Rattle.tcap_model.specs.Histories.Pair.{Past}
 use Rattle.tcap_model.specs.Procedures.PortionRules.{PortionVerdict, portion_verdict}
 use Rattle.tcap_model.specs.Procedures.Refusals.{Situation, holds, faults_of}
 use Rattle.tcap_model.specs.Replies.Reply.{reply}
-use Rattle.tcap_model.specs.Words.Request.{Request}
+use Rattle.tcap_model.specs.Words.Request.{Request, DialogueRequest}
 use Rattle.tcap_model.specs.Words.State.{State, peer_of, activated, is_live}
 use Rattle.tcap_model.specs.Procedures.States.{is_fresh}
 use Rattle.tcap_laws.proofs.Receptions.NothingDue.{first_that-none}
@@ -54,20 +54,15 @@ answered-has peer (State.active known) origin e = e
 
 -- this is no TC-BEGIN request
 abbrev pub BeginsNone : Request → Type 0
-BeginsNone request = (context : Option (List ℕ)) (info : List ℕ) → request ≡ Request.begin context info → ⊥
+BeginsNone request = (context : Option (List ℕ)) (info : List ℕ) → request ≡ Request.dialogue (DialogueRequest.begin context info) → ⊥
 
 request-has : (peer : List ℕ) (state : State) (context : Option (List ℕ)) (request : Request) → BeginsNone request → peer_of state ≡ Some peer → HasPeer peer (life_by_request state context request)
-request-has peer state context (Request.invoke id class code parameter linked timeout) begins e = e
-request-has peer state context (Request.result_last id body) begins e = e
-request-has peer state context (Request.result_more id body) begins e = e
-request-has peer state context (Request.error_back id code parameter) begins e = e
-request-has peer state context (Request.u_reject id problem) begins e = e
-request-has peer state context (Request.u_cancel id) begins e = e
-request-has peer state context (Request.uni asked info) begins e = tt
-request-has peer state context (Request.begin asked info) begins e = absurd (begins asked info refl)
-request-has peer state context (Request.go_on asked info) begins e = activated-has peer state e
-request-has peer state context (Request.finish ending asked info) begins e = tt
-request-has peer state context (Request.u_abort why info) begins e = tt
+request-has peer state context (Request.component asked) begins e = e
+request-has peer state context (Request.dialogue (DialogueRequest.uni asked info)) begins e = tt
+request-has peer state context (Request.dialogue (DialogueRequest.begin asked info)) begins e = absurd (begins asked info refl)
+request-has peer state context (Request.dialogue (DialogueRequest.go_on asked info)) begins e = activated-has peer state e
+request-has peer state context (Request.dialogue (DialogueRequest.finish ending asked info)) begins e = tt
+request-has peer state context (Request.dialogue (DialogueRequest.u_abort why info)) begins e = tt
 
 accepted-has : (peer : List ℕ) (accepted : Bool) (state : State) (context : Option (List ℕ)) (request : Request) → (accepted ≡ true → BeginsNone request) → peer_of state ≡ Some peer → HasPeer peer (life_if_accepted accepted state context request)
 accepted-has peer true state context request begins e = request-has peer state context request (begins refl) e
@@ -106,7 +101,7 @@ module _ (h : History) (dialogue : ℕ) (request : Request) (s : State) (c : Opt
 
 pub no-begin : (h : History) (dialogue : ℕ) (peer : List ℕ) (s : State) (c : Option (List ℕ)) → life dialogue h.pairs ≡ Life.standing s c → peer_of s ≡ Some peer → (request : Request) → is_accepted (reply h (Event.on_dialogue dialogue request)) ≡ true → BeginsNone request
 no-begin h dialogue peer s c lives e request accepted context info is =
-    let none = none-due h dialogue (Request.begin context info) s c lives (subst (λ (r : Request). is_accepted (reply h (Event.on_dialogue dialogue r)) ≡ true) is accepted) in
+    let none = none-due h dialogue (Request.dialogue (DialogueRequest.begin context info)) s c lives (subst (λ (r : Request). is_accepted (reply h (Event.on_dialogue dialogue r)) ≡ true) is accepted) in
     not-fresh s (flip (is_fresh s) none.1.0) e
   where
     not-fresh : (s : State) → is_fresh s ≡ true → peer_of s ≡ Some peer → ⊥

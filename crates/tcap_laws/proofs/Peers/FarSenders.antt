@@ -18,7 +18,7 @@ use Rattle.tcap_model.specs.Words.Output.{Output}
 use Rattle.tcap_model.specs.Histories.Pair.{Pair, Past}
 use Rattle.tcap_model.specs.Statements.Places.{StandsIn, Tells}
 use Rattle.tcap_model.specs.Replies.Reply.{reply}
-use Rattle.tcap_model.specs.Words.Request.{Request, Ending, AbortReason}
+use Rattle.tcap_model.specs.Words.Request.{Request, Ending, AbortReason, DialogueRequest}
 use Rattle.tcap_model.specs.Procedures.RequestMessage.{answer_portion, user_abort, refusing_abort, continue_message, end_message, abort_message, refusing_message, message_of}
 use Rattle.tcap_model.specs.Procedures.Standing.{Standing}
 use Rattle.tcap_model.specs.Words.State.{State, peer_of}
@@ -67,19 +67,14 @@ refusing-source d state None info is = tt
 refusing-source d state (Some context) info is = abort-source d state (refusing_abort context info) is
 
 message-source : (d : Standing) (request : Request) → IfSource d (message_of d request)
-message-source d (Request.invoke id class code parameter linked timeout) = tt
-message-source d (Request.result_last id body) = tt
-message-source d (Request.result_more id body) = tt
-message-source d (Request.error_back id code parameter) = tt
-message-source d (Request.u_reject id problem) = tt
-message-source d (Request.u_cancel id) = tt
-message-source d (Request.uni context info) = tt
-message-source d (Request.begin context info) = refl
-message-source d (Request.go_on context info) = continue-source d d.state (answer_portion d.state d.context context info) refl
-message-source d (Request.finish Ending.basic context info) = end-source d d.state (answer_portion d.state d.context context info) refl
-message-source d (Request.finish Ending.prearranged context info) = tt
-message-source d (Request.u_abort AbortReason.by_user info) = abort-source d d.state (user_abort d.context info) refl
-message-source d (Request.u_abort AbortReason.not_supported info) = refusing-source d d.state d.context info refl
+message-source d (Request.component asked) = tt
+message-source d (Request.dialogue (DialogueRequest.uni context info)) = tt
+message-source d (Request.dialogue (DialogueRequest.begin context info)) = refl
+message-source d (Request.dialogue (DialogueRequest.go_on context info)) = continue-source d d.state (answer_portion d.state d.context context info) refl
+message-source d (Request.dialogue (DialogueRequest.finish Ending.basic context info)) = end-source d d.state (answer_portion d.state d.context context info) refl
+message-source d (Request.dialogue (DialogueRequest.finish Ending.prearranged context info)) = tt
+message-source d (Request.dialogue (DialogueRequest.u_abort AbortReason.by_user info)) = abort-source d d.state (user_abort d.context info) refl
+message-source d (Request.dialogue (DialogueRequest.u_abort AbortReason.not_supported info)) = refusing-source d d.state d.context info refl
 
 -- ---- who sent what was received
 

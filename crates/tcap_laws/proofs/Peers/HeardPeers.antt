@@ -11,7 +11,7 @@ use Rattle.tcap_model.specs.Histories.Names.{names}
 use Rattle.tcap_model.specs.Histories.Pair.{Pair, Past}
 use Rattle.tcap_model.specs.Statements.Places.{StandsIn}
 use Rattle.tcap_model.specs.Procedures.PortionRules.{PortionVerdict, portion_verdict}
-use Rattle.tcap_model.specs.Words.Request.{Request}
+use Rattle.tcap_model.specs.Words.Request.{Request, ComponentRequest, DialogueRequest}
 use Rattle.tcap_model.specs.Words.State.{State, peer_of, activated, is_live}
 
 -- ---- one pair
@@ -43,17 +43,17 @@ same-activated peer (State.active known) e = e
 
 module _ (peer : List ℕ) where
   by-request : (state : State) (context : Option (List ℕ)) (request : Request) → IsPeered peer (life_by_request state context request) → peer_of state ≡ Some peer
-  by-request state context (Request.invoke id class code parameter linked timeout) is = is
-  by-request state context (Request.result_last id body) is = is
-  by-request state context (Request.result_more id body) is = is
-  by-request state context (Request.error_back id code parameter) is = is
-  by-request state context (Request.u_reject id problem) is = is
-  by-request state context (Request.u_cancel id) is = is
-  by-request state context (Request.uni asked info) is = absurd is
-  by-request state context (Request.begin asked info) is = absurd cc
-  by-request state context (Request.go_on asked info) is = same-activated peer state is
-  by-request state context (Request.finish ending asked info) is = absurd is
-  by-request state context (Request.u_abort why info) is = absurd is
+  by-request state context (Request.component (ComponentRequest.invoke id class code parameter linked timeout)) is = is
+  by-request state context (Request.component (ComponentRequest.result_last id body)) is = is
+  by-request state context (Request.component (ComponentRequest.result_more id body)) is = is
+  by-request state context (Request.component (ComponentRequest.error_back id code parameter)) is = is
+  by-request state context (Request.component (ComponentRequest.u_reject id problem)) is = is
+  by-request state context (Request.component (ComponentRequest.u_cancel id)) is = is
+  by-request state context (Request.dialogue (DialogueRequest.uni asked info)) is = absurd is
+  by-request state context (Request.dialogue (DialogueRequest.begin asked info)) is = absurd cc
+  by-request state context (Request.dialogue (DialogueRequest.go_on asked info)) is = same-activated peer state is
+  by-request state context (Request.dialogue (DialogueRequest.finish ending asked info)) is = absurd is
+  by-request state context (Request.dialogue (DialogueRequest.u_abort why info)) is = absurd is
 
   if-accepted : (accepted : Bool) (state : State) (context : Option (List ℕ)) (request : Request) → IsPeered peer (life_if_accepted accepted state context request) → peer_of state ≡ Some peer
   if-accepted true state context request is = by-request state context request is

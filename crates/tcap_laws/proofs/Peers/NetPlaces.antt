@@ -98,17 +98,8 @@ carried-there engine pair before trace happens all = carried-after happens.later
 
 send-is : (bytes : List ℕ) (output : Output) → is_send bytes output ≡ true → output ≡ Output.send bytes
 send-is bytes (Output.send sent) e = ap (λ (b : List ℕ). Output.send b) ((bytes_eq-Decides sent bytes).0 e)
-send-is bytes (Output.uni context info) e = absurd cc
-send-is bytes (Output.begin dialogue context info) e = absurd cc
-send-is bytes (Output.go_on dialogue context info) e = absurd cc
-send-is bytes (Output.end dialogue context info) e = absurd cc
-send-is bytes (Output.u_abort dialogue pdu) e = absurd cc
-send-is bytes (Output.p_abort dialogue why) e = absurd cc
-send-is bytes (Output.invoked dialogue id linked code parameter) e = absurd cc
-send-is bytes (Output.result_more dialogue number id body) e = absurd cc
-send-is bytes (Output.local_reject dialogue id problem) e = absurd cc
-send-is bytes (Output.remote_reject dialogue id problem by) e = absurd cc
-send-is bytes (Output.closed dialogue number id closing) e = absurd cc
+send-is bytes (Output.dialogue indication) e = absurd cc
+send-is bytes (Output.component indication) e = absurd cc
 send-is bytes (Output.dropped why) e = absurd cc
 
 found-in : (bytes : List ℕ) (outputs : List Output) → list_any (is_send bytes) outputs ≡ true → (earlier : List Output) × (later : List Output) × (outputs ≡ earlier ++ Output.send bytes ∷ later)

@@ -26,7 +26,7 @@ use Rattle.tcap_model.specs.Replies.Queue.{number_in, rejects_of, handled_in, qu
 use Rattle.tcap_model.specs.Procedures.QueueRules.{Queued, queue_limit, queued, joined, fits, queue_if_fits, queue_each, asks_for}
 use Rattle.tcap_model.specs.Procedures.Refusals.{faults_of, holds, passes_message, passes_queue}
 use Rattle.tcap_model.specs.Replies.Reply.{reply}
-use Rattle.tcap_model.specs.Words.Request.{Request, Ending}
+use Rattle.tcap_model.specs.Words.Request.{Request, Ending, ComponentRequest, DialogueRequest}
 use Rattle.tcap_model.specs.Procedures.RequestMessage.{message_of}
 use Rattle.tcap_model.specs.Words.State.{State, is_live}
 use Rattle.tcap_laws.proofs.Receptions.AcceptedRequests.{IsAccepted, accepted-request}
@@ -117,29 +117,29 @@ module _ (h : History) (dialogue : ℕ) where
   faultless request accepted = first_that-none (holds (situation_of h dialogue (standing_of dialogue h.pairs accepted.state accepted.context) request) request) (faults_of request) accepted.faultless
 
   request-within : (request : Request) (answer : Answer) → IsAccepted h dialogue request → IsWithin queue_limit queue_here → IsWithin queue_limit (queue_by_request queue_here request answer)
-  request-within (Request.invoke id class code parameter linked timeout) answer accepted within =
+  request-within (Request.component (ComponentRequest.invoke id class code parameter linked timeout)) answer accepted within =
       let component = ComponentParts.invoke id linked code parameter in
-      with-queued (Request.invoke id class code parameter linked timeout) accepted (queued (Some (record { number = next_number h; class = class })) component) (queued (Some (record { number = number_in answer; class = class })) component) refl refl
-      (faultless (Request.invoke id class code parameter linked timeout) accepted).1.1.1.1.1.1.0
-  request-within (Request.result_last id body) answer accepted within =
+      with-queued (Request.component (ComponentRequest.invoke id class code parameter linked timeout)) accepted (queued (Some (record { number = next_number h; class = class })) component) (queued (Some (record { number = number_in answer; class = class })) component) refl refl
+      (faultless (Request.component (ComponentRequest.invoke id class code parameter linked timeout)) accepted).1.1.1.1.1.1.0
+  request-within (Request.component (ComponentRequest.result_last id body)) answer accepted within =
       let made = queued None (ComponentParts.result_last id body) in
-      with-queued (Request.result_last id body) accepted made made refl refl (faultless (Request.result_last id body) accepted).1.1.1.1.0
-  request-within (Request.result_more id body) answer accepted within =
+      with-queued (Request.component (ComponentRequest.result_last id body)) accepted made made refl refl (faultless (Request.component (ComponentRequest.result_last id body)) accepted).1.1.1.1.0
+  request-within (Request.component (ComponentRequest.result_more id body)) answer accepted within =
       let made = queued None (ComponentParts.result_more id body) in
-      with-queued (Request.result_more id body) accepted made made refl refl (faultless (Request.result_more id body) accepted).1.1.1.1.0
-  request-within (Request.error_back id code parameter) answer accepted within =
+      with-queued (Request.component (ComponentRequest.result_more id body)) accepted made made refl refl (faultless (Request.component (ComponentRequest.result_more id body)) accepted).1.1.1.1.0
+  request-within (Request.component (ComponentRequest.error_back id code parameter)) answer accepted within =
       let made = queued None (ComponentParts.error_back id code parameter) in
-      with-queued (Request.error_back id code parameter) accepted made made refl refl (faultless (Request.error_back id code parameter) accepted).1.1.1.1.0
-  request-within (Request.u_reject id problem) answer accepted within =
+      with-queued (Request.component (ComponentRequest.error_back id code parameter)) accepted made made refl refl (faultless (Request.component (ComponentRequest.error_back id code parameter)) accepted).1.1.1.1.0
+  request-within (Request.component (ComponentRequest.u_reject id problem)) answer accepted within =
       let made = queued None (ComponentParts.reject_back id problem) in
-      with-queued (Request.u_reject id problem) accepted made made refl refl (faultless (Request.u_reject id problem) accepted).1.1.0
-  request-within (Request.u_cancel id) answer accepted within = cancel-within queue_limit answer queue_here within
-  request-within (Request.uni context info) answer accepted within = empty-within
-  request-within (Request.begin context info) answer accepted within = empty-within
-  request-within (Request.go_on context info) answer accepted within = empty-within
-  request-within (Request.finish Ending.basic context info) answer accepted within = empty-within
-  request-within (Request.finish Ending.prearranged context info) answer accepted within = within
-  request-within (Request.u_abort why info) answer accepted within = within
+      with-queued (Request.component (ComponentRequest.u_reject id problem)) accepted made made refl refl (faultless (Request.component (ComponentRequest.u_reject id problem)) accepted).1.1.0
+  request-within (Request.component (ComponentRequest.u_cancel id)) answer accepted within = cancel-within queue_limit answer queue_here within
+  request-within (Request.dialogue (DialogueRequest.uni context info)) answer accepted within = empty-within
+  request-within (Request.dialogue (DialogueRequest.begin context info)) answer accepted within = empty-within
+  request-within (Request.dialogue (DialogueRequest.go_on context info)) answer accepted within = empty-within
+  request-within (Request.dialogue (DialogueRequest.finish Ending.basic context info)) answer accepted within = empty-within
+  request-within (Request.dialogue (DialogueRequest.finish Ending.prearranged context info)) answer accepted within = within
+  request-within (Request.dialogue (DialogueRequest.u_abort why info)) answer accepted within = within
 
   if_accepted-within : (request : Request) (answer : Answer) (accepted : Bool) → is_accepted answer ≡ accepted → answer ≡ reply h (Event.on_dialogue dialogue request) → IsWithin queue_limit queue_here
       → IsWithin queue_limit (queue_if_accepted accepted queue_here request answer)

@@ -22,7 +22,7 @@ use Rattle.tcap_model.specs.Procedures.ComponentHandling.{Item, SentInvocation, 
 use Rattle.tcap_model.specs.Statements.ComponentLaws.{IsLocalReject}
 use Rattle.tcap_model.specs.Invocations.Invocation.{Invocation, has_id, with_id, invoked_by, latest}
 use Rattle.tcap_model.specs.Invocations.Outcome.{is_sent_in}
-use Rattle.tcap_model.specs.Words.Output.{Output, Closing, Rejector}
+use Rattle.tcap_model.specs.Words.Output.{Output, Closing, Rejector, ComponentIndication}
 use Rattle.tcap_model.specs.Histories.Pair.{Past}
 use Rattle.tcap_model.specs.Procedures.Problems.{unexpected_result, unexpected_error, unrecognized_linked, unrecognized_result, unrecognized_error}
 use Rattle.tcap_model.specs.Replies.Queue.{marks_up_to, if_sent, sent_there, handled_after, handled_in}
@@ -110,13 +110,13 @@ invoke-formed dialogue (Some sent) id (Some linked) code parameter range = tt
 invoke-formed dialogue None id (Some linked) code parameter range = (Some id, unrecognized_linked, refl, inl refl, range, omega arith)
 
 -- the Reject of an answer for an identifier that isn't Sent
-here-formed : (dialogue named : ℕ) (id : ℤ) (problem : ProblemParts) → named ≡ dialogue → IsIdentifierIfAny (Some id) → IsProblem problem → IsFormed dialogue (Output.local_reject (Some named) (Some id) problem) (Some (reject_back (Some id) problem))
-here-formed dialogue named id problem of range within = (Some id, problem, refl, inl (ap (λ (d : ℕ). Output.local_reject (Some d) (Some id) problem) of), range, within)
+here-formed : (dialogue named : ℕ) (id : ℤ) (problem : ProblemParts) → named ≡ dialogue → IsIdentifierIfAny (Some id) → IsProblem problem → IsFormed dialogue (Output.component (ComponentIndication.local_reject (Some named) (Some id) problem)) (Some (reject_back (Some id) problem))
+here-formed dialogue named id problem of range within = (Some id, problem, refl, inl (ap (λ (d : ℕ). Output.component (ComponentIndication.local_reject (Some d) (Some id) problem)) of), range, within)
 
 -- the Reject of an answer that the operation class doesn't have
-closed-formed : (dialogue named number : ℕ) (id : ℤ) (problem : ProblemParts) → named ≡ dialogue → IsIdentifierIfAny (Some id) → IsProblem problem → IsFormed dialogue (Output.closed named number id (Closing.rejected problem Rejector.local)) (Some (reject_back (Some id) problem))
+closed-formed : (dialogue named number : ℕ) (id : ℤ) (problem : ProblemParts) → named ≡ dialogue → IsIdentifierIfAny (Some id) → IsProblem problem → IsFormed dialogue (Output.component (ComponentIndication.closed named number id (Closing.rejected problem Rejector.local))) (Some (reject_back (Some id) problem))
 closed-formed dialogue named number id problem of range within =
-    (Some id, problem, refl, inr (number, id, refl, ap (λ (d : ℕ). Output.closed d number id (Closing.rejected problem Rejector.local)) of), range, within)
+    (Some id, problem, refl, inr (number, id, refl, ap (λ (d : ℕ). Output.component (ComponentIndication.closed d number id (Closing.rejected problem Rejector.local))) of), range, within)
 
 result-by : (dialogue : ℕ) (sent : SentInvocation) (id : ℤ) (body : Option BodyParts) (consequence : Consequence) → sent.dialogue ≡ dialogue → IsIdentifierIfAny (Some id) → HasFormed dialogue (result_by sent id body consequence)
 result-by dialogue sent id body Consequence.result_last of range = tt
@@ -158,7 +158,7 @@ reject-formed dialogue sent None problem = tt
 reject-formed dialogue None (Some id) problem = tt
 reject-formed dialogue (Some sent) (Some id) problem = reject_by-formed dialogue sent id problem (class_rule sent.class (Received.reject problem.kind))
 
-fault-formed : (dialogue : ℕ) (was_reject : Bool) (id : Option ℤ) (problem : ProblemParts) → IsIdentifierIfAny id → IsProblem problem → IsFormed dialogue (Output.local_reject (Some dialogue) id problem) (if was_reject then None else Some (reject_back id problem))
+fault-formed : (dialogue : ℕ) (was_reject : Bool) (id : Option ℤ) (problem : ProblemParts) → IsIdentifierIfAny id → IsProblem problem → IsFormed dialogue (Output.component (ComponentIndication.local_reject (Some dialogue) id problem)) (if was_reject then None else Some (reject_back id problem))
 fault-formed dialogue true id problem range within = tt
 fault-formed dialogue false id problem range within = (id, problem, refl, inl refl, range, within)
 

@@ -20,7 +20,7 @@ use Rattle.tcap_model.specs.Histories.Pair.{Pair, Past}
 use Rattle.tcap_model.specs.Replies.Queue.{number_in, queue_after_cancel, queue_by_request, queue_if_accepted, queue_by_event, queue_born, queue_after, queue}
 use Rattle.tcap_model.specs.Procedures.QueueRules.{Invoking, Queued, queued}
 use Rattle.tcap_model.specs.Replies.Reply.{reply, request_answer}
-use Rattle.tcap_model.specs.Words.Request.{Request, Ending}
+use Rattle.tcap_model.specs.Words.Request.{Request, Ending, ComponentRequest, DialogueRequest}
 use Rattle.tcap_model.specs.Words.State.{State}
 use Rattle.tcap_laws.proofs.Queues.KeptQueues.{IsKept, AllKept, kept-later, without-each}
 use Rattle.tcap_laws.proofs.Queues.ReceivedQueues.{born-queue, named-queue}
@@ -79,20 +79,20 @@ cancelled P (Answer.refused fault) queue kept = kept
 
 by-request : (dialogue : ℕ) (request : Request) (answer : Answer) (past : Past) (queue : List Queued) → is_accepted answer ≡ true → IfGood (component_of request) →
     AllKept dialogue (record { event = Event.on_dialogue dialogue request; answer = answer } ∷ past) queue → AllKept dialogue (record { event = Event.on_dialogue dialogue request; answer = answer } ∷ past) (queue_by_request queue request answer)
-by-request dialogue (Request.invoke id class code parameter linked timeout) answer past queue accepted good kept =
-    let r : Request = Request.invoke id class code parameter linked timeout in
+by-request dialogue (Request.component (ComponentRequest.invoke id class code parameter linked timeout)) answer past queue accepted good kept =
+    let r : Request = Request.component (ComponentRequest.invoke id class code parameter linked timeout) in
     appended dialogue r answer past accepted queue (invoking_of (number_in answer) r) (invoke id linked code parameter) refl good kept
-by-request dialogue (Request.result_last id body) answer past queue accepted good kept = appended dialogue (Request.result_last id body) answer past accepted queue None (result_last id body) refl good kept
-by-request dialogue (Request.result_more id body) answer past queue accepted good kept = appended dialogue (Request.result_more id body) answer past accepted queue None (result_more id body) refl good kept
-by-request dialogue (Request.error_back id code parameter) answer past queue accepted good kept = appended dialogue (Request.error_back id code parameter) answer past accepted queue None (error_back id code parameter) refl good kept
-by-request dialogue (Request.u_reject id problem) answer past queue accepted good kept = appended dialogue (Request.u_reject id problem) answer past accepted queue None (reject_back id problem) refl good kept
-by-request dialogue (Request.u_cancel id) answer past queue accepted good kept = cancelled (IsKept dialogue (record { event = Event.on_dialogue dialogue (Request.u_cancel id); answer = answer } ∷ past)) answer queue kept
-by-request dialogue (Request.uni context info) answer past queue accepted good kept = tt
-by-request dialogue (Request.begin context info) answer past queue accepted good kept = tt
-by-request dialogue (Request.go_on context info) answer past queue accepted good kept = tt
-by-request dialogue (Request.finish Ending.basic context info) answer past queue accepted good kept = tt
-by-request dialogue (Request.finish Ending.prearranged context info) answer past queue accepted good kept = kept
-by-request dialogue (Request.u_abort why info) answer past queue accepted good kept = kept
+by-request dialogue (Request.component (ComponentRequest.result_last id body)) answer past queue accepted good kept = appended dialogue (Request.component (ComponentRequest.result_last id body)) answer past accepted queue None (result_last id body) refl good kept
+by-request dialogue (Request.component (ComponentRequest.result_more id body)) answer past queue accepted good kept = appended dialogue (Request.component (ComponentRequest.result_more id body)) answer past accepted queue None (result_more id body) refl good kept
+by-request dialogue (Request.component (ComponentRequest.error_back id code parameter)) answer past queue accepted good kept = appended dialogue (Request.component (ComponentRequest.error_back id code parameter)) answer past accepted queue None (error_back id code parameter) refl good kept
+by-request dialogue (Request.component (ComponentRequest.u_reject id problem)) answer past queue accepted good kept = appended dialogue (Request.component (ComponentRequest.u_reject id problem)) answer past accepted queue None (reject_back id problem) refl good kept
+by-request dialogue (Request.component (ComponentRequest.u_cancel id)) answer past queue accepted good kept = cancelled (IsKept dialogue (record { event = Event.on_dialogue dialogue (Request.component (ComponentRequest.u_cancel id)); answer = answer } ∷ past)) answer queue kept
+by-request dialogue (Request.dialogue (DialogueRequest.uni context info)) answer past queue accepted good kept = tt
+by-request dialogue (Request.dialogue (DialogueRequest.begin context info)) answer past queue accepted good kept = tt
+by-request dialogue (Request.dialogue (DialogueRequest.go_on context info)) answer past queue accepted good kept = tt
+by-request dialogue (Request.dialogue (DialogueRequest.finish Ending.basic context info)) answer past queue accepted good kept = tt
+by-request dialogue (Request.dialogue (DialogueRequest.finish Ending.prearranged context info)) answer past queue accepted good kept = kept
+by-request dialogue (Request.dialogue (DialogueRequest.u_abort why info)) answer past queue accepted good kept = kept
 
 if-accepted : (h : History) (dialogue : ℕ) (request : Request) (answer : Answer) (queue : List Queued) → IsTrue (is_request request) → answer ≡ reply h (Event.on_dialogue dialogue request) →
     AllKept dialogue (record { event = Event.on_dialogue dialogue request; answer = answer } ∷ h.pairs) queue → (accepted : Bool) → is_accepted answer ≡ accepted →

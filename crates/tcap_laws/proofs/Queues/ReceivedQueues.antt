@@ -16,7 +16,7 @@ use Rattle.tcap_model.specs.Histories.History.{History}
 use Rattle.tcap_model.specs.Histories.Life.{Life, life, live_in}
 use Rattle.tcap_model.specs.Words.LocalId.{dialogue_named, is_that}
 use Rattle.tcap_model.specs.Histories.Names.{names, is_destined, named_within}
-use Rattle.tcap_model.specs.Words.Output.{Output, DropCause}
+use Rattle.tcap_model.specs.Words.Output.{Output, DropCause, DialogueIndication}
 use Rattle.tcap_model.specs.Histories.Pair.{Pair}
 use Rattle.tcap_model.specs.Procedures.PortionRules.{BeginVerdict, begin_verdict, PortionVerdict, portion_verdict}
 use Rattle.tcap_model.specs.Replies.Queue.{handled_in, rejects_of, queue_by_verdict, queue_by_message, queue_at_birth, queue_by_bytes}
@@ -62,8 +62,8 @@ module _ (h : History) (dialogue : ℕ) (bytes : List ℕ) (answer : Answer) (is
   born-keeps : (origin : List ℕ) (context : Option (List ℕ)) (info components : List ℕ) → IsBirth (Reception.begun origin context info components) → IsAnswer (Reception.begun origin context info components) → Keeps (queue_each queue_limit [] (rejects_of (handled_in dialogue h.pairs components)))
   born-keeps origin context info components birth is =
       let same = eqb-true (next_dialogue h) dialogue birth in
-      told-keeps (Output.begin (next_dialogue h) context info) components []
-      (is ∙ ap (λ (d : ℕ). Answer.outputs (Output.begin (next_dialogue h) context info ∷ told_of (handled_in d h.pairs components))) same) tt
+      told-keeps (Output.dialogue (DialogueIndication.begin (next_dialogue h) context info)) components []
+      (is ∙ ap (λ (d : ℕ). Answer.outputs (Output.dialogue (DialogueIndication.begin (next_dialogue h) context info) ∷ told_of (handled_in d h.pairs components))) same) tt
 
   begin-keeps : (long full' : Bool) (verdict : BeginVerdict) (origin : List ℕ) (portion : Option (List ℕ)) (components : List ℕ) →
       IsBirth (if long then Reception.dropped DropCause.too_long else (if full' then Reception.aborted (abort_with resource_limitation origin) else begin_by verdict origin components)) →
@@ -124,7 +124,7 @@ module _ (h : History) (dialogue : ℕ) (bytes : List ℕ) (answer : Answer) (is
       names (Event.received bytes) dialogue ≡ true → life dialogue h.pairs ≡ Life.standing state context → is_live state ≡ true → frame_at bytes ≡ Ok (Message.go_on origin to portion components) → Keeps queue →
       (verdict : PortionVerdict) → portion_verdict state context portion ≡ verdict → Keeps (queue_by_verdict verdict queue (handled_in dialogue h.pairs components))
   continue-keeps state context origin to components portion queue named lives is_alive read kept (PortionVerdict.normal told info) judged =
-      told-keeps (Output.go_on dialogue told info) components queue (told-is state context origin to components portion (PortionVerdict.normal told info) named lives is_alive read judged) kept
+      told-keeps (Output.dialogue (DialogueIndication.go_on dialogue told info)) components queue (told-is state context origin to components portion (PortionVerdict.normal told info) named lives is_alive read judged) kept
   continue-keeps state context origin to components portion queue named lives is_alive read kept PortionVerdict.abnormal judged = kept
 
   message-keeps : (state : State) (context : Option (List ℕ)) (queue : List Queued) → names (Event.received bytes) dialogue ≡ true → life dialogue h.pairs ≡ Life.standing state context → is_live state ≡ true → Keeps queue →

@@ -13,7 +13,7 @@ use Rattle.tcap_model.specs.Words.Fault.{Fault}
 use Rattle.tcap_model.specs.Words.InRange.{is_identifier, is_identifier_if_any, is_code, is_body, is_request}
 use Rattle.tcap_model.specs.Procedures.QueueRules.{Invoking, Queued, queued, joined}
 use Rattle.tcap_model.specs.Procedures.Refusals.{Situation, can_name, can_code, can_hold, context_given, information_given, has_bad_oid, has_bad_parameter, passes_queue, passes_message, holds, faults_of, due_on}
-use Rattle.tcap_model.specs.Words.Request.{Request}
+use Rattle.tcap_model.specs.Words.Request.{Request, ComponentRequest, DialogueRequest}
 use Rattle.tcap_model.specs.Procedures.RequestMessage.{message_of}
 use Rattle.tcap_pdu.specs.DialoguePartsReading.{is_information}
 use Rattle.tcap_laws.proofs.Receptions.NothingDue.{first_that-none}
@@ -47,25 +47,21 @@ IsInRange None = Unit {0}
 IsInRange (Some c) = HasCode (coded_part c) → InRange c
 
 request-range : (request : Request) → is_request request ≡ true → IsInRange (component_of request)
-request-range (Request.invoke id class code parameter linked timeout) e = λ can.
+request-range (Request.component (ComponentRequest.invoke id class code parameter linked timeout)) e = λ can.
     let timed = and_parts _ _ e in
     let linked-to = and_parts _ _ timed.0 in
     let held = and_parts _ _ linked-to.0 in
     let coded = and_parts _ _ held.0 in
     (identifier-is id coded.0, identifier-any linked linked-to.1, code-is code coded.1 can)
-request-range (Request.result_last id body) e = λ can. let both = and_parts _ _ e in (identifier-is id both.0, body-is body both.1 can)
-request-range (Request.result_more id body) e = λ can. let both = and_parts _ _ e in (identifier-is id both.0, body-is body both.1 can)
-request-range (Request.error_back id code parameter) e = λ can.
+request-range (Request.component (ComponentRequest.result_last id body)) e = λ can. let both = and_parts _ _ e in (identifier-is id both.0, body-is body both.1 can)
+request-range (Request.component (ComponentRequest.result_more id body)) e = λ can. let both = and_parts _ _ e in (identifier-is id both.0, body-is body both.1 can)
+request-range (Request.component (ComponentRequest.error_back id code parameter)) e = λ can.
     let held = and_parts _ _ e in
     let coded = and_parts _ _ held.0 in
     (identifier-is id coded.0, code-is code coded.1 can)
-request-range (Request.u_reject id problem) e = λ can. let both = and_parts _ _ e in (identifier-any id both.0, leb-true problem.code problem_limit both.1)
-request-range (Request.u_cancel id) e = tt
-request-range (Request.uni context info) e = tt
-request-range (Request.begin context info) e = tt
-request-range (Request.go_on context info) e = tt
-request-range (Request.finish ending context info) e = tt
-request-range (Request.u_abort why info) e = tt
+request-range (Request.component (ComponentRequest.u_reject id problem)) e = λ can. let both = and_parts _ _ e in (identifier-any id both.0, leb-true problem.code problem_limit both.1)
+request-range (Request.component (ComponentRequest.u_cancel id)) e = tt
+request-range (Request.dialogue asked) e = tt
 
 -- ---- no fault is due
 
@@ -98,40 +94,40 @@ module _ (s : Situation) (within : s.limit ≤ 65535) where
   in-queue request e = (or_parts (passes_queue s.limit s.standing.queue (queued_for s.number request)) (passes_message (message_of s.standing request)) e).0
 
   request-can : (request : Request) → due_on s request ≡ None → IfCan (component_of request)
-  request-can (Request.invoke id class code parameter linked timeout) due =
-      let r : Request = Request.invoke id class code parameter linked timeout in
+  request-can (Request.component (ComponentRequest.invoke id class code parameter linked timeout)) due =
+      let r : Request = Request.component (ComponentRequest.invoke id class code parameter linked timeout) in
       let none = first_that-none (holds s r) (faults_of r) due in
       can-be (invoke id linked code parameter) (code-can r none.1.1.0) (parameter-can r none.1.1.1.0)
       (queued-short s.limit s.standing.queue (invoking_of s.number r) (invoke id linked code parameter) within (in-queue r none.1.1.1.1.1.1.0))
-  request-can (Request.result_last id body) due =
-      let r : Request = Request.result_last id body in
+  request-can (Request.component (ComponentRequest.result_last id body)) due =
+      let r : Request = Request.component (ComponentRequest.result_last id body) in
       let none = first_that-none (holds s r) (faults_of r) due in
       can-be (result_last id body) (code-can r none.1.1.0) (parameter-can r none.1.1.1.0)
       (queued-short s.limit s.standing.queue None (result_last id body) within (in-queue r none.1.1.1.1.0))
-  request-can (Request.result_more id body) due =
-      let r : Request = Request.result_more id body in
+  request-can (Request.component (ComponentRequest.result_more id body)) due =
+      let r : Request = Request.component (ComponentRequest.result_more id body) in
       let none = first_that-none (holds s r) (faults_of r) due in
       can-be (result_more id body) (code-can r none.1.1.0) (parameter-can r none.1.1.1.0)
       (queued-short s.limit s.standing.queue None (result_more id body) within (in-queue r none.1.1.1.1.0))
-  request-can (Request.error_back id code parameter) due =
-      let r : Request = Request.error_back id code parameter in
+  request-can (Request.component (ComponentRequest.error_back id code parameter)) due =
+      let r : Request = Request.component (ComponentRequest.error_back id code parameter) in
       let none = first_that-none (holds s r) (faults_of r) due in
       can-be (error_back id code parameter) (code-can r none.1.1.0) (parameter-can r none.1.1.1.0)
       (queued-short s.limit s.standing.queue None (error_back id code parameter) within (in-queue r none.1.1.1.1.0))
-  request-can (Request.u_reject id problem) due =
-      let r : Request = Request.u_reject id problem in
+  request-can (Request.component (ComponentRequest.u_reject id problem)) due =
+      let r : Request = Request.component (ComponentRequest.u_reject id problem) in
       let none = first_that-none (holds s r) (faults_of r) due in
       record {
         has_code = tt;
         has_parameter = tt;
         is_short = queued-short s.limit s.standing.queue None (reject_back id problem) within (in-queue r none.1.1.0);
       }
-  request-can (Request.u_cancel id) due = tt
-  request-can (Request.uni context info) due = tt
-  request-can (Request.begin context info) due = tt
-  request-can (Request.go_on context info) due = tt
-  request-can (Request.finish ending context info) due = tt
-  request-can (Request.u_abort why info) due = tt
+  request-can (Request.component (ComponentRequest.u_cancel id)) due = tt
+  request-can (Request.dialogue (DialogueRequest.uni context info)) due = tt
+  request-can (Request.dialogue (DialogueRequest.begin context info)) due = tt
+  request-can (Request.dialogue (DialogueRequest.go_on context info)) due = tt
+  request-can (Request.dialogue (DialogueRequest.finish ending context info)) due = tt
+  request-can (Request.dialogue (DialogueRequest.u_abort why info)) due = tt
 
 -- it is one, and it can be written
 abbrev pub IfGood : Option ComponentParts → Type 0

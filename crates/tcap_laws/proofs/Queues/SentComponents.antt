@@ -20,7 +20,7 @@ use Rattle.tcap_model.specs.Statements.Places.{Tells}
 use Rattle.tcap_model.specs.Replies.Queue.{queue}
 use Rattle.tcap_model.specs.Procedures.QueueRules.{Queued, joined}
 use Rattle.tcap_model.specs.Replies.Reply.{reply}
-use Rattle.tcap_model.specs.Words.Request.{Request, Ending, AbortReason}
+use Rattle.tcap_model.specs.Words.Request.{Request, Ending, AbortReason, DialogueRequest}
 use Rattle.tcap_model.specs.Procedures.RequestMessage.{answer_portion, user_abort, refusing_abort, continue_message, end_message, abort_message, refusing_message, message_of}
 use Rattle.tcap_model.specs.Procedures.Standing.{Standing}
 use Rattle.tcap_model.specs.Words.State.{State}
@@ -96,19 +96,14 @@ refusing-portion d state None info = tt
 refusing-portion d state (Some context) info = abort-portion d state (refusing_abort context info)
 
 message-portion : (d : Standing) (request : Request) → IfPortion d (message_of d request)
-message-portion d (Request.invoke id class code parameter linked timeout) = tt
-message-portion d (Request.result_last id body) = tt
-message-portion d (Request.result_more id body) = tt
-message-portion d (Request.error_back id code parameter) = tt
-message-portion d (Request.u_reject id problem) = tt
-message-portion d (Request.u_cancel id) = tt
-message-portion d (Request.uni context info) = inr refl
-message-portion d (Request.begin context info) = inr refl
-message-portion d (Request.go_on context info) = continue-portion d d.state (answer_portion d.state d.context context info)
-message-portion d (Request.finish Ending.basic context info) = end-portion d d.state (answer_portion d.state d.context context info)
-message-portion d (Request.finish Ending.prearranged context info) = tt
-message-portion d (Request.u_abort AbortReason.by_user info) = abort-portion d d.state (user_abort d.context info)
-message-portion d (Request.u_abort AbortReason.not_supported info) = refusing-portion d d.state d.context info
+message-portion d (Request.component asked) = tt
+message-portion d (Request.dialogue (DialogueRequest.uni context info)) = inr refl
+message-portion d (Request.dialogue (DialogueRequest.begin context info)) = inr refl
+message-portion d (Request.dialogue (DialogueRequest.go_on context info)) = continue-portion d d.state (answer_portion d.state d.context context info)
+message-portion d (Request.dialogue (DialogueRequest.finish Ending.basic context info)) = end-portion d d.state (answer_portion d.state d.context context info)
+message-portion d (Request.dialogue (DialogueRequest.finish Ending.prearranged context info)) = tt
+message-portion d (Request.dialogue (DialogueRequest.u_abort AbortReason.by_user info)) = abort-portion d d.state (user_abort d.context info)
+message-portion d (Request.dialogue (DialogueRequest.u_abort AbortReason.not_supported info)) = refusing-portion d d.state d.context info
 
 -- ---- one place
 

@@ -16,7 +16,7 @@ use Rattle.tcap_model.specs.Invocations.Numbers.{number_of}
 use Rattle.tcap_model.specs.Histories.Pair.{Pair, Past}
 use Rattle.tcap_model.specs.Procedures.Refusals.{due_on, faults_of, holds}
 use Rattle.tcap_model.specs.Replies.Reply.{reply, request_answer}
-use Rattle.tcap_model.specs.Words.Request.{Request}
+use Rattle.tcap_model.specs.Words.Request.{Request, ComponentRequest}
 use Rattle.tcap_model.specs.Words.State.{State}
 use Rattle.tcap_laws.proofs.Receptions.NothingDue.{first_that-none}
 
@@ -51,7 +51,7 @@ pub record IsInvoke (pair : Pair) (i : Invocation) : Type 0 where
   pub code : CodeParts
   pub parameter : Option (List ℕ)
   pub linked : Option ℤ
-  pub event : pair.event ≡ Event.on_dialogue i.dialogue (Request.invoke i.id i.class code parameter linked i.timeout)
+  pub event : pair.event ≡ Event.on_dialogue i.dialogue (Request.component (ComponentRequest.invoke i.id i.class code parameter linked i.timeout))
   pub answer : pair.answer ≡ Answer.number i.number
 
 numbered : (answer : Answer) (n : ℕ) → number_of answer ≡ Some n → answer ≡ Answer.number n
@@ -67,20 +67,16 @@ requested_pair dialogue request answer = record { event = Event.on_dialogue dial
 
 invoked-under : (dialogue : ℕ) (request : Request) (answer : Answer) (i : Invocation) (o : Option ℕ) → number_of answer ≡ o → invoked_under dialogue request o ≡ Some i → IsInvoke (requested_pair dialogue request answer) i
 invoked-under dialogue request answer i None q e = absurd cc
-invoked-under dialogue (Request.invoke id class code parameter linked timeout) answer i (Some n) q e =
+invoked-under dialogue (Request.component (ComponentRequest.invoke id class code parameter linked timeout)) answer i (Some n) q e =
     let same : record { number = n; dialogue = dialogue; id = id; class = class; timeout = timeout } ≡ i = cc in
-    subst (λ (i : Invocation). IsInvoke (requested_pair dialogue (Request.invoke id class code parameter linked timeout) answer) i) same
+    subst (λ (i : Invocation). IsInvoke (requested_pair dialogue (Request.component (ComponentRequest.invoke id class code parameter linked timeout)) answer) i) same
     (record { code = code; parameter = parameter; linked = linked; event = refl; answer = numbered answer n q })
-invoked-under dialogue (Request.result_last id body) answer i (Some n) q e = absurd cc
-invoked-under dialogue (Request.result_more id body) answer i (Some n) q e = absurd cc
-invoked-under dialogue (Request.error_back id code parameter) answer i (Some n) q e = absurd cc
-invoked-under dialogue (Request.u_reject id problem) answer i (Some n) q e = absurd cc
-invoked-under dialogue (Request.u_cancel id) answer i (Some n) q e = absurd cc
-invoked-under dialogue (Request.uni context info) answer i (Some n) q e = absurd cc
-invoked-under dialogue (Request.begin context info) answer i (Some n) q e = absurd cc
-invoked-under dialogue (Request.go_on context info) answer i (Some n) q e = absurd cc
-invoked-under dialogue (Request.finish ending context info) answer i (Some n) q e = absurd cc
-invoked-under dialogue (Request.u_abort why info) answer i (Some n) q e = absurd cc
+invoked-under dialogue (Request.component (ComponentRequest.result_last id body)) answer i (Some n) q e = absurd cc
+invoked-under dialogue (Request.component (ComponentRequest.result_more id body)) answer i (Some n) q e = absurd cc
+invoked-under dialogue (Request.component (ComponentRequest.error_back id code parameter)) answer i (Some n) q e = absurd cc
+invoked-under dialogue (Request.component (ComponentRequest.u_reject id problem)) answer i (Some n) q e = absurd cc
+invoked-under dialogue (Request.component (ComponentRequest.u_cancel id)) answer i (Some n) q e = absurd cc
+invoked-under dialogue (Request.dialogue asked) answer i (Some n) q e = absurd cc
 
 invoked-of : (event : Event) (answer : Answer) (i : Invocation) → invoked_of event answer ≡ Some i → IsInvoke (record { event = event; answer = answer }) i
 invoked-of Event.new_dialogue answer i e = absurd cc
@@ -94,7 +90,7 @@ invoke-made pair i e = invoked-of pair.event pair.answer i e
 -- ---- its identifier and its timeout
 
 abbrev invoke_asked : Invocation → CodeParts → Option (List ℕ) → Option ℤ → Request
-invoke_asked i code parameter linked = Request.invoke i.id i.class code parameter linked i.timeout
+invoke_asked i code parameter linked = Request.component (ComponentRequest.invoke i.id i.class code parameter linked i.timeout)
 
 pub made-identifier : (pair : Pair) (i : Invocation) → InRange pair.event → invoked_by pair ≡ Some i → is_identifier i.id ≡ true
 made-identifier pair i within e =

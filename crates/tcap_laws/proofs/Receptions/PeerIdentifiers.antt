@@ -11,7 +11,7 @@ use Rattle.tcap_model.specs.Histories.Life.{Life, begun_life, born_life, life_at
 use Rattle.tcap_model.specs.Histories.Names.{names}
 use Rattle.tcap_model.specs.Histories.Pair.{Pair, Past}
 use Rattle.tcap_model.specs.Procedures.PortionRules.{PortionVerdict, portion_verdict}
-use Rattle.tcap_model.specs.Words.Request.{Request}
+use Rattle.tcap_model.specs.Words.Request.{Request, DialogueRequest}
 use Rattle.tcap_model.specs.Words.State.{State, is_live, activated, peer_by}
 use Rattle.tcap_laws.proofs.Receptions.SoundReceptions.{read-ids}
 
@@ -52,17 +52,12 @@ activated-id (State.received peer) id = id
 activated-id (State.active peer) id = id
 
 request-id : (state : State) (context : Option (List ℕ)) (request : Request) → StateId state → LifeId (life_by_request state context request)
-request-id state context (Request.invoke id class code parameter linked timeout) peer = peer
-request-id state context (Request.result_last id body) peer = peer
-request-id state context (Request.result_more id body) peer = peer
-request-id state context (Request.error_back id code parameter) peer = peer
-request-id state context (Request.u_reject id problem) peer = peer
-request-id state context (Request.u_cancel id) peer = peer
-request-id state context (Request.uni asked info) peer = tt
-request-id state context (Request.begin asked info) peer = tt
-request-id state context (Request.go_on asked info) peer = activated-id state peer
-request-id state context (Request.finish ending asked info) peer = tt
-request-id state context (Request.u_abort why info) peer = tt
+request-id state context (Request.component asked) peer = peer
+request-id state context (Request.dialogue (DialogueRequest.uni asked info)) peer = tt
+request-id state context (Request.dialogue (DialogueRequest.begin asked info)) peer = tt
+request-id state context (Request.dialogue (DialogueRequest.go_on asked info)) peer = activated-id state peer
+request-id state context (Request.dialogue (DialogueRequest.finish ending asked info)) peer = tt
+request-id state context (Request.dialogue (DialogueRequest.u_abort why info)) peer = tt
 
 accepted-id : (accepted : Bool) (state : State) (context : Option (List ℕ)) (request : Request) → StateId state → LifeId (life_if_accepted accepted state context request)
 accepted-id true state context request peer = request-id state context request peer

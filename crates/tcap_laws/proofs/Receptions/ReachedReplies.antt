@@ -13,7 +13,7 @@ use Rattle.tcap_model.specs.Words.Event.{Event}
 use Rattle.tcap_model.specs.Histories.History.{History}
 use Rattle.tcap_model.specs.Histories.Life.{Life, life, live_in}
 use Rattle.tcap_model.specs.Histories.Names.{names}
-use Rattle.tcap_model.specs.Words.Output.{Output, AbortCause}
+use Rattle.tcap_model.specs.Words.Output.{Output, AbortCause, DialogueIndication}
 use Rattle.tcap_model.specs.Histories.Pair.{Past}
 use Rattle.tcap_model.specs.Procedures.PortionRules.{PortionVerdict, portion_verdict}
 use Rattle.tcap_model.specs.Procedures.Reception.{Reception, reception}
@@ -34,7 +34,7 @@ module _ (h : History) (dialogue : ℕ) (bytes : List ℕ) (named : names (Event
   pub taken-reply : (m : Message) → SpellsFrame m bytes → reply h (Event.received bytes) ≡ Answer.outputs (taken_outputs dialogue h.pairs (life dialogue h.pairs) m)
   taken-reply m spelled = ap (outputs_by h) (named-taken (live_at h) (is_some (birth_due h)) dialogue bytes named lives m (frame_again m bytes spelled))
 
-  pub broken-reply : (f : FrameFault) → IsFrameFault bytes f → (abort : Option Output) × (reply h (Event.received bytes) ≡ Answer.outputs (option_to_list abort ++ Output.p_abort dialogue (AbortCause.cause (fault_cause f)) ∷ ended_in dialogue h.pairs []))
+  pub broken-reply : (f : FrameFault) → IsFrameFault bytes f → (abort : Option Output) × (reply h (Event.received bytes) ≡ Answer.outputs (option_to_list abort ++ Output.dialogue (DialogueIndication.p_abort dialogue (AbortCause.cause (fault_cause f))) ∷ ended_in dialogue h.pairs []))
   broken-reply f is =
       let broken = named-broken (live_at h) (is_some (birth_due h)) dialogue bytes named lives f (frame_told bytes f is) in
       (broken.0, ap (outputs_by h) broken.1)
@@ -74,7 +74,7 @@ reception-some h bytes (Reception.aborted abort) is = (_, _, refl)
 reception-some h bytes (Reception.unidirectional context info components) is = (_, _, refl)
 reception-some h bytes (Reception.begun origin context info components) is = (_, _, refl)
 reception-some h bytes (Reception.taken dialogue m) is = taken-some dialogue h.pairs (life dialogue h.pairs) bytes m is.1 is.0 is.2
-reception-some h bytes (Reception.broken dialogue abort cause) is = broken-some abort (Output.p_abort dialogue (AbortCause.cause cause)) (ended_in dialogue h.pairs [])
+reception-some h bytes (Reception.broken dialogue abort cause) is = broken-some abort (Output.dialogue (DialogueIndication.p_abort dialogue (AbortCause.cause cause))) (ended_in dialogue h.pairs [])
 
 pub some-reply : (h : History) (bytes : List ℕ) → (first : Output) × (others : List Output) × (reply h (Event.received bytes) ≡ Answer.outputs (first ∷ others))
 some-reply h bytes =

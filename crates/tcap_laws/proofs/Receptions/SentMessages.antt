@@ -16,7 +16,7 @@ use Rattle.tcap_model.specs.Replies.Held.{pending}
 use Rattle.tcap_model.specs.Histories.History.{History}
 use Rattle.tcap_model.specs.Invocations.Invocation.{invocations}
 use Rattle.tcap_model.specs.Histories.Life.{Life, life, live_in}
-use Rattle.tcap_model.specs.Words.Output.{Output, AbortCause}
+use Rattle.tcap_model.specs.Words.Output.{Output, AbortCause, DialogueIndication}
 use Rattle.tcap_model.specs.Histories.Pair.{Past}
 use Rattle.tcap_model.specs.Statements.Places.{Tells}
 use Rattle.tcap_model.specs.Procedures.PortionRules.{PortionVerdict, portion_verdict}
@@ -24,7 +24,7 @@ use Rattle.tcap_model.specs.Replies.Queue.{handled_in}
 use Rattle.tcap_model.specs.Procedures.Reception.{Reception, reception}
 use Rattle.tcap_model.specs.Procedures.Refusals.{due_on}
 use Rattle.tcap_model.specs.Replies.Reply.{reply, birth_answer, given_up_answer, accepted_answer, request_answer, continue_outputs, end_outputs, message_outputs, taken_outputs, reception_outputs, ended_in, moment_answer, lapses, in_order, lapsing_at}
-use Rattle.tcap_model.specs.Words.Request.{Request}
+use Rattle.tcap_model.specs.Words.Request.{Request, ComponentRequest, DialogueRequest}
 use Rattle.tcap_model.specs.Procedures.RequestMessage.{message_of}
 use Rattle.tcap_model.specs.Statements.SentMessage.{IsMessage, SentForRequest, SentForBytes}
 use Rattle.tcap_model.specs.Procedures.Standing.{Standing}
@@ -39,17 +39,8 @@ use Rattle.tcap_laws.proofs.Receptions.ToldOutputKinds.{IsTold, AreTold, each-ap
 -- what is sent has this property
 abbrev pub SendsOnly : (List ℕ → Type 0) → Output → Type 0
 SendsOnly P (Output.send bytes) = P bytes
-SendsOnly P (Output.uni context info) = Unit {0}
-SendsOnly P (Output.begin dialogue context info) = Unit {0}
-SendsOnly P (Output.go_on dialogue context info) = Unit {0}
-SendsOnly P (Output.end dialogue context info) = Unit {0}
-SendsOnly P (Output.u_abort dialogue pdu) = Unit {0}
-SendsOnly P (Output.p_abort dialogue why) = Unit {0}
-SendsOnly P (Output.invoked dialogue id linked code parameter) = Unit {0}
-SendsOnly P (Output.result_more dialogue number id body) = Unit {0}
-SendsOnly P (Output.local_reject dialogue id problem) = Unit {0}
-SendsOnly P (Output.remote_reject dialogue id problem by) = Unit {0}
-SendsOnly P (Output.closed dialogue number id closing) = Unit {0}
+SendsOnly P (Output.dialogue indication) = Unit {0}
+SendsOnly P (Output.component indication) = Unit {0}
 SendsOnly P (Output.dropped why) = Unit {0}
 
 abbrev pub EachSends : (List ℕ → Type 0) → List Output → Type 0
@@ -74,17 +65,8 @@ tells-sends P answer bytes sends tells =
 
 told-only : (P : List ℕ → Type 0) (output : Output) → IsTold output → SendsOnly P output
 told-only P (Output.send bytes) told = absurd told
-told-only P (Output.uni context info) told = tt
-told-only P (Output.begin dialogue context info) told = tt
-told-only P (Output.go_on dialogue context info) told = tt
-told-only P (Output.end dialogue context info) told = tt
-told-only P (Output.u_abort dialogue pdu) told = tt
-told-only P (Output.p_abort dialogue why) told = tt
-told-only P (Output.invoked dialogue id linked code parameter) told = tt
-told-only P (Output.result_more dialogue number id body) told = tt
-told-only P (Output.local_reject dialogue id problem) told = tt
-told-only P (Output.remote_reject dialogue id problem by) told = tt
-told-only P (Output.closed dialogue number id closing) told = tt
+told-only P (Output.dialogue indication) told = tt
+told-only P (Output.component indication) told = tt
 told-only P (Output.dropped why) told = tt
 
 pub told-each : (P : List ℕ → Type 0) (outputs : List Output) → AreTold outputs → EachSends P outputs
@@ -141,7 +123,7 @@ reception-sends h bytes full (Reception.begun origin context info components) so
 reception-sends h bytes full (Reception.taken dialogue message) sound =
     taken-sends dialogue h.pairs (life dialogue h.pairs) message (life-id dialogue h.pairs) (read-ids bytes message sound)
 reception-sends h bytes full (Reception.broken dialogue abort cause) sound =
-    if-aborts abort (Output.p_abort dialogue (AbortCause.cause cause) ∷ ended_in dialogue h.pairs []) sound (tt, ended-sends dialogue h.pairs)
+    if-aborts abort (Output.dialogue (DialogueIndication.p_abort dialogue (AbortCause.cause cause)) ∷ ended_in dialogue h.pairs []) sound (tt, ended-sends dialogue h.pairs)
 
 bytes-sends : (h : History) (bytes : List ℕ) → AnswerSends SentForBytes (reply h (Event.received bytes))
 bytes-sends h bytes =
@@ -176,17 +158,17 @@ module _ (h : History) (dialogue : ℕ) where
   given_up-sends request (Some n) = tt
 
   accepted-sends : (state : State) (context : Option (List ℕ)) (request : Request) → life dialogue h.pairs ≡ Life.standing state context → due_on (situation_of h dialogue (standing_of dialogue h.pairs state context) request) request ≡ None → StateId state → AnswerSends (SentForRequest h dialogue request) (accepted_answer h (standing_of dialogue h.pairs state context) request)
-  accepted-sends state context (Request.invoke id class code parameter linked timeout) lives due peer = tt
-  accepted-sends state context (Request.result_last id body) lives due peer = tt
-  accepted-sends state context (Request.result_more id body) lives due peer = tt
-  accepted-sends state context (Request.error_back id code parameter) lives due peer = tt
-  accepted-sends state context (Request.u_reject id problem) lives due peer = tt
-  accepted-sends state context (Request.u_cancel id) lives due peer = given_up-sends (Request.u_cancel id) (pending dialogue id h.pairs)
-  accepted-sends state context (Request.uni asked info) lives due peer = last-sends state context (Request.uni asked info) lives due peer
-  accepted-sends state context (Request.begin asked info) lives due peer = message-goes state context (Request.begin asked info) lives due peer
-  accepted-sends state context (Request.go_on asked info) lives due peer = message-goes state context (Request.go_on asked info) lives due peer
-  accepted-sends state context (Request.finish ending asked info) lives due peer = last-sends state context (Request.finish ending asked info) lives due peer
-  accepted-sends state context (Request.u_abort why info) lives due peer = last-sends state context (Request.u_abort why info) lives due peer
+  accepted-sends state context (Request.component (ComponentRequest.invoke id class code parameter linked timeout)) lives due peer = tt
+  accepted-sends state context (Request.component (ComponentRequest.result_last id body)) lives due peer = tt
+  accepted-sends state context (Request.component (ComponentRequest.result_more id body)) lives due peer = tt
+  accepted-sends state context (Request.component (ComponentRequest.error_back id code parameter)) lives due peer = tt
+  accepted-sends state context (Request.component (ComponentRequest.u_reject id problem)) lives due peer = tt
+  accepted-sends state context (Request.component (ComponentRequest.u_cancel id)) lives due peer = given_up-sends (Request.component (ComponentRequest.u_cancel id)) (pending dialogue id h.pairs)
+  accepted-sends state context (Request.dialogue (DialogueRequest.uni asked info)) lives due peer = last-sends state context (Request.dialogue (DialogueRequest.uni asked info)) lives due peer
+  accepted-sends state context (Request.dialogue (DialogueRequest.begin asked info)) lives due peer = message-goes state context (Request.dialogue (DialogueRequest.begin asked info)) lives due peer
+  accepted-sends state context (Request.dialogue (DialogueRequest.go_on asked info)) lives due peer = message-goes state context (Request.dialogue (DialogueRequest.go_on asked info)) lives due peer
+  accepted-sends state context (Request.dialogue (DialogueRequest.finish ending asked info)) lives due peer = last-sends state context (Request.dialogue (DialogueRequest.finish ending asked info)) lives due peer
+  accepted-sends state context (Request.dialogue (DialogueRequest.u_abort why info)) lives due peer = last-sends state context (Request.dialogue (DialogueRequest.u_abort why info)) lives due peer
 
   request-sends : (request : Request) (before : Life) (fault : Option Fault) → life dialogue h.pairs ≡ before → due_by h dialogue request before ≡ fault → LifeId before → AnswerSends (SentForRequest h dialogue request) (request_answer h dialogue request before fault)
   request-sends request before (Some f) lives due peer = tt

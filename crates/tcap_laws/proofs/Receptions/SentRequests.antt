@@ -8,7 +8,7 @@ use Rattle.tcap_model.specs.Procedures.ComponentRequest.{queued_for}
 use Rattle.tcap_model.specs.Words.Fault.{Fault}
 use Rattle.tcap_model.specs.Words.LocalId.{local_id}
 use Rattle.tcap_model.specs.Procedures.Refusals.{Situation, passes_queue, passes_message, holds, faults_of, due_on}
-use Rattle.tcap_model.specs.Words.Request.{Request, Ending, AbortReason}
+use Rattle.tcap_model.specs.Words.Request.{Request, Ending, AbortReason, DialogueRequest}
 use Rattle.tcap_model.specs.Procedures.RequestMessage.{user_abort, refusing_abort, answer_portion, continue_message, end_message, abort_message, refusing_message, message_of}
 use Rattle.tcap_model.specs.Procedures.Standing.{Standing}
 use Rattle.tcap_model.specs.Words.State.{State}
@@ -62,19 +62,14 @@ refusing-ids state None info id = tt
 refusing-ids state (Some context) info id = abort-ids state (refusing_abort context info) id tt
 
 pub message-ids : (d : Standing) (request : Request) → StateId d.state → IfMessage (message_of d request)
-message-ids d (Request.invoke id class code parameter linked timeout) peer = tt
-message-ids d (Request.result_last id body) peer = tt
-message-ids d (Request.result_more id body) peer = tt
-message-ids d (Request.error_back id code parameter) peer = tt
-message-ids d (Request.u_reject id problem) peer = tt
-message-ids d (Request.u_cancel id) peer = tt
-message-ids d (Request.uni context info) peer = (tt, tt)
-message-ids d (Request.begin context info) peer = (local-id d.identifier, tt)
-message-ids d (Request.go_on context info) peer = continue-ids d d.state (answer_portion d.state d.context context info) peer
-message-ids d (Request.finish Ending.basic context info) peer = end-ids d d.state (answer_portion d.state d.context context info) peer
-message-ids d (Request.finish Ending.prearranged context info) peer = tt
-message-ids d (Request.u_abort AbortReason.by_user info) peer = abort-ids d.state (user_abort d.context info) peer (user-users d.context info)
-message-ids d (Request.u_abort AbortReason.not_supported info) peer = refusing-ids d.state d.context info peer
+message-ids d (Request.component asked) peer = tt
+message-ids d (Request.dialogue (DialogueRequest.uni context info)) peer = (tt, tt)
+message-ids d (Request.dialogue (DialogueRequest.begin context info)) peer = (local-id d.identifier, tt)
+message-ids d (Request.dialogue (DialogueRequest.go_on context info)) peer = continue-ids d d.state (answer_portion d.state d.context context info) peer
+message-ids d (Request.dialogue (DialogueRequest.finish Ending.basic context info)) peer = end-ids d d.state (answer_portion d.state d.context context info) peer
+message-ids d (Request.dialogue (DialogueRequest.finish Ending.prearranged context info)) peer = tt
+message-ids d (Request.dialogue (DialogueRequest.u_abort AbortReason.by_user info)) peer = abort-ids d.state (user_abort d.context info) peer (user-users d.context info)
+message-ids d (Request.dialogue (DialogueRequest.u_abort AbortReason.not_supported info)) peer = refusing-ids d.state d.context info peer
 
 -- ---- the length
 
@@ -82,30 +77,25 @@ not-long : (s : Situation) (request : Request) → holds s request Fault.too_lon
 not-long s request e = (or_parts (passes_queue s.limit s.standing.queue (queued_for s.number request)) (passes_message (message_of s.standing request)) e).1
 
 not-passing : (s : Situation) (request : Request) → due_on s request ≡ None → passes_message (message_of s.standing request) ≡ false
-not-passing s (Request.invoke id class code parameter linked timeout) due = refl
-not-passing s (Request.result_last id body) due = refl
-not-passing s (Request.result_more id body) due = refl
-not-passing s (Request.error_back id code parameter) due = refl
-not-passing s (Request.u_reject id problem) due = refl
-not-passing s (Request.u_cancel id) due = refl
-not-passing s (Request.uni context info) due =
-    let r : Request = Request.uni context info in
+not-passing s (Request.component asked) due = refl
+not-passing s (Request.dialogue (DialogueRequest.uni context info)) due =
+    let r : Request = Request.dialogue (DialogueRequest.uni context info) in
     let none = first_that-none (holds s r) (faults_of r) due in
     not-long s r none.1.1.1.1.1.1.0
-not-passing s (Request.begin context info) due =
-    let r : Request = Request.begin context info in
+not-passing s (Request.dialogue (DialogueRequest.begin context info)) due =
+    let r : Request = Request.dialogue (DialogueRequest.begin context info) in
     let none = first_that-none (holds s r) (faults_of r) due in
     not-long s r none.1.1.1.1.1.0
-not-passing s (Request.go_on context info) due =
-    let r : Request = Request.go_on context info in
+not-passing s (Request.dialogue (DialogueRequest.go_on context info)) due =
+    let r : Request = Request.dialogue (DialogueRequest.go_on context info) in
     let none = first_that-none (holds s r) (faults_of r) due in
     not-long s r none.1.1.1.1.1.0
-not-passing s (Request.finish ending context info) due =
-    let r : Request = Request.finish ending context info in
+not-passing s (Request.dialogue (DialogueRequest.finish ending context info)) due =
+    let r : Request = Request.dialogue (DialogueRequest.finish ending context info) in
     let none = first_that-none (holds s r) (faults_of r) due in
     not-long s r none.1.1.1.1.1.0
-not-passing s (Request.u_abort why info) due =
-    let r : Request = Request.u_abort why info in
+not-passing s (Request.dialogue (DialogueRequest.u_abort why info)) due =
+    let r : Request = Request.dialogue (DialogueRequest.u_abort why info) in
     let none = first_that-none (holds s r) (faults_of r) due in
     not-long s r none.1.1.1.1.0
 

@@ -15,7 +15,7 @@ use Rattle.tcap_invocation.specs.Class.{Received, Consequence, class_rule}
 use Rattle.tcap_model.specs.Procedures.ComponentHandling.{Item, SentInvocation, subject_of, invoke_handled, result_by, result_handled, error_by, error_handled, reject_by, reject_handled, handled, told_of, uni_told}
 use Rattle.tcap_model.specs.Statements.ComponentLaws.{portion_of, StandsFor, IsOfComponent, ToldFromOne}
 use Rattle.tcap_model.specs.Words.Event.{Event}
-use Rattle.tcap_model.specs.Words.Output.{Output, Closing, Rejector}
+use Rattle.tcap_model.specs.Words.Output.{Output, Closing, Rejector, ComponentIndication}
 use Rattle.tcap_model.specs.Histories.Pair.{Past}
 use Rattle.tcap_model.specs.Replies.Queue.{sent_there, handled_after, handled_in}
 
@@ -34,17 +34,12 @@ IsAnswering Closing.given_up = ⊥
 -- the indications of components, by their form
 abbrev pub Indicates : Output → Type 0
 Indicates (Output.send bytes) = ⊥
-Indicates (Output.uni context info) = ⊥
-Indicates (Output.begin dialogue context info) = ⊥
-Indicates (Output.go_on dialogue context info) = ⊥
-Indicates (Output.end dialogue context info) = ⊥
-Indicates (Output.u_abort dialogue pdu) = ⊥
-Indicates (Output.p_abort dialogue why) = ⊥
-Indicates (Output.invoked dialogue id linked code parameter) = Unit {0}
-Indicates (Output.result_more dialogue number id body) = Unit {0}
-Indicates (Output.local_reject dialogue id problem) = ⊥
-Indicates (Output.remote_reject dialogue id problem by) = ⊥
-Indicates (Output.closed dialogue number id closing) = IsAnswering closing
+Indicates (Output.dialogue indication) = ⊥
+Indicates (Output.component (ComponentIndication.invoked dialogue id linked code parameter)) = Unit {0}
+Indicates (Output.component (ComponentIndication.result_more dialogue number id body)) = Unit {0}
+Indicates (Output.component (ComponentIndication.local_reject dialogue id problem)) = ⊥
+Indicates (Output.component (ComponentIndication.remote_reject dialogue id problem by)) = ⊥
+Indicates (Output.component (ComponentIndication.closed dialogue number id closing)) = IsAnswering closing
 Indicates (Output.dropped why) = ⊥
 
 pub indicates : (output : Output) → IsOfComponent output → Indicates output
@@ -95,7 +90,7 @@ error-shows : (dialogue : Option ℕ) (sent : Option SentInvocation) (id : ℤ) 
 error-shows dialogue None id code parameter is = absurd (indicates _ is)
 error-shows dialogue (Some sent) id code parameter is = error_by-shows sent id code parameter sent.class is
 
-closed-shows : (by_provider : Bool) (dialogue number : ℕ) (id : ℤ) (problem : ProblemParts) → Shows (reject_back (Some id) problem) (Output.closed dialogue number id (Closing.rejected problem (if by_provider then Rejector.remote_provider else Rejector.remote_user)))
+closed-shows : (by_provider : Bool) (dialogue number : ℕ) (id : ℤ) (problem : ProblemParts) → Shows (reject_back (Some id) problem) (Output.component (ComponentIndication.closed dialogue number id (Closing.rejected problem (if by_provider then Rejector.remote_provider else Rejector.remote_user))))
 closed-shows true dialogue number id problem is = absurd (indicates _ is)
 closed-shows false dialogue number id problem is = StandsFor.a_reject dialogue number id problem
 

@@ -23,13 +23,13 @@ use Rattle.tcap_model.specs.Invocations.Invocation.{Invocation, invocations}
 use Rattle.tcap_model.specs.Replies.Legal.{AreReplies}
 use Rattle.tcap_model.specs.Histories.Life.{Life, life, live_in}
 use Rattle.tcap_model.specs.Invocations.Outcome.{first_closing}
-use Rattle.tcap_model.specs.Words.Output.{Output, Closing, AbortCause}
+use Rattle.tcap_model.specs.Words.Output.{Output, Closing, AbortCause, ComponentIndication, DialogueIndication}
 use Rattle.tcap_model.specs.Histories.Pair.{Past}
 use Rattle.tcap_model.specs.Procedures.PortionRules.{PortionVerdict, portion_verdict}
 use Rattle.tcap_model.specs.Replies.Queue.{marks_up_to, handled_in}
 use Rattle.tcap_model.specs.Procedures.Reception.{Reception, reception}
 use Rattle.tcap_model.specs.Replies.Reply.{ended_of, ended_in, given_up_answer, last_answer, accepted_answer, request_answer, continue_outputs, end_outputs, message_outputs, taken_outputs, reception_outputs, Lapsing, lapse_told, in_order, lapsing_at, lapses, moment_answer, birth_answer, reply}
-use Rattle.tcap_model.specs.Words.Request.{Request}
+use Rattle.tcap_model.specs.Words.Request.{Request, ComponentRequest, DialogueRequest}
 use Rattle.tcap_model.specs.Procedures.RequestMessage.{message_of}
 use Rattle.tcap_model.specs.Procedures.Standing.{Standing}
 use Rattle.tcap_model.specs.Words.State.{State}
@@ -45,7 +45,7 @@ if-stand : (event : Event) (output : Option Output) (outputs : List Output) → 
 if-stand event None outputs p q = q
 if-stand event (Some output) outputs p q = (p.0, q)
 
-ended-of-stand : (event : Event) (test : Bool) (dialogue : ℕ) (i : Invocation) → AllStand event (option_to_list (if test then Some (Output.closed dialogue i.number i.id Closing.ended) else None))
+ended-of-stand : (event : Event) (test : Bool) (dialogue : ℕ) (i : Invocation) → AllStand event (option_to_list (if test then Some (Output.component (ComponentIndication.closed dialogue i.number i.id Closing.ended)) else None))
 ended-of-stand event true dialogue i = ((λ of. absurd (indicates _ of)), tt)
 ended-of-stand event false dialogue i = tt
 
@@ -72,7 +72,7 @@ sent_if_any-stand event (Some m) = ((λ of. absurd (indicates _ of)), tt)
 
 -- ---- Aborts
 
-no_common-silent : (test : Bool) (dialogue : ℕ) (pdu : Option PduValue) → Indicates (if test then Output.p_abort dialogue AbortCause.no_common else Output.u_abort dialogue pdu) → ⊥
+no_common-silent : (test : Bool) (dialogue : ℕ) (pdu : Option PduValue) → Indicates (if test then Output.dialogue (DialogueIndication.p_abort dialogue AbortCause.no_common) else Output.dialogue (DialogueIndication.u_abort dialogue pdu)) → ⊥
 no_common-silent true dialogue pdu h = h
 no_common-silent false dialogue pdu h = h
 
@@ -118,7 +118,7 @@ taken-stand bytes dialogue past Life.unborn message spelled = tt
 taken-stand bytes dialogue past (Life.standing state context) message spelled = message-stand bytes dialogue past state context message spelled
 taken-stand bytes dialogue past Life.over message spelled = tt
 
-broken-stand : (bytes : List ℕ) (dialogue cause : ℕ) (past : Past) (abort : Option Output) → IfSends abort → AllStand (Event.received bytes) (option_to_list abort ++ Output.p_abort dialogue (AbortCause.cause cause) ∷ ended_in dialogue past [])
+broken-stand : (bytes : List ℕ) (dialogue cause : ℕ) (past : Past) (abort : Option Output) → IfSends abort → AllStand (Event.received bytes) (option_to_list abort ++ Output.dialogue (DialogueIndication.p_abort dialogue (AbortCause.cause cause)) ∷ ended_in dialogue past [])
 broken-stand bytes dialogue cause past None sends = ((λ of. absurd (indicates _ of)), ended-stand (Event.received bytes) dialogue past [])
 broken-stand bytes dialogue cause past (Some abort) sends = (sent-stands (Event.received bytes) abort sends, ((λ of. absurd (indicates _ of)), ended-stand (Event.received bytes) dialogue past []))
 
@@ -153,17 +153,17 @@ given_up-stands event None = tt
 given_up-stands event (Some n) = tt
 
 accepted-stands : (event : Event) (h : History) (d : Standing) (request : Request) → AnswerStands event (accepted_answer h d request)
-accepted-stands event h d (Request.invoke id class code parameter linked timeout) = tt
-accepted-stands event h d (Request.result_last id body) = tt
-accepted-stands event h d (Request.result_more id body) = tt
-accepted-stands event h d (Request.error_back id code parameter) = tt
-accepted-stands event h d (Request.u_reject id problem) = tt
-accepted-stands event h d (Request.u_cancel id) = given_up-stands event (pending d.identifier id h.pairs)
-accepted-stands event h d (Request.uni context info) = last-stands event d.identifier h.pairs (message_of d (Request.uni context info))
-accepted-stands event h d (Request.begin context info) = sent_if_any-stand event (message_of d (Request.begin context info))
-accepted-stands event h d (Request.go_on context info) = sent_if_any-stand event (message_of d (Request.go_on context info))
-accepted-stands event h d (Request.finish ending context info) = last-stands event d.identifier h.pairs (message_of d (Request.finish ending context info))
-accepted-stands event h d (Request.u_abort why info) = last-stands event d.identifier h.pairs (message_of d (Request.u_abort why info))
+accepted-stands event h d (Request.component (ComponentRequest.invoke id class code parameter linked timeout)) = tt
+accepted-stands event h d (Request.component (ComponentRequest.result_last id body)) = tt
+accepted-stands event h d (Request.component (ComponentRequest.result_more id body)) = tt
+accepted-stands event h d (Request.component (ComponentRequest.error_back id code parameter)) = tt
+accepted-stands event h d (Request.component (ComponentRequest.u_reject id problem)) = tt
+accepted-stands event h d (Request.component (ComponentRequest.u_cancel id)) = given_up-stands event (pending d.identifier id h.pairs)
+accepted-stands event h d (Request.dialogue (DialogueRequest.uni context info)) = last-stands event d.identifier h.pairs (message_of d (Request.dialogue (DialogueRequest.uni context info)))
+accepted-stands event h d (Request.dialogue (DialogueRequest.begin context info)) = sent_if_any-stand event (message_of d (Request.dialogue (DialogueRequest.begin context info)))
+accepted-stands event h d (Request.dialogue (DialogueRequest.go_on context info)) = sent_if_any-stand event (message_of d (Request.dialogue (DialogueRequest.go_on context info)))
+accepted-stands event h d (Request.dialogue (DialogueRequest.finish ending context info)) = last-stands event d.identifier h.pairs (message_of d (Request.dialogue (DialogueRequest.finish ending context info)))
+accepted-stands event h d (Request.dialogue (DialogueRequest.u_abort why info)) = last-stands event d.identifier h.pairs (message_of d (Request.dialogue (DialogueRequest.u_abort why info)))
 
 request-stands : (event : Event) (h : History) (dialogue : ℕ) (request : Request) (before : Life) (fault : Option Fault) → AnswerStands event (request_answer h dialogue request before fault)
 request-stands event h dialogue request before (Some f) = tt

@@ -15,7 +15,7 @@ use Rattle.tcap_model.specs.Procedures.AbortRules.{is_no_common, response_told, 
 use Rattle.tcap_model.specs.Procedures.ComponentHandling.{Item, SentInvocation, subject_of, invoke_handled, result_by, result_handled, error_by, error_handled, reject_by, reject_handled, handled, told_of, uni_told}
 use Rattle.tcap_model.specs.Invocations.Invocation.{Invocation, invocations}
 use Rattle.tcap_model.specs.Invocations.Outcome.{first_closing}
-use Rattle.tcap_model.specs.Words.Output.{Output, Closing, AbortCause}
+use Rattle.tcap_model.specs.Words.Output.{Output, Closing, AbortCause, ComponentIndication, DialogueIndication}
 use Rattle.tcap_model.specs.Histories.Pair.{Past}
 use Rattle.tcap_model.specs.Replies.Queue.{marks_up_to, sent_there, handled_after, handled_in}
 use Rattle.tcap_model.specs.Replies.Reply.{ended_of, ended_in, Lapsing, lapse_told}
@@ -23,17 +23,13 @@ use Rattle.tcap_model.specs.Replies.Reply.{ended_of, ended_in, Lapsing, lapse_to
 -- neither a Send nor a TC-BEGIN indication
 abbrev pub IsTold : Output → Type 0
 IsTold (Output.send bytes) = ⊥
-IsTold (Output.uni context info) = Unit {0}
-IsTold (Output.begin dialogue context info) = ⊥
-IsTold (Output.go_on dialogue context info) = Unit {0}
-IsTold (Output.end dialogue context info) = Unit {0}
-IsTold (Output.u_abort dialogue pdu) = Unit {0}
-IsTold (Output.p_abort dialogue why) = Unit {0}
-IsTold (Output.invoked dialogue id linked code parameter) = Unit {0}
-IsTold (Output.result_more dialogue number id body) = Unit {0}
-IsTold (Output.local_reject dialogue id problem) = Unit {0}
-IsTold (Output.remote_reject dialogue id problem by) = Unit {0}
-IsTold (Output.closed dialogue number id closing) = Unit {0}
+IsTold (Output.dialogue (DialogueIndication.uni context info)) = Unit {0}
+IsTold (Output.dialogue (DialogueIndication.begin dialogue context info)) = ⊥
+IsTold (Output.dialogue (DialogueIndication.go_on dialogue context info)) = Unit {0}
+IsTold (Output.dialogue (DialogueIndication.end dialogue context info)) = Unit {0}
+IsTold (Output.dialogue (DialogueIndication.u_abort dialogue pdu)) = Unit {0}
+IsTold (Output.dialogue (DialogueIndication.p_abort dialogue why)) = Unit {0}
+IsTold (Output.component indication) = Unit {0}
 IsTold (Output.dropped why) = Unit {0}
 
 abbrev pub AreTold : List Output → Type 0
@@ -116,7 +112,7 @@ if-told : (output : Option Output) (outputs : List Output) → AreTold (option_t
 if-told None outputs p q = q
 if-told (Some output) outputs p q = (p.0, q)
 
-ended-of-told : (test : Bool) (dialogue : ℕ) (i : Invocation) → AreTold (option_to_list (if test then Some (Output.closed dialogue i.number i.id Closing.ended) else None))
+ended-of-told : (test : Bool) (dialogue : ℕ) (i : Invocation) → AreTold (option_to_list (if test then Some (Output.component (ComponentIndication.closed dialogue i.number i.id Closing.ended)) else None))
 ended-of-told true dialogue i = (tt, tt)
 ended-of-told false dialogue i = tt
 
@@ -142,7 +138,7 @@ response-told : (dialogue : ℕ) (version1 : Bool) (context : List ℕ) (accepte
 response-told dialogue version1 context true diagnostic info = tt
 response-told dialogue version1 context false diagnostic info = chosen (is_no_common diagnostic)
   where
-    chosen : (test : Bool) → IsTold (if test then Output.p_abort dialogue AbortCause.no_common else Output.u_abort dialogue (Some (aare version1 context false diagnostic info)))
+    chosen : (test : Bool) → IsTold (if test then Output.dialogue (DialogueIndication.p_abort dialogue AbortCause.no_common) else Output.dialogue (DialogueIndication.u_abort dialogue (Some (aare version1 context false diagnostic info))))
     chosen true = tt
     chosen false = tt
 

@@ -21,7 +21,7 @@ use Rattle.tcap_model.specs.Histories.History.{Start}
 use Rattle.tcap_model.specs.Invocations.Invocation.{Invocation, invocations, latest}
 use Rattle.tcap_model.specs.Replies.Legal.{AreReplies}
 use Rattle.tcap_model.specs.Invocations.Outcome.{first_closing, outcome_of, outcome}
-use Rattle.tcap_model.specs.Words.Output.{Output, Closing}
+use Rattle.tcap_model.specs.Words.Output.{Output, Closing, ComponentIndication}
 use Rattle.tcap_model.specs.Histories.Pair.{Past}
 use Rattle.tcap_model.specs.Replies.Queue.{marks_up_to}
 use Rattle.tcap_model.specs.Replies.Reply.{ended_of, ended_in}
@@ -34,23 +34,23 @@ use Rattle.tcap_model.specs.Table.World.{pending_stage, stage_by, row_by, is_num
 -- what is told of a row
 abbrev pub row_told : ℕ → Option Row → Option Output
 row_told dialogue None = None
-row_told dialogue (Some r) = if is_pending r.1.stage then Some (Output.closed dialogue r.1.number r.0 Closing.ended) else None
+row_told dialogue (Some r) = if is_pending r.1.stage then Some (Output.component (ComponentIndication.closed dialogue r.1.number r.0 Closing.ended)) else None
 
 pub rows_told : (dialogue : ℕ) (h : Invocation → Option Row) (is : List Invocation)
-    → map (λ (e : ℕ × ℤ). Output.closed dialogue e.0 e.1 Closing.ended) (ended_at (filter_map h is)) ≡ filter_map (λ i. row_told dialogue (h i)) is
+    → map (λ (e : ℕ × ℤ). Output.component (ComponentIndication.closed dialogue e.0 e.1 Closing.ended)) (ended_at (filter_map h is)) ≡ filter_map (λ i. row_told dialogue (h i)) is
 rows_told dialogue h [] = refl
 rows_told dialogue h (i ∷ is) = go (h i) (rows_told dialogue h is)
   where
     told : List Row → List Output
-    told rows = map (λ (e : ℕ × ℤ). Output.closed dialogue e.0 e.1 Closing.ended) (ended_at rows)
+    told rows = map (λ (e : ℕ × ℤ). Output.component (ComponentIndication.closed dialogue e.0 e.1 Closing.ended)) (ended_at rows)
 
     rest : List Output
     rest = filter_map (λ i. row_told dialogue (h i)) is
 
     one : (r : Row) (b : Bool) → told (filter_map h is) ≡ rest
-        → map (λ (e : ℕ × ℤ). Output.closed dialogue e.0 e.1 Closing.ended) (cons_option (cond b (Some (r.1.number, r.0)) None) (ended_at (filter_map h is)))
-        ≡ cons_option (cond b (Some (Output.closed dialogue r.1.number r.0 Closing.ended)) None) rest
-    one r true e = ap (λ z. Output.closed dialogue r.1.number r.0 Closing.ended ∷ z) e
+        → map (λ (e : ℕ × ℤ). Output.component (ComponentIndication.closed dialogue e.0 e.1 Closing.ended)) (cons_option (cond b (Some (r.1.number, r.0)) None) (ended_at (filter_map h is)))
+        ≡ cons_option (cond b (Some (Output.component (ComponentIndication.closed dialogue r.1.number r.0 Closing.ended))) None) rest
+    one r true e = ap (λ z. Output.component (ComponentIndication.closed dialogue r.1.number r.0 Closing.ended) ∷ z) e
     one r false e = e
 
     go : (o : Option Row) → told (filter_map h is) ≡ rest → told (cons_option o (filter_map h is)) ≡ cons_option (row_told dialogue o) rest
@@ -65,7 +65,7 @@ same_kept P f g same (x ∷ xs) a = ap (λ o. cons_option o (filter_map f xs)) (
 
 module _ (reject_ms dialogue : ℕ) (start : Start) (past : Past) (legal : AreReplies start past) (i : Invocation) (found : IsFound past i) where
   abbrev told_here : Option Output
-  told_here = Some (Output.closed dialogue i.number i.id Closing.ended)
+  told_here = Some (Output.component (ComponentIndication.closed dialogue i.number i.id Closing.ended))
 
   closing_is : first_closing i.class i.timeout (marks_up_to past [] i) ≡ outcome i.number past
   closing_is = ap (first_closing i.class i.timeout) (append-nil (span i past)) ∙ sym (ap (λ o. outcome_of o past) found)

@@ -24,7 +24,7 @@ use Rattle.tcap_model.specs.Histories.Pair.{Pair, Past}
 use Rattle.tcap_model.specs.Replies.Queue.{queue}
 use Rattle.tcap_model.specs.Procedures.QueueRules.{Queued}
 use Rattle.tcap_model.specs.Replies.Reply.{reply, birth_answer}
-use Rattle.tcap_model.specs.Words.Request.{Request}
+use Rattle.tcap_model.specs.Words.Request.{Request, ComponentRequest}
 use Rattle.tcap_model.specs.Words.State.{State}
 use Rattle.tcap_model.specs.Table.World.{stage_by, row_by, is_number, row_of, rows_of, dialogue_at, dialogue_by}
 
@@ -40,7 +40,7 @@ made_alive : (start : Start) (pair : Pair) (past : Past) (i : Invocation) → Ar
 made_alive start pair past i legal e =
     let h : History = record { start = start; pairs = past } in
     let made : IsInvoke pair i = invoke-made pair i e in
-    let asked : Request = Request.invoke i.id i.class made.code made.parameter made.linked i.timeout in
+    let asked : Request = Request.component (ComponentRequest.invoke i.id i.class made.code made.parameter made.linked i.timeout) in
     let answered : Answer.number i.number ≡ reply h (Event.on_dialogue i.dialogue asked) = sym made.answer ∙ (legal.1 ∙ ap (reply h) made.event) in
     let a : IsAccepted h i.dialogue asked = accepted-request h i.dialogue asked (sym (ap is_accepted answered)) in
     alive (life i.dialogue past) a.state a.context a.stands

@@ -40,7 +40,7 @@ use Rattle.tcap_model.specs.Invocations.Invocation.{Invocation, invoked_by, invo
 use Rattle.tcap_model.specs.Replies.Legal.{AreReplies}
 use Rattle.tcap_model.specs.Invocations.Marks.{Mark, Noted, marked, marks, marks_of_component, component_marks, reject_marks}
 use Rattle.tcap_model.specs.Invocations.Outcome.{closing_after, first_closing, outcome_of, outcome}
-use Rattle.tcap_model.specs.Words.Output.{Output, Closing}
+use Rattle.tcap_model.specs.Words.Output.{Output, Closing, ComponentIndication}
 use Rattle.tcap_model.specs.Histories.Pair.{Pair, Past}
 use Rattle.tcap_model.specs.Replies.Queue.{marks_up_to}
 use Rattle.tcap_model.specs.Replies.Reply.{ended_of, ended_in}
@@ -222,7 +222,7 @@ module _ (start : Start) (past : Past) (legal : AreReplies start past) (reject_m
 
   module _ (items : List Item) (i : Invocation) (found : IsFound past i) where
     abbrev told_here : Option Output
-    told_here = Some (Output.closed dialogue i.number i.id Closing.ended)
+    told_here = Some (Output.component (ComponentIndication.closed dialogue i.number i.id Closing.ended))
 
     abbrev later : List Noted
     later = map (λ mark. record { clock = clock past; mark = mark }) (component_marks i.id items)

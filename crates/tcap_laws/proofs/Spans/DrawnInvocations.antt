@@ -19,7 +19,7 @@ use Rattle.tcap_model.specs.Invocations.Numbers.{number_of}
 use Rattle.tcap_model.specs.Histories.Pair.{Pair, Past}
 use Rattle.tcap_model.specs.Procedures.Refusals.{Situation, first_that, holds, due_on}
 use Rattle.tcap_model.specs.Replies.Reply.{reply, request_answer}
-use Rattle.tcap_model.specs.Words.Request.{Request}
+use Rattle.tcap_model.specs.Words.Request.{Request, ComponentRequest}
 use Rattle.tcap_model.specs.Words.State.{State}
 
 -- a new invocation: its dialogue stands, its number is the next one, and its identifier is free
@@ -44,16 +44,16 @@ none_that test (g ∷ before) f after e = go (test g) e (none_that test before f
     go true e more = absurd cc
     go false e more = more e
 
-not_in_use : (s : Situation) (id : ℤ) (class : Class) (code : CodeParts) (parameter : Option (List ℕ)) (linked : Option ℤ) (timeout : ℕ) → due_on s (Request.invoke id class code parameter linked timeout) ≡ None → s.is_in_use ≡ false
+not_in_use : (s : Situation) (id : ℤ) (class : Class) (code : CodeParts) (parameter : Option (List ℕ)) (linked : Option ℤ) (timeout : ℕ) → due_on s (Request.component (ComponentRequest.invoke id class code parameter linked timeout)) ≡ None → s.is_in_use ≡ false
 not_in_use s id class code parameter linked timeout e =
-    none_that (holds s (Request.invoke id class code parameter linked timeout))
+    none_that (holds s (Request.component (ComponentRequest.invoke id class code parameter linked timeout)))
     (Fault.unknown_dialogue ∷ Fault.bad_timeout ∷ Fault.bad_oid ∷ Fault.bad_parameter ∷ []) Fault.invoke_id_in_use (Fault.numbers_spent ∷ Fault.too_long ∷ Fault.out_of_memory ∷ []) e
 
-timely : (s : Situation) (id : ℤ) (class : Class) (code : CodeParts) (parameter : Option (List ℕ)) (linked : Option ℤ) (timeout : ℕ) → due_on s (Request.invoke id class code parameter linked timeout) ≡ None → 0 < timeout
+timely : (s : Situation) (id : ℤ) (class : Class) (code : CodeParts) (parameter : Option (List ℕ)) (linked : Option ℤ) (timeout : ℕ) → due_on s (Request.component (ComponentRequest.invoke id class code parameter linked timeout)) ≡ None → 0 < timeout
 timely s id class code parameter linked timeout e = go (nat_lt 0 timeout) refl not_bad
   where
     not_bad : not (nat_lt 0 timeout && nat_le timeout moment_limit) ≡ false
-    not_bad = none_that (holds s (Request.invoke id class code parameter linked timeout)) (Fault.unknown_dialogue ∷ []) Fault.bad_timeout
+    not_bad = none_that (holds s (Request.component (ComponentRequest.invoke id class code parameter linked timeout))) (Fault.unknown_dialogue ∷ []) Fault.bad_timeout
         (Fault.bad_oid ∷ Fault.bad_parameter ∷ Fault.invoke_id_in_use ∷ Fault.numbers_spent ∷ Fault.too_long ∷ Fault.out_of_memory ∷ []) e
 
     go : (b : Bool) → nat_lt 0 timeout ≡ b → not (b && nat_le timeout moment_limit) ≡ false → 0 < timeout
@@ -62,7 +62,7 @@ timely s id class code parameter linked timeout e = go (nat_lt 0 timeout) refl n
 
 module _ (h : History) (dialogue : ℕ) (id : ℤ) (class : Class) (code : CodeParts) (parameter : Option (List ℕ)) (linked : Option ℤ) (timeout : ℕ) where
   abbrev asked : Request
-  asked = Request.invoke id class code parameter linked timeout
+  asked = Request.component (ComponentRequest.invoke id class code parameter linked timeout)
 
   abbrev Makes : Life → Option Fault → Invocation → Type 0
   Makes l f i = invoked_under dialogue asked (number_of (request_answer h dialogue asked l f)) ≡ Some i
@@ -91,18 +91,14 @@ module _ (h : History) (dialogue : ℕ) (id : ℤ) (class : Class) (code : CodeP
 
 draws_request : (h : History) (d : ℕ) (r : Request) (i : Invocation) (o : Option ℕ) → number_of (reply h (Event.on_dialogue d r)) ≡ o → invoked_under d r o ≡ Some i → Draws h i
 draws_request h d r i None q e = absurd cc
-draws_request h d (Request.invoke id class code parameter linked timeout) i (Some n) q e =
-    draws_asked h d id class code parameter linked timeout i (ap (invoked_under d (Request.invoke id class code parameter linked timeout)) q ∙ e)
-draws_request h d (Request.result_last id body) i (Some n) q e = absurd cc
-draws_request h d (Request.result_more id body) i (Some n) q e = absurd cc
-draws_request h d (Request.error_back id code parameter) i (Some n) q e = absurd cc
-draws_request h d (Request.u_reject id problem) i (Some n) q e = absurd cc
-draws_request h d (Request.u_cancel id) i (Some n) q e = absurd cc
-draws_request h d (Request.uni context info) i (Some n) q e = absurd cc
-draws_request h d (Request.begin context info) i (Some n) q e = absurd cc
-draws_request h d (Request.go_on context info) i (Some n) q e = absurd cc
-draws_request h d (Request.finish ending context info) i (Some n) q e = absurd cc
-draws_request h d (Request.u_abort why info) i (Some n) q e = absurd cc
+draws_request h d (Request.component (ComponentRequest.invoke id class code parameter linked timeout)) i (Some n) q e =
+    draws_asked h d id class code parameter linked timeout i (ap (invoked_under d (Request.component (ComponentRequest.invoke id class code parameter linked timeout))) q ∙ e)
+draws_request h d (Request.component (ComponentRequest.result_last id body)) i (Some n) q e = absurd cc
+draws_request h d (Request.component (ComponentRequest.result_more id body)) i (Some n) q e = absurd cc
+draws_request h d (Request.component (ComponentRequest.error_back id code parameter)) i (Some n) q e = absurd cc
+draws_request h d (Request.component (ComponentRequest.u_reject id problem)) i (Some n) q e = absurd cc
+draws_request h d (Request.component (ComponentRequest.u_cancel id)) i (Some n) q e = absurd cc
+draws_request h d (Request.dialogue asked) i (Some n) q e = absurd cc
 
 draws_reply : (h : History) (e : Event) (i : Invocation) → invoked_of e (reply h e) ≡ Some i → Draws h i
 draws_reply h Event.new_dialogue i e = absurd cc

@@ -14,7 +14,7 @@ use Rattle.tcap_model.specs.Invocations.Marks.{Mark, Noted, marks, marks_after_b
 use Rattle.tcap_model.specs.Histories.Names.{names}
 use Rattle.tcap_model.specs.Histories.Pair.{Pair, Past}
 use Rattle.tcap_model.specs.Procedures.PortionRules.{PortionVerdict, portion_verdict}
-use Rattle.tcap_model.specs.Words.Request.{Request}
+use Rattle.tcap_model.specs.Words.Request.{Request, ComponentRequest, DialogueRequest}
 use Rattle.tcap_model.specs.Invocations.Reuse.{is_reused}
 use Rattle.tcap_model.specs.Invocations.Span.{span}
 use Rattle.tcap_model.specs.Words.State.{State, is_live}
@@ -27,17 +27,17 @@ was_alive (Life.standing state context) = true
 was_alive Life.over = true
 
 alive_by_request : (s : State) (c : Option (List ℕ)) (r : Request) → was_alive (life_by_request s c r) ≡ true
-alive_by_request s c (Request.invoke id class code parameter linked timeout) = refl
-alive_by_request s c (Request.result_last id body) = refl
-alive_by_request s c (Request.result_more id body) = refl
-alive_by_request s c (Request.error_back id code parameter) = refl
-alive_by_request s c (Request.u_reject id problem) = refl
-alive_by_request s c (Request.u_cancel id) = refl
-alive_by_request s c (Request.uni asked info) = refl
-alive_by_request s c (Request.begin asked info) = refl
-alive_by_request s c (Request.go_on asked info) = refl
-alive_by_request s c (Request.finish ending asked info) = refl
-alive_by_request s c (Request.u_abort why info) = refl
+alive_by_request s c (Request.component (ComponentRequest.invoke id class code parameter linked timeout)) = refl
+alive_by_request s c (Request.component (ComponentRequest.result_last id body)) = refl
+alive_by_request s c (Request.component (ComponentRequest.result_more id body)) = refl
+alive_by_request s c (Request.component (ComponentRequest.error_back id code parameter)) = refl
+alive_by_request s c (Request.component (ComponentRequest.u_reject id problem)) = refl
+alive_by_request s c (Request.component (ComponentRequest.u_cancel id)) = refl
+alive_by_request s c (Request.dialogue (DialogueRequest.uni asked info)) = refl
+alive_by_request s c (Request.dialogue (DialogueRequest.begin asked info)) = refl
+alive_by_request s c (Request.dialogue (DialogueRequest.go_on asked info)) = refl
+alive_by_request s c (Request.dialogue (DialogueRequest.finish ending asked info)) = refl
+alive_by_request s c (Request.dialogue (DialogueRequest.u_abort why info)) = refl
 
 alive_if_accepted : (b : Bool) (s : State) (c : Option (List ℕ)) (r : Request) → was_alive (life_if_accepted b s c r) ≡ true
 alive_if_accepted false s c r = refl

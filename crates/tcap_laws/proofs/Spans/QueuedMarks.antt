@@ -21,7 +21,7 @@ use Rattle.tcap_model.specs.Histories.Life.{life_by_event, life_by_request, Life
 use Rattle.tcap_model.specs.Invocations.Marks.{Mark, Noted, marks_by_event, marks_by_request, marked, reject_marks, marks_of_component, component_marks, end_if_over, if_normal, marks_by_message, marks_if_live}
 use Rattle.tcap_model.specs.Invocations.Outcome.{first_closing}
 use Rattle.tcap_model.specs.Procedures.PortionRules.{PortionVerdict, portion_verdict}
-use Rattle.tcap_model.specs.Words.Request.{Request}
+use Rattle.tcap_model.specs.Words.Request.{Request, ComponentRequest, DialogueRequest}
 use Rattle.tcap_model.specs.Words.State.{State, is_live}
 use Rattle.tcap_laws.proofs.Spans.MarksAfterBirth.{noted_at_clock}
 use Rattle.tcap_laws.proofs.Spans.DecisionSteps.{first_closing-append}
@@ -149,30 +149,30 @@ bytes-leave id state context bytes stands =
 
 -- all but those that take the queue, and the cancel of this identifier
 abbrev pub SparesAt : ℤ → Request → Type 0
-SparesAt id (Request.invoke named class code parameter linked timeout) = Unit {0}
-SparesAt id (Request.result_last named body) = Unit {0}
-SparesAt id (Request.result_more named body) = Unit {0}
-SparesAt id (Request.error_back named code parameter) = Unit {0}
-SparesAt id (Request.u_reject named problem) = Unit {0}
-SparesAt id (Request.u_cancel named) = int_eq named id ≡ false
-SparesAt id (Request.uni context info) = Unit {0}
-SparesAt id (Request.begin context info) = ⊥
-SparesAt id (Request.go_on context info) = ⊥
-SparesAt id (Request.finish end_if_over context info) = Unit {0}
-SparesAt id (Request.u_abort why info) = Unit {0}
+SparesAt id (Request.component (ComponentRequest.invoke named class code parameter linked timeout)) = Unit {0}
+SparesAt id (Request.component (ComponentRequest.result_last named body)) = Unit {0}
+SparesAt id (Request.component (ComponentRequest.result_more named body)) = Unit {0}
+SparesAt id (Request.component (ComponentRequest.error_back named code parameter)) = Unit {0}
+SparesAt id (Request.component (ComponentRequest.u_reject named problem)) = Unit {0}
+SparesAt id (Request.component (ComponentRequest.u_cancel named)) = int_eq named id ≡ false
+SparesAt id (Request.dialogue (DialogueRequest.uni context info)) = Unit {0}
+SparesAt id (Request.dialogue (DialogueRequest.begin context info)) = ⊥
+SparesAt id (Request.dialogue (DialogueRequest.go_on context info)) = ⊥
+SparesAt id (Request.dialogue (DialogueRequest.finish end_if_over context info)) = Unit {0}
+SparesAt id (Request.dialogue (DialogueRequest.u_abort why info)) = Unit {0}
 
 request-leaves : (id : ℤ) (s : State) (c : Option (List ℕ)) (r : Request) → IsStanding (life_by_request s c r) → SparesAt id r → AllLeave (marks_by_request id (Life.standing s c) (life_by_request s c r) r)
-request-leaves id s c (Request.invoke named class code parameter linked timeout) stands spares = tt
-request-leaves id s c (Request.result_last named body) stands spares = tt
-request-leaves id s c (Request.result_more named body) stands spares = tt
-request-leaves id s c (Request.error_back named code parameter) stands spares = tt
-request-leaves id s c (Request.u_reject named problem) stands spares = tt
-request-leaves id s c (Request.u_cancel named) stands spares = rw spares tt
-request-leaves id s c (Request.uni context info) stands spares = absurd stands
-request-leaves id s c (Request.begin context info) stands spares = absurd spares
-request-leaves id s c (Request.go_on context info) stands spares = absurd spares
-request-leaves id s c (Request.finish end_if_over context info) stands spares = absurd stands
-request-leaves id s c (Request.u_abort why info) stands spares = absurd stands
+request-leaves id s c (Request.component (ComponentRequest.invoke named class code parameter linked timeout)) stands spares = tt
+request-leaves id s c (Request.component (ComponentRequest.result_last named body)) stands spares = tt
+request-leaves id s c (Request.component (ComponentRequest.result_more named body)) stands spares = tt
+request-leaves id s c (Request.component (ComponentRequest.error_back named code parameter)) stands spares = tt
+request-leaves id s c (Request.component (ComponentRequest.u_reject named problem)) stands spares = tt
+request-leaves id s c (Request.component (ComponentRequest.u_cancel named)) stands spares = rw spares tt
+request-leaves id s c (Request.dialogue (DialogueRequest.uni context info)) stands spares = absurd stands
+request-leaves id s c (Request.dialogue (DialogueRequest.begin context info)) stands spares = absurd spares
+request-leaves id s c (Request.dialogue (DialogueRequest.go_on context info)) stands spares = absurd spares
+request-leaves id s c (Request.dialogue (DialogueRequest.finish end_if_over context info)) stands spares = absurd stands
+request-leaves id s c (Request.dialogue (DialogueRequest.u_abort why info)) stands spares = absurd stands
 
 -- all events
 abbrev pub Spares : ℤ → Event → Bool → Type 0

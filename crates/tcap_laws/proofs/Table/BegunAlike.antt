@@ -24,7 +24,7 @@ use Rattle.tcap_model.specs.Replies.Legal.{IsLegal}
 use Rattle.tcap_model.specs.Histories.Life.{life, live_in, life_after, life_at_birth, begin_context, begun_life}
 use Rattle.tcap_model.specs.Words.LocalId.{is_that}
 use Rattle.tcap_model.specs.Procedures.AbortRules.{abort_with, resource_limitation}
-use Rattle.tcap_model.specs.Words.Output.{Output, DropCause}
+use Rattle.tcap_model.specs.Words.Output.{Output, DropCause, DialogueIndication}
 use Rattle.tcap_model.specs.Histories.Pair.{Pair}
 use Rattle.tcap_model.specs.Procedures.PortionRules.{BeginVerdict, begin_verdict}
 use Rattle.tcap_model.specs.Replies.Queue.{queue, queue_by_event, queue_born, queue_at_birth, handled_in, rejects_of}
@@ -97,11 +97,11 @@ module _ (h : History) (legal : IsLegal h) where
   -- ---- the answer and the dialogue
 
   module _ (bytes origin : List ℕ) (context : Option (List ℕ)) (info components : List ℕ) (accepted : reception (λ dialogue. live_in (life dialogue h.pairs)) (is_some (birth_due h)) bytes ≡ Reception.begun origin context info components) where
-    reply_is : reply h (Event.received bytes) ≡ Answer.outputs (Output.begin (next_dialogue h) context info ∷ told_of (handled_in (next_dialogue h) h.pairs components))
+    reply_is : reply h (Event.received bytes) ≡ Answer.outputs (Output.dialogue (DialogueIndication.begin (next_dialogue h) context info) ∷ told_of (handled_in (next_dialogue h) h.pairs components))
     reply_is = ap (λ r. Answer.outputs (reception_outputs h r)) accepted
 
     pub begun-answered : (born (setting_at h) (next_dialogue h) h.start.reject_ms origin context info components).answer ≡ reply h (Event.received bytes)
-    begun-answered = ap (λ z. Answer.outputs (Output.begin (next_dialogue h) context info ∷ z)) (told_is components) ∙ sym reply_is
+    begun-answered = ap (λ z. Answer.outputs (Output.dialogue (DialogueIndication.begin (next_dialogue h) context info) ∷ z)) (told_is components) ∙ sym reply_is
 
     abbrev here : Pair
     here = due_pair h (Event.received bytes)

@@ -12,7 +12,7 @@ use Rattle.tcap_model.specs.Table.Dialogue.{Dialogue}
 use Rattle.tcap_model.specs.Histories.History.{History}
 use Rattle.tcap_model.specs.Replies.Legal.{IsLegal}
 use Rattle.tcap_model.specs.Histories.Life.{life}
-use Rattle.tcap_model.specs.Words.Output.{Output, AbortCause}
+use Rattle.tcap_model.specs.Words.Output.{Output, AbortCause, DialogueIndication}
 use Rattle.tcap_model.specs.Procedures.PortionRules.{PortionVerdict, portion_verdict}
 use Rattle.tcap_model.specs.Replies.Queue.{handled_in}
 use Rattle.tcap_model.specs.Replies.Reply.{taken_outputs, end_outputs}
@@ -24,13 +24,13 @@ use Rattle.tcap_pdu.specs.FrameSpelling.{Message}
 module _ (h : History) (dialogue : ℕ) (legal : IsLegal h) where
   any-end : (state : State) (context : Option (List ℕ)) (components : List ℕ) (verdict : PortionVerdict)
       → (ended_by (dialogue_in h dialogue legal state context) verdict (walked_in (setting_at h).clock (dialogue_in h dialogue legal state context) components)).answer ≡ Answer.outputs (end_outputs dialogue h.pairs components verdict)
-  any-end state context components PortionVerdict.abnormal = over-answer h dialogue legal state context (Output.p_abort dialogue AbortCause.abnormal ∷ [])
+  any-end state context components PortionVerdict.abnormal = over-answer h dialogue legal state context (Output.dialogue (DialogueIndication.p_abort dialogue AbortCause.abnormal) ∷ [])
   any-end state context components (PortionVerdict.normal told info) =
       let w : Walked = walked_in (setting_at h).clock (dialogue_in h dialogue legal state context) components in
       let first : List Output = told_of (handled_in dialogue h.pairs components) in
-      ap (λ z. Answer.outputs (Output.end dialogue told info ∷ z ++ ended_told dialogue w.invocations)) (components-told h dialogue legal state context components)
-      ∙ (ap (λ l. Answer.outputs (Output.end dialogue told info ∷ first ++ ended_told dialogue l)) (walk_at h.start h.pairs legal.1 h.start.reject_ms dialogue (components_of components) (fault_last (length components) components))
-      ∙ ap (λ z. Answer.outputs (Output.end dialogue told info ∷ first ++ z)) (ended_after h.start h.pairs legal.1 h.start.reject_ms dialogue (components_of components)))
+      ap (λ z. Answer.outputs (Output.dialogue (DialogueIndication.end dialogue told info) ∷ z ++ ended_told dialogue w.invocations)) (components-told h dialogue legal state context components)
+      ∙ (ap (λ l. Answer.outputs (Output.dialogue (DialogueIndication.end dialogue told info) ∷ first ++ ended_told dialogue l)) (walk_at h.start h.pairs legal.1 h.start.reject_ms dialogue (components_of components) (fault_last (length components) components))
+      ∙ ap (λ z. Answer.outputs (Output.dialogue (DialogueIndication.end dialogue told info) ∷ first ++ z)) (ended_after h.start h.pairs legal.1 h.start.reject_ms dialogue (components_of components)))
 
   pub end-answered : (d : Dialogue) (to : List ℕ) (portion : Option (List ℕ)) (components : List ℕ) → dialogue_at h.start.reject_ms h.pairs dialogue ≡ Some d
       → (table_move (setting_at h) d (DialogueEvent.frame (Message.end to portion components))).answer ≡ Answer.outputs (taken_outputs dialogue h.pairs (life dialogue h.pairs) (Message.end to portion components))

@@ -18,11 +18,11 @@ use Rattle.tcap_model.specs.Words.Fault.{Fault}
 use Rattle.tcap_model.specs.Histories.History.{History}
 use Rattle.tcap_model.specs.Replies.Legal.{IsLegal}
 use Rattle.tcap_model.specs.Histories.Life.{Life, life}
-use Rattle.tcap_model.specs.Words.Output.{Output, AbortCause}
+use Rattle.tcap_model.specs.Words.Output.{Output, AbortCause, DialogueIndication}
 use Rattle.tcap_model.specs.Procedures.PortionRules.{PortionVerdict, portion_verdict}
 use Rattle.tcap_model.specs.Replies.Queue.{handled_in, rejects_of}
 use Rattle.tcap_model.specs.Replies.Reply.{reply, request_answer, accepted_answer, taken_outputs, continue_outputs, end_outputs, ended_in}
-use Rattle.tcap_model.specs.Words.Request.{Request}
+use Rattle.tcap_model.specs.Words.Request.{Request, ComponentRequest, DialogueRequest}
 use Rattle.tcap_model.specs.Procedures.RequestMessage.{message_of}
 use Rattle.tcap_model.specs.Words.State.{State, peer_by}
 use Rattle.tcap_model.specs.Table.TableMove.{DialogueEvent, accepted, requested_by, over_with, walked_in, continued_by, ended_by, table_move}
@@ -41,17 +41,17 @@ module _ (h : History) (dialogue : ℕ) (legal : IsLegal h) where
 
   all-accepted : (state : State) (context : Option (List ℕ)) (request : Request)
       → (accepted (setting_at h) (dialogue_in state context) request).answer ≡ accepted_answer h (standing_of dialogue h.pairs state context) request
-  all-accepted state context (Request.invoke id class code parameter linked timeout) = refl
-  all-accepted state context (Request.result_last id body) = refl
-  all-accepted state context (Request.result_more id body) = refl
-  all-accepted state context (Request.error_back id code parameter) = refl
-  all-accepted state context (Request.u_reject id problem) = refl
-  all-accepted state context (Request.u_cancel id) = accepted-agrees h dialogue state context (Request.u_cancel id) refl
-  all-accepted state context (Request.uni given info) = over-answer state context (sent_if_any (message_of (standing_of dialogue h.pairs state context) (Request.uni given info)))
-  all-accepted state context (Request.begin given info) = refl
-  all-accepted state context (Request.go_on given info) = refl
-  all-accepted state context (Request.finish ending given info) = over-answer state context (sent_if_any (message_of (standing_of dialogue h.pairs state context) (Request.finish ending given info)))
-  all-accepted state context (Request.u_abort why info) = over-answer state context (sent_if_any (message_of (standing_of dialogue h.pairs state context) (Request.u_abort why info)))
+  all-accepted state context (Request.component (ComponentRequest.invoke id class code parameter linked timeout)) = refl
+  all-accepted state context (Request.component (ComponentRequest.result_last id body)) = refl
+  all-accepted state context (Request.component (ComponentRequest.result_more id body)) = refl
+  all-accepted state context (Request.component (ComponentRequest.error_back id code parameter)) = refl
+  all-accepted state context (Request.component (ComponentRequest.u_reject id problem)) = refl
+  all-accepted state context (Request.component (ComponentRequest.u_cancel id)) = accepted-agrees h dialogue state context (Request.component (ComponentRequest.u_cancel id)) refl
+  all-accepted state context (Request.dialogue (DialogueRequest.uni given info)) = over-answer state context (sent_if_any (message_of (standing_of dialogue h.pairs state context) (Request.dialogue (DialogueRequest.uni given info))))
+  all-accepted state context (Request.dialogue (DialogueRequest.begin given info)) = refl
+  all-accepted state context (Request.dialogue (DialogueRequest.go_on given info)) = refl
+  all-accepted state context (Request.dialogue (DialogueRequest.finish ending given info)) = over-answer state context (sent_if_any (message_of (standing_of dialogue h.pairs state context) (Request.dialogue (DialogueRequest.finish ending given info))))
+  all-accepted state context (Request.dialogue (DialogueRequest.u_abort why info)) = over-answer state context (sent_if_any (message_of (standing_of dialogue h.pairs state context) (Request.dialogue (DialogueRequest.u_abort why info))))
 
   all-requested : (state : State) (context : Option (List ℕ)) (request : Request) (fault : Option Fault)
       → (requested_by (setting_at h) (dialogue_in state context) request fault).answer ≡ request_answer h dialogue request (Life.standing state context) fault
@@ -69,11 +69,11 @@ module _ (h : History) (dialogue : ℕ) (legal : IsLegal h) where
   -- ---- messages and faults
 
   pub fault-agrees : (d : Dialogue) (cause : ℕ) → dialogue_at h.start.reject_ms h.pairs dialogue ≡ Some d
-      → (table_move (setting_at h) d (DialogueEvent.fault cause)).answer ≡ Answer.outputs (Output.p_abort dialogue (AbortCause.cause cause) ∷ ended_in dialogue h.pairs [])
+      → (table_move (setting_at h) d (DialogueEvent.fault cause)).answer ≡ Answer.outputs (Output.dialogue (DialogueIndication.p_abort dialogue (AbortCause.cause cause)) ∷ ended_in dialogue h.pairs [])
   unfolding table_move
   fault-agrees d cause e =
-      at_life (λ l d. (table_move (setting_at h) d (DialogueEvent.fault cause)).answer ≡ Answer.outputs (Output.p_abort dialogue (AbortCause.cause cause) ∷ ended_in dialogue h.pairs [])) h dialogue d
-      (λ state context. over-answer state context (Output.p_abort dialogue (AbortCause.cause cause) ∷ [])) (life dialogue h.pairs) e
+      at_life (λ l d. (table_move (setting_at h) d (DialogueEvent.fault cause)).answer ≡ Answer.outputs (Output.dialogue (DialogueIndication.p_abort dialogue (AbortCause.cause cause)) ∷ ended_in dialogue h.pairs [])) h dialogue d
+      (λ state context. over-answer state context (Output.dialogue (DialogueIndication.p_abort dialogue (AbortCause.cause cause)) ∷ [])) (life dialogue h.pairs) e
 
   pub abort-agrees : (d : Dialogue) (to : List ℕ) (reason : Reason) → dialogue_at h.start.reject_ms h.pairs dialogue ≡ Some d
       → (table_move (setting_at h) d (DialogueEvent.frame (Message.abort to reason))).answer ≡ Answer.outputs (taken_outputs dialogue h.pairs (life dialogue h.pairs) (Message.abort to reason))
@@ -97,8 +97,8 @@ module _ (h : History) (dialogue : ℕ) (legal : IsLegal h) where
 
   any-continue : (state : State) (context : Option (List ℕ)) (origin components : List ℕ) (verdict : PortionVerdict)
       → (continued_by (setting_at h) (dialogue_in state context) origin verdict (walked_in (clock h.pairs) (dialogue_in state context) components)).answer ≡ Answer.outputs (continue_outputs dialogue h.pairs state origin components verdict)
-  any-continue state context origin components PortionVerdict.abnormal = over-answer state context (abnormal_abort (peer_by state origin) ∷ Output.p_abort dialogue AbortCause.abnormal ∷ [])
-  any-continue state context origin components (PortionVerdict.normal told info) = ap (λ z. Answer.outputs (Output.go_on dialogue told info ∷ z)) (components-told state context components)
+  any-continue state context origin components PortionVerdict.abnormal = over-answer state context (abnormal_abort (peer_by state origin) ∷ Output.dialogue (DialogueIndication.p_abort dialogue AbortCause.abnormal) ∷ [])
+  any-continue state context origin components (PortionVerdict.normal told info) = ap (λ z. Answer.outputs (Output.dialogue (DialogueIndication.go_on dialogue told info) ∷ z)) (components-told state context components)
 
   pub continue-agrees : (d : Dialogue) (origin to : List ℕ) (portion : Option (List ℕ)) (components : List ℕ) → dialogue_at h.start.reject_ms h.pairs dialogue ≡ Some d
       → (table_move (setting_at h) d (DialogueEvent.frame (Message.go_on origin to portion components))).answer ≡ Answer.outputs (taken_outputs dialogue h.pairs (life dialogue h.pairs) (Message.go_on origin to portion components))
@@ -109,7 +109,7 @@ module _ (h : History) (dialogue : ℕ) (legal : IsLegal h) where
 
   abnormal-end : (state : State) (context : Option (List ℕ)) (components : List ℕ) (verdict : PortionVerdict) → verdict ≡ PortionVerdict.abnormal
       → (ended_by (dialogue_in state context) verdict (walked_in (setting_at h).clock (dialogue_in state context) components)).answer ≡ Answer.outputs (end_outputs dialogue h.pairs components verdict)
-  abnormal-end state context components PortionVerdict.abnormal e = over-answer state context (Output.p_abort dialogue AbortCause.abnormal ∷ [])
+  abnormal-end state context components PortionVerdict.abnormal e = over-answer state context (Output.dialogue (DialogueIndication.p_abort dialogue AbortCause.abnormal) ∷ [])
   abnormal-end state context components (PortionVerdict.normal told info) e = absurd cc
 
   pub end-agrees : (d : Dialogue) (to : List ℕ) (portion : Option (List ℕ)) (components : List ℕ) → dialogue_at h.start.reject_ms h.pairs dialogue ≡ Some d

@@ -36,7 +36,7 @@ use Rattle.tcap_model.specs.Invocations.Numbers.{number_of}
 use Rattle.tcap_model.specs.Histories.Pair.{Pair, Past}
 use Rattle.tcap_model.specs.Replies.Queue.{queue}
 use Rattle.tcap_model.specs.Replies.Reply.{reply}
-use Rattle.tcap_model.specs.Words.Request.{Request}
+use Rattle.tcap_model.specs.Words.Request.{Request, ComponentRequest}
 use Rattle.tcap_model.specs.Invocations.Span.{is_invoked, span}
 use Rattle.tcap_model.specs.Words.State.{State}
 use Rattle.tcap_model.specs.Table.World.{stage_by, row_by, is_number, row_of, rows_of, dialogue_at}
@@ -100,18 +100,14 @@ and_false false = refl
 -- an invocation is made in the dialogue that the request names
 made_there : (asked : ℕ) (request : Request) (o : Option ℕ) (new : Invocation) → invoked_under asked request o ≡ Some new → asked ≡ new.dialogue
 made_there asked request None new e = absurd cc
-made_there asked (Request.invoke id class code parameter linked timeout) (Some n) new e =
+made_there asked (Request.component (ComponentRequest.invoke id class code parameter linked timeout)) (Some n) new e =
     let same : record { number = n; dialogue = asked; id = id; class = class; timeout = timeout } ≡ new = cc in ap (λ (i : Invocation). i.dialogue) same
-made_there asked (Request.result_last id body) (Some n) new e = absurd cc
-made_there asked (Request.result_more id body) (Some n) new e = absurd cc
-made_there asked (Request.error_back id code parameter) (Some n) new e = absurd cc
-made_there asked (Request.u_reject id problem) (Some n) new e = absurd cc
-made_there asked (Request.u_cancel id) (Some n) new e = absurd cc
-made_there asked (Request.uni context info) (Some n) new e = absurd cc
-made_there asked (Request.begin context info) (Some n) new e = absurd cc
-made_there asked (Request.go_on context info) (Some n) new e = absurd cc
-made_there asked (Request.finish ending context info) (Some n) new e = absurd cc
-made_there asked (Request.u_abort why info) (Some n) new e = absurd cc
+made_there asked (Request.component (ComponentRequest.result_last id body)) (Some n) new e = absurd cc
+made_there asked (Request.component (ComponentRequest.result_more id body)) (Some n) new e = absurd cc
+made_there asked (Request.component (ComponentRequest.error_back id code parameter)) (Some n) new e = absurd cc
+made_there asked (Request.component (ComponentRequest.u_reject id problem)) (Some n) new e = absurd cc
+made_there asked (Request.component (ComponentRequest.u_cancel id)) (Some n) new e = absurd cc
+made_there asked (Request.dialogue primitive) (Some n) new e = absurd cc
 
 module _ (h : History) (dialogue : ℕ) (legal : IsLegal h) where
   rows_unnamed : (event : Event) → names event dialogue ≡ false → rows_of h.start.reject_ms dialogue (due_pair h event ∷ h.pairs) ≡ rows_of h.start.reject_ms dialogue h.pairs

@@ -16,7 +16,7 @@ use Rattle.tcap_model.specs.Histories.Life.{Life, life}
 use Rattle.tcap_model.specs.Histories.Pair.{Past}
 use Rattle.tcap_model.specs.Procedures.Refusals.{Situation, due_on}
 use Rattle.tcap_model.specs.Replies.Reply.{reply, request_answer, accepted_answer, given_up_answer}
-use Rattle.tcap_model.specs.Words.Request.{Request}
+use Rattle.tcap_model.specs.Words.Request.{Request, ComponentRequest, DialogueRequest}
 use Rattle.tcap_model.specs.Words.State.{State}
 use Rattle.tcap_model.specs.Table.TableMove.{DialogueEvent, answering, accepted, requested_by, giving_up, situation, in_use_by_rows, pending_by_rows, table_move}
 use Rattle.tcap_model.specs.Table.World.{rows_of, dialogue_at, dialogue_by}
@@ -91,19 +91,19 @@ given_up-agrees d id (Some number) = refl
 
 pub accepted-agrees : (h : History) (dialogue : ℕ) (state : State) (context : Option (List ℕ)) (request : Request) → leaves_standing request ≡ true
     → (accepted (setting_at h) (standing_dialogue h dialogue state context) request).answer ≡ accepted_answer h (standing_of dialogue h.pairs state context) request
-accepted-agrees h dialogue state context (Request.invoke id class code parameter linked timeout) s = refl
-accepted-agrees h dialogue state context (Request.result_last id body) s = refl
-accepted-agrees h dialogue state context (Request.result_more id body) s = refl
-accepted-agrees h dialogue state context (Request.error_back id code parameter) s = refl
-accepted-agrees h dialogue state context (Request.u_reject id problem) s = refl
-accepted-agrees h dialogue state context (Request.u_cancel id) s =
+accepted-agrees h dialogue state context (Request.component (ComponentRequest.invoke id class code parameter linked timeout)) s = refl
+accepted-agrees h dialogue state context (Request.component (ComponentRequest.result_last id body)) s = refl
+accepted-agrees h dialogue state context (Request.component (ComponentRequest.result_more id body)) s = refl
+accepted-agrees h dialogue state context (Request.component (ComponentRequest.error_back id code parameter)) s = refl
+accepted-agrees h dialogue state context (Request.component (ComponentRequest.u_reject id problem)) s = refl
+accepted-agrees h dialogue state context (Request.component (ComponentRequest.u_cancel id)) s =
     given_up-agrees (standing_dialogue h dialogue state context) id (given_up_at (rows_of h.start.reject_ms dialogue h.pairs) id)
     ∙ ap given_up_answer (pending-rows h.start.reject_ms dialogue h.pairs id)
-accepted-agrees h dialogue state context (Request.uni given info) s = absurd cc
-accepted-agrees h dialogue state context (Request.begin given info) s = refl
-accepted-agrees h dialogue state context (Request.go_on given info) s = refl
-accepted-agrees h dialogue state context (Request.finish ending given info) s = absurd cc
-accepted-agrees h dialogue state context (Request.u_abort why info) s = absurd cc
+accepted-agrees h dialogue state context (Request.dialogue (DialogueRequest.uni given info)) s = absurd cc
+accepted-agrees h dialogue state context (Request.dialogue (DialogueRequest.begin given info)) s = refl
+accepted-agrees h dialogue state context (Request.dialogue (DialogueRequest.go_on given info)) s = refl
+accepted-agrees h dialogue state context (Request.dialogue (DialogueRequest.finish ending given info)) s = absurd cc
+accepted-agrees h dialogue state context (Request.dialogue (DialogueRequest.u_abort why info)) s = absurd cc
 
 requested-agrees : (h : History) (dialogue : ℕ) (state : State) (context : Option (List ℕ)) (request : Request) (fault : Option Fault) → leaves_standing request ≡ true
     → (requested_by (setting_at h) (standing_dialogue h dialogue state context) request fault).answer ≡ request_answer h dialogue request (Life.standing state context) fault

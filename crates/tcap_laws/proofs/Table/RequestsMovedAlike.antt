@@ -38,7 +38,7 @@ use Rattle.tcap_model.specs.Replies.Queue.{queue, queue_by_request}
 use Rattle.tcap_model.specs.Procedures.QueueRules.{Queued as Component, without_invoke}
 use Rattle.tcap_model.specs.Procedures.Refusals.{due_on, holds, faults_of}
 use Rattle.tcap_model.specs.Replies.Reply.{reply, accepted_answer, given_up_answer}
-use Rattle.tcap_model.specs.Words.Request.{Request}
+use Rattle.tcap_model.specs.Words.Request.{Request, ComponentRequest, DialogueRequest}
 use Rattle.tcap_model.specs.Words.State.{State, activated}
 use Rattle.tcap_model.specs.Table.TableMove.{DialogueEvent, accepted, requested_by, giving_up, freed_by, table_move}
 use Rattle.tcap_model.specs.Table.World.{dialogue_at, dialogue_by, rows_of}
@@ -92,9 +92,9 @@ module _ (h : History) (dialogue : ℕ) (legal : IsLegal h) (state : State) (con
 
   -- ---- a Reject
 
-  module _ (id : ℤ) (problem : ProblemParts) (is : reply h (Event.on_dialogue dialogue (Request.u_reject (Some id) problem)) ≡ Answer.done) where
+  module _ (id : ℤ) (problem : ProblemParts) (is : reply h (Event.on_dialogue dialogue (Request.component (ComponentRequest.u_reject (Some id) problem))) ≡ Answer.done) where
     abbrev rejecting : Request
-    rejecting = Request.u_reject (Some id) problem
+    rejecting = Request.component (ComponentRequest.u_reject (Some id) problem)
 
     abbrev with_reject : List Component
     with_reject = waiting ++ option_to_list (queued_for 0 rejecting)
@@ -138,7 +138,7 @@ module _ (h : History) (dialogue : ℕ) (legal : IsLegal h) (state : State) (con
 
   module _ (id : ℤ) where
     abbrev cancelling : Request
-    cancelling = Request.u_cancel id
+    cancelling = Request.component (ComponentRequest.u_cancel id)
 
     cancel_by : (o : Option ℕ) → given_up_at rows id ≡ o → reply h (Event.on_dialogue dialogue cancelling) ≡ given_up_answer o → found_after cancelling ≡ left_standing (giving_up stood id o)
     cancel_by None e is = refused_moves h dialogue legal state context stands cancelling Fault.no_such_invocation is
@@ -158,7 +158,7 @@ module _ (h : History) (dialogue : ℕ) (legal : IsLegal h) (state : State) (con
 
   module _ (id : ℤ) (class : Class) (code : CodeParts) (parameter : Option (List ℕ)) (linked : Option ℤ) (timeout : ℕ) where
     abbrev invoking : Request
-    invoking = Request.invoke id class code parameter linked timeout
+    invoking = Request.component (ComponentRequest.invoke id class code parameter linked timeout)
 
     abbrev new : Invocation
     new = record { number = next_number h; dialogue = dialogue; id = id; class = class; timeout = timeout }
@@ -178,22 +178,22 @@ module _ (h : History) (dialogue : ℕ) (legal : IsLegal h) (state : State) (con
   -- ---- all requests
 
   accepted_moves : (request : Request) → InRange (Event.on_dialogue dialogue request) → due h dialogue request ≡ None → reply h (Event.on_dialogue dialogue request) ≡ accepted_answer h (standing_of dialogue h.pairs state context) request → found_after request ≡ moved request
-  accepted_moves (Request.invoke id class code parameter linked timeout) within e is = invoke_moves id class code parameter linked timeout within e is
-  accepted_moves (Request.result_last id body) within e is = queued_moves (Request.result_last id body) is (waiting ++ option_to_list (queued_for 0 (Request.result_last id body))) refl refl refl (λ k. refl) (λ k. refl)
-  accepted_moves (Request.result_more id body) within e is = queued_moves (Request.result_more id body) is (waiting ++ option_to_list (queued_for 0 (Request.result_more id body))) refl refl refl (λ k. refl) (λ k. refl)
-  accepted_moves (Request.error_back id code parameter) within e is = queued_moves (Request.error_back id code parameter) is (waiting ++ option_to_list (queued_for 0 (Request.error_back id code parameter))) refl refl refl (λ k. refl) (λ k. refl)
-  accepted_moves (Request.u_reject None problem) within e is = queued_moves (Request.u_reject None problem) is (waiting ++ option_to_list (queued_for 0 (Request.u_reject None problem))) refl refl refl (λ k. refl) (λ k. refl)
-  accepted_moves (Request.u_reject (Some id) problem) within e is = reject_moves id problem is problem.kind refl
-  accepted_moves (Request.u_cancel id) within e is = cancel_by id (given_up_at rows id) refl (is ∙ ap given_up_answer (sym (pending-rows h.start.reject_ms dialogue h.pairs id)))
-  accepted_moves (Request.uni given info) within e is = found_by h dialogue legal state context stands (Request.uni given info) (accepted_answer h (standing_of dialogue h.pairs state context) (Request.uni given info)) is Life.over refl
-  accepted_moves (Request.begin given info) within e is =
-      found_of h dialogue legal state context stands (Request.begin given info) (accepted_answer h (standing_of dialogue h.pairs state context) (Request.begin given info)) is State.sent given [] (sent_rows (clock h.pairs) rows) refl refl
-      (rows_sent h dialogue legal state context stands (Request.begin given info) (sent_if_any (message_of (standing_of dialogue h.pairs state context) (Request.begin given info))) is refl (λ k. refl) (λ k. refl))
-  accepted_moves (Request.go_on given info) within e is =
-      found_of h dialogue legal state context stands (Request.go_on given info) (accepted_answer h (standing_of dialogue h.pairs state context) (Request.go_on given info)) is (activated state) context [] (sent_rows (clock h.pairs) rows) refl refl
-      (rows_sent h dialogue legal state context stands (Request.go_on given info) (sent_if_any (message_of (standing_of dialogue h.pairs state context) (Request.go_on given info))) is refl (λ k. refl) (λ k. refl))
-  accepted_moves (Request.finish end_if_over given info) within e is = found_by h dialogue legal state context stands (Request.finish end_if_over given info) (accepted_answer h (standing_of dialogue h.pairs state context) (Request.finish end_if_over given info)) is Life.over refl
-  accepted_moves (Request.u_abort why info) within e is = found_by h dialogue legal state context stands (Request.u_abort why info) (accepted_answer h (standing_of dialogue h.pairs state context) (Request.u_abort why info)) is Life.over refl
+  accepted_moves (Request.component (ComponentRequest.invoke id class code parameter linked timeout)) within e is = invoke_moves id class code parameter linked timeout within e is
+  accepted_moves (Request.component (ComponentRequest.result_last id body)) within e is = queued_moves (Request.component (ComponentRequest.result_last id body)) is (waiting ++ option_to_list (queued_for 0 (Request.component (ComponentRequest.result_last id body)))) refl refl refl (λ k. refl) (λ k. refl)
+  accepted_moves (Request.component (ComponentRequest.result_more id body)) within e is = queued_moves (Request.component (ComponentRequest.result_more id body)) is (waiting ++ option_to_list (queued_for 0 (Request.component (ComponentRequest.result_more id body)))) refl refl refl (λ k. refl) (λ k. refl)
+  accepted_moves (Request.component (ComponentRequest.error_back id code parameter)) within e is = queued_moves (Request.component (ComponentRequest.error_back id code parameter)) is (waiting ++ option_to_list (queued_for 0 (Request.component (ComponentRequest.error_back id code parameter)))) refl refl refl (λ k. refl) (λ k. refl)
+  accepted_moves (Request.component (ComponentRequest.u_reject None problem)) within e is = queued_moves (Request.component (ComponentRequest.u_reject None problem)) is (waiting ++ option_to_list (queued_for 0 (Request.component (ComponentRequest.u_reject None problem)))) refl refl refl (λ k. refl) (λ k. refl)
+  accepted_moves (Request.component (ComponentRequest.u_reject (Some id) problem)) within e is = reject_moves id problem is problem.kind refl
+  accepted_moves (Request.component (ComponentRequest.u_cancel id)) within e is = cancel_by id (given_up_at rows id) refl (is ∙ ap given_up_answer (sym (pending-rows h.start.reject_ms dialogue h.pairs id)))
+  accepted_moves (Request.dialogue (DialogueRequest.uni given info)) within e is = found_by h dialogue legal state context stands (Request.dialogue (DialogueRequest.uni given info)) (accepted_answer h (standing_of dialogue h.pairs state context) (Request.dialogue (DialogueRequest.uni given info))) is Life.over refl
+  accepted_moves (Request.dialogue (DialogueRequest.begin given info)) within e is =
+      found_of h dialogue legal state context stands (Request.dialogue (DialogueRequest.begin given info)) (accepted_answer h (standing_of dialogue h.pairs state context) (Request.dialogue (DialogueRequest.begin given info))) is State.sent given [] (sent_rows (clock h.pairs) rows) refl refl
+      (rows_sent h dialogue legal state context stands (Request.dialogue (DialogueRequest.begin given info)) (sent_if_any (message_of (standing_of dialogue h.pairs state context) (Request.dialogue (DialogueRequest.begin given info)))) is refl (λ k. refl) (λ k. refl))
+  accepted_moves (Request.dialogue (DialogueRequest.go_on given info)) within e is =
+      found_of h dialogue legal state context stands (Request.dialogue (DialogueRequest.go_on given info)) (accepted_answer h (standing_of dialogue h.pairs state context) (Request.dialogue (DialogueRequest.go_on given info))) is (activated state) context [] (sent_rows (clock h.pairs) rows) refl refl
+      (rows_sent h dialogue legal state context stands (Request.dialogue (DialogueRequest.go_on given info)) (sent_if_any (message_of (standing_of dialogue h.pairs state context) (Request.dialogue (DialogueRequest.go_on given info)))) is refl (λ k. refl) (λ k. refl))
+  accepted_moves (Request.dialogue (DialogueRequest.finish end_if_over given info)) within e is = found_by h dialogue legal state context stands (Request.dialogue (DialogueRequest.finish end_if_over given info)) (accepted_answer h (standing_of dialogue h.pairs state context) (Request.dialogue (DialogueRequest.finish end_if_over given info))) is Life.over refl
+  accepted_moves (Request.dialogue (DialogueRequest.u_abort why info)) within e is = found_by h dialogue legal state context stands (Request.dialogue (DialogueRequest.u_abort why info)) (accepted_answer h (standing_of dialogue h.pairs state context) (Request.dialogue (DialogueRequest.u_abort why info))) is Life.over refl
 
   request_by : (request : Request) → InRange (Event.on_dialogue dialogue request) → (f : Option Fault) → due h dialogue request ≡ f → found_after request ≡ left_standing (requested_by (setting_at h) stood request f)
   request_by request within None e = accepted_moves request within e (reply_is h dialogue legal state context stands request None e)

@@ -6,23 +6,19 @@ use Rattle.tcap_model.specs.Words.Answer.{Answer}
 use Rattle.tcap_model.specs.Words.Event.{Event}
 use Rattle.tcap_model.specs.Histories.History.{History}
 use Rattle.tcap_model.specs.Words.LocalId.{is_that}
-use Rattle.tcap_model.specs.Words.Output.{Output}
+use Rattle.tcap_model.specs.Words.Output.{Output, DialogueIndication}
 use Rattle.tcap_model.specs.Histories.Pair.{Pair, Past, gathered}
 
 -- The dialogue of a TC-BEGIN indication (Q.771, Dialogue begin).
 abbrev pub dialogue_begun : Output → Option ℕ
 dialogue_begun (Output.send bytes) = None
-dialogue_begun (Output.uni context info) = None
-dialogue_begun (Output.begin dialogue context info) = Some dialogue
-dialogue_begun (Output.go_on dialogue context info) = None
-dialogue_begun (Output.end dialogue context info) = None
-dialogue_begun (Output.u_abort dialogue pdu) = None
-dialogue_begun (Output.p_abort dialogue why) = None
-dialogue_begun (Output.invoked dialogue id linked code parameter) = None
-dialogue_begun (Output.result_more dialogue number id body) = None
-dialogue_begun (Output.local_reject dialogue id problem) = None
-dialogue_begun (Output.remote_reject dialogue id problem by) = None
-dialogue_begun (Output.closed dialogue number id closing) = None
+dialogue_begun (Output.dialogue (DialogueIndication.uni context info)) = None
+dialogue_begun (Output.dialogue (DialogueIndication.begin dialogue context info)) = Some dialogue
+dialogue_begun (Output.dialogue (DialogueIndication.go_on dialogue context info)) = None
+dialogue_begun (Output.dialogue (DialogueIndication.end dialogue context info)) = None
+dialogue_begun (Output.dialogue (DialogueIndication.u_abort dialogue pdu)) = None
+dialogue_begun (Output.dialogue (DialogueIndication.p_abort dialogue why)) = None
+dialogue_begun (Output.component indication) = None
 dialogue_begun (Output.dropped why) = None
 
 -- The dialogue of the first TC-BEGIN indication among some outputs (Q.771, Dialogue begin).

@@ -9,7 +9,7 @@ use Rattle.tcap_model.specs.Words.Event.{Event}
 use Rattle.tcap_model.specs.Histories.Names.{names}
 use Rattle.tcap_model.specs.Histories.Pair.{Pair, Past}
 use Rattle.tcap_model.specs.Procedures.PortionRules.{BeginVerdict, begin_verdict, PortionVerdict, portion_verdict}
-use Rattle.tcap_model.specs.Words.Request.{Request}
+use Rattle.tcap_model.specs.Words.Request.{Request, DialogueRequest}
 use Rattle.tcap_model.specs.Words.State.{State, is_live, activated}
 
 -- A dialogue isn't born yet; it stands, with its state and the application context of its Begin; or
@@ -75,17 +75,12 @@ life_at_birth true event = born_life event
 -- TC-CONTINUE to Active; TC-UNI, TC-END and TC-U-ABORT end it; component requests leave it
 -- (Q.774, Transaction state machine).
 abbrev pub life_by_request : State → Option (List ℕ) → Request → Life
-life_by_request state context (Request.invoke id class code parameter linked timeout) = Life.standing state context
-life_by_request state context (Request.result_last id body) = Life.standing state context
-life_by_request state context (Request.result_more id body) = Life.standing state context
-life_by_request state context (Request.error_back id code parameter) = Life.standing state context
-life_by_request state context (Request.u_reject id problem) = Life.standing state context
-life_by_request state context (Request.u_cancel id) = Life.standing state context
-life_by_request state context (Request.uni asked info) = Life.over
-life_by_request state context (Request.begin asked info) = Life.standing State.sent asked
-life_by_request state context (Request.go_on asked info) = Life.standing (activated state) context
-life_by_request state context (Request.finish ending asked info) = Life.over
-life_by_request state context (Request.u_abort why info) = Life.over
+life_by_request state context (Request.component asked) = Life.standing state context
+life_by_request state context (Request.dialogue (DialogueRequest.uni asked info)) = Life.over
+life_by_request state context (Request.dialogue (DialogueRequest.begin asked info)) = Life.standing State.sent asked
+life_by_request state context (Request.dialogue (DialogueRequest.go_on asked info)) = Life.standing (activated state) context
+life_by_request state context (Request.dialogue (DialogueRequest.finish ending asked info)) = Life.over
+life_by_request state context (Request.dialogue (DialogueRequest.u_abort why info)) = Life.over
 
 -- A refused request changes nothing (own).
 abbrev pub life_if_accepted : Bool → State → Option (List ℕ) → Request → Life

@@ -2,9 +2,9 @@
 use Rattle.std.specs.Prelude.{ℕ, ℤ, ◌==◌, List, [], ◌∷◌, flat_map, if◌then◌else◌}
 use Rattle.tcap_model.specs.Words.Answer.{Answer}
 use Rattle.tcap_model.specs.Words.Event.{Event}
-use Rattle.tcap_model.specs.Words.Output.{Output, Closing}
+use Rattle.tcap_model.specs.Words.Output.{Output, Closing, ComponentIndication}
 use Rattle.tcap_model.specs.Histories.Pair.{Past, gathered}
-use Rattle.tcap_model.specs.Words.Request.{Request}
+use Rattle.tcap_model.specs.Words.Request.{Request, ComponentRequest}
 
 -- A closing indication, and where it stands: what happened up to and with the pair that holds it
 -- (own).
@@ -21,32 +21,23 @@ told_if n number told = if number == n then told ∷ [] else []
 -- What an output tells of the end of the invocation of a number (own).
 abbrev pub told_by_output : ℕ → Past → Output → List Told
 told_by_output n place (Output.send bytes) = []
-told_by_output n place (Output.uni context info) = []
-told_by_output n place (Output.begin dialogue context info) = []
-told_by_output n place (Output.go_on dialogue context info) = []
-told_by_output n place (Output.end dialogue context info) = []
-told_by_output n place (Output.u_abort dialogue pdu) = []
-told_by_output n place (Output.p_abort dialogue why) = []
-told_by_output n place (Output.invoked dialogue id linked code parameter) = []
-told_by_output n place (Output.result_more dialogue number id body) = []
-told_by_output n place (Output.local_reject dialogue id problem) = []
-told_by_output n place (Output.remote_reject dialogue id problem by) = []
-told_by_output n place (Output.closed dialogue number id closing) = told_if n number (record { place = place; dialogue = dialogue; id = id; closing = closing })
+told_by_output n place (Output.dialogue indication) = []
+told_by_output n place (Output.component (ComponentIndication.invoked dialogue id linked code parameter)) = []
+told_by_output n place (Output.component (ComponentIndication.result_more dialogue number id body)) = []
+told_by_output n place (Output.component (ComponentIndication.local_reject dialogue id problem)) = []
+told_by_output n place (Output.component (ComponentIndication.remote_reject dialogue id problem by)) = []
+told_by_output n place (Output.component (ComponentIndication.closed dialogue number id closing)) = told_if n number (record { place = place; dialogue = dialogue; id = id; closing = closing })
 told_by_output n place (Output.dropped why) = []
 
 -- The invocation was given up, with the identifier of the TC-U-CANCEL request (Q.771, User cancel).
 abbrev pub given_up_by : ℕ → Past → ℕ → Request → ℕ → List Told
-given_up_by n place dialogue (Request.u_cancel id) number = told_if n number (record { place = place; dialogue = dialogue; id = id; closing = Closing.given_up })
-given_up_by n place dialogue (Request.invoke id class code parameter linked timeout) number = []
-given_up_by n place dialogue (Request.result_last id body) number = []
-given_up_by n place dialogue (Request.result_more id body) number = []
-given_up_by n place dialogue (Request.error_back id code parameter) number = []
-given_up_by n place dialogue (Request.u_reject id problem) number = []
-given_up_by n place dialogue (Request.uni context info) number = []
-given_up_by n place dialogue (Request.begin context info) number = []
-given_up_by n place dialogue (Request.go_on context info) number = []
-given_up_by n place dialogue (Request.finish ending context info) number = []
-given_up_by n place dialogue (Request.u_abort why info) number = []
+given_up_by n place dialogue (Request.component (ComponentRequest.u_cancel id)) number = told_if n number (record { place = place; dialogue = dialogue; id = id; closing = Closing.given_up })
+given_up_by n place dialogue (Request.component (ComponentRequest.invoke id class code parameter linked timeout)) number = []
+given_up_by n place dialogue (Request.component (ComponentRequest.result_last id body)) number = []
+given_up_by n place dialogue (Request.component (ComponentRequest.result_more id body)) number = []
+given_up_by n place dialogue (Request.component (ComponentRequest.error_back id code parameter)) number = []
+given_up_by n place dialogue (Request.component (ComponentRequest.u_reject id problem)) number = []
+given_up_by n place dialogue (Request.dialogue asked) number = []
 
 -- The same, with the dialogue of the request (Q.771, User cancel).
 abbrev pub given_up_at : ℕ → Past → Event → ℕ → List Told

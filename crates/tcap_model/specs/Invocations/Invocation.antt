@@ -8,7 +8,7 @@ use Rattle.tcap_model.specs.Words.Event.{Event}
 use Rattle.tcap_model.specs.Histories.History.{History}
 use Rattle.tcap_model.specs.Invocations.Numbers.{number_of}
 use Rattle.tcap_model.specs.Histories.Pair.{Pair, Past, gathered}
-use Rattle.tcap_model.specs.Words.Request.{Request}
+use Rattle.tcap_model.specs.Words.Request.{Request, ComponentRequest}
 
 -- An invocation: its number, its dialogue, its invoke identifier, its operation class and its
 -- timeout in milliseconds (Q.774, Invocation state machine).
@@ -23,17 +23,13 @@ pub record Invocation : Type 0 where
 -- (Q.771, Component handling).
 abbrev pub invoked_under : ℕ → Request → Option ℕ → Option Invocation
 invoked_under dialogue request None = None
-invoked_under dialogue (Request.invoke id class code parameter linked timeout) (Some n) = Some (record { number = n; dialogue = dialogue; id = id; class = class; timeout = timeout })
-invoked_under dialogue (Request.result_last id body) (Some n) = None
-invoked_under dialogue (Request.result_more id body) (Some n) = None
-invoked_under dialogue (Request.error_back id code parameter) (Some n) = None
-invoked_under dialogue (Request.u_reject id problem) (Some n) = None
-invoked_under dialogue (Request.u_cancel id) (Some n) = None
-invoked_under dialogue (Request.uni context info) (Some n) = None
-invoked_under dialogue (Request.begin context info) (Some n) = None
-invoked_under dialogue (Request.go_on context info) (Some n) = None
-invoked_under dialogue (Request.finish ending context info) (Some n) = None
-invoked_under dialogue (Request.u_abort why info) (Some n) = None
+invoked_under dialogue (Request.component (ComponentRequest.invoke id class code parameter linked timeout)) (Some n) = Some (record { number = n; dialogue = dialogue; id = id; class = class; timeout = timeout })
+invoked_under dialogue (Request.component (ComponentRequest.result_last id body)) (Some n) = None
+invoked_under dialogue (Request.component (ComponentRequest.result_more id body)) (Some n) = None
+invoked_under dialogue (Request.component (ComponentRequest.error_back id code parameter)) (Some n) = None
+invoked_under dialogue (Request.component (ComponentRequest.u_reject id problem)) (Some n) = None
+invoked_under dialogue (Request.component (ComponentRequest.u_cancel id)) (Some n) = None
+invoked_under dialogue (Request.dialogue asked) (Some n) = None
 
 -- The invocation that an event with this answer makes (own).
 abbrev pub invoked_of : Event → Answer → Option Invocation

@@ -17,7 +17,7 @@ use Rattle.tcap_model.specs.Histories.Life.{Life, is_over, life, life_after}
 use Rattle.tcap_model.specs.Histories.Names.{names}
 use Rattle.tcap_model.specs.Histories.Pair.{Pair, Past}
 use Rattle.tcap_model.specs.Procedures.PortionRules.{PortionVerdict, portion_verdict}
-use Rattle.tcap_model.specs.Words.Request.{Request, Ending}
+use Rattle.tcap_model.specs.Words.Request.{Request, Ending, ComponentRequest, DialogueRequest}
 use Rattle.tcap_model.specs.Words.State.{State, is_live}
 
 -- A message goes out that takes the queue; the dialogue ends; the user gives the invocation up; a
@@ -76,18 +76,18 @@ end_if_over before after = if is_over before then [] else (if is_over after then
 -- TC-END end the dialogue besides; TC-U-CANCEL gives up the invocation that it names; a prearranged
 -- end and TC-U-ABORT end the dialogue (Q.774, Invocation state machine).
 abbrev pub marks_by_request : ℤ → Life → Life → Request → List Mark
-marks_by_request id before after (Request.invoke named class code parameter linked timeout) = end_if_over before after
-marks_by_request id before after (Request.result_last named body) = end_if_over before after
-marks_by_request id before after (Request.result_more named body) = end_if_over before after
-marks_by_request id before after (Request.error_back named code parameter) = end_if_over before after
-marks_by_request id before after (Request.u_reject named problem) = end_if_over before after
-marks_by_request id before after (Request.u_cancel named) = marked id named Mark.given_up
-marks_by_request id before after (Request.uni context info) = Mark.sent ∷ Mark.end ∷ []
-marks_by_request id before after (Request.begin context info) = Mark.sent ∷ []
-marks_by_request id before after (Request.go_on context info) = Mark.sent ∷ []
-marks_by_request id before after (Request.finish Ending.basic context info) = Mark.sent ∷ Mark.end ∷ []
-marks_by_request id before after (Request.finish Ending.prearranged context info) = end_if_over before after
-marks_by_request id before after (Request.u_abort why info) = end_if_over before after
+marks_by_request id before after (Request.component (ComponentRequest.invoke named class code parameter linked timeout)) = end_if_over before after
+marks_by_request id before after (Request.component (ComponentRequest.result_last named body)) = end_if_over before after
+marks_by_request id before after (Request.component (ComponentRequest.result_more named body)) = end_if_over before after
+marks_by_request id before after (Request.component (ComponentRequest.error_back named code parameter)) = end_if_over before after
+marks_by_request id before after (Request.component (ComponentRequest.u_reject named problem)) = end_if_over before after
+marks_by_request id before after (Request.component (ComponentRequest.u_cancel named)) = marked id named Mark.given_up
+marks_by_request id before after (Request.dialogue (DialogueRequest.uni context info)) = Mark.sent ∷ Mark.end ∷ []
+marks_by_request id before after (Request.dialogue (DialogueRequest.begin context info)) = Mark.sent ∷ []
+marks_by_request id before after (Request.dialogue (DialogueRequest.go_on context info)) = Mark.sent ∷ []
+marks_by_request id before after (Request.dialogue (DialogueRequest.finish Ending.basic context info)) = Mark.sent ∷ Mark.end ∷ []
+marks_by_request id before after (Request.dialogue (DialogueRequest.finish Ending.prearranged context info)) = end_if_over before after
+marks_by_request id before after (Request.dialogue (DialogueRequest.u_abort why info)) = end_if_over before after
 
 -- The components of a message count if its dialogue portion is as it should be (own).
 abbrev pub if_normal : PortionVerdict → List Mark → List Mark → List Mark

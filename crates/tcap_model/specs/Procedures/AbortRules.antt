@@ -9,7 +9,7 @@ use Rattle.tcap_pdu.specs.DialogueReading.{dialogue_at}
 use Rattle.tcap_pdu.specs.DialogueWritten.{written_dialogue}
 use Rattle.tcap_pdu.specs.FrameSpelling.{Message, Reason}
 use Rattle.tcap_pdu.specs.FrameWritten.{written_frame}
-use Rattle.tcap_model.specs.Words.Output.{Output, AbortCause}
+use Rattle.tcap_model.specs.Words.Output.{Output, AbortCause, DialogueIndication}
 
 -- ---- received
 
@@ -21,31 +21,31 @@ is_no_common (Source.provider n) = n == 2
 -- What an AARE in an Abort tells: where it isn't accepted, that there is no common dialogue portion or
 -- that the peer's user refused; an accepted one is abnormal (Q.774, Abort by the provider).
 abbrev pub response_told : ℕ → Bool → List ℕ → Bool → Source → List ℕ → Output
-response_told d version1 context true diagnostic info = Output.p_abort d AbortCause.abnormal
+response_told d version1 context true diagnostic info = Output.dialogue (DialogueIndication.p_abort d AbortCause.abnormal)
 response_told d version1 context false diagnostic info =
-    if is_no_common diagnostic then Output.p_abort d AbortCause.no_common else Output.u_abort d (Some (aare version1 context false diagnostic info))
+    if is_no_common diagnostic then Output.dialogue (DialogueIndication.p_abort d AbortCause.no_common) else Output.dialogue (DialogueIndication.u_abort d (Some (aare version1 context false diagnostic info)))
 
 -- What an ABRT tells: the user's abort, or an abnormal one by the provider
 -- (Q.774, Abort by the user; Q.774, Abort by the provider).
 abbrev pub abort_pdu_told : ℕ → Bool → List ℕ → Output
-abort_pdu_told d true info = Output.p_abort d AbortCause.abnormal
-abort_pdu_told d false info = Output.u_abort d (Some (abrt false info))
+abort_pdu_told d true info = Output.dialogue (DialogueIndication.p_abort d AbortCause.abnormal)
+abort_pdu_told d false info = Output.dialogue (DialogueIndication.u_abort d (Some (abrt false info)))
 
 -- What the dialogue portion of an Abort tells (Q.774, Abort by the user).
 abbrev pub portion_told : ℕ → Result PduValue DialogueFault → Output
 portion_told d (Ok (abrt by_provider info)) = abort_pdu_told d by_provider info
-portion_told d (Ok (foreign external)) = Output.u_abort d (Some (foreign external))
+portion_told d (Ok (foreign external)) = Output.dialogue (DialogueIndication.u_abort d (Some (foreign external)))
 portion_told d (Ok (aare version1 context accepted diagnostic info)) = response_told d version1 context accepted diagnostic info
-portion_told d (Ok (aarq version1 context info)) = Output.p_abort d AbortCause.abnormal
-portion_told d (Ok (audt version1 context info)) = Output.p_abort d AbortCause.abnormal
-portion_told d (Err f) = Output.p_abort d AbortCause.abnormal
+portion_told d (Ok (aarq version1 context info)) = Output.dialogue (DialogueIndication.p_abort d AbortCause.abnormal)
+portion_told d (Ok (audt version1 context info)) = Output.dialogue (DialogueIndication.p_abort d AbortCause.abnormal)
+portion_told d (Err f) = Output.dialogue (DialogueIndication.p_abort d AbortCause.abnormal)
 
 -- What an Abort to a dialogue tells, whatever its state and its application context are: with nothing
 -- it is the user's, with a P-Abort cause the provider's, with a dialogue portion by what that says
 -- (Q.774, Abort by the user; Q.774, Abort by the provider; that the state isn't looked at is own).
 abbrev pub abort_told : ℕ → Reason → Output
-abort_told d Reason.nothing = Output.u_abort d None
-abort_told d (Reason.cause n) = Output.p_abort d (AbortCause.cause n)
+abort_told d Reason.nothing = Output.dialogue (DialogueIndication.u_abort d None)
+abort_told d (Reason.cause n) = Output.dialogue (DialogueIndication.p_abort d (AbortCause.cause n))
 abort_told d (Reason.portion content) = portion_told d (dialogue_at content)
 
 -- ---- sent

@@ -6,7 +6,7 @@ use Rattle.tcap_component.specs.Component.ComponentParts.{invoke, result_last, e
 use Rattle.tcap_component.specs.ComponentFault.{FaultParts}
 use Rattle.tcap_invocation.specs.declared.class.Class.{Class}
 use Rattle.tcap_invocation.specs.Class.{Received, Consequence, class_rule}
-use Rattle.tcap_model.specs.Words.Output.{Output, Closing, Rejector}
+use Rattle.tcap_model.specs.Words.Output.{Output, Closing, Rejector, ComponentIndication}
 use Rattle.tcap_model.specs.Procedures.Problems.{unrecognized_linked, unrecognized_result, unexpected_result, unrecognized_error, unexpected_error, remote_rejector}
 
 -- A component that was read, or the fault of one that can't be read (own).
@@ -42,30 +42,30 @@ telling output = record { told = output; reject = None }
 -- (Q.774, Component related abnormal conditions).
 abbrev pub rejecting : Option ℕ → Option ℤ → ProblemParts → Handled
 rejecting dialogue id problem =
-    record { told = Output.local_reject dialogue id problem; reject = Some (reject_back id problem) }
+    record { told = Output.component (ComponentIndication.local_reject dialogue id problem); reject = Some (reject_back id problem) }
 
 -- An answer that closes the invocation (Q.774, Invocation state machine).
 abbrev pub closing : SentInvocation → ℤ → Closing → Handled
-closing sent id how = telling (Output.closed sent.dialogue sent.number id how)
+closing sent id how = telling (Output.component (ComponentIndication.closed sent.dialogue sent.number id how))
 
 -- An answer that the operation class doesn't have: it closes the invocation, which is told as a local
 -- Reject, and the peer gets the Reject (Q.774, Component related abnormal conditions).
 abbrev pub closing_unexpected : SentInvocation → ℤ → ProblemParts → Handled
 closing_unexpected sent id problem =
-    record { told = Output.closed sent.dialogue sent.number id (Closing.rejected problem Rejector.local); reject = Some (reject_back (Some id) problem) }
+    record { told = Output.component (ComponentIndication.closed sent.dialogue sent.number id (Closing.rejected problem Rejector.local)); reject = Some (reject_back (Some id) problem) }
 
 -- An Invoke is told: it has no linked identifier, or that of an invocation that is Sent; with any
 -- other linked identifier it is rejected (Q.774, Component handling).
 abbrev pub invoke_handled : Option ℕ → Option SentInvocation → ℤ → Option ℤ → CodeParts → Option (List ℕ) → Handled
-invoke_handled dialogue sent id None code parameter = telling (Output.invoked dialogue id None code parameter)
-invoke_handled dialogue (Some sent) id (Some linked) code parameter = telling (Output.invoked dialogue id (Some linked) code parameter)
+invoke_handled dialogue sent id None code parameter = telling (Output.component (ComponentIndication.invoked dialogue id None code parameter))
+invoke_handled dialogue (Some sent) id (Some linked) code parameter = telling (Output.component (ComponentIndication.invoked dialogue id (Some linked) code parameter))
 invoke_handled dialogue None id (Some linked) code parameter = rejecting dialogue (Some id) unrecognized_linked
 
 -- A Return Result for an invocation that is Sent, by what comes of it for its class; what never comes
 -- of a result is told as for an identifier that isn't Sent (Q.774, Component handling).
 abbrev pub result_by : SentInvocation → ℤ → Option BodyParts → Consequence → Handled
 result_by sent id body Consequence.result_last = closing sent id (Closing.result_last body)
-result_by sent id body Consequence.result_more = telling (Output.result_more sent.dialogue sent.number id body)
+result_by sent id body Consequence.result_more = telling (Output.component (ComponentIndication.result_more sent.dialogue sent.number id body))
 result_by sent id body Consequence.rejected_result = closing_unexpected sent id unexpected_result
 result_by sent id body Consequence.error_back = rejecting (Some sent.dialogue) (Some id) unrecognized_result
 result_by sent id body Consequence.rejected_error = rejecting (Some sent.dialogue) (Some id) unrecognized_result
@@ -95,7 +95,7 @@ error_handled dialogue (Some sent) id code parameter = error_by sent id code par
 
 -- A Reject that closes no invocation (Q.774, Component handling).
 abbrev pub remote : Option ℕ → Option ℤ → ProblemParts → Handled
-remote dialogue id problem = telling (Output.remote_reject dialogue id problem (remote_rejector problem))
+remote dialogue id problem = telling (Output.component (ComponentIndication.remote_reject dialogue id problem (remote_rejector problem)))
 
 -- A Reject for an invocation that is Sent, by what comes of it: one of the Invoke closes it
 -- (Q.774, Component handling).
@@ -128,7 +128,7 @@ handled dialogue sent (Ok (result_last id body)) = result_handled dialogue sent 
 handled dialogue sent (Ok (result_more id body)) = result_handled dialogue sent id body Received.return_result_not_last
 handled dialogue sent (Ok (error_back id code parameter)) = error_handled dialogue sent id code parameter
 handled dialogue sent (Ok (reject_back id problem)) = reject_handled dialogue sent id problem
-handled dialogue sent (Err f) = record { told = Output.local_reject dialogue f.id f.problem; reject = fault_reject f }
+handled dialogue sent (Err f) = record { told = Output.component (ComponentIndication.local_reject dialogue f.id f.problem); reject = fault_reject f }
 
 -- What some components tell (Q.774, Component handling).
 abbrev pub told_of : List Handled → List Output

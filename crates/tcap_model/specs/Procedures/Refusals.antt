@@ -10,7 +10,7 @@ use Rattle.tcap_invocation.specs.Stage.{moment_limit}
 use Rattle.tcap_model.specs.Words.Fault.{Fault}
 use Rattle.tcap_model.specs.Words.State.{State}
 use Rattle.tcap_model.specs.Procedures.States.{has_request, has_peer, is_asked}
-use Rattle.tcap_model.specs.Words.Request.{Request, Ending, AbortReason}
+use Rattle.tcap_model.specs.Words.Request.{Request, Ending, AbortReason, ComponentRequest, DialogueRequest}
 use Rattle.tcap_model.specs.Procedures.QueueRules.{Queued, fits, can_go_alone}
 use Rattle.tcap_model.specs.Procedures.Standing.{Standing}
 use Rattle.tcap_model.specs.Procedures.ComponentRequest.{component_of, queued_for}
@@ -21,17 +21,17 @@ use Rattle.tcap_model.specs.Procedures.RequestMessage.{message_of}
 -- The faults of each request, in the order in which they are judged; of several the first is
 -- answered, and want of memory is the last (own).
 abbrev pub faults_of : Request → List Fault
-faults_of (Request.invoke id class code parameter linked timeout) = Fault.unknown_dialogue ∷ Fault.bad_timeout ∷ Fault.bad_oid ∷ Fault.bad_parameter ∷ Fault.invoke_id_in_use ∷ Fault.numbers_spent ∷ Fault.too_long ∷ Fault.out_of_memory ∷ []
-faults_of (Request.result_last id body) = Fault.unknown_dialogue ∷ Fault.wrong_state ∷ Fault.bad_oid ∷ Fault.bad_parameter ∷ Fault.too_long ∷ Fault.out_of_memory ∷ []
-faults_of (Request.result_more id body) = Fault.unknown_dialogue ∷ Fault.wrong_state ∷ Fault.bad_oid ∷ Fault.bad_parameter ∷ Fault.too_long ∷ Fault.out_of_memory ∷ []
-faults_of (Request.error_back id code parameter) = Fault.unknown_dialogue ∷ Fault.wrong_state ∷ Fault.bad_oid ∷ Fault.bad_parameter ∷ Fault.too_long ∷ Fault.out_of_memory ∷ []
-faults_of (Request.u_reject id problem) = Fault.unknown_dialogue ∷ Fault.wrong_state ∷ Fault.too_long ∷ Fault.out_of_memory ∷ []
-faults_of (Request.u_cancel id) = Fault.unknown_dialogue ∷ Fault.no_such_invocation ∷ []
-faults_of (Request.uni context info) = Fault.unknown_dialogue ∷ Fault.wrong_state ∷ Fault.bad_oid ∷ Fault.bad_parameter ∷ Fault.no_context ∷ Fault.not_class_four ∷ Fault.too_long ∷ Fault.out_of_memory ∷ []
-faults_of (Request.begin context info) = Fault.unknown_dialogue ∷ Fault.wrong_state ∷ Fault.bad_oid ∷ Fault.bad_parameter ∷ Fault.no_context ∷ Fault.too_long ∷ Fault.out_of_memory ∷ []
-faults_of (Request.go_on context info) = Fault.unknown_dialogue ∷ Fault.wrong_state ∷ Fault.bad_oid ∷ Fault.bad_parameter ∷ Fault.no_context ∷ Fault.too_long ∷ Fault.out_of_memory ∷ []
-faults_of (Request.finish ending context info) = Fault.unknown_dialogue ∷ Fault.wrong_state ∷ Fault.bad_oid ∷ Fault.bad_parameter ∷ Fault.no_context ∷ Fault.too_long ∷ Fault.out_of_memory ∷ []
-faults_of (Request.u_abort why info) = Fault.unknown_dialogue ∷ Fault.wrong_state ∷ Fault.bad_parameter ∷ Fault.no_context ∷ Fault.too_long ∷ Fault.out_of_memory ∷ []
+faults_of (Request.component (ComponentRequest.invoke id class code parameter linked timeout)) = Fault.unknown_dialogue ∷ Fault.bad_timeout ∷ Fault.bad_oid ∷ Fault.bad_parameter ∷ Fault.invoke_id_in_use ∷ Fault.numbers_spent ∷ Fault.too_long ∷ Fault.out_of_memory ∷ []
+faults_of (Request.component (ComponentRequest.result_last id body)) = Fault.unknown_dialogue ∷ Fault.wrong_state ∷ Fault.bad_oid ∷ Fault.bad_parameter ∷ Fault.too_long ∷ Fault.out_of_memory ∷ []
+faults_of (Request.component (ComponentRequest.result_more id body)) = Fault.unknown_dialogue ∷ Fault.wrong_state ∷ Fault.bad_oid ∷ Fault.bad_parameter ∷ Fault.too_long ∷ Fault.out_of_memory ∷ []
+faults_of (Request.component (ComponentRequest.error_back id code parameter)) = Fault.unknown_dialogue ∷ Fault.wrong_state ∷ Fault.bad_oid ∷ Fault.bad_parameter ∷ Fault.too_long ∷ Fault.out_of_memory ∷ []
+faults_of (Request.component (ComponentRequest.u_reject id problem)) = Fault.unknown_dialogue ∷ Fault.wrong_state ∷ Fault.too_long ∷ Fault.out_of_memory ∷ []
+faults_of (Request.component (ComponentRequest.u_cancel id)) = Fault.unknown_dialogue ∷ Fault.no_such_invocation ∷ []
+faults_of (Request.dialogue (DialogueRequest.uni context info)) = Fault.unknown_dialogue ∷ Fault.wrong_state ∷ Fault.bad_oid ∷ Fault.bad_parameter ∷ Fault.no_context ∷ Fault.not_class_four ∷ Fault.too_long ∷ Fault.out_of_memory ∷ []
+faults_of (Request.dialogue (DialogueRequest.begin context info)) = Fault.unknown_dialogue ∷ Fault.wrong_state ∷ Fault.bad_oid ∷ Fault.bad_parameter ∷ Fault.no_context ∷ Fault.too_long ∷ Fault.out_of_memory ∷ []
+faults_of (Request.dialogue (DialogueRequest.go_on context info)) = Fault.unknown_dialogue ∷ Fault.wrong_state ∷ Fault.bad_oid ∷ Fault.bad_parameter ∷ Fault.no_context ∷ Fault.too_long ∷ Fault.out_of_memory ∷ []
+faults_of (Request.dialogue (DialogueRequest.finish ending context info)) = Fault.unknown_dialogue ∷ Fault.wrong_state ∷ Fault.bad_oid ∷ Fault.bad_parameter ∷ Fault.no_context ∷ Fault.too_long ∷ Fault.out_of_memory ∷ []
+faults_of (Request.dialogue (DialogueRequest.u_abort why info)) = Fault.unknown_dialogue ∷ Fault.wrong_state ∷ Fault.bad_parameter ∷ Fault.no_context ∷ Fault.too_long ∷ Fault.out_of_memory ∷ []
 
 -- The first fault of a list that holds (own).
 abbrev pub first_that : (Fault → Bool) → List Fault → Option Fault
@@ -42,45 +42,31 @@ first_that holds (f ∷ fs) = if holds f then Some f else first_that holds fs
 
 -- The timeout of an Invoke is 0 or above the limit (own).
 abbrev pub has_bad_timeout : Request → Bool
-has_bad_timeout (Request.invoke id class code parameter linked timeout) = not (nat_lt 0 timeout && nat_le timeout moment_limit)
-has_bad_timeout (Request.result_last id body) = false
-has_bad_timeout (Request.result_more id body) = false
-has_bad_timeout (Request.error_back id code parameter) = false
-has_bad_timeout (Request.u_reject id problem) = false
-has_bad_timeout (Request.u_cancel id) = false
-has_bad_timeout (Request.uni context info) = false
-has_bad_timeout (Request.begin context info) = false
-has_bad_timeout (Request.go_on context info) = false
-has_bad_timeout (Request.finish ending context info) = false
-has_bad_timeout (Request.u_abort why info) = false
+has_bad_timeout (Request.component (ComponentRequest.invoke id class code parameter linked timeout)) = not (nat_lt 0 timeout && nat_le timeout moment_limit)
+has_bad_timeout (Request.component (ComponentRequest.result_last id body)) = false
+has_bad_timeout (Request.component (ComponentRequest.result_more id body)) = false
+has_bad_timeout (Request.component (ComponentRequest.error_back id code parameter)) = false
+has_bad_timeout (Request.component (ComponentRequest.u_reject id problem)) = false
+has_bad_timeout (Request.component (ComponentRequest.u_cancel id)) = false
+has_bad_timeout (Request.dialogue asked) = false
 
 -- The application context that a request gives (Q.771, Dialogue handling).
 abbrev pub context_given : Request → Option (List ℕ)
-context_given (Request.invoke id class code parameter linked timeout) = None
-context_given (Request.result_last id body) = None
-context_given (Request.result_more id body) = None
-context_given (Request.error_back id code parameter) = None
-context_given (Request.u_reject id problem) = None
-context_given (Request.u_cancel id) = None
-context_given (Request.uni context info) = context
-context_given (Request.begin context info) = context
-context_given (Request.go_on context info) = context
-context_given (Request.finish ending context info) = context
-context_given (Request.u_abort why info) = None
+context_given (Request.component asked) = None
+context_given (Request.dialogue (DialogueRequest.uni context info)) = context
+context_given (Request.dialogue (DialogueRequest.begin context info)) = context
+context_given (Request.dialogue (DialogueRequest.go_on context info)) = context
+context_given (Request.dialogue (DialogueRequest.finish ending context info)) = context
+context_given (Request.dialogue (DialogueRequest.u_abort why info)) = None
 
 -- The user information that a request gives (Q.771, Dialogue handling).
 abbrev pub information_given : Request → List ℕ
-information_given (Request.invoke id class code parameter linked timeout) = []
-information_given (Request.result_last id body) = []
-information_given (Request.result_more id body) = []
-information_given (Request.error_back id code parameter) = []
-information_given (Request.u_reject id problem) = []
-information_given (Request.u_cancel id) = []
-information_given (Request.uni context info) = info
-information_given (Request.begin context info) = info
-information_given (Request.go_on context info) = info
-information_given (Request.finish ending context info) = info
-information_given (Request.u_abort why info) = info
+information_given (Request.component asked) = []
+information_given (Request.dialogue (DialogueRequest.uni context info)) = info
+information_given (Request.dialogue (DialogueRequest.begin context info)) = info
+information_given (Request.dialogue (DialogueRequest.go_on context info)) = info
+information_given (Request.dialogue (DialogueRequest.finish ending context info)) = info
+information_given (Request.dialogue (DialogueRequest.u_abort why info)) = info
 
 -- A context that is given is an object identifier (Q.773, Dialogue portion).
 abbrev pub can_name : Option (List ℕ) → Bool
@@ -122,34 +108,24 @@ lacks_context context info = is_none context && is_filled info
 -- A context or user information is given where no message is sent, or the message has no dialogue
 -- portion for it (own).
 abbrev pub has_no_context : State → Option (List ℕ) → Request → Bool
-has_no_context state known (Request.invoke id class code parameter linked timeout) = false
-has_no_context state known (Request.result_last id body) = false
-has_no_context state known (Request.result_more id body) = false
-has_no_context state known (Request.error_back id code parameter) = false
-has_no_context state known (Request.u_reject id problem) = false
-has_no_context state known (Request.u_cancel id) = false
-has_no_context state known (Request.uni context info) = lacks_context context info
-has_no_context state known (Request.begin context info) = lacks_context context info
-has_no_context state known (Request.go_on context info) = not (is_asked state known) && gives_any context info
-has_no_context state known (Request.finish Ending.basic context info) = not (is_asked state known) && gives_any context info
-has_no_context state known (Request.finish Ending.prearranged context info) = gives_any context info
-has_no_context state known (Request.u_abort AbortReason.by_user info) = not (has_peer state && is_some known) && is_filled info
-has_no_context state known (Request.u_abort AbortReason.not_supported info) = false
+has_no_context state known (Request.component asked) = false
+has_no_context state known (Request.dialogue (DialogueRequest.uni context info)) = lacks_context context info
+has_no_context state known (Request.dialogue (DialogueRequest.begin context info)) = lacks_context context info
+has_no_context state known (Request.dialogue (DialogueRequest.go_on context info)) = not (is_asked state known) && gives_any context info
+has_no_context state known (Request.dialogue (DialogueRequest.finish Ending.basic context info)) = not (is_asked state known) && gives_any context info
+has_no_context state known (Request.dialogue (DialogueRequest.finish Ending.prearranged context info)) = gives_any context info
+has_no_context state known (Request.dialogue (DialogueRequest.u_abort AbortReason.by_user info)) = not (has_peer state && is_some known) && is_filled info
+has_no_context state known (Request.dialogue (DialogueRequest.u_abort AbortReason.not_supported info)) = false
 
 -- A Unidirectional would carry nothing, or an Invoke of another class than 4
 -- (Q.774, Unstructured dialogue).
 abbrev pub is_not_class_four : List Queued → Request → Bool
-is_not_class_four queue (Request.invoke id class code parameter linked timeout) = false
-is_not_class_four queue (Request.result_last id body) = false
-is_not_class_four queue (Request.result_more id body) = false
-is_not_class_four queue (Request.error_back id code parameter) = false
-is_not_class_four queue (Request.u_reject id problem) = false
-is_not_class_four queue (Request.u_cancel id) = false
-is_not_class_four queue (Request.uni context info) = not (can_go_alone queue)
-is_not_class_four queue (Request.begin context info) = false
-is_not_class_four queue (Request.go_on context info) = false
-is_not_class_four queue (Request.finish ending context info) = false
-is_not_class_four queue (Request.u_abort why info) = false
+is_not_class_four queue (Request.component asked) = false
+is_not_class_four queue (Request.dialogue (DialogueRequest.uni context info)) = not (can_go_alone queue)
+is_not_class_four queue (Request.dialogue (DialogueRequest.begin context info)) = false
+is_not_class_four queue (Request.dialogue (DialogueRequest.go_on context info)) = false
+is_not_class_four queue (Request.dialogue (DialogueRequest.finish ending context info)) = false
+is_not_class_four queue (Request.dialogue (DialogueRequest.u_abort why info)) = false
 
 -- A component would pass the limit of the queue (own).
 abbrev pub passes_queue : ℕ → List Queued → Option Queued → Bool

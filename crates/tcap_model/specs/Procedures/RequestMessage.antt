@@ -7,7 +7,7 @@ use Rattle.tcap_model.specs.Words.State.{State}
 use Rattle.tcap_model.specs.Words.LocalId.{local_id}
 use Rattle.tcap_model.specs.Procedures.QueueRules.{joined}
 use Rattle.tcap_model.specs.Procedures.Standing.{Standing}
-use Rattle.tcap_model.specs.Words.Request.{Request, Ending, AbortReason}
+use Rattle.tcap_model.specs.Words.Request.{Request, Ending, AbortReason, DialogueRequest}
 
 -- ---- the dialogue portion
 
@@ -81,16 +81,11 @@ refusing_message state (Some context) info = abort_message state (refusing_abort
 -- The message that a dialogue request sends; a prearranged end sends none
 -- (Q.774, Dialogue control).
 abbrev pub message_of : Standing → Request → Option Message
-message_of d (Request.invoke id class code parameter linked timeout) = None
-message_of d (Request.result_last id body) = None
-message_of d (Request.result_more id body) = None
-message_of d (Request.error_back id code parameter) = None
-message_of d (Request.u_reject id problem) = None
-message_of d (Request.u_cancel id) = None
-message_of d (Request.uni context info) = Some (Message.unidirectional (uni_portion context info) (joined d.queue))
-message_of d (Request.begin context info) = Some (Message.begin (local_id d.identifier) (begin_portion context info) (joined d.queue))
-message_of d (Request.go_on context info) = continue_message d d.state (answer_portion d.state d.context context info)
-message_of d (Request.finish Ending.basic context info) = end_message d d.state (answer_portion d.state d.context context info)
-message_of d (Request.finish Ending.prearranged context info) = None
-message_of d (Request.u_abort AbortReason.by_user info) = abort_message d.state (user_abort d.context info)
-message_of d (Request.u_abort AbortReason.not_supported info) = refusing_message d.state d.context info
+message_of d (Request.component asked) = None
+message_of d (Request.dialogue (DialogueRequest.uni context info)) = Some (Message.unidirectional (uni_portion context info) (joined d.queue))
+message_of d (Request.dialogue (DialogueRequest.begin context info)) = Some (Message.begin (local_id d.identifier) (begin_portion context info) (joined d.queue))
+message_of d (Request.dialogue (DialogueRequest.go_on context info)) = continue_message d d.state (answer_portion d.state d.context context info)
+message_of d (Request.dialogue (DialogueRequest.finish Ending.basic context info)) = end_message d d.state (answer_portion d.state d.context context info)
+message_of d (Request.dialogue (DialogueRequest.finish Ending.prearranged context info)) = None
+message_of d (Request.dialogue (DialogueRequest.u_abort AbortReason.by_user info)) = abort_message d.state (user_abort d.context info)
+message_of d (Request.dialogue (DialogueRequest.u_abort AbortReason.not_supported info)) = refusing_message d.state d.context info

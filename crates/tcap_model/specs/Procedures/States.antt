@@ -1,7 +1,7 @@
 -- Which requests a dialogue has, by its state.
 use Rattle.std.specs.Prelude.{Bool, true, false, List, ℕ, Option, is_some}
 use Rattle.tcap_model.specs.Words.State.{State}
-use Rattle.tcap_model.specs.Words.Request.{Request, Ending, AbortReason}
+use Rattle.tcap_model.specs.Words.Request.{Request, Ending, AbortReason, ComponentRequest, DialogueRequest}
 
 -- No message was sent or received: Idle (Q.774, Transaction state machine).
 abbrev pub is_fresh : State → Bool
@@ -29,16 +29,16 @@ is_asked (State.active peer) context = false
 -- or Active; an abort since the context isn't supported needs an AARQ that isn't answered; all else
 -- works in every state (Q.774, Dialogue control; Q.774, Component handling).
 abbrev pub has_request : State → Option (List ℕ) → Request → Bool
-has_request state context (Request.invoke id class code parameter linked timeout) = true
-has_request state context (Request.result_last id body) = has_peer state
-has_request state context (Request.result_more id body) = has_peer state
-has_request state context (Request.error_back id code parameter) = has_peer state
-has_request state context (Request.u_reject id problem) = has_peer state
-has_request state context (Request.u_cancel id) = true
-has_request state context (Request.uni given info) = is_fresh state
-has_request state context (Request.begin given info) = is_fresh state
-has_request state context (Request.go_on given info) = has_peer state
-has_request state context (Request.finish Ending.basic given info) = has_peer state
-has_request state context (Request.finish Ending.prearranged given info) = true
-has_request state context (Request.u_abort AbortReason.by_user info) = true
-has_request state context (Request.u_abort AbortReason.not_supported info) = is_asked state context
+has_request state context (Request.component (ComponentRequest.invoke id class code parameter linked timeout)) = true
+has_request state context (Request.component (ComponentRequest.result_last id body)) = has_peer state
+has_request state context (Request.component (ComponentRequest.result_more id body)) = has_peer state
+has_request state context (Request.component (ComponentRequest.error_back id code parameter)) = has_peer state
+has_request state context (Request.component (ComponentRequest.u_reject id problem)) = has_peer state
+has_request state context (Request.component (ComponentRequest.u_cancel id)) = true
+has_request state context (Request.dialogue (DialogueRequest.uni given info)) = is_fresh state
+has_request state context (Request.dialogue (DialogueRequest.begin given info)) = is_fresh state
+has_request state context (Request.dialogue (DialogueRequest.go_on given info)) = has_peer state
+has_request state context (Request.dialogue (DialogueRequest.finish Ending.basic given info)) = has_peer state
+has_request state context (Request.dialogue (DialogueRequest.finish Ending.prearranged given info)) = true
+has_request state context (Request.dialogue (DialogueRequest.u_abort AbortReason.by_user info)) = true
+has_request state context (Request.dialogue (DialogueRequest.u_abort AbortReason.not_supported info)) = is_asked state context

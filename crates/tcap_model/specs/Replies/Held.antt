@@ -13,7 +13,7 @@ use Rattle.tcap_model.specs.Invocations.Invocation.{Invocation, latest}
 use Rattle.tcap_model.specs.Invocations.Outcome.{outcome}
 use Rattle.tcap_model.specs.Words.Output.{Closing}
 use Rattle.tcap_model.specs.Histories.Pair.{Pair, Past}
-use Rattle.tcap_model.specs.Words.Request.{Request}
+use Rattle.tcap_model.specs.Words.Request.{Request, ComponentRequest}
 
 -- A result or an error: the user may reject it, and its identifier waits for that
 -- (Q.774, Wait for Reject).
@@ -34,18 +34,14 @@ is_of_answer kind.Error = true
 
 -- Whether a request rejects the answer for this identifier (Q.774, Wait for Reject).
 abbrev pub rejects_answer : ℤ → Request → Bool
-rejects_answer id (Request.u_reject None problem) = false
-rejects_answer id (Request.u_reject (Some named) problem) = int_eq named id && is_of_answer problem.kind
-rejects_answer id (Request.invoke named class code parameter linked timeout) = false
-rejects_answer id (Request.result_last named body) = false
-rejects_answer id (Request.result_more named body) = false
-rejects_answer id (Request.error_back named code parameter) = false
-rejects_answer id (Request.u_cancel named) = false
-rejects_answer id (Request.uni context info) = false
-rejects_answer id (Request.begin context info) = false
-rejects_answer id (Request.go_on context info) = false
-rejects_answer id (Request.finish ending context info) = false
-rejects_answer id (Request.u_abort why info) = false
+rejects_answer id (Request.component (ComponentRequest.u_reject None problem)) = false
+rejects_answer id (Request.component (ComponentRequest.u_reject (Some named) problem)) = int_eq named id && is_of_answer problem.kind
+rejects_answer id (Request.component (ComponentRequest.invoke named class code parameter linked timeout)) = false
+rejects_answer id (Request.component (ComponentRequest.result_last named body)) = false
+rejects_answer id (Request.component (ComponentRequest.result_more named body)) = false
+rejects_answer id (Request.component (ComponentRequest.error_back named code parameter)) = false
+rejects_answer id (Request.component (ComponentRequest.u_cancel named)) = false
+rejects_answer id (Request.dialogue asked) = false
 
 -- Whether an event ends the wait of an identifier of a dialogue that lasts until this moment: an
 -- accepted moment at or past it, or the user's Reject of the answer (Q.774, Wait for Reject).

@@ -19,7 +19,7 @@ use Rattle.tcap_model.specs.Invocations.Outcome.{is_sent_in}
 use Rattle.tcap_model.specs.Histories.Pair.{Pair, Past}
 use Rattle.tcap_model.specs.Procedures.PortionRules.{PortionVerdict, portion_verdict}
 use Rattle.tcap_model.specs.Procedures.QueueRules.{Queued, queue_limit, queued, queue_each, without_invoke}
-use Rattle.tcap_model.specs.Words.Request.{Request, Ending}
+use Rattle.tcap_model.specs.Words.Request.{Request, Ending, ComponentRequest, DialogueRequest}
 use Rattle.tcap_model.specs.Invocations.Span.{span}
 use Rattle.tcap_model.specs.Words.State.{is_live}
 
@@ -108,18 +108,18 @@ queue_after_cancel (Answer.refused fault) queue = queue
 -- The queue after an accepted request: a component request appends its component; TC-UNI, TC-BEGIN,
 -- TC-CONTINUE and a basic TC-END take all (Q.774, Component handling).
 abbrev pub queue_by_request : List Queued → Request → Answer → List Queued
-queue_by_request queue (Request.invoke id class code parameter linked timeout) answer = queue ++ option_to_list (queued_for (number_in answer) (Request.invoke id class code parameter linked timeout))
-queue_by_request queue (Request.result_last id body) answer = queue ++ option_to_list (queued_for 0 (Request.result_last id body))
-queue_by_request queue (Request.result_more id body) answer = queue ++ option_to_list (queued_for 0 (Request.result_more id body))
-queue_by_request queue (Request.error_back id code parameter) answer = queue ++ option_to_list (queued_for 0 (Request.error_back id code parameter))
-queue_by_request queue (Request.u_reject id problem) answer = queue ++ option_to_list (queued_for 0 (Request.u_reject id problem))
-queue_by_request queue (Request.u_cancel id) answer = queue_after_cancel answer queue
-queue_by_request queue (Request.uni context info) answer = []
-queue_by_request queue (Request.begin context info) answer = []
-queue_by_request queue (Request.go_on context info) answer = []
-queue_by_request queue (Request.finish Ending.basic context info) answer = []
-queue_by_request queue (Request.finish Ending.prearranged context info) answer = queue
-queue_by_request queue (Request.u_abort why info) answer = queue
+queue_by_request queue (Request.component (ComponentRequest.invoke id class code parameter linked timeout)) answer = queue ++ option_to_list (queued_for (number_in answer) (Request.component (ComponentRequest.invoke id class code parameter linked timeout)))
+queue_by_request queue (Request.component (ComponentRequest.result_last id body)) answer = queue ++ option_to_list (queued_for 0 (Request.component (ComponentRequest.result_last id body)))
+queue_by_request queue (Request.component (ComponentRequest.result_more id body)) answer = queue ++ option_to_list (queued_for 0 (Request.component (ComponentRequest.result_more id body)))
+queue_by_request queue (Request.component (ComponentRequest.error_back id code parameter)) answer = queue ++ option_to_list (queued_for 0 (Request.component (ComponentRequest.error_back id code parameter)))
+queue_by_request queue (Request.component (ComponentRequest.u_reject id problem)) answer = queue ++ option_to_list (queued_for 0 (Request.component (ComponentRequest.u_reject id problem)))
+queue_by_request queue (Request.component (ComponentRequest.u_cancel id)) answer = queue_after_cancel answer queue
+queue_by_request queue (Request.dialogue (DialogueRequest.uni context info)) answer = []
+queue_by_request queue (Request.dialogue (DialogueRequest.begin context info)) answer = []
+queue_by_request queue (Request.dialogue (DialogueRequest.go_on context info)) answer = []
+queue_by_request queue (Request.dialogue (DialogueRequest.finish Ending.basic context info)) answer = []
+queue_by_request queue (Request.dialogue (DialogueRequest.finish Ending.prearranged context info)) answer = queue
+queue_by_request queue (Request.dialogue (DialogueRequest.u_abort why info)) answer = queue
 
 -- A refused request changes nothing (own).
 abbrev pub queue_if_accepted : Bool → List Queued → Request → Answer → List Queued

@@ -16,12 +16,12 @@ use Rattle.tcap_model.specs.Histories.History.{History}
 use Rattle.tcap_model.specs.Invocations.Invocation.{Invocation, invocations, next_number}
 use Rattle.tcap_model.specs.Histories.Life.{Life, life, live_in}
 use Rattle.tcap_model.specs.Invocations.Outcome.{first_closing, is_sent_in}
-use Rattle.tcap_model.specs.Words.Output.{Output, Closing, AbortCause}
+use Rattle.tcap_model.specs.Words.Output.{Output, Closing, AbortCause, ComponentIndication, DialogueIndication}
 use Rattle.tcap_model.specs.Histories.Pair.{Past}
 use Rattle.tcap_model.specs.Procedures.PortionRules.{PortionVerdict, portion_verdict}
 use Rattle.tcap_model.specs.Replies.Queue.{marks_up_to, handled_in}
 use Rattle.tcap_model.specs.Procedures.Reception.{Reception, reception}
-use Rattle.tcap_model.specs.Words.Request.{Request}
+use Rattle.tcap_model.specs.Words.Request.{Request, ComponentRequest, DialogueRequest}
 use Rattle.tcap_model.specs.Procedures.RequestMessage.{message_of}
 use Rattle.tcap_model.specs.Invocations.Span.{span}
 use Rattle.tcap_model.specs.Procedures.Standing.{Standing}
@@ -35,7 +35,7 @@ use Rattle.tcap_model.specs.Words.Time.{moment_fault}
 abbrev pub ended_of : ℕ → Past → List Item → Invocation → Option Output
 ended_of dialogue past components i =
     if (i.dialogue == dialogue) && is_none (first_closing i.class i.timeout (marks_up_to past components i))
-    then Some (Output.closed dialogue i.number i.id Closing.ended) else None
+    then Some (Output.component (ComponentIndication.closed dialogue i.number i.id Closing.ended)) else None
 
 -- All that are, by number (Q.774, Component handling).
 abbrev pub ended_in : ℕ → Past → List Item → List Output
@@ -56,17 +56,17 @@ last_answer dialogue past message = Answer.outputs (sent_if_any message ++ ended
 
 -- The answer to a request for which no fault is due (Q.774, Component handling; Q.774, Dialogue control).
 abbrev pub accepted_answer : History → Standing → Request → Answer
-accepted_answer h d (Request.invoke id class code parameter linked timeout) = Answer.number (next_number h)
-accepted_answer h d (Request.result_last id body) = Answer.done
-accepted_answer h d (Request.result_more id body) = Answer.done
-accepted_answer h d (Request.error_back id code parameter) = Answer.done
-accepted_answer h d (Request.u_reject id problem) = Answer.done
-accepted_answer h d (Request.u_cancel id) = given_up_answer (pending d.identifier id h.pairs)
-accepted_answer h d (Request.uni context info) = last_answer d.identifier h.pairs (message_of d (Request.uni context info))
-accepted_answer h d (Request.begin context info) = Answer.outputs (sent_if_any (message_of d (Request.begin context info)))
-accepted_answer h d (Request.go_on context info) = Answer.outputs (sent_if_any (message_of d (Request.go_on context info)))
-accepted_answer h d (Request.finish ending context info) = last_answer d.identifier h.pairs (message_of d (Request.finish ending context info))
-accepted_answer h d (Request.u_abort why info) = last_answer d.identifier h.pairs (message_of d (Request.u_abort why info))
+accepted_answer h d (Request.component (ComponentRequest.invoke id class code parameter linked timeout)) = Answer.number (next_number h)
+accepted_answer h d (Request.component (ComponentRequest.result_last id body)) = Answer.done
+accepted_answer h d (Request.component (ComponentRequest.result_more id body)) = Answer.done
+accepted_answer h d (Request.component (ComponentRequest.error_back id code parameter)) = Answer.done
+accepted_answer h d (Request.component (ComponentRequest.u_reject id problem)) = Answer.done
+accepted_answer h d (Request.component (ComponentRequest.u_cancel id)) = given_up_answer (pending d.identifier id h.pairs)
+accepted_answer h d (Request.dialogue (DialogueRequest.uni context info)) = last_answer d.identifier h.pairs (message_of d (Request.dialogue (DialogueRequest.uni context info)))
+accepted_answer h d (Request.dialogue (DialogueRequest.begin context info)) = Answer.outputs (sent_if_any (message_of d (Request.dialogue (DialogueRequest.begin context info))))
+accepted_answer h d (Request.dialogue (DialogueRequest.go_on context info)) = Answer.outputs (sent_if_any (message_of d (Request.dialogue (DialogueRequest.go_on context info))))
+accepted_answer h d (Request.dialogue (DialogueRequest.finish ending context info)) = last_answer d.identifier h.pairs (message_of d (Request.dialogue (DialogueRequest.finish ending context info)))
+accepted_answer h d (Request.dialogue (DialogueRequest.u_abort why info)) = last_answer d.identifier h.pairs (message_of d (Request.dialogue (DialogueRequest.u_abort why info)))
 
 -- The answer to a request, by the fault that is due (own).
 abbrev pub request_answer : History → ℕ → Request → Life → Option Fault → Answer
@@ -81,16 +81,16 @@ request_answer h dialogue request (Life.standing state context) None = accepted_
 -- (Q.774, Dialogue continuation; Q.774, Abnormal procedures relating to dialogue control).
 abbrev pub continue_outputs : ℕ → Past → State → List ℕ → List ℕ → PortionVerdict → List Output
 continue_outputs dialogue past state origin components (PortionVerdict.normal context info) =
-    Output.go_on dialogue context info ∷ told_of (handled_in dialogue past components)
+    Output.dialogue (DialogueIndication.go_on dialogue context info) ∷ told_of (handled_in dialogue past components)
 continue_outputs dialogue past state origin components PortionVerdict.abnormal =
-    abnormal_abort (peer_by state origin) ∷ Output.p_abort dialogue AbortCause.abnormal ∷ ended_in dialogue past []
+    abnormal_abort (peer_by state origin) ∷ Output.dialogue (DialogueIndication.p_abort dialogue AbortCause.abnormal) ∷ ended_in dialogue past []
 
 -- An End to a live dialogue is told with its components, or it is abnormal; the dialogue is over
 -- (Q.774, Dialogue end; Q.774, Abnormal procedures relating to dialogue control).
 abbrev pub end_outputs : ℕ → Past → List ℕ → PortionVerdict → List Output
 end_outputs dialogue past components (PortionVerdict.normal context info) =
-    Output.end dialogue context info ∷ told_of (handled_in dialogue past components) ++ ended_in dialogue past (components_of components)
-end_outputs dialogue past components PortionVerdict.abnormal = Output.p_abort dialogue AbortCause.abnormal ∷ ended_in dialogue past []
+    Output.dialogue (DialogueIndication.end dialogue context info) ∷ told_of (handled_in dialogue past components) ++ ended_in dialogue past (components_of components)
+end_outputs dialogue past components PortionVerdict.abnormal = Output.dialogue (DialogueIndication.p_abort dialogue AbortCause.abnormal) ∷ ended_in dialogue past []
 
 -- What a message to a live dialogue gives; a Unidirectional and a Begin are to none
 -- (Q.774, Transaction sublayer procedures).
@@ -111,12 +111,12 @@ taken_outputs dialogue past Life.over message = []
 abbrev pub reception_outputs : History → Reception → List Output
 reception_outputs h (Reception.dropped why) = Output.dropped why ∷ []
 reception_outputs h (Reception.aborted abort) = abort ∷ []
-reception_outputs h (Reception.unidirectional context info components) = Output.uni context info ∷ uni_told (components_of components)
+reception_outputs h (Reception.unidirectional context info components) = Output.dialogue (DialogueIndication.uni context info) ∷ uni_told (components_of components)
 reception_outputs h (Reception.begun origin context info components) =
-    Output.begin (next_dialogue h) context info ∷ told_of (handled_in (next_dialogue h) h.pairs components)
+    Output.dialogue (DialogueIndication.begin (next_dialogue h) context info) ∷ told_of (handled_in (next_dialogue h) h.pairs components)
 reception_outputs h (Reception.taken dialogue message) = taken_outputs dialogue h.pairs (life dialogue h.pairs) message
 reception_outputs h (Reception.broken dialogue abort cause) =
-    option_to_list abort ++ Output.p_abort dialogue (AbortCause.cause cause) ∷ ended_in dialogue h.pairs []
+    option_to_list abort ++ Output.dialogue (DialogueIndication.p_abort dialogue (AbortCause.cause cause)) ∷ ended_in dialogue h.pairs []
 
 -- ---- moments
 
@@ -151,7 +151,7 @@ lapsing_at past now i = lapsing_by now (is_sent_in i.class i.timeout (span i pas
 
 -- What is told of a lapse: TC-L-CANCEL (Q.774, Invocation timer).
 abbrev pub lapse_told : Lapsing → Output
-lapse_told l = Output.closed l.invocation.dialogue l.invocation.number l.invocation.id Closing.lapsed
+lapse_told l = Output.component (ComponentIndication.closed l.invocation.dialogue l.invocation.number l.invocation.id Closing.lapsed)
 
 -- What lapses at a moment, in the order in which it is told (Q.774, Invocation timer).
 abbrev pub lapses : Past → ℕ → List Output

@@ -42,17 +42,8 @@ side engine (m ∷ trace) = if is_engine engine m.engine then m.pair ∷ side en
 -- Whether an output sends these bytes (own).
 abbrev pub is_send : List ℕ → Output → Bool
 is_send bytes (Output.send sent) = bytes_eq sent bytes
-is_send bytes (Output.uni context info) = false
-is_send bytes (Output.begin dialogue context info) = false
-is_send bytes (Output.go_on dialogue context info) = false
-is_send bytes (Output.end dialogue context info) = false
-is_send bytes (Output.u_abort dialogue pdu) = false
-is_send bytes (Output.p_abort dialogue why) = false
-is_send bytes (Output.invoked dialogue id linked code parameter) = false
-is_send bytes (Output.result_more dialogue number id body) = false
-is_send bytes (Output.local_reject dialogue id problem) = false
-is_send bytes (Output.remote_reject dialogue id problem by) = false
-is_send bytes (Output.closed dialogue number id closing) = false
+is_send bytes (Output.dialogue indication) = false
+is_send bytes (Output.component indication) = false
 is_send bytes (Output.dropped why) = false
 
 -- Whether an answer sends these bytes (own).

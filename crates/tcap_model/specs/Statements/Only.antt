@@ -5,23 +5,23 @@ use Rattle.tcap_model.specs.Histories.Birth.{is_birth_of, was_born}
 use Rattle.tcap_model.specs.Words.Event.{Event}
 use Rattle.tcap_model.specs.Words.LocalId.{is_that}
 use Rattle.tcap_model.specs.Histories.Names.{names}
-use Rattle.tcap_model.specs.Words.Output.{Output}
+use Rattle.tcap_model.specs.Words.Output.{Output, ComponentIndication, DialogueIndication}
 use Rattle.tcap_model.specs.Histories.Pair.{Pair, Past}
 
 -- The dialogue of an output (own).
 abbrev pub dialogue_of : Output → Option ℕ
 dialogue_of (Output.send bytes) = None
-dialogue_of (Output.uni context info) = None
-dialogue_of (Output.begin dialogue context info) = Some dialogue
-dialogue_of (Output.go_on dialogue context info) = Some dialogue
-dialogue_of (Output.end dialogue context info) = Some dialogue
-dialogue_of (Output.u_abort dialogue pdu) = Some dialogue
-dialogue_of (Output.p_abort dialogue why) = Some dialogue
-dialogue_of (Output.invoked dialogue id linked code parameter) = dialogue
-dialogue_of (Output.result_more dialogue number id body) = Some dialogue
-dialogue_of (Output.local_reject dialogue id problem) = dialogue
-dialogue_of (Output.remote_reject dialogue id problem by) = dialogue
-dialogue_of (Output.closed dialogue number id closing) = Some dialogue
+dialogue_of (Output.dialogue (DialogueIndication.uni context info)) = None
+dialogue_of (Output.dialogue (DialogueIndication.begin dialogue context info)) = Some dialogue
+dialogue_of (Output.dialogue (DialogueIndication.go_on dialogue context info)) = Some dialogue
+dialogue_of (Output.dialogue (DialogueIndication.end dialogue context info)) = Some dialogue
+dialogue_of (Output.dialogue (DialogueIndication.u_abort dialogue pdu)) = Some dialogue
+dialogue_of (Output.dialogue (DialogueIndication.p_abort dialogue why)) = Some dialogue
+dialogue_of (Output.component (ComponentIndication.invoked dialogue id linked code parameter)) = dialogue
+dialogue_of (Output.component (ComponentIndication.result_more dialogue number id body)) = Some dialogue
+dialogue_of (Output.component (ComponentIndication.local_reject dialogue id problem)) = dialogue
+dialogue_of (Output.component (ComponentIndication.remote_reject dialogue id problem by)) = dialogue
+dialogue_of (Output.component (ComponentIndication.closed dialogue number id closing)) = Some dialogue
 dialogue_of (Output.dropped why) = None
 
 -- Whether an output is one of the dialogue (own).

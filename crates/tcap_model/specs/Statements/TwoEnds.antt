@@ -12,10 +12,10 @@ use Rattle.tcap_model.specs.Histories.Life.{Life, life}
 use Rattle.tcap_model.specs.Words.LocalId.{local_id}
 use Rattle.tcap_model.specs.Statements.Net.{Engine, far, Trace, side, Net, IsNet}
 use Rattle.tcap_model.specs.Invocations.Outcome.{was_sent_in}
-use Rattle.tcap_model.specs.Words.Output.{Output, Closing, Rejector}
+use Rattle.tcap_model.specs.Words.Output.{Output, Closing, Rejector, ComponentIndication}
 use Rattle.tcap_model.specs.Histories.Pair.{Pair, Past}
 use Rattle.tcap_model.specs.Statements.Places.{StandsIn, Tells}
-use Rattle.tcap_model.specs.Words.Request.{Request}
+use Rattle.tcap_model.specs.Words.Request.{Request, ComponentRequest}
 use Rattle.tcap_model.specs.Invocations.Span.{span}
 use Rattle.tcap_model.specs.Words.State.{peer_of}
 
@@ -35,10 +35,10 @@ peer_in Life.over = None
 -- An indication of an answer to the invocation of this number in this dialogue, and the request that
 -- the far user makes for it (Q.771, Component handling).
 pub data IsAnswer (dialogue number : ℕ) (id : ℤ) : Output → Request → Type 0 where
-  a_result_last : (body : Option BodyParts) → IsAnswer dialogue number id (Output.closed dialogue number id (Closing.result_last body)) (Request.result_last id body)
-  a_result_more : (body : Option BodyParts) → IsAnswer dialogue number id (Output.result_more dialogue number id body) (Request.result_more id body)
-  an_error : (code : CodeParts) (parameter : Option (List ℕ)) → IsAnswer dialogue number id (Output.closed dialogue number id (Closing.error_back code parameter)) (Request.error_back id code parameter)
-  a_reject : (problem : ProblemParts) → IsAnswer dialogue number id (Output.closed dialogue number id (Closing.rejected problem Rejector.remote_user)) (Request.u_reject (Some id) problem)
+  a_result_last : (body : Option BodyParts) → IsAnswer dialogue number id (Output.component (ComponentIndication.closed dialogue number id (Closing.result_last body))) (Request.component (ComponentRequest.result_last id body))
+  a_result_more : (body : Option BodyParts) → IsAnswer dialogue number id (Output.component (ComponentIndication.result_more dialogue number id body)) (Request.component (ComponentRequest.result_more id body))
+  an_error : (code : CodeParts) (parameter : Option (List ℕ)) → IsAnswer dialogue number id (Output.component (ComponentIndication.closed dialogue number id (Closing.error_back code parameter))) (Request.component (ComponentRequest.error_back id code parameter))
+  a_reject : (problem : ProblemParts) → IsAnswer dialogue number id (Output.component (ComponentIndication.closed dialogue number id (Closing.rejected problem Rejector.remote_user))) (Request.component (ComponentRequest.u_reject (Some id) problem))
 
 -- A request was accepted by the far engine, in a dialogue whose peer's identifier is the four octets of
 -- this dialogue (own).
@@ -73,11 +73,11 @@ UsesOnce engine dialogue trace =
 -- The requests that answer an Invoke: results, errors, and Rejects of the Invoke
 -- (Q.771, Component handling).
 pub data AnswersInvoke (id : ℤ) : Request → Type 0 where
-  a_result_last : (body : Option BodyParts) → AnswersInvoke id (Request.result_last id body)
-  a_result_more : (body : Option BodyParts) → AnswersInvoke id (Request.result_more id body)
-  an_error : (code : CodeParts) (parameter : Option (List ℕ)) → AnswersInvoke id (Request.error_back id code parameter)
-  a_general_reject : (code : ℕ) → AnswersInvoke id (Request.u_reject (Some id) (record { kind = kind.General; code = code }))
-  an_invoke_reject : (code : ℕ) → AnswersInvoke id (Request.u_reject (Some id) (record { kind = kind.Invoke; code = code }))
+  a_result_last : (body : Option BodyParts) → AnswersInvoke id (Request.component (ComponentRequest.result_last id body))
+  a_result_more : (body : Option BodyParts) → AnswersInvoke id (Request.component (ComponentRequest.result_more id body))
+  an_error : (code : CodeParts) (parameter : Option (List ℕ)) → AnswersInvoke id (Request.component (ComponentRequest.error_back id code parameter))
+  a_general_reject : (code : ℕ) → AnswersInvoke id (Request.component (ComponentRequest.u_reject (Some id) (record { kind = kind.General; code = code })))
+  an_invoke_reject : (code : ℕ) → AnswersInvoke id (Request.component (ComponentRequest.u_reject (Some id) (record { kind = kind.Invoke; code = code })))
 
 -- An Invoke with this identifier was told in this dialogue before (own).
 pub record WasInvoked (dialogue : ℕ) (id : ℤ) (past : Past) : Type 0 where
@@ -87,7 +87,7 @@ pub record WasInvoked (dialogue : ℕ) (id : ℤ) (past : Past) : Type 0 where
   pub code : CodeParts
   pub parameter : Option (List ℕ)
   pub stands : StandsIn pair before past
-  pub tells : Tells pair.answer (Output.invoked (Some dialogue) id linked code parameter)
+  pub tells : Tells pair.answer (Output.component (ComponentIndication.invoked (Some dialogue) id linked code parameter))
 
 -- Premise 2: the user of an engine answers only what it was told (own).
 abbrev pub AnswersWhatItWasTold : Engine → Trace → Type 0
@@ -136,7 +136,7 @@ pub record WasAsked (id : ℤ) (linked : Option ℤ) (code : CodeParts) (paramet
   pub timeout : ℕ
   pub number : ℕ
   pub stands : StandsIn pair before past
-  pub is_event : pair.event ≡ Event.on_dialogue dialogue (Request.invoke id class code parameter linked timeout)
+  pub is_event : pair.event ≡ Event.on_dialogue dialogue (Request.component (ComponentRequest.invoke id class code parameter linked timeout))
   pub is_answer : pair.answer ≡ Answer.number number
   pub was_sent : WasSent number past
 
@@ -145,7 +145,7 @@ pub record WasAsked (id : ℤ) (linked : Option ℤ) (code : CodeParts) (paramet
 abbrev pub Operations : Trace → Type 0
 Operations trace =
     (engine : Engine) (pair : Pair) (before : Trace) (dialogue : Option ℕ) (id : ℤ) (linked : Option ℤ) (code : CodeParts) (parameter : Option (List ℕ)) →
-    Happens engine pair before trace → Tells pair.answer (Output.invoked dialogue id linked code parameter) →
+    Happens engine pair before trace → Tells pair.answer (Output.component (ComponentIndication.invoked dialogue id linked code parameter)) →
     WasAsked id linked code parameter (side (far engine) before)
 
 -- ---- the statement

@@ -8,7 +8,7 @@ use Rattle.tcap_model.specs.Invocations.Invocation.{next_number}
 use Rattle.tcap_model.specs.Histories.Pair.{Pair}
 use Rattle.tcap_model.specs.Procedures.QueueRules.{queue_limit}
 use Rattle.tcap_model.specs.Replies.Reply.{reply}
-use Rattle.tcap_model.specs.Words.Request.{Request}
+use Rattle.tcap_model.specs.Words.Request.{Request, DialogueRequest}
 use Rattle.tcap_model.specs.Table.TableMove.{Setting, Moved}
 
 -- What is around a dialogue at a history (own).
@@ -18,17 +18,12 @@ setting_at h = record { clock = clock h.pairs; number = next_number h; limit = q
 -- Whether a request, where it is accepted, leaves its dialogue standing
 -- (Q.774, Transaction state machine).
 abbrev pub leaves_standing : Request → Bool
-leaves_standing (Request.invoke id class code parameter linked timeout) = true
-leaves_standing (Request.result_last id body) = true
-leaves_standing (Request.result_more id body) = true
-leaves_standing (Request.error_back id code parameter) = true
-leaves_standing (Request.u_reject id problem) = true
-leaves_standing (Request.u_cancel id) = true
-leaves_standing (Request.uni context info) = false
-leaves_standing (Request.begin context info) = true
-leaves_standing (Request.go_on context info) = true
-leaves_standing (Request.finish ending context info) = false
-leaves_standing (Request.u_abort why info) = false
+leaves_standing (Request.component asked) = true
+leaves_standing (Request.dialogue (DialogueRequest.uni context info)) = false
+leaves_standing (Request.dialogue (DialogueRequest.begin context info)) = true
+leaves_standing (Request.dialogue (DialogueRequest.go_on context info)) = true
+leaves_standing (Request.dialogue (DialogueRequest.finish ending context info)) = false
+leaves_standing (Request.dialogue (DialogueRequest.u_abort why info)) = false
 
 -- An event with the answer that is due to it (own).
 abbrev pub due_pair : History → Event → Pair

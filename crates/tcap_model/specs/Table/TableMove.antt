@@ -13,10 +13,10 @@ use Rattle.tcap_invocation.specs.Answers.{after_received, after_reject}
 use Rattle.tcap_invocation.specs.Closing.{given_up_at, after_give_up, after_free_wait, ended_at}
 use Rattle.tcap_invocation.specs.Lapses.{told_at, after_lapse}
 use Rattle.tcap_model.specs.Words.Answer.{Answer}
-use Rattle.tcap_model.specs.Words.Output.{Output, Closing, AbortCause}
+use Rattle.tcap_model.specs.Words.Output.{Output, Closing, AbortCause, ComponentIndication, DialogueIndication}
 use Rattle.tcap_model.specs.Words.Fault.{Fault}
 use Rattle.tcap_model.specs.Words.State.{State, activated, peer_by}
-use Rattle.tcap_model.specs.Words.Request.{Request}
+use Rattle.tcap_model.specs.Words.Request.{Request, ComponentRequest, DialogueRequest}
 use Rattle.tcap_model.specs.Procedures.QueueRules.{Queued, queued, queue_each, without_invoke}
 use Rattle.tcap_model.specs.Procedures.ComponentRequest.{identifier_of, queued_for}
 use Rattle.tcap_model.specs.Procedures.RequestMessage.{message_of}
@@ -89,7 +89,7 @@ walked_in clock d components = walked d.standing.identifier clock d.invocations 
 
 -- Each invocation that is Queued or Sent is told as ended, by number (Q.774, Component handling).
 abbrev pub ended_told : ℕ → InvocationList → List Output
-ended_told dialogue list = map (λ e. Output.closed dialogue e.0 e.1 Closing.ended) (ended_at list.rows)
+ended_told dialogue list = map (λ e. Output.component (ComponentIndication.closed dialogue e.0 e.1 Closing.ended)) (ended_at list.rows)
 
 -- A dialogue that is over: nothing is queued, and no invocation is left (own).
 abbrev pub closed_dialogue : Dialogue → Dialogue
@@ -134,21 +134,21 @@ giving_up d id (Some number) =
 
 -- A request that is accepted (Q.774, Component handling; Q.774, Dialogue control).
 abbrev pub accepted : Setting → Dialogue → Request → Moved
-accepted s d (Request.invoke id class code parameter linked timeout) =
-    answering (with_queued (with_invocations d (added d.invocations id s.number class timeout)) (queued_for s.number (Request.invoke id class code parameter linked timeout))) (Answer.number s.number)
-accepted s d (Request.result_last id body) = answering (with_queued d (queued_for s.number (Request.result_last id body))) Answer.done
-accepted s d (Request.result_more id body) = answering (with_queued d (queued_for s.number (Request.result_more id body))) Answer.done
-accepted s d (Request.error_back id code parameter) = answering (with_queued d (queued_for s.number (Request.error_back id code parameter))) Answer.done
-accepted s d (Request.u_reject id problem) =
-    answering (with_queued (with_invocations d (freed_by d.invocations id problem.kind)) (queued_for s.number (Request.u_reject id problem))) Answer.done
-accepted s d (Request.u_cancel id) = giving_up d id (given_up_at d.invocations.rows id)
-accepted s d (Request.uni context info) = over_with d (sent_if_any (message_of d.standing (Request.uni context info))) d.invocations
-accepted s d (Request.begin context info) =
-    answering (in_context (in_state (gone_out s d) State.sent) context) (Answer.outputs (sent_if_any (message_of d.standing (Request.begin context info))))
-accepted s d (Request.go_on context info) =
-    answering (in_state (gone_out s d) (activated d.standing.state)) (Answer.outputs (sent_if_any (message_of d.standing (Request.go_on context info))))
-accepted s d (Request.finish ending context info) = over_with d (sent_if_any (message_of d.standing (Request.finish ending context info))) d.invocations
-accepted s d (Request.u_abort why info) = over_with d (sent_if_any (message_of d.standing (Request.u_abort why info))) d.invocations
+accepted s d (Request.component (ComponentRequest.invoke id class code parameter linked timeout)) =
+    answering (with_queued (with_invocations d (added d.invocations id s.number class timeout)) (queued_for s.number (Request.component (ComponentRequest.invoke id class code parameter linked timeout)))) (Answer.number s.number)
+accepted s d (Request.component (ComponentRequest.result_last id body)) = answering (with_queued d (queued_for s.number (Request.component (ComponentRequest.result_last id body)))) Answer.done
+accepted s d (Request.component (ComponentRequest.result_more id body)) = answering (with_queued d (queued_for s.number (Request.component (ComponentRequest.result_more id body)))) Answer.done
+accepted s d (Request.component (ComponentRequest.error_back id code parameter)) = answering (with_queued d (queued_for s.number (Request.component (ComponentRequest.error_back id code parameter)))) Answer.done
+accepted s d (Request.component (ComponentRequest.u_reject id problem)) =
+    answering (with_queued (with_invocations d (freed_by d.invocations id problem.kind)) (queued_for s.number (Request.component (ComponentRequest.u_reject id problem)))) Answer.done
+accepted s d (Request.component (ComponentRequest.u_cancel id)) = giving_up d id (given_up_at d.invocations.rows id)
+accepted s d (Request.dialogue (DialogueRequest.uni context info)) = over_with d (sent_if_any (message_of d.standing (Request.dialogue (DialogueRequest.uni context info)))) d.invocations
+accepted s d (Request.dialogue (DialogueRequest.begin context info)) =
+    answering (in_context (in_state (gone_out s d) State.sent) context) (Answer.outputs (sent_if_any (message_of d.standing (Request.dialogue (DialogueRequest.begin context info)))))
+accepted s d (Request.dialogue (DialogueRequest.go_on context info)) =
+    answering (in_state (gone_out s d) (activated d.standing.state)) (Answer.outputs (sent_if_any (message_of d.standing (Request.dialogue (DialogueRequest.go_on context info)))))
+accepted s d (Request.dialogue (DialogueRequest.finish ending context info)) = over_with d (sent_if_any (message_of d.standing (Request.dialogue (DialogueRequest.finish ending context info)))) d.invocations
+accepted s d (Request.dialogue (DialogueRequest.u_abort why info)) = over_with d (sent_if_any (message_of d.standing (Request.dialogue (DialogueRequest.u_abort why info)))) d.invocations
 
 -- Whether an identifier is in use, by the rows (Q.774, Invocation state machine).
 abbrev pub in_use_by_rows : InvocationList → Option ℤ → Bool
@@ -183,18 +183,18 @@ requested_by s d r None = accepted s d r
 -- (Q.774, Dialogue continuation; Q.774, Abnormal procedures relating to dialogue control).
 abbrev pub continued_by : Setting → Dialogue → List ℕ → PortionVerdict → Walked → Moved
 continued_by s d origin (PortionVerdict.normal context info) w = record {
-  answer = Answer.outputs (Output.go_on d.standing.identifier context info ∷ w.told);
+  answer = Answer.outputs (Output.dialogue (DialogueIndication.go_on d.standing.identifier context info) ∷ w.told);
   after = with_queue (with_invocations (in_state d (State.active (peer_by d.standing.state origin))) w.invocations) (queue_each s.limit d.standing.queue w.rejects);
   is_over = false;
 }
 continued_by s d origin PortionVerdict.abnormal w =
-    over_with d (abnormal_abort (peer_by d.standing.state origin) ∷ Output.p_abort d.standing.identifier AbortCause.abnormal ∷ []) d.invocations
+    over_with d (abnormal_abort (peer_by d.standing.state origin) ∷ Output.dialogue (DialogueIndication.p_abort d.standing.identifier AbortCause.abnormal) ∷ []) d.invocations
 
 -- An End is told with its components, whose Rejects don't go out, or it is abnormal; the dialogue is
 -- over (Q.774, Dialogue end; Q.774, Abnormal procedures relating to dialogue control).
 abbrev pub ended_by : Dialogue → PortionVerdict → Walked → Moved
-ended_by d (PortionVerdict.normal context info) w = over_with d (Output.end d.standing.identifier context info ∷ w.told) w.invocations
-ended_by d PortionVerdict.abnormal w = over_with d (Output.p_abort d.standing.identifier AbortCause.abnormal ∷ []) d.invocations
+ended_by d (PortionVerdict.normal context info) w = over_with d (Output.dialogue (DialogueIndication.end d.standing.identifier context info) ∷ w.told) w.invocations
+ended_by d PortionVerdict.abnormal w = over_with d (Output.dialogue (DialogueIndication.p_abort d.standing.identifier AbortCause.abnormal) ∷ []) d.invocations
 
 -- A message to a dialogue that is live; a Unidirectional and a Begin are never to one
 -- (Q.774, Transaction sublayer procedures).
@@ -209,7 +209,7 @@ framed s d (Message.abort to reason) = over_with d (abort_told d.standing.identi
 -- queued (Q.774, Dialogue begin).
 abbrev pub begun_with : Setting → ℕ → ℕ → List ℕ → Option (List ℕ) → List ℕ → Walked → Moved
 begun_with s identifier reject_ms origin context info w = record {
-  answer = Answer.outputs (Output.begin identifier context info ∷ w.told);
+  answer = Answer.outputs (Output.dialogue (DialogueIndication.begin identifier context info) ∷ w.told);
   after = with_queue (in_context (in_state (with_invocations (fresh_dialogue identifier reject_ms) w.invocations) (State.received origin)) context) (queue_each s.limit [] w.rejects);
   is_over = false;
 }
@@ -223,7 +223,7 @@ born s identifier reject_ms origin context info components =
 
 -- An invocation whose timer ran out is told (Q.774, Invocation timer).
 abbrev pub row_lapse_told : ℕ → Lapse → Output
-row_lapse_told dialogue l = Output.closed dialogue l.number l.id Closing.lapsed
+row_lapse_told dialogue l = Output.component (ComponentIndication.closed dialogue l.number l.id Closing.lapsed)
 
 -- What lapses at a moment is told, and each identifier that has waited is free
 -- (Q.774, Invocation timer; Q.774, Reject timer).
@@ -234,5 +234,5 @@ lapsed d now = answering (with_invocations d (after_lapse d.invocations now)) (A
 unfoldable pub table_move : Setting → Dialogue → DialogueEvent → Moved
 table_move s d (DialogueEvent.request r) = requested_by s d r (due_on (situation s d r) r)
 table_move s d (DialogueEvent.frame m) = framed s d m
-table_move s d (DialogueEvent.fault cause) = over_with d (Output.p_abort d.standing.identifier (AbortCause.cause cause) ∷ []) d.invocations
+table_move s d (DialogueEvent.fault cause) = over_with d (Output.dialogue (DialogueIndication.p_abort d.standing.identifier (AbortCause.cause cause)) ∷ []) d.invocations
 table_move s d (DialogueEvent.moment now) = lapsed d now

@@ -4,7 +4,7 @@ use Rattle.std.specs.List.{list_all}
 use Rattle.tcap_component.specs.Problem.{ProblemParts, problem_limit}
 use Rattle.tcap_component.specs.Component.{CodeParts, BodyParts}
 use Rattle.tcap_component.specs.Component.CodeParts.{local, global}
-use Rattle.tcap_model.specs.Words.Request.{Request}
+use Rattle.tcap_model.specs.Words.Request.{Request, ComponentRequest, DialogueRequest}
 use Rattle.tcap_model.specs.Words.Event.{Event}
 use Rattle.tcap_model.specs.Words.Event.Event.{new_dialogue, on_dialogue, received, moment}
 
@@ -50,17 +50,17 @@ is_short n = nat_lt n (2 ^ 32)
 
 -- The numbers of a request are those that its types hold (own).
 abbrev pub is_request : Request → Bool
-is_request (Request.invoke id class code parameter linked timeout) = is_identifier id && is_code code && are_octets_if_any parameter && is_identifier_if_any linked && is_long timeout
-is_request (Request.result_last id body) = is_identifier id && is_body body
-is_request (Request.result_more id body) = is_identifier id && is_body body
-is_request (Request.error_back id code parameter) = is_identifier id && is_code code && are_octets_if_any parameter
-is_request (Request.u_reject id problem) = is_identifier_if_any id && is_problem problem
-is_request (Request.u_cancel id) = is_identifier id
-is_request (Request.uni context info) = are_octets_if_any context && are_octets info
-is_request (Request.begin context info) = are_octets_if_any context && are_octets info
-is_request (Request.go_on context info) = are_octets_if_any context && are_octets info
-is_request (Request.finish ending context info) = are_octets_if_any context && are_octets info
-is_request (Request.u_abort why info) = are_octets info
+is_request (Request.component (ComponentRequest.invoke id class code parameter linked timeout)) = is_identifier id && is_code code && are_octets_if_any parameter && is_identifier_if_any linked && is_long timeout
+is_request (Request.component (ComponentRequest.result_last id body)) = is_identifier id && is_body body
+is_request (Request.component (ComponentRequest.result_more id body)) = is_identifier id && is_body body
+is_request (Request.component (ComponentRequest.error_back id code parameter)) = is_identifier id && is_code code && are_octets_if_any parameter
+is_request (Request.component (ComponentRequest.u_reject id problem)) = is_identifier_if_any id && is_problem problem
+is_request (Request.component (ComponentRequest.u_cancel id)) = is_identifier id
+is_request (Request.dialogue (DialogueRequest.uni context info)) = are_octets_if_any context && are_octets info
+is_request (Request.dialogue (DialogueRequest.begin context info)) = are_octets_if_any context && are_octets info
+is_request (Request.dialogue (DialogueRequest.go_on context info)) = are_octets_if_any context && are_octets info
+is_request (Request.dialogue (DialogueRequest.finish ending context info)) = are_octets_if_any context && are_octets info
+is_request (Request.dialogue (DialogueRequest.u_abort why info)) = are_octets info
 
 -- The numbers of an event are those that its types hold (own).
 abbrev pub is_in_range : Event → Bool

@@ -35,30 +35,37 @@ pub data Closing : Type 0 where
   ended : Closing
   given_up : Closing
 
--- What is sent and told. A dialogue is named by its identifier, an invocation by its number and its
--- invoke identifier; a Unidirectional has no dialogue
--- (Q.771, Component handling; Q.771, Dialogue handling).
-pub data Output : Type 0 where
-  -- a message goes to the peer
-  send : (bytes : List ℕ) → Output
-  -- TC-UNI, TC-BEGIN, TC-CONTINUE, TC-END
-  uni : (context : Option (List ℕ)) (info : List ℕ) → Output
-  begin : (dialogue : ℕ) (context : Option (List ℕ)) (info : List ℕ) → Output
-  go_on : (dialogue : ℕ) (context : Option (List ℕ)) (info : List ℕ) → Output
-  end : (dialogue : ℕ) (context : Option (List ℕ)) (info : List ℕ) → Output
-  -- TC-U-ABORT
-  u_abort : (dialogue : ℕ) (pdu : Option PduValue) → Output
-  -- TC-P-ABORT
-  p_abort : (dialogue : ℕ) (why : AbortCause) → Output
+-- The indications of component handling. A dialogue is named by its identifier, an invocation by its
+-- number and its invoke identifier; in a Unidirectional there is no dialogue
+-- (Q.771, Component handling).
+pub data ComponentIndication : Type 0 where
   -- TC-INVOKE
-  invoked : (dialogue : Option ℕ) (id : ℤ) (linked : Option ℤ) (code : CodeParts) (parameter : Option (List ℕ)) → Output
+  invoked : (dialogue : Option ℕ) (id : ℤ) (linked : Option ℤ) (code : CodeParts) (parameter : Option (List ℕ)) → ComponentIndication
   -- TC-RESULT-NL
-  result_more : (dialogue number : ℕ) (id : ℤ) (body : Option BodyParts) → Output
+  result_more : (dialogue number : ℕ) (id : ℤ) (body : Option BodyParts) → ComponentIndication
   -- TC-L-REJECT of a component that was received
-  local_reject : (dialogue : Option ℕ) (id : Option ℤ) (problem : ProblemParts) → Output
+  local_reject : (dialogue : Option ℕ) (id : Option ℤ) (problem : ProblemParts) → ComponentIndication
   -- TC-U-REJECT or TC-R-REJECT that closes no invocation
-  remote_reject : (dialogue : Option ℕ) (id : Option ℤ) (problem : ProblemParts) (by : Rejector) → Output
+  remote_reject : (dialogue : Option ℕ) (id : Option ℤ) (problem : ProblemParts) (by : Rejector) → ComponentIndication
   -- an invocation is closed
-  closed : (dialogue number : ℕ) (id : ℤ) (closing : Closing) → Output
-  -- a message is dropped
+  closed : (dialogue number : ℕ) (id : ℤ) (closing : Closing) → ComponentIndication
+
+-- The indications of dialogue handling; a Unidirectional has no dialogue (Q.771, Dialogue handling).
+pub data DialogueIndication : Type 0 where
+  -- TC-UNI, TC-BEGIN, TC-CONTINUE, TC-END
+  uni : (context : Option (List ℕ)) (info : List ℕ) → DialogueIndication
+  begin : (dialogue : ℕ) (context : Option (List ℕ)) (info : List ℕ) → DialogueIndication
+  go_on : (dialogue : ℕ) (context : Option (List ℕ)) (info : List ℕ) → DialogueIndication
+  end : (dialogue : ℕ) (context : Option (List ℕ)) (info : List ℕ) → DialogueIndication
+  -- TC-U-ABORT
+  u_abort : (dialogue : ℕ) (pdu : Option PduValue) → DialogueIndication
+  -- TC-P-ABORT
+  p_abort : (dialogue : ℕ) (why : AbortCause) → DialogueIndication
+
+-- What the engine gives: a message to the peer, an indication to the user, or that a message was
+-- dropped (Q.771, Component handling; Q.771, Dialogue handling; that a drop is told is own).
+pub data Output : Type 0 where
+  send : (bytes : List ℕ) → Output
+  dialogue : (told : DialogueIndication) → Output
+  component : (told : ComponentIndication) → Output
   dropped : (why : DropCause) → Output

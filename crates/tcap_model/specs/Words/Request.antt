@@ -16,29 +16,39 @@ pub data AbortReason : Type 0 where
   by_user : AbortReason
   not_supported : AbortReason
 
--- The requests on one dialogue, with their parameters. An application context is given by the
--- contents octets of its object identifier; user information is a list of EXTERNALs, empty where
--- there is none; a timeout is in milliseconds (Q.771, Component handling; Q.771, Dialogue handling).
-pub data Request : Type 0 where
+-- The requests of component handling, with their parameters: an invoke identifier, which a Reject may
+-- lack; a code, a parameter, and where they are one thing a body; the timeout of an Invoke is in
+-- milliseconds (Q.771, Component handling).
+pub data ComponentRequest : Type 0 where
   -- TC-INVOKE
-  invoke : (id : ℤ) (class : Class) (code : CodeParts) (parameter : Option (List ℕ)) (linked : Option ℤ) (timeout : ℕ) → Request
+  invoke : (id : ℤ) (class : Class) (code : CodeParts) (parameter : Option (List ℕ)) (linked : Option ℤ) (timeout : ℕ) → ComponentRequest
   -- TC-RESULT-L
-  result_last : (id : ℤ) (body : Option BodyParts) → Request
+  result_last : (id : ℤ) (body : Option BodyParts) → ComponentRequest
   -- TC-RESULT-NL
-  result_more : (id : ℤ) (body : Option BodyParts) → Request
+  result_more : (id : ℤ) (body : Option BodyParts) → ComponentRequest
   -- TC-U-ERROR
-  error_back : (id : ℤ) (code : CodeParts) (parameter : Option (List ℕ)) → Request
+  error_back : (id : ℤ) (code : CodeParts) (parameter : Option (List ℕ)) → ComponentRequest
   -- TC-U-REJECT
-  u_reject : (id : Option ℤ) (problem : ProblemParts) → Request
+  u_reject : (id : Option ℤ) (problem : ProblemParts) → ComponentRequest
   -- TC-U-CANCEL
-  u_cancel : (id : ℤ) → Request
+  u_cancel : (id : ℤ) → ComponentRequest
+
+-- The requests of dialogue handling, with their parameters: an application context is given by the
+-- contents octets of its object identifier; user information is a list of EXTERNALs, empty where there
+-- is none (Q.771, Dialogue handling).
+pub data DialogueRequest : Type 0 where
   -- TC-UNI
-  uni : (context : Option (List ℕ)) (info : List ℕ) → Request
+  uni : (context : Option (List ℕ)) (info : List ℕ) → DialogueRequest
   -- TC-BEGIN
-  begin : (context : Option (List ℕ)) (info : List ℕ) → Request
+  begin : (context : Option (List ℕ)) (info : List ℕ) → DialogueRequest
   -- TC-CONTINUE
-  go_on : (context : Option (List ℕ)) (info : List ℕ) → Request
+  go_on : (context : Option (List ℕ)) (info : List ℕ) → DialogueRequest
   -- TC-END
-  finish : (ending : Ending) (context : Option (List ℕ)) (info : List ℕ) → Request
+  finish : (ending : Ending) (context : Option (List ℕ)) (info : List ℕ) → DialogueRequest
   -- TC-U-ABORT
-  u_abort : (why : AbortReason) (info : List ℕ) → Request
+  u_abort : (why : AbortReason) (info : List ℕ) → DialogueRequest
+
+-- The requests on one dialogue (Q.771, Component handling; Q.771, Dialogue handling).
+pub data Request : Type 0 where
+  component : (asked : ComponentRequest) → Request
+  dialogue : (asked : DialogueRequest) → Request
