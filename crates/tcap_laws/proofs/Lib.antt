@@ -1,8 +1,10 @@
 mod Births
+mod BoolLemmas
 pub mod CallerLemmas
 mod Decisions
 mod FarEnds
 mod Isolation
+mod ListLemmas
 mod Peers
 mod Queues
 mod Receptions

@@ -9,13 +9,13 @@ use Rattle.tcap_examples.specs.Values.Hex.{hex}
 use Rattle.tcap_model.specs.Words.Output.{Output}
 use Rattle.tcap_model.specs.Words.Request.{Request, ComponentRequest, DialogueRequest}
 use Rattle.tcap_examples.specs.Histories.Worked.{Worked, worked, not_closed}
-use Rattle.tcap_examples.specs.Values.HistoryWords.{dialogue_born, dialogue_refused, invoke_pair, request_pair, received_pair, moment_pair, moment_refused, usual_start}
+use Rattle.tcap_examples.specs.Values.HistoryWords.{dialogue_born, birth_refused, invoke_pair, request_pair, received_pair, moment_pair, moment_refused, usual_start}
 
 -- As many dialogues stand as may: neither the user nor a peer gets one (own).
 abbrev pub dialogues_full : Worked
 dialogues_full = worked (record usual_start { max_dialogues = 1 }) (
     dialogue_born 1
-    ∷ dialogue_refused Fault.dialogues_full
+    ∷ birth_refused Fault.dialogues_full
     ∷ received_pair shown_begin (Output.send (hex 11 0x6709_490400000001_4A0104) ∷ [])
     ∷ [])
     []
@@ -24,7 +24,7 @@ dialogues_full = worked (record usual_start { max_dialogues = 1 }) (
 abbrev pub dialogue_identifiers_spent : Worked
 dialogue_identifiers_spent = worked (record usual_start { next_dialogue = 4294967294 }) (
     dialogue_born 4294967294
-    ∷ dialogue_refused Fault.dialogue_ids_spent
+    ∷ birth_refused Fault.dialogue_ids_spent
     ∷ [])
     []
 

@@ -19,8 +19,8 @@ abbrev pub dialogue_born : ℕ → Pair
 dialogue_born dialogue = record { event = Event.new_dialogue; answer = Answer.new_dialogue dialogue }
 
 -- A dialogue is asked for, and refused (own).
-abbrev pub dialogue_refused : Fault → Pair
-dialogue_refused fault = record { event = Event.new_dialogue; answer = Answer.refused fault }
+abbrev pub birth_refused : Fault → Pair
+birth_refused fault = record { event = Event.new_dialogue; answer = Answer.refused fault }
 
 -- TC-INVOKE in a dialogue with this identifier, class, local operation code and timeout, without
 -- parameter and linked identifier (own).

@@ -7,7 +7,7 @@ use Rattle.tcap_model.specs.Words.Fault.{Fault}
 use Rattle.tcap_examples.specs.Values.Hex.{hex}
 use Rattle.tcap_model.specs.Words.Output.{Output, Closing, Rejector, DropCause, ComponentIndication, DialogueIndication}
 use Rattle.tcap_model.specs.Words.Request.{Request, AbortReason, DialogueRequest}
-use Rattle.tcap_examples.specs.Values.HistoryWords.{dialogue_born, dialogue_refused, invoke_pair, request_pair, received_pair, moment_pair, begin_request, continue_request, continued, empty_result, usual_start, opened_with_invoke}
+use Rattle.tcap_examples.specs.Values.HistoryWords.{dialogue_born, birth_refused, invoke_pair, request_pair, received_pair, moment_pair, begin_request, continue_request, continued, empty_result, usual_start, opened_with_invoke}
 use Rattle.tcap_examples.specs.Wrong.WrongHistories.{Wrong, wrong}
 use Rattle.tcap_examples.specs.Wrong.WrongEnds.{answered_once}
 
@@ -87,7 +87,7 @@ reused_dialogue_identifier = wrong usual_start (
 -- Every request is refused (own).
 abbrev pub everything_wrong_state : Wrong
 everything_wrong_state = wrong usual_start []
-    (dialogue_refused Fault.wrong_state)
+    (birth_refused Fault.wrong_state)
 
 -- Every message is dropped (own).
 abbrev pub drops_every_message : Wrong

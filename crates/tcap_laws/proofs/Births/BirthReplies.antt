@@ -21,7 +21,8 @@ use Rattle.tcap_model.specs.Replies.Reply.{reply, birth_answer, continue_outputs
 use Rattle.tcap_model.specs.Words.State.{State}
 use Rattle.tcap_laws.proofs.Receptions.ProviderAborts.{Sends}
 use Rattle.tcap_laws.proofs.Receptions.SoundReceptions.{IfSends, IsSound, reception-sound}
-use Rattle.tcap_laws.proofs.Receptions.ToldOutputKinds.{IsTold, AreTold, each-append, components-told, uni-told, ended-told, abort-told}
+use Rattle.tcap_laws.proofs.Receptions.ToldOutputKinds.{IsTold, AreTold, components-told, uni-told, ended-told, abort-told}
+use Rattle.tcap_laws.proofs.ListLemmas.{each-append}
 
 -- ---- outputs without a TC-BEGIN indication
 

@@ -23,12 +23,9 @@ use Rattle.tcap_model.specs.Histories.Pair.{Pair, Past}
 use Rattle.tcap_model.specs.Replies.Queue.{marks_up_to}
 use Rattle.tcap_model.specs.Replies.Reply.{ended_of, ended_in, Lapsing, is_before, put, in_order, lapsing_by, lapsing_at, lapse_told, lapses}
 use Rattle.tcap_model.specs.Invocations.Span.{span}
+use Rattle.tcap_laws.proofs.ListLemmas.{each-append}
 
 -- ---- each invocation is found under its number
-
-each-append : {X : Type 0} (P : X → Type 0) (xs ys : List X) → AllByRecursion P xs → AllByRecursion P ys → AllByRecursion P (xs ++ ys)
-each-append P [] ys p q = q
-each-append P (x ∷ xs) ys p q = (p.0, each-append P xs ys p.1 q)
 
 each-map : {X : Type 0} (P Q : X → Type 0) (f : (x : X) → P x → Q x) (xs : List X) → AllByRecursion P xs → AllByRecursion Q xs
 each-map P Q f [] p = tt

@@ -26,12 +26,11 @@ use Rattle.tcap_model.specs.Replies.Queue.{marks_up_to, handled_in}
 use Rattle.tcap_model.specs.Procedures.Reception.{Reception, reception}
 use Rattle.tcap_model.specs.Replies.Reply.{ended_of, ended_in, continue_outputs, end_outputs, message_outputs, taken_outputs, reception_outputs, reply}
 use Rattle.tcap_model.specs.Words.State.{State}
-use Rattle.tcap_laws.proofs.Peers.CarriedComponents.{one-of}
 use Rattle.tcap_laws.proofs.FarEnds.FairTellings.{IsNamedBy, Fair, AllFair, components-fair, reached-there, uni-fair, next-reached}
 use Rattle.tcap_laws.proofs.Receptions.NamedReceptions.{IsNamed, reception-named}
 use Rattle.tcap_laws.proofs.Receptions.ProviderAborts.{Sends}
 use Rattle.tcap_laws.proofs.Receptions.SoundReceptions.{IfSends, IsSound, reception-sound}
-use Rattle.tcap_laws.proofs.Receptions.ToldOutputKinds.{each-append}
+use Rattle.tcap_laws.proofs.ListLemmas.{each-append, one-of}
 
 -- ---- what is told besides components
 

@@ -28,7 +28,7 @@ use Rattle.tcap_model.specs.Words.Request.{Request, ComponentRequest}
 use Rattle.tcap_model.specs.Words.State.{State, peer_of}
 use Rattle.tcap_model.specs.Procedures.States.{has_peer}
 use Rattle.tcap_model.specs.Statements.TwoEnds.{Happens, IsAnswer, ComesFromFar, Origin, peer_in}
-use Rattle.tcap_laws.proofs.Peers.CarriedComponents.{Carried, carried, some_components, one-of, stands-before}
+use Rattle.tcap_laws.proofs.Peers.CarriedComponents.{Carried, carried, some_components, stands-before}
 use Rattle.tcap_laws.proofs.FarEnds.FairReplies.{reply-fair}
 use Rattle.tcap_laws.proofs.FarEnds.FairTellings.{Fair, IsNamedBy}
 use Rattle.tcap_laws.proofs.Peers.FarPeers.{HasPeer, peer-stays, none-due, destination-octets, octets-of}
@@ -38,6 +38,7 @@ use Rattle.tcap_laws.proofs.Queues.QueuedComponents.{accepted-parts}
 use Rattle.tcap_laws.proofs.Queues.SentComponents.{sent-from}
 use Rattle.tcap_laws.proofs.Receptions.ToldFromOctets.{legal-before}
 use Rattle.tcap_laws.proofs.FarEnds.WaitingInvokes.{IsNoInvoke}
+use Rattle.tcap_laws.proofs.ListLemmas.{one-of}
 
 -- ---- answers, their components and their requests
 

@@ -31,7 +31,7 @@ use Rattle.tcap_model.specs.Invocations.Reuse.{is_reused}
 use Rattle.tcap_model.specs.Invocations.Span.{is_invoked, span}
 use Rattle.tcap_model.specs.Statements.TwoEnds.{Happens, WasSent, WasAsked, Operations}
 use Rattle.tcap_laws.proofs.Spans.MarksAfterBirth.{noted_at_clock}
-use Rattle.tcap_laws.proofs.Peers.CarriedComponents.{Carried, carried, one-of, stands-before}
+use Rattle.tcap_laws.proofs.Peers.CarriedComponents.{Carried, carried, stands-before}
 use Rattle.tcap_laws.proofs.Spans.DecisionSteps.{made_found, invocation_stays}
 use Rattle.tcap_laws.proofs.Spans.EventMarks.{standing_marks}
 use Rattle.tcap_laws.proofs.Spans.QueuedMarks.{IsStanding}
@@ -41,6 +41,7 @@ use Rattle.tcap_laws.proofs.Spans.SpanSteps.{reused_step, span_grows, span_stays
 use Rattle.tcap_laws.proofs.Spans.SupersededInvocations.{unused_if_open}
 use Rattle.tcap_laws.proofs.FarEnds.WaitingInvokes.{IsWritten, invocation_as, IsAsked, IsNoInvoke, Waits, AllWait}
 use Rattle.tcap_laws.proofs.FarEnds.WaitingQueues.{queue-waits}
+use Rattle.tcap_laws.proofs.ListLemmas.{one-of}
 
 -- ---- what was sent stays so
 

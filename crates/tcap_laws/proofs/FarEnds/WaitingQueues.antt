@@ -35,8 +35,8 @@ use Rattle.tcap_laws.proofs.Spans.QueuedMarks.{IsUnsent, IsStanding, SparesAt, S
 use Rattle.tcap_laws.proofs.Queues.RequestedComponents.{IfGood}
 use Rattle.tcap_laws.proofs.Spans.SpanSteps.{span_new}
 use Rattle.tcap_laws.proofs.Spans.SupersededInvocations.{latest_if_open}
-use Rattle.tcap_laws.proofs.Receptions.ToldOutputKinds.{each-append}
 use Rattle.tcap_laws.proofs.FarEnds.WaitingInvokes.{invocation_as, IsAsked, IsNoInvoke, Waits, IsWaiting, AllWait, born-waits, bytes-wait, IsLeft, asked-later, all-later}
+use Rattle.tcap_laws.proofs.ListLemmas.{each-append, either}
 
 -- ---- events
 
@@ -206,10 +206,6 @@ module _ (h : History) (dialogue : ℕ) (answer : Answer) (s : State) (c : Optio
   asked-waits request range legal false e stands = all-later dialogue (with_answer request answer) h.pairs waits (refused-left request e) all
 
 -- ---- one pair
-
-either : (P : Queued → Type 0) (test : Bool) (x y : List Queued) → (test ≡ true → AllByRecursion P x) → (test ≡ false → AllByRecursion P y) → AllByRecursion P (if test then x else y)
-either P true x y p q = p refl
-either P false x y p q = q refl
 
 module _ (h : History) (dialogue : ℕ) (answer : Answer) (s : State) (c : Option (List ℕ)) (lives : life dialogue h.pairs ≡ Life.standing s c) (all : AllWait dialogue h.pairs (queue dialogue h.pairs)) where
   abbrev at : Event → Pair

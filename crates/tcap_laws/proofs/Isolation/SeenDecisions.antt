@@ -28,6 +28,7 @@ use Rattle.tcap_model.specs.Words.Output.{Closing}
 use Rattle.tcap_model.specs.Histories.Pair.{Past}
 use Rattle.tcap_model.specs.Replies.Reply.{request_answer}
 use Rattle.tcap_model.specs.Words.Request.{Request}
+use Rattle.tcap_laws.proofs.BoolLemmas.{and_false}
 
 -- a decision at the place that the dialogue sees
 abbrev pub told_within : ℕ → Told → Told
@@ -89,10 +90,6 @@ module _ (start : Start) (dialogue : ℕ) where
           ih ∙ not_seen (decision n past) (closing_of_decision n past) (sym same ∙ only_outcome start dialogue past legal.2 n before)
 
   -- ---- waits
-
-  and_false : (b : Bool) → (b && false) ≡ false
-  and_false true = refl
-  and_false false = refl
 
   module _ (until : ℕ) (id : ℤ) where
     ends_within : (event : Event) (answer : Answer) → pair_ends_wait until dialogue id (pair_within dialogue event answer) ≡ pair_ends_wait until dialogue id (with_answer event answer)

@@ -25,6 +25,7 @@ use Rattle.tcap_model.specs.Histories.Pair.{Pair, Past}
 use Rattle.tcap_model.specs.Words.Request.{Request, ComponentRequest}
 use Rattle.tcap_model.specs.Invocations.Reuse.{is_reused}
 use Rattle.tcap_model.specs.Invocations.Span.{is_invoked, span}
+use Rattle.tcap_laws.proofs.BoolLemmas.{or_false}
 
 -- ---- who makes an invocation
 
@@ -165,10 +166,6 @@ pub span_none : (i : Invocation) (past : Past) → is_some (invocation_of i.numb
 span_none i [] e = refl
 span_none i (pair ∷ past) e = span_new i pair past (made_before i.number pair past e)
 
-or_nothing : (b : Bool) → (b || false) ≡ b
-or_nothing true = refl
-or_nothing false = refl
-
 module _ (start : Start) (i : Invocation) where
   abbrev mine : Past → Past
   mine past = only i.dialogue past
@@ -197,7 +194,7 @@ module _ (start : Start) (i : Invocation) where
           ∙ sym (reused_step i pair past m)))
       go true false e m made same = reused_new i (pair_within i.dialogue pair.event pair.answer) (mine past) (made ∙ m) ∙ sym (reused_new i pair past m)
       go false true e m made same =
-          same ∙ (sym (or_nothing (is_reused i past)) ∙ (ap (λ b. is_reused i past || b) (sym (not_used e (invoked_by pair) refl)) ∙ sym (reused_step i pair past m)))
+          same ∙ (sym (or_false (is_reused i past)) ∙ (ap (λ b. is_reused i past || b) (sym (not_used e (invoked_by pair) refl)) ∙ sym (reused_step i pair past m)))
       go false false e m made same = same ∙ (reused_none i past m ∙ sym (reused_new i pair past m))
 
   pub only_span : (past : Past) → AreReplies start past → IsOwn start i.dialogue i.number past → span i (mine past) ≡ span i past

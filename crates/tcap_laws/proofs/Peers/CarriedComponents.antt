@@ -33,6 +33,7 @@ use Rattle.tcap_model.specs.Statements.TwoEnds.{Happens}
 use Rattle.tcap_laws.proofs.Peers.NetPlaces.{happens-stands, happens-rest, carried-there, SentBy, bytes_sent}
 use Rattle.tcap_laws.proofs.Receptions.SentMessages.{Nothing, tells-sends, birth-sends, moment-sends, sent_for_bytes, sent_for_request}
 use Rattle.tcap_laws.proofs.Receptions.ToldFromOctets.{legal-before, told-from}
+use Rattle.tcap_laws.proofs.ListLemmas.{one-of}
 
 -- ---- what a message that carries components takes
 
@@ -162,10 +163,6 @@ module _ (net : Net) (is : IsNet net) (engine : Engine) (pair : Pair) (before : 
       }
 
 -- ---- one of the components
-
-pub one-of : {X : Type 0} (P : X → Type 0) (earlier later : List X) (x : X) → AllByRecursion P (earlier ++ x ∷ later) → P x
-one-of P [] later x all = all.0
-one-of P (y ∷ earlier) later x all = one-of P earlier later x all.1
 
 pub stands-before : (pair sender : Pair) (before past whole : Past) → StandsIn pair before past → StandsIn sender past whole → StandsIn pair before whole
 stands-before pair sender before past whole inner outer = record {

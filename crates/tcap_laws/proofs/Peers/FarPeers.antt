@@ -31,6 +31,7 @@ use Rattle.tcap_model.specs.Words.State.{State, peer_of, activated, is_live}
 use Rattle.tcap_model.specs.Procedures.States.{is_fresh}
 use Rattle.tcap_laws.proofs.Receptions.NothingDue.{first_that-none}
 use Rattle.tcap_laws.proofs.Queues.QueuedComponents.{accepted-parts}
+use Rattle.tcap_laws.proofs.BoolLemmas.{if_not_false}
 
 -- ---- the peer stays
 
@@ -86,10 +87,6 @@ live-has peer false state context bytes e = e
 
 -- ---- a request that was accepted
 
-flip : (b : Bool) → not b ≡ false → b ≡ true
-flip true e = refl
-flip false e = absurd cc
-
 module _ (h : History) (dialogue : ℕ) (request : Request) (s : State) (c : Option (List ℕ)) (lives : life dialogue h.pairs ≡ Life.standing s c) (accepted : is_accepted (reply h (Event.on_dialogue dialogue request)) ≡ true) where
   abbrev situation : Situation
   situation = situation_of h dialogue (standing_of dialogue h.pairs s c) request
@@ -102,7 +99,7 @@ module _ (h : History) (dialogue : ℕ) (request : Request) (s : State) (c : Opt
 pub no-begin : (h : History) (dialogue : ℕ) (peer : List ℕ) (s : State) (c : Option (List ℕ)) → life dialogue h.pairs ≡ Life.standing s c → peer_of s ≡ Some peer → (request : Request) → is_accepted (reply h (Event.on_dialogue dialogue request)) ≡ true → BeginsNone request
 no-begin h dialogue peer s c lives e request accepted context info is =
     let none = none-due h dialogue (Request.dialogue (DialogueRequest.begin context info)) s c lives (subst (λ (r : Request). is_accepted (reply h (Event.on_dialogue dialogue r)) ≡ true) is accepted) in
-    not-fresh s (flip (is_fresh s) none.1.0) e
+    not-fresh s (if_not_false (is_fresh s) none.1.0) e
   where
     not-fresh : (s : State) → is_fresh s ≡ true → peer_of s ≡ Some peer → ⊥
     not-fresh State.fresh f e = absurd cc

@@ -14,7 +14,7 @@ use Rattle.tcap_model.specs.Statements.Places.{StandsIn, Tells}
 use Rattle.tcap_model.specs.Replies.Queue.{rejects_of}
 use Rattle.tcap_model.specs.Procedures.QueueRules.{Queued, queued, fits, queue_if_fits, queue_each, asks_for, without_invoke}
 use Rattle.tcap_laws.proofs.Queues.FormedRejects.{IsFormed, HasFormed, reject-can}
-use Rattle.tcap_laws.proofs.Receptions.ToldOutputKinds.{each-append}
+use Rattle.tcap_laws.proofs.ListLemmas.{each-append}
 
 -- what waits is the octets of a component that comes from the dialogue and can be written
 pub record IsKept (dialogue : ℕ) (past : Past) (q : Queued) : Type 0 where

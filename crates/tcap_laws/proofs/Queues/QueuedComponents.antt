@@ -25,7 +25,7 @@ use Rattle.tcap_model.specs.Words.State.{State}
 use Rattle.tcap_laws.proofs.Queues.KeptQueues.{IsKept, AllKept, kept-later, without-each}
 use Rattle.tcap_laws.proofs.Queues.ReceivedQueues.{born-queue, named-queue}
 use Rattle.tcap_laws.proofs.Queues.RequestedComponents.{IfGood, request-good}
-use Rattle.tcap_laws.proofs.Receptions.ToldOutputKinds.{each-append}
+use Rattle.tcap_laws.proofs.ListLemmas.{each-append}
 
 -- ---- requests
 
@@ -103,16 +103,16 @@ if-accepted h dialogue request answer queue is is_reply kept true e =
 
 -- ---- one pair
 
-either : (P : Queued → Type 0) (test : Bool) (x y : List Queued) → (test ≡ true → AllByRecursion P x) → AllByRecursion P y → AllByRecursion P (if test then x else y)
-either P true x y p q = p refl
-either P false x y p q = q
+either-kept : (P : Queued → Type 0) (test : Bool) (x y : List Queued) → (test ≡ true → AllByRecursion P x) → AllByRecursion P y → AllByRecursion P (if test then x else y)
+either-kept P true x y p q = p refl
+either-kept P false x y p q = q
 
 after-pair : (h : History) (dialogue : ℕ) (event : Event) (answer : Answer) → IsTrue (is_in_range event) → answer ≡ reply h event → AllKept dialogue h.pairs (queue dialogue h.pairs) →
     AllKept dialogue (record { event = event; answer = answer } ∷ h.pairs) (queue_after dialogue h.pairs (queue dialogue h.pairs) (record { event = event; answer = answer }))
 after-pair h dialogue Event.new_dialogue answer range is kept =
     let here : Pair = record { event = Event.new_dialogue; answer = answer } in
     let waits = queue dialogue h.pairs in
-    either (IsKept dialogue (here ∷ h.pairs)) (is_birth_of dialogue here) [] waits (λ birth. tt) (kept-later dialogue here h.pairs waits kept)
+    either-kept (IsKept dialogue (here ∷ h.pairs)) (is_birth_of dialogue here) [] waits (λ birth. tt) (kept-later dialogue here h.pairs waits kept)
 after-pair h dialogue (Event.moment now) answer range is kept =
     let here : Pair = record { event = Event.moment now; answer = answer } in
     kept-later dialogue here h.pairs (queue dialogue h.pairs) kept
@@ -120,15 +120,15 @@ after-pair h dialogue (Event.received bytes) answer range is kept =
     let here : Pair = record { event = Event.received bytes; answer = answer } in
     let waits = queue dialogue h.pairs in
     let before = kept-later dialogue here h.pairs waits kept in
-    either (IsKept dialogue (here ∷ h.pairs)) (is_birth_of dialogue here) (queue_born dialogue h.pairs (Event.received bytes)) (if names (Event.received bytes) dialogue then queue_by_event dialogue h.pairs waits (Event.received bytes) answer else waits)
+    either-kept (IsKept dialogue (here ∷ h.pairs)) (is_birth_of dialogue here) (queue_born dialogue h.pairs (Event.received bytes)) (if names (Event.received bytes) dialogue then queue_by_event dialogue h.pairs waits (Event.received bytes) answer else waits)
     (λ birth. born-queue h dialogue bytes answer is birth)
-    (either (IsKept dialogue (here ∷ h.pairs)) (names (Event.received bytes) dialogue) (queue_by_event dialogue h.pairs waits (Event.received bytes) answer) waits
+    (either-kept (IsKept dialogue (here ∷ h.pairs)) (names (Event.received bytes) dialogue) (queue_by_event dialogue h.pairs waits (Event.received bytes) answer) waits
     (λ named. named-queue h dialogue bytes answer is waits named before (life dialogue h.pairs) refl) before)
 after-pair h dialogue (Event.on_dialogue asked request) answer range is kept =
     let here : Pair = record { event = Event.on_dialogue asked request; answer = answer } in
     let waits = queue dialogue h.pairs in
     let before = kept-later dialogue here h.pairs waits kept in
-    either (IsKept dialogue (here ∷ h.pairs)) (asked == dialogue) (queue_if_accepted (is_accepted answer) waits request answer) waits
+    either-kept (IsKept dialogue (here ∷ h.pairs)) (asked == dialogue) (queue_if_accepted (is_accepted answer) waits request answer) waits
     (λ same. subst (λ (d : ℕ). AllKept d (here ∷ h.pairs) waits → AllKept d (here ∷ h.pairs) (queue_if_accepted (is_accepted answer) waits request answer)) (eqb-true asked dialogue same)
     (λ all. if-accepted h asked request answer waits (and_parts (is_short asked) (is_request request) range).1 is all (is_accepted answer) refl) before)
     before

@@ -17,10 +17,7 @@ use Rattle.tcap_model.specs.Words.Request.{Request, ComponentRequest, DialogueRe
 use Rattle.tcap_model.specs.Procedures.RequestMessage.{message_of}
 use Rattle.tcap_pdu.specs.DialoguePartsReading.{is_information}
 use Rattle.tcap_laws.proofs.Receptions.NothingDue.{first_that-none}
-
-flip : (b : Bool) → not b ≡ false → b ≡ true
-flip true e = refl
-flip false e = absurd cc
+use Rattle.tcap_laws.proofs.BoolLemmas.{if_not_false}
 
 -- ---- the numbers
 
@@ -66,15 +63,15 @@ request-range (Request.dialogue asked) e = tt
 -- ---- no fault is due
 
 code-can : (request : Request) → has_bad_oid request ≡ false → can_code (component_of request) ≡ true
-code-can request e = (and_parts (can_name (context_given request)) (can_code (component_of request)) (flip _ e)).1
+code-can request e = (and_parts (can_name (context_given request)) (can_code (component_of request)) (if_not_false _ e)).1
 
 parameter-can : (request : Request) → has_bad_parameter request ≡ false → can_hold (component_of request) ≡ true
-parameter-can request e = (and_parts (is_information (information_given request)) (can_hold (component_of request)) (flip _ e)).1
+parameter-can request e = (and_parts (is_information (information_given request)) (can_hold (component_of request)) (if_not_false _ e)).1
 
 -- a component that fits into a queue is short
 queued-short : (limit : ℕ) (queue : List Queued) (invoking : Option Invoking) (c : ComponentParts) → limit ≤ 65535 → passes_queue limit queue (Some (queued invoking c)) ≡ false → length (written_component c) ≤ 65535
 queued-short limit queue invoking c within e =
-    let fit = leb-true (length (joined queue) + length (written_component c)) limit (flip _ e) in
+    let fit = leb-true (length (joined queue) + length (written_component c)) limit (if_not_false _ e) in
     omega (arith, within, fit)
 
 no-fault : (c : ComponentParts) → has_code (coded_part c) ≡ true → has_parameter (coded_part c) ≡ true → length (written_component c) ≤ 65535 → write_fault c ≡ None

@@ -34,7 +34,8 @@ use Rattle.tcap_laws.proofs.Receptions.PeerIdentifiers.{StateId, LifeId, life-id
 use Rattle.tcap_laws.proofs.Receptions.SentRequests.{IfGoes, request-goes}
 use Rattle.tcap_laws.proofs.Receptions.ProviderAborts.{Sends, goes-spelled, abnormal-sends}
 use Rattle.tcap_laws.proofs.Receptions.SoundReceptions.{IfSends, IsSound, read-ids, reception-sound}
-use Rattle.tcap_laws.proofs.Receptions.ToldOutputKinds.{IsTold, AreTold, each-append, components-told, uni-told, ended-told, abort-told, lapses-told}
+use Rattle.tcap_laws.proofs.Receptions.ToldOutputKinds.{IsTold, AreTold, components-told, uni-told, ended-told, abort-told, lapses-told}
+use Rattle.tcap_laws.proofs.ListLemmas.{each-append}
 
 -- what is sent has this property
 abbrev pub SendsOnly : (List ℕ → Type 0) → Output → Type 0

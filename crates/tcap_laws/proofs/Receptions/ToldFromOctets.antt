@@ -37,7 +37,7 @@ use Rattle.tcap_model.specs.Words.Time.{moment_fault}
 use Rattle.tcap_laws.proofs.Receptions.ProviderAborts.{Sends}
 use Rattle.tcap_laws.proofs.Receptions.SoundReceptions.{IfSends, IsSound, reception-sound}
 use Rattle.tcap_laws.proofs.Receptions.ToldComponents.{indicates, Indicates, StandsForOne, AllStand, components-stand, uni-stand}
-use Rattle.tcap_laws.proofs.Receptions.ToldOutputKinds.{each-append}
+use Rattle.tcap_laws.proofs.ListLemmas.{each-append}
 
 -- ---- what is told besides
 

@@ -19,6 +19,7 @@ use Rattle.tcap_model.specs.Words.Output.{Output, Closing, AbortCause, Component
 use Rattle.tcap_model.specs.Histories.Pair.{Past}
 use Rattle.tcap_model.specs.Replies.Queue.{marks_up_to, sent_there, handled_after, handled_in}
 use Rattle.tcap_model.specs.Replies.Reply.{ended_of, ended_in, Lapsing, lapse_told}
+use Rattle.tcap_laws.proofs.ListLemmas.{each-append}
 
 -- neither a Send nor a TC-BEGIN indication
 abbrev pub IsTold : Output → Type 0
@@ -34,10 +35,6 @@ IsTold (Output.dropped why) = Unit {0}
 
 abbrev pub AreTold : List Output → Type 0
 AreTold outputs = AllByRecursion IsTold outputs
-
-pub each-append : {X : Type 0} (P : X → Type 0) (xs ys : List X) → AllByRecursion P xs → AllByRecursion P ys → AllByRecursion P (xs ++ ys)
-each-append P [] ys p q = q
-each-append P (x ∷ xs) ys p q = (p.0, each-append P xs ys p.1 q)
 
 -- ---- components
 

@@ -29,14 +29,7 @@ use Rattle.tcap_model.specs.Histories.Pair.{Past}
 use Rattle.tcap_model.specs.Replies.Queue.{marks_up_to, if_sent, sent_there}
 use Rattle.tcap_model.specs.Invocations.Span.{span}
 use Rattle.tcap_model.specs.Table.World.{pending_stage, stage_by, row, row_of, rows_of}
-
-and_false : (b : Bool) → false ≡ (b && false)
-and_false true = refl
-and_false false = refl
-
-and_true : (b : Bool) → b ≡ (b && true)
-and_true true = refl
-and_true false = refl
+use Rattle.tcap_laws.proofs.BoolLemmas.{and_false, and_true}
 
 -- whether an invocation is Sent where it has an outcome or none
 sent-by_outcome : (past : Past) (i : Invocation) → IsFound past i → is_sent_in i.class i.timeout (marks_up_to past [] i) ≡ (is_some (sent_clock (span i past)) && is_none (outcome i.number past))
@@ -54,11 +47,11 @@ some_inside x y e = cc
 stage-sent : (reject_ms : ℕ) (past : Past) (i : Invocation) (s : Stage) (d : Option Told) → stage_by reject_ms past i d ≡ Some s
     → is_sent s ≡ (is_some (sent_clock (span i past)) && is_none (option_map (λ (t : Told). t.closing) d))
 stage-sent reject_ms past i s None e =
-    ap is_sent (sym (some_inside (pending_stage i (deadline i past)) s e)) ∙ (pending-sent i (sent_clock (span i past)) ∙ and_true (is_some (sent_clock (span i past))))
+    ap is_sent (sym (some_inside (pending_stage i (deadline i past)) s e)) ∙ (pending-sent i (sent_clock (span i past)) ∙ sym (and_true (is_some (sent_clock (span i past)))))
 stage-sent reject_ms past i s (Some t) e = go (is_waiting reject_ms i.dialogue i.id past t) e
   where
     go : (b : Bool) → cond b (Some (Waiting (clock t.place + reject_ms))) None ≡ Some s → is_sent s ≡ (is_some (sent_clock (span i past)) && false)
-    go true e = ap is_sent (sym (some_inside (Waiting (clock t.place + reject_ms)) s e)) ∙ and_false (is_some (sent_clock (span i past)))
+    go true e = ap is_sent (sym (some_inside (Waiting (clock t.place + reject_ms)) s e)) ∙ sym (and_false (is_some (sent_clock (span i past))))
     go false e = absurd cc
 
 module _ (start : Start) (past : Past) (legal : AreReplies start past) (reject_ms : ℕ) where
@@ -99,7 +92,7 @@ module _ (start : Start) (past : Past) (legal : AreReplies start past) (reject_m
       go (Some c) p q =
           let found = (latest_is start past dialogue id j legal e).is_found in
           let not_sent : is_sent_in j.class j.timeout (marks_up_to past [] j) ≡ false =
-          sent-by_outcome past j found ∙ (ap (λ o. is_some (sent_clock (span j past)) && is_none o) p ∙ sym (and_false (is_some (sent_clock (span j past))))) in
+          sent-by_outcome past j found ∙ (ap (λ o. is_some (sent_clock (span j past)) && is_none o) p ∙ and_false (is_some (sent_clock (span j past)))) in
           sym (ap (λ b. cond b (Some one) None) not_sent)
         where
           one : SentInvocation

@@ -26,7 +26,7 @@ use Rattle.tcap_model.specs.Words.State.{State, is_live}
 use Rattle.tcap_laws.proofs.Spans.MarksAfterBirth.{noted_at_clock}
 use Rattle.tcap_laws.proofs.Spans.DecisionSteps.{first_closing-append}
 use Rattle.tcap_laws.proofs.Spans.SentClocks.{sent_clock-append}
-use Rattle.tcap_laws.proofs.Receptions.ToldOutputKinds.{each-append}
+use Rattle.tcap_laws.proofs.ListLemmas.{each-append}
 
 abbrev pub LeavesQueued : Mark → Type 0
 LeavesQueued Mark.sent = ⊥

@@ -11,6 +11,7 @@ use Rattle.tcap_model.specs.Invocations.Marks.{Noted, marks}
 use Rattle.tcap_model.specs.Histories.Pair.{Pair, Past}
 use Rattle.tcap_model.specs.Invocations.Reuse.{places_after_invoke, is_reused}
 use Rattle.tcap_model.specs.Invocations.Span.{Place, place, places, following, up_to, is_invoked, invokes_number, uses_id, span}
+use Rattle.tcap_laws.proofs.BoolLemmas.{or_false}
 
 -- ---- lists
 
@@ -101,15 +102,11 @@ following_one {X = X} test x = go (test x)
 after_new : (n : ℕ) (pair : Pair) (past : Past) → is_some (invocation_of n past) ≡ false → places_after_invoke n (pair ∷ past) ≡ []
 after_new n pair past new = following-missing (invokes_number n) (places past) (place pair past ∷ []) (places_of_number n past ∙ new) ∙ following_one (invokes_number n) (place pair past)
 
-or_nothing : (b : Bool) → (b || false) ≡ b
-or_nothing true = refl
-or_nothing false = refl
-
 pub reused_step : (i : Invocation) (pair : Pair) (past : Past) → is_some (invocation_of i.number past) ≡ true
     → is_reused i (pair ∷ past) ≡ (is_reused i past || is_invoked (has_id i.dialogue i.id) (invoked_by pair))
 reused_step i pair past made =
     let test : Place → Bool = uses_id i.dialogue i.id in
-    ap (list_any test) (after_made i.number pair past made) ∙ (list_any-append test (places_after_invoke i.number past) (place pair past ∷ []) ∙ ap (λ b. is_reused i past || b) (or_nothing (test (place pair past))))
+    ap (list_any test) (after_made i.number pair past made) ∙ (list_any-append test (places_after_invoke i.number past) (place pair past ∷ []) ∙ ap (λ b. is_reused i past || b) (or_false (test (place pair past))))
 
 pub reused_new : (i : Invocation) (pair : Pair) (past : Past) → is_some (invocation_of i.number past) ≡ false → is_reused i (pair ∷ past) ≡ false
 reused_new i pair past new = ap (list_any (uses_id i.dialogue i.id)) (after_new i.number pair past new)

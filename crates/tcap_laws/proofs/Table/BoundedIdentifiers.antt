@@ -20,7 +20,7 @@ use Rattle.tcap_model.specs.Histories.Pair.{Past}
 use Rattle.tcap_model.specs.Table.World.{stage_by, row_by, is_number, row_of, rows_of}
 use Rattle.tcap_laws.proofs.Receptions.AcceptedRequests.{made-identifier}
 use Rattle.tcap_laws.proofs.Rows.DistinctRows.{rows_distinct}
-use Rattle.tcap_laws.proofs.Receptions.ToldOutputKinds.{each-append}
+use Rattle.tcap_laws.proofs.ListLemmas.{each-append}
 
 -- ---- identifiers as numbers below 256
 

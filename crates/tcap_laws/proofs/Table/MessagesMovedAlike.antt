@@ -36,6 +36,7 @@ use Rattle.tcap_model.specs.Table.World.{dialogue_at, dialogue_by, rows_of}
 use Rattle.tcap_pdu.specs.declared.fault.FrameFault.{FrameFault}
 use Rattle.tcap_pdu.specs.FrameReading.{frame_at}
 use Rattle.tcap_pdu.specs.FrameSpelling.{Message}
+use Rattle.tcap_laws.proofs.BoolLemmas.{and_false}
 
 -- ---- what a history says in any case
 
@@ -46,10 +47,6 @@ accepted_by h now None e = go (nat_lt now (clock h.pairs))
     go : (b : Bool) → is_accepted (cond b (Answer.outputs []) (Answer.outputs (lapses h.pairs now))) ≡ true
     go true = refl
     go false = refl
-
-and_false : (b : Bool) → (b && false) ≡ false
-and_false true = refl
-and_false false = refl
 
 answered_is : (state : State) (origin : List ℕ) → is_live state ≡ true → state_after_continue state origin ≡ State.active (peer_by state origin)
 answered_is State.fresh origin e = absurd cc

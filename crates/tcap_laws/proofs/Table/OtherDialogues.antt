@@ -40,6 +40,7 @@ use Rattle.tcap_model.specs.Words.Request.{Request, ComponentRequest}
 use Rattle.tcap_model.specs.Invocations.Span.{is_invoked, span}
 use Rattle.tcap_model.specs.Words.State.{State}
 use Rattle.tcap_model.specs.Table.World.{stage_by, row_by, is_number, row_of, rows_of, dialogue_at}
+use Rattle.tcap_laws.proofs.BoolLemmas.{and_false}
 
 -- ---- the rows, where an invocation is made in another dialogue
 
@@ -92,10 +93,6 @@ module _ (reject_ms : ℕ) (start : Start) (pair : Pair) (past : Past) (legal : 
       ∙ same_kept (IsFound past) (row_of reject_ms dialogue (pair ∷ past)) (row_of reject_ms dialogue past) (λ i f. kept_row i f) (invocations past) (each_found start past legal))))
 
 -- ---- an event that doesn't name the dialogue
-
-and_false : (b : Bool) → (b && false) ≡ false
-and_false true = refl
-and_false false = refl
 
 -- an invocation is made in the dialogue that the request names
 made_there : (asked : ℕ) (request : Request) (o : Option ℕ) (new : Invocation) → invoked_under asked request o ≡ Some new → asked ≡ new.dialogue

@@ -52,14 +52,7 @@ use Rattle.tcap_model.specs.Invocations.Deadline.{sent_clock}
 use Rattle.tcap_model.specs.Replies.Held.{is_of_answer}
 use Rattle.tcap_model.specs.Procedures.RequestMessage.{message_of}
 use Rattle.tcap_model.specs.Invocations.Span.{span}
-
-and_false : (b : Bool) → (b && false) ≡ false
-and_false true = refl
-and_false false = refl
-
-and_true : (b : Bool) → (b && true) ≡ b
-and_true true = refl
-and_true false = refl
+use Rattle.tcap_laws.proofs.BoolLemmas.{and_false, and_true}
 
 module _ (h : History) (dialogue : ℕ) (legal : IsLegal h) (state : State) (context : Option (List ℕ)) (stands : life dialogue h.pairs ≡ Life.standing state context) where
   abbrev stood : Dialogue
