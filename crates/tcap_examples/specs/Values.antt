@@ -1,4 +1,6 @@
+pub mod Asked
 pub mod DialogueValues
 pub mod Hex
 pub mod HistoryWords
 pub mod StepWords
+pub mod Told

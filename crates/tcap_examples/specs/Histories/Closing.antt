@@ -5,15 +5,16 @@ use Rattle.tcap_model.specs.Words.Answer.{Answer}
 use Rattle.tcap_examples.specs.Values.DialogueValues.{context, aarq, aare, result_of_first, of_result, of_error, general}
 use Rattle.tcap_model.specs.Words.Fault.{Fault}
 use Rattle.tcap_examples.specs.Values.Hex.{hex}
-use Rattle.tcap_model.specs.Words.Output.{Output, Closing, Rejector, AbortCause, DropCause, ComponentIndication, DialogueIndication}
-use Rattle.tcap_model.specs.Words.Request.{Request, ComponentRequest, DialogueRequest}
+use Rattle.tcap_model.specs.Words.Output.{Output, Closing, Rejector, AbortCause, DropCause}
 use Rattle.tcap_examples.specs.Histories.Worked.{Worked, worked, closed_at, not_closed}
 use Rattle.tcap_examples.specs.Values.HistoryWords.{dialogue_born, invoke_pair, request_pair, received_pair, moment_pair, begin_request, continue_request, continued, ended, empty_result, usual_start, opened_with_invoke, opened_for}
+use Rattle.tcap_examples.specs.Values.Asked as asks
+use Rattle.tcap_examples.specs.Values.Told as told
 
 -- An End with a result closes its invocation by the result; nothing comes after it (own).
 abbrev pub result_in_an_end : Worked
 result_in_an_end = worked usual_start (opened_with_invoke (
-    received_pair (hex 15 0x640D_490400000001_6C05_A203_020101) (ended 1 ∷ Output.component (ComponentIndication.closed 1 1 (pos 1) empty_result) ∷ [])
+    received_pair (hex 15 0x640D_490400000001_6C05_A203_020101) (ended 1 ∷ told.closed 1 1 (pos 1) empty_result ∷ [])
     ∷ moment_pair 2000 []
     ∷ received_pair (hex 15 0x640D_490400000001_6C05_A203_020101) (Output.dropped DropCause.no_dialogue ∷ [])
     ∷ []))
@@ -24,8 +25,8 @@ result_in_an_end = worked usual_start (opened_with_invoke (
 abbrev pub lapse_and_late_result : Worked
 lapse_and_late_result = worked usual_start (opened_with_invoke (
     moment_pair 999 []
-    ∷ moment_pair 1000 (Output.component (ComponentIndication.closed 1 1 (pos 1) Closing.lapsed) ∷ [])
-    ∷ received_pair result_of_first (continued 1 ∷ Output.component (ComponentIndication.local_reject (Some 1) (Some (pos 1)) (of_result 0)) ∷ [])
+    ∷ moment_pair 1000 (told.closed 1 1 (pos 1) Closing.lapsed ∷ [])
+    ∷ received_pair result_of_first (continued 1 ∷ told.local_reject (Some 1) (Some (pos 1)) (of_result 0) ∷ [])
     ∷ request_pair 1 continue_request (Answer.outputs (Output.send (hex 24 0x6516_480400000001_490400000005_6C08_A406_020101_820100) ∷ []))
     ∷ moment_pair 5 []
     ∷ []))
@@ -41,12 +42,12 @@ repeated_aare = worked usual_start (
     dialogue_born 1
     ∷ invoke_pair 1 (pos 1) One (pos 10) 1000 (Answer.number 1)
     ∷ invoke_pair 1 (pos 2) One (pos 11) 1000 (Answer.number 2)
-    ∷ request_pair 1 (Request.dialogue (DialogueRequest.begin (Some context) [])) (Answer.outputs (Output.send (hex 8 0x6238_480400000001 ++ aarq ++ hex 18 0x6C10_A106_020101_02010A_A106_020102_02010B) ∷ []))
-    ∷ received_pair accepting (Output.dialogue (DialogueIndication.go_on 1 (Some context) []) ∷ Output.component (ComponentIndication.closed 1 1 (pos 1) empty_result) ∷ [])
+    ∷ request_pair 1 (asks.begin (Some context) []) (Answer.outputs (Output.send (hex 8 0x6238_480400000001 ++ aarq ++ hex 18 0x6C10_A106_020101_02010A_A106_020102_02010B) ∷ []))
+    ∷ received_pair accepting (told.go_on 1 (Some context) [] ∷ told.closed 1 1 (pos 1) empty_result ∷ [])
     ∷ received_pair accepting (
     Output.send (hex 28 0x671A_490400000005_6B12_2810_060700118605010101_A005_6403_800101)
-    ∷ Output.dialogue (DialogueIndication.p_abort 1 AbortCause.abnormal)
-    ∷ Output.component (ComponentIndication.closed 1 2 (pos 2) Closing.ended)
+    ∷ told.p_abort 1 AbortCause.abnormal
+    ∷ told.closed 1 2 (pos 2) Closing.ended
     ∷ [])
     ∷ [])
     (closed_at 1 5 1 (pos 1) empty_result ∷ closed_at 2 6 1 (pos 2) Closing.ended ∷ [])
@@ -61,9 +62,9 @@ answers_the_class_forbids = worked usual_start (
     ∷ request_pair 1 begin_request (Answer.outputs (Output.send (hex 34 0x6220_480400000001_6C18_A106_020101_02010A_A106_020102_02010A_A106_020103_02010A) ∷ []))
     ∷ received_pair (hex 34 0x6520_480400000005_490400000001_6C12_A203_020101_A306_020102_020101_A703_020103) (
     continued 1
-    ∷ Output.component (ComponentIndication.closed 1 1 (pos 1) (Closing.rejected (of_result 1) Rejector.local))
-    ∷ Output.component (ComponentIndication.closed 1 2 (pos 2) (Closing.rejected (of_error 1) Rejector.local))
-    ∷ Output.component (ComponentIndication.closed 1 3 (pos 3) (Closing.rejected (of_result 1) Rejector.local))
+    ∷ told.closed 1 1 (pos 1) (Closing.rejected (of_result 1) Rejector.local)
+    ∷ told.closed 1 2 (pos 2) (Closing.rejected (of_error 1) Rejector.local)
+    ∷ told.closed 1 3 (pos 3) (Closing.rejected (of_result 1) Rejector.local)
     ∷ [])
     ∷ [])
     (closed_at 1 6 1 (pos 1) (Closing.rejected (of_result 1) Rejector.local)
@@ -74,13 +75,13 @@ answers_the_class_forbids = worked usual_start (
 -- After a result its identifier is held until a moment that is `reject_ms` later (own).
 abbrev pub identifier_held_after_a_result : Worked
 identifier_held_after_a_result = worked usual_start (opened_for 10000 (
-    received_pair result_of_first (continued 1 ∷ Output.component (ComponentIndication.closed 1 1 (pos 1) empty_result) ∷ [])
+    received_pair result_of_first (continued 1 ∷ told.closed 1 1 (pos 1) empty_result ∷ [])
     ∷ moment_pair 999 []
     ∷ invoke_pair 1 (pos 1) One (pos 10) 10000 (Answer.refused Fault.invoke_id_in_use)
     ∷ moment_pair 1000 []
     ∷ invoke_pair 1 (pos 1) One (pos 10) 10000 (Answer.number 2)
     ∷ request_pair 1 continue_request (Answer.outputs (Output.send (hex 24 0x6516_480400000001_490400000005_6C08_A106_020101_02010A) ∷ []))
-    ∷ received_pair result_of_first (continued 1 ∷ Output.component (ComponentIndication.closed 1 2 (pos 1) empty_result) ∷ [])
+    ∷ received_pair result_of_first (continued 1 ∷ told.closed 1 2 (pos 1) empty_result ∷ [])
     ∷ []))
     (closed_at 1 4 1 (pos 1) empty_result ∷ closed_at 2 10 1 (pos 1) empty_result ∷ [])
 
@@ -88,7 +89,7 @@ identifier_held_after_a_result = worked usual_start (opened_for 10000 (
 -- own (own).
 abbrev pub identifier_held_at_the_same_moment : Worked
 identifier_held_at_the_same_moment = worked (record usual_start { reject_ms = 0 }) (opened_with_invoke (
-    received_pair result_of_first (continued 1 ∷ Output.component (ComponentIndication.closed 1 1 (pos 1) empty_result) ∷ [])
+    received_pair result_of_first (continued 1 ∷ told.closed 1 1 (pos 1) empty_result ∷ [])
     ∷ invoke_pair 1 (pos 1) One (pos 10) 1000 (Answer.refused Fault.invoke_id_in_use)
     ∷ moment_pair 0 []
     ∷ invoke_pair 1 (pos 1) One (pos 10) 1000 (Answer.number 2)
@@ -98,8 +99,8 @@ identifier_held_at_the_same_moment = worked (record usual_start { reject_ms = 0 
 -- The user's Reject of the result frees the identifier at once (own).
 abbrev pub identifier_freed_by_a_reject : Worked
 identifier_freed_by_a_reject = worked usual_start (opened_for 10000 (
-    received_pair result_of_first (continued 1 ∷ Output.component (ComponentIndication.closed 1 1 (pos 1) empty_result) ∷ [])
-    ∷ request_pair 1 (Request.component (ComponentRequest.u_reject (Some (pos 1)) (of_result 2))) Answer.done
+    received_pair result_of_first (continued 1 ∷ told.closed 1 1 (pos 1) empty_result ∷ [])
+    ∷ request_pair 1 (asks.u_reject (Some (pos 1)) (of_result 2)) Answer.done
     ∷ invoke_pair 1 (pos 1) One (pos 10) 10000 (Answer.number 2)
     ∷ []))
     (closed_at 1 4 1 (pos 1) empty_result ∷ not_closed 2 ∷ [])
@@ -113,8 +114,8 @@ faulty_second_component = worked usual_start (
     ∷ request_pair 1 begin_request (Answer.outputs (Output.send (hex 26 0x6218_480400000001_6C10_A106_020180_02010A_A106_02017F_02010A) ∷ []))
     ∷ received_pair (hex 39 0x6525_480400000005_490400000001_6C17_A203_020180_A503_020107_A203_02017F_A306_02017F_020101) (
     continued 1
-    ∷ Output.component (ComponentIndication.closed 1 1 (negsuc 127) empty_result)
-    ∷ Output.component (ComponentIndication.local_reject (Some 1) (Some (pos 7)) (general 0))
+    ∷ told.closed 1 1 (negsuc 127) empty_result
+    ∷ told.local_reject (Some 1) (Some (pos 7)) (general 0)
     ∷ [])
     ∷ request_pair 1 continue_request (Answer.outputs (Output.send (hex 24 0x6516_480400000001_490400000005_6C08_A406_020107_800100) ∷ []))
     ∷ [])
@@ -123,8 +124,8 @@ faulty_second_component = worked usual_start (
 -- The peer's identifier is the origin of the first Continue for good (own).
 abbrev pub the_peer_stays : Worked
 the_peer_stays = worked usual_start (opened_with_invoke (
-    received_pair result_of_first (continued 1 ∷ Output.component (ComponentIndication.closed 1 1 (pos 1) empty_result) ∷ [])
-    ∷ received_pair (hex 21 0x6513_480400000006_490400000001_6C05_A203_020101) (continued 1 ∷ Output.component (ComponentIndication.local_reject (Some 1) (Some (pos 1)) (of_result 0)) ∷ [])
+    received_pair result_of_first (continued 1 ∷ told.closed 1 1 (pos 1) empty_result ∷ [])
+    ∷ received_pair (hex 21 0x6513_480400000006_490400000001_6C05_A203_020101) (continued 1 ∷ told.local_reject (Some 1) (Some (pos 1)) (of_result 0) ∷ [])
     ∷ request_pair 1 continue_request (Answer.outputs (Output.send (hex 24 0x6516_480400000001_490400000005_6C08_A406_020101_820100) ∷ []))
     ∷ []))
     (closed_at 1 4 1 (pos 1) empty_result ∷ [])

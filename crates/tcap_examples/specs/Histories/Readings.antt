@@ -5,11 +5,13 @@ use Rattle.tcap_model.specs.Words.Answer.{Answer}
 use Rattle.tcap_examples.specs.Values.DialogueValues.{result_of_first, shown_begin, of_result, code}
 use Rattle.tcap_model.specs.Words.Fault.{Fault}
 use Rattle.tcap_examples.specs.Values.Hex.{hex}
-use Rattle.tcap_model.specs.Words.Output.{Output, Closing, AbortCause, DropCause, ComponentIndication, DialogueIndication}
-use Rattle.tcap_model.specs.Words.Request.{Request, Ending, AbortReason, ComponentRequest, DialogueRequest}
+use Rattle.tcap_model.specs.Words.Output.{Output, Closing, AbortCause, DropCause}
+use Rattle.tcap_model.specs.Words.Request.{Ending, AbortReason}
 use Rattle.tcap_examples.specs.Histories.Worked.{Worked, worked, closed_at, not_closed}
 use Rattle.tcap_examples.specs.Histories.Refusals.{longest_parameter, invoke_with}
 use Rattle.tcap_examples.specs.Values.HistoryWords.{dialogue_born, invoke_pair, request_pair, received_pair, moment_pair, begin_request, continue_request, continued, empty_result, usual_start, opened_with_invoke}
+use Rattle.tcap_examples.specs.Values.Asked as asks
+use Rattle.tcap_examples.specs.Values.Told as told
 
 -- ---- dialogues
 
@@ -51,7 +53,7 @@ an_unknown_type = worked usual_start (opened_with_invoke (
 -- A faulty Continue that tells no origin isn't answered, and ends its dialogue (own).
 abbrev pub a_faulty_continue_without_origin : Worked
 a_faulty_continue_without_origin = worked usual_start (opened_with_invoke (
-    received_pair (hex 15 0x650D_48050000000005_490400000001) (Output.dialogue (DialogueIndication.p_abort 1 (AbortCause.cause 3)) ∷ Output.component (ComponentIndication.closed 1 1 (pos 1) Closing.ended) ∷ [])
+    received_pair (hex 15 0x650D_48050000000005_490400000001) (told.p_abort 1 (AbortCause.cause 3) ∷ told.closed 1 1 (pos 1) Closing.ended ∷ [])
     ∷ []))
     (closed_at 1 4 1 (pos 1) Closing.ended ∷ [])
 
@@ -69,7 +71,7 @@ counters_from_zero = worked (record usual_start { next_dialogue = 0; next_number
 abbrev pub unknown_for_good : Worked
 unknown_for_good = worked usual_start (
     dialogue_born 1
-    ∷ request_pair 1 (Request.dialogue (DialogueRequest.u_abort AbortReason.by_user [])) (Answer.outputs [])
+    ∷ request_pair 1 (asks.u_abort AbortReason.by_user []) (Answer.outputs [])
     ∷ invoke_pair 1 (pos 1) One (pos 10) 0 (Answer.refused Fault.unknown_dialogue)
     ∷ request_pair 1 begin_request (Answer.refused Fault.unknown_dialogue)
     ∷ request_pair 2 begin_request (Answer.refused Fault.unknown_dialogue)
@@ -81,7 +83,7 @@ unknown_for_good = worked usual_start (
 -- The components of a Begin meet no invocation, and their Rejects go out with the first answer (own).
 abbrev pub a_result_in_a_begin : Worked
 a_result_in_a_begin = worked usual_start (
-    received_pair (hex 12 0x620A_480107_6C05_A203_020101) (Output.dialogue (DialogueIndication.begin 1 None []) ∷ Output.component (ComponentIndication.local_reject (Some 1) (Some (pos 1)) (of_result 0)) ∷ [])
+    received_pair (hex 12 0x620A_480107_6C05_A203_020101) (told.begin 1 None [] ∷ told.local_reject (Some 1) (Some (pos 1)) (of_result 0) ∷ [])
     ∷ request_pair 1 continue_request (Answer.outputs (Output.send (hex 21 0x6513_480400000001_490107_6C08_A406_020101_820100) ∷ []))
     ∷ [])
     []
@@ -90,7 +92,7 @@ a_result_in_a_begin = worked usual_start (
 abbrev pub an_answer_to_a_queued_invoke : Worked
 an_answer_to_a_queued_invoke = worked usual_start (opened_with_invoke (
     invoke_pair 1 (pos 2) One (pos 10) 1000 (Answer.number 2)
-    ∷ received_pair (hex 21 0x6513_480400000005_490400000001_6C05_A203_020102) (continued 1 ∷ Output.component (ComponentIndication.local_reject (Some 1) (Some (pos 2)) (of_result 0)) ∷ [])
+    ∷ received_pair (hex 21 0x6513_480400000005_490400000001_6C05_A203_020102) (continued 1 ∷ told.local_reject (Some 1) (Some (pos 2)) (of_result 0) ∷ [])
     ∷ []))
     (not_closed 1 ∷ not_closed 2 ∷ [])
 
@@ -99,10 +101,10 @@ abbrev pub queued_at_a_basic_end : Worked
 queued_at_a_basic_end = worked usual_start (opened_with_invoke (
     invoke_pair 1 (pos 2) One (pos 10) 1000 (Answer.number 2)
     ∷ received_pair (hex 14 0x650C_480400000005_490400000001) (continued 1 ∷ [])
-    ∷ request_pair 1 (Request.dialogue (DialogueRequest.finish Ending.basic None [])) (Answer.outputs (
+    ∷ request_pair 1 (asks.finish Ending.basic None []) (Answer.outputs (
     Output.send (hex 18 0x6410_490400000005_6C08_A106_020102_02010A)
-    ∷ Output.component (ComponentIndication.closed 1 1 (pos 1) Closing.ended)
-    ∷ Output.component (ComponentIndication.closed 1 2 (pos 2) Closing.ended)
+    ∷ told.closed 1 1 (pos 1) Closing.ended
+    ∷ told.closed 1 2 (pos 2) Closing.ended
     ∷ []))
     ∷ []))
     (closed_at 1 6 1 (pos 1) Closing.ended ∷ closed_at 2 6 1 (pos 2) Closing.ended ∷ [])
@@ -112,7 +114,7 @@ abbrev pub given_up_before_it_was_sent : Worked
 given_up_before_it_was_sent = worked usual_start (
     dialogue_born 1
     ∷ invoke_pair 1 (pos 1) One (pos 10) 1000 (Answer.number 1)
-    ∷ request_pair 1 (Request.component (ComponentRequest.u_cancel (pos 1))) (Answer.given_up 1)
+    ∷ request_pair 1 (asks.u_cancel (pos 1)) (Answer.given_up 1)
     ∷ request_pair 1 begin_request (Answer.outputs (Output.send (hex 8 0x6206_480400000001) ∷ []))
     ∷ moment_pair 1000 []
     ∷ [])
@@ -123,20 +125,20 @@ abbrev pub nothing_left_to_send : Worked
 nothing_left_to_send = worked usual_start (
     dialogue_born 1
     ∷ invoke_pair 1 (pos 1) Four (pos 7) 5 (Answer.number 1)
-    ∷ request_pair 1 (Request.component (ComponentRequest.u_cancel (pos 1))) (Answer.given_up 1)
-    ∷ request_pair 1 (Request.dialogue (DialogueRequest.uni None [])) (Answer.refused Fault.not_class_four)
+    ∷ request_pair 1 (asks.u_cancel (pos 1)) (Answer.given_up 1)
+    ∷ request_pair 1 (asks.uni None []) (Answer.refused Fault.not_class_four)
     ∷ [])
     (closed_at 1 3 1 (pos 1) Closing.given_up ∷ [])
 
 -- A Reject in another dialogue frees nothing here (own).
 abbrev pub a_reject_in_another_dialogue : Worked
 a_reject_in_another_dialogue = worked usual_start (opened_with_invoke (
-    received_pair result_of_first (continued 1 ∷ Output.component (ComponentIndication.closed 1 1 (pos 1) empty_result) ∷ [])
+    received_pair result_of_first (continued 1 ∷ told.closed 1 1 (pos 1) empty_result ∷ [])
     ∷ received_pair shown_begin (
-    Output.dialogue (DialogueIndication.begin 2 None [])
-    ∷ Output.component (ComponentIndication.invoked (Some 2) (pos 1) None (code 2) (Some (hex 5 0x3003_0401AA)))
+    told.begin 2 None []
+    ∷ told.invoked (Some 2) (pos 1) None (code 2) (Some (hex 5 0x3003_0401AA))
     ∷ [])
-    ∷ request_pair 2 (Request.component (ComponentRequest.u_reject (Some (pos 1)) (of_result 2))) Answer.done
+    ∷ request_pair 2 (asks.u_reject (Some (pos 1)) (of_result 2)) Answer.done
     ∷ invoke_pair 1 (pos 1) One (pos 10) 1000 (Answer.refused Fault.invoke_id_in_use)
     ∷ []))
     (closed_at 1 4 1 (pos 1) empty_result ∷ [])
@@ -145,12 +147,12 @@ a_reject_in_another_dialogue = worked usual_start (opened_with_invoke (
 -- own (own).
 abbrev pub no_timer_outlives_its_dialogue : Worked
 no_timer_outlives_its_dialogue = worked usual_start (opened_with_invoke (
-    request_pair 1 (Request.dialogue (DialogueRequest.u_abort AbortReason.by_user [])) (Answer.outputs (Output.component (ComponentIndication.closed 1 1 (pos 1) Closing.ended) ∷ []))
+    request_pair 1 (asks.u_abort AbortReason.by_user []) (Answer.outputs (told.closed 1 1 (pos 1) Closing.ended ∷ []))
     ∷ dialogue_born 2
     ∷ invoke_pair 2 (pos 1) One (pos 10) 5000 (Answer.number 2)
     ∷ request_pair 2 begin_request (Answer.outputs (Output.send (hex 18 0x6210_480400000002_6C08_A106_020101_02010A) ∷ []))
     ∷ moment_pair 1000 []
-    ∷ moment_pair 5000 (Output.component (ComponentIndication.closed 2 2 (pos 1) Closing.lapsed) ∷ [])
+    ∷ moment_pair 5000 (told.closed 2 2 (pos 1) Closing.lapsed ∷ [])
     ∷ []))
     (closed_at 1 4 1 (pos 1) Closing.ended ∷ closed_at 2 9 2 (pos 1) Closing.lapsed ∷ [])
 
@@ -166,10 +168,10 @@ lapses_in_order = worked usual_start (
     ∷ request_pair 2 begin_request (Answer.outputs (Output.send (hex 26 0x6218_480400000002_6C10_A106_020105_02010A_A106_020106_02010A) ∷ []))
     ∷ request_pair 1 begin_request (Answer.outputs (Output.send (hex 26 0x6218_480400000001_6C10_A106_020107_02010A_A106_020108_02010A) ∷ []))
     ∷ moment_pair 20 (
-    Output.component (ComponentIndication.closed 2 2 (pos 6) Closing.lapsed)
-    ∷ Output.component (ComponentIndication.closed 1 3 (pos 7) Closing.lapsed)
-    ∷ Output.component (ComponentIndication.closed 1 4 (pos 8) Closing.lapsed)
-    ∷ Output.component (ComponentIndication.closed 2 1 (pos 5) Closing.lapsed)
+    told.closed 2 2 (pos 6) Closing.lapsed
+    ∷ told.closed 1 3 (pos 7) Closing.lapsed
+    ∷ told.closed 1 4 (pos 8) Closing.lapsed
+    ∷ told.closed 2 1 (pos 5) Closing.lapsed
     ∷ [])
     ∷ [])
     (closed_at 1 9 2 (pos 5) Closing.lapsed

@@ -3,19 +3,21 @@ use Rattle.std.specs.Prelude.{pos, List, [], ◌∷◌, ◌++◌, replicate, Som
 use Rattle.tcap_model.specs.Words.Answer.{Answer}
 use Rattle.tcap_examples.specs.Values.DialogueValues.{context, aarq, aare, begin_with_aarq, aare_result, aarq_version, of_invoke, code}
 use Rattle.tcap_examples.specs.Values.Hex.{hex}
-use Rattle.tcap_model.specs.Words.Output.{Output, DropCause, ComponentIndication, DialogueIndication}
+use Rattle.tcap_model.specs.Words.Output.{Output, DropCause}
 use Rattle.tcap_model.specs.Histories.Pair.{Pair}
-use Rattle.tcap_model.specs.Words.Request.{Request, AbortReason, DialogueRequest}
+use Rattle.tcap_model.specs.Words.Request.{AbortReason}
 use Rattle.tcap_examples.specs.Histories.Worked.{Worked, worked}
 use Rattle.tcap_examples.specs.Histories.Ends.{no_common_portion}
 use Rattle.tcap_examples.specs.Values.HistoryWords.{dialogue_born, request_pair, received_pair, continue_request, usual_start}
+use Rattle.tcap_examples.specs.Values.Asked as asks
+use Rattle.tcap_examples.specs.Values.Told as told
 
 -- A Begin with an AARQ and an Invoke is received (own).
 abbrev pub opened_by_the_peer : List Pair → List Pair
 opened_by_the_peer pairs =
     received_pair begin_with_aarq (
-    Output.dialogue (DialogueIndication.begin 1 (Some context) [])
-    ∷ Output.component (ComponentIndication.invoked (Some 1) (pos 1) None (code 2) (Some (hex 5 0x3003_0401AA)))
+    told.begin 1 (Some context) []
+    ∷ told.invoked (Some 1) (pos 1) None (code 2) (Some (hex 5 0x3003_0401AA))
     ∷ [])
     ∷ pairs
 
@@ -29,7 +31,7 @@ a_begin_with_aarq = worked usual_start (opened_by_the_peer (
 -- Or its application context isn't supported (own).
 abbrev pub dialogue_refused : Worked
 dialogue_refused = worked usual_start (opened_by_the_peer (
-    request_pair 1 (Request.dialogue (DialogueRequest.u_abort AbortReason.not_supported [])) (Answer.outputs (
+    request_pair 1 (asks.u_abort AbortReason.not_supported []) (Answer.outputs (
     Output.send (hex 8 0x6732_490400000001 ++ aare_result 0xA203020101_A305A103020102)
     ∷ []))
     ∷ []))
@@ -38,7 +40,7 @@ dialogue_refused = worked usual_start (opened_by_the_peer (
 -- Or the user aborts (own).
 abbrev pub dialogue_aborted : Worked
 dialogue_aborted = worked usual_start (opened_by_the_peer (
-    request_pair 1 (Request.dialogue (DialogueRequest.u_abort AbortReason.by_user [])) (Answer.outputs (
+    request_pair 1 (asks.u_abort AbortReason.by_user []) (Answer.outputs (
     Output.send (hex 28 0x671A_490400000001_6B12_2810_060700118605010101_A005_6403_800100)
     ∷ []))
     ∷ []))
@@ -75,8 +77,8 @@ faulty_messages_answered = worked usual_start (
 abbrev pub unknown_linked_identifier : Worked
 unknown_linked_identifier = worked usual_start (
     received_pair (hex 21 0x6213_480400000001_6C0B_A109_020101_800105_020102) (
-    Output.dialogue (DialogueIndication.begin 1 None [])
-    ∷ Output.component (ComponentIndication.local_reject (Some 1) (Some (pos 1)) (of_invoke 5))
+    told.begin 1 None []
+    ∷ told.local_reject (Some 1) (Some (pos 1)) (of_invoke 5)
     ∷ [])
     ∷ [])
     []

@@ -7,9 +7,10 @@ use Rattle.tcap_examples.specs.Values.DialogueValues.{shown_begin, code}
 use Rattle.tcap_model.specs.Words.Fault.{Fault}
 use Rattle.tcap_examples.specs.Values.Hex.{hex}
 use Rattle.tcap_model.specs.Words.Output.{Output}
-use Rattle.tcap_model.specs.Words.Request.{Request, ComponentRequest, DialogueRequest}
+use Rattle.tcap_model.specs.Words.Request.{Request}
 use Rattle.tcap_examples.specs.Histories.Worked.{Worked, worked, not_closed}
 use Rattle.tcap_examples.specs.Values.HistoryWords.{dialogue_born, birth_refused, invoke_pair, request_pair, received_pair, moment_pair, moment_refused, usual_start}
+use Rattle.tcap_examples.specs.Values.Asked as asks
 
 -- As many dialogues stand as may: neither the user nor a peer gets one (own).
 abbrev pub dialogues_full : Worked
@@ -46,7 +47,7 @@ moments = worked usual_start (
 
 -- An Invoke of class 1 with this code and parameter (own).
 abbrev pub invoke_with : CodeParts → List ℕ → Request
-invoke_with code parameter = Request.component (ComponentRequest.invoke (pos 1) One code (Some parameter) None 1000)
+invoke_with code parameter = asks.invoke (pos 1) One code (Some parameter) None 1000
 
 -- An OCTET STRING of 60,000 octets (own).
 abbrev pub longest_parameter : List ℕ
@@ -58,16 +59,16 @@ refusals = worked usual_start (
     dialogue_born 1
     ∷ invoke_pair 1 (pos 1) One (pos 10) 0 (Answer.refused Fault.bad_timeout)
     ∷ invoke_pair 9 (pos 1) One (pos 10) 0 (Answer.refused Fault.unknown_dialogue)
-    ∷ request_pair 1 (Request.component (ComponentRequest.invoke (pos 1) One (CodeParts.global (0x80 ∷ [])) None None 1000)) (Answer.refused Fault.bad_oid)
+    ∷ request_pair 1 (asks.invoke (pos 1) One (CodeParts.global (0x80 ∷ [])) None None 1000) (Answer.refused Fault.bad_oid)
     ∷ request_pair 1 (invoke_with (code 10) (hex 3 0x0405AA)) (Answer.refused Fault.bad_parameter)
     ∷ request_pair 1 (invoke_with (code 10) longest_parameter) (Answer.refused Fault.too_long)
-    ∷ request_pair 1 (Request.dialogue (DialogueRequest.begin None (hex 2 0x2800))) (Answer.refused Fault.no_context)
-    ∷ request_pair 1 (Request.dialogue (DialogueRequest.begin None (hex 2 0x0400))) (Answer.refused Fault.bad_parameter)
-    ∷ request_pair 1 (Request.dialogue (DialogueRequest.go_on None [])) (Answer.refused Fault.wrong_state)
-    ∷ request_pair 1 (Request.component (ComponentRequest.result_last (pos 1) None)) (Answer.refused Fault.wrong_state)
-    ∷ request_pair 1 (Request.component (ComponentRequest.u_cancel (pos 1))) (Answer.refused Fault.no_such_invocation)
-    ∷ request_pair 1 (Request.dialogue (DialogueRequest.uni None [])) (Answer.refused Fault.not_class_four)
+    ∷ request_pair 1 (asks.begin None (hex 2 0x2800)) (Answer.refused Fault.no_context)
+    ∷ request_pair 1 (asks.begin None (hex 2 0x0400)) (Answer.refused Fault.bad_parameter)
+    ∷ request_pair 1 (asks.go_on None []) (Answer.refused Fault.wrong_state)
+    ∷ request_pair 1 (asks.result_last (pos 1) None) (Answer.refused Fault.wrong_state)
+    ∷ request_pair 1 (asks.u_cancel (pos 1)) (Answer.refused Fault.no_such_invocation)
+    ∷ request_pair 1 (asks.uni None []) (Answer.refused Fault.not_class_four)
     ∷ invoke_pair 1 (pos 1) One (pos 10) 1000 (Answer.number 1)
-    ∷ request_pair 1 (Request.dialogue (DialogueRequest.uni None [])) (Answer.refused Fault.not_class_four)
+    ∷ request_pair 1 (asks.uni None []) (Answer.refused Fault.not_class_four)
     ∷ [])
     (not_closed 1 ∷ [])

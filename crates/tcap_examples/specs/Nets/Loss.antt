@@ -3,12 +3,14 @@ use Rattle.std.specs.Prelude.{ℕ, pos, List, [], ◌∷◌, ◌++◌, take, dro
 use Rattle.tcap_model.specs.Words.Answer.{Answer}
 use Rattle.tcap_examples.specs.Values.Hex.{hex}
 use Rattle.tcap_model.specs.Statements.Net.{Engine, Net}
-use Rattle.tcap_model.specs.Words.Output.{Output, Closing, ComponentIndication}
+use Rattle.tcap_model.specs.Words.Output.{Output, Closing}
 use Rattle.tcap_model.specs.Histories.Pair.{Pair}
-use Rattle.tcap_model.specs.Words.Request.{Request, Ending, ComponentRequest, DialogueRequest}
+use Rattle.tcap_model.specs.Words.Request.{Ending}
 use Rattle.tcap_examples.specs.Histories.Worked.{Worked, worked, closed_at}
 use Rattle.tcap_examples.specs.Nets.Play.{result_body, begin_told, on_engine, first_begin}
 use Rattle.tcap_examples.specs.Values.HistoryWords.{request_pair, received_pair, moment_pair, continue_request, continued, usual_start, opened_for}
+use Rattle.tcap_examples.specs.Values.Asked as asks
+use Rattle.tcap_examples.specs.Values.Told as told
 
 -- The Continue of the second engine, with a result that isn't the last (own).
 abbrev pub part_of_the_result : List ℕ
@@ -16,25 +18,25 @@ part_of_the_result = hex 29 0x651B_480400000001_490400000001_6C0D_A70B_020101_30
 
 -- What the first engine tells of it (own).
 abbrev pub part_told : List Output
-part_told = continued 1 ∷ Output.component (ComponentIndication.result_more 1 1 (pos 1) (Some (result_body (hex 3 0x0401AA)))) ∷ []
+part_told = continued 1 ∷ told.result_more 1 1 (pos 1) (Some (result_body (hex 3 0x0401AA))) ∷ []
 
 -- What happens at the first engine: its invocation lapses (own).
 abbrev pub first_of_the_loss : List Pair
 first_of_the_loss = opened_for 5000 (
     received_pair part_of_the_result part_told
     ∷ received_pair part_of_the_result part_told
-    ∷ moment_pair 5000 (Output.component (ComponentIndication.closed 1 1 (pos 1) Closing.lapsed) ∷ [])
-    ∷ request_pair 1 (Request.dialogue (DialogueRequest.finish Ending.prearranged None [])) (Answer.outputs [])
+    ∷ moment_pair 5000 (told.closed 1 1 (pos 1) Closing.lapsed ∷ [])
+    ∷ request_pair 1 (asks.finish Ending.prearranged None []) (Answer.outputs [])
     ∷ [])
 
 -- What happens at the second engine: it answers in a Continue and in an End (own).
 abbrev pub second_of_the_loss : List Pair
 second_of_the_loss =
     received_pair first_begin (begin_told 1)
-    ∷ request_pair 1 (Request.component (ComponentRequest.result_more (pos 1) (Some (result_body (hex 3 0x0401AA))))) Answer.done
+    ∷ request_pair 1 (asks.result_more (pos 1) (Some (result_body (hex 3 0x0401AA)))) Answer.done
     ∷ request_pair 1 continue_request (Answer.outputs (Output.send part_of_the_result ∷ []))
-    ∷ request_pair 1 (Request.component (ComponentRequest.result_last (pos 1) (Some (result_body (hex 3 0x0401BB))))) Answer.done
-    ∷ request_pair 1 (Request.dialogue (DialogueRequest.finish Ending.basic None [])) (Answer.outputs (Output.send (hex 23 0x6415_490400000001_6C0D_A20B_020101_3006_02010A_0401BB) ∷ []))
+    ∷ request_pair 1 (asks.result_last (pos 1) (Some (result_body (hex 3 0x0401BB)))) Answer.done
+    ∷ request_pair 1 (asks.finish Ending.basic None []) (Answer.outputs (Output.send (hex 23 0x6415_490400000001_6C0D_A20B_020101_3006_02010A_0401BB) ∷ []))
     ∷ moment_pair 5000 []
     ∷ []
 

@@ -5,11 +5,12 @@ use Rattle.tcap_model.specs.Words.Answer.{Answer}
 use Rattle.tcap_examples.specs.Values.DialogueValues.{of_result, code}
 use Rattle.tcap_examples.specs.Values.Hex.{hex}
 use Rattle.tcap_model.specs.Statements.Net.{Engine, Marked, Net}
-use Rattle.tcap_model.specs.Words.Output.{Output, Closing, ComponentIndication, DialogueIndication}
+use Rattle.tcap_model.specs.Words.Output.{Output, Closing}
 use Rattle.tcap_model.specs.Histories.Pair.{Pair}
-use Rattle.tcap_model.specs.Words.Request.{Request, ComponentRequest}
 use Rattle.tcap_examples.specs.Histories.Worked.{Worked, worked, closed_at}
 use Rattle.tcap_examples.specs.Values.HistoryWords.{request_pair, received_pair, moment_pair, continue_request, continued, usual_start, opened_with_invoke}
+use Rattle.tcap_examples.specs.Values.Asked as asks
+use Rattle.tcap_examples.specs.Values.Told as told
 
 -- The body of a result with operation 10 and an OCTET STRING as its parameter (own).
 abbrev pub result_body : List ℕ → BodyParts
@@ -31,16 +32,16 @@ second_answer = hex 29 0x651B_480400000002_490400000001_6C0D_A20B_020101_3006_02
 -- before the first (own).
 abbrev pub at_the_first : List Pair
 at_the_first = opened_with_invoke (
-    received_pair second_answer (continued 1 ∷ Output.component (ComponentIndication.closed 1 1 (pos 1) (Closing.result_last (Some (result_body (hex 3 0x0401BB))))) ∷ [])
-    ∷ received_pair first_answer (continued 1 ∷ Output.component (ComponentIndication.local_reject (Some 1) (Some (pos 1)) (of_result 0)) ∷ [])
+    received_pair second_answer (continued 1 ∷ told.closed 1 1 (pos 1) (Closing.result_last (Some (result_body (hex 3 0x0401BB)))) ∷ [])
+    ∷ received_pair first_answer (continued 1 ∷ told.local_reject (Some 1) (Some (pos 1)) (of_result 0) ∷ [])
     ∷ moment_pair 1000 []
     ∷ [])
 
 -- What the second engine tells of the Begin (own).
 abbrev pub begin_told : ℕ → List Output
 begin_told dialogue =
-    Output.dialogue (DialogueIndication.begin dialogue None [])
-    ∷ Output.component (ComponentIndication.invoked (Some dialogue) (pos 1) None (code 10) None)
+    told.begin dialogue None []
+    ∷ told.invoked (Some dialogue) (pos 1) None (code 10) None
     ∷ []
 
 -- What happens at the second engine, in order of time: it hears the Begin twice, and answers in both
@@ -49,9 +50,9 @@ abbrev pub at_the_second : List Pair
 at_the_second =
     received_pair first_begin (begin_told 1)
     ∷ received_pair first_begin (begin_told 2)
-    ∷ request_pair 1 (Request.component (ComponentRequest.result_last (pos 1) (Some (result_body (hex 3 0x0401AA))))) Answer.done
+    ∷ request_pair 1 (asks.result_last (pos 1) (Some (result_body (hex 3 0x0401AA)))) Answer.done
     ∷ request_pair 1 continue_request (Answer.outputs (Output.send first_answer ∷ []))
-    ∷ request_pair 2 (Request.component (ComponentRequest.result_last (pos 1) (Some (result_body (hex 3 0x0401BB))))) Answer.done
+    ∷ request_pair 2 (asks.result_last (pos 1) (Some (result_body (hex 3 0x0401BB)))) Answer.done
     ∷ request_pair 2 continue_request (Answer.outputs (Output.send second_answer ∷ []))
     ∷ moment_pair 1000 []
     ∷ []

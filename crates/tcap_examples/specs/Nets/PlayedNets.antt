@@ -8,13 +8,15 @@ use Rattle.tcap_examples.specs.Values.DialogueValues.{code}
 use Rattle.tcap_examples.specs.Values.Hex.{hex}
 use Rattle.tcap_model.specs.Histories.History.{Start}
 use Rattle.tcap_model.specs.Statements.Net.{Engine, far, Marked, Trace, side, Net}
-use Rattle.tcap_model.specs.Words.Output.{Output, Closing, ComponentIndication, DialogueIndication}
+use Rattle.tcap_model.specs.Words.Output.{Output, Closing}
 use Rattle.tcap_model.specs.Histories.Pair.{Pair}
 use Rattle.tcap_model.specs.Statements.Places.{Tells}
-use Rattle.tcap_model.specs.Words.Request.{Request, Ending, ComponentRequest, DialogueRequest}
+use Rattle.tcap_model.specs.Words.Request.{Request, Ending}
 use Rattle.tcap_model.specs.Statements.TwoEnds.{Happens, IsAnswer, IsFarRequest, WasSent}
 use Rattle.tcap_examples.specs.Nets.Play as play
 use Rattle.tcap_examples.specs.Values.HistoryWords.{dialogue_born, invoke_pair, request_pair, received_pair, moment_pair, begin_request, continue_request, continued, empty_result}
+use Rattle.tcap_examples.specs.Values.Asked as asks
+use Rattle.tcap_examples.specs.Values.Told as told
 
 -- The start of the engines of a play: at most 16 dialogues, a second to wait for a Reject (own).
 abbrev pub play_start : Start
@@ -38,7 +40,7 @@ send_answer bytes = Answer.outputs (Output.send bytes ∷ [])
 
 -- The last result for identifier 1, without a body (own).
 abbrev pub answer : Request
-answer = Request.component (ComponentRequest.result_last (pos 1) None)
+answer = asks.result_last (pos 1) None
 
 -- The Continue that carries it (own).
 abbrev pub result_continue : List ℕ
@@ -50,7 +52,7 @@ second_invoke = hex 24 0x6516_480400000002_490400000001_6C08_A106_020101_02010A
 
 -- An Invoke with identifier 1 and operation 10 is told in a dialogue (own).
 abbrev pub invoked : ℕ → Output
-invoked dialogue = Output.component (ComponentIndication.invoked (Some dialogue) (pos 1) None (CodeParts.local (pos 10)) None)
+invoked dialogue = told.invoked (Some dialogue) (pos 1) None (CodeParts.local (pos 10)) None
 
 -- An answer that is told of an invocation, and a far request that it may come from, which was made
 -- before the invocation's Invoke was sent (own).
@@ -85,11 +87,11 @@ second_body = play.result_body (hex 3 0x0401BB)
 
 -- The request of the second engine's user that it comes from (own).
 abbrev pub second_request : Request
-second_request = Request.component (ComponentRequest.result_last (pos 1) (Some second_body))
+second_request = asks.result_last (pos 1) (Some second_body)
 
 -- The invocation is closed by it (own).
 abbrev pub answer_closes : Output
-answer_closes = Output.component (ComponentIndication.closed 1 1 (pos 1) (Closing.result_last (Some second_body)))
+answer_closes = told.closed 1 1 (pos 1) (Closing.result_last (Some second_body))
 
 -- The first engine is told so (own).
 abbrev pub answer_told : Pair
@@ -111,14 +113,14 @@ abbrev pub answered_ahead : Net
 answered_ahead = played (
     at_a (dialogue_born 1)
     ∷ at_a (request_pair 1 begin_request (send_answer (hex 8 0x6206_480400000001)))
-    ∷ at_b (received_pair (hex 8 0x6206_480400000001) (Output.dialogue (DialogueIndication.begin 1 None []) ∷ []))
+    ∷ at_b (received_pair (hex 8 0x6206_480400000001) (told.begin 1 None [] ∷ []))
     ∷ at_b (request_pair 1 continue_request (send_answer (hex 14 0x650C_480400000001_490400000001)))
     ∷ at_a (received_pair (hex 14 0x650C_480400000001_490400000001) (continued 1 ∷ []))
     ∷ at_b (request_pair 1 answer Answer.done)
     ∷ at_b (request_pair 1 continue_request (send_answer result_continue))
     ∷ at_a (invoke_pair 1 (pos 1) One (pos 10) 1000 (Answer.number 1))
     ∷ at_a (request_pair 1 continue_request (send_answer (hex 24 0x6516_480400000001_490400000001_6C08_A106_020101_02010A)))
-    ∷ at_a (received_pair result_continue (continued 1 ∷ Output.component (ComponentIndication.closed 1 1 (pos 1) empty_result) ∷ []))
+    ∷ at_a (received_pair result_continue (continued 1 ∷ told.closed 1 1 (pos 1) empty_result ∷ []))
     ∷ [])
 
 -- ---- an identifier used again
@@ -130,14 +132,14 @@ used_again = played (
     at_a (dialogue_born 1)
     ∷ at_a (invoke_pair 1 (pos 1) One (pos 10) 5000 (Answer.number 1))
     ∷ at_a (request_pair 1 begin_request (send_answer (hex 18 0x6210_480400000001_6C08_A106_020101_02010A)))
-    ∷ at_b (received_pair (hex 18 0x6210_480400000001_6C08_A106_020101_02010A) (Output.dialogue (DialogueIndication.begin 1 None []) ∷ invoked 1 ∷ []))
+    ∷ at_b (received_pair (hex 18 0x6210_480400000001_6C08_A106_020101_02010A) (told.begin 1 None [] ∷ invoked 1 ∷ []))
     ∷ at_b (request_pair 1 answer Answer.done)
     ∷ at_b (request_pair 1 continue_request (send_answer result_continue))
-    ∷ at_a (received_pair result_continue (continued 1 ∷ Output.component (ComponentIndication.closed 1 1 (pos 1) empty_result) ∷ []))
+    ∷ at_a (received_pair result_continue (continued 1 ∷ told.closed 1 1 (pos 1) empty_result ∷ []))
     ∷ at_a (moment_pair 1000 [])
     ∷ at_a (invoke_pair 1 (pos 1) One (pos 10) 5000 (Answer.number 2))
     ∷ at_a (request_pair 1 continue_request (send_answer (hex 24 0x6516_480400000001_490400000001_6C08_A106_020101_02010A)))
-    ∷ at_a (received_pair result_continue (continued 1 ∷ Output.component (ComponentIndication.closed 1 2 (pos 1) empty_result) ∷ []))
+    ∷ at_a (received_pair result_continue (continued 1 ∷ told.closed 1 2 (pos 1) empty_result ∷ []))
     ∷ [])
 
 -- ---- two dialogues heard as one
@@ -149,8 +151,8 @@ abbrev pub heard_as_one : Net
 heard_as_one = played (
     at_b (dialogue_born 1)
     ∷ at_b (request_pair 1 begin_request (send_answer (hex 8 0x6206_480400000001)))
-    ∷ at_a (received_pair (hex 8 0x6206_480400000001) (Output.dialogue (DialogueIndication.begin 1 None []) ∷ []))
-    ∷ at_a (received_pair (hex 8 0x6206_480400000001) (Output.dialogue (DialogueIndication.begin 2 None []) ∷ []))
+    ∷ at_a (received_pair (hex 8 0x6206_480400000001) (told.begin 1 None [] ∷ []))
+    ∷ at_a (received_pair (hex 8 0x6206_480400000001) (told.begin 2 None [] ∷ []))
     ∷ at_a (request_pair 1 continue_request (send_answer (hex 14 0x650C_480400000001_490400000001)))
     ∷ at_b (received_pair (hex 14 0x650C_480400000001_490400000001) (continued 1 ∷ []))
     ∷ at_a (invoke_pair 2 (pos 1) One (pos 10) 1000 (Answer.number 1))
@@ -160,7 +162,7 @@ heard_as_one = played (
     ∷ at_b (request_pair 1 continue_request (send_answer result_continue))
     ∷ at_a (invoke_pair 1 (pos 1) One (pos 10) 1000 (Answer.number 2))
     ∷ at_a (request_pair 1 continue_request (send_answer (hex 24 0x6516_480400000001_490400000001_6C08_A106_020101_02010A)))
-    ∷ at_a (received_pair result_continue (continued 1 ∷ Output.component (ComponentIndication.closed 1 2 (pos 1) empty_result) ∷ []))
+    ∷ at_a (received_pair result_continue (continued 1 ∷ told.closed 1 2 (pos 1) empty_result ∷ []))
     ∷ [])
 
 -- ---- an Invoke that ends what carries it
@@ -171,14 +173,14 @@ alone_sent = hex 12 0x610A_6C08_A106_020101_020107
 
 -- The Unidirectional is told, with its Invoke (own).
 abbrev pub alone_told : Pair
-alone_told = received_pair alone_sent (Output.dialogue (DialogueIndication.uni None []) ∷ Output.component (ComponentIndication.invoked None (pos 1) None (code 7) None) ∷ [])
+alone_told = received_pair alone_sent (told.uni None [] ∷ told.invoked None (pos 1) None (code 7) None ∷ [])
 
 -- It goes from the first engine to the second (own).
 abbrev pub in_a_unidirectional : Net
 in_a_unidirectional = played (
     at_a (dialogue_born 1)
     ∷ at_a (invoke_pair 1 (pos 1) Four (pos 7) 1000 (Answer.number 1))
-    ∷ at_a (request_pair 1 (Request.dialogue (DialogueRequest.uni None [])) (Answer.outputs (Output.send alone_sent ∷ Output.component (ComponentIndication.closed 1 1 (pos 1) Closing.ended) ∷ [])))
+    ∷ at_a (request_pair 1 (asks.uni None []) (Answer.outputs (Output.send alone_sent ∷ told.closed 1 1 (pos 1) Closing.ended ∷ [])))
     ∷ at_b alone_told
     ∷ [])
 
@@ -188,16 +190,16 @@ end_sent = hex 18 0x6410_490400000001_6C08_A106_020101_02010A
 
 -- The End is told, with its Invoke (own).
 abbrev pub end_told : Pair
-end_told = received_pair end_sent (Output.dialogue (DialogueIndication.end 1 None []) ∷ invoked 1 ∷ [])
+end_told = received_pair end_sent (told.end 1 None [] ∷ invoked 1 ∷ [])
 
 -- The second engine ends a dialogue of the first with an End that has an Invoke (own).
 abbrev pub in_an_end : Net
 in_an_end = played (
     at_a (dialogue_born 1)
     ∷ at_a (request_pair 1 begin_request (send_answer (hex 8 0x6206_480400000001)))
-    ∷ at_b (received_pair (hex 8 0x6206_480400000001) (Output.dialogue (DialogueIndication.begin 1 None []) ∷ []))
+    ∷ at_b (received_pair (hex 8 0x6206_480400000001) (told.begin 1 None [] ∷ []))
     ∷ at_b (invoke_pair 1 (pos 1) One (pos 10) 1000 (Answer.number 1))
-    ∷ at_b (request_pair 1 (Request.dialogue (DialogueRequest.finish Ending.basic None [])) (Answer.outputs (Output.send end_sent ∷ Output.component (ComponentIndication.closed 1 1 (pos 1) Closing.ended) ∷ [])))
+    ∷ at_b (request_pair 1 (asks.finish Ending.basic None []) (Answer.outputs (Output.send end_sent ∷ told.closed 1 1 (pos 1) Closing.ended ∷ [])))
     ∷ at_a end_told
     ∷ [])
 
@@ -212,6 +214,6 @@ forged = played (
     ∷ at_a (invoke_pair 1 (pos 1) One (pos 10) 1000 (Answer.number 1))
     ∷ at_a (received_pair (hex 14 0x650C_480400000001_490400000001) (continued 1 ∷ []))
     ∷ at_a (request_pair 1 continue_request (send_answer (hex 24 0x6516_480400000001_490400000001_6C08_A106_020101_02010A)))
-    ∷ at_a (received_pair result_continue (continued 1 ∷ Output.component (ComponentIndication.closed 1 1 (pos 1) empty_result) ∷ []))
-    ∷ at_b (received_pair (hex 18 0x6210_480400000001_6C08_A106_020101_02010B) (Output.dialogue (DialogueIndication.begin 1 None []) ∷ Output.component (ComponentIndication.invoked (Some 1) (pos 1) None (code 11) None) ∷ []))
+    ∷ at_a (received_pair result_continue (continued 1 ∷ told.closed 1 1 (pos 1) empty_result ∷ []))
+    ∷ at_b (received_pair (hex 18 0x6210_480400000001_6C08_A106_020101_02010B) (told.begin 1 None [] ∷ told.invoked (Some 1) (pos 1) None (code 11) None ∷ []))
     ∷ [])

@@ -7,12 +7,13 @@ use Rattle.tcap_invocation.specs.declared.class.Class.TheVariants.{One}
 use Rattle.tcap_model.specs.Words.Answer.{Answer}
 use Rattle.tcap_examples.specs.Values.DialogueValues.{context, aarq, begin_with_aarq, general, of_result, code}
 use Rattle.tcap_examples.specs.Values.Hex.{hex}
-use Rattle.tcap_model.specs.Words.Output.{Output, ComponentIndication, DialogueIndication}
+use Rattle.tcap_model.specs.Words.Output.{Output}
 use Rattle.tcap_model.specs.Histories.Pair.{Pair, Past}
 use Rattle.tcap_examples.specs.Histories.Receptions as reception
 use Rattle.tcap_examples.specs.Statements.HeadlineExamples.{faulty_second_history, late_result_history}
 use Rattle.tcap_examples.specs.Values.HistoryWords.{dialogue_born, invoke_pair, request_pair, received_pair, begin_request, continue_request, continued, empty_result, usual_start}
 use Rattle.tcap_examples.specs.Wrong.WrongHistories.{Wrong, wrong}
+use Rattle.tcap_examples.specs.Values.Told as told
 
 -- ---- two Invokes that go out, and a Reject
 
@@ -91,11 +92,11 @@ result_received = hex 39 0x6525_480400000005_490400000001_6C17_A203_020180_A503_
 
 -- The result closes number 1 (own).
 abbrev pub result_told : Output
-result_told = Output.component (ComponentIndication.closed 1 1 (negsuc 127) empty_result)
+result_told = told.closed 1 1 (negsuc 127) empty_result
 
 -- What is told of it (own).
 abbrev pub result_pair : Pair
-result_pair = received_pair result_received (continued 1 ∷ result_told ∷ Output.component (ComponentIndication.local_reject (Some 1) (Some (pos 7)) (general 0)) ∷ [])
+result_pair = received_pair result_received (continued 1 ∷ result_told ∷ told.local_reject (Some 1) (Some (pos 7)) (general 0) ∷ [])
 
 -- The message (own).
 abbrev pub result_message : Message
@@ -121,11 +122,11 @@ begin_received = reception.a_begin_with_aarq.history.pairs
 
 -- The Invoke is told (own).
 abbrev pub invoke_told : Output
-invoke_told = Output.component (ComponentIndication.invoked (Some 1) (pos 1) None (code 2) (Some (hex 5 0x3003_0401AA)))
+invoke_told = told.invoked (Some 1) (pos 1) None (code 2) (Some (hex 5 0x3003_0401AA))
 
 -- What is told of the Begin (own).
 abbrev pub begun_pair : Pair
-begun_pair = received_pair begin_with_aarq (Output.dialogue (DialogueIndication.begin 1 (Some context) []) ∷ invoke_told ∷ [])
+begun_pair = received_pair begin_with_aarq (told.begin 1 (Some context) [] ∷ invoke_told ∷ [])
 
 -- The message: its dialogue portion is the AARQ (own).
 abbrev pub begun_message : Message
@@ -162,8 +163,8 @@ crossed_queues = wrong usual_start (
 
 -- The Begin asks for operation 2, and operation 3 is told (own).
 abbrev pub misread_told : Output
-misread_told = Output.component (ComponentIndication.invoked (Some 1) (pos 1) None (code 3) (Some (hex 5 0x3003_0401AA)))
+misread_told = told.invoked (Some 1) (pos 1) None (code 3) (Some (hex 5 0x3003_0401AA))
 
 -- It is all that happens (own).
 abbrev pub misread : Wrong
-misread = wrong usual_start [] (received_pair begin_with_aarq (Output.dialogue (DialogueIndication.begin 1 (Some context) []) ∷ misread_told ∷ []))
+misread = wrong usual_start [] (received_pair begin_with_aarq (told.begin 1 (Some context) [] ∷ misread_told ∷ []))

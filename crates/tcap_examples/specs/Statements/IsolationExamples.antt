@@ -10,11 +10,12 @@ use Rattle.tcap_model.specs.Histories.History.{Start, History}
 use Rattle.tcap_model.specs.Statements.Isolation.{IsAlone}
 use Rattle.tcap_model.specs.Histories.Names.{names}
 use Rattle.tcap_model.specs.Statements.Net.{Engine, side}
-use Rattle.tcap_model.specs.Words.Output.{Output, Closing, ComponentIndication}
+use Rattle.tcap_model.specs.Words.Output.{Output, Closing}
 use Rattle.tcap_model.specs.Histories.Pair.{Pair, Past}
-use Rattle.tcap_model.specs.Words.Request.{Request, ComponentRequest}
 use Rattle.tcap_examples.specs.Nets.PlayedNets.{repeated_begin, heard_as_one}
 use Rattle.tcap_examples.specs.Values.HistoryWords.{dialogue_born, invoke_pair, request_pair, moment_pair, begin_request}
+use Rattle.tcap_examples.specs.Values.Asked as asks
+use Rattle.tcap_examples.specs.Values.Told as told
 
 -- The first of the last two invocation numbers (own).
 abbrev pub last_but_one : ℕ
@@ -42,11 +43,11 @@ second_begin = hex 18 0x6210_480400000002_6C08_A106_020101_02010A
 
 -- The first dialogue's invocation lapses (own).
 abbrev pub first_lapses : Output
-first_lapses = Output.component (ComponentIndication.closed 1 last (pos 1) Closing.lapsed)
+first_lapses = told.closed 1 last (pos 1) Closing.lapsed
 
 -- The second dialogue's invocation lapses (own).
 abbrev pub second_lapses : Output
-second_lapses = Output.component (ComponentIndication.closed 2 last_but_one (pos 1) Closing.lapsed)
+second_lapses = told.closed 2 last_but_one (pos 1) Closing.lapsed
 
 -- Two dialogues, each with an invocation that lapses at the same moment, in order of time; no number is
 -- left after them (own).
@@ -85,15 +86,15 @@ before_the_invoke = record { start = two_left; pairs = drop 4 two_dialogues.pair
 
 -- The first dialogue asks for an invocation (own).
 abbrev pub first_invokes : Event
-first_invokes = Event.on_dialogue 1 (Request.component (ComponentRequest.invoke (pos 1) One (code 10) None None 1000))
+first_invokes = Event.on_dialogue 1 (asks.invoke (pos 1) One (code 10) None None 1000)
 
 -- It asks for one more (own).
 abbrev pub invokes_again : Event
-invokes_again = Event.on_dialogue 1 (Request.component (ComponentRequest.invoke (pos 2) One (code 10) None None 1000))
+invokes_again = Event.on_dialogue 1 (asks.invoke (pos 2) One (code 10) None None 1000)
 
 -- It gives its invocation up (own).
 abbrev pub first_cancels : Event
-first_cancels = Event.on_dialogue 1 (Request.component (ComponentRequest.u_cancel (pos 1)))
+first_cancels = Event.on_dialogue 1 (asks.u_cancel (pos 1))
 
 -- It hears the result (own).
 abbrev pub first_hears : Event

@@ -7,10 +7,11 @@ use Rattle.tcap_invocation.specs.declared.class.Class.{Class}
 use Rattle.tcap_invocation.specs.declared.class.Class.TheVariants.{One}
 use Rattle.tcap_examples.specs.Values.Hex.{hex}
 use Rattle.tcap_model.specs.Words.Answer.{Answer}
-use Rattle.tcap_model.specs.Words.Output.{Output, Closing, ComponentIndication, DialogueIndication}
-use Rattle.tcap_model.specs.Words.Request.{Request, ComponentRequest, DialogueRequest}
+use Rattle.tcap_model.specs.Words.Output.{Output, Closing}
 use Rattle.tcap_model.specs.Table.TableMove.{DialogueEvent}
 use Rattle.tcap_examples.specs.Dialogues.Played.{Played, opened, play, heard, Ends}
+use Rattle.tcap_examples.specs.Values.Asked as asks
+use Rattle.tcap_examples.specs.Values.Told as told
 
 -- An application context, by the contents octets of its object identifier (own).
 abbrev pub context : List ℕ
@@ -40,7 +41,7 @@ code number = CodeParts.local (pos number)
 -- TC-INVOKE of this identifier, class and operation, without parameter and linked identifier, with this
 -- timeout in milliseconds (own).
 abbrev pub invoke_within : ℕ → ℤ → Class → ℕ → DialogueEvent
-invoke_within timeout id class operation = DialogueEvent.request (Request.component (ComponentRequest.invoke id class (code operation) None None timeout))
+invoke_within timeout id class operation = DialogueEvent.request (asks.invoke id class (code operation) None None timeout)
 
 -- The same with a timeout of 1000 milliseconds (own).
 abbrev pub invoke : ℤ → Class → ℕ → DialogueEvent
@@ -48,11 +49,11 @@ invoke id class operation = invoke_within 1000 id class operation
 
 -- TC-BEGIN without application context (own).
 abbrev pub plain_begin : DialogueEvent
-plain_begin = DialogueEvent.request (Request.dialogue (DialogueRequest.begin None []))
+plain_begin = DialogueEvent.request (asks.begin None [])
 
 -- TC-CONTINUE without application context (own).
 abbrev pub go_on : DialogueEvent
-go_on = DialogueEvent.request (Request.dialogue (DialogueRequest.go_on None []))
+go_on = DialogueEvent.request (asks.go_on None [])
 
 -- A dialogue is begun with one Invoke: identifier 1, class 1, operation 10 (own).
 abbrev pub one_invoke : List DialogueEvent
@@ -68,11 +69,11 @@ one_long_invoke = invoke_within 10000 (pos 1) One 10 ∷ plain_begin ∷ []
 
 -- The Invoke's invocation is told as ended with its dialogue (own).
 abbrev pub first_ended : Output
-first_ended = Output.component (ComponentIndication.closed 1 1 (pos 1) Closing.ended)
+first_ended = told.closed 1 1 (pos 1) Closing.ended
 
 -- The Invoke's invocation is told as closed by a result that holds nothing (own).
 abbrev pub first_result : Output
-first_result = Output.component (ComponentIndication.closed 1 1 (pos 1) (Closing.result_last None))
+first_result = told.closed 1 1 (pos 1) (Closing.result_last None)
 
 -- A Continue with the last result of identifier 1 (own).
 abbrev pub result_of_first : List ℕ
@@ -84,7 +85,7 @@ shown_begin = hex 23 0x6215_480400000001_6C0D_A10B020101_020102_30030401AA
 
 -- What is told of it (own).
 abbrev pub shown_begin_told : Answer
-shown_begin_told = Answer.outputs (Output.dialogue (DialogueIndication.begin 1 None []) ∷ Output.component (ComponentIndication.invoked (Some 1) (pos 1) None (code 2) (Some (hex 5 0x30030401AA))) ∷ [])
+shown_begin_told = Answer.outputs (told.begin 1 None [] ∷ told.invoked (Some 1) (pos 1) None (code 2) (Some (hex 5 0x30030401AA)) ∷ [])
 
 -- A Begin with an AARQ and the same Invoke (own).
 abbrev pub begin_with_aarq : List ℕ
@@ -92,7 +93,7 @@ begin_with_aarq = hex 8 0x6235_480400000001 ++ aarq ++ hex 15 0x6C0D_A10B020101_
 
 -- What is told of it (own).
 abbrev pub begin_with_aarq_told : Answer
-begin_with_aarq_told = Answer.outputs (Output.dialogue (DialogueIndication.begin 1 (Some context) []) ∷ Output.component (ComponentIndication.invoked (Some 1) (pos 1) None (code 2) (Some (hex 5 0x30030401AA))) ∷ [])
+begin_with_aarq_told = Answer.outputs (told.begin 1 (Some context) [] ∷ told.invoked (Some 1) (pos 1) None (code 2) (Some (hex 5 0x30030401AA)) ∷ [])
 
 -- A general problem (own).
 abbrev pub general : ℕ → ProblemParts
@@ -140,7 +141,7 @@ one_queued = play opened (invoke (pos 1) One 10 ∷ [])
 
 -- A dialogue with one Invoke in its queue, of exactly 60,000 octets (own).
 abbrev pub full_queue : Played
-full_queue = play opened (DialogueEvent.request (Request.component (ComponentRequest.invoke (pos 1) One (code 10) (Some (hex 4 0x0482EA52 ++ replicate 59986 0)) None 1000)) ∷ [])
+full_queue = play opened (DialogueEvent.request (asks.invoke (pos 1) One (code 10) (Some (hex 4 0x0482EA52 ++ replicate 59986 0)) None 1000) ∷ [])
 
 -- One dialogue is live, that of identifier 1 (own).
 abbrev pub is_first_live : ℕ → Bool

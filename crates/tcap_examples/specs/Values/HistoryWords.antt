@@ -8,9 +8,11 @@ use Rattle.tcap_model.specs.Words.Event.{Event}
 use Rattle.tcap_model.specs.Words.Fault.{Fault}
 use Rattle.tcap_examples.specs.Values.Hex.{hex}
 use Rattle.tcap_model.specs.Histories.History.{Start}
-use Rattle.tcap_model.specs.Words.Output.{Output, Closing, DialogueIndication}
+use Rattle.tcap_model.specs.Words.Output.{Output, Closing}
 use Rattle.tcap_model.specs.Histories.Pair.{Pair}
-use Rattle.tcap_model.specs.Words.Request.{Request, ComponentRequest, DialogueRequest}
+use Rattle.tcap_model.specs.Words.Request.{Request}
+use Rattle.tcap_examples.specs.Values.Asked as asks
+use Rattle.tcap_examples.specs.Values.Told as told
 
 -- ---- events and answers
 
@@ -26,7 +28,7 @@ birth_refused fault = record { event = Event.new_dialogue; answer = Answer.refus
 -- parameter and linked identifier (own).
 abbrev pub invoke_pair : ℕ → ℤ → Class → ℤ → ℕ → Answer → Pair
 invoke_pair dialogue id class code timeout answer =
-    record { event = Event.on_dialogue dialogue (Request.component (ComponentRequest.invoke id class (CodeParts.local code) None None timeout)); answer = answer }
+    record { event = Event.on_dialogue dialogue (asks.invoke id class (CodeParts.local code) None None timeout); answer = answer }
 
 -- A request on a dialogue (own).
 abbrev pub request_pair : ℕ → Request → Answer → Pair
@@ -48,21 +50,21 @@ moment_refused now fault = record { event = Event.moment now; answer = Answer.re
 
 -- TC-BEGIN without application context (own).
 abbrev pub begin_request : Request
-begin_request = Request.dialogue (DialogueRequest.begin None [])
+begin_request = asks.begin None []
 
 -- TC-CONTINUE without application context (own).
 abbrev pub continue_request : Request
-continue_request = Request.dialogue (DialogueRequest.go_on None [])
+continue_request = asks.go_on None []
 
 -- ---- outputs
 
 -- TC-CONTINUE indication without application context (own).
 abbrev pub continued : ℕ → Output
-continued dialogue = Output.dialogue (DialogueIndication.go_on dialogue None [])
+continued dialogue = told.go_on dialogue None []
 
 -- TC-END indication without application context (own).
 abbrev pub ended : ℕ → Output
-ended dialogue = Output.dialogue (DialogueIndication.end dialogue None [])
+ended dialogue = told.end dialogue None []
 
 -- A result without a body (own).
 abbrev pub empty_result : Closing

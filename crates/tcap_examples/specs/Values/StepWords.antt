@@ -10,10 +10,11 @@ use Rattle.tcap_examples.specs.Values.DialogueValues.{code}
 use Rattle.tcap_model.specs.Histories.History.{Start}
 use Rattle.tcap_model.specs.Words.Output.{Output}
 use Rattle.tcap_model.specs.Procedures.QueueRules.{Queued}
-use Rattle.tcap_model.specs.Words.Request.{Request, ComponentRequest}
+use Rattle.tcap_model.specs.Words.Request.{Request}
 use Rattle.tcap_model.specs.Words.State.{State}
 use Rattle.tcap_model.specs.Table.World.{World}
 use Rattle.tcap_examples.specs.Histories.Steps.{Step, Walk}
+use Rattle.tcap_examples.specs.Values.Asked as asks
 
 -- ---- engines
 
@@ -86,4 +87,4 @@ moment_step now outputs after = record { event = Event.moment now; answer = Answ
 -- TC-INVOKE with this invoke identifier, operation and timeout, of class 1, without parameter and
 -- linked identifier (own).
 abbrev pub invoke_request : ℤ → ℕ → ℕ → Request
-invoke_request id operation timeout = Request.component (ComponentRequest.invoke id One (code operation) None None timeout)
+invoke_request id operation timeout = asks.invoke id One (code operation) None None timeout

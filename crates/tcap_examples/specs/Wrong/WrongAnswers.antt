@@ -5,11 +5,13 @@ use Rattle.tcap_model.specs.Words.Answer.{Answer}
 use Rattle.tcap_examples.specs.Values.DialogueValues.{shown_begin, result_of_first, begin_with_aarq, of_result, general, code}
 use Rattle.tcap_model.specs.Words.Fault.{Fault}
 use Rattle.tcap_examples.specs.Values.Hex.{hex}
-use Rattle.tcap_model.specs.Words.Output.{Output, Closing, Rejector, DropCause, ComponentIndication, DialogueIndication}
-use Rattle.tcap_model.specs.Words.Request.{Request, AbortReason, DialogueRequest}
+use Rattle.tcap_model.specs.Words.Output.{Output, Closing, Rejector, DropCause}
+use Rattle.tcap_model.specs.Words.Request.{AbortReason}
 use Rattle.tcap_examples.specs.Values.HistoryWords.{dialogue_born, birth_refused, invoke_pair, request_pair, received_pair, moment_pair, begin_request, continue_request, continued, empty_result, usual_start, opened_with_invoke}
 use Rattle.tcap_examples.specs.Wrong.WrongHistories.{Wrong, wrong}
 use Rattle.tcap_examples.specs.Wrong.WrongEnds.{answered_once}
+use Rattle.tcap_examples.specs.Values.Asked as asks
+use Rattle.tcap_examples.specs.Values.Told as told
 
 -- A result of class 2 is told as a result (own).
 abbrev pub class_two_result : Wrong
@@ -18,14 +20,14 @@ class_two_result = wrong usual_start (
     ∷ invoke_pair 1 (pos 1) Two (pos 10) 1000 (Answer.number 1)
     ∷ request_pair 1 begin_request (Answer.outputs (Output.send (hex 18 0x6210_480400000001_6C08_A106_020101_02010A) ∷ []))
     ∷ [])
-    (received_pair result_of_first (continued 1 ∷ Output.component (ComponentIndication.closed 1 1 (pos 1) empty_result) ∷ []))
+    (received_pair result_of_first (continued 1 ∷ told.closed 1 1 (pos 1) empty_result ∷ []))
 
 -- A Reject with a Return Result problem closes the invocation (own).
 abbrev pub reject_of_a_result_closes : Wrong
 reject_of_a_result_closes = wrong usual_start (opened_with_invoke [])
     (received_pair (hex 24 0x6516_480400000005_490400000001_6C08_A406_020101_820100) (
     continued 1
-    ∷ Output.component (ComponentIndication.closed 1 1 (pos 1) (Closing.rejected (of_result 0) Rejector.remote_provider))
+    ∷ told.closed 1 1 (pos 1) (Closing.rejected (of_result 0) Rejector.remote_provider)
     ∷ []))
 
 -- A component behind a faulty one is told (own).
@@ -38,9 +40,9 @@ components_after_a_fault = wrong usual_start (
     ∷ [])
     (received_pair (hex 39 0x6525_480400000005_490400000001_6C17_A203_020180_A503_020107_A203_02017F_A306_02017F_020101) (
     continued 1
-    ∷ Output.component (ComponentIndication.closed 1 1 (negsuc 127) empty_result)
-    ∷ Output.component (ComponentIndication.local_reject (Some 1) (Some (pos 7)) (general 0))
-    ∷ Output.component (ComponentIndication.closed 1 2 (pos 127) empty_result)
+    ∷ told.closed 1 1 (negsuc 127) empty_result
+    ∷ told.local_reject (Some 1) (Some (pos 7)) (general 0)
+    ∷ told.closed 1 2 (pos 127) empty_result
     ∷ []))
 
 -- An identifier is free as soon as its result is told (own).
@@ -57,12 +59,12 @@ clock_set_back = wrong usual_start (
     ∷ invoke_pair 1 (pos 1) One (pos 10) 1000 (Answer.number 1)
     ∷ request_pair 1 begin_request (Answer.outputs (Output.send (hex 18 0x6210_480400000001_6C08_A106_020101_02010A) ∷ []))
     ∷ [])
-    (moment_pair 1005 (Output.component (ComponentIndication.closed 1 1 (pos 1) Closing.lapsed) ∷ []))
+    (moment_pair 1005 (told.closed 1 1 (pos 1) Closing.lapsed ∷ []))
 
 -- The origin of a later Continue becomes the peer's identifier (own).
 abbrev pub moving_peer : Wrong
 moving_peer = wrong usual_start (answered_once (
-    received_pair (hex 21 0x6513_480400000006_490400000001_6C05_A203_020101) (continued 1 ∷ Output.component (ComponentIndication.local_reject (Some 1) (Some (pos 1)) (of_result 0)) ∷ [])
+    received_pair (hex 21 0x6513_480400000006_490400000001_6C05_A203_020101) (continued 1 ∷ told.local_reject (Some 1) (Some (pos 1)) (of_result 0) ∷ [])
     ∷ []))
     (request_pair 1 continue_request (Answer.outputs (Output.send (hex 24 0x6516_480400000001_490400000006_6C08_A406_020101_820100) ∷ [])))
 
@@ -70,8 +72,8 @@ moving_peer = wrong usual_start (answered_once (
 abbrev pub recognised_begin : Wrong
 recognised_begin = wrong usual_start (
     received_pair shown_begin (
-    Output.dialogue (DialogueIndication.begin 1 None [])
-    ∷ Output.component (ComponentIndication.invoked (Some 1) (pos 1) None (code 2) (Some (hex 5 0x3003_0401AA)))
+    told.begin 1 None []
+    ∷ told.invoked (Some 1) (pos 1) None (code 2) (Some (hex 5 0x3003_0401AA))
     ∷ [])
     ∷ [])
     (received_pair shown_begin [])
@@ -80,7 +82,7 @@ recognised_begin = wrong usual_start (
 abbrev pub reused_dialogue_identifier : Wrong
 reused_dialogue_identifier = wrong usual_start (
     dialogue_born 1
-    ∷ request_pair 1 (Request.dialogue (DialogueRequest.u_abort AbortReason.by_user [])) (Answer.outputs [])
+    ∷ request_pair 1 (asks.u_abort AbortReason.by_user []) (Answer.outputs [])
     ∷ [])
     (dialogue_born 1)
 

@@ -8,12 +8,12 @@ ghost use Rattle.tcap_model.specs.Invocations.Closings.{closings};
 ghost use Rattle.tcap_examples.specs.Values.DialogueValues.{code};
 ghost use Rattle.tcap_model.specs.Replies.Legal.{IsLegal};
 ghost use Rattle.tcap_model.specs.Statements.Net.{Engine, Trace, IsNet, IsCarried, history_in, side};
-ghost use Rattle.tcap_model.specs.Words.Output.{Output, ComponentIndication};
 ghost use Rattle.tcap_model.specs.Histories.Pair.{Pair};
 ghost use Rattle.tcap_model.specs.Statements.Places.{Tells};
 ghost use Rattle.tcap_model.specs.Statements.TwoEnds.{Happens, IsAnswer, IsFarRequest, ComesFromFar, UsesOnce, AnswersWhatItWasTold, WasOpened, WasSent, WasAsked, Origin, Operations, TwoEnds};
 ghost use Rattle.tcap_examples.specs.Nets.PlayedNets.{repeated_begin, before_the_answer, answer_told, answer_closes, second_request, before_the_repeat, repeat_told, invoked, answered_ahead, heard_as_one, used_again, forged, alone_told, in_a_unidirectional, end_told, in_an_end, IsAnsweredAhead};
 ghost use Rattle.tcap_examples.specs.Histories.Readings.{given_up_before_it_was_sent};
+ghost use Rattle.tcap_examples.specs.Values.Told as told;
 
 /// A Begin is delivered twice: the answer that closes the invocation comes from the second of the two
 /// far dialogues.
@@ -53,7 +53,7 @@ pub fn a_repeated_begin_is_two_ended()
 pub fn an_operation_in_a_last_message()
     ensures alone_net { IsNet in_a_unidirectional }
     ensures alone_happens { Happens Engine.b alone_told (drop 1 in_a_unidirectional.trace) in_a_unidirectional.trace }
-    ensures alone_told { Tells alone_told.answer (Output.component (ComponentIndication.invoked None (pos 1) None (code 7) None)) }
+    ensures alone_told { Tells alone_told.answer (told.invoked None (pos 1) None (code 7) None) }
     ensures alone_asked { WasAsked (pos 1) None (code 7) None (side Engine.a (drop 1 in_a_unidirectional.trace)) }
     ensures end_net { IsNet in_an_end }
     ensures end_happens { Happens Engine.a end_told (drop 1 in_an_end.trace) in_an_end.trace }
