@@ -8,6 +8,8 @@ mod IsolationWorks
 mod NetsBroken
 mod NetsWork
 mod PlaceLemmas
+mod SendingBroken
+mod SendingWorks
 mod TwoEndsWork
 mod WrongAnswersGiven
 mod WrongEndsTold

@@ -1,3 +1,4 @@
 pub mod ComponentExamples
 pub mod HeadlineExamples
 pub mod IsolationExamples
+pub mod SendingExamples

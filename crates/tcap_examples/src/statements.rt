@@ -4,4 +4,5 @@
 pub mod components;
 pub mod headline;
 pub mod isolation;
+pub mod sending;
 pub mod two_ends;

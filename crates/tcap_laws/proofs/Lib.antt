@@ -10,4 +10,5 @@ mod Queues
 mod Receptions
 mod Rows
 mod Spans
+mod Submission
 mod Table

@@ -15,4 +15,5 @@ pub mod drawing;
 pub mod ends;
 pub mod invoking;
 pub mod messages;
+pub mod sending;
 pub mod standing;

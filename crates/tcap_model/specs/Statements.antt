@@ -5,5 +5,7 @@ pub mod Net
 pub mod Only
 pub mod Places
 pub mod ReceivedMark
+pub mod SentInOrder
 pub mod SentMessage
+pub mod Submitted
 pub mod TwoEnds

@@ -1,0 +1,69 @@
+-- That components are sent once and in order, on a worked history: the premises, and what is computed.
+use Rattle.std.proofs.Common.{◌≡◌, ℕ, List, [], ◌∷◌, ◌++◌, None, Ok, refl, sym, ap, ◌∙◌}
+use Rattle.std.specs.Prelude.{take, drop}
+use Rattle.tcap_pdu.specs.FrameReading.{frame_at}
+use Rattle.tcap_pdu.specs.FrameSpelling.{Message}
+use Rattle.tcap_pdu.proofs.CallerLemmas.{frame_takes}
+use Rattle.tcap_component.specs.Component.{ComponentParts}
+use Rattle.tcap_component.specs.ComponentList.{items}
+use Rattle.tcap_component.specs.ComponentReading.{components_of}
+use Rattle.tcap_model.specs.Statements.ComponentLaws.{portion_of}
+use Rattle.tcap_examples.specs.Computing.{computing}
+use Rattle.tcap_model.specs.Replies.Legal.{IsLegal}
+use Rattle.tcap_model.specs.Statements.Places.{StandsIn}
+use Rattle.tcap_model.specs.Statements.SentInOrder.{HaveComponents, components_submitted}
+use Rattle.tcap_examples.specs.Statements.SendingExamples.{begin_sent, begin_message, continue_sent, continue_message, continue_pair, abort_sent, abort_message, sent_in_parts, before_the_continue, all_parts}
+use Rattle.tcap_examples.proofs.ComponentPremises.{first_fault_at, spelled_read}
+
+-- ---- messages by the reading functions
+
+-- Messages are read as these components, those of one after those of the one before.
+abbrev pub AreRead : List (List ℕ) → List ComponentParts → Type 0
+AreRead [] ds = ds ≡ []
+AreRead (bytes ∷ messages) ds =
+    (m : Message) × (first : List ComponentParts) × (others : List ComponentParts) × (frame_at bytes ≡ Ok m) × (components_of (portion_of m) ≡ items first None) × AreRead messages others × (ds ≡ first ++ others)
+
+-- They have what is read.
+pub read-have : (messages : List (List ℕ)) (ds : List ComponentParts) → AreRead messages ds → HaveComponents messages ds
+read-have [] ds are = are
+read-have (bytes ∷ messages) ds are =
+    (are.1, are.2, record { message = are.0; spelled = frame_takes bytes are.0 are.3; read = first_fault_at (portion_of are.0) are.1 None are.4 }, read-have messages are.2 are.5, are.6)
+
+-- They have nothing else.
+pub read-same : (messages : List (List ℕ)) (cs ds : List ComponentParts) → AreRead messages ds → HaveComponents messages cs → cs ≡ ds
+read-same [] cs ds are have = have ∙ sym are
+read-same (bytes ∷ messages) cs ds are have =
+    let first = spelled_read bytes have.2.message are.0 have.0 are.1 None None are.3 are.4 have.2.spelled have.2.read in
+    have.4 ∙ (ap (λ (xs : List ComponentParts). xs ++ have.1) first
+    ∙ (ap (λ (xs : List ComponentParts). are.1 ++ xs) (read-same messages have.1 are.2 are.5 have.3) ∙ sym are.6))
+
+-- ---- sent in parts
+
+pub parts-legal : IsLegal sent_in_parts
+unfolding computing
+parts-legal = (refl, (refl, refl, (refl, refl, (refl, refl, (refl, refl, (refl, refl, (refl, refl, (refl, refl, (refl, refl, (refl, refl, (refl, refl, (refl, refl, tt))))))))))))
+
+pub parts-stand : StandsIn continue_pair before_the_continue sent_in_parts.pairs
+parts-stand = record { later = take 2 sent_in_parts.pairs; is_past = refl }
+
+pub parts-submitted : components_submitted 1 before_the_continue ≡ all_parts
+unfolding computing
+parts-submitted = refl
+
+parts-read : AreRead (begin_sent ∷ continue_sent ∷ abort_sent ∷ []) all_parts
+unfolding computing
+parts-read = (
+  begin_message,
+  take 1 all_parts,
+  drop 1 all_parts,
+  refl,
+  refl,
+  (continue_message, drop 1 all_parts, [], refl, refl, (abort_message, [], [], refl, refl, refl, refl), refl),
+  refl,
+)
+
+pub parts-have : HaveComponents (begin_sent ∷ continue_sent ∷ abort_sent ∷ []) all_parts
+parts-have = read-have (begin_sent ∷ continue_sent ∷ abort_sent ∷ []) all_parts parts-read
+
+-- What the tests state.
+pub ruleset sending_works = (parts-legal, parts-stand, parts-submitted, parts-have)

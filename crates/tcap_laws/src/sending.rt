@@ -1,0 +1,17 @@
+//! What a dialogue sends: each component that is submitted, once and in order.
+
+ghost use Rattle.std.specs.Prelude.{◌≡◌, ℕ, List};
+ghost use Rattle.tcap_component.specs.Component.{ComponentParts};
+ghost use Rattle.tcap_model.specs.Statements.SentInOrder.{HaveComponents, EachIsSentInOrder};
+
+/// In a legal history each component that is submitted for a dialogue is sent once, in the order of
+/// submission, by the next request that sends components, and nothing else that is sent has any
+/// (Q.774, Component handling).
+pub fn sent_once_in_order()
+    ensures { EachIsSentInOrder }
+{}
+
+/// The components that messages have are those and no others (Q.773, Component portion).
+pub fn components_are_one()
+    ensures { (messages : List (List ℕ)) (components others : List ComponentParts) → HaveComponents messages components → HaveComponents messages others → components ≡ others }
+{}
