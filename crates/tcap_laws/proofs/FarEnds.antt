@@ -1,10 +1,8 @@
 pub mod AfterInvokes
 pub mod ClosedOnce
-pub mod FairReplies
 pub mod FairTellings
 pub mod FarInvokes
 pub mod FarOrigins
-pub mod PlacedReplies
 pub mod PlacedTellings
 pub mod SentInvokes
 pub mod WaitingInvokes

@@ -1,4 +1,7 @@
 pub mod AcceptedRequests
+pub mod EachComponent
+pub mod EachOutput
+pub mod HandledComponents
 pub mod NamedReceptions
 pub mod NothingDue
 pub mod PeerIdentifiers
@@ -8,6 +11,5 @@ pub mod ReceivedMarks
 pub mod SentMessages
 pub mod SentRequests
 pub mod SoundReceptions
-pub mod ToldComponents
 pub mod ToldFromOctets
 pub mod ToldOutputKinds

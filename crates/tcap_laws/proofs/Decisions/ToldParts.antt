@@ -9,9 +9,6 @@ use Rattle.tcap_component.specs.ComponentReading.{components_of}
 use Rattle.tcap_component.specs.declared.problem.Kind.{Kind}
 use Rattle.tcap_component.specs.declared.problem.Kind.TheVariants as kind
 use Rattle.tcap_component.specs.Problem.{ProblemParts}
-use Rattle.tcap_invocation.specs.declared.class.Class.{Class}
-use Rattle.tcap_invocation.specs.declared.class.Class.TheVariants.{One, Two, Three, Four}
-use Rattle.tcap_invocation.specs.Class.{Received, class_rule}
 use Rattle.tcap_laws.proofs.Spans.MarksAfterBirth.{noted_at_clock}
 use Rattle.tcap_laws.proofs.Spans.DecisionSteps.{closing_after-append, first_closing-append, number_found}
 use Rattle.tcap_laws.proofs.Spans.LatestInvocations.{IsLatest, latest_is}
@@ -20,7 +17,7 @@ use Rattle.tcap_laws.proofs.Decisions.ToldOutputs.{told, IsOther, handled_other,
 use Rattle.tcap_model.specs.Histories.Clock.{clock}
 use Rattle.tcap_model.specs.Invocations.Closes.{closing_of}
 use Rattle.tcap_model.specs.Invocations.Closings.{Told, told_by_output}
-use Rattle.tcap_model.specs.Procedures.ComponentHandling.{Item, SentInvocation, handled, subject_of, told_of, result_handled, error_handled, reject_handled, reject_by}
+use Rattle.tcap_model.specs.Procedures.ComponentHandling.{Item, SentInvocation, handled, subject_of, told_of, last_handled, more_handled, error_handled, reject_handled}
 use Rattle.tcap_model.specs.Invocations.Deadline.{sent_clock}
 use Rattle.tcap_model.specs.Invocations.Decision.{told_outcome as decided_told, as_list}
 use Rattle.tcap_model.specs.Histories.History.{Start}
@@ -30,28 +27,16 @@ use Rattle.tcap_model.specs.Invocations.Marks.{Mark, Noted, marked, reject_marks
 use Rattle.tcap_model.specs.Invocations.Outcome.{closing_after, first_closing, is_sent_in}
 use Rattle.tcap_model.specs.Words.Output.{Closing}
 use Rattle.tcap_model.specs.Histories.Pair.{Past}
+use Rattle.tcap_model.specs.Procedures.Problems.{is_of_answer}
 use Rattle.tcap_model.specs.Replies.Queue.{marks_up_to, if_sent, sent_there, handled_after, handled_in}
 use Rattle.tcap_model.specs.Invocations.Span.{span}
 
 -- ---- a Reject of an answer closes nothing
 
-answer_silent : (n : ℕ) (place : Past) (dialogue : Option ℕ) (sent : Option SentInvocation) (named : ℤ) (problem : ProblemParts) (k : Kind) → problem.kind ≡ k
-    → ((class : Class) (s : SentInvocation) → told_by_output n place (reject_by s named problem (class_rule class (Received.reject k))).told ≡ [])
+answer_silent : (n : ℕ) (place : Past) (dialogue : Option ℕ) (sent : Option SentInvocation) (named : ℤ) (problem : ProblemParts) → is_of_answer problem.kind ≡ true
     → told_by_output n place (reject_handled dialogue sent (Some named) problem).told ≡ []
-answer_silent n place dialogue None named problem k q silent = refl
-answer_silent n place dialogue (Some s) named problem k q silent = ap (λ (k : Kind). told_by_output n place (reject_by s named problem (class_rule s.class (Received.reject k))).told) q ∙ silent s.class s
-
-result_silent : (n : ℕ) (place : Past) (named : ℤ) (problem : ProblemParts) (class : Class) (s : SentInvocation) → told_by_output n place (reject_by s named problem (class_rule class (Received.reject kind.Result))).told ≡ []
-result_silent n place named problem One s = refl
-result_silent n place named problem Two s = refl
-result_silent n place named problem Three s = refl
-result_silent n place named problem Four s = refl
-
-error_silent : (n : ℕ) (place : Past) (named : ℤ) (problem : ProblemParts) (class : Class) (s : SentInvocation) → told_by_output n place (reject_by s named problem (class_rule class (Received.reject kind.Error))).told ≡ []
-error_silent n place named problem One s = refl
-error_silent n place named problem Two s = refl
-error_silent n place named problem Three s = refl
-error_silent n place named problem Four s = refl
+answer_silent n place dialogue None named problem e = refl
+answer_silent n place dialogue (Some s) named problem e = rw e refl
 
 -- ---- one after the other
 
@@ -125,17 +110,17 @@ module _ (start : Start) (past place : Past) (n : ℕ) (i : Invocation) (legal :
         on_key earlier named (λ (k : ℤ) (sent : Option SentInvocation). told_by_output n place (reject_handled (Some i.dialogue) sent (Some k) problem).told) (Mark.reject problem)
         (λ sent o. handled_other n place (Some i.dialogue) sent (Ok (ComponentParts.reject_back (Some named) problem)) o)
         (reject_here n place i own problem (subst (λ (k : Kind). RejectTells n place i own problem k i.class) (sym q) (invoke_class n place i own problem i.class)) (closed_before earlier) (sent_clock (marks_up_to past earlier i)))
-    rejected_here earlier named problem kind.Result q = answer_silent n place (Some i.dialogue) (if_sent past earlier (latest i.dialogue named past)) named problem kind.Result q (result_silent n place named problem) ∙ sym (unless_nothing (closed_before earlier))
-    rejected_here earlier named problem kind.Error q = answer_silent n place (Some i.dialogue) (if_sent past earlier (latest i.dialogue named past)) named problem kind.Error q (error_silent n place named problem) ∙ sym (unless_nothing (closed_before earlier))
+    rejected_here earlier named problem kind.Result q = answer_silent n place (Some i.dialogue) (if_sent past earlier (latest i.dialogue named past)) named problem (ap is_of_answer q) ∙ sym (unless_nothing (closed_before earlier))
+    rejected_here earlier named problem kind.Error q = answer_silent n place (Some i.dialogue) (if_sent past earlier (latest i.dialogue named past)) named problem (ap is_of_answer q) ∙ sym (unless_nothing (closed_before earlier))
 
     component_here : (earlier : List Item) (c : ComponentParts) → told_by_output n place (handled (Some i.dialogue) (sent_there i.dialogue past earlier (subject_of (Ok c))) (Ok c)).told ≡ unless (closed_before earlier) (gain place i (closed_then earlier (marks_of_component i.id c)))
     component_here earlier (ComponentParts.invoke id linked code parameter) = invoke_silent n place (Some i.dialogue) (sent_there i.dialogue past earlier linked) id linked code parameter ∙ sym (unless_nothing (closed_before earlier))
     component_here earlier (ComponentParts.result_last named body) =
-        on_key earlier named (λ (k : ℤ) (sent : Option SentInvocation). told_by_output n place (result_handled (Some i.dialogue) sent k body Received.return_result_last).told) (Mark.last body)
+        on_key earlier named (λ (k : ℤ) (sent : Option SentInvocation). told_by_output n place (last_handled (Some i.dialogue) sent k body).told) (Mark.last body)
         (λ sent o. handled_other n place (Some i.dialogue) sent (Ok (ComponentParts.result_last named body)) o)
         (last_here n place i own body (closed_before earlier) (sent_clock (marks_up_to past earlier i)))
     component_here earlier (ComponentParts.result_more named body) =
-        on_key earlier named (λ (k : ℤ) (sent : Option SentInvocation). told_by_output n place (result_handled (Some i.dialogue) sent k body Received.return_result_not_last).told) (Mark.more body)
+        on_key earlier named (λ (k : ℤ) (sent : Option SentInvocation). told_by_output n place (more_handled (Some i.dialogue) sent k body).told) (Mark.more body)
         (λ sent o. handled_other n place (Some i.dialogue) sent (Ok (ComponentParts.result_more named body)) o)
         (more_here n place i own body (closed_before earlier) (sent_clock (marks_up_to past earlier i)))
     component_here earlier (ComponentParts.error_back named code parameter) =

@@ -29,8 +29,7 @@ use Rattle.tcap_laws.proofs.Peers.HeardPeers.{IsPeered}
 use Rattle.tcap_laws.proofs.Peers.NetPlaces.{happens-rest, happens-stands, IsAt, stands-happens}
 use Rattle.tcap_laws.proofs.Peers.OpenedApart.{NeverBegun, net-before, never-before}
 use Rattle.tcap_laws.proofs.Peers.OwnDialogues.{opened-never, opened-short}
-use Rattle.tcap_laws.proofs.FarEnds.PlacedReplies.{reply-placed}
-use Rattle.tcap_laws.proofs.FarEnds.PlacedTellings.{IsOf, RejectsInvoke, Placed}
+use Rattle.tcap_laws.proofs.FarEnds.PlacedTellings.{IsOf, RejectsInvoke, Placed, reply-placed}
 use Rattle.tcap_laws.proofs.FarEnds.SentInvokes.{HasSource, stands-for-invoke, source, invoke-sent, sent-later, operations}
 use Rattle.tcap_laws.proofs.Receptions.ToldFromOctets.{legal-before, told-from}
 use Rattle.tcap_laws.proofs.FarEnds.WaitingInvokes.{invocation_as}

@@ -27,6 +27,7 @@ use Rattle.tcap_model.specs.Words.State.{State, peer_of}
 use Rattle.tcap_model.specs.Statements.TwoEnds.{Happens}
 use Rattle.tcap_laws.proofs.Peers.CarriedComponents.{Carried, carried, stands-before}
 use Rattle.tcap_laws.proofs.FarEnds.FairTellings.{IsNamedBy}
+use Rattle.tcap_laws.proofs.FarEnds.PlacedTellings.{reply-placed}
 use Rattle.tcap_laws.proofs.FarEnds.FarOrigins.{named-destined, destined-octets}
 use Rattle.tcap_laws.proofs.Peers.FarPeers.{HasPeer, peer-stays, no-begin}
 use Rattle.tcap_laws.proofs.Peers.FarSenders.{IsNoAbort, SentAs, sent-as, FarSender, far-sender, same-id, born-short}
@@ -34,7 +35,6 @@ use Rattle.tcap_laws.proofs.Peers.HeardPeers.{IsPeered, HeardOf, peer-heard}
 use Rattle.tcap_laws.proofs.Peers.NetPlaces.{happens-rest, happens-stands, IsAt, stands-happens}
 use Rattle.tcap_laws.proofs.Peers.OpenedApart.{NeverBegun, net-before, never-peers, own-name, continue-names}
 use Rattle.tcap_laws.proofs.Peers.OwnDialogues.{IsBegun, birth-begun, never-begun}
-use Rattle.tcap_laws.proofs.FarEnds.PlacedReplies.{reply-placed}
 use Rattle.tcap_laws.proofs.Receptions.ToldFromOctets.{legal-before}
 
 -- ---- parts of a history

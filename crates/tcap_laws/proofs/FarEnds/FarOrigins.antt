@@ -29,8 +29,7 @@ use Rattle.tcap_model.specs.Words.State.{State, peer_of}
 use Rattle.tcap_model.specs.Procedures.States.{has_peer}
 use Rattle.tcap_model.specs.Statements.TwoEnds.{Happens, IsAnswer, ComesFromFar, Origin, peer_in}
 use Rattle.tcap_laws.proofs.Peers.CarriedComponents.{Carried, carried, some_components, stands-before}
-use Rattle.tcap_laws.proofs.FarEnds.FairReplies.{reply-fair}
-use Rattle.tcap_laws.proofs.FarEnds.FairTellings.{Fair, IsNamedBy}
+use Rattle.tcap_laws.proofs.FarEnds.FairTellings.{Fair, IsNamedBy, reply-fair}
 use Rattle.tcap_laws.proofs.Peers.FarPeers.{HasPeer, peer-stays, none-due, destination-octets, octets-of}
 use Rattle.tcap_laws.proofs.Receptions.NamedReceptions.{that-is}
 use Rattle.tcap_laws.proofs.Peers.NetPlaces.{happens-stands, stands-happens}

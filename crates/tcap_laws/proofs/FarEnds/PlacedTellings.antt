@@ -1,27 +1,27 @@
 -- What is told of received bytes, and of what: an answer of an invocation of its dialogue and its
 -- identifier, an Invoke in a dialogue that the bytes name or give birth to.
-use Rattle.std.proofs.Common.{◌≡◌, ◌⊎◌, ℕ, ℤ, true, false, Bool, List, [], ◌∷◌, ◌++◌, Option, Some, None, Ok, Err, if◌then◌else◌, refl}
-use Rattle.std.specs.List.{AllByRecursion}
+use Rattle.std.proofs.Common.{◌≡◌, ◌⊎◌, ℕ, ℤ, true, false, Bool, List, Option, Some, None, refl, ap, ◌∙◌, inl, inr}
+use Rattle.std.proofs.lemmas.Bool.{eq-eqb}
 use Rattle.std.specs.Prelude.{cond}
-use Rattle.tcap_component.specs.Component.{CodeParts, BodyParts}
-use Rattle.tcap_component.specs.Component.ComponentParts.{invoke, result_last, error_back, reject_back, result_more}
-use Rattle.tcap_component.specs.ComponentReading.{components_of}
 use Rattle.tcap_component.specs.declared.problem.Kind.{Kind}
 use Rattle.tcap_component.specs.declared.problem.Kind.TheVariants as kind
-use Rattle.tcap_component.specs.Problem.{ProblemParts, is_by_provider}
-use Rattle.tcap_invocation.specs.declared.class.Class.{Class}
-use Rattle.tcap_invocation.specs.declared.class.Class.TheVariants.{One, Two, Three, Four}
-use Rattle.tcap_invocation.specs.Class.{Received, Consequence, class_rule}
-use Rattle.tcap_model.specs.Procedures.ComponentHandling.{Item, SentInvocation, subject_of, invoke_handled, result_by, result_handled, error_by, error_handled, reject_by, reject_handled, handled, told_of, uni_told}
-use Rattle.tcap_model.specs.Histories.History.{Start}
+use Rattle.tcap_model.specs.Histories.Birth.{next_dialogue, first_begun, born_on_message}
+use Rattle.tcap_model.specs.Procedures.ComponentHandling.{Item, SentInvocation, Handled, subject_of, handled}
+use Rattle.tcap_model.specs.Procedures.Problems.{is_of_answer}
+use Rattle.tcap_model.specs.Histories.History.{History, Start}
+use Rattle.tcap_model.specs.Words.Event.{Event}
 use Rattle.tcap_model.specs.Invocations.Invocation.{Invocation, invocation_of, latest}
 use Rattle.tcap_model.specs.Replies.Legal.{AreReplies}
 use Rattle.tcap_model.specs.Words.LocalId.{is_that}
 use Rattle.tcap_model.specs.Invocations.Outcome.{is_sent_in}
 use Rattle.tcap_model.specs.Words.Output.{Output, Closing, Rejector, ComponentIndication}
 use Rattle.tcap_model.specs.Histories.Pair.{Past}
-use Rattle.tcap_model.specs.Replies.Queue.{if_sent, marks_up_to, sent_there, handled_after, handled_in}
+use Rattle.tcap_model.specs.Replies.Queue.{if_sent, marks_up_to, sent_there}
+use Rattle.tcap_model.specs.Replies.Reply.{reception_outputs, reply}
+use Rattle.tcap_model.specs.Statements.Places.{Tells}
 use Rattle.tcap_laws.proofs.FarEnds.FairTellings.{IsNamedBy}
+use Rattle.tcap_laws.proofs.Receptions.EachOutput.{HoldsBesides, HoldsOfEach, received_at, one-received}
+use Rattle.tcap_laws.proofs.Receptions.HandledComponents.{ComesOf, comes_of}
 use Rattle.tcap_laws.proofs.Spans.LatestInvocations.{IsLatest, latest_is}
 
 -- ---- what is told, and of what
@@ -66,9 +66,6 @@ Placed past bytes born (Output.component (ComponentIndication.remote_reject dial
 Placed past bytes born (Output.component (ComponentIndication.closed dialogue number id closing)) = PlacedClosing past dialogue number id closing
 Placed past bytes born (Output.dropped why) = Unit {0}
 
-abbrev pub AllPlaced : Past → List ℕ → Option ℕ → List Output → Type 0
-AllPlaced past bytes born outputs = AllByRecursion (Placed past bytes born) outputs
-
 -- ---- the invocation that a component is about
 
 abbrev IsHit : Past → ℤ → Option SentInvocation → Type 0
@@ -99,93 +96,54 @@ none-about past (Some id) = tt
 
 -- ---- one component
 
--- a Reject that closes is one of an Invoke
-rejects : (c : Class) (k : Kind) → class_rule c (Received.reject k) ≡ Consequence.rejected → RejectsInvoke k
-rejects c kind.General e = tt
-rejects c kind.Invoke e = tt
-rejects One kind.Result e = absurd cc
-rejects Two kind.Result e = absurd cc
-rejects Three kind.Result e = absurd cc
-rejects Four kind.Result e = absurd cc
-rejects One kind.Error e = absurd cc
-rejects Two kind.Error e = absurd cc
-rejects Three kind.Error e = absurd cc
-rejects Four kind.Error e = absurd cc
+-- a Reject that isn't one of an answer is one of an Invoke
+rejects : (k : Kind) → is_of_answer k ≡ false → RejectsInvoke k
+rejects kind.General e = tt
+rejects kind.Invoke e = tt
+rejects kind.Result e = absurd cc
+rejects kind.Error e = absurd cc
 
 module _ (past : Past) (bytes : List ℕ) (born : Option ℕ) where
-  invoke-placed : (dialogue : Option ℕ) (sent : Option SentInvocation) (id : ℤ) (linked : Option ℤ) (code : CodeParts) (parameter : Option (List ℕ)) → IsPlaced bytes born dialogue → Placed past bytes born (invoke_handled dialogue sent id linked code parameter).told
-  invoke-placed dialogue sent id None code parameter placed = placed
-  invoke-placed dialogue (Some sent) id (Some linked) code parameter placed = placed
-  invoke-placed dialogue None id (Some linked) code parameter placed = tt
+  is-placed : (dialogue : Option ℕ) (sent : Option SentInvocation) (item : Item) (h : Handled)
+      → ComesOf dialogue sent item h → IsPlaced bytes born dialogue → IsAbout past (subject_of item) sent → Placed past bytes born h.told
+  is-placed _ _ _ _ (ComesOf.an_invoke sent id linked code parameter) placed about = placed
+  is-placed _ _ _ _ (ComesOf.not_sent item id problem carries here) placed about = tt
+  is-placed _ _ _ _ (ComesOf.a_result_last sent id body) placed about = about
+  is-placed _ _ _ _ (ComesOf.a_result_more sent id body) placed about = about
+  is-placed _ _ _ _ (ComesOf.an_error sent id code parameter) placed about = about
+  is-placed _ _ _ _ (ComesOf.unexpected sent item id problem carries here) placed about = tt
+  is-placed _ _ _ _ (ComesOf.by_provider sent id problem of provided) placed about = tt
+  is-placed _ _ _ _ (ComesOf.by_user sent id problem of provided) placed about = (about, rejects problem.kind of)
+  is-placed _ _ _ _ (ComesOf.of_none sent named id problem) placed about = tt
+  is-placed _ _ _ _ (ComesOf.of_fault sent f) placed about = tt
 
-  result-by : (sent : SentInvocation) (id : ℤ) (body : Option BodyParts) (consequence : Consequence) → IsOf past sent.dialogue sent.number id → Placed past bytes born (result_by sent id body consequence).told
-  result-by sent id body Consequence.result_last of = of
-  result-by sent id body Consequence.result_more of = of
-  result-by sent id body Consequence.rejected_result of = tt
-  result-by sent id body Consequence.error_back of = tt
-  result-by sent id body Consequence.rejected_error of = tt
-  result-by sent id body Consequence.rejected of = tt
-  result-by sent id body Consequence.not_of_the_invoke of = tt
+  handled-placed : (dialogue : Option ℕ) (sent : Option SentInvocation) (item : Item)
+      → IsPlaced bytes born dialogue → IsAbout past (subject_of item) sent → Placed past bytes born (handled dialogue sent item).told
+  handled-placed dialogue sent item = is-placed dialogue sent item (handled dialogue sent item) (comes_of dialogue sent item)
 
-  result-placed : (dialogue : Option ℕ) (sent : Option SentInvocation) (id : ℤ) (body : Option BodyParts) (received : Received) → IsHit past id sent → Placed past bytes born (result_handled dialogue sent id body received).told
-  result-placed dialogue None id body received hit = tt
-  result-placed dialogue (Some sent) id body received hit = result-by sent id body (class_rule sent.class received) hit
+  besides-placed : HoldsBesides (Placed past bytes born)
+  besides-placed = record { sends = λ octets. tt; tells = λ indication. tt; ends = λ dialogue number id. tt; drops = λ why. tt }
 
-  error-by : (sent : SentInvocation) (id : ℤ) (code : CodeParts) (parameter : Option (List ℕ)) (consequence : Consequence) → IsOf past sent.dialogue sent.number id → Placed past bytes born (error_by sent id code parameter consequence).told
-  error-by sent id code parameter Consequence.error_back of = of
-  error-by sent id code parameter Consequence.rejected_error of = tt
-  error-by sent id code parameter Consequence.result_last of = tt
-  error-by sent id code parameter Consequence.result_more of = tt
-  error-by sent id code parameter Consequence.rejected_result of = tt
-  error-by sent id code parameter Consequence.rejected of = tt
-  error-by sent id code parameter Consequence.not_of_the_invoke of = tt
+-- ---- all that is told
 
-  error-placed : (dialogue : Option ℕ) (sent : Option SentInvocation) (id : ℤ) (code : CodeParts) (parameter : Option (List ℕ)) → IsHit past id sent → Placed past bytes born (error_handled dialogue sent id code parameter).told
-  error-placed dialogue None id code parameter hit = tt
-  error-placed dialogue (Some sent) id code parameter hit = error-by sent id code parameter (class_rule sent.class Received.return_error) hit
+module _ (h : History) (legal : AreReplies h.start h.pairs) (bytes : List ℕ) where
+  abbrev born_then : Option ℕ
+  born_then = first_begun (reception_outputs h (received_at h bytes))
 
-  closed-placed : (dialogue number : ℕ) (id : ℤ) (problem : ProblemParts) (provided : Bool) → IsOf past dialogue number id → RejectsInvoke problem.kind → PlacedClosing past dialogue number id (Closing.rejected problem (if provided then Rejector.remote_provider else Rejector.remote_user))
-  closed-placed dialogue number id problem true of rejects-it = tt
-  closed-placed dialogue number id problem false of rejects-it = (of, rejects-it)
+  is-born : (born : Option ℕ) → born ≡ Some (next_dialogue h) → IsPlaced bytes born (Some (next_dialogue h))
+  is-born born e = inr (ap (is_that (next_dialogue h)) e ∙ eq-eqb (next_dialogue h) (next_dialogue h) refl)
 
-  reject-by : (sent : SentInvocation) (id : ℤ) (problem : ProblemParts) (consequence : Consequence) → (consequence ≡ Consequence.rejected → RejectsInvoke problem.kind) → IsOf past sent.dialogue sent.number id → Placed past bytes born (reject_by sent id problem consequence).told
-  reject-by sent id problem Consequence.rejected rule of = closed-placed sent.dialogue sent.number id problem (is_by_provider problem) of (rule refl)
-  reject-by sent id problem Consequence.result_last rule of = tt
-  reject-by sent id problem Consequence.result_more rule of = tt
-  reject-by sent id problem Consequence.error_back rule of = tt
-  reject-by sent id problem Consequence.rejected_result rule of = tt
-  reject-by sent id problem Consequence.rejected_error rule of = tt
-  reject-by sent id problem Consequence.not_of_the_invoke rule of = tt
+  each-placed : HoldsOfEach (Placed h.pairs bytes born_then) h bytes (received_at h bytes)
+  each-placed = record {
+    of_uni = λ m spelled item read. handled-placed h.pairs bytes born_then None None item tt (none-about h.pairs (subject_of item));
+    of_named = λ m spelled dialogue named earlier item read.
+        handled-placed h.pairs bytes born_then (Some dialogue) (sent_there dialogue h.pairs earlier (subject_of item)) item
+        (inl named) (sent-about h.start h.pairs legal dialogue earlier (subject_of item));
+    of_born = λ m spelled begun earlier item read.
+        handled-placed h.pairs bytes born_then (Some (next_dialogue h)) (sent_there (next_dialogue h) h.pairs earlier (subject_of item)) item
+        (is-born born_then begun) (sent-about h.start h.pairs legal (next_dialogue h) earlier (subject_of item));
+  }
 
-  reject-placed : (dialogue : Option ℕ) (sent : Option SentInvocation) (id : Option ℤ) (problem : ProblemParts) → IsAbout past id sent → Placed past bytes born (reject_handled dialogue sent id problem).told
-  reject-placed dialogue sent None problem about = tt
-  reject-placed dialogue None (Some id) problem about = tt
-  reject-placed dialogue (Some sent) (Some id) problem about = reject-by sent id problem (class_rule sent.class (Received.reject problem.kind)) (λ e. rejects sent.class problem.kind e) about
-
-  handled-placed : (dialogue : Option ℕ) (sent : Option SentInvocation) (item : Item) → IsPlaced bytes born dialogue → IsAbout past (subject_of item) sent → Placed past bytes born (handled dialogue sent item).told
-  handled-placed dialogue sent (Ok (invoke id linked code parameter)) placed about = invoke-placed dialogue sent id linked code parameter placed
-  handled-placed dialogue sent (Ok (result_last id body)) placed about = result-placed dialogue sent id body Received.return_result_last about
-  handled-placed dialogue sent (Ok (result_more id body)) placed about = result-placed dialogue sent id body Received.return_result_not_last about
-  handled-placed dialogue sent (Ok (error_back id code parameter)) placed about = error-placed dialogue sent id code parameter about
-  handled-placed dialogue sent (Ok (reject_back id problem)) placed about = reject-placed dialogue sent id problem about
-  handled-placed dialogue sent (Err f) placed about = tt
-
-  -- ---- the components of a message
-
-  uni-each : (items : List Item) → AllPlaced past bytes born (uni_told items)
-  uni-each [] = tt
-  uni-each (item ∷ items) = (handled-placed None None item tt (none-about past (subject_of item)), uni-each items)
-
-  pub uni-placed : (content : List ℕ) → AllPlaced past bytes born (uni_told (components_of content))
-  uni-placed content = uni-each (components_of content)
-
-  module _ (start : Start) (legal : AreReplies start past) (dialogue : ℕ) (placed : IsPlaced bytes born (Some dialogue)) where
-    after-placed : (earlier items : List Item) → AllPlaced past bytes born (told_of (handled_after dialogue past earlier items))
-    after-placed earlier [] = tt
-    after-placed earlier (item ∷ items) = (
-      handled-placed (Some dialogue) (sent_there dialogue past earlier (subject_of item)) item placed (sent-about start past legal dialogue earlier (subject_of item)),
-      after-placed (earlier ++ item ∷ []) items,
-    )
-
-    pub components-placed : (content : List ℕ) → AllPlaced past bytes born (told_of (handled_in dialogue past content))
-    components-placed content = after-placed [] (components_of content)
+  pub reply-placed : (output : Output) → Tells (reply h (Event.received bytes)) output
+      → Placed h.pairs bytes (born_on_message (reply h (Event.received bytes))) output
+  reply-placed = one-received (Placed h.pairs bytes born_then) (besides-placed h.pairs bytes born_then) h bytes each-placed

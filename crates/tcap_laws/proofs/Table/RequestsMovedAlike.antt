@@ -49,7 +49,7 @@ use Rattle.tcap_laws.proofs.Rows.StagesByMarks.{closed_stage, marked_stage}
 use Rattle.tcap_model.specs.Procedures.AbortRules.{sent_if_any}
 use Rattle.tcap_model.specs.Procedures.ComponentRequest.{queued_for}
 use Rattle.tcap_model.specs.Invocations.Deadline.{sent_clock}
-use Rattle.tcap_model.specs.Replies.Held.{is_of_answer}
+use Rattle.tcap_model.specs.Procedures.Problems.{is_of_answer}
 use Rattle.tcap_model.specs.Procedures.RequestMessage.{message_of}
 use Rattle.tcap_model.specs.Invocations.Span.{span}
 use Rattle.tcap_laws.proofs.BoolLemmas.{and_false, and_true}

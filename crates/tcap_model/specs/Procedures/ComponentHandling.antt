@@ -1,13 +1,13 @@
 -- What one received component tells and which Reject it has.
-use Rattle.std.specs.Prelude.{ℕ, ℤ, List, Option, Some, None, Result, Ok, Err, map, if◌then◌else◌}
+use Rattle.std.specs.Prelude.{ℕ, ℤ, Bool, true, false, List, Option, Some, None, Result, Ok, Err, map, if◌then◌else◌}
 use Rattle.tcap_component.specs.Problem.{ProblemParts}
 use Rattle.tcap_component.specs.Component.{ComponentParts, CodeParts, BodyParts}
 use Rattle.tcap_component.specs.Component.ComponentParts.{invoke, result_last, error_back, reject_back, result_more}
 use Rattle.tcap_component.specs.ComponentFault.{FaultParts}
 use Rattle.tcap_invocation.specs.declared.class.Class.{Class}
-use Rattle.tcap_invocation.specs.Class.{Received, Consequence, class_rule}
+use Rattle.tcap_invocation.specs.Class.{reports_success, reports_failure}
 use Rattle.tcap_model.specs.Words.Output.{Output, Closing, Rejector, ComponentIndication}
-use Rattle.tcap_model.specs.Procedures.Problems.{unrecognized_linked, unrecognized_result, unexpected_result, unrecognized_error, unexpected_error, remote_rejector}
+use Rattle.tcap_model.specs.Procedures.Problems.{unrecognized_linked, unrecognized_result, unexpected_result, unrecognized_error, unexpected_error, is_of_answer, remote_rejector}
 
 -- A component that was read, or the fault of one that can't be read (own).
 abbrev pub Item : Type 0
@@ -61,58 +61,57 @@ invoke_handled dialogue sent id None code parameter = telling (Output.component 
 invoke_handled dialogue (Some sent) id (Some linked) code parameter = telling (Output.component (ComponentIndication.invoked dialogue id (Some linked) code parameter))
 invoke_handled dialogue None id (Some linked) code parameter = rejecting dialogue (Some id) unrecognized_linked
 
--- A Return Result for an invocation that is Sent, by what comes of it for its class; what never comes
--- of a result is told as for an identifier that isn't Sent (Q.774, Component handling).
-abbrev pub result_by : SentInvocation → ℤ → Option BodyParts → Consequence → Handled
-result_by sent id body Consequence.result_last = closing sent id (Closing.result_last body)
-result_by sent id body Consequence.result_more = telling (Output.component (ComponentIndication.result_more sent.dialogue sent.number id body))
-result_by sent id body Consequence.rejected_result = closing_unexpected sent id unexpected_result
-result_by sent id body Consequence.error_back = rejecting (Some sent.dialogue) (Some id) unrecognized_result
-result_by sent id body Consequence.rejected_error = rejecting (Some sent.dialogue) (Some id) unrecognized_result
-result_by sent id body Consequence.rejected = rejecting (Some sent.dialogue) (Some id) unrecognized_result
-result_by sent id body Consequence.not_of_the_invoke = rejecting (Some sent.dialogue) (Some id) unrecognized_result
+-- A Return Result Last for an invocation that is Sent, by whether its class reports success: it closes
+-- the invocation, or else is unexpected (Q.774, Component handling).
+abbrev pub last_by : SentInvocation → ℤ → Option BodyParts → Bool → Handled
+last_by sent id body true = closing sent id (Closing.result_last body)
+last_by sent id body false = closing_unexpected sent id unexpected_result
 
--- A Return Result, Last or Not Last (Q.774, Component handling).
-abbrev pub result_handled : Option ℕ → Option SentInvocation → ℤ → Option BodyParts → Received → Handled
-result_handled dialogue None id body received = rejecting dialogue (Some id) unrecognized_result
-result_handled dialogue (Some sent) id body received = result_by sent id body (class_rule sent.class received)
+-- A Return Result Last; for an identifier that isn't Sent it is rejected (Q.774, Component handling).
+abbrev pub last_handled : Option ℕ → Option SentInvocation → ℤ → Option BodyParts → Handled
+last_handled dialogue None id body = rejecting dialogue (Some id) unrecognized_result
+last_handled dialogue (Some sent) id body = last_by sent id body (reports_success sent.class)
 
--- A Return Error for an invocation that is Sent, by what comes of it for its class; what never comes
--- of an error is told as for an identifier that isn't Sent (Q.774, Component handling).
-abbrev pub error_by : SentInvocation → ℤ → CodeParts → Option (List ℕ) → Consequence → Handled
-error_by sent id code parameter Consequence.error_back = closing sent id (Closing.error_back code parameter)
-error_by sent id code parameter Consequence.rejected_error = closing_unexpected sent id unexpected_error
-error_by sent id code parameter Consequence.result_last = rejecting (Some sent.dialogue) (Some id) unrecognized_error
-error_by sent id code parameter Consequence.result_more = rejecting (Some sent.dialogue) (Some id) unrecognized_error
-error_by sent id code parameter Consequence.rejected_result = rejecting (Some sent.dialogue) (Some id) unrecognized_error
-error_by sent id code parameter Consequence.rejected = rejecting (Some sent.dialogue) (Some id) unrecognized_error
-error_by sent id code parameter Consequence.not_of_the_invoke = rejecting (Some sent.dialogue) (Some id) unrecognized_error
+-- A Return Result Not Last for an invocation that is Sent, by whether its class reports success: it is
+-- told and closes nothing, or else is unexpected (Q.774, Component handling).
+abbrev pub more_by : SentInvocation → ℤ → Option BodyParts → Bool → Handled
+more_by sent id body true =
+    telling (Output.component (ComponentIndication.result_more sent.dialogue sent.number id body))
+more_by sent id body false = closing_unexpected sent id unexpected_result
 
--- A Return Error (Q.774, Component handling).
+-- A Return Result Not Last; for an identifier that isn't Sent it is rejected
+-- (Q.774, Component handling).
+abbrev pub more_handled : Option ℕ → Option SentInvocation → ℤ → Option BodyParts → Handled
+more_handled dialogue None id body = rejecting dialogue (Some id) unrecognized_result
+more_handled dialogue (Some sent) id body = more_by sent id body (reports_success sent.class)
+
+-- A Return Error for an invocation that is Sent, by whether its class reports failure: it closes the
+-- invocation, or else is unexpected (Q.774, Component handling).
+abbrev pub error_by : SentInvocation → ℤ → CodeParts → Option (List ℕ) → Bool → Handled
+error_by sent id code parameter true = closing sent id (Closing.error_back code parameter)
+error_by sent id code parameter false = closing_unexpected sent id unexpected_error
+
+-- A Return Error; for an identifier that isn't Sent it is rejected (Q.774, Component handling).
 abbrev pub error_handled : Option ℕ → Option SentInvocation → ℤ → CodeParts → Option (List ℕ) → Handled
 error_handled dialogue None id code parameter = rejecting dialogue (Some id) unrecognized_error
-error_handled dialogue (Some sent) id code parameter = error_by sent id code parameter (class_rule sent.class Received.return_error)
+error_handled dialogue (Some sent) id code parameter = error_by sent id code parameter (reports_failure sent.class)
 
 -- A Reject that closes no invocation (Q.774, Component handling).
 abbrev pub remote : Option ℕ → Option ℤ → ProblemParts → Handled
-remote dialogue id problem = telling (Output.component (ComponentIndication.remote_reject dialogue id problem (remote_rejector problem)))
+remote dialogue id problem =
+    telling (Output.component (ComponentIndication.remote_reject dialogue id problem (remote_rejector problem)))
 
--- A Reject for an invocation that is Sent, by what comes of it: one of the Invoke closes it
--- (Q.774, Component handling).
-abbrev pub reject_by : SentInvocation → ℤ → ProblemParts → Consequence → Handled
-reject_by sent id problem Consequence.rejected = closing sent id (Closing.rejected problem (remote_rejector problem))
-reject_by sent id problem Consequence.result_last = remote (Some sent.dialogue) (Some id) problem
-reject_by sent id problem Consequence.result_more = remote (Some sent.dialogue) (Some id) problem
-reject_by sent id problem Consequence.error_back = remote (Some sent.dialogue) (Some id) problem
-reject_by sent id problem Consequence.rejected_result = remote (Some sent.dialogue) (Some id) problem
-reject_by sent id problem Consequence.rejected_error = remote (Some sent.dialogue) (Some id) problem
-reject_by sent id problem Consequence.not_of_the_invoke = remote (Some sent.dialogue) (Some id) problem
+-- A Reject for an invocation that is Sent, by whether it is one of an answer: one of the Invoke closes
+-- the invocation, one of an answer that was sent from here closes nothing (Q.774, Component handling).
+abbrev pub reject_by : SentInvocation → ℤ → ProblemParts → Bool → Handled
+reject_by sent id problem true = remote (Some sent.dialogue) (Some id) problem
+reject_by sent id problem false = closing sent id (Closing.rejected problem (remote_rejector problem))
 
 -- A Reject, which may be without an identifier (Q.774, Component handling).
 abbrev pub reject_handled : Option ℕ → Option SentInvocation → Option ℤ → ProblemParts → Handled
 reject_handled dialogue sent None problem = remote dialogue None problem
 reject_handled dialogue None (Some id) problem = remote dialogue (Some id) problem
-reject_handled dialogue (Some sent) (Some id) problem = reject_by sent id problem (class_rule sent.class (Received.reject problem.kind))
+reject_handled dialogue (Some sent) (Some id) problem = reject_by sent id problem (is_of_answer problem.kind)
 
 -- The Reject of a component that can't be read; a faulty Reject isn't answered, so that no two sides
 -- reject one another without end (Q.774, Component related abnormal conditions).
@@ -124,8 +123,8 @@ fault_reject f = if f.was_reject then None else Some (reject_back f.id f.problem
 -- a local Reject and closes nothing (Q.774, Component handling; that it closes nothing is own).
 abbrev pub handled : Option ℕ → Option SentInvocation → Item → Handled
 handled dialogue sent (Ok (invoke id linked code parameter)) = invoke_handled dialogue sent id linked code parameter
-handled dialogue sent (Ok (result_last id body)) = result_handled dialogue sent id body Received.return_result_last
-handled dialogue sent (Ok (result_more id body)) = result_handled dialogue sent id body Received.return_result_not_last
+handled dialogue sent (Ok (result_last id body)) = last_handled dialogue sent id body
+handled dialogue sent (Ok (result_more id body)) = more_handled dialogue sent id body
 handled dialogue sent (Ok (error_back id code parameter)) = error_handled dialogue sent id code parameter
 handled dialogue sent (Ok (reject_back id problem)) = reject_handled dialogue sent id problem
 handled dialogue sent (Err f) = record { told = Output.component (ComponentIndication.local_reject dialogue f.id f.problem); reject = fault_reject f }

@@ -2,8 +2,6 @@
 use Rattle.std.specs.Prelude.{ℕ, ℤ, ◌+◌, ◌-◌, ◌==◌, ◌&&◌, Bool, true, false, not, nat_le, length, take, Option, Some, None, is_none, if◌then◌else◌}
 use Rattle.std.specs.List.{list_any}
 use Rattle.std.specs.Ordering.{int_eq}
-use Rattle.tcap_component.specs.declared.problem.Kind.{Kind}
-use Rattle.tcap_component.specs.declared.problem.Kind.TheVariants as kind
 use Rattle.tcap_model.specs.Words.Answer.{is_accepted}
 use Rattle.tcap_model.specs.Histories.Clock.{clock}
 use Rattle.tcap_model.specs.Invocations.Closings.{Told}
@@ -13,6 +11,7 @@ use Rattle.tcap_model.specs.Invocations.Invocation.{Invocation, latest}
 use Rattle.tcap_model.specs.Invocations.Outcome.{outcome}
 use Rattle.tcap_model.specs.Words.Output.{Closing}
 use Rattle.tcap_model.specs.Histories.Pair.{Pair, Past}
+use Rattle.tcap_model.specs.Procedures.Problems.{is_of_answer}
 use Rattle.tcap_model.specs.Words.Request.{Request, ComponentRequest}
 
 -- A result or an error: the user may reject it, and its identifier waits for that
@@ -24,13 +23,6 @@ is_rejectable (Closing.rejected problem by) = false
 is_rejectable Closing.lapsed = false
 is_rejectable Closing.ended = false
 is_rejectable Closing.given_up = false
-
--- A Reject of a result or of an error, which was sent by the peer (Q.773, Problem).
-abbrev pub is_of_answer : Kind → Bool
-is_of_answer kind.General = false
-is_of_answer kind.Invoke = false
-is_of_answer kind.Result = true
-is_of_answer kind.Error = true
 
 -- Whether a request rejects the answer for this identifier (Q.774, Wait for Reject).
 abbrev pub rejects_answer : ℤ → Request → Bool
