@@ -9,7 +9,7 @@ pub use Rattle.tcap_laws.proofs.Queues.BoundedQueues.{queues-bounded}
 pub use Rattle.tcap_laws.proofs.Births.Clocks.{clock-step, clock-later}
 pub use Rattle.tcap_laws.proofs.Decisions.CountedHistories.{counted, open_before}
 pub use Rattle.tcap_laws.proofs.Decisions.DecidedHistories.{closings_are}
-pub use Rattle.tcap_laws.proofs.Decisions.DecidedOutcomes.{outcome_told}
+pub use Rattle.tcap_laws.proofs.Decisions.DecidedOutcomes.{outcome_told, plainly_decided}
 pub use Rattle.tcap_laws.proofs.Spans.DecisionSteps.{closing_of_decision, decided_now, decision_place, invocation_stays, outcome_stays, decision_stays}
 pub use Rattle.tcap_laws.proofs.Spans.EarlierMoments.{clock_still, invocations_still, outcome_still, decision_still, deadline_still, held_still}
 pub use Rattle.tcap_laws.proofs.FarEnds.ClosedOnce.{once}

@@ -1,12 +1,13 @@
 //! What is told of the end of an invocation.
 
-ghost use Rattle.tcap_model.specs.Statements.Headline.{EachHasOutcome, EachIsCounted, EachIsDecided};
+ghost use Rattle.tcap_model.specs.Statements.Headline.{EachHasOutcome, EachIsCounted, EachIsDecided, EachIsPlainlyDecided};
 
 /// The closing indications of an invocation number are those that its decision asks for: none before
 /// its outcome, and then the one, in the answer to the event that decided it
 /// (Q.774, Invocation state machine).
 pub fn decided()
-    ensures { EachIsDecided }
+    ensures as_decided { EachIsDecided }
+    ensures plainly { EachIsPlainlyDecided }
 {}
 
 /// They tell the invocation's dialogue, its identifier and its outcome with the contents

@@ -6,7 +6,6 @@ ghost use Rattle.std.specs.Prelude.{◌≡◌, ◌≢◌, [], ◌∷◌, IsTrue,
 ghost use Rattle.tcap_model.specs.Words.Answer.{Answer};
 ghost use Rattle.tcap_model.specs.Histories.Birth.{was_born};
 ghost use Rattle.tcap_model.specs.Words.Fault.{Fault};
-ghost use Rattle.tcap_model.specs.Words.InRange.{InRange};
 ghost use Rattle.tcap_model.specs.Statements.Isolation.{IsAlone, history_of};
 ghost use Rattle.tcap_model.specs.Replies.Legal.{IsLegal};
 ghost use Rattle.tcap_model.specs.Histories.Names.{names};
@@ -26,8 +25,6 @@ pub fn one_dialogue_of_two()
 /// An invoke draws another number, and is accepted in both.
 pub fn an_invoke_alone()
     ensures legal { IsLegal before_the_invoke }
-    ensures born { IsTrue (was_born 1 before_the_invoke.pairs) }
-    ensures in_range { InRange first_invokes }
     ensures named { IsTrue (names first_invokes 1) }
     ensures replied { reply before_the_invoke first_invokes ≡ Answer.number last }
     ensures replied_alone { reply (history_of 1 before_the_invoke) first_invokes ≡ Answer.number last_but_one }
@@ -38,8 +35,6 @@ pub fn an_invoke_alone()
 /// A request is answered as if the dialogue were alone.
 pub fn a_request_alone()
     ensures legal { IsLegal before_the_lapse }
-    ensures born { IsTrue (was_born 1 before_the_lapse.pairs) }
-    ensures in_range { InRange first_cancels }
     ensures named { IsTrue (names first_cancels 1) }
     ensures replied { reply before_the_lapse first_cancels ≡ Answer.given_up last }
     ensures number_left { reply before_the_lapse first_cancels ≢ Answer.refused Fault.numbers_spent }
@@ -49,7 +44,6 @@ pub fn a_request_alone()
 /// So are received bytes.
 pub fn bytes_alone()
     ensures legal { IsLegal before_the_lapse }
-    ensures in_range { InRange first_hears }
     ensures named { IsTrue (names first_hears 1) }
     ensures number_left { reply before_the_lapse first_hears ≢ Answer.refused Fault.numbers_spent }
     ensures alone { IsAlone before_the_lapse 1 first_hears }
@@ -58,7 +52,6 @@ pub fn bytes_alone()
 /// Of a moment at which both dialogues' invocations lapse, the dialogue's own is compared.
 pub fn a_moment_alone()
     ensures legal { IsLegal before_the_lapse }
-    ensures in_range { InRange both_lapse }
     ensures named { IsTrue (names both_lapse 1) }
     ensures replied { reply before_the_lapse both_lapse ≡ Answer.outputs (first_lapses ∷ second_lapses ∷ []) }
     ensures replied_alone { reply (history_of 1 before_the_lapse) both_lapse ≡ Answer.outputs (first_lapses ∷ []) }
@@ -69,7 +62,6 @@ pub fn a_moment_alone()
 /// Where no number is left, the dialogue alone would have one: the exception is needed.
 pub fn the_last_number_is_seen()
     ensures legal { IsLegal two_dialogues }
-    ensures in_range { InRange invokes_again }
     ensures named { IsTrue (names invokes_again 1) }
     ensures spent { reply two_dialogues invokes_again ≡ Answer.refused Fault.numbers_spent }
     ensures not_spent_alone { reply (history_of 1 two_dialogues) invokes_again ≡ Answer.number last }

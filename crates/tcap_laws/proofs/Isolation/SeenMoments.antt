@@ -114,7 +114,7 @@ on-request h dialogue asked r legal same =
     subst (λ d. reply h (Event.on_dialogue d r) ≢ Answer.refused Fault.numbers_spent → IsAlone h dialogue (Event.on_dialogue d r)) (sym same) (alone_request h dialogue legal r)
 
 pub each-alone : EachIsAlone
-each-alone h dialogue Event.new_dialogue legal born range named left = absurd (true≢false (sym named))
-each-alone h dialogue (Event.on_dialogue asked r) legal born range named left = on-request h dialogue asked r legal (eqb-true asked dialogue named) left
-each-alone h dialogue (Event.received bytes) legal born range named left = alone-bytes h dialogue legal bytes named
-each-alone h dialogue (Event.moment now) legal born range named left = alone-moment h dialogue legal now
+each-alone h dialogue Event.new_dialogue legal named left = absurd (true≢false (sym named))
+each-alone h dialogue (Event.on_dialogue asked r) legal named left = on-request h dialogue asked r legal (eqb-true asked dialogue named) left
+each-alone h dialogue (Event.received bytes) legal named left = alone-bytes h dialogue legal bytes named
+each-alone h dialogue (Event.moment now) legal named left = alone-moment h dialogue legal now

@@ -1,5 +1,5 @@
 -- What is to be proved of every legal history: the headline.
-use Rattle.std.specs.Prelude.{◌≡◌, ℕ, ℤ, ◌≤◌, List, length, map, Option, Some, option_map, option_to_list}
+use Rattle.std.specs.Prelude.{◌≡◌, ℕ, ℤ, ◌≤◌, List, [], ◌∷◌, length, map, Option, Some, None, option_map, option_to_list}
 use Rattle.tcap_model.specs.Histories.Clock.{clock}
 use Rattle.tcap_model.specs.Invocations.Closings.{Told, closings}
 use Rattle.tcap_model.specs.Invocations.Deadline.{deadline}
@@ -8,8 +8,10 @@ use Rattle.tcap_model.specs.Histories.History.{History}
 use Rattle.tcap_model.specs.Invocations.Invocation.{Invocation, invocation_of}
 use Rattle.tcap_model.specs.Replies.Legal.{IsLegal}
 use Rattle.tcap_model.specs.Histories.Life.{Life, life, standing_dialogues}
-use Rattle.tcap_model.specs.Invocations.Outcome.{outcome_of}
+use Rattle.tcap_model.specs.Invocations.Outcome.{outcome_of, outcome}
 use Rattle.tcap_model.specs.Words.Output.{Closing}
+use Rattle.tcap_model.specs.Histories.Pair.{Pair, Past}
+use Rattle.tcap_model.specs.Statements.Places.{StandsIn}
 use Rattle.tcap_model.specs.Replies.Queue.{queue}
 use Rattle.tcap_model.specs.Procedures.QueueRules.{queue_limit, joined}
 use Rattle.tcap_model.specs.Table.World.{rows_of}
@@ -20,6 +22,29 @@ use Rattle.tcap_model.specs.Table.World.{rows_of}
 -- that its outcome asks for, in the answer to the event whose mark decided (own).
 abbrev pub Decided : History → ℕ → Type 0
 Decided h n = closings n h.pairs ≡ as_list (decision n h.pairs)
+
+-- With this pair the invocation of a number has this outcome, and before it none (own).
+pub record IsDecidedBy (n : ℕ) (closing : Closing) (pair : Pair) (before : Past) : Type 0 where
+  pub is_outcome : outcome n (pair ∷ before) ≡ Some closing
+  pub none_before : outcome n before ≡ None
+
+-- A number has one closing indication in all. It tells this outcome, in the answer of the pair that
+-- decided it (own).
+pub record IsToldOnce (n : ℕ) (closing : Closing) (past : Past) : Type 0 where
+  pub told : Told
+  pub pair : Pair
+  pub before : Past
+  pub is_all : closings n past ≡ told ∷ []
+  pub is_closing : told.closing ≡ closing
+  pub is_place : told.place ≡ pair ∷ before
+  pub stands : StandsIn pair before past
+  pub is_decided : IsDecidedBy n closing pair before
+
+-- The same in the plain form: the closing indications of a number are none where its invocation has no
+-- outcome; where it has one, they are one alone, in the answer to the event whose mark decided (own).
+pub record PlainlyDecided (h : History) (n : ℕ) : Type 0 where
+  pub none : outcome n h.pairs ≡ None → closings n h.pairs ≡ []
+  pub one : (closing : Closing) → outcome n h.pairs ≡ Some closing → IsToldOnce n closing h.pairs
 
 -- ---- outcome
 
@@ -70,6 +95,10 @@ pub record Bounded (h : History) : Type 0 where
 -- Every number at every legal history is decided so (own).
 abbrev pub EachIsDecided : Type 0
 EachIsDecided = (h : History) (n : ℕ) → IsLegal h → Decided h n
+
+-- The same in the plain form (own).
+abbrev pub EachIsPlainlyDecided : Type 0
+EachIsPlainlyDecided = (h : History) (n : ℕ) → IsLegal h → PlainlyDecided h n
 
 -- Every number at every legal history has its outcome told (own).
 abbrev pub EachHasOutcome : Type 0

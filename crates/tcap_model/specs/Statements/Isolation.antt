@@ -1,11 +1,9 @@
 -- What is to be proved of every legal history: no dialogue sees another.
 use Rattle.std.specs.Prelude.{◌≡◌, ◌≢◌, ℕ, IsTrue}
 use Rattle.tcap_model.specs.Words.Answer.{Answer}
-use Rattle.tcap_model.specs.Histories.Birth.{was_born}
 use Rattle.tcap_model.specs.Words.Event.{Event}
 use Rattle.tcap_model.specs.Words.Fault.{Fault}
 use Rattle.tcap_model.specs.Histories.History.{History}
-use Rattle.tcap_model.specs.Words.InRange.{InRange}
 use Rattle.tcap_model.specs.Replies.Legal.{IsLegal}
 use Rattle.tcap_model.specs.Histories.Names.{names}
 use Rattle.tcap_model.specs.Statements.Only.{only, answer_within}
@@ -37,9 +35,9 @@ compared dialogue (Event.moment now) answer = answer_within dialogue answer
 abbrev pub IsAlone : History → ℕ → Event → Type 0
 IsAlone h dialogue event = compared dialogue event (reply h event) ≡ compared dialogue event (reply (history_of dialogue h) event)
 
--- Neither other dialogues nor their peers are seen in a dialogue: for each event that names it, unless
--- no invocation number is left (own).
+-- Neither other dialogues nor their peers are seen in a dialogue, be it born or not: for each event that
+-- names it, unless no invocation number is left (own).
 abbrev pub EachIsAlone : Type 0
 EachIsAlone =
-    (h : History) (dialogue : ℕ) (event : Event) → IsLegal h → IsTrue (was_born dialogue h.pairs) → InRange event → IsTrue (names event dialogue) →
+    (h : History) (dialogue : ℕ) (event : Event) → IsLegal h → IsTrue (names event dialogue) →
     reply h event ≢ Answer.refused Fault.numbers_spent → IsAlone h dialogue event
