@@ -8,6 +8,7 @@ mod IsolationWorks
 mod NetsBroken
 mod NetsWork
 mod PlaceLemmas
+mod PlainlyDecided
 mod SendingBroken
 mod SendingWorks
 mod TwoEndsWork

@@ -3,8 +3,10 @@ use Rattle.std.specs.Prelude.{pos, drop}
 use Rattle.tcap_invocation.specs.declared.class.Class.TheVariants.{One}
 use Rattle.tcap_model.specs.Statements.Headline.{ToldClosing}
 use Rattle.tcap_model.specs.Histories.History.{History}
+use Rattle.tcap_model.specs.Histories.Pair.{Past}
 use Rattle.tcap_model.specs.Invocations.Invocation.{Invocation}
 use Rattle.tcap_model.specs.Words.Output.{Closing}
+use Rattle.tcap_examples.specs.Values.HistoryWords.{usual_start}
 use Rattle.tcap_examples.specs.Histories.Closing as closing
 use Rattle.tcap_examples.specs.Histories.Ends as ends
 
@@ -40,3 +42,7 @@ second = record { number = 2; dialogue = 1; id = pos 2; class = One; timeout = 1
 -- The first invocation ends so (own).
 abbrev pub first_ending : Closing → ToldClosing
 first_ending closing = record { dialogue = 1; id = pos 1; closing = closing }
+
+-- A history that starts as usual (own).
+abbrev pub usual_history : Past → History
+usual_history past = record { start = usual_start; pairs = past }

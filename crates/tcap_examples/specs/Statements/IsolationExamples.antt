@@ -96,7 +96,11 @@ invokes_again = Event.on_dialogue 1 (asks.invoke (pos 2) One (code 10) None None
 abbrev pub first_cancels : Event
 first_cancels = Event.on_dialogue 1 (asks.u_cancel (pos 1))
 
--- It hears the result (own).
+-- The user of a dialogue that isn't born gives up an invocation whose identifier is no octet (own).
+abbrev pub nobody_cancels : Event
+nobody_cancels = Event.on_dialogue 9 (Request.component (ComponentRequest.u_cancel (pos 1000)))
+
+-- The first dialogue hears the result (own).
 abbrev pub first_hears : Event
 first_hears = Event.received result_of_first
 

@@ -2,10 +2,11 @@
 //! does the conclusion; for a fifth, without an invocation number left, it doesn't.
 #![tactic(auto, using(crate::proofs::IsolationWorks::isolation_works), unfolding(crate::specs::Computing::computing))]
 
-ghost use Rattle.std.specs.Prelude.{◌≡◌, ◌≢◌, [], ◌∷◌, IsTrue, None};
+ghost use Rattle.std.specs.Prelude.{◌≡◌, ◌≢◌, [], ◌∷◌, false, IsTrue, None};
 ghost use Rattle.tcap_model.specs.Words.Answer.{Answer};
 ghost use Rattle.tcap_model.specs.Histories.Birth.{was_born};
 ghost use Rattle.tcap_model.specs.Words.Fault.{Fault};
+ghost use Rattle.tcap_model.specs.Words.InRange.{is_in_range};
 ghost use Rattle.tcap_model.specs.Statements.Isolation.{IsAlone, history_of};
 ghost use Rattle.tcap_model.specs.Replies.Legal.{IsLegal};
 ghost use Rattle.tcap_model.specs.Histories.Names.{names};
@@ -13,7 +14,7 @@ ghost use Rattle.tcap_model.specs.Statements.Only.{only};
 ghost use Rattle.tcap_model.specs.Words.Output.{Output};
 ghost use Rattle.tcap_model.specs.Replies.Reply.{reply};
 ghost use Rattle.tcap_examples.specs.Nets.PlayedNets.{play_start};
-ghost use Rattle.tcap_examples.specs.Statements.IsolationExamples.{two_dialogues, first_alone, before_the_lapse, before_the_invoke, first_invokes, invokes_again, first_cancels, first_hears, both_lapse, first_lapses, second_lapses, last_but_one, last, two_left, of_one_begin, with_one_peer, IsAloneThroughout};
+ghost use Rattle.tcap_examples.specs.Statements.IsolationExamples.{two_dialogues, first_alone, before_the_lapse, before_the_invoke, first_invokes, invokes_again, first_cancels, first_hears, both_lapse, nobody_cancels, first_lapses, second_lapses, last_but_one, last, two_left, of_one_begin, with_one_peer, IsAloneThroughout};
 
 /// What the first dialogue sees of a history of two.
 pub fn one_dialogue_of_two()
@@ -57,6 +58,16 @@ pub fn a_moment_alone()
     ensures replied_alone { reply (history_of 1 before_the_lapse) both_lapse ≡ Answer.outputs (first_lapses ∷ []) }
     ensures number_left { reply before_the_lapse both_lapse ≢ Answer.refused Fault.numbers_spent }
     ensures alone { IsAlone before_the_lapse 1 both_lapse }
+{}
+
+/// A dialogue that isn't born is unknown to both, whatever is asked of it.
+pub fn no_dialogue_alone()
+    ensures legal { IsLegal before_the_lapse }
+    ensures unborn { was_born 9 before_the_lapse.pairs ≡ false }
+    ensures out_of_range { is_in_range nobody_cancels ≡ false }
+    ensures named { IsTrue (names nobody_cancels 9) }
+    ensures replied { reply before_the_lapse nobody_cancels ≡ Answer.refused Fault.unknown_dialogue }
+    ensures alone { IsAlone before_the_lapse 9 nobody_cancels }
 {}
 
 /// Where no number is left, the dialogue alone would have one: the exception is needed.
