@@ -1,6 +1,6 @@
 -- Each invocation has at most one closing indication, and exactly one once its time or its dialogue is over.
 use Rattle.std.proofs.Common.{◌≡◌, ℕ, ℤ, ◌<◌, ◌≤◌, ◌==◌, Bool, true, false, cond, List, [], ◌∷◌, ◌++◌, length, Option, Some, None, Result, Ok, Err, refl, ap, sym, ◌∙◌, subst, arith}
-use Rattle.std.specs.Prelude.{find, is_some, option_map, option_to_list}
+use Rattle.std.specs.Prelude.{find, is_some, option_map, option_to_list, unwrap_or}
 use Rattle.std.specs.Option.{option_or}
 use Rattle.tcap_component.specs.ComponentReading.{components_of}
 use Rattle.tcap_invocation.specs.declared.class.Class.{Class}
@@ -25,7 +25,7 @@ use Rattle.tcap_model.specs.Histories.History.{History, Start}
 use Rattle.tcap_model.specs.Invocations.Invocation.{Invocation, invoked_by, invoked_of, invoked_under, invocation_of}
 use Rattle.tcap_model.specs.Replies.Legal.{AreReplies}
 use Rattle.tcap_model.specs.Histories.Life.{Life, life, life_after, life_if_named, life_by_event, life_if_accepted, life_by_request, life_if_live, life_by_message, life_by_verdict}
-use Rattle.tcap_model.specs.Invocations.Marks.{Mark, Noted, marks, marks_by_event, marks_by_request, marks_if_live, marks_by_message, if_normal, component_marks}
+use Rattle.tcap_model.specs.Invocations.Marks.{Mark, Noted, marks, marks_by_event, marks_of_request, end_if_over, marks_if_live, marks_of_message, if_normal, component_marks}
 use Rattle.tcap_model.specs.Histories.Names.{names}
 use Rattle.tcap_model.specs.Invocations.Numbers.{number_of}
 use Rattle.tcap_model.specs.Invocations.Outcome.{closing_after, first_closing, outcome_of, outcome}
@@ -57,7 +57,7 @@ module _ (class : Class) (timeout : ℕ) (c : ℕ) (before : List Noted) where
     abbrev standing : Life
     standing = Life.standing s context
 
-    request_closes : (r : Request) → life_by_request s context r ≡ Life.over → Closes (marks_by_request id standing Life.over r)
+    request_closes : (r : Request) → life_by_request s context r ≡ Life.over → Closes (unwrap_or (marks_of_request id r) (end_if_over standing Life.over))
     request_closes (Request.component (ComponentRequest.invoke named k code parameter linked t)) e = absurd cc
     request_closes (Request.component (ComponentRequest.result_last named body)) e = absurd cc
     request_closes (Request.component (ComponentRequest.result_more named body)) e = absurd cc
@@ -71,15 +71,15 @@ module _ (class : Class) (timeout : ℕ) (c : ℕ) (before : List Noted) where
     request_closes (Request.dialogue (DialogueRequest.finish Ending.prearranged asked info)) e = end_last []
     request_closes (Request.dialogue (DialogueRequest.u_abort why info)) e = end_last []
 
-    verdict_closes : (origin : List ℕ) (ms : List Mark) (v : PortionVerdict) → life_by_verdict s context origin v ≡ Life.over → Closes (if_normal v ms (Mark.end ∷ []))
+    verdict_closes : (origin : List ℕ) (ms : List Mark) (v : PortionVerdict) → life_by_verdict s context origin v ≡ Life.over → Closes (unwrap_or (if_normal v ms) (Mark.end ∷ []))
     verdict_closes origin ms (PortionVerdict.normal told info) e = absurd cc
     verdict_closes origin ms PortionVerdict.abnormal e = end_last []
 
-    end_closes : (ms : List Mark) (v : PortionVerdict) → Closes (if_normal v (ms ++ Mark.end ∷ []) (Mark.end ∷ []))
+    end_closes : (ms : List Mark) (v : PortionVerdict) → Closes (unwrap_or (if_normal v (ms ++ Mark.end ∷ [])) (Mark.end ∷ []))
     end_closes ms (PortionVerdict.normal told info) = end_last ms
     end_closes ms PortionVerdict.abnormal = end_last []
 
-    message_closes : (r : Result Message FrameFault) → life_by_message s context r ≡ Life.over → Closes (marks_by_message id s context (Mark.end ∷ []) r)
+    message_closes : (r : Result Message FrameFault) → life_by_message s context r ≡ Life.over → Closes (unwrap_or (marks_of_message id s context r) (Mark.end ∷ []))
     message_closes (Ok (Message.go_on origin to portion components)) e = verdict_closes origin (component_marks id (components_of components)) (portion_verdict s context portion) e
     message_closes (Ok (Message.end to portion components)) e = end_closes (component_marks id (components_of components)) (portion_verdict s context portion)
     message_closes (Ok (Message.abort to reason)) e = end_last []
@@ -87,7 +87,7 @@ module _ (class : Class) (timeout : ℕ) (c : ℕ) (before : List Noted) where
     message_closes (Ok (Message.begin origin portion components)) e = absurd cc
     message_closes (Err f) e = end_last []
 
-    bytes_close : (live : Bool) (bytes : List ℕ) → life_if_live live s context bytes ≡ Life.over → Closes (marks_if_live live id s context (Mark.end ∷ []) bytes)
+    bytes_close : (live : Bool) (bytes : List ℕ) → life_if_live live s context bytes ≡ Life.over → Closes (unwrap_or (marks_if_live live id s context bytes) (Mark.end ∷ []))
     bytes_close false bytes e = absurd cc
     bytes_close true bytes e = message_closes (frame_at bytes) e
 

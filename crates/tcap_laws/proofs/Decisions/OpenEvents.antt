@@ -1,7 +1,7 @@
 -- What received bytes and moments tell of an open invocation is what their marks decide.
 use Rattle.std.proofs.Common.{◌≡◌, ℕ, ℤ, ◌+◌, ◌<◌, ◌≤◌, ◌==◌, Bool, true, false, not, cond, ◌&&◌, nat_le, nat_lt, List, [], Option, Some, None, Ok, Err, refl, ap, sym, ◌∙◌, arith}
 use Rattle.std.proofs.lemmas.Bool.Decides.{nat_tests}
-use Rattle.std.specs.Prelude.{is_none, is_some, option_map}
+use Rattle.std.specs.Prelude.{is_none, is_some, option_map, unwrap_or}
 use Rattle.std.specs.Option.{option_or}
 use Rattle.tcap_laws.proofs.Births.DrawnDialogues.{beyond-unborn, unborn-life}
 use Rattle.tcap_laws.proofs.Spans.MarksAfterBirth.{was_alive, noted_at_clock, no_marks, span_unborn}
@@ -28,7 +28,7 @@ use Rattle.tcap_model.specs.Histories.History.{History, Start}
 use Rattle.tcap_model.specs.Invocations.Invocation.{Invocation, invocation_of, latest}
 use Rattle.tcap_model.specs.Replies.Legal.{AreReplies}
 use Rattle.tcap_model.specs.Histories.Life.{Life, life, live_in, life_by_message, life_if_live}
-use Rattle.tcap_model.specs.Invocations.Marks.{Mark, Noted, marks, marks_after_birth, marks_by_message, marks_if_live, end_if_over}
+use Rattle.tcap_model.specs.Invocations.Marks.{Mark, Noted, marks, marks_after_birth, marks_of_message, marks_if_live, end_if_over}
 use Rattle.tcap_model.specs.Histories.Names.{names}
 use Rattle.tcap_model.specs.Invocations.Outcome.{first_closing}
 use Rattle.tcap_model.specs.Words.Output.{Closing}
@@ -82,7 +82,7 @@ module _ (start : Start) (past place : Past) (n : ℕ) (i : Invocation) (legal :
 
     -- the marks of bytes that name it, by the life before them
     abbrev marks_then : State → Option (List ℕ) → Bool → List Mark
-    marks_then s c live = marks_if_live live i.id s c (end_if_over (Life.standing s c) (life_if_live live s c bytes)) bytes
+    marks_then s c live = unwrap_or (marks_if_live live i.id s c bytes) (end_if_over (Life.standing s c) (life_if_live live s c bytes))
 
     standing_then : (s : State) (c : Option (List ℕ)) (live : Bool) → life i.dialogue past ≡ Life.standing s c → is_live s ≡ live → names received i.dialogue ≡ true → added ≡ noted_at_clock (clock past) (marks_then s c live)
     standing_then s c live q v e = standing_marks i.dialogue i.id received answer past s c q e ∙ ap (λ b. noted_at_clock (clock past) (marks_then s c b)) v
@@ -108,7 +108,7 @@ module _ (start : Start) (past place : Past) (n : ℕ) (i : Invocation) (legal :
         go Life.over p v = absurd cc
         go (Life.standing s c) p v =
             message_here start past place n i legal found here s c m
-            ∙ (ap (λ r. wanted place past i (noted_at_clock (clock past) (marks_by_message i.id s c (end_if_over (Life.standing s c) (life_by_message s c r)) r))) (sym q)
+            ∙ (ap (λ r. wanted place past i (noted_at_clock (clock past) (unwrap_or (marks_of_message i.id s c r) (end_if_over (Life.standing s c) (life_by_message s c r))))) (sym q)
             ∙ ap (wanted place past i) (sym (standing_then s c true p v e)))
 
     broken_here : (f : FrameFault) → names received i.dialogue ≡ true → is_live_in h i.dialogue ≡ true → frame_at bytes ≡ Err f
@@ -120,7 +120,7 @@ module _ (start : Start) (past place : Past) (n : ℕ) (i : Invocation) (legal :
         go Life.over p v = absurd cc
         go (Life.standing s c) p v =
             ended_only start past place n i legal found
-            ∙ (ap (λ r. wanted place past i (noted_at_clock (clock past) (marks_by_message i.id s c (end_if_over (Life.standing s c) (life_by_message s c r)) r))) (sym q)
+            ∙ (ap (λ r. wanted place past i (noted_at_clock (clock past) (unwrap_or (marks_of_message i.id s c r) (end_if_over (Life.standing s c) (life_by_message s c r))))) (sym q)
             ∙ ap (wanted place past i) (sym (standing_then s c true p v e)))
 
     bytes_wanted : Wants n place h i.dialogue bytes (wanted place past i added)

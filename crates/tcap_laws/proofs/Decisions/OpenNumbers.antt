@@ -2,7 +2,7 @@
 use Rattle.std.proofs.Common.{◌≡◌, ℕ, ℤ, ◌==◌, Bool, true, false, cond, ◌&&◌, List, [], ◌∷◌, ◌++◌, Option, Some, None, Ok, refl, ap, sym, ◌∙◌, arith}
 use Rattle.std.proofs.lemmas.Bool.Decides.{nat_tests, Decides-int_eq}
 use Rattle.std.proofs.lemmas.List.{append-nil}
-use Rattle.std.specs.Prelude.{is_none}
+use Rattle.std.specs.Prelude.{is_none, unwrap_or}
 use Rattle.std.specs.Ordering.{int_eq}
 use Rattle.tcap_component.specs.ComponentReading.{components_of}
 use Rattle.tcap_laws.proofs.Spans.MarksAfterBirth.{noted_at_clock}
@@ -21,7 +21,7 @@ use Rattle.tcap_model.specs.Histories.History.{Start}
 use Rattle.tcap_model.specs.Invocations.Invocation.{Invocation, invocation_of, latest}
 use Rattle.tcap_model.specs.Replies.Legal.{AreReplies}
 use Rattle.tcap_model.specs.Histories.Life.{Life, life_by_message, life_by_verdict}
-use Rattle.tcap_model.specs.Invocations.Marks.{Mark, Noted, end_if_over, if_normal, marks_by_message, component_marks}
+use Rattle.tcap_model.specs.Invocations.Marks.{Mark, Noted, end_if_over, if_normal, marks_of_message, component_marks}
 use Rattle.tcap_model.specs.Invocations.Outcome.{closing_after, first_closing, outcome}
 use Rattle.tcap_model.specs.Words.Output.{Output, Closing, ComponentIndication}
 use Rattle.tcap_model.specs.Histories.Pair.{Past}
@@ -112,17 +112,17 @@ module _ (start : Start) (past place : Past) (n : ℕ) (i : Invocation) (legal :
 
     module _ (state : State) (context : Option (List ℕ)) where
       continue_here : (origin content : List ℕ) (v : PortionVerdict) → told n place (continue_outputs i.dialogue past state origin content v)
-          ≡ wanted place past i (noted_at_clock (clock past) (if_normal v (component_marks i.id (components_of content)) (end_if_over (Life.standing state context) (life_by_verdict state context origin v))))
+          ≡ wanted place past i (noted_at_clock (clock past) (unwrap_or (if_normal v (component_marks i.id (components_of content))) (end_if_over (Life.standing state context) (life_by_verdict state context origin v))))
       continue_here origin content (PortionVerdict.normal told info) = parts content
       continue_here origin content PortionVerdict.abnormal = ended_only
 
       end_here : (content : List ℕ) (v : PortionVerdict) → told n place (end_outputs i.dialogue past content v)
-          ≡ wanted place past i (noted_at_clock (clock past) (if_normal v (component_marks i.id (components_of content) ++ Mark.end ∷ []) (end_if_over (Life.standing state context) Life.over)))
+          ≡ wanted place past i (noted_at_clock (clock past) (unwrap_or (if_normal v (component_marks i.id (components_of content) ++ Mark.end ∷ [])) (end_if_over (Life.standing state context) Life.over)))
       end_here content (PortionVerdict.normal told info) = parts_and_end content
       end_here content PortionVerdict.abnormal = ended_only
 
       pub message_here : (m : Message) → told n place (message_outputs i.dialogue past state context m)
-          ≡ wanted place past i (noted_at_clock (clock past) (marks_by_message i.id state context (end_if_over (Life.standing state context) (life_by_message state context (Ok m))) (Ok m)))
+          ≡ wanted place past i (noted_at_clock (clock past) (unwrap_or (marks_of_message i.id state context (Ok m)) (end_if_over (Life.standing state context) (life_by_message state context (Ok m)))))
       message_here (Message.go_on origin to portion components) = continue_here origin components (portion_verdict state context portion)
       message_here (Message.end to portion components) = end_here components (portion_verdict state context portion)
       message_here (Message.abort to reason) = ap (λ z. z ++ told n place (ended_in i.dialogue past [])) (abort_silent n place i.dialogue reason) ∙ ended_only

@@ -1,5 +1,7 @@
 -- A component that is told of was in a message that a far dialogue sent for a request.
 use Rattle.std.proofs.Common.{◌≡◌, ℕ, ℤ, ◌⊎◌, List, [], ◌∷◌, ◌++◌, Option, Some, None, refl, sym, ap, subst, ◌∙◌, inl, inr, append_assoc}
+use Rattle.std.specs.Prelude.{unwrap_or}
+use Rattle.std.specs.List.{AllByRecursion}
 use Rattle.tcap_pdu.specs.FrameSpelling.{Message, Reason, SpellsFrame}
 use Rattle.tcap_pdu.specs.FrameWritten.{written_frame}
 use Rattle.tcap_pdu.proofs.CallerLemmas.{one_frame}
@@ -16,7 +18,7 @@ use Rattle.tcap_model.specs.Histories.History.{History}
 use Rattle.tcap_model.specs.Invocations.Invocation.{invoked_under}
 use Rattle.tcap_model.specs.Replies.Legal.{AreReplies}
 use Rattle.tcap_model.specs.Histories.Life.{Life, life}
-use Rattle.tcap_model.specs.Invocations.Marks.{Mark, marks_by_request}
+use Rattle.tcap_model.specs.Invocations.Marks.{Mark, marks_of_request, end_if_over}
 use Rattle.tcap_model.specs.Statements.Net.{Engine, Trace, far, side, Net, IsNet, IsCarriedTo, history_in}
 use Rattle.tcap_model.specs.Words.Output.{Output}
 use Rattle.tcap_model.specs.Histories.Pair.{Pair, Past}
@@ -40,7 +42,7 @@ use Rattle.tcap_laws.proofs.ListLemmas.{one-of}
 -- destination that is the peer
 pub record Takes (d : Standing) (request : Request) (m : Message) : Type 0 where
   pub is_portion : portion_of m ≡ joined d.queue
-  pub is_sent : (id : ℤ) (before after : Life) → (rest : List Mark) × (marks_by_request id before after request ≡ Mark.sent ∷ rest)
+  pub is_sent : (id : ℤ) (before after : Life) → (rest : List Mark) × (unwrap_or (marks_of_request id request) (end_if_over before after) ≡ Mark.sent ∷ rest)
   pub makes_none : (dialogue : ℕ) (number : Option ℕ) → invoked_under dialogue request number ≡ None
   pub to_peer : (octets : List ℕ) → destination m ≡ Some octets → peer_of d.state ≡ Some octets
 

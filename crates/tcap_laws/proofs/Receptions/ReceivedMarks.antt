@@ -1,5 +1,6 @@
 -- The marks of received bytes are those of the message that the bytes spell.
 use Rattle.std.proofs.Common.{◌≡◌, ℕ, ℤ, ◌≤◌, true, false, Bool, List, [], ◌∷◌, ◌++◌, length, nat_le, Option, Some, None, Result, Ok, Err, refl, sym, ap, ◌∙◌}
+use Rattle.std.specs.Prelude.{unwrap_or}
 use Rattle.std.proofs.lemmas.Bool.{le-leb, true≢false}
 use Rattle.tcap_pdu.specs.declared.fault.FrameFault.{FrameFault}
 use Rattle.tcap_pdu.specs.FrameReading.{frame_at}
@@ -15,7 +16,7 @@ use Rattle.tcap_model.specs.Words.Answer.{Answer}
 use Rattle.tcap_model.specs.Procedures.Destination.{destination, destination_by}
 use Rattle.tcap_model.specs.Words.Event.{Event}
 use Rattle.tcap_model.specs.Histories.Life.{Life, life_after, life_by_message}
-use Rattle.tcap_model.specs.Invocations.Marks.{Mark, marks_of_component, component_marks, end_if_over, if_normal, marks_by_message, marks}
+use Rattle.tcap_model.specs.Invocations.Marks.{Mark, marks_of_component, component_marks, end_if_over, if_normal, marks_of_message, marks}
 use Rattle.tcap_model.specs.Histories.Names.{is_destined, named_within, names}
 use Rattle.tcap_model.specs.Histories.Pair.{Pair, Past}
 use Rattle.tcap_model.specs.Procedures.PortionRules.{PortionVerdict, portion_verdict}
@@ -55,12 +56,12 @@ module _ (dialogue : ℕ) (id : ℤ) (state : State) (context : Option (List ℕ
   after-is : (answer : Answer) (read : Result Message FrameFault) → frame_at bytes ≡ read → life_after dialogue (Life.standing state context) (record { event = Event.received bytes; answer = answer }) ≡ life_by_message state context read
   after-is answer read e = rw (reaches.names_it, reaches.is_live, e) refl
 
-  marks-read : (read : Result Message FrameFault) → frame_at bytes ≡ read → marks dialogue id pair past ≡ noted_at past (marks_by_message id state context (end_if_over (Life.standing state context) (life_by_message state context read)) read)
+  marks-read : (read : Result Message FrameFault) → frame_at bytes ≡ read → marks dialogue id pair past ≡ noted_at past (unwrap_or (marks_of_message id state context read) (end_if_over (Life.standing state context) (life_by_message state context read)))
   marks-read read e = rw (reaches.is_life, reaches.is_event, reaches.names_it, reaches.is_live, e)
-      (ap (λ (after : Life). noted_at past (marks_by_message id state context (end_if_over (Life.standing state context) after) read)) (after-is pair.answer read e))
+      (ap (λ (after : Life). noted_at past (unwrap_or (marks_of_message id state context read) (end_if_over (Life.standing state context) after))) (after-is pair.answer read e))
 
   -- by the message
-  read-normal : (portion : Option (List ℕ)) (made other : List Mark) → IsNormal state context portion → if_normal (portion_verdict state context portion) made other ≡ made
+  read-normal : (portion : Option (List ℕ)) (made other : List Mark) → IsNormal state context portion → unwrap_or (if_normal (portion_verdict state context portion) made) other ≡ made
   read-normal portion made other normal = rw normal.2 refl
 
   pub means-marks : (made : List Mark) → Means state context id bytes made → marks dialogue id pair past ≡ noted_at past made

@@ -1,5 +1,6 @@
 -- Marks that leave an invocation queued: all but Sent, the end of its dialogue and the user's cancel.
 use Rattle.std.proofs.Common.{◌≡◌, ℕ, ℤ, Bool, true, false, List, [], ◌∷◌, ◌++◌, Option, Some, None, Result, Ok, Err, refl, sym, ap, subst, ◌∙◌, inl, inr, append-nil, append_assoc}
+use Rattle.std.specs.Prelude.{unwrap_or}
 use Rattle.std.specs.List.{AllByRecursion}
 use Rattle.std.specs.Ordering.{int_eq}
 use Rattle.std.specs.Option.{option_or}
@@ -18,7 +19,7 @@ use Rattle.tcap_model.specs.Invocations.Closes.{closing_of}
 use Rattle.tcap_model.specs.Invocations.Deadline.{sent_clock}
 use Rattle.tcap_model.specs.Words.Event.{Event}
 use Rattle.tcap_model.specs.Histories.Life.{life_by_event, life_by_request, Life, life_by_message, life_by_verdict, life_if_live}
-use Rattle.tcap_model.specs.Invocations.Marks.{Mark, Noted, marks_by_event, marks_by_request, marked, reject_marks, marks_of_component, component_marks, end_if_over, if_normal, marks_by_message, marks_if_live}
+use Rattle.tcap_model.specs.Invocations.Marks.{Mark, Noted, marks_by_event, marks_of_request, end_if_over, marked, reject_marks, marks_of_component, component_marks, if_normal, marks_of_message, marks_if_live}
 use Rattle.tcap_model.specs.Invocations.Outcome.{first_closing}
 use Rattle.tcap_model.specs.Procedures.PortionRules.{PortionVerdict, portion_verdict}
 use Rattle.tcap_model.specs.Words.Request.{Request, ComponentRequest, DialogueRequest}
@@ -123,11 +124,11 @@ no-ending state context Life.unborn stands = absurd stands
 no-ending state context (Life.standing s c) stands = tt
 no-ending state context Life.over stands = absurd stands
 
-continue-leaves : (id : ℤ) (state : State) (context : Option (List ℕ)) (origin content : List ℕ) (other : List Mark) (verdict : PortionVerdict) → IsStanding (life_by_verdict state context origin verdict) → AllLeave (if_normal verdict (component_marks id (components_of content)) other)
+continue-leaves : (id : ℤ) (state : State) (context : Option (List ℕ)) (origin content : List ℕ) (other : List Mark) (verdict : PortionVerdict) → IsStanding (life_by_verdict state context origin verdict) → AllLeave (unwrap_or (if_normal verdict (component_marks id (components_of content))) other)
 continue-leaves id state context origin content other (PortionVerdict.normal told info) stands = components-leave id (components_of content)
 continue-leaves id state context origin content other PortionVerdict.abnormal stands = absurd stands
 
-message-leaves : (id : ℤ) (state : State) (context : Option (List ℕ)) (other : List Mark) (read : Result Message FrameFault) → AllLeave other → IsStanding (life_by_message state context read) → AllLeave (marks_by_message id state context other read)
+message-leaves : (id : ℤ) (state : State) (context : Option (List ℕ)) (other : List Mark) (read : Result Message FrameFault) → AllLeave other → IsStanding (life_by_message state context read) → AllLeave (unwrap_or (marks_of_message id state context read) other)
 message-leaves id state context other (Ok (Message.go_on origin to portion components)) leave stands = continue-leaves id state context origin components other (portion_verdict state context portion) stands
 message-leaves id state context other (Ok (Message.end to portion components)) leave stands = absurd stands
 message-leaves id state context other (Ok (Message.abort to reason)) leave stands = absurd stands
@@ -135,12 +136,12 @@ message-leaves id state context other (Ok (Message.unidirectional portion compon
 message-leaves id state context other (Ok (Message.begin origin portion components)) leave stands = leave
 message-leaves id state context other (Err fault) leave stands = absurd stands
 
-live-leaves : (alive : Bool) (id : ℤ) (state : State) (context : Option (List ℕ)) (other : List Mark) (bytes : List ℕ) → AllLeave other → IsStanding (life_if_live alive state context bytes) → AllLeave (marks_if_live alive id state context other bytes)
+live-leaves : (alive : Bool) (id : ℤ) (state : State) (context : Option (List ℕ)) (other : List Mark) (bytes : List ℕ) → AllLeave other → IsStanding (life_if_live alive state context bytes) → AllLeave (unwrap_or (marks_if_live alive id state context bytes) other)
 live-leaves true id state context other bytes leave stands = message-leaves id state context other (frame_at bytes) leave stands
 live-leaves false id state context other bytes leave stands = leave
 
 pub bytes-leave : (id : ℤ) (state : State) (context : Option (List ℕ)) (bytes : List ℕ) → IsStanding (life_if_live (is_live state) state context bytes) →
-    AllLeave (marks_if_live (is_live state) id state context (end_if_over (Life.standing state context) (life_if_live (is_live state) state context bytes)) bytes)
+    AllLeave (unwrap_or (marks_if_live (is_live state) id state context bytes) (end_if_over (Life.standing state context) (life_if_live (is_live state) state context bytes)))
 bytes-leave id state context bytes stands =
     live-leaves (is_live state) id state context (end_if_over (Life.standing state context) (life_if_live (is_live state) state context bytes)) bytes
     (no-ending state context (life_if_live (is_live state) state context bytes) stands) stands
@@ -161,7 +162,7 @@ SparesAt id (Request.dialogue (DialogueRequest.go_on context info)) = ⊥
 SparesAt id (Request.dialogue (DialogueRequest.finish end_if_over context info)) = Unit {0}
 SparesAt id (Request.dialogue (DialogueRequest.u_abort why info)) = Unit {0}
 
-request-leaves : (id : ℤ) (s : State) (c : Option (List ℕ)) (r : Request) → IsStanding (life_by_request s c r) → SparesAt id r → AllLeave (marks_by_request id (Life.standing s c) (life_by_request s c r) r)
+request-leaves : (id : ℤ) (s : State) (c : Option (List ℕ)) (r : Request) → IsStanding (life_by_request s c r) → SparesAt id r → AllLeave (unwrap_or (marks_of_request id r) (end_if_over (Life.standing s c) (life_by_request s c r)))
 request-leaves id s c (Request.component (ComponentRequest.invoke named class code parameter linked timeout)) stands spares = tt
 request-leaves id s c (Request.component (ComponentRequest.result_last named body)) stands spares = tt
 request-leaves id s c (Request.component (ComponentRequest.result_more named body)) stands spares = tt

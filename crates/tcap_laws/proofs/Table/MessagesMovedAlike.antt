@@ -1,6 +1,6 @@
 -- After a message and after a moment a dialogue that stands is what the history says.
 use Rattle.std.proofs.Common.{◌≡◌, ℕ, ℤ, Bool, true, false, nat_le, nat_lt, cond, List, [], ◌∷◌, ◌&&◌, length, Option, Some, None, Ok, Err, Result, refl, ap, sym, ◌∙◌}
-use Rattle.std.specs.Prelude.{filter}
+use Rattle.std.specs.Prelude.{filter, unwrap_or}
 use Rattle.tcap_component.specs.ComponentReading.{components_of}
 use Rattle.tcap_invocation.specs.Invocations.{Row}
 use Rattle.tcap_invocation.specs.Lapses.{stays}
@@ -23,7 +23,7 @@ use Rattle.tcap_model.specs.Replies.Held.{pair_ends_wait}
 use Rattle.tcap_model.specs.Histories.History.{History}
 use Rattle.tcap_model.specs.Replies.Legal.{IsLegal}
 use Rattle.tcap_model.specs.Histories.Life.{Life, life, state_after_continue, life_by_verdict, life_by_message, life_if_live, life_by_event}
-use Rattle.tcap_model.specs.Invocations.Marks.{Mark, marks, end_if_over, if_normal, component_marks, marks_by_message, marks_by_event, marks_if_live}
+use Rattle.tcap_model.specs.Invocations.Marks.{Mark, marks, end_if_over, if_normal, component_marks, marks_of_message, marks_by_event, marks_if_live}
 use Rattle.tcap_model.specs.Histories.Names.{names}
 use Rattle.tcap_model.specs.Procedures.PortionRules.{PortionVerdict, portion_verdict}
 use Rattle.tcap_model.specs.Replies.Queue.{queue, handled_in, queue_by_verdict, queue_by_message, queue_by_bytes}
@@ -92,11 +92,11 @@ module _ (h : History) (dialogue : ℕ) (legal : IsLegal h) (state : State) (con
       found_read : (l : Life) → life_by_message state context read ≡ l → found_at event ≡ dialogue_by h.start.reject_ms dialogue (here h dialogue legal state context stands event ∷ h.pairs) l
       found_read l e = life_named h dialogue legal state context stands event named l (life_read ∙ e)
 
-      marks_read : (k : ℤ) → marks dialogue k (due_pair h event) h.pairs ≡ noted_at_clock (clock h.pairs) (marks_by_message k state context (end_if_over (Life.standing state context) (life_by_message state context read)) read)
+      marks_read : (k : ℤ) → marks dialogue k (due_pair h event) h.pairs ≡ noted_at_clock (clock h.pairs) (unwrap_or (marks_of_message k state context read) (end_if_over (Life.standing state context) (life_by_message state context read)))
       marks_read k =
           standing_marks dialogue k event (reply h event) h.pairs state context stands named
-          ∙ (ap (λ b. noted_at_clock (clock h.pairs) (marks_if_live b k state context (end_if_over (Life.standing state context) (life_if_live b state context bytes)) bytes)) live
-          ∙ ap (λ f. noted_at_clock (clock h.pairs) (marks_by_message k state context (end_if_over (Life.standing state context) (life_by_message state context f)) f)) frame)
+          ∙ (ap (λ b. noted_at_clock (clock h.pairs) (unwrap_or (marks_if_live b k state context bytes) (end_if_over (Life.standing state context) (life_if_live b state context bytes)))) live
+          ∙ ap (λ f. noted_at_clock (clock h.pairs) (unwrap_or (marks_of_message k state context f) (end_if_over (Life.standing state context) (life_by_message state context f)))) frame)
 
       queue_read : queue dialogue (due_pair h event ∷ h.pairs) ≡ queue_by_message dialogue h.pairs (Life.standing state context) (queue dialogue h.pairs) read
       queue_read =
@@ -109,7 +109,7 @@ module _ (h : History) (dialogue : ℕ) (legal : IsLegal h) (state : State) (con
       no_end k u = and_false (is_accepted (reply h event))
 
       -- a message that is to no dialogue
-      message_kept : life_by_message state context read ≡ Life.standing state context → ((k : ℤ) (other : List Mark) → marks_by_message k state context other read ≡ other)
+      message_kept : life_by_message state context read ≡ Life.standing state context → ((k : ℤ) (other : List Mark) → unwrap_or (marks_of_message k state context read) other ≡ other)
           → queue_by_message dialogue h.pairs (Life.standing state context) (queue dialogue h.pairs) read ≡ queue dialogue h.pairs → found_at event ≡ Some d
       message_kept same none kept =
           found_read (Life.standing state context) same
@@ -133,7 +133,7 @@ module _ (h : History) (dialogue : ℕ) (legal : IsLegal h) (state : State) (con
           ∙ (assembled h dialogue legal state context stands event (State.active (peer_by state origin)) context (queue_each queue_limit (queue dialogue h.pairs) walk.rejects) (rows_up h.start h.pairs legal.1 h.start.reject_ms dialogue (components_of components))
           (queue_read read_as frame ∙ (ap (λ v. queue_by_verdict v (queue dialogue h.pairs) (handled_in dialogue h.pairs components)) e ∙ ap (queue_each queue_limit (queue dialogue h.pairs)) (sym (components-rejected h dialogue legal d components stands_at))))
           (rows_message h.start h.pairs legal.1 h.start.reject_ms dialogue (components_of components) (due_pair h event) refl refl
-          (λ k. marks_read read_as frame k ∙ ap (λ v. noted_at_clock (clock h.pairs) (if_normal v (component_marks k (components_of components)) (end_if_over (Life.standing state context) (life_by_verdict state context origin (portion_verdict state context portion))))) e)
+          (λ k. marks_read read_as frame k ∙ ap (λ v. noted_at_clock (clock h.pairs) (unwrap_or (if_normal v (component_marks k (components_of components))) (end_if_over (Life.standing state context) (life_by_verdict state context origin (portion_verdict state context portion))))) e)
           (no_end read_as frame))
           ∙ ap (λ l. Some (record { standing = record { identifier = dialogue; state = State.active (peer_by state origin); context = context; queue = queue_each queue_limit (queue dialogue h.pairs) walk.rejects }; invocations = l }))
           (sym (walk_at h.start h.pairs legal.1 h.start.reject_ms dialogue (components_of components) (fault_last (length components) components))))

@@ -1,7 +1,7 @@
 -- After a request a dialogue that stands is what the history says.
 use Rattle.std.proofs.Common.{◌≡◌, ℕ, ℤ, ◌==◌, ◌&&◌, true, false, cond, List, [], ◌∷◌, Option, Some, None, refl, ap, sym, ◌∙◌, arith, subst}
 use Rattle.std.proofs.lemmas.Bool.Decides.{nat_tests}
-use Rattle.std.specs.Prelude.{is_some}
+use Rattle.std.specs.Prelude.{is_some, unwrap_or}
 use Rattle.std.specs.List.{IsDistinct}
 use Rattle.std.specs.Map.{keys_of}
 use Rattle.std.specs.Ordering.{int_eq}
@@ -32,7 +32,7 @@ use Rattle.tcap_model.specs.Histories.History.{History}
 use Rattle.tcap_model.specs.Invocations.Invocation.{invoked_by, invoked_under}
 use Rattle.tcap_model.specs.Replies.Legal.{IsLegal}
 use Rattle.tcap_model.specs.Histories.Life.{Life, life, life_by_request, life_if_accepted}
-use Rattle.tcap_model.specs.Invocations.Marks.{Mark, marks, marks_by_request, marks_by_event}
+use Rattle.tcap_model.specs.Invocations.Marks.{Mark, marks, marks_of_request, end_if_over, marks_by_event}
 use Rattle.tcap_model.specs.Words.Output.{Output}
 use Rattle.tcap_model.specs.Invocations.Numbers.{number_of}
 use Rattle.tcap_model.specs.Replies.Queue.{queue, queue_if_accepted}
@@ -136,7 +136,7 @@ module _ (h : History) (dialogue : ℕ) (legal : IsLegal h) (state : State) (con
 
   -- a message that takes the queue
   pub rows_sent : (outputs : List Output) (is : reply h event ≡ Answer.outputs outputs) → invoked_under dialogue request None ≡ None
-      → ((k : ℤ) → marks_by_request k (Life.standing state context) (life_by_request state context request) request ≡ Mark.sent ∷ []) → ((k : ℤ) → rejects_answer k request ≡ false)
+      → ((k : ℤ) → unwrap_or (marks_of_request k request) (end_if_over (Life.standing state context) (life_by_request state context request)) ≡ Mark.sent ∷ []) → ((k : ℤ) → rejects_answer k request ≡ false)
       → rows_of h.start.reject_ms dialogue (due_pair h event ∷ h.pairs) ≡ sent_rows (clock h.pairs) rows
   rows_sent outputs is none marked ends =
       rows_marked h.start.reject_ms h.start (due_pair h event) h.pairs legal.1 (invoked_as (Answer.outputs outputs) is ∙ none) dialogue Mark.sent (λ k. true)

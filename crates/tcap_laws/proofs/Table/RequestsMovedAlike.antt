@@ -1,6 +1,6 @@
 -- After each request a dialogue that stands is what the history says.
 use Rattle.std.proofs.Common.{◌≡◌, ℕ, ℤ, ◌+◌, ◌&&◌, Bool, true, false, cond, List, [], ◌∷◌, ◌++◌, Option, Some, None, refl, ap, sym, ◌∙◌}
-use Rattle.std.specs.Prelude.{is_some}
+use Rattle.std.specs.Prelude.{is_some, unwrap_or}
 use Rattle.std.specs.Ordering.{int_eq}
 use Rattle.tcap_component.specs.Component.{CodeParts}
 use Rattle.tcap_component.specs.Problem.{ProblemParts}
@@ -32,7 +32,7 @@ use Rattle.tcap_model.specs.Words.InRange.{InRange}
 use Rattle.tcap_model.specs.Invocations.Invocation.{Invocation, invoked_under, next_number}
 use Rattle.tcap_model.specs.Replies.Legal.{IsLegal}
 use Rattle.tcap_model.specs.Histories.Life.{Life, life, life_by_request}
-use Rattle.tcap_model.specs.Invocations.Marks.{Mark, marks, end_if_over, marks_by_request}
+use Rattle.tcap_model.specs.Invocations.Marks.{Mark, marks, end_if_over, marks_of_request}
 use Rattle.tcap_model.specs.Histories.Pair.{Pair}
 use Rattle.tcap_model.specs.Replies.Queue.{queue, queue_by_request}
 use Rattle.tcap_model.specs.Procedures.QueueRules.{Queued as Component, without_invoke}
@@ -78,7 +78,7 @@ module _ (h : History) (dialogue : ℕ) (legal : IsLegal h) (state : State) (con
   -- a component is queued, and nothing else changes
   queued_moves : (request : Request) (is : reply h (Event.on_dialogue dialogue request) ≡ Answer.done) (q : List Component)
       → life_by_request state context request ≡ Life.standing state context → queue_by_request waiting request Answer.done ≡ q → invoked_under dialogue request None ≡ None
-      → ((k : ℤ) → marks_by_request k (Life.standing state context) (life_by_request state context request) request ≡ []) → ((k : ℤ) → rejects_answer k request ≡ false)
+      → ((k : ℤ) → unwrap_or (marks_of_request k request) (end_if_over (Life.standing state context) (life_by_request state context request)) ≡ []) → ((k : ℤ) → rejects_answer k request ≡ false)
       → found_after request ≡ Some (record { standing = record { identifier = dialogue; state = state; context = context; queue = q }; invocations = record { reject_ms = h.start.reject_ms; rows = rows } })
   queued_moves request is q l e none marked ends =
       found_of h dialogue legal state context stands request Answer.done is state context q rows l e (rows_quiet h dialogue legal state context stands request Answer.done is none marked ends)

@@ -1,5 +1,5 @@
 -- What one event means for one invoke identifier of a dialogue.
-use Rattle.std.specs.Prelude.{ℕ, ℤ, List, [], ◌∷◌, ◌++◌, Bool, true, false, Option, Some, None, Result, Ok, Err, map, if◌then◌else◌}
+use Rattle.std.specs.Prelude.{ℕ, ℤ, List, [], ◌∷◌, ◌++◌, Bool, true, false, Option, Some, None, Result, Ok, Err, map, unwrap_or, if◌then◌else◌}
 use Rattle.std.specs.Ordering.{int_eq}
 use Rattle.tcap_pdu.specs.declared.fault.FrameFault.{FrameFault}
 use Rattle.tcap_pdu.specs.FrameSpelling.{Message}
@@ -66,64 +66,75 @@ component_marks id [] = []
 component_marks id (Ok component ∷ others) = marks_of_component id component ++ component_marks id others
 component_marks id (Err fault ∷ others) = []
 
--- ---- events
+-- ---- the special rows
 
--- The dialogue ends by this event (own).
+-- An accepted request that sends, ends or gives up: TC-BEGIN and TC-CONTINUE send the queue, TC-UNI and
+-- a basic TC-END send it and end the dialogue, TC-U-CANCEL gives up the invocation that it names. Any
+-- other has no special meaning (Q.774, Invocation state machine).
+abbrev pub marks_of_request : ℤ → Request → Option (List Mark)
+marks_of_request id (Request.dialogue (DialogueRequest.begin context info)) = Some (Mark.sent ∷ [])
+marks_of_request id (Request.dialogue (DialogueRequest.go_on context info)) = Some (Mark.sent ∷ [])
+marks_of_request id (Request.dialogue (DialogueRequest.uni context info)) = Some (Mark.sent ∷ Mark.end ∷ [])
+marks_of_request id (Request.dialogue (DialogueRequest.finish Ending.basic context info)) = Some (Mark.sent ∷ Mark.end ∷ [])
+marks_of_request id (Request.dialogue (DialogueRequest.finish Ending.prearranged context info)) = None
+marks_of_request id (Request.dialogue (DialogueRequest.u_abort why info)) = None
+marks_of_request id (Request.component (ComponentRequest.u_cancel named)) = Some (marked id named Mark.given_up)
+marks_of_request id (Request.component (ComponentRequest.invoke named class code parameter linked timeout)) = None
+marks_of_request id (Request.component (ComponentRequest.result_last named body)) = None
+marks_of_request id (Request.component (ComponentRequest.result_more named body)) = None
+marks_of_request id (Request.component (ComponentRequest.error_back named code parameter)) = None
+marks_of_request id (Request.component (ComponentRequest.u_reject named problem)) = None
+
+-- What a message means whose dialogue portion is as it should be; an abnormal one has no special meaning
+-- (Q.774, Abnormal procedures relating to dialogue control).
+abbrev pub if_normal : PortionVerdict → List Mark → Option (List Mark)
+if_normal (PortionVerdict.normal context info) marks = Some marks
+if_normal PortionVerdict.abnormal marks = None
+
+-- A message to a live dialogue: a normal Continue means what its components mean, a normal End the same
+-- and then the end. Any other has no special meaning (Q.774, Invocation state machine).
+abbrev pub marks_of_message : ℤ → State → Option (List ℕ) → Result Message FrameFault → Option (List Mark)
+marks_of_message id state context (Ok (Message.go_on origin to portion components)) =
+    if_normal (portion_verdict state context portion) (component_marks id (components_of components))
+marks_of_message id state context (Ok (Message.end to portion components)) =
+    if_normal (portion_verdict state context portion) (component_marks id (components_of components) ++ Mark.end ∷ [])
+marks_of_message id state context (Ok (Message.abort to reason)) = None
+marks_of_message id state context (Ok (Message.unidirectional portion components)) = None
+marks_of_message id state context (Ok (Message.begin origin portion components)) = None
+marks_of_message id state context (Err fault) = None
+
+-- Received bytes, by whether the dialogue is live: one that isn't takes no message (own).
+abbrev pub marks_if_live : Bool → ℤ → State → Option (List ℕ) → List ℕ → Option (List Mark)
+marks_if_live false id state context bytes = None
+marks_if_live true id state context bytes = marks_of_message id state context (frame_at bytes)
+
+-- The same, by the life before them (own).
+abbrev pub marks_of_bytes : ℤ → Life → List ℕ → Option (List Mark)
+marks_of_bytes id Life.unborn bytes = None
+marks_of_bytes id (Life.standing state context) bytes = marks_if_live (is_live state) id state context bytes
+marks_of_bytes id Life.over bytes = None
+
+-- The marks of an event that has a special meaning: an accepted request, an accepted moment and a
+-- message, by the life before it and by whether it was accepted (Q.774, Invocation state machine).
+abbrev pub special_marks : ℤ → Life → Event → Bool → Option (List Mark)
+special_marks id before Event.new_dialogue accepted = None
+special_marks id before (Event.on_dialogue dialogue request) true = marks_of_request id request
+special_marks id before (Event.on_dialogue dialogue request) false = None
+special_marks id before (Event.received bytes) accepted = marks_of_bytes id before bytes
+special_marks id before (Event.moment now) true = Some (Mark.moment now ∷ [])
+special_marks id before (Event.moment now) false = None
+
+-- ---- the default, and all events
+
+-- The end, if the dialogue is over after the event and wasn't before it; else nothing (own).
 abbrev pub end_if_over : Life → Life → List Mark
 end_if_over before after = if is_over before then [] else (if is_over after then Mark.end ∷ [] else [])
 
--- An accepted request: TC-BEGIN, TC-CONTINUE, TC-UNI and a basic TC-END send the queue, TC-UNI and
--- TC-END end the dialogue besides; TC-U-CANCEL gives up the invocation that it names; a prearranged
--- end and TC-U-ABORT end the dialogue (Q.774, Invocation state machine).
-abbrev pub marks_by_request : ℤ → Life → Life → Request → List Mark
-marks_by_request id before after (Request.component (ComponentRequest.invoke named class code parameter linked timeout)) = end_if_over before after
-marks_by_request id before after (Request.component (ComponentRequest.result_last named body)) = end_if_over before after
-marks_by_request id before after (Request.component (ComponentRequest.result_more named body)) = end_if_over before after
-marks_by_request id before after (Request.component (ComponentRequest.error_back named code parameter)) = end_if_over before after
-marks_by_request id before after (Request.component (ComponentRequest.u_reject named problem)) = end_if_over before after
-marks_by_request id before after (Request.component (ComponentRequest.u_cancel named)) = marked id named Mark.given_up
-marks_by_request id before after (Request.dialogue (DialogueRequest.uni context info)) = Mark.sent ∷ Mark.end ∷ []
-marks_by_request id before after (Request.dialogue (DialogueRequest.begin context info)) = Mark.sent ∷ []
-marks_by_request id before after (Request.dialogue (DialogueRequest.go_on context info)) = Mark.sent ∷ []
-marks_by_request id before after (Request.dialogue (DialogueRequest.finish Ending.basic context info)) = Mark.sent ∷ Mark.end ∷ []
-marks_by_request id before after (Request.dialogue (DialogueRequest.finish Ending.prearranged context info)) = end_if_over before after
-marks_by_request id before after (Request.dialogue (DialogueRequest.u_abort why info)) = end_if_over before after
-
--- The components of a message count if its dialogue portion is as it should be (own).
-abbrev pub if_normal : PortionVerdict → List Mark → List Mark → List Mark
-if_normal (PortionVerdict.normal context info) marks other = marks
-if_normal PortionVerdict.abnormal marks other = other
-
--- A message to a live dialogue: a normal Continue by its components, a normal End by its components
--- and then the end, any other by the end (Q.774, Invocation state machine).
-abbrev pub marks_by_message : ℤ → State → Option (List ℕ) → List Mark → Result Message FrameFault → List Mark
-marks_by_message id state context other (Ok (Message.go_on origin to portion components)) = if_normal (portion_verdict state context portion) (component_marks id (components_of components)) other
-marks_by_message id state context other (Ok (Message.end to portion components)) = if_normal (portion_verdict state context portion) (component_marks id (components_of components) ++ Mark.end ∷ []) other
-marks_by_message id state context other (Ok (Message.abort to reason)) = other
-marks_by_message id state context other (Ok (Message.unidirectional portion components)) = other
-marks_by_message id state context other (Ok (Message.begin origin portion components)) = other
-marks_by_message id state context other (Err fault) = other
-
--- A dialogue that isn't live takes no message (own).
-abbrev pub marks_if_live : Bool → ℤ → State → Option (List ℕ) → List Mark → List ℕ → List Mark
-marks_if_live false id state context other bytes = other
-marks_if_live true id state context other bytes = marks_by_message id state context other (frame_at bytes)
-
--- Received bytes, by the life before them (own).
-abbrev pub marks_by_bytes : ℤ → Life → List Mark → List ℕ → List Mark
-marks_by_bytes id Life.unborn other bytes = other
-marks_by_bytes id (Life.standing state context) other bytes = marks_if_live (is_live state) id state context other bytes
-marks_by_bytes id Life.over other bytes = other
-
--- What an event that names the dialogue means, by the lives before and after it and by whether it
--- was accepted (own).
+-- What an event that names the dialogue means, by the lives before and after it and by whether it was
+-- accepted: its special meaning, or else the end if it ended the dialogue
+-- (Q.774, Invocation state machine).
 abbrev pub marks_by_event : ℤ → Life → Life → Event → Bool → List Mark
-marks_by_event id before after Event.new_dialogue accepted = end_if_over before after
-marks_by_event id before after (Event.on_dialogue dialogue request) true = marks_by_request id before after request
-marks_by_event id before after (Event.on_dialogue dialogue request) false = end_if_over before after
-marks_by_event id before after (Event.received bytes) accepted = marks_by_bytes id before (end_if_over before after) bytes
-marks_by_event id before after (Event.moment now) true = Mark.moment now ∷ []
-marks_by_event id before after (Event.moment now) false = end_if_over before after
+marks_by_event id before after event accepted = unwrap_or (special_marks id before event accepted) (end_if_over before after)
 
 -- An event that doesn't name the dialogue means nothing (own).
 abbrev pub marks_if_named : Bool → ℕ → ℤ → Life → Pair → List Mark
