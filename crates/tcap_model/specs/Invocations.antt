@@ -7,4 +7,5 @@ pub mod Marks
 pub mod Numbers
 pub mod Outcome
 pub mod Reuse
+pub mod SentThere
 pub mod Span

@@ -23,7 +23,8 @@ use Rattle.tcap_model.specs.Invocations.Marks.{Mark, marks_of_component, compone
 use Rattle.tcap_model.specs.Words.Output.{Closing}
 use Rattle.tcap_model.specs.Histories.Pair.{Past}
 use Rattle.tcap_model.specs.Procedures.Problems.{is_of_answer, remote_rejector}
-use Rattle.tcap_model.specs.Replies.Queue.{if_sent, sent_there, handled_after}
+use Rattle.tcap_model.specs.Replies.Queue.{handled_after}
+use Rattle.tcap_model.specs.Invocations.SentThere.{if_sent, sent_there}
 
 -- ---- a fault is the last of the components
 

@@ -15,7 +15,8 @@ use Rattle.tcap_model.specs.Invocations.Invocation.{latest}
 use Rattle.tcap_model.specs.Histories.Life.{Life}
 use Rattle.tcap_model.specs.Histories.Pair.{Past}
 use Rattle.tcap_model.specs.Procedures.PortionRules.{PortionVerdict, portion_verdict}
-use Rattle.tcap_model.specs.Replies.Queue.{if_sent, handled_in}
+use Rattle.tcap_model.specs.Replies.Queue.{handled_in}
+use Rattle.tcap_model.specs.Invocations.SentThere.{if_sent}
 use Rattle.tcap_model.specs.Replies.Reply.{ended_in, given_up_answer, accepted_answer, request_answer, continue_outputs, end_outputs, message_outputs, taken_outputs}
 use Rattle.tcap_model.specs.Words.Request.{Request, ComponentRequest, DialogueRequest}
 use Rattle.tcap_model.specs.Procedures.RequestMessage.{message_of}

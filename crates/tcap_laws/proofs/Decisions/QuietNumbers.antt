@@ -27,7 +27,7 @@ use Rattle.tcap_model.specs.Invocations.Marks.{component_marks}
 use Rattle.tcap_model.specs.Invocations.Outcome.{closing_after, first_closing, is_sent_in, outcome_of, outcome}
 use Rattle.tcap_model.specs.Words.Output.{Closing}
 use Rattle.tcap_model.specs.Histories.Pair.{Past}
-use Rattle.tcap_model.specs.Replies.Queue.{marks_up_to, if_sent}
+use Rattle.tcap_model.specs.Invocations.SentThere.{marks_up_to, if_sent}
 use Rattle.tcap_model.specs.Replies.Reply.{birth_answer, ended_in, lapses, moment_answer, reply}
 use Rattle.tcap_model.specs.Invocations.Span.{span}
 use Rattle.tcap_model.specs.Words.Time.{moment_fault}

@@ -20,7 +20,7 @@ use Rattle.tcap_model.specs.Replies.Legal.{AreReplies}
 use Rattle.tcap_model.specs.Invocations.Outcome.{first_closing, is_sent_in}
 use Rattle.tcap_model.specs.Words.Output.{Output, Closing, ComponentIndication}
 use Rattle.tcap_model.specs.Histories.Pair.{Pair, Past}
-use Rattle.tcap_model.specs.Replies.Queue.{marks_up_to}
+use Rattle.tcap_model.specs.Invocations.SentThere.{marks_up_to}
 use Rattle.tcap_model.specs.Replies.Reply.{ended_of, ended_in, Lapsing, is_before, put, in_order, lapsing_by, lapsing_at, lapse_told, lapses}
 use Rattle.tcap_model.specs.Invocations.Span.{span}
 use Rattle.tcap_laws.proofs.ListLemmas.{each-append}

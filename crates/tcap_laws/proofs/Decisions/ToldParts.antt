@@ -28,8 +28,9 @@ use Rattle.tcap_model.specs.Invocations.Outcome.{closing_after, first_closing, i
 use Rattle.tcap_model.specs.Words.Output.{Closing}
 use Rattle.tcap_model.specs.Histories.Pair.{Past}
 use Rattle.tcap_model.specs.Procedures.Problems.{is_of_answer}
-use Rattle.tcap_model.specs.Replies.Queue.{marks_up_to, if_sent, sent_there, handled_after, handled_in}
+use Rattle.tcap_model.specs.Replies.Queue.{handled_after, handled_in}
 use Rattle.tcap_model.specs.Invocations.Span.{span}
+use Rattle.tcap_model.specs.Invocations.SentThere.{if_sent, marks_up_to, sent_there}
 
 -- ---- a Reject of an answer closes nothing
 

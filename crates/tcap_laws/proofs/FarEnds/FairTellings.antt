@@ -17,7 +17,6 @@ use Rattle.tcap_model.specs.Histories.Life.{Life, life}
 use Rattle.tcap_model.specs.Histories.Names.{names}
 use Rattle.tcap_model.specs.Words.Output.{Output, Closing, Rejector, ComponentIndication}
 use Rattle.tcap_model.specs.Histories.Pair.{Past}
-use Rattle.tcap_model.specs.Replies.Queue.{if_sent, sent_there}
 use Rattle.tcap_model.specs.Replies.Reply.{reply}
 use Rattle.tcap_model.specs.Statements.ComponentLaws.{portion_of}
 use Rattle.tcap_model.specs.Statements.Places.{Tells}
@@ -29,6 +28,7 @@ use Rattle.tcap_laws.proofs.Receptions.EachComponent.{IsReadIn}
 use Rattle.tcap_laws.proofs.Receptions.EachOutput.{HoldsBesides, HoldsOfEach, received_at, one-received}
 use Rattle.tcap_laws.proofs.Receptions.HandledComponents.{ComesOf, comes_of}
 use Rattle.tcap_laws.proofs.Spans.LatestInvocations.{id_of}
+use Rattle.tcap_model.specs.Invocations.SentThere.{if_sent, sent_there}
 
 -- ---- fair tellings
 

@@ -16,13 +16,13 @@ use Rattle.tcap_model.specs.Words.LocalId.{is_that}
 use Rattle.tcap_model.specs.Invocations.Outcome.{is_sent_in}
 use Rattle.tcap_model.specs.Words.Output.{Output, Closing, Rejector, ComponentIndication}
 use Rattle.tcap_model.specs.Histories.Pair.{Past}
-use Rattle.tcap_model.specs.Replies.Queue.{if_sent, marks_up_to, sent_there}
 use Rattle.tcap_model.specs.Replies.Reply.{reception_outputs, reply}
 use Rattle.tcap_model.specs.Statements.Places.{Tells}
 use Rattle.tcap_laws.proofs.FarEnds.FairTellings.{IsNamedBy}
 use Rattle.tcap_laws.proofs.Receptions.EachOutput.{HoldsBesides, HoldsOfEach, received_at, one-received}
 use Rattle.tcap_laws.proofs.Receptions.HandledComponents.{ComesOf, comes_of}
 use Rattle.tcap_laws.proofs.Spans.LatestInvocations.{IsLatest, latest_is}
+use Rattle.tcap_model.specs.Invocations.SentThere.{if_sent, marks_up_to, sent_there}
 
 -- ---- what is told, and of what
 

@@ -26,7 +26,8 @@ use Rattle.tcap_model.specs.Statements.Only.{pair_within, is_seen_by, only}
 use Rattle.tcap_model.specs.Invocations.Outcome.{is_sent_in}
 use Rattle.tcap_model.specs.Histories.Pair.{Past}
 use Rattle.tcap_model.specs.Procedures.PortionRules.{portion_verdict}
-use Rattle.tcap_model.specs.Replies.Queue.{marks_up_to, if_sent, sent_there, handled_after, handled_in, rejects_of, queue_by_verdict, queue_by_message, queue_at_birth, queue_if_accepted, queue_by_bytes, queue_after, queue}
+use Rattle.tcap_model.specs.Replies.Queue.{handled_after, handled_in, rejects_of, queue_by_verdict, queue_by_message, queue_at_birth, queue_if_accepted, queue_by_bytes, queue_after, queue}
+use Rattle.tcap_model.specs.Invocations.SentThere.{marks_up_to, if_sent, sent_there}
 use Rattle.tcap_model.specs.Procedures.QueueRules.{Queued, queue_limit, queue_each}
 use Rattle.tcap_model.specs.Words.Request.{Request}
 use Rattle.tcap_model.specs.Invocations.Span.{span}

@@ -28,7 +28,7 @@ use Rattle.tcap_model.specs.Statements.Only.{pair_within, is_seen_by, only}
 use Rattle.tcap_model.specs.Invocations.Outcome.{first_closing}
 use Rattle.tcap_model.specs.Words.Output.{Output, Closing, ComponentIndication}
 use Rattle.tcap_model.specs.Histories.Pair.{Past}
-use Rattle.tcap_model.specs.Replies.Queue.{marks_up_to}
+use Rattle.tcap_model.specs.Invocations.SentThere.{marks_up_to}
 use Rattle.tcap_model.specs.Procedures.QueueRules.{Queued, queue_limit}
 use Rattle.tcap_model.specs.Procedures.Refusals.{Situation, first_that, holds, faults_of, due_on, passes_queue, passes_message}
 use Rattle.tcap_model.specs.Replies.Reply.{ended_of, ended_in, given_up_answer, last_answer, accepted_answer, request_answer, reply}

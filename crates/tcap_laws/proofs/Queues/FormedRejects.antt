@@ -20,9 +20,10 @@ use Rattle.tcap_model.specs.Invocations.Invocation.{Invocation, has_id, with_id,
 use Rattle.tcap_model.specs.Invocations.Outcome.{is_sent_in}
 use Rattle.tcap_model.specs.Words.Output.{Output, Closing, Rejector, ComponentIndication}
 use Rattle.tcap_model.specs.Histories.Pair.{Past}
-use Rattle.tcap_model.specs.Replies.Queue.{marks_up_to, if_sent, sent_there, handled_in}
+use Rattle.tcap_model.specs.Replies.Queue.{handled_in}
 use Rattle.tcap_laws.proofs.Receptions.EachComponent.{IsReadIn, each-handled}
 use Rattle.tcap_laws.proofs.Receptions.HandledComponents.{identifier_of, ComesOf, comes_of}
+use Rattle.tcap_model.specs.Invocations.SentThere.{if_sent, marks_up_to, sent_there}
 
 -- ---- the identifiers and problems of what was received
 

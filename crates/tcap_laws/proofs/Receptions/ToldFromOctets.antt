@@ -19,7 +19,6 @@ use Rattle.tcap_model.specs.Histories.Life.{Life, life}
 use Rattle.tcap_model.specs.Words.Output.{Output, Closing, Rejector, ComponentIndication}
 use Rattle.tcap_model.specs.Histories.Pair.{Past}
 use Rattle.tcap_model.specs.Procedures.Reception.{Reception}
-use Rattle.tcap_model.specs.Replies.Queue.{sent_there}
 use Rattle.tcap_model.specs.Replies.Reply.{ended_in, given_up_answer, last_answer, accepted_answer, request_answer, lapse_told, in_order, lapsing_at, lapses, moment_answer, birth_answer, reply}
 use Rattle.tcap_model.specs.Words.Request.{Request, ComponentRequest, DialogueRequest}
 use Rattle.tcap_model.specs.Procedures.RequestMessage.{message_of}
@@ -29,6 +28,7 @@ use Rattle.tcap_laws.proofs.Receptions.EachComponent.{IsReadIn, each-map}
 use Rattle.tcap_laws.proofs.Receptions.EachOutput.{HoldsBesides, HoldsOfEach, received_at, each-ended, each-received}
 use Rattle.tcap_laws.proofs.Receptions.HandledComponents.{ComesOf, comes_of}
 use Rattle.tcap_laws.proofs.ListLemmas.{each-append, one-of}
+use Rattle.tcap_model.specs.Invocations.SentThere.{sent_there}
 
 -- ---- outputs that are no indication of a component
 

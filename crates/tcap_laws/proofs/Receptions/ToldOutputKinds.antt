@@ -6,11 +6,12 @@ use Rattle.tcap_model.specs.Procedures.AbortRules.{abort_told}
 use Rattle.tcap_model.specs.Procedures.ComponentHandling.{Item, SentInvocation, Handled, subject_of, handled, told_of, uni_told}
 use Rattle.tcap_model.specs.Words.Output.{Output, DialogueIndication}
 use Rattle.tcap_model.specs.Histories.Pair.{Past}
-use Rattle.tcap_model.specs.Replies.Queue.{sent_there, handled_in}
+use Rattle.tcap_model.specs.Replies.Queue.{handled_in}
 use Rattle.tcap_model.specs.Replies.Reply.{ended_in, Lapsing, lapse_told}
 use Rattle.tcap_laws.proofs.Receptions.EachComponent.{each-map, each-told}
 use Rattle.tcap_laws.proofs.Receptions.EachOutput.{each-ended, of-abort}
 use Rattle.tcap_laws.proofs.Receptions.HandledComponents.{ComesOf, comes_of}
+use Rattle.tcap_model.specs.Invocations.SentThere.{sent_there}
 
 -- neither a Send nor a TC-BEGIN indication
 abbrev pub IsTold : Output → Type 0

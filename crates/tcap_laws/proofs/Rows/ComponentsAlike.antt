@@ -29,7 +29,8 @@ use Rattle.tcap_model.specs.Invocations.Marks.{Mark, Noted, marks_of_component, 
 use Rattle.tcap_model.specs.Invocations.Outcome.{is_sent_in}
 use Rattle.tcap_model.specs.Words.Output.{Closing}
 use Rattle.tcap_model.specs.Histories.Pair.{Past}
-use Rattle.tcap_model.specs.Replies.Queue.{marks_up_to, if_sent, sent_there, handled_after, rejects_of}
+use Rattle.tcap_model.specs.Replies.Queue.{handled_after, rejects_of}
+use Rattle.tcap_model.specs.Invocations.SentThere.{marks_up_to, if_sent, sent_there}
 use Rattle.tcap_model.specs.Procedures.QueueRules.{queued}
 use Rattle.tcap_model.specs.Table.TableMove.{after_item, reject_queued, walked}
 

@@ -23,7 +23,7 @@ use Rattle.tcap_model.specs.Replies.Legal.{AreReplies}
 use Rattle.tcap_model.specs.Invocations.Outcome.{first_closing, outcome_of, outcome}
 use Rattle.tcap_model.specs.Words.Output.{Output, Closing, ComponentIndication}
 use Rattle.tcap_model.specs.Histories.Pair.{Past}
-use Rattle.tcap_model.specs.Replies.Queue.{marks_up_to}
+use Rattle.tcap_model.specs.Invocations.SentThere.{marks_up_to}
 use Rattle.tcap_model.specs.Replies.Reply.{ended_of, ended_in}
 use Rattle.tcap_model.specs.Invocations.Span.{span}
 use Rattle.tcap_model.specs.Table.TableMove.{ended_told}

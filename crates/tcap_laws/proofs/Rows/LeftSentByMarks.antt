@@ -18,7 +18,7 @@ use Rattle.tcap_model.specs.Invocations.Marks.{Mark, Noted, marks_of_component, 
 use Rattle.tcap_model.specs.Invocations.Outcome.{first_closing, is_sent_in}
 use Rattle.tcap_model.specs.Words.Output.{Closing}
 use Rattle.tcap_model.specs.Histories.Pair.{Past}
-use Rattle.tcap_model.specs.Replies.Queue.{marks_up_to}
+use Rattle.tcap_model.specs.Invocations.SentThere.{marks_up_to}
 use Rattle.tcap_model.specs.Invocations.Span.{span}
 
 -- each component could be read

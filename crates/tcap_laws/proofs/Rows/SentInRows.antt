@@ -26,7 +26,7 @@ use Rattle.tcap_model.specs.Replies.Legal.{AreReplies}
 use Rattle.tcap_model.specs.Invocations.Outcome.{is_sent_in, outcome_of, outcome}
 use Rattle.tcap_model.specs.Words.Output.{Closing}
 use Rattle.tcap_model.specs.Histories.Pair.{Past}
-use Rattle.tcap_model.specs.Replies.Queue.{marks_up_to, if_sent, sent_there}
+use Rattle.tcap_model.specs.Invocations.SentThere.{marks_up_to, if_sent, sent_there}
 use Rattle.tcap_model.specs.Invocations.Span.{span}
 use Rattle.tcap_model.specs.Table.World.{pending_stage, stage_by, row, row_of, rows_of}
 use Rattle.tcap_laws.proofs.BoolLemmas.{and_false, and_true}

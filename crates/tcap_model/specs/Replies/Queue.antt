@@ -1,47 +1,25 @@
 -- The queue of a dialogue, by its history.
-use Rattle.std.specs.Prelude.{ℕ, ℤ, List, [], ◌∷◌, ◌++◌, Bool, true, false, map, flat_map, option_to_list, unwrap_or, Option, Some, None, Result, Ok, Err, if◌then◌else◌}
+use Rattle.std.specs.Prelude.{ℕ, List, [], ◌∷◌, ◌++◌, Bool, true, false, map, flat_map, option_to_list, unwrap_or, Some, None, Result, Ok, Err, if◌then◌else◌}
 use Rattle.tcap_pdu.specs.declared.fault.FrameFault.{FrameFault}
 use Rattle.tcap_pdu.specs.FrameSpelling.{Message}
 use Rattle.tcap_pdu.specs.FrameReading.{frame_at}
 use Rattle.tcap_component.specs.ComponentReading.{components_of}
 use Rattle.tcap_model.specs.Words.Answer.{Answer, is_accepted}
 use Rattle.tcap_model.specs.Histories.Birth.{is_birth_of}
-use Rattle.tcap_model.specs.Histories.Clock.{clock}
-use Rattle.tcap_model.specs.Procedures.ComponentHandling.{Item, SentInvocation, Handled, handled, subject_of}
+use Rattle.tcap_model.specs.Procedures.ComponentHandling.{Item, Handled, handled, subject_of}
 use Rattle.tcap_model.specs.Procedures.ComponentRequest.{queued_for}
 use Rattle.tcap_model.specs.Words.Event.{Event}
-use Rattle.tcap_model.specs.Invocations.Invocation.{Invocation, latest}
 use Rattle.tcap_model.specs.Histories.Life.{Life, life}
-use Rattle.tcap_model.specs.Invocations.Marks.{Noted, component_marks}
 use Rattle.tcap_model.specs.Histories.Names.{names}
 use Rattle.tcap_model.specs.Invocations.Numbers.{number_of}
-use Rattle.tcap_model.specs.Invocations.Outcome.{is_sent_in}
+use Rattle.tcap_model.specs.Invocations.SentThere.{sent_there}
 use Rattle.tcap_model.specs.Histories.Pair.{Pair, Past}
 use Rattle.tcap_model.specs.Procedures.PortionRules.{PortionVerdict, portion_verdict}
 use Rattle.tcap_model.specs.Procedures.QueueRules.{Queued, queue_limit, queued, queue_each, without_invoke}
 use Rattle.tcap_model.specs.Words.Request.{Request, Ending, ComponentRequest, DialogueRequest}
-use Rattle.tcap_model.specs.Invocations.Span.{span}
 use Rattle.tcap_model.specs.Words.State.{is_live}
 
--- ---- whether an invocation is Sent, at a component
-
--- The marks of an invocation up to a component: those of its span, and those of the earlier components
--- of the same message (own).
-abbrev pub marks_up_to : Past → List Item → Invocation → List Noted
-marks_up_to past earlier i = span i past ++ map (λ mark. record { clock = clock past; mark = mark }) (component_marks i.id earlier)
-
--- An invocation, if it is Sent at a component: it has a Sent mark and no closing mark up to there
--- (Q.774, Operation Sent).
-abbrev pub if_sent : Past → List Item → Option Invocation → Option SentInvocation
-if_sent past earlier None = None
-if_sent past earlier (Some i) =
-    if is_sent_in i.class i.timeout (marks_up_to past earlier i) then Some (record { dialogue = i.dialogue; number = i.number; class = i.class }) else None
-
--- The invocation that is Sent for an identifier of a dialogue, at a component: the latest one with that
--- identifier, if it is Sent there (Q.774, Component handling).
-abbrev pub sent_there : ℕ → Past → List Item → Option ℤ → Option SentInvocation
-sent_there dialogue past earlier None = None
-sent_there dialogue past earlier (Some id) = if_sent past earlier (latest dialogue id past)
+-- ---- the components of a message
 
 -- The components of a message to a dialogue, each with what stands before it
 -- (Q.774, Component handling).

@@ -19,7 +19,8 @@ use Rattle.tcap_model.specs.Invocations.Outcome.{first_closing, is_sent_in}
 use Rattle.tcap_model.specs.Words.Output.{Output, Closing, AbortCause, ComponentIndication, DialogueIndication}
 use Rattle.tcap_model.specs.Histories.Pair.{Past}
 use Rattle.tcap_model.specs.Procedures.PortionRules.{PortionVerdict, portion_verdict}
-use Rattle.tcap_model.specs.Replies.Queue.{marks_up_to, handled_in}
+use Rattle.tcap_model.specs.Replies.Queue.{handled_in}
+use Rattle.tcap_model.specs.Invocations.SentThere.{marks_up_to}
 use Rattle.tcap_model.specs.Procedures.Reception.{Reception, reception}
 use Rattle.tcap_model.specs.Words.Request.{Request, ComponentRequest, DialogueRequest}
 use Rattle.tcap_model.specs.Procedures.RequestMessage.{message_of}
