@@ -1,4 +1,4 @@
-pub mod LapseOrder
+pub mod KeyedLists
 pub mod SeenBytes
 pub mod SeenDecisions
 pub mod SeenInvocations

@@ -3,6 +3,7 @@ pub mod Event
 pub mod Fault
 pub mod Identifiers
 pub mod InRange
+pub mod KeyOrder
 pub mod LocalId
 pub mod Output
 pub mod Request

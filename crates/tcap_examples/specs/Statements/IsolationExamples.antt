@@ -98,7 +98,7 @@ first_cancels = Event.on_dialogue 1 (asks.u_cancel (pos 1))
 
 -- The user of a dialogue that isn't born gives up an invocation whose identifier is no octet (own).
 abbrev pub nobody_cancels : Event
-nobody_cancels = Event.on_dialogue 9 (Request.component (ComponentRequest.u_cancel (pos 1000)))
+nobody_cancels = Event.on_dialogue 9 (asks.u_cancel (pos 1000))
 
 -- The first dialogue hears the result (own).
 abbrev pub first_hears : Event

@@ -21,7 +21,8 @@ use Rattle.tcap_model.specs.Invocations.Outcome.{first_closing, is_sent_in}
 use Rattle.tcap_model.specs.Words.Output.{Output, Closing, ComponentIndication}
 use Rattle.tcap_model.specs.Histories.Pair.{Pair, Past}
 use Rattle.tcap_model.specs.Invocations.SentThere.{marks_up_to}
-use Rattle.tcap_model.specs.Replies.Reply.{ended_of, ended_in, Lapsing, is_before, put, in_order, lapsing_by, lapsing_at, lapse_told, lapses}
+use Rattle.tcap_model.specs.Words.KeyOrder.{comes_before, put, in_order}
+use Rattle.tcap_model.specs.Replies.Reply.{ended_of, ended_in, Lapsing, lapse_key, lapsing_by, lapsing_at, lapse_told, lapses}
 use Rattle.tcap_model.specs.Invocations.Span.{span}
 use Rattle.tcap_laws.proofs.ListLemmas.{each-append}
 
@@ -134,31 +135,31 @@ module _ (n : ℕ) (place past : Past) where
       go true false u w = rw w (sym (append-nil (lapse x)))
       go false b u w = rw u (append-nil (lapse y))
 
-  told_put : (x : Lapsing) (ys : List Lapsing) → IsOne x → AllByRecursion IsOne ys → flat_map lapse (put x ys) ≡ lapse x ++ flat_map lapse ys
+  told_put : (x : Lapsing) (ys : List Lapsing) → IsOne x → AllByRecursion IsOne ys → flat_map lapse (put lapse_key x ys) ≡ lapse x ++ flat_map lapse ys
   told_put x [] p q = refl
-  told_put x (y ∷ ys) p q = go (is_before y x) (told_put x ys p q.1)
+  told_put x (y ∷ ys) p q = go (comes_before (lapse_key y) (lapse_key x)) (told_put x ys p q.1)
     where
-      go : (b : Bool) → flat_map lapse (put x ys) ≡ lapse x ++ flat_map lapse ys → flat_map lapse (cond b (y ∷ put x ys) (x ∷ y ∷ ys)) ≡ lapse x ++ flat_map lapse (y ∷ ys)
+      go : (b : Bool) → flat_map lapse (put lapse_key x ys) ≡ lapse x ++ flat_map lapse ys → flat_map lapse (cond b (y ∷ put lapse_key x ys) (x ∷ y ∷ ys)) ≡ lapse x ++ flat_map lapse (y ∷ ys)
       go false e = refl
       go true e =
           ap (λ z. lapse y ++ z) e ∙ (sym (append_assoc (lapse y) (lapse x) (flat_map lapse ys))
           ∙ (ap (λ z. z ++ flat_map lapse ys) (swapped x y p q.0) ∙ append_assoc (lapse x) (lapse y) (flat_map lapse ys)))
 
-  each_put : (x : Lapsing) (ys : List Lapsing) → IsOne x → AllByRecursion IsOne ys → AllByRecursion IsOne (put x ys)
+  each_put : (x : Lapsing) (ys : List Lapsing) → IsOne x → AllByRecursion IsOne ys → AllByRecursion IsOne (put lapse_key x ys)
   each_put x [] p q = (p, tt)
-  each_put x (y ∷ ys) p q = go (is_before y x) (each_put x ys p q.1)
+  each_put x (y ∷ ys) p q = go (comes_before (lapse_key y) (lapse_key x)) (each_put x ys p q.1)
     where
-      go : (b : Bool) → AllByRecursion IsOne (put x ys) → AllByRecursion IsOne (cond b (y ∷ put x ys) (x ∷ y ∷ ys))
+      go : (b : Bool) → AllByRecursion IsOne (put lapse_key x ys) → AllByRecursion IsOne (cond b (y ∷ put lapse_key x ys) (x ∷ y ∷ ys))
       go true e = (q.0, e)
       go false e = (p, (q.0, q.1))
 
-  each_in_order : (xs : List Lapsing) → AllByRecursion IsOne xs → AllByRecursion IsOne (in_order xs)
+  each_in_order : (xs : List Lapsing) → AllByRecursion IsOne xs → AllByRecursion IsOne (in_order lapse_key xs)
   each_in_order [] p = tt
-  each_in_order (x ∷ xs) p = each_put x (in_order xs) p.0 (each_in_order xs p.1)
+  each_in_order (x ∷ xs) p = each_put x (in_order lapse_key xs) p.0 (each_in_order xs p.1)
 
-  told_in_order : (xs : List Lapsing) → AllByRecursion IsOne xs → flat_map lapse (in_order xs) ≡ flat_map lapse xs
+  told_in_order : (xs : List Lapsing) → AllByRecursion IsOne xs → flat_map lapse (in_order lapse_key xs) ≡ flat_map lapse xs
   told_in_order [] p = refl
-  told_in_order (x ∷ xs) p = told_put x (in_order xs) p.0 (each_in_order xs p.1) ∙ ap (λ z. lapse x ++ z) (told_in_order xs p.1)
+  told_in_order (x ∷ xs) p = told_put x (in_order lapse_key xs) p.0 (each_in_order xs p.1) ∙ ap (λ z. lapse x ++ z) (told_in_order xs p.1)
 
   abbrev pub lapse_if_any : Option Lapsing → List Told
   lapse_if_any None = []
@@ -204,7 +205,7 @@ module _ (n : ℕ) (place past : Past) where
 
     pub lapses_number : (start : Start) → AreReplies start past → told n place (lapses past now) ≡ told_one lapse_of (invocation_of n past)
     lapses_number start legal =
-        flat_map-map (told_by_output n place) lapse_told (in_order (filter_map (lapsing_at past now) (invocations past)))
+        flat_map-map (told_by_output n place) lapse_told (in_order lapse_key (filter_map (lapsing_at past now) (invocations past)))
         ∙ (told_in_order (filter_map (lapsing_at past now) (invocations past)) (each_lapsing (invocations past) (each_found start past legal))
         ∙ (told_lapsing (invocations past)
         ∙ gathered_number n lapse_of lapse_others start past legal))

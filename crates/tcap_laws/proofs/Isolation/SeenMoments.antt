@@ -4,7 +4,7 @@ use Rattle.std.proofs.lemmas.Bool.{eqb-true, true≢false}
 use Rattle.std.proofs.lemmas.List.Elements.{Contains-append_right}
 use Rattle.std.specs.List.{cons_option}
 use Rattle.std.specs.Prelude.{filter, filter_map, map, option_map}
-use Rattle.tcap_laws.proofs.Isolation.LapseOrder.{filter-in_order}
+use Rattle.tcap_laws.proofs.Isolation.KeyedLists.{filter-in_order}
 use Rattle.tcap_laws.proofs.Births.NumbersFound.{invocation_of-found}
 use Rattle.tcap_laws.proofs.Isolation.SeenBytes.{alone-bytes}
 use Rattle.tcap_laws.proofs.Isolation.SeenInvocations.{is_of_dialogue, own_true, only_invocations, found_span}
@@ -22,7 +22,8 @@ use Rattle.tcap_model.specs.Replies.Legal.{AreReplies, IsLegal}
 use Rattle.tcap_model.specs.Statements.Only.{is_output_of, answer_within, only}
 use Rattle.tcap_model.specs.Invocations.Outcome.{is_sent_in}
 use Rattle.tcap_model.specs.Histories.Pair.{Past}
-use Rattle.tcap_model.specs.Replies.Reply.{Lapsing, in_order, lapsing_by, lapsing_at, lapse_told, lapses, moment_answer, reply}
+use Rattle.tcap_model.specs.Words.KeyOrder.{in_order}
+use Rattle.tcap_model.specs.Replies.Reply.{Lapsing, lapse_key, lapsing_by, lapsing_at, lapse_told, lapses, moment_answer, reply}
 use Rattle.tcap_model.specs.Words.Request.{Request}
 use Rattle.tcap_model.specs.Invocations.Span.{span}
 use Rattle.tcap_model.specs.Words.Time.{moment_fault}
@@ -83,10 +84,10 @@ module _ (start : Start) (dialogue : ℕ) (past : Past) (legal : AreReplies star
 
   pub only_lapses : filter (is_output_of dialogue) (lapses past now) ≡ lapses (only dialogue past) now
   only_lapses =
-      filter-map (is_output_of dialogue) lapse_told (in_order (filter_map (lapsing_at past now) (invocations past)))
+      filter-map (is_output_of dialogue) lapse_told (in_order lapse_key (filter_map (lapsing_at past now) (invocations past)))
       ∙ ap (map lapse_told)
-      (filter-in_order out (filter_map (lapsing_at past now) (invocations past))
-      ∙ ap in_order
+      (filter-in_order lapse_key out (filter_map (lapsing_at past now) (invocations past))
+      ∙ ap (in_order lapse_key)
       (filter-of_map (is_of_dialogue dialogue) out (lapsing_at past now) (lapsing_at (only dialogue past) now) (invocations past) lapsing-same
       (λ i l e. ap (λ (i : Invocation). i.dialogue == dialogue) (lapsing-of now (is_sent_in i.class i.timeout (span i past)) i (deadline i past) l e))
       ∙ ap (filter_map (lapsing_at (only dialogue past) now)) (sym (only_invocations start dialogue past legal))))

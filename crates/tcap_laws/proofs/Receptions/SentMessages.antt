@@ -23,7 +23,8 @@ use Rattle.tcap_model.specs.Procedures.PortionRules.{PortionVerdict, portion_ver
 use Rattle.tcap_model.specs.Replies.Queue.{handled_in}
 use Rattle.tcap_model.specs.Procedures.Reception.{Reception, reception}
 use Rattle.tcap_model.specs.Procedures.Refusals.{due_on}
-use Rattle.tcap_model.specs.Replies.Reply.{reply, birth_answer, given_up_answer, accepted_answer, request_answer, continue_outputs, end_outputs, message_outputs, taken_outputs, reception_outputs, ended_in, moment_answer, lapses, in_order, lapsing_at}
+use Rattle.tcap_model.specs.Words.KeyOrder.{in_order}
+use Rattle.tcap_model.specs.Replies.Reply.{reply, birth_answer, given_up_answer, accepted_answer, request_answer, continue_outputs, end_outputs, message_outputs, taken_outputs, reception_outputs, ended_in, moment_answer, lapses, lapse_key, lapsing_at}
 use Rattle.tcap_model.specs.Words.Request.{Request, ComponentRequest, DialogueRequest}
 use Rattle.tcap_model.specs.Procedures.RequestMessage.{message_of}
 use Rattle.tcap_model.specs.Statements.SentMessage.{IsMessage, SentForRequest, SentForBytes}
@@ -197,7 +198,7 @@ moment-sends past now None = chosen (nat_lt now (clock past))
   where
     chosen : (early : Bool) → AnswerSends Nothing (if early then Answer.outputs [] else Answer.outputs (lapses past now))
     chosen true = tt
-    chosen false = told-each Nothing (lapses past now) (lapses-told (in_order (filter_map (lapsing_at past now) (invocations past))))
+    chosen false = told-each Nothing (lapses past now) (lapses-told (in_order lapse_key (filter_map (lapsing_at past now) (invocations past))))
 
 pub sent_message : (h : History) (event : Event) (bytes : List ℕ) → Tells (reply h event) (Output.send bytes) → (m : Message) × IsMessage m bytes
 sent_message h Event.new_dialogue bytes tells = absurd (tells-sends Nothing (reply h Event.new_dialogue) bytes (birth-sends h (birth_due h)) tells)

@@ -19,7 +19,8 @@ use Rattle.tcap_model.specs.Histories.Life.{Life, life}
 use Rattle.tcap_model.specs.Words.Output.{Output, Closing, Rejector, ComponentIndication}
 use Rattle.tcap_model.specs.Histories.Pair.{Past}
 use Rattle.tcap_model.specs.Procedures.Reception.{Reception}
-use Rattle.tcap_model.specs.Replies.Reply.{ended_in, given_up_answer, last_answer, accepted_answer, request_answer, lapse_told, in_order, lapsing_at, lapses, moment_answer, birth_answer, reply}
+use Rattle.tcap_model.specs.Words.KeyOrder.{in_order}
+use Rattle.tcap_model.specs.Replies.Reply.{ended_in, given_up_answer, last_answer, accepted_answer, request_answer, lapse_told, lapse_key, lapsing_at, lapses, moment_answer, birth_answer, reply}
 use Rattle.tcap_model.specs.Words.Request.{Request, ComponentRequest, DialogueRequest}
 use Rattle.tcap_model.specs.Procedures.RequestMessage.{message_of}
 use Rattle.tcap_model.specs.Procedures.Standing.{Standing}
@@ -176,7 +177,7 @@ moment-stands event past now None = chosen (nat_lt now (clock past))
   where
     chosen : (early : Bool) → AnswerStands event (if early then Answer.outputs [] else Answer.outputs (lapses past now))
     chosen true = tt
-    chosen false = each-map (StandsForOne event) lapse_told (λ l of. absurd (indicates _ of)) (in_order (filter_map (lapsing_at past now) (invocations past)))
+    chosen false = each-map (StandsForOne event) lapse_told (λ l of. absurd (indicates _ of)) (in_order lapse_key (filter_map (lapsing_at past now) (invocations past)))
 
 birth-stands : (event : Event) (h : History) (fault : Option Fault) → AnswerStands event (birth_answer h fault)
 birth-stands event h (Some f) = tt

@@ -1,5 +1,5 @@
 -- What is answered to an event, from the history alone.
-use Rattle.std.specs.Prelude.{ℕ, ◌==◌, ◌&&◌, ◌||◌, Bool, nat_lt, nat_le, List, [], ◌∷◌, ◌++◌, map, option_to_list, filter_map, Option, Some, None, is_none, is_some, if◌then◌else◌}
+use Rattle.std.specs.Prelude.{ℕ, ◌==◌, ◌&&◌, Bool, nat_lt, nat_le, List, [], ◌∷◌, ◌++◌, map, option_to_list, filter_map, Option, Some, None, is_none, is_some, if◌then◌else◌}
 use Rattle.tcap_pdu.specs.FrameSpelling.{Message}
 use Rattle.tcap_component.specs.ComponentReading.{components_of}
 use Rattle.tcap_model.specs.Procedures.AbortRules.{sent_if_any, abort_told, abnormal_abort}
@@ -16,6 +16,7 @@ use Rattle.tcap_model.specs.Histories.History.{History}
 use Rattle.tcap_model.specs.Invocations.Invocation.{Invocation, invocations, next_number}
 use Rattle.tcap_model.specs.Histories.Life.{Life, life, live_in}
 use Rattle.tcap_model.specs.Invocations.Outcome.{first_closing, is_sent_in}
+use Rattle.tcap_model.specs.Words.KeyOrder.{in_order}
 use Rattle.tcap_model.specs.Words.Output.{Output, Closing, AbortCause, ComponentIndication, DialogueIndication}
 use Rattle.tcap_model.specs.Histories.Pair.{Past}
 use Rattle.tcap_model.specs.Procedures.PortionRules.{PortionVerdict, portion_verdict}
@@ -127,19 +128,8 @@ pub record Lapsing : Type 0 where
   pub invocation : Invocation
 
 -- Lapses are told by deadline, then by dialogue, then by number (own).
-abbrev pub is_before : Lapsing → Lapsing → Bool
-is_before a b =
-    nat_lt a.deadline b.deadline || ((a.deadline == b.deadline) && (nat_lt a.invocation.dialogue b.invocation.dialogue || ((a.invocation.dialogue == b.invocation.dialogue) && nat_lt a.invocation.number b.invocation.number)))
-
--- A lapse in its place among lapses that are in order (own).
-abbrev pub put : Lapsing → List Lapsing → List Lapsing
-put x [] = x ∷ []
-put x (y ∷ ys) = if is_before y x then y ∷ put x ys else x ∷ y ∷ ys
-
--- Lapses in the order in which they are told (own).
-abbrev pub in_order : List Lapsing → List Lapsing
-in_order [] = []
-in_order (x ∷ xs) = put x (in_order xs)
+abbrev pub lapse_key : Lapsing → List ℕ
+lapse_key l = l.deadline ∷ l.invocation.dialogue ∷ l.invocation.number ∷ []
 
 -- An invocation that is Sent lapses at a moment at or past its deadline (Q.774, Invocation timer).
 abbrev pub lapsing_by : ℕ → Bool → Invocation → Option ℕ → Option Lapsing
@@ -156,7 +146,7 @@ lapse_told l = Output.component (ComponentIndication.closed l.invocation.dialogu
 
 -- What lapses at a moment, in the order in which it is told (Q.774, Invocation timer).
 abbrev pub lapses : Past → ℕ → List Output
-lapses past now = map lapse_told (in_order (filter_map (lapsing_at past now) (invocations past)))
+lapses past now = map lapse_told (in_order lapse_key (filter_map (lapsing_at past now) (invocations past)))
 
 -- The answer to a moment: one below the clock does nothing (own).
 abbrev pub moment_answer : Past → ℕ → Option Fault → Answer
