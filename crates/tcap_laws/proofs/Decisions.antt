@@ -1,3 +1,4 @@
+pub mod ClassTables
 pub mod ComponentTellings
 pub mod CountedHistories
 pub mod DecidedHistories

@@ -15,8 +15,10 @@ ghost use Rattle.tcap_model.specs.Invocations.Marks.{marks};
 ghost use Rattle.tcap_model.specs.Invocations.Outcome.{outcome};
 ghost use Rattle.tcap_model.specs.Words.Output.{Closing};
 ghost use Rattle.tcap_model.specs.Histories.Pair.{Pair, Past};
+ghost use Rattle.tcap_model.specs.Procedures.ComponentHandling.{SentInvocation};
 ghost use Rattle.tcap_model.specs.Invocations.Reuse.{is_reused};
 ghost use Rattle.tcap_model.specs.Invocations.Span.{is_invoked, span};
+ghost use Rattle.tcap_model.specs.Statements.ClassTable.{ClassTablesAgree};
 ghost use Rattle.tcap_model.specs.Table.World.{is_number};
 
 /// After its invoke the span of an invocation grows by the marks of each pair, until its identifier is
@@ -98,4 +100,10 @@ pub fn superseded_is_decided()
     ensures reused { (h : History) (n : ℕ) (i : Invocation) → IsLegal h → invocation_of n h.pairs ≡ Some i → is_reused i h.pairs ≡ true → is_some (outcome n h.pairs) ≡ true }
     // While nothing has decided it, it is the latest of its identifier.
     ensures current { (h : History) (n : ℕ) (i : Invocation) → IsLegal h → invocation_of n h.pairs ≡ Some i → outcome n h.pairs ≡ None → latest i.dialogue i.id h.pairs ≡ Some i }
+{}
+
+/// What the class table makes of an answer to an invocation that is Sent is what is told of it and how
+/// it closes the invocation, whatever the operation class (Q.774, Component sublayer procedures).
+pub fn class_tables_agree()
+    ensures { (sent : SentInvocation) (id : ℤ) (timeout clock : ℕ) → ClassTablesAgree sent id timeout clock }
 {}

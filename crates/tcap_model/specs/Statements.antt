@@ -1,3 +1,4 @@
+pub mod ClassTable
 pub mod ComponentLaws
 pub mod Headline
 pub mod Isolation

@@ -1,28 +1,26 @@
 -- What the components of a message tell of an invocation is what their marks decide.
-use Rattle.std.proofs.Common.{◌≡◌, ℕ, ℤ, zero, suc, ◌==◌, true, cond, ◌&&◌, List, [], ◌∷◌, ◌++◌, length, Option, Some, None, Result, Ok, Err, refl, ap, sym, ◌∙◌, append_assoc}
+use Rattle.std.proofs.Common.{◌≡◌, ℕ, ℤ, zero, suc, ◌==◌, true, false, cond, ◌&&◌, List, [], ◌∷◌, ◌++◌, length, Option, Some, None, Result, Ok, Err, refl, ap, sym, ◌∙◌, append_assoc}
 use Rattle.std.proofs.lemmas.List.{map-append}
 use Rattle.std.specs.Prelude.{is_none, is_some}
 use Rattle.std.specs.Option.{option_or}
 use Rattle.tcap_component.specs.Component.{ComponentParts, CodeParts, BodyParts}
 use Rattle.tcap_component.specs.ComponentFault.{FaultParts}
 use Rattle.tcap_component.specs.ComponentReading.{component_at, components_from, components_by, components_of}
-use Rattle.tcap_component.specs.declared.problem.Kind.{Kind}
-use Rattle.tcap_component.specs.declared.problem.Kind.TheVariants as kind
 use Rattle.tcap_component.specs.Problem.{ProblemParts}
 use Rattle.tcap_invocation.specs.declared.class.Class.{Class}
 use Rattle.tcap_invocation.specs.declared.class.Class.TheVariants.{One, Two, Three, Four}
-use Rattle.tcap_invocation.specs.Class.{Received, class_rule, reports_success, reports_failure}
+use Rattle.tcap_invocation.specs.Class.{reports_success, reports_failure}
 use Rattle.tcap_laws.proofs.Spans.MarksAfterBirth.{noted_at_clock}
 use Rattle.tcap_laws.proofs.Decisions.ToldOutputs.{told, IsOther, handled_other}
-use Rattle.tcap_model.specs.Invocations.Closes.{closing_of, closing_by}
+use Rattle.tcap_model.specs.Invocations.Closes.{closing_of, closing_by_last, closing_by_more, closing_by_error}
 use Rattle.tcap_model.specs.Invocations.Closings.{Told, told_by_output}
-use Rattle.tcap_model.specs.Procedures.ComponentHandling.{Item, SentInvocation, subject_of, told_of, last_handled, more_handled, error_handled, reject_handled, last_by, more_by, error_by, reject_by}
+use Rattle.tcap_model.specs.Procedures.ComponentHandling.{Item, SentInvocation, subject_of, told_of, last_handled, more_handled, error_handled, reject_handled, last_by, more_by, error_by}
 use Rattle.tcap_model.specs.Invocations.Decision.{told_outcome as decided_told, as_list}
 use Rattle.tcap_model.specs.Invocations.Invocation.{Invocation, latest}
 use Rattle.tcap_model.specs.Invocations.Marks.{Mark, marks_of_component, component_marks}
 use Rattle.tcap_model.specs.Words.Output.{Closing}
 use Rattle.tcap_model.specs.Histories.Pair.{Past}
-use Rattle.tcap_model.specs.Procedures.Problems.{is_of_answer, remote_rejector}
+use Rattle.tcap_model.specs.Procedures.Problems.{is_of_answer}
 use Rattle.tcap_model.specs.Replies.Queue.{handled_after}
 use Rattle.tcap_model.specs.Invocations.SentThere.{if_sent, sent_there}
 
@@ -99,38 +97,23 @@ module _ (n : ℕ) (place : Past) (i : Invocation) (me : (i.number == n) ≡ tru
   abbrev pub self : Class → SentInvocation
   self class = record { dialogue = i.dialogue; number = i.number; class = class }
 
-  last_class : (body : Option BodyParts) (class : Class) → told_by_output n place (last_by (self class) i.id body (reports_success class)).told ≡ tells (option_or (closing_by (Some (Closing.result_last body)) (class_rule class Received.return_result_last)) None)
+  last_class : (body : Option BodyParts) (class : Class) → told_by_output n place (last_by (self class) i.id body (reports_success class)).told ≡ tells (option_or (closing_by_last class body) None)
   last_class body One = rw me refl
   last_class body Two = rw me refl
   last_class body Three = rw me refl
   last_class body Four = rw me refl
 
-  more_class : (body : Option BodyParts) (class : Class) → told_by_output n place (more_by (self class) i.id body (reports_success class)).told ≡ tells (option_or (closing_by None (class_rule class Received.return_result_not_last)) None)
+  more_class : (body : Option BodyParts) (class : Class) → told_by_output n place (more_by (self class) i.id body (reports_success class)).told ≡ tells (option_or (closing_by_more class) None)
   more_class body One = refl
   more_class body Two = rw me refl
   more_class body Three = refl
   more_class body Four = rw me refl
 
-  error_class : (code : CodeParts) (parameter : Option (List ℕ)) (class : Class) → told_by_output n place (error_by (self class) i.id code parameter (reports_failure class)).told ≡ tells (option_or (closing_by (Some (Closing.error_back code parameter)) (class_rule class Received.return_error)) None)
+  error_class : (code : CodeParts) (parameter : Option (List ℕ)) (class : Class) → told_by_output n place (error_by (self class) i.id code parameter (reports_failure class)).told ≡ tells (option_or (closing_by_error class code parameter) None)
   error_class code parameter One = rw me refl
   error_class code parameter Two = rw me refl
   error_class code parameter Three = rw me refl
   error_class code parameter Four = rw me refl
-
-  abbrev pub RejectTells : ProblemParts → Kind → Class → Type 0
-  RejectTells problem k class = told_by_output n place (reject_by (self class) i.id problem (is_of_answer k)).told ≡ tells (option_or (closing_by (Some (Closing.rejected problem (remote_rejector problem))) (class_rule class (Received.reject k))) None)
-
-  pub general_class : (problem : ProblemParts) (class : Class) → RejectTells problem kind.General class
-  general_class problem One = rw me refl
-  general_class problem Two = rw me refl
-  general_class problem Three = rw me refl
-  general_class problem Four = rw me refl
-
-  pub invoke_class : (problem : ProblemParts) (class : Class) → RejectTells problem kind.Invoke class
-  invoke_class problem One = rw me refl
-  invoke_class problem Two = rw me refl
-  invoke_class problem Three = rw me refl
-  invoke_class problem Four = rw me refl
 
   pub last_here : (body : Option BodyParts) (f : Option Closing) (s : Option ℕ) → told_by_output n place (last_handled (Some i.dialogue) (sent_by f s) i.id body).told ≡ unless f (tells (option_or (closing_of i.class i.timeout s (Mark.last body)) None))
   last_here body None None = refl
@@ -150,8 +133,9 @@ module _ (n : ℕ) (place : Past) (i : Invocation) (me : (i.number == n) ≡ tru
   error_here code parameter (Some x) None = refl
   error_here code parameter (Some x) (Some c) = refl
 
-  pub reject_here : (problem : ProblemParts) → RejectTells problem problem.kind i.class → (f : Option Closing) (s : Option ℕ) → told_by_output n place (reject_handled (Some i.dialogue) (sent_by f s) (Some i.id) problem).told ≡ unless f (tells (option_or (closing_of i.class i.timeout s (Mark.reject problem)) None))
-  reject_here problem told None None = refl
-  reject_here problem told None (Some c) = told
-  reject_here problem told (Some x) None = refl
-  reject_here problem told (Some x) (Some c) = refl
+  pub reject_here : (problem : ProblemParts) → is_of_answer problem.kind ≡ false → (f : Option Closing) (s : Option ℕ)
+      → told_by_output n place (reject_handled (Some i.dialogue) (sent_by f s) (Some i.id) problem).told ≡ unless f (tells (option_or (closing_of i.class i.timeout s (Mark.reject problem)) None))
+  reject_here problem of None None = refl
+  reject_here problem of None (Some c) = rw (of, me) refl
+  reject_here problem of (Some x) None = refl
+  reject_here problem of (Some x) (Some c) = refl

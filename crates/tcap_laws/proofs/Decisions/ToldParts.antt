@@ -1,5 +1,5 @@
 -- What a message tells of the invocation that is the latest of its identifier, component by component.
-use Rattle.std.proofs.Common.{◌≡◌, ℕ, ℤ, ◌==◌, Bool, true, false, cond, List, [], ◌∷◌, ◌++◌, Option, Some, None, Ok, Err, refl, ap, sym, ◌∙◌, subst, arith, append_assoc}
+use Rattle.std.proofs.Common.{◌≡◌, ℕ, ℤ, ◌==◌, Bool, true, false, cond, List, [], ◌∷◌, ◌++◌, Option, Some, None, Ok, Err, refl, ap, sym, ◌∙◌, arith, append_assoc}
 use Rattle.std.proofs.lemmas.Bool.Decides.{nat_tests, Decides-int_eq}
 use Rattle.std.proofs.lemmas.List.{append-nil}
 use Rattle.std.specs.Option.{option_or}
@@ -12,7 +12,7 @@ use Rattle.tcap_component.specs.Problem.{ProblemParts}
 use Rattle.tcap_laws.proofs.Spans.MarksAfterBirth.{noted_at_clock}
 use Rattle.tcap_laws.proofs.Spans.DecisionSteps.{closing_after-append, first_closing-append, number_found}
 use Rattle.tcap_laws.proofs.Spans.LatestInvocations.{IsLatest, latest_is}
-use Rattle.tcap_laws.proofs.Decisions.ComponentTellings.{EndsAtFault, AreGood, ends_at_fault, good_more, marks-append, noted-append, unless, unless_nothing, RejectTells, general_class, invoke_class, last_here, more_here, error_here, reject_here}
+use Rattle.tcap_laws.proofs.Decisions.ComponentTellings.{EndsAtFault, AreGood, ends_at_fault, good_more, marks-append, noted-append, unless, unless_nothing, last_here, more_here, error_here, reject_here}
 use Rattle.tcap_laws.proofs.Decisions.ToldOutputs.{told, IsOther, handled_other, invoke_silent}
 use Rattle.tcap_model.specs.Histories.Clock.{clock}
 use Rattle.tcap_model.specs.Invocations.Closes.{closing_of}
@@ -106,11 +106,11 @@ module _ (start : Start) (past place : Past) (n : ℕ) (i : Invocation) (legal :
     rejected_here earlier named problem kind.General q =
         on_key earlier named (λ (k : ℤ) (sent : Option SentInvocation). told_by_output n place (reject_handled (Some i.dialogue) sent (Some k) problem).told) (Mark.reject problem)
         (λ sent o. handled_other n place (Some i.dialogue) sent (Ok (ComponentParts.reject_back (Some named) problem)) o)
-        (reject_here n place i own problem (subst (λ (k : Kind). RejectTells n place i own problem k i.class) (sym q) (general_class n place i own problem i.class)) (closed_before earlier) (sent_clock (marks_up_to past earlier i)))
+        (reject_here n place i own problem (ap is_of_answer q) (closed_before earlier) (sent_clock (marks_up_to past earlier i)))
     rejected_here earlier named problem kind.Invoke q =
         on_key earlier named (λ (k : ℤ) (sent : Option SentInvocation). told_by_output n place (reject_handled (Some i.dialogue) sent (Some k) problem).told) (Mark.reject problem)
         (λ sent o. handled_other n place (Some i.dialogue) sent (Ok (ComponentParts.reject_back (Some named) problem)) o)
-        (reject_here n place i own problem (subst (λ (k : Kind). RejectTells n place i own problem k i.class) (sym q) (invoke_class n place i own problem i.class)) (closed_before earlier) (sent_clock (marks_up_to past earlier i)))
+        (reject_here n place i own problem (ap is_of_answer q) (closed_before earlier) (sent_clock (marks_up_to past earlier i)))
     rejected_here earlier named problem kind.Result q = answer_silent n place (Some i.dialogue) (if_sent past earlier (latest i.dialogue named past)) named problem (ap is_of_answer q) ∙ sym (unless_nothing (closed_before earlier))
     rejected_here earlier named problem kind.Error q = answer_silent n place (Some i.dialogue) (if_sent past earlier (latest i.dialogue named past)) named problem (ap is_of_answer q) ∙ sym (unless_nothing (closed_before earlier))
 

@@ -5,7 +5,7 @@ use Rattle.std.specs.Prelude.{is_none, flat_map, option_to_list}
 use Rattle.std.specs.List.{IsDistinct}
 use Rattle.std.specs.Map.{keys_of}
 use Rattle.std.specs.Ordering.{int_eq}
-use Rattle.tcap_component.specs.Component.{ComponentParts}
+use Rattle.tcap_component.specs.Component.{ComponentParts, CodeParts, BodyParts}
 use Rattle.tcap_component.specs.ComponentFault.{FaultParts}
 use Rattle.tcap_component.specs.ComponentReading.{component_at, components_by, components_from}
 use Rattle.tcap_component.specs.Problem.{ProblemParts}
@@ -14,54 +14,46 @@ use Rattle.tcap_component.specs.declared.problem.Kind.TheVariants as kind
 use Rattle.tcap_invocation.specs.declared.class.Class.{Class}
 use Rattle.tcap_invocation.specs.declared.class.Class.TheVariants.{One, Two, Three, Four}
 use Rattle.tcap_invocation.specs.declared.invocations.Invocation.{Invocation as Entry}
-use Rattle.tcap_invocation.specs.Class.{Received, Consequence, class_rule}
+use Rattle.tcap_invocation.specs.Class.{Received}
 use Rattle.tcap_invocation.specs.Invocations.{Row, InvocationList, sent_at}
 use Rattle.tcap_laws.proofs.Spans.LatestInvocations.{id_of}
-use Rattle.tcap_laws.proofs.Rows.LeftSentByRows.{stays_by, stays, left, LeavesSent, rows_leave, reject_leaves}
+use Rattle.tcap_laws.proofs.Rows.LeftSentByRows.{stays, left, LeavesSent, reject_stays, rows_leave, reject_leaves}
 use Rattle.tcap_laws.proofs.Rows.LeftSentByMarks.{AreRead, more_read, up_to_more, IsMarkOf, one_more}
 use Rattle.tcap_laws.proofs.Rows.IdentifiersInRows.{latest_has}
 use Rattle.tcap_model.specs.Histories.Clock.{clock}
-use Rattle.tcap_model.specs.Invocations.Closes.{closing_by}
+use Rattle.tcap_model.specs.Invocations.Closes.{closing_by_last, closing_by_more, closing_by_error}
 use Rattle.tcap_model.specs.Procedures.ComponentHandling.{Item, Handled, SentInvocation, handled, subject_of}
 use Rattle.tcap_model.specs.Table.Dialogue.{sent_of, sent_by_rows}
 use Rattle.tcap_model.specs.Invocations.Invocation.{Invocation, latest}
 use Rattle.tcap_model.specs.Invocations.Marks.{Mark, Noted, marks_of_component, reject_marks}
 use Rattle.tcap_model.specs.Invocations.Outcome.{is_sent_in}
-use Rattle.tcap_model.specs.Words.Output.{Closing}
 use Rattle.tcap_model.specs.Histories.Pair.{Past}
+use Rattle.tcap_model.specs.Procedures.Problems.{is_of_answer}
 use Rattle.tcap_model.specs.Replies.Queue.{handled_after, rejects_of}
-use Rattle.tcap_model.specs.Invocations.SentThere.{marks_up_to, if_sent, sent_there}
 use Rattle.tcap_model.specs.Procedures.QueueRules.{queued}
 use Rattle.tcap_model.specs.Table.TableMove.{after_item, reject_queued, walked}
+use Rattle.tcap_model.specs.Invocations.SentThere.{if_sent, marks_up_to, sent_there}
 
 -- ---- the marks of answers
 
-closing_by-stays : (x : Closing) (k : Consequence) → is_none (closing_by (Some x) k) ≡ stays_by k
-closing_by-stays x Consequence.result_last = refl
-closing_by-stays x Consequence.result_more = refl
-closing_by-stays x Consequence.error_back = refl
-closing_by-stays x Consequence.rejected_result = refl
-closing_by-stays x Consequence.rejected_error = refl
-closing_by-stays x Consequence.rejected = refl
-closing_by-stays x Consequence.not_of_the_invoke = refl
+last_stays : (body : Option BodyParts) (class : Class) → is_none (closing_by_last class body) ≡ stays class Received.return_result_last
+last_stays body One = refl
+last_stays body Two = refl
+last_stays body Three = refl
+last_stays body Four = refl
 
-more_stays : (class : Class) → is_none (closing_by None (class_rule class Received.return_result_not_last)) ≡ stays class Received.return_result_not_last
+more_stays : (class : Class) → is_none (closing_by_more class) ≡ stays class Received.return_result_not_last
 more_stays One = refl
 more_stays Two = refl
 more_stays Three = refl
 more_stays Four = refl
 
-result_stays : (class : Class) → stays class (Received.reject kind.Result) ≡ true
-result_stays One = refl
-result_stays Two = refl
-result_stays Three = refl
-result_stays Four = refl
-
-error_stays : (class : Class) → stays class (Received.reject kind.Error) ≡ true
-error_stays One = refl
-error_stays Two = refl
-error_stays Three = refl
-error_stays Four = refl
+error_stays : (code : CodeParts) (parameter : Option (List ℕ)) (class : Class)
+    → is_none (closing_by_error class code parameter) ≡ stays class Received.return_error
+error_stays code parameter One = refl
+error_stays code parameter Two = refl
+error_stays code parameter Three = refl
+error_stays code parameter Four = refl
 
 -- ---- one component
 
@@ -157,25 +149,25 @@ sent-kept received all id rows after l k = l.sent k ∙ go (int_eq id k) (sent_a
 module _ (dialogue : ℕ) (past : Past) (list : InvocationList) (earlier : List Item) (read : AreRead earlier) (like : IsLike dialogue past list.rows earlier) where
   like_reject : (id : ℤ) (problem : ProblemParts) (k : Kind) → problem.kind ≡ k → IsLike dialogue past (after_item (clock past) list (Ok (ComponentParts.reject_back (Some id) problem))).rows (earlier ++ Ok (ComponentParts.reject_back (Some id) problem) ∷ [])
   like_reject id problem kind.General e = like_answer dialogue past list.rows earlier read like (ComponentParts.reject_back (Some id) problem) id (Received.reject problem.kind) (Mark.reject problem)
-      (record { sends_not = refl; closes = λ class timeout sent. closing_by-stays _ (class_rule class (Received.reject problem.kind)) })
+      (record { sends_not = refl; closes = λ class timeout sent. sym (reject_stays class problem.kind ∙ ap is_of_answer e) })
       (λ n. ap (reject_marks n id problem) e) (after_item (clock past) list (Ok (ComponentParts.reject_back (Some id) problem))).rows (reject_leaves list id problem.kind like.distinct)
   like_reject id problem kind.Invoke e = like_answer dialogue past list.rows earlier read like (ComponentParts.reject_back (Some id) problem) id (Received.reject problem.kind) (Mark.reject problem)
-      (record { sends_not = refl; closes = λ class timeout sent. closing_by-stays _ (class_rule class (Received.reject problem.kind)) })
+      (record { sends_not = refl; closes = λ class timeout sent. sym (reject_stays class problem.kind ∙ ap is_of_answer e) })
       (λ n. ap (reject_marks n id problem) e) (after_item (clock past) list (Ok (ComponentParts.reject_back (Some id) problem))).rows (reject_leaves list id problem.kind like.distinct)
   like_reject id problem kind.Result e = like_same dialogue past list.rows earlier read like (ComponentParts.reject_back (Some id) problem)
       (λ n. ap (reject_marks n id problem) e) (after_item (clock past) list (Ok (ComponentParts.reject_back (Some id) problem))).rows (reject_leaves list id problem.kind like.distinct).distinct
-      (sent-kept (Received.reject problem.kind) (λ class. ap (λ k. stays class (Received.reject k)) e ∙ result_stays class) id list.rows (after_item (clock past) list (Ok (ComponentParts.reject_back (Some id) problem))).rows (reject_leaves list id problem.kind like.distinct))
+      (sent-kept (Received.reject problem.kind) (λ class. reject_stays class problem.kind ∙ ap is_of_answer e) id list.rows (after_item (clock past) list (Ok (ComponentParts.reject_back (Some id) problem))).rows (reject_leaves list id problem.kind like.distinct))
   like_reject id problem kind.Error e = like_same dialogue past list.rows earlier read like (ComponentParts.reject_back (Some id) problem)
       (λ n. ap (reject_marks n id problem) e) (after_item (clock past) list (Ok (ComponentParts.reject_back (Some id) problem))).rows (reject_leaves list id problem.kind like.distinct).distinct
-      (sent-kept (Received.reject problem.kind) (λ class. ap (λ k. stays class (Received.reject k)) e ∙ error_stays class) id list.rows (after_item (clock past) list (Ok (ComponentParts.reject_back (Some id) problem))).rows (reject_leaves list id problem.kind like.distinct))
+      (sent-kept (Received.reject problem.kind) (λ class. reject_stays class problem.kind ∙ ap is_of_answer e) id list.rows (after_item (clock past) list (Ok (ComponentParts.reject_back (Some id) problem))).rows (reject_leaves list id problem.kind like.distinct))
 
   pub like_item : (c : ComponentParts) → IsLike dialogue past (after_item (clock past) list (Ok c)).rows (earlier ++ Ok c ∷ [])
   like_item (ComponentParts.invoke id linked code parameter) = like_same dialogue past list.rows earlier read like (ComponentParts.invoke id linked code parameter) (λ k. refl) list.rows like.distinct (λ k. refl)
   like_item (ComponentParts.result_last id body) = like_answer dialogue past list.rows earlier read like (ComponentParts.result_last id body) id Received.return_result_last (Mark.last body)
-      (record { sends_not = refl; closes = λ class timeout sent. closing_by-stays _ (class_rule class Received.return_result_last) }) (λ k. refl)
+      (record { sends_not = refl; closes = λ class timeout sent. last_stays body class }) (λ k. refl)
       (after_item (clock past) list (Ok (ComponentParts.result_last id body))).rows (rows_leave list.rows id Received.return_result_last like.distinct (clock past + list.reject_ms))
   like_item (ComponentParts.error_back id code parameter) = like_answer dialogue past list.rows earlier read like (ComponentParts.error_back id code parameter) id Received.return_error (Mark.error code parameter)
-      (record { sends_not = refl; closes = λ class timeout sent. closing_by-stays _ (class_rule class Received.return_error) }) (λ k. refl)
+      (record { sends_not = refl; closes = λ class timeout sent. error_stays code parameter class }) (λ k. refl)
       (after_item (clock past) list (Ok (ComponentParts.error_back id code parameter))).rows (rows_leave list.rows id Received.return_error like.distinct (clock past + list.reject_ms))
   like_item (ComponentParts.reject_back None problem) = like_same dialogue past list.rows earlier read like (ComponentParts.reject_back None problem) (λ k. refl) list.rows like.distinct (λ k. refl)
   like_item (ComponentParts.reject_back (Some id) problem) = like_reject id problem problem.kind refl

@@ -1,5 +1,5 @@
 -- What an answer leaves Sent, by the rows of a dialogue.
-use Rattle.std.proofs.Common.{◌≡◌, ℕ, ℤ, Bool, true, false, cond, List, [], ◌∷◌, Option, Some, None, IsSome, ◌⊎◌, inl, inr, refl, ap, sym, ◌∙◌, subst}
+use Rattle.std.proofs.Common.{◌≡◌, ℕ, ℤ, Bool, true, false, cond, List, [], ◌∷◌, Option, Some, None, IsSome, refl, ap, sym, ◌∙◌, subst}
 use Rattle.std.proofs.lemmas.Bool.Decides.{Decides-int_eq}
 use Rattle.std.proofs.lemmas.Cmp.{int_eq_equiv}
 use Rattle.std.proofs.lemmas.Map.{lookup-set_value, lookup-remove_entry, keys-set_value}
@@ -17,6 +17,7 @@ use Rattle.tcap_invocation.specs.Answers.{after_consequence, rows_after, rejecte
 use Rattle.tcap_invocation.specs.Class.{Received, Consequence, class_rule}
 use Rattle.tcap_invocation.specs.Invocations.{Row, InvocationList, entry_at, passing, sent_at, without, freed}
 use Rattle.tcap_invocation.specs.Stage.{is_sent}
+use Rattle.tcap_model.specs.Procedures.Problems.{is_of_answer}
 
 -- ---- the table of the classes
 
@@ -38,24 +39,36 @@ abbrev pub left : Received → Option Entry → Option Entry
 left received None = None
 left received (Some e) = cond (stays e.class received) (Some e) None
 
--- a Reject closes the invocation, or is none of it
-pub reject_rule : (class : Class) (k : Kind) → (class_rule class (Received.reject k) ≡ Consequence.rejected) ⊎ (class_rule class (Received.reject k) ≡ Consequence.not_of_the_invoke)
-reject_rule One kind.General = inl refl
-reject_rule One kind.Invoke = inl refl
-reject_rule One kind.Result = inr refl
-reject_rule One kind.Error = inr refl
-reject_rule Two kind.General = inl refl
-reject_rule Two kind.Invoke = inl refl
-reject_rule Two kind.Result = inr refl
-reject_rule Two kind.Error = inr refl
-reject_rule Three kind.General = inl refl
-reject_rule Three kind.Invoke = inl refl
-reject_rule Three kind.Result = inr refl
-reject_rule Three kind.Error = inr refl
-reject_rule Four kind.General = inl refl
-reject_rule Four kind.Invoke = inl refl
-reject_rule Four kind.Result = inr refl
-reject_rule Four kind.Error = inr refl
+-- what comes of a Reject, by whether it is one of an answer
+abbrev pub rejecting : Bool → Consequence
+rejecting true = Consequence.not_of_the_invoke
+rejecting false = Consequence.rejected
+
+pub reject_rule : (class : Class) (k : Kind) → class_rule class (Received.reject k) ≡ rejecting (is_of_answer k)
+reject_rule One kind.General = refl
+reject_rule One kind.Invoke = refl
+reject_rule One kind.Result = refl
+reject_rule One kind.Error = refl
+reject_rule Two kind.General = refl
+reject_rule Two kind.Invoke = refl
+reject_rule Two kind.Result = refl
+reject_rule Two kind.Error = refl
+reject_rule Three kind.General = refl
+reject_rule Three kind.Invoke = refl
+reject_rule Three kind.Result = refl
+reject_rule Three kind.Error = refl
+reject_rule Four kind.General = refl
+reject_rule Four kind.Invoke = refl
+reject_rule Four kind.Result = refl
+reject_rule Four kind.Error = refl
+
+-- a Reject of an answer leaves the invocation Sent, one of the Invoke doesn't
+pub reject_stays : (class : Class) (k : Kind) → stays class (Received.reject k) ≡ is_of_answer k
+reject_stays class k = ap stays_by (reject_rule class k) ∙ go (is_of_answer k)
+  where
+    go : (of : Bool) → stays_by (rejecting of) ≡ of
+    go true = refl
+    go false = refl
 
 -- ---- the rows
 
@@ -139,18 +152,19 @@ module _ (rows : List Row) (id : ℤ) (received : Received) (distinct : IsDistin
       go None q = unchanged (ap (left received) q ∙ sym q)
       go (Some e) q = by_consequence e q (class_rule e.class received) until refl
 
-reject_step : (list : InvocationList) (id : ℤ) (k : Kind) (distinct : IsDistinct int_eq (keys_of list.rows)) (e : Entry) → sent_at list.rows id ≡ Some e → (c : Consequence) → class_rule e.class (Received.reject k) ≡ c
-    → (c ≡ Consequence.rejected) ⊎ (c ≡ Consequence.not_of_the_invoke) → LeavesSent (Received.reject k) id list.rows (freed list id (is_some (rejected_number c e.number))).rows
-reject_step list id k distinct e is c q (inl p) =
-    subst (λ c. LeavesSent (Received.reject k) id list.rows (freed list id (is_some (rejected_number c e.number))).rows) (sym p)
-    (removed list.rows id (Received.reject k) distinct e is (ap stays_by (q ∙ p)))
-reject_step list id k distinct e is c q (inr p) =
-    subst (λ c. LeavesSent (Received.reject k) id list.rows (freed list id (is_some (rejected_number c e.number))).rows) (sym p)
-    (unchanged list.rows id (Received.reject k) distinct (left_is list.rows id (Received.reject k) distinct e is true (ap stays_by (q ∙ p)) ∙ sym is))
+module _ (list : InvocationList) (id : ℤ) (k : Kind) (distinct : IsDistinct int_eq (keys_of list.rows)) where
+  reject_step : (e : Entry) → sent_at list.rows id ≡ Some e → (of : Bool) → is_of_answer k ≡ of
+      → LeavesSent (Received.reject k) id list.rows (freed list id (is_some (rejected_number (rejecting of) e.number))).rows
+  reject_step e is true q =
+      unchanged list.rows id (Received.reject k) distinct
+      (left_is list.rows id (Received.reject k) distinct e is true (reject_stays e.class k ∙ q) ∙ sym is)
+  reject_step e is false q = removed list.rows id (Received.reject k) distinct e is (reject_stays e.class k ∙ q)
 
-pub reject_leaves : (list : InvocationList) (id : ℤ) (k : Kind) → IsDistinct int_eq (keys_of list.rows) → LeavesSent (Received.reject k) id list.rows (after_reject list id k).rows
-reject_leaves list id k distinct = go (sent_at list.rows id) refl
-  where
-    go : (o : Option Entry) → sent_at list.rows id ≡ o → LeavesSent (Received.reject k) id list.rows (freed list id (is_some (rejected_for o k))).rows
-    go None q = unchanged list.rows id (Received.reject k) distinct (ap (left (Received.reject k)) q ∙ sym q)
-    go (Some e) q = reject_step list id k distinct e q (class_rule e.class (Received.reject k)) refl (reject_rule e.class k)
+  pub reject_leaves : LeavesSent (Received.reject k) id list.rows (after_reject list id k).rows
+  reject_leaves = go (sent_at list.rows id) refl
+    where
+      go : (o : Option Entry) → sent_at list.rows id ≡ o → LeavesSent (Received.reject k) id list.rows (freed list id (is_some (rejected_for o k))).rows
+      go None q = unchanged list.rows id (Received.reject k) distinct (ap (left (Received.reject k)) q ∙ sym q)
+      go (Some e) q =
+          subst (λ c. LeavesSent (Received.reject k) id list.rows (freed list id (is_some (rejected_number c e.number))).rows)
+          (sym (reject_rule e.class k)) (reject_step e q (is_of_answer k) refl)

@@ -1,5 +1,5 @@
 -- The rows after an answer for an identifier, as an operation on its row.
-use Rattle.std.proofs.Common.{◌≡◌, ℕ, ℤ, cond, ◌⊎◌, inl, inr, List, Option, Some, None, refl, ap, sym, ◌∙◌, subst}
+use Rattle.std.proofs.Common.{◌≡◌, ℕ, ℤ, Bool, true, false, cond, List, Option, Some, None, refl, ap, sym, ◌∙◌, subst}
 use Rattle.std.specs.Prelude.{is_some}
 use Rattle.std.specs.List.{IsDistinct}
 use Rattle.std.specs.Map.{keys_of}
@@ -12,7 +12,8 @@ use Rattle.tcap_invocation.specs.Answers.{after_consequence, rows_after, rejecte
 use Rattle.tcap_invocation.specs.Class.{Received, Consequence, class_rule}
 use Rattle.tcap_invocation.specs.Invocations.{Row, InvocationList, entry_at, passing, freed}
 use Rattle.tcap_invocation.specs.Stage.{is_sent}
-use Rattle.tcap_laws.proofs.Rows.LeftSentByRows.{reject_rule}
+use Rattle.tcap_laws.proofs.Rows.LeftSentByRows.{rejecting, reject_rule}
+use Rattle.tcap_model.specs.Procedures.Problems.{is_of_answer}
 use Rattle.tcap_laws.proofs.Rows.Restaged.{LeavesStage, on_id, restaged, left_rows, freed_rows, moved_rows}
 use Rattle.tcap_laws.proofs.Rows.StagesByMarks.{answered_by, answered_stage}
 
@@ -60,15 +61,12 @@ module _ (list : InvocationList) (id : ℤ) (k : Kind) (until : ℕ) (distinct :
   abbrev rejected_rows : List Row
   rejected_rows = answered_rows list.rows id (Received.reject k) until distinct
 
-  reject_moves_by : (e : Entry) → entry_at list.rows id ≡ Some e → (deadline : ℕ) → e.stage ≡ Sent deadline → (c : Consequence) → class_rule e.class (Received.reject k) ≡ c
-      → (c ≡ Consequence.rejected) ⊎ (c ≡ Consequence.not_of_the_invoke) → (freed list id (is_some (rejected_number c e.number))).rows ≡ rejected_rows
-  reject_moves_by e at deadline q c w (inl p) =
-      ap (λ c. (freed list id (is_some (rejected_number c e.number))).rows) p
-      ∙ by_consequence list.rows id (Received.reject k) until distinct e at deadline q Consequence.rejected (w ∙ p)
-  reject_moves_by e at deadline q c w (inr p) =
-      ap (λ c. (freed list id (is_some (rejected_number c e.number))).rows) p
-      ∙ by_consequence list.rows id (Received.reject k) until distinct e at deadline q Consequence.not_of_the_invoke (w ∙ p)
+  reject_moves_by : (e : Entry) → entry_at list.rows id ≡ Some e → (deadline : ℕ) → e.stage ≡ Sent deadline → (of : Bool) → class_rule e.class (Received.reject k) ≡ rejecting of
+      → (freed list id (is_some (rejected_number (rejecting of) e.number))).rows ≡ rejected_rows
+  reject_moves_by e at deadline q true w = by_consequence list.rows id (Received.reject k) until distinct e at deadline q Consequence.not_of_the_invoke w
+  reject_moves_by e at deadline q false w = by_consequence list.rows id (Received.reject k) until distinct e at deadline q Consequence.rejected w
 
   pub reject_moves : (after_reject list id k).rows ≡ rejected_rows
   reject_moves = by_entry list.rows id (Received.reject k) until distinct (λ o. (freed list id (is_some (rejected_for o k))).rows) refl
-      (λ e at deadline q. reject_moves_by e at deadline q (class_rule e.class (Received.reject k)) refl (reject_rule e.class k))
+      (λ e at deadline q. ap (λ c. (freed list id (is_some (rejected_number c e.number))).rows) (reject_rule e.class k)
+      ∙ reject_moves_by e at deadline q (is_of_answer k) (reject_rule e.class k))

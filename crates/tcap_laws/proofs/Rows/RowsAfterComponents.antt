@@ -25,7 +25,7 @@ use Rattle.tcap_laws.proofs.Rows.LeftSentByMarks.{AreRead, more_read, up_to_more
 use Rattle.tcap_laws.proofs.Rows.Restaged.{on_id, restaged, same_rows, distinct_restaged}
 use Rattle.tcap_laws.proofs.Rows.RowStages.{rows_if, row_if, stage_more, stages_moved, same_stages, stage_is, stage_pair, stage_after, rows_after}
 use Rattle.tcap_laws.proofs.Rows.DistinctRows.{rows_distinct}
-use Rattle.tcap_laws.proofs.Rows.StagesByMarks.{marked_stage, closed_stage, answered_stage, result_keeps, error_keeps, mark_stage, then_stage, mark_steps}
+use Rattle.tcap_laws.proofs.Rows.StagesByMarks.{marked_stage, closed_stage, answered_stage, reject_frees, reject_keeps, mark_stage, then_stage, mark_steps}
 use Rattle.tcap_laws.proofs.Spans.SupersededInvocations.{latest_if_open}
 use Rattle.tcap_laws.proofs.Decisions.ToldInvocations.{IsFound, each_found}
 use Rattle.tcap_laws.proofs.Rows.ComponentsAlike.{FaultLast}
@@ -42,11 +42,12 @@ use Rattle.tcap_model.specs.Invocations.Marks.{Mark, Noted, marked, marks, marks
 use Rattle.tcap_model.specs.Invocations.Outcome.{closing_after, first_closing, outcome_of, outcome}
 use Rattle.tcap_model.specs.Words.Output.{Output, Closing, ComponentIndication}
 use Rattle.tcap_model.specs.Histories.Pair.{Pair, Past}
-use Rattle.tcap_model.specs.Invocations.SentThere.{marks_up_to}
+use Rattle.tcap_model.specs.Procedures.Problems.{is_of_answer}
 use Rattle.tcap_model.specs.Replies.Reply.{ended_of, ended_in}
 use Rattle.tcap_model.specs.Invocations.Span.{span}
 use Rattle.tcap_model.specs.Table.TableMove.{ended_told, after_item, walked}
 use Rattle.tcap_model.specs.Table.World.{stage_by, row_by, is_number, rows_of}
+use Rattle.tcap_model.specs.Invocations.SentThere.{marks_up_to}
 
 module _ (start : Start) (past : Past) (legal : AreReplies start past) (reject_ms dialogue : ℕ) where
   -- what an invocation is at after some components
@@ -146,9 +147,9 @@ module _ (start : Start) (past : Past) (legal : AreReplies start past) (reject_m
     freed_wait id false = refl
 
     -- a Reject of the Invoke
-    invoke_at : (id : ℤ) (problem : ProblemParts) → ((k : ℤ) → reject_marks k id problem problem.kind ≡ marked k id (Mark.reject problem))
+    invoke_at : (id : ℤ) (problem : ProblemParts) → is_of_answer problem.kind ≡ false → ((k : ℤ) → reject_marks k id problem problem.kind ≡ marked k id (Mark.reject problem))
         → IsAt (earlier ++ Ok (ComponentParts.reject_back (Some id) problem) ∷ []) (after_reject list id problem.kind)
-    invoke_at id problem marks = answer_at (ComponentParts.reject_back (Some id) problem) id (Received.reject problem.kind) (Mark.reject problem) (λ class s. refl) marks
+    invoke_at id problem of marks = answer_at (ComponentParts.reject_back (Some id) problem) id (Received.reject problem.kind) (Mark.reject problem) (reject_frees until problem.kind of) marks
         (after_reject list id problem.kind) (freed_wait id (is_some (rejected_at list.rows id problem.kind))) (reject_moves list id problem.kind (clock past + list.reject_ms) at.distinct)
 
     -- a Reject of an answer from here
@@ -172,12 +173,12 @@ module _ (start : Start) (past : Past) (legal : AreReplies start past) (reject_m
             go false = refl
 
     reject_at : (id : ℤ) (problem : ProblemParts) (k : Kind) → problem.kind ≡ k → IsAt (earlier ++ Ok (ComponentParts.reject_back (Some id) problem) ∷ []) (after_reject list id problem.kind)
-    reject_at id problem kind.General e = invoke_at id problem (λ n. ap (reject_marks n id problem) e)
-    reject_at id problem kind.Invoke e = invoke_at id problem (λ n. ap (reject_marks n id problem) e)
+    reject_at id problem kind.General e = invoke_at id problem (ap is_of_answer e) (λ n. ap (reject_marks n id problem) e)
+    reject_at id problem kind.Invoke e = invoke_at id problem (ap is_of_answer e) (λ n. ap (reject_marks n id problem) e)
     reject_at id problem kind.Result e = own_at id problem (λ n. ap (reject_marks n id problem) e)
-        (λ class s. ap (λ k. answered_stage (clock past + list.reject_ms) (Received.reject k) class s) e ∙ result_keeps (clock past + list.reject_ms) class s)
+        (reject_keeps (clock past + list.reject_ms) problem.kind (ap is_of_answer e))
     reject_at id problem kind.Error e = own_at id problem (λ n. ap (reject_marks n id problem) e)
-        (λ class s. ap (λ k. answered_stage (clock past + list.reject_ms) (Received.reject k) class s) e ∙ error_keeps (clock past + list.reject_ms) class s)
+        (reject_keeps (clock past + list.reject_ms) problem.kind (ap is_of_answer e))
 
     item_at : (c : ComponentParts) → IsAt (earlier ++ Ok c ∷ []) (after_item (clock past) list (Ok c))
     item_at (ComponentParts.invoke id linked code parameter) = same_at (ComponentParts.invoke id linked code parameter) (λ k. refl)

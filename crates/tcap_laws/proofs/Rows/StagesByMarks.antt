@@ -2,24 +2,23 @@
 use Rattle.std.proofs.Common.{◌≡◌, ℕ, ◌+◌, Bool, true, false, cond, nat_le, List, [], ◌∷◌, ◌++◌, Option, Some, None, refl, ap, sym, ◌∙◌}
 use Rattle.std.specs.Option.{option_or}
 use Rattle.tcap_component.specs.Component.{CodeParts, BodyParts}
-use Rattle.tcap_component.specs.Problem.{ProblemParts}
 use Rattle.tcap_component.specs.declared.problem.Kind.{Kind}
-use Rattle.tcap_component.specs.declared.problem.Kind.TheVariants as kind
 use Rattle.tcap_invocation.specs.declared.class.Class.{Class}
 use Rattle.tcap_invocation.specs.declared.class.Class.TheVariants.{One, Two, Three, Four}
 use Rattle.tcap_invocation.specs.declared.stage.Stage.{Stage}
 use Rattle.tcap_invocation.specs.declared.stage.Stage.TheVariants.{Queued, Sent, Waiting}
 use Rattle.tcap_invocation.specs.Class.{Received, Consequence, class_rule}
 use Rattle.tcap_invocation.specs.Stage.{sent_stage}
+use Rattle.tcap_laws.proofs.Rows.LeftSentByRows.{rejecting, reject_rule}
 use Rattle.tcap_laws.proofs.Spans.DecisionSteps.{first_closing-append}
 use Rattle.tcap_laws.proofs.Spans.SentClocks.{sent_clock-append}
-use Rattle.tcap_model.specs.Invocations.Closes.{closing_of, closing_by}
+use Rattle.tcap_model.specs.Invocations.Closes.{closing_of, closing_by_last, closing_by_more, closing_by_error}
 use Rattle.tcap_model.specs.Invocations.Deadline.{is_sent, sent_clock}
 use Rattle.tcap_model.specs.Replies.Held.{is_rejectable}
 use Rattle.tcap_model.specs.Invocations.Marks.{Mark, Noted}
 use Rattle.tcap_model.specs.Invocations.Outcome.{first_closing}
-use Rattle.tcap_model.specs.Words.Output.{Closing, Rejector}
-use Rattle.tcap_model.specs.Procedures.Problems.{remote_rejector}
+use Rattle.tcap_model.specs.Words.Output.{Closing}
+use Rattle.tcap_model.specs.Procedures.Problems.{is_of_answer}
 
 -- ---- the stage by marks
 
@@ -53,22 +52,24 @@ answered_stage until received class (Queued timeout) = Some (Queued timeout)
 answered_stage until received class (Sent deadline) = answered_by until (Sent deadline) (class_rule class received)
 answered_stage until received class (Waiting u) = Some (Waiting u)
 
--- a Reject of an answer from here leaves each stage
-pub result_keeps : (until : ℕ) (class : Class) (s : Stage) → answered_stage until (Received.reject kind.Result) class s ≡ Some s
-result_keeps until class (Queued timeout) = refl
-result_keeps until One (Sent deadline) = refl
-result_keeps until Two (Sent deadline) = refl
-result_keeps until Three (Sent deadline) = refl
-result_keeps until Four (Sent deadline) = refl
-result_keeps until class (Waiting u) = refl
+-- a Reject of the Invoke
+abbrev pub rejected_stage : Stage → Option Stage
+rejected_stage (Queued timeout) = Some (Queued timeout)
+rejected_stage (Sent deadline) = None
+rejected_stage (Waiting u) = Some (Waiting u)
 
-pub error_keeps : (until : ℕ) (class : Class) (s : Stage) → answered_stage until (Received.reject kind.Error) class s ≡ Some s
-error_keeps until class (Queued timeout) = refl
-error_keeps until One (Sent deadline) = refl
-error_keeps until Two (Sent deadline) = refl
-error_keeps until Three (Sent deadline) = refl
-error_keeps until Four (Sent deadline) = refl
-error_keeps until class (Waiting u) = refl
+pub reject_frees : (until : ℕ) (k : Kind) → is_of_answer k ≡ false → (class : Class) (s : Stage)
+    → rejected_stage s ≡ answered_stage until (Received.reject k) class s
+reject_frees until k of class (Queued timeout) = refl
+reject_frees until k of class (Sent deadline) = sym (ap (answered_by until (Sent deadline)) (reject_rule class k ∙ ap rejecting of))
+reject_frees until k of class (Waiting u) = refl
+
+-- a Reject of an answer from here leaves each stage
+pub reject_keeps : (until : ℕ) (k : Kind) → is_of_answer k ≡ true → (class : Class) (s : Stage)
+    → answered_stage until (Received.reject k) class s ≡ Some s
+reject_keeps until k of class (Queued timeout) = refl
+reject_keeps until k of class (Sent deadline) = ap (answered_by until (Sent deadline)) (reject_rule class k ∙ ap rejecting of)
+reject_keeps until k of class (Waiting u) = refl
 
 -- the user gives it up, or the dialogue ends
 abbrev pub dropped_stage : Stage → Option Stage
@@ -90,7 +91,7 @@ mark_stage until clock (Mark.moment now) class s = lapsed_stage now s
 mark_stage until clock (Mark.last body) class s = answered_stage until Received.return_result_last class s
 mark_stage until clock (Mark.more body) class s = answered_stage until Received.return_result_not_last class s
 mark_stage until clock (Mark.error code parameter) class s = answered_stage until Received.return_error class s
-mark_stage until clock (Mark.reject problem) class s = answered_stage until (Received.reject problem.kind) class s
+mark_stage until clock (Mark.reject problem) class s = rejected_stage s
 
 abbrev pub then_stage : (Stage → Option Stage) → Option Stage → Option Stage
 then_stage f None = None
@@ -122,14 +123,14 @@ module _ (until clock timeout : ℕ) (class : Class) where
       go false = refl
 
   -- an answer that closes an invocation that is Sent, or leaves it
-  last_steps : (body : Option BodyParts) (sent : ℕ) (class : Class) → closed_stage until timeout (option_or (closing_by (Some (Closing.result_last body)) (class_rule class Received.return_result_last)) None) (Some sent)
+  last_steps : (body : Option BodyParts) (sent : ℕ) (class : Class) → closed_stage until timeout (option_or (closing_by_last class body) None) (Some sent)
       ≡ answered_by until (Sent (sent + timeout)) (class_rule class Received.return_result_last)
   last_steps body sent One = refl
   last_steps body sent Two = refl
   last_steps body sent Three = refl
   last_steps body sent Four = refl
 
-  more_steps : (sent : ℕ) (class : Class) → closed_stage until timeout (option_or (closing_by None (class_rule class Received.return_result_not_last)) None) (Some sent)
+  more_steps : (sent : ℕ) (class : Class) → closed_stage until timeout (option_or (closing_by_more class) None) (Some sent)
       ≡ answered_by until (Sent (sent + timeout)) (class_rule class Received.return_result_not_last)
   more_steps sent One = refl
   more_steps sent Two = refl
@@ -137,32 +138,12 @@ module _ (until clock timeout : ℕ) (class : Class) where
   more_steps sent Four = refl
 
   error_steps : (code : CodeParts) (parameter : Option (List ℕ)) (sent : ℕ) (class : Class)
-      → closed_stage until timeout (option_or (closing_by (Some (Closing.error_back code parameter)) (class_rule class Received.return_error)) None) (Some sent)
+      → closed_stage until timeout (option_or (closing_by_error class code parameter) None) (Some sent)
       ≡ answered_by until (Sent (sent + timeout)) (class_rule class Received.return_error)
   error_steps code parameter sent One = refl
   error_steps code parameter sent Two = refl
   error_steps code parameter sent Three = refl
   error_steps code parameter sent Four = refl
-
-  reject_steps : (problem : ProblemParts) (by : Rejector) (sent : ℕ) (class : Class) (k : Kind)
-      → closed_stage until timeout (option_or (closing_by (Some (Closing.rejected problem by)) (class_rule class (Received.reject k))) None) (Some sent)
-      ≡ answered_by until (Sent (sent + timeout)) (class_rule class (Received.reject k))
-  reject_steps problem by sent One kind.General = refl
-  reject_steps problem by sent One kind.Invoke = refl
-  reject_steps problem by sent One kind.Result = refl
-  reject_steps problem by sent One kind.Error = refl
-  reject_steps problem by sent Two kind.General = refl
-  reject_steps problem by sent Two kind.Invoke = refl
-  reject_steps problem by sent Two kind.Result = refl
-  reject_steps problem by sent Two kind.Error = refl
-  reject_steps problem by sent Three kind.General = refl
-  reject_steps problem by sent Three kind.Invoke = refl
-  reject_steps problem by sent Three kind.Result = refl
-  reject_steps problem by sent Three kind.Error = refl
-  reject_steps problem by sent Four kind.General = refl
-  reject_steps problem by sent Four kind.Invoke = refl
-  reject_steps problem by sent Four kind.Result = refl
-  reject_steps problem by sent Four kind.Error = refl
 
   open_steps : (m : Mark) (s : Option ℕ) → Steps m None s
   open_steps Mark.sent None = refl
@@ -184,7 +165,7 @@ module _ (until clock timeout : ℕ) (class : Class) where
   open_steps (Mark.error code parameter) None = refl
   open_steps (Mark.error code parameter) (Some k) = error_steps code parameter k class
   open_steps (Mark.reject problem) None = refl
-  open_steps (Mark.reject problem) (Some k) = reject_steps problem (remote_rejector problem) k class problem.kind
+  open_steps (Mark.reject problem) (Some k) = refl
 
   one_steps : (m : Mark) (o : Option Closing) (s : Option ℕ) → Steps m o s
   one_steps m None s = open_steps m s

@@ -1,0 +1,5 @@
+use Rattle.tcap_laws.proofs.Decisions.ClassTables.{class-tables}
+use Rattle.tcap_laws.proofs.invoking.class_tables_agree.Goals as goal
+
+pub returns : goal.returns
+returns c = class-tables
