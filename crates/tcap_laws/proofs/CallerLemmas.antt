@@ -30,6 +30,8 @@ pub use Rattle.tcap_laws.proofs.Isolation.SeenQueues.{only_handled, only_queue}
 pub use Rattle.tcap_laws.proofs.Isolation.SeenRequests.{only_ended, only_due, alone_request}
 pub use Rattle.tcap_laws.proofs.Table.OtherDialogues.{unnamed-stays}
 pub use Rattle.tcap_laws.proofs.Receptions.ReachedReplies.{some-reply, taken-reply, broken-reply}
+pub use Rattle.tcap_laws.proofs.Receptions.NamedBytes.{grammar-by_name, named-by_grammar}
+pub use Rattle.tcap_laws.proofs.Receptions.NormalPortions.{normal-verdict, abnormal-verdict, normal-or-not}
 pub use Rattle.tcap_laws.proofs.Receptions.ReceivedMarks.{components-marks, spelled-names, means-marks, reached-means}
 pub use Rattle.tcap_laws.proofs.Table.RequestsJudgedAlike.{answer-agrees, situation-agrees, due-agrees, refused-agrees}
 pub use Rattle.tcap_laws.proofs.Table.RequestsMovedAlike.{request-moves}

@@ -2,7 +2,9 @@ pub mod AcceptedRequests
 pub mod EachComponent
 pub mod EachOutput
 pub mod HandledComponents
+pub mod NamedBytes
 pub mod NamedReceptions
+pub mod NormalPortions
 pub mod NothingDue
 pub mod PeerIdentifiers
 pub mod ProviderAborts

@@ -1,10 +1,11 @@
 //! What is received and what is sent.
 
-ghost use Rattle.std.specs.Prelude.{◌≡◌, ◌≢◌, ℕ, ℤ, ◌<◌, ◌≤◌, List, [], ◌∷◌, ◌++◌, Option, IsTrue, length, option_to_list};
+ghost use Rattle.std.specs.Prelude.{◌≡◌, ◌≢◌, ◌↔◌, ℕ, ℤ, ◌<◌, ◌≤◌, List, [], ◌∷◌, ◌++◌, Option, IsTrue, length, option_to_list};
 ghost use Rattle.tcap_pdu.specs.declared.fault.FrameFault.{FrameFault};
 ghost use Rattle.tcap_pdu.specs.FrameFaults.{IsFrameFault};
 ghost use Rattle.tcap_pdu.specs.FrameSpelling.{Message, Reason, SpellsFrame};
 ghost use Rattle.tcap_pdu.specs.FrameWritten.{message_limit};
+ghost use Rattle.tcap_pdu.specs.Front.{Front};
 ghost use Rattle.tcap_component.specs.Component.{ComponentParts};
 ghost use Rattle.tcap_component.specs.ComponentFault.{FaultParts};
 ghost use Rattle.tcap_component.specs.ComponentList.{FirstFault};
@@ -22,6 +23,9 @@ ghost use Rattle.tcap_model.specs.Words.Output.{AbortCause, DropCause, Output, D
 ghost use Rattle.tcap_model.specs.Histories.Pair.{Pair, Past};
 ghost use Rattle.tcap_model.specs.Statements.Places.{Tells};
 ghost use Rattle.tcap_model.specs.Procedures.PortionRules.{PortionVerdict, portion_verdict};
+ghost use Rattle.tcap_model.specs.Statements.FaultAnswer.{fault_answer};
+ghost use Rattle.tcap_model.specs.Statements.NamesDialogue.{NamesDialogue};
+ghost use Rattle.tcap_model.specs.Statements.NormalPortion.{IsNormal, IsAbnormal};
 ghost use Rattle.tcap_model.specs.Statements.ReceivedMark.{Means, Reaches, marks_of_components, noted_at};
 ghost use Rattle.tcap_model.specs.Replies.Reply.{ended_in, reply, taken_outputs};
 ghost use Rattle.tcap_model.specs.Words.Request.{Request};
@@ -48,9 +52,10 @@ pub fn bytes_reach_their_dialogue()
     ensures taken { (h : History) (dialogue : ℕ) (bytes : List ℕ) → IsTrue (names (Event.received bytes) dialogue) →
         IsTrue (live_in (life dialogue h.pairs)) → (m : Message) → SpellsFrame m bytes →
         reply h (Event.received bytes) ≡ Answer.outputs (taken_outputs dialogue h.pairs (life dialogue h.pairs) m) }
+    // A faulty Continue with an origin at its front is answered there, and nothing else is.
     ensures broken { (h : History) (dialogue : ℕ) (bytes : List ℕ) → IsTrue (names (Event.received bytes) dialogue) →
-        IsTrue (live_in (life dialogue h.pairs)) → (f : FrameFault) → IsFrameFault bytes f →
-        (abort : Option Output) × (reply h (Event.received bytes) ≡ Answer.outputs (option_to_list abort ++ Output.dialogue (DialogueIndication.p_abort dialogue (AbortCause.cause (fault_cause f))) ∷ ended_in dialogue h.pairs [])) }
+        IsTrue (live_in (life dialogue h.pairs)) → (f : FrameFault) (origin destination : Option (List ℕ)) → IsFrameFault bytes f → Front bytes origin destination →
+        reply h (Event.received bytes) ≡ Answer.outputs (option_to_list (fault_answer bytes f origin) ++ Output.dialogue (DialogueIndication.p_abort dialogue (AbortCause.cause (fault_cause f))) ∷ ended_in dialogue h.pairs []) }
 {}
 
 /// What is sent is a message in the canonical form, which the octets spell; for a request it is the
@@ -74,6 +79,13 @@ pub fn marks_are_of_the_grammar()
         component_marks id (components_of content) ≡ marks_of_components id components }
     ensures named { (dialogue : ℕ) (m : Message) (bytes : List ℕ) → SpellsFrame m bytes → length bytes ≤ message_limit →
         names (Event.received bytes) dialogue ≡ is_destined dialogue (destination m) }
+    // The dialogue that bytes name is the one of the grammar.
+    ensures by_grammar { (dialogue : ℕ) (bytes : List ℕ) → IsTrue (names (Event.received bytes) dialogue) ↔ NamesDialogue dialogue bytes }
+    // A dialogue portion is normal or abnormal by what it spells, as its verdict says.
+    ensures normal { (state : State) (context portion : Option (List ℕ)) → IsNormal state context portion →
+        (told : Option (List ℕ)) × (info : List ℕ) × (portion_verdict state context portion ≡ PortionVerdict.normal told info) }
+    ensures abnormal { (state : State) (context portion : Option (List ℕ)) → IsAbnormal state context portion →
+        portion_verdict state context portion ≡ PortionVerdict.abnormal }
     ensures made { (dialogue : ℕ) (id : ℤ) (state : State) (context : Option (List ℕ)) (bytes : List ℕ) (pair : Pair) (past : Past) →
         Reaches dialogue state context bytes pair past → (made : List Mark) →
         Means state context id bytes made → marks dialogue id pair past ≡ noted_at past made }

@@ -1,8 +1,11 @@
 pub mod ClassTable
 pub mod ComponentLaws
+pub mod FaultAnswer
 pub mod Headline
 pub mod Isolation
+pub mod NamesDialogue
 pub mod Net
+pub mod NormalPortion
 pub mod Only
 pub mod Places
 pub mod ReceivedMark

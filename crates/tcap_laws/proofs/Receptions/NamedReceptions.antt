@@ -13,6 +13,7 @@ use Rattle.tcap_model.specs.Words.LocalId.{dialogue_named, is_that}
 use Rattle.tcap_model.specs.Histories.Names.{is_destined, named_within, names}
 use Rattle.tcap_model.specs.Words.Output.{Output}
 use Rattle.tcap_model.specs.Procedures.PortionRules.{BeginVerdict, begin_verdict, PortionVerdict, uni_verdict}
+use Rattle.tcap_model.specs.Statements.FaultAnswer.{fault_answer}
 use Rattle.tcap_model.specs.Procedures.Reception.{Reception, live_named, addressed, addressed_if_any, uni_by, begin_by, continue_by, last_by, message_by, fault_abort, aborted_or_dropped, faulty_continue, faulty_last, fault_by, faulty, reading_by, reception}
 
 -- ---- the dialogue that is named
@@ -45,23 +46,31 @@ live-destined live dialogue (Some octets) e = by-named (dialogue_named octets) e
 -- ---- faulty messages
 
 -- by its first octet
-broken-by : (live : ℕ → Bool) (dialogue first : ℕ) (abort : Option Output) (f : FrameFault) → (first == 0x64) || (first == 0x65) || (first == 0x67) ≡ true → (sent : Option Output) × (fault_by first (Some dialogue) abort f ≡ Reception.broken dialogue sent (fault_cause f))
-broken-by live dialogue first abort f is = elim (or_cases ((first == 0x64) || (first == 0x65)) (first == 0x67) is) [
+broken-by : (dialogue first : ℕ) (abort : Option Output) (f : FrameFault) → (first == 0x64) || (first == 0x65) || (first == 0x67) ≡ true →
+    fault_by first (Some dialogue) abort f ≡ Reception.broken dialogue (if first == 0x65 then abort else None) (fault_cause f)
+broken-by dialogue first abort f is = elim (or_cases ((first == 0x64) || (first == 0x65)) (first == 0x67) is) [
   | inl others ↦ elim (or_cases (first == 0x64) (first == 0x65) others) [
-    | inl end ↦ (None, ap (λ (n : ℕ). fault_by n (Some dialogue) abort f) (eqb-true first 0x64 end))
-    | inr go_on ↦ (abort, ap (λ (n : ℕ). fault_by n (Some dialogue) abort f) (eqb-true first 0x65 go_on))
+    | inl end ↦ alike 0x64 (eqb-true first 0x64 end) refl
+    | inr go_on ↦ alike 0x65 (eqb-true first 0x65 go_on) refl
   ]
-  | inr last ↦ (None, ap (λ (n : ℕ). fault_by n (Some dialogue) abort f) (eqb-true first 0x67 last))
+  | inr last ↦ alike 0x67 (eqb-true first 0x67 last) refl
 ]
+  where
+    IsBroken : ℕ → Type 0
+    IsBroken n = fault_by n (Some dialogue) abort f ≡ Reception.broken dialogue (if n == 0x65 then abort else None) (fault_cause f)
 
-faulty-broken : (live : ℕ → Bool) (dialogue : ℕ) (bytes : List ℕ) (f : FrameFault) → is_destined dialogue (destination_by bytes (Err f)) ≡ true → live dialogue ≡ true → (abort : Option Output) × (faulty live bytes f ≡ Reception.broken dialogue abort (fault_cause f))
+    alike : (n : ℕ) → first ≡ n → IsBroken n → IsBroken first
+    alike n same broken = subst IsBroken (sym same) broken
+
+faulty-broken : (live : ℕ → Bool) (dialogue : ℕ) (bytes : List ℕ) (f : FrameFault) → is_destined dialogue (destination_by bytes (Err f)) ≡ true → live dialogue ≡ true →
+    faulty live bytes f ≡ Reception.broken dialogue (fault_answer bytes f (front_at bytes).0) (fault_cause f)
 faulty-broken live dialogue [] f is lives = absurd (true≢false (sym is))
 faulty-broken live dialogue (first ∷ bytes) f is lives = elim (cases_Bool (begins_addressed (first ∷ bytes))) [
   | inl begins ↦ let is = is in
       let front = front_at (first ∷ bytes) in
       let to : is_destined dialogue front.1 ≡ true = rw begins at is in
-      let broken = broken-by live dialogue first (fault_abort f front.0) f begins in
-      (broken.0, ap (λ (n : Option ℕ). fault_by first n (fault_abort f front.0) f) (destined-live live dialogue front.1 to lives) ∙ broken.1)
+      ap (λ (n : Option ℕ). fault_by first n (fault_abort f front.0) f) (destined-live live dialogue front.1 to lives)
+      ∙ broken-by dialogue first (fault_abort f front.0) f begins
   | inr not ↦ let is = is in let none : false ≡ true = rw not at is in absurd (true≢false (sym none))
 ]
 
@@ -91,10 +100,8 @@ module _ (live : ℕ → Bool) (full : Bool) (dialogue : ℕ) (bytes : List ℕ)
   pub named-taken : (m : Message) → frame_at bytes ≡ Ok m → reception live full bytes ≡ Reception.taken dialogue m
   named-taken m e = read-whole ∙ (ap (reading_by live full bytes) e ∙ message-taken m (destined (Ok m) e))
 
-  pub named-broken : (f : FrameFault) → frame_at bytes ≡ Err f → (abort : Option Output) × (reception live full bytes ≡ Reception.broken dialogue abort (fault_cause f))
-  named-broken f e =
-      let broken = faulty-broken live dialogue bytes f (destined (Err f) e) lives in
-      (broken.0, read-whole ∙ (ap (reading_by live full bytes) e ∙ broken.1))
+  pub named-broken : (f : FrameFault) → frame_at bytes ≡ Err f → reception live full bytes ≡ Reception.broken dialogue (fault_answer bytes f (front_at bytes).0) (fault_cause f)
+  named-broken f e = read-whole ∙ (ap (reading_by live full bytes) e ∙ faulty-broken live dialogue bytes f (destined (Err f) e) lives)
 
 -- ---- bytes that reach a dialogue
 

@@ -1,11 +1,12 @@
 -- What is answered to received bytes, by the dialogue that they reach; it is never nothing.
-use Rattle.std.proofs.Common.{◌≡◌, ℕ, true, Bool, List, [], ◌∷◌, ◌++◌, option_to_list, is_some, Option, Some, None, Ok, refl, sym, ap}
+use Rattle.std.proofs.Common.{◌≡◌, ℕ, true, Bool, List, [], ◌∷◌, ◌++◌, option_to_list, is_some, Option, Some, None, Ok, refl, sym, ap, ◌∙◌}
 use Rattle.std.proofs.lemmas.Bool.{true≢false}
 use Rattle.tcap_pdu.specs.declared.fault.FrameFault.{FrameFault}
 use Rattle.tcap_pdu.specs.FrameFaults.{IsFrameFault}
 use Rattle.tcap_pdu.specs.FrameReading.{frame_at}
 use Rattle.tcap_pdu.specs.FrameSpelling.{Message, SpellsFrame}
-use Rattle.tcap_pdu.proofs.CallerLemmas.{frame_again, frame_told}
+use Rattle.tcap_pdu.specs.Front.{Front}
+use Rattle.tcap_pdu.proofs.CallerLemmas.{frame_again, frame_told, front_again}
 use Rattle.tcap_model.specs.Procedures.AbortRules.{fault_cause}
 use Rattle.tcap_model.specs.Words.Answer.{Answer}
 use Rattle.tcap_model.specs.Replies.Due.{birth_due}
@@ -17,6 +18,7 @@ use Rattle.tcap_model.specs.Words.Output.{Output, AbortCause, DialogueIndication
 use Rattle.tcap_model.specs.Histories.Pair.{Past}
 use Rattle.tcap_model.specs.Procedures.PortionRules.{PortionVerdict, portion_verdict}
 use Rattle.tcap_model.specs.Procedures.Reception.{Reception, reception}
+use Rattle.tcap_model.specs.Statements.FaultAnswer.{fault_answer}
 use Rattle.tcap_model.specs.Replies.Reply.{reply, continue_outputs, end_outputs, message_outputs, taken_outputs, reception_outputs, ended_in}
 use Rattle.tcap_model.specs.Words.State.{State}
 use Rattle.tcap_laws.proofs.Receptions.NamedReceptions.{named-taken, named-broken, IsNamed, reception-named}
@@ -34,10 +36,13 @@ module _ (h : History) (dialogue : ℕ) (bytes : List ℕ) (named : names (Event
   pub taken-reply : (m : Message) → SpellsFrame m bytes → reply h (Event.received bytes) ≡ Answer.outputs (taken_outputs dialogue h.pairs (life dialogue h.pairs) m)
   taken-reply m spelled = ap (outputs_by h) (named-taken (live_at h) (is_some (birth_due h)) dialogue bytes named lives m (frame_again m bytes spelled))
 
-  pub broken-reply : (f : FrameFault) → IsFrameFault bytes f → (abort : Option Output) × (reply h (Event.received bytes) ≡ Answer.outputs (option_to_list abort ++ Output.dialogue (DialogueIndication.p_abort dialogue (AbortCause.cause (fault_cause f))) ∷ ended_in dialogue h.pairs []))
-  broken-reply f is =
-      let broken = named-broken (live_at h) (is_some (birth_due h)) dialogue bytes named lives f (frame_told bytes f is) in
-      (broken.0, ap (outputs_by h) broken.1)
+  pub broken-reply : (f : FrameFault) (origin destination : Option (List ℕ)) → IsFrameFault bytes f → Front bytes origin destination →
+      reply h (Event.received bytes) ≡ Answer.outputs (option_to_list (fault_answer bytes f origin) ++ Output.dialogue (DialogueIndication.p_abort dialogue (AbortCause.cause (fault_cause f))) ∷ ended_in dialogue h.pairs [])
+  broken-reply f origin destination is front =
+      let at_front = ap (λ (p : Option (List ℕ) × Option (List ℕ)). p.0) (front_again bytes origin destination front) in
+      ap (outputs_by h)
+      (named-broken (live_at h) (is_some (birth_due h)) dialogue bytes named lives f (frame_told bytes f is)
+      ∙ ap (λ (o : Option (List ℕ)). Reception.broken dialogue (fault_answer bytes f o) (fault_cause f)) at_front)
 
 -- ---- never nothing
 

@@ -1,5 +1,5 @@
 -- The marks of received bytes are those of the message that the bytes spell.
-use Rattle.std.proofs.Common.{◌≡◌, ℕ, ℤ, ◌≤◌, true, false, Bool, List, [], ◌∷◌, ◌++◌, length, nat_le, Option, Some, None, Result, Ok, Err, refl, sym, ap, ◌∙◌}
+use Rattle.std.proofs.Common.{◌≡◌, ℕ, ℤ, ◌≤◌, true, false, Bool, List, [], ◌∷◌, ◌++◌, length, nat_le, Option, Some, None, Result, Ok, Err, refl, sym, ap, ◌∙◌, inl, inr}
 use Rattle.std.specs.Prelude.{unwrap_or}
 use Rattle.std.proofs.lemmas.Bool.{le-leb, true≢false}
 use Rattle.tcap_pdu.specs.declared.fault.FrameFault.{FrameFault}
@@ -19,10 +19,13 @@ use Rattle.tcap_model.specs.Histories.Life.{Life, life_after, life_by_message}
 use Rattle.tcap_model.specs.Invocations.Marks.{Mark, marks_of_component, component_marks, end_if_over, if_normal, marks_of_message, marks}
 use Rattle.tcap_model.specs.Histories.Names.{is_destined, named_within, names}
 use Rattle.tcap_model.specs.Histories.Pair.{Pair, Past}
-use Rattle.tcap_model.specs.Procedures.PortionRules.{PortionVerdict, portion_verdict}
-use Rattle.tcap_model.specs.Statements.ReceivedMark.{Reaches, IsNormal, IsAbnormal, Means, noted_at, marks_of_components}
+use Rattle.tcap_model.specs.Procedures.PortionRules.{portion_verdict}
+use Rattle.tcap_model.specs.Statements.ReceivedMark.{Reaches, Means, noted_at, marks_of_components}
+use Rattle.tcap_model.specs.Statements.NormalPortion.{IsNormal, IsAbnormal}
 use Rattle.tcap_model.specs.Statements.ReceivedMark.Means.{continued, ended, continued_abnormally, ended_abnormally, aborted, faulty}
 use Rattle.tcap_model.specs.Words.State.{State}
+use Rattle.tcap_laws.proofs.Receptions.NamedBytes.{named-by_grammar}
+use Rattle.tcap_laws.proofs.Receptions.NormalPortions.{normal-verdict, abnormal-verdict, normal-or-not}
 
 -- ---- components
 
@@ -52,17 +55,20 @@ unaddressed dialogue bytes names_it m e none = by (nat_le (length bytes) message
 -- ---- messages
 
 module _ (dialogue : ℕ) (id : ℤ) (state : State) (context : Option (List ℕ)) (bytes : List ℕ) (pair : Pair) (past : Past) (reaches : Reaches dialogue state context bytes pair past) where
+  named : names (Event.received bytes) dialogue ≡ true
+  named = named-by_grammar dialogue bytes reaches.names_it
+
   -- the life after the bytes
   after-is : (answer : Answer) (read : Result Message FrameFault) → frame_at bytes ≡ read → life_after dialogue (Life.standing state context) (record { event = Event.received bytes; answer = answer }) ≡ life_by_message state context read
-  after-is answer read e = rw (reaches.names_it, reaches.is_live, e) refl
+  after-is answer read e = rw (named, reaches.is_live, e) refl
 
   marks-read : (read : Result Message FrameFault) → frame_at bytes ≡ read → marks dialogue id pair past ≡ noted_at past (unwrap_or (marks_of_message id state context read) (end_if_over (Life.standing state context) (life_by_message state context read)))
-  marks-read read e = rw (reaches.is_life, reaches.is_event, reaches.names_it, reaches.is_live, e)
+  marks-read read e = rw (reaches.is_life, reaches.is_event, named, reaches.is_live, e)
       (ap (λ (after : Life). noted_at past (unwrap_or (marks_of_message id state context read) (end_if_over (Life.standing state context) after))) (after-is pair.answer read e))
 
   -- by the message
   read-normal : (portion : Option (List ℕ)) (made other : List Mark) → IsNormal state context portion → unwrap_or (if_normal (portion_verdict state context portion) made) other ≡ made
-  read-normal portion made other normal = rw normal.2 refl
+  read-normal portion made other normal = rw (normal-verdict state context portion normal).2 refl
 
   pub means-marks : (made : List Mark) → Means state context id bytes made → marks dialogue id pair past ≡ noted_at past made
   means-marks _ (continued origin to portion content components fault spelled normal first) =
@@ -73,33 +79,32 @@ module _ (dialogue : ℕ) (id : ℤ) (state : State) (context : Option (List ℕ
       ∙ ap (noted_at past) (read-normal portion _ _ normal ∙ ap (λ (made : List Mark). made ++ Mark.end ∷ []) (components-marks id components fault content first))
   means-marks _ (continued_abnormally origin to portion content spelled abnormal) =
       marks-read (Ok (Message.go_on origin to portion content)) (frame_again (Message.go_on origin to portion content) bytes spelled)
-      ∙ rw abnormal refl
+      ∙ rw (abnormal-verdict state context portion abnormal) refl
   means-marks _ (ended_abnormally to portion content spelled abnormal) =
       marks-read (Ok (Message.end to portion content)) (frame_again (Message.end to portion content) bytes spelled)
-      ∙ rw abnormal refl
+      ∙ rw (abnormal-verdict state context portion abnormal) refl
   means-marks _ (aborted to reason spelled) = marks-read (Ok (Message.abort to reason)) (frame_again (Message.abort to reason) bytes spelled)
   means-marks _ (faulty fault is) = marks-read (Err fault) (frame_told bytes fault is)
 
   -- ---- bytes that reach a dialogue mean something
 
-  by-verdict : {X : Type 0} → (portion : Option (List ℕ)) (verdict : PortionVerdict) → portion_verdict state context portion ≡ verdict → (IsNormal state context portion → X) → (IsAbnormal state context portion → X) → X
-  by-verdict portion (PortionVerdict.normal told info) e normal abnormal = normal (told, info, e)
-  by-verdict portion PortionVerdict.abnormal e normal abnormal = abnormal e
+  by-portion : {X : Type 0} → (portion : Option (List ℕ)) → (IsNormal state context portion → X) → (IsAbnormal state context portion → X) → X
+  by-portion portion normal abnormal = elim (normal-or-not state context portion reaches.is_live) [ inl is ↦ normal is | inr not ↦ abnormal not ]
 
   pub reached-means : (read : Result Message FrameFault) → frame_at bytes ≡ read → (made : List Mark) × Means state context id bytes made
   reached-means (Ok (Message.go_on origin to portion content)) e =
       let spelled = frame_takes bytes (Message.go_on origin to portion content) e in
       let first = first_fault_is content in
-      by-verdict portion (portion_verdict state context portion) refl
+      by-portion portion
       (λ normal. (marks_of_components id first.0, continued origin to portion content first.0 first.1 spelled normal first.2))
       (λ abnormal. (Mark.end ∷ [], continued_abnormally origin to portion content spelled abnormal))
   reached-means (Ok (Message.end to portion content)) e =
       let spelled = frame_takes bytes (Message.end to portion content) e in
       let first = first_fault_is content in
-      by-verdict portion (portion_verdict state context portion) refl
+      by-portion portion
       (λ normal. (marks_of_components id first.0 ++ Mark.end ∷ [], ended to portion content first.0 first.1 spelled normal first.2))
       (λ abnormal. (Mark.end ∷ [], ended_abnormally to portion content spelled abnormal))
   reached-means (Ok (Message.abort to reason)) e = (Mark.end ∷ [], aborted to reason (frame_takes bytes (Message.abort to reason) e))
-  reached-means (Ok (Message.unidirectional portion content)) e = absurd (unaddressed dialogue bytes reaches.names_it (Message.unidirectional portion content) e refl)
-  reached-means (Ok (Message.begin origin portion content)) e = absurd (unaddressed dialogue bytes reaches.names_it (Message.begin origin portion content) e refl)
+  reached-means (Ok (Message.unidirectional portion content)) e = absurd (unaddressed dialogue bytes named (Message.unidirectional portion content) e refl)
+  reached-means (Ok (Message.begin origin portion content)) e = absurd (unaddressed dialogue bytes named (Message.begin origin portion content) e refl)
   reached-means (Err f) e = (Mark.end ∷ [], faulty f (frame_fails bytes f e))

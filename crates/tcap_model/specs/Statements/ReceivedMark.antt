@@ -10,31 +10,22 @@ use Rattle.tcap_model.specs.Histories.Clock.{clock}
 use Rattle.tcap_model.specs.Words.Event.{Event}
 use Rattle.tcap_model.specs.Histories.Life.{Life, life}
 use Rattle.tcap_model.specs.Invocations.Marks.{Mark, Noted, marks_of_component}
-use Rattle.tcap_model.specs.Histories.Names.{names}
 use Rattle.tcap_model.specs.Histories.Pair.{Pair, Past}
-use Rattle.tcap_model.specs.Procedures.PortionRules.{PortionVerdict, portion_verdict}
+use Rattle.tcap_model.specs.Statements.NamesDialogue.{NamesDialogue}
+use Rattle.tcap_model.specs.Statements.NormalPortion.{IsNormal, IsAbnormal}
 use Rattle.tcap_model.specs.Words.State.{State, is_live}
 
 -- Bytes were received that name a dialogue, which is live in this state, with this application context
 -- (Q.774, Transaction state machine).
 pub record Reaches (dialogue : ℕ) (state : State) (context : Option (List ℕ)) (bytes : List ℕ) (pair : Pair) (past : Past) : Type 0 where
   pub is_event : pair.event ≡ Event.received bytes
-  pub names_it : IsTrue (names (Event.received bytes) dialogue)
+  pub names_it : NamesDialogue dialogue bytes
   pub is_life : life dialogue past ≡ Life.standing state context
   pub is_live : IsTrue (is_live state)
 
 -- What some components mean for an identifier, in order (Q.774, Component sublayer procedures).
 abbrev pub marks_of_components : ℤ → List ComponentParts → List Mark
 marks_of_components id components = flat_map (marks_of_component id) components
-
--- The dialogue portion of a message to the dialogue is as it should be
--- (Q.774, Abnormal procedures relating to dialogue control).
-abbrev pub IsNormal : State → Option (List ℕ) → Option (List ℕ) → Type 0
-IsNormal state context portion = (told : Option (List ℕ)) × (info : List ℕ) × (portion_verdict state context portion ≡ PortionVerdict.normal told info)
-
--- It is abnormal (Q.774, Abnormal procedures relating to dialogue control).
-abbrev pub IsAbnormal : State → Option (List ℕ) → Option (List ℕ) → Type 0
-IsAbnormal state context portion = portion_verdict state context portion ≡ PortionVerdict.abnormal
 
 -- What bytes mean for an identifier of a live dialogue that they name, by the message that they spell: a
 -- normal Continue its components up to the first fault, a normal End the same and then the end, any

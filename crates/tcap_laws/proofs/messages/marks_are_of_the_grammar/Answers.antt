@@ -1,5 +1,7 @@
 use Rattle.std.proofs.Common.{refl}
 use Rattle.tcap_pdu.specs.FrameReading.{frame_at}
+use Rattle.tcap_laws.proofs.Receptions.NamedBytes.{grammar-by_name, named-by_grammar}
+use Rattle.tcap_laws.proofs.Receptions.NormalPortions.{normal-verdict, abnormal-verdict}
 use Rattle.tcap_laws.proofs.Receptions.ReceivedMarks.{components-marks, spelled-names, means-marks, reached-means}
 use Rattle.tcap_laws.proofs.messages.marks_are_of_the_grammar.Goals as goal
 
@@ -8,6 +10,15 @@ returns-clause-components c = components-marks
 
 pub returns-clause-named : goal.returns-clause-named
 returns-clause-named c = spelled-names
+
+pub returns-clause-by_grammar : goal.returns-clause-by_grammar
+returns-clause-by_grammar c = λ dialogue bytes. (grammar-by_name dialogue bytes, named-by_grammar dialogue bytes)
+
+pub returns-clause-normal : goal.returns-clause-normal
+returns-clause-normal c = normal-verdict
+
+pub returns-clause-abnormal : goal.returns-clause-abnormal
+returns-clause-abnormal c = abnormal-verdict
 
 pub returns-clause-made : goal.returns-clause-made
 returns-clause-made c = means-marks
