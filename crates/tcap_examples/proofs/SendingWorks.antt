@@ -12,7 +12,8 @@ use Rattle.tcap_examples.specs.Computing.{computing}
 use Rattle.tcap_model.specs.Replies.Legal.{IsLegal}
 use Rattle.tcap_model.specs.Statements.Places.{StandsIn}
 use Rattle.tcap_model.specs.Statements.SentInOrder.{HaveComponents, components_submitted}
-use Rattle.tcap_examples.specs.Statements.SendingExamples.{begin_sent, begin_message, continue_sent, continue_message, continue_pair, abort_sent, abort_message, sent_in_parts, before_the_continue, all_parts}
+use Rattle.tcap_examples.specs.Histories.Receptions.{unknown_linked_identifier}
+use Rattle.tcap_examples.specs.Statements.SendingExamples.{begin_sent, begin_message, continue_sent, continue_message, continue_pair, abort_sent, abort_message, sent_in_parts, before_the_continue, all_parts, reject_of_invoke, answer_sent, answer_message, begun_by_the_peer}
 use Rattle.tcap_examples.proofs.ComponentPremises.{first_fault_at, spelled_read}
 
 -- ---- messages by the reading functions
@@ -21,27 +22,80 @@ use Rattle.tcap_examples.proofs.ComponentPremises.{first_fault_at, spelled_read}
 abbrev pub AreRead : List (List ℕ) → List ComponentParts → Type 0
 AreRead [] ds = ds ≡ []
 AreRead (bytes ∷ messages) ds =
-    (m : Message) × (first : List ComponentParts) × (others : List ComponentParts) × (frame_at bytes ≡ Ok m) × (components_of (portion_of m) ≡ items first None) × AreRead messages others × (ds ≡ first ++ others)
+    (m : Message) × (first : List ComponentParts) × (others : List ComponentParts)
+    × (frame_at bytes ≡ Ok m) × (components_of (portion_of m) ≡ items first None)
+    × AreRead messages others × (ds ≡ first ++ others)
 
 -- They have what is read.
-pub read-have : (messages : List (List ℕ)) (ds : List ComponentParts) → AreRead messages ds → HaveComponents messages ds
+read-have : (messages : List (List ℕ)) (ds : List ComponentParts) → AreRead messages ds → HaveComponents messages ds
 read-have [] ds are = are
-read-have (bytes ∷ messages) ds are =
-    (are.1, are.2, record { message = are.0; spelled = frame_takes bytes are.0 are.3; read = first_fault_at (portion_of are.0) are.1 None are.4 }, read-have messages are.2 are.5, are.6)
+read-have (bytes ∷ messages) ds are = (
+  are.1,
+  are.2,
+  record {
+    message = are.0;
+    spelled = frame_takes bytes are.0 are.3;
+    read = first_fault_at (portion_of are.0) are.1 None are.4;
+  },
+  read-have messages are.2 are.5,
+  are.6,
+)
 
 -- They have nothing else.
-pub read-same : (messages : List (List ℕ)) (cs ds : List ComponentParts) → AreRead messages ds → HaveComponents messages cs → cs ≡ ds
+pub read-same : (messages : List (List ℕ)) (cs ds : List ComponentParts) → AreRead messages ds →
+    HaveComponents messages cs → cs ≡ ds
 read-same [] cs ds are have = have ∙ sym are
 read-same (bytes ∷ messages) cs ds are have =
-    let first = spelled_read bytes have.2.message are.0 have.0 are.1 None None are.3 are.4 have.2.spelled have.2.read in
-    have.4 ∙ (ap (λ (xs : List ComponentParts). xs ++ have.1) first
+    let has = have.2 in
+    let first = spelled_read bytes has.message are.0 have.0 are.1 None None are.3 are.4 has.spelled has.read in
+    have.4
+    ∙ (ap (λ (xs : List ComponentParts). xs ++ have.1) first
     ∙ (ap (λ (xs : List ComponentParts). are.1 ++ xs) (read-same messages have.1 are.2 are.5 have.3) ∙ sym are.6))
 
 -- ---- sent in parts
 
 pub parts-legal : IsLegal sent_in_parts
 unfolding computing
-parts-legal = (refl, (refl, refl, (refl, refl, (refl, refl, (refl, refl, (refl, refl, (refl, refl, (refl, refl, (refl, refl, (refl, refl, (refl, refl, (refl, refl, tt))))))))))))
+parts-legal = (
+  refl,
+  (
+    refl,
+    refl,
+    (
+      refl,
+      refl,
+      (
+        refl,
+        refl,
+        (
+          refl,
+          refl,
+          (
+            refl,
+            refl,
+            (
+              refl,
+              refl,
+              (
+                refl,
+                refl,
+                (
+                  refl,
+                  refl,
+                  (
+                    refl,
+                    refl,
+                    (refl, refl, (refl, refl, tt)),
+                  ),
+                ),
+              ),
+            ),
+          ),
+        ),
+      ),
+    ),
+  ),
+)
 
 pub parts-stand : StandsIn continue_pair before_the_continue sent_in_parts.pairs
 parts-stand = record { later = take 2 sent_in_parts.pairs; is_past = refl }
@@ -65,5 +119,30 @@ parts-read = (
 pub parts-have : HaveComponents (begin_sent ∷ continue_sent ∷ abort_sent ∷ []) all_parts
 parts-have = read-have (begin_sent ∷ continue_sent ∷ abort_sent ∷ []) all_parts parts-read
 
+-- ---- begun by the peer
+
+pub answer-legal : IsLegal begun_by_the_peer
+unfolding computing
+answer-legal = (refl, (refl, refl, (refl, refl, tt)))
+
+pub answer-submitted : components_submitted 1 unknown_linked_identifier.history.pairs ≡ reject_of_invoke ∷ []
+unfolding computing
+answer-submitted = refl
+
+answer-read : AreRead (answer_sent ∷ []) (reject_of_invoke ∷ [])
+unfolding computing
+answer-read = (answer_message, reject_of_invoke ∷ [], [], refl, refl, refl, refl)
+
+pub answer-has : HaveComponents (answer_sent ∷ []) (reject_of_invoke ∷ [])
+answer-has = read-have (answer_sent ∷ []) (reject_of_invoke ∷ []) answer-read
+
 -- What the tests state.
-pub ruleset sending_works = (parts-legal, parts-stand, parts-submitted, parts-have)
+pub ruleset sending_works = (
+  answer-legal,
+  answer-submitted,
+  answer-has,
+  parts-legal,
+  parts-stand,
+  parts-submitted,
+  parts-have,
+)

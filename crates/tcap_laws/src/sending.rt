@@ -13,5 +13,6 @@ pub fn sent_once_in_order()
 
 /// The components that messages have are those and no others (Q.773, Component portion).
 pub fn components_are_one()
-    ensures { (messages : List (List ℕ)) (components others : List ComponentParts) → HaveComponents messages components → HaveComponents messages others → components ≡ others }
+    ensures { (messages : List (List ℕ)) (components others : List ComponentParts) →
+        HaveComponents messages components → HaveComponents messages others → components ≡ others }
 {}

@@ -5,12 +5,13 @@ use Rattle.tcap_pdu.specs.FrameSpelling.{Message, Reason}
 use Rattle.tcap_component.specs.Component.{ComponentParts}
 use Rattle.tcap_invocation.specs.declared.class.Class.TheVariants.{One}
 use Rattle.tcap_model.specs.Words.Answer.{Answer}
-use Rattle.tcap_examples.specs.Values.DialogueValues.{of_result, code}
+use Rattle.tcap_examples.specs.Values.DialogueValues.{code, general, of_invoke, of_result}
 use Rattle.tcap_examples.specs.Values.Hex.{hex}
 use Rattle.tcap_model.specs.Histories.History.{History}
 use Rattle.tcap_model.specs.Words.Output.{Output, Closing}
 use Rattle.tcap_model.specs.Histories.Pair.{Pair, Past}
 use Rattle.tcap_model.specs.Words.Request.{AbortReason}
+use Rattle.tcap_examples.specs.Histories.Receptions.{unknown_linked_identifier}
 use Rattle.tcap_examples.specs.Values.HistoryWords.{dialogue_born, invoke_pair, request_pair, received_pair, begin_request, continue_request, continued, usual_start, opened_with_invoke}
 use Rattle.tcap_examples.specs.Wrong.WrongHistories.{Wrong, wrong}
 use Rattle.tcap_examples.specs.Values.Asked as asks
@@ -42,7 +43,8 @@ continue_sent = hex 32 0x651E_480400000001_490400000005_6C10_A406_020102_820100_
 
 -- The message (own).
 abbrev pub continue_message : Message
-continue_message = Message.go_on (hex 4 0x00000001) (hex 4 0x00000005) None (hex 16 0xA406_020102_820100_A106_020101_02010A)
+continue_message =
+    Message.go_on (hex 4 0x00000001) (hex 4 0x00000005) None (hex 16 0xA406_020102_820100_A106_020101_02010A)
 
 -- The request that sends it (own).
 abbrev pub continue_pair : Pair
@@ -69,7 +71,8 @@ sent_in_parts = record {
       ∷ request_pair 1 (asks.u_cancel (pos 1)) (Answer.given_up 1)
       ∷ request_pair 1 begin_request (Answer.outputs (Output.send begin_sent ∷ []))
       ∷ request_pair 1 (asks.u_cancel (pos 2)) (Answer.given_up 2)
-      ∷ received_pair (hex 21 0x6513_480400000005_490400000001_6C05_A203020102) (continued 1 ∷ told.local_reject (Some 1) (Some (pos 2)) (of_result 0) ∷ [])
+      ∷ received_pair (hex 21 0x6513_480400000005_490400000001_6C05_A203020102) (
+      continued 1 ∷ told.local_reject (Some 1) (Some (pos 2)) (of_result 0) ∷ [])
       ∷ invoke_pair 1 (pos 1) One (pos 10) 1000 (Answer.number 3)
       ∷ continue_pair
       ∷ invoke_pair 1 (pos 2) One (pos 10) 1000 (Answer.number 4)
@@ -85,6 +88,32 @@ before_the_continue = drop 3 sent_in_parts.pairs
 -- What was submitted till then, and not given up unsent (own).
 abbrev pub all_parts : List ComponentParts
 all_parts = invoke_of 2 ∷ reject_of_second ∷ invoke_of 1 ∷ []
+
+-- ---- begun by the peer
+
+-- The Reject of an Invoke with identifier 1 whose linked identifier names no invocation (own).
+abbrev pub reject_of_invoke : ComponentParts
+reject_of_invoke = ComponentParts.reject_back (Some (pos 1)) (of_invoke 5)
+
+-- The Continue with the Reject (own).
+abbrev pub answer_sent : List ℕ
+answer_sent = hex 24 0x6516_480400000001_490400000001_6C08_A406_020101_810105
+
+-- The message (own).
+abbrev pub answer_message : Message
+answer_message = Message.go_on (hex 4 0x00000001) (hex 4 0x00000001) None (hex 8 0xA406_020101_810105)
+
+-- The request that sends it (own).
+abbrev pub answer_pair : Pair
+answer_pair = request_pair 1 continue_request (Answer.outputs (Output.send answer_sent ∷ []))
+
+-- The peer's Begin has an Invoke that is rejected, and the first answer has the Reject (own).
+abbrev pub begun_by_the_peer : History
+begun_by_the_peer = record { start = usual_start; pairs = answer_pair ∷ unknown_linked_identifier.history.pairs }
+
+-- A Reject without identifier (own).
+abbrev pub reject_of_none : ComponentParts
+reject_of_none = ComponentParts.reject_back None (general 0)
 
 -- ---- sent wrongly
 
@@ -119,12 +148,20 @@ swapped_message = Message.begin (hex 4 0x00000001) None (hex 16 0xA106_020102_02
 
 -- Two Invokes are sent in the wrong order (own).
 abbrev pub sent_swapped : Wrong
-sent_swapped = wrong usual_start (dialogue_born 1 ∷ invoke_pair 1 (pos 1) One (pos 10) 1000 (Answer.number 1) ∷ invoke_pair 1 (pos 2) One (pos 10) 1000 (Answer.number 2) ∷ [])
+sent_swapped = wrong usual_start (
+    dialogue_born 1
+    ∷ invoke_pair 1 (pos 1) One (pos 10) 1000 (Answer.number 1)
+    ∷ invoke_pair 1 (pos 2) One (pos 10) 1000 (Answer.number 2)
+    ∷ [])
     (request_pair 1 begin_request (Answer.outputs (Output.send swapped_sent ∷ [])))
 
 -- An Invoke that was given up is sent all the same (own).
 abbrev pub sent_though_given_up : Wrong
-sent_though_given_up = wrong usual_start (dialogue_born 1 ∷ invoke_pair 1 (pos 1) One (pos 10) 1000 (Answer.number 1) ∷ request_pair 1 (asks.u_cancel (pos 1)) (Answer.given_up 1) ∷ [])
+sent_though_given_up = wrong usual_start (
+    dialogue_born 1
+    ∷ invoke_pair 1 (pos 1) One (pos 10) 1000 (Answer.number 1)
+    ∷ request_pair 1 (asks.u_cancel (pos 1)) (Answer.given_up 1)
+    ∷ [])
     (request_pair 1 begin_request (Answer.outputs (Output.send first_sent ∷ [])))
 
 -- The Begin without components (own).

@@ -7,8 +7,9 @@ ghost use Rattle.tcap_model.specs.Statements.ComponentLaws.{SentFrom};
 ghost use Rattle.tcap_model.specs.Replies.Legal.{IsLegal};
 ghost use Rattle.tcap_model.specs.Statements.Places.{StandsIn};
 ghost use Rattle.tcap_model.specs.Statements.SentInOrder.{octets_sent, components_submitted, HaveComponents, SentInOrder};
-ghost use Rattle.tcap_model.specs.Statements.Submitted.{is_sending};
-ghost use Rattle.tcap_examples.specs.Statements.SendingExamples.{sent_in_parts, begin_sent, continue_sent, continue_pair, abort_sent, before_the_continue, all_parts, sent_twice, sent_swapped, sent_though_given_up, not_sent};
+ghost use Rattle.tcap_model.specs.Statements.Submitted.{is_sending, fitting};
+ghost use Rattle.tcap_examples.specs.Histories.Receptions.{unknown_linked_identifier};
+ghost use Rattle.tcap_examples.specs.Statements.SendingExamples.{sent_in_parts, begin_sent, continue_sent, continue_pair, abort_sent, before_the_continue, all_parts, reject_of_second, reject_of_none, reject_of_invoke, answer_sent, answer_pair, begun_by_the_peer, sent_twice, sent_swapped, sent_though_given_up, not_sent};
 ghost use Rattle.tcap_examples.specs.Wrong.WrongHistories.{GoesWrong, whole};
 
 use tcap_laws::sending::sent_once_in_order;
@@ -26,6 +27,23 @@ pub fn a_dialogue_sends_in_parts()
 {
     sent_once_in_order();
 }
+
+/// A Reject of a component of the peer's Begin is sent in the first answer.
+pub fn a_dialogue_that_the_peer_begins()
+    ensures legal { IsLegal begun_by_the_peer }
+    ensures sends { is_sending 1 answer_pair ≡ true }
+    ensures octets { octets_sent 1 begun_by_the_peer.pairs ≡ answer_sent ∷ [] }
+    ensures submitted { components_submitted 1 unknown_linked_identifier.history.pairs ≡ reject_of_invoke ∷ [] }
+    ensures components { HaveComponents (answer_sent ∷ []) (reject_of_invoke ∷ []) }
+    ensures in_order { SentInOrder begun_by_the_peer.pairs }
+{
+    sent_once_in_order();
+}
+
+/// Beside 59,993 octets a Reject of eight doesn't fit, and a later one of seven does.
+pub fn rejects_that_fit()
+    ensures { fitting 59993 (reject_of_second ∷ reject_of_none ∷ []) ≡ reject_of_none ∷ [] }
+{}
 
 /// Where an Invoke is sent twice, the last answer isn't the reply, and the law refuses it, though what is
 /// sent comes from its dialogue.

@@ -1,7 +1,7 @@
 -- Each component that is submitted is sent once, and in order.
 use Rattle.std.proofs.Common.{◌≡◌, ℕ, ◌==◌, ◌&&◌, true, false, Bool, List, [], ◌∷◌, ◌++◌, map, option_to_list, Option, Some, None, if◌then◌else◌, refl, sym, ap, subst, ◌∙◌, append-nil, append_assoc}
-use Rattle.std.proofs.lemmas.List.{map-append}
 use Rattle.std.proofs.lemmas.Bool.{and_parts, eqb-true, eq-eqb, true≢false}
+use Rattle.std.proofs.lemmas.List.{map-append}
 use Rattle.tcap_pdu.specs.FrameSpelling.{Message}
 use Rattle.tcap_component.specs.Component.{ComponentParts}
 use Rattle.tcap_model.specs.Words.Answer.{Answer, is_accepted}
@@ -18,14 +18,14 @@ use Rattle.tcap_model.specs.Histories.Pair.{Pair, Past}
 use Rattle.tcap_model.specs.Statements.Places.{Tells}
 use Rattle.tcap_model.specs.Replies.Reply.{reply, accepted_answer, request_answer}
 use Rattle.tcap_model.specs.Words.Request.{Request, ComponentRequest, DialogueRequest}
-use Rattle.tcap_model.specs.Statements.SentInOrder.{octets_in, octets_on, octets_sent, HasComponents, HaveComponents, EachIsSentInOrder}
-use Rattle.tcap_model.specs.Words.State.{State}
-use Rattle.tcap_model.specs.Statements.Submitted.{Submitted, sends_components, is_sending, given_up_on, without, asked_for, submitted_by, octet_count, unsent, submitted}
+use Rattle.tcap_model.specs.Statements.SentInOrder.{octets_in, octets_on, octets_sent, HasComponents, HaveComponents, SendsNone, EachIsSentInOrder}
+use Rattle.tcap_model.specs.Statements.Submitted.{Submitted, sends_components, is_sending, given_up_on, without_given_up, asked_for, submitted_by, octet_count, unsent, submitted_at, submitted}
 use Rattle.tcap_model.specs.Words.Time.{moment_fault}
 use Rattle.tcap_laws.proofs.Receptions.SentMessages.{Nothing, tells-sends, birth-sends, moment-sends, sent_for_bytes, sent_for_request}
 use Rattle.tcap_laws.proofs.Submission.SentOctets.{IsBare, others-bare, none-bare, none-have, have-append, accepted-sends}
 use Rattle.tcap_laws.proofs.Submission.SubmittedParts.{components}
-use Rattle.tcap_laws.proofs.Submission.SubmittedQueues.{Waits, queue-unsent}
+use Rattle.tcap_laws.proofs.Submission.SubmittedQueues.{queue-unsent}
+use Rattle.tcap_laws.proofs.Submission.SubmittedRequests.{Waits}
 use Rattle.tcap_laws.proofs.Receptions.ToldFromOctets.{legal-before}
 
 -- ---- what is submitted is sent, or it isn't sent yet
@@ -48,11 +48,14 @@ no-component (Request.dialogue (DialogueRequest.go_on context info)) e = refl
 no-component (Request.dialogue (DialogueRequest.finish ending context info)) e = refl
 no-component (Request.dialogue (DialogueRequest.u_abort why info)) e = refl
 
-none-of : (request : Request) (answer : Answer) → sends_components request ≡ true → asked_for request answer ≡ []
-none-of request answer e = ap (λ (c : Option ComponentParts). map (λ component. record { component = component; number = number_of answer }) (option_to_list c)) (no-component request e)
+none-asked : (request : Request) (answer : Answer) → sends_components request ≡ true → asked_for request answer ≡ []
+none-asked request answer e =
+    ap (λ (c : Option ComponentParts).
+    map (λ part. record { component = part; number = number_of answer }) (option_to_list c)) (no-component request e)
 
 -- a request that sends components submits none
-sending-submits : (d waiting : ℕ) (event : Event) (answer : Answer) (past : Past) → is_sending d (record { event = event; answer = answer }) ≡ true → submitted_by d waiting past event answer ≡ []
+sending-submits : (d waiting : ℕ) (event : Event) (answer : Answer) (past : Past) →
+    is_sending d (record { event = event; answer = answer }) ≡ true → submitted_by d waiting past event answer ≡ []
 sending-submits d waiting Event.new_dialogue answer past e = refl
 sending-submits d waiting (Event.received bytes) answer past e = absurd (true≢false (sym e))
 sending-submits d waiting (Event.moment now) answer past e = refl
@@ -62,24 +65,27 @@ sending-submits d waiting (Event.on_dialogue named request) answer past e =
     by ((named == d) && is_accepted answer) sends
   where
     by : (b : Bool) → sends_components request ≡ true → (if b then asked_for request answer else []) ≡ []
-    by true sends = none-of request answer sends
+    by true sends = none-asked request answer sends
     by false sends = refl
 
--- what a pair submits
-abbrev made_by : ℕ → Pair → Past → List Submitted
-made_by d pair past = submitted_by d (octet_count (unsent d [] past)) past pair.event pair.answer
+-- by whether a pair sends, and what it gives up and submits
+split-at : (sends : Bool) (d : ℕ) (given now : List ℕ) (made : List Submitted) (past : Past) →
+    (sends ≡ true → made ≡ []) → submitted d (now ++ given) past ≡ gone d past ++ unsent d (now ++ given) past →
+    submitted d (if sends then [] else now ++ given) past ++ without_given_up given made
+    ≡ (if sends then submitted d [] past else gone d past)
+    ++ (if sends then [] else unsent d (now ++ given) past ++ without_given_up given made)
+split-at true d given now made past none same =
+    ap (λ (ms : List Submitted). submitted d [] past ++ without_given_up given ms) (none refl)
+split-at false d given now made past none same =
+    ap (λ (ss : List Submitted). ss ++ without_given_up given made) same
+    ∙ append_assoc (gone d past) (unsent d (now ++ given) past) (without_given_up given made)
 
 split : (d : ℕ) (given : List ℕ) (past : Past) → submitted d given past ≡ gone d past ++ unsent d given past
 split d given [] = refl
-split d given (pair ∷ past) = by (is_sending d pair) refl (split d (given_up_on d pair.event pair.answer ++ given) past)
-  where
-    by : (b : Bool) → is_sending d pair ≡ b → submitted d (given_up_on d pair.event pair.answer ++ given) past ≡ gone d past ++ unsent d (given_up_on d pair.event pair.answer ++ given) past →
-        submitted d (if b then [] else given_up_on d pair.event pair.answer ++ given) past ++ without given (made_by d pair past)
-        ≡ (if b then submitted d [] past else gone d past) ++ (if b then [] else unsent d (given_up_on d pair.event pair.answer ++ given) past ++ without given (made_by d pair past))
-    by true e same = ap (λ (ms : List Submitted). submitted d [] past ++ without given ms) (sending-submits d (octet_count (unsent d [] past)) pair.event pair.answer past e)
-    by false e same =
-        ap (λ (ss : List Submitted). ss ++ without given (made_by d pair past)) same
-        ∙ append_assoc (gone d past) (unsent d (given_up_on d pair.event pair.answer ++ given) past) (without given (made_by d pair past))
+split d given (pair ∷ past) =
+    let now : List ℕ = given_up_on d pair.event pair.answer in
+    split-at (is_sending d pair) d given now (submitted_at d pair past) past
+    (sending-submits d (octet_count (unsent d [] past)) pair.event pair.answer past) (split d (now ++ given) past)
 
 -- ---- one pair
 
@@ -100,99 +106,135 @@ refused-octets (Answer.outputs outputs) e = absurd (true≢false e)
 refused-octets (Answer.refused fault) e = refl
 
 module _ (h : History) (d : ℕ) (waits : Waits d h.pairs) where
-  abbrev waiting : List ComponentParts
-  waiting = components (unsent d [] h.pairs)
+  -- what is sent has all that waits, or nothing
+  abbrev Sends : List (List ℕ) → Bool → Type 0
+  Sends messages all = HaveComponents messages (if all then components (unsent d [] h.pairs) else [])
 
-  abbrev accepted : State → Option (List ℕ) → Request → Answer
-  accepted state context request = accepted_answer h (standing_of d h.pairs state context) request
+  accepted-or-not : (request : Request) (answer : Answer) → Sends (octets_in answer) (sends_components request) →
+      (accepted : Bool) → is_accepted answer ≡ accepted →
+      Sends (octets_in answer) (sends_components request && is_accepted answer)
+  accepted-or-not request answer sends true e =
+      let same = ap (λ (b : Bool). sends_components request && b) e ∙ and-true (sends_components request) in
+      subst (Sends (octets_in answer)) (sym same) sends
+  accepted-or-not request answer sends false e =
+      let none = ap (λ (b : Bool). sends_components request && b) e ∙ and-false (sends_components request) in
+      subst (Sends (octets_in answer)) (sym none) (none-have (octets_in answer) (refused-octets answer e))
+
+  refused-sends : (request : Request) → Sends [] (sends_components request && false)
+  refused-sends request = subst (Sends []) (sym (and-false (sends_components request))) refl
 
   -- a request on the dialogue
-  request-sends : (request : Request) (before : Life) (fault : Option Fault) → life d h.pairs ≡ before → due_by h d request before ≡ fault →
-      HaveComponents (octets_in (request_answer h d request before fault)) (if sends_components request && is_accepted (request_answer h d request before fault) then waiting else [])
-  request-sends request before (Some f) lives due = subst (λ (b : Bool). HaveComponents [] (if b then waiting else [])) (sym (and-false (sends_components request))) refl
-  request-sends request Life.unborn None lives due = subst (λ (b : Bool). HaveComponents [] (if b then waiting else [])) (sym (and-false (sends_components request))) refl
-  request-sends request Life.over None lives due = subst (λ (b : Bool). HaveComponents [] (if b then waiting else [])) (sym (and-false (sends_components request))) refl
-  request-sends request (Life.standing state context) None lives due = by (is_accepted (accepted state context request)) refl
-    where
-      by : (b : Bool) → is_accepted (accepted state context request) ≡ b → HaveComponents (octets_in (accepted state context request)) (if sends_components request && is_accepted (accepted state context request) then waiting else [])
-      by true e =
-          subst (λ (b : Bool). HaveComponents (octets_in (accepted state context request)) (if b then waiting else []))
-          (sym (ap (λ (b : Bool). sends_components request && b) e ∙ and-true (sends_components request))) (accepted-sends h d state context lives waits request due)
-      by false e =
-          subst (λ (b : Bool). HaveComponents (octets_in (accepted state context request)) (if b then waiting else []))
-          (sym (ap (λ (b : Bool). sends_components request && b) e ∙ and-false (sends_components request))) (none-have (octets_in (accepted state context request)) (refused-octets (accepted state context request) e))
+  request-sends : (request : Request) (before : Life) (fault : Option Fault) →
+      life d h.pairs ≡ before → due_by h d request before ≡ fault →
+      Sends (octets_in (request_answer h d request before fault))
+      (sends_components request && is_accepted (request_answer h d request before fault))
+  request-sends request before (Some f) lives due = refused-sends request
+  request-sends request Life.unborn None lives due = refused-sends request
+  request-sends request Life.over None lives due = refused-sends request
+  request-sends request (Life.standing state context) None lives due =
+      let answer : Answer = accepted_answer h (standing_of d h.pairs state context) request in
+      accepted-or-not request answer (accepted-sends h d state context lives waits request due)
+      (is_accepted answer) refl
 
-  event-sends : (event : Event) → HaveComponents (octets_on d event (reply h event)) (if is_sending d (record { event = event; answer = reply h event }) then waiting else [])
+  abbrev answered : Event → Pair
+  answered event = record { event = event; answer = reply h event }
+
+  event-sends : (event : Event) → Sends (octets_on d event (reply h event)) (is_sending d (answered event))
   event-sends Event.new_dialogue = refl
   event-sends (Event.received bytes) = refl
   event-sends (Event.moment now) = refl
   event-sends (Event.on_dialogue named request) = by (named == d) refl
     where
-      by : (b : Bool) → (named == d) ≡ b → HaveComponents (if b then octets_in (reply h (Event.on_dialogue named request)) else []) (if (b && sends_components request) && is_accepted (reply h (Event.on_dialogue named request)) then waiting else [])
+      by : (b : Bool) → (named == d) ≡ b →
+          Sends (if b then octets_in (reply h (Event.on_dialogue named request)) else [])
+          ((b && sends_components request) && is_accepted (reply h (Event.on_dialogue named request)))
       by false e = refl
       by true e =
-          subst (λ (n : ℕ). HaveComponents (octets_in (reply h (Event.on_dialogue n request))) (if sends_components request && is_accepted (reply h (Event.on_dialogue n request)) then waiting else [])) (sym (eqb-true named d e))
+          subst (λ (n : ℕ). Sends (octets_in (reply h (Event.on_dialogue n request)))
+          (sends_components request && is_accepted (reply h (Event.on_dialogue n request)))) (sym (eqb-true named d e))
           (request-sends request (life d h.pairs) (due h d request) refl refl)
 
--- ---- the statement
+-- ---- all pairs
 
--- what a pair sends comes behind what was sent before
-sent-more : (start : Start) (d : ℕ) (pair : Pair) (past : Past) → AreReplies start (pair ∷ past) → HaveComponents (octets_sent d past) (components (gone d past)) → (b : Bool) → is_sending d pair ≡ b →
-    HaveComponents (octets_sent d past ++ octets_on d pair.event pair.answer) (components (if b then submitted d [] past else gone d past))
-sent-more start d pair past legal before = by
-  where
-    now : HaveComponents (octets_on d pair.event pair.answer) (if is_sending d pair then components (unsent d [] past) else [])
-    now =
-        subst (λ (a : Answer). HaveComponents (octets_on d pair.event a) (if is_sending d (record { event = pair.event; answer = a }) then components (unsent d [] past) else [])) (sym legal.1)
-        (event-sends (record { start = start; pairs = past }) d (queue-unsent start d past legal.2) pair.event)
+module _ (start : Start) (d : ℕ) where
+  -- what a pair sends comes behind what was sent before
+  sent-more : (pair : Pair) (past : Past) → AreReplies start (pair ∷ past) →
+      HaveComponents (octets_sent d past) (components (gone d past)) → (sends : Bool) → is_sending d pair ≡ sends →
+      HaveComponents (octets_sent d (pair ∷ past)) (components (if sends then submitted d [] past else gone d past))
+  sent-more pair past legal before = by
+    where
+      now : HaveComponents (octets_on d pair.event pair.answer)
+          (if is_sending d pair then components (unsent d [] past) else [])
+      now =
+          subst (λ (a : Answer). HaveComponents (octets_on d pair.event a)
+          (if is_sending d (record { event = pair.event; answer = a }) then components (unsent d [] past) else []))
+          (sym legal.1)
+          (event-sends (record { start = start; pairs = past }) d (queue-unsent start d past legal.2) pair.event)
 
-    all : components (gone d past) ++ components (unsent d [] past) ≡ components (submitted d [] past)
-    all = sym (map-append (λ (s : Submitted). s.component) (gone d past) (unsent d [] past)) ∙ sym (ap components (split d [] past))
+      both : (cs : List ComponentParts) → HaveComponents (octets_on d pair.event pair.answer) cs →
+          HaveComponents (octets_sent d (pair ∷ past)) (components (gone d past) ++ cs)
+      both cs has =
+          have-append (octets_sent d past) (octets_on d pair.event pair.answer) (components (gone d past)) cs before has
 
-    by : (b : Bool) → is_sending d pair ≡ b → HaveComponents (octets_sent d past ++ octets_on d pair.event pair.answer) (components (if b then submitted d [] past else gone d past))
-    by true e =
-        subst (HaveComponents (octets_sent d past ++ octets_on d pair.event pair.answer)) all
-        (have-append (octets_sent d past) (octets_on d pair.event pair.answer) (components (gone d past)) (components (unsent d [] past)) before
-        (subst (λ (b : Bool). HaveComponents (octets_on d pair.event pair.answer) (if b then components (unsent d [] past) else [])) e now))
-    by false e =
-        subst (HaveComponents (octets_sent d past ++ octets_on d pair.event pair.answer)) (append-nil (components (gone d past)))
-        (have-append (octets_sent d past) (octets_on d pair.event pair.answer) (components (gone d past)) [] before
-        (subst (λ (b : Bool). HaveComponents (octets_on d pair.event pair.answer) (if b then components (unsent d [] past) else [])) e now))
+      by : (sends : Bool) → is_sending d pair ≡ sends →
+          HaveComponents (octets_sent d (pair ∷ past)) (components (if sends then submitted d [] past else gone d past))
+      by true e =
+          let all : components (gone d past) ++ components (unsent d [] past) ≡ components (submitted d [] past) =
+          sym (map-append (λ (s : Submitted). s.component) (gone d past) (unsent d [] past))
+          ∙ sym (ap components (split d [] past)) in
+          subst (HaveComponents (octets_sent d (pair ∷ past))) all
+          (both (components (unsent d [] past)) (subst (λ (b : Bool).
+          HaveComponents (octets_on d pair.event pair.answer) (if b then components (unsent d [] past) else [])) e now))
+      by false e =
+          subst (HaveComponents (octets_sent d (pair ∷ past))) (append-nil (components (gone d past)))
+          (both [] (subst (λ (b : Bool).
+          HaveComponents (octets_on d pair.event pair.answer) (if b then components (unsent d [] past) else [])) e now))
 
-sent-gone : (start : Start) (d : ℕ) (past : Past) → AreReplies start past → HaveComponents (octets_sent d past) (components (gone d past))
-sent-gone start d [] legal = refl
-sent-gone start d (pair ∷ past) legal = sent-more start d pair past legal (sent-gone start d past legal.2) (is_sending d pair) refl
+  sent-gone : (past : Past) → AreReplies start past → HaveComponents (octets_sent d past) (components (gone d past))
+  sent-gone [] legal = refl
+  sent-gone (pair ∷ past) legal = sent-more pair past legal (sent-gone past legal.2) (is_sending d pair) refl
 
-in-order : (start : Start) (d : ℕ) (pair : Pair) (before : Past) → AreReplies start (pair ∷ before) → is_sending d pair ≡ true → HaveComponents (octets_sent d (pair ∷ before)) (components (submitted d [] before))
-in-order start d pair before legal sends =
-    subst (λ (b : Bool). HaveComponents (octets_sent d (pair ∷ before)) (components (if b then submitted d [] before else gone d before))) sends (sent-gone start d (pair ∷ before) legal)
+  in-order : (pair : Pair) (before : Past) → AreReplies start (pair ∷ before) → is_sending d pair ≡ true →
+      HaveComponents (octets_sent d (pair ∷ before)) (components (submitted d [] before))
+  in-order pair before legal sends =
+      sent-more pair before legal (sent-gone before legal.2) true sends
 
 -- ---- no other Send has components
 
-accepted-telling : (answer : Answer) (output : Output) → Tells answer output → is_accepted answer ≡ true
-accepted-telling answer output tells = ap is_accepted tells.is_answer
-
 module _ (h : History) (bytes : List ℕ) where
-  no-others : (event : Event) → Tells (reply h event) (Output.send bytes) → ((d : ℕ) → is_sending d (record { event = event; answer = reply h event }) ≡ false) → HasComponents bytes []
-  no-others Event.new_dialogue tells none = absurd (tells-sends Nothing (reply h Event.new_dialogue) bytes (birth-sends h (birth_due h)) tells)
-  no-others (Event.moment now) tells none = absurd (tells-sends Nothing (reply h (Event.moment now)) bytes (moment-sends h.pairs now (moment_fault now)) tells)
-  no-others (Event.received octets) tells none =
+  no-others : (event : Event) → SendsNone (record { event = event; answer = reply h event }) →
+      Tells (reply h event) (Output.send bytes) → HasComponents bytes []
+  no-others Event.new_dialogue none tells =
+      absurd (tells-sends Nothing (reply h Event.new_dialogue) bytes (birth-sends h (birth_due h)) tells)
+  no-others (Event.moment now) none tells =
+      let sends = moment-sends h.pairs now (moment_fault now) in
+      absurd (tells-sends Nothing (reply h (Event.moment now)) bytes sends tells)
+  no-others (Event.received octets) none tells =
       let sent = sent_for_bytes h octets bytes tells in
       none-bare bytes (Message.abort sent.peer sent.reason) sent.is_message.spelled refl
-  no-others (Event.on_dialogue named request) tells none =
+  no-others (Event.on_dialogue named request) none tells =
       let answer : Answer = reply h (Event.on_dialogue named request) in
-      let accepted : is_accepted answer ≡ true = accepted-telling answer (Output.send bytes) tells in
-      let others : sends_components request ≡ false =
-      sym (and-true (sends_components request)) ∙ (ap (λ (b : Bool). sends_components request && b) (sym accepted)
-      ∙ (sym (ap (λ (b : Bool). (b && sends_components request) && is_accepted answer) (eq-eqb named named refl)) ∙ none named)) in
+      let sends : Bool = sends_components request in
+      let accepted : is_accepted answer ≡ true = ap is_accepted tells.is_answer in
+      let here : (sends && is_accepted answer) ≡ false =
+      sym (ap (λ (b : Bool). (b && sends) && is_accepted answer) (eq-eqb named named refl)) ∙ none named in
+      let other : sends ≡ false = sym (and-true sends) ∙ (ap (λ (b : Bool). sends && b) (sym accepted) ∙ here) in
       let sent = sent_for_request h named request bytes tells in
-      none-bare bytes sent.message sent.is_message.spelled (subst IsBare sent.is_asked (others-bare (standing_of named h.pairs sent.state sent.context) request others))
+      let bare = others-bare (standing_of named h.pairs sent.state sent.context) request other in
+      none-bare bytes sent.message sent.is_message.spelled (subst IsBare sent.is_asked bare)
+
+-- ---- the statement
 
 pub sent-once : EachIsSentInOrder
 sent-once h legal = record {
-  in_order = λ d pair before stands sends. in-order h.start d pair before (legal-before h.start stands.later (pair ∷ before) (subst (AreReplies h.start) stands.is_past legal.1)) sends;
-  no_others = λ pair before bytes stands tells none.
-      let here = legal-before h.start stands.later (pair ∷ before) (subst (AreReplies h.start) stands.is_past legal.1) in
-      no-others (record { start = h.start; pairs = before }) bytes pair.event (subst (λ (a : Answer). Tells a (Output.send bytes)) here.1 tells)
-      (λ d. sym (ap (λ (a : Answer). is_sending d (record { event = pair.event; answer = a })) here.1) ∙ none d);
+  in_order = λ d pair before stands sends.
+      let here = legal-before h.start stands.later (pair ∷ before)
+      (subst (AreReplies h.start) stands.is_past legal.1) in
+      in-order h.start d pair before here sends;
+  no_others = λ pair before bytes stands none tells.
+      let here = legal-before h.start stands.later (pair ∷ before)
+      (subst (AreReplies h.start) stands.is_past legal.1) in
+      no-others (record { start = h.start; pairs = before }) bytes pair.event
+      (λ d. sym (ap (λ (a : Answer). is_sending d (record { event = pair.event; answer = a })) here.1) ∙ none d)
+      (subst (λ (a : Answer). Tells a (Output.send bytes)) here.1 tells);
 }

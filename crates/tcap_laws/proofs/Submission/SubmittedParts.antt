@@ -8,7 +8,7 @@ use Rattle.tcap_component.specs.ComponentList.{SpellsComponents}
 use Rattle.tcap_component.specs.Written.{written_component, CanWriteComponent}
 use Rattle.tcap_component.proofs.CallerLemmas.{component_spelled}
 use Rattle.tcap_model.specs.Procedures.QueueRules.{Invoking, Queued, queue_limit, queued, joined, fits, queue_each, without_invoke}
-use Rattle.tcap_model.specs.Statements.Submitted.{Submitted, is_given_up, without, fitting, octet_count}
+use Rattle.tcap_model.specs.Statements.Submitted.{Submitted, is_given_up, without_given_up, fitting, submitted_reject, octet_count}
 
 -- ---- what waits was submitted
 
@@ -30,7 +30,8 @@ AreWritten [] (q ∷ qs) = ⊥
 AreWritten (s ∷ ss) [] = ⊥
 AreWritten (s ∷ ss) (q ∷ qs) = IsWritten s q × AreWritten ss qs
 
-pub written-append : (ss ts : List Submitted) (qs rs : List Queued) → AreWritten ss qs → AreWritten ts rs → AreWritten (ss ++ ts) (qs ++ rs)
+pub written-append : (ss ts : List Submitted) (qs rs : List Queued) → AreWritten ss qs → AreWritten ts rs →
+    AreWritten (ss ++ ts) (qs ++ rs)
 written-append [] ts [] rs are others = others
 written-append [] ts (q ∷ qs) rs are others = absurd are
 written-append (s ∷ ss) ts [] rs are others = absurd are
@@ -45,19 +46,23 @@ left given waits = filter (λ (q : Queued). not (is_given_up given (number_waiti
 pub left-append : (given : List ℕ) (qs rs : List Queued) → left given (qs ++ rs) ≡ left given qs ++ left given rs
 left-append given qs rs = filter-append (λ (q : Queued). not (is_given_up given (number_waiting q.invoking))) qs rs
 
-kept-alike : (s : Submitted) (q : Queued) (ss : List Submitted) (qs : List Queued) (a b : Bool) → b ≡ a → IsWritten s q → AreWritten ss qs → AreWritten (cond a (s ∷ ss) ss) (cond b (q ∷ qs) qs)
+kept-alike : (s : Submitted) (q : Queued) (ss : List Submitted) (qs : List Queued) (a b : Bool) → b ≡ a →
+    IsWritten s q → AreWritten ss qs → AreWritten (cond a (s ∷ ss) ss) (cond b (q ∷ qs) qs)
 kept-alike s q ss qs true true same is are = (is, are)
 kept-alike s q ss qs true false same is are = absurd (true≢false (sym same))
 kept-alike s q ss qs false true same is are = absurd (true≢false same)
 kept-alike s q ss qs false false same is are = are
 
-pub written-without : (given : List ℕ) (ss : List Submitted) (qs : List Queued) → AreWritten ss qs → AreWritten (without given ss) (left given qs)
+pub written-without : (given : List ℕ) (ss : List Submitted) (qs : List Queued) → AreWritten ss qs →
+    AreWritten (without_given_up given ss) (left given qs)
 written-without given [] [] are = tt
 written-without given [] (q ∷ qs) are = absurd are
 written-without given (s ∷ ss) [] are = absurd are
 written-without given (s ∷ ss) (q ∷ qs) are =
     let first : IsWritten s q = are.0 in
-    kept-alike s q (without given ss) (left given qs) (not (is_given_up given s.number)) (not (is_given_up given (number_waiting q.invoking)))
+    let mine : Bool = not (is_given_up given s.number) in
+    let its : Bool = not (is_given_up given (number_waiting q.invoking)) in
+    kept-alike s q (without_given_up given ss) (left given qs) mine its
     (ap (λ (n : Option ℕ). not (is_given_up given n)) first.is_number) first (written-without given ss qs are.1)
 
 none-given : (n : Option ℕ) → is_given_up [] n ≡ false
@@ -66,20 +71,26 @@ none-given (Some n) = refl
 
 pub left-all : (qs : List Queued) → left [] qs ≡ qs
 left-all [] = refl
-left-all (q ∷ qs) = ap (λ (b : Bool). cond (not b) (q ∷ left [] qs) (left [] qs)) (none-given (number_waiting q.invoking)) ∙ ap (λ (l : List Queued). q ∷ l) (left-all qs)
+left-all (q ∷ qs) =
+    ap (λ (b : Bool). cond (not b) (q ∷ left [] qs) (left [] qs)) (none-given (number_waiting q.invoking))
+    ∙ ap (λ (l : List Queued). q ∷ l) (left-all qs)
 
 module _ (n : ℕ) (given : List ℕ) where
+  invoke-cancelled : (octets : List ℕ) (invoking : Option Invoking) (qs : List Queued) →
+      left (n ∷ given) qs ≡ left given (without_invoke n qs) →
+      left (n ∷ given) (record { octets = octets; invoking = invoking } ∷ qs)
+      ≡ left given (without_invoke n (record { octets = octets; invoking = invoking } ∷ qs))
+  invoke-cancelled octets None qs same = ap (λ (l : List Queued). record { octets = octets; invoking = None } ∷ l) same
+  invoke-cancelled octets (Some v) qs same =
+      let q : Queued = record { octets = octets; invoking = Some v } in
+      elim (cases_Bool (v.number == n)) [
+        | inl asks ↦ rw asks same
+        | inr other ↦ rw other (ap (λ l. cond (not (list_any (λ m. v.number == m) given)) (q ∷ l) l) same)
+      ]
+
   pub left-cancelled : (qs : List Queued) → left (n ∷ given) qs ≡ left given (without_invoke n qs)
   left-cancelled [] = refl
-  left-cancelled (q ∷ qs) = by q.octets q.invoking (left-cancelled qs)
-    where
-      by : (octets : List ℕ) (invoking : Option Invoking) → left (n ∷ given) qs ≡ left given (without_invoke n qs) →
-          left (n ∷ given) (record { octets = octets; invoking = invoking } ∷ qs) ≡ left given (without_invoke n (record { octets = octets; invoking = invoking } ∷ qs))
-      by octets None same = ap (λ (l : List Queued). record { octets = octets; invoking = None } ∷ l) same
-      by octets (Some v) same = elim (cases_Bool (v.number == n)) [
-        | inl asks ↦ rw asks same
-        | inr other ↦ rw other (ap (λ (l : List Queued). cond (not (list_any (λ m. v.number == m) given)) (record { octets = octets; invoking = Some v } ∷ l) l) same)
-      ]
+  left-cancelled (q ∷ qs) = invoke-cancelled q.octets q.invoking qs (left-cancelled qs)
 
 -- ---- octets
 
@@ -97,13 +108,17 @@ octets-counted (s ∷ ss) (q ∷ qs) are =
 abbrev pub components : List Submitted → List ComponentParts
 components ss = map (λ (s : Submitted). s.component) ss
 
-pub joined-spelled : (ss : List Submitted) (qs : List Queued) → AreWritten ss qs → SpellsComponents (components ss) (joined qs)
+pub joined-spelled : (ss : List Submitted) (qs : List Queued) → AreWritten ss qs →
+    SpellsComponents (components ss) (joined qs)
 joined-spelled [] [] are = refl
 joined-spelled [] (q ∷ qs) are = absurd are
 joined-spelled (s ∷ ss) [] are = absurd are
 joined-spelled (s ∷ ss) (q ∷ qs) are =
     let first : IsWritten s q = are.0 in
-    (q.octets, joined qs, subst (λ (w : List ℕ). SpellsComponent s.component w) (sym first.is_octets) (component_spelled s.component first.in_range first.can), refl, joined-spelled ss qs are.1)
+    let spelled : SpellsComponent s.component q.octets =
+    subst (SpellsComponent s.component) (sym first.is_octets)
+    (component_spelled s.component first.in_range first.can) in
+    (q.octets, joined qs, spelled, refl, joined-spelled ss qs are.1)
 
 -- ---- Rejects that fit
 
@@ -119,34 +134,42 @@ abbrev pub written_all : List ComponentParts → List Queued
 written_all cs = map (queued None) cs
 
 -- a component more, if it fits
-if-fits : (b : Bool) (qs : List Queued) (c : ComponentParts) (cs : List ComponentParts) → ((ps : List Queued) → queue_each queue_limit ps (written_all cs) ≡ ps ++ written_all (fitting (length (joined ps)) cs)) →
+if-fits : (b : Bool) (qs : List Queued) (c : ComponentParts) (cs : List ComponentParts) →
+    ((ps : List Queued) →
+    queue_each queue_limit ps (written_all cs) ≡ ps ++ written_all (fitting (length (joined ps)) cs)) →
     queue_each queue_limit (cond b (qs ++ queued None c ∷ []) qs) (written_all cs)
-    ≡ qs ++ written_all (cond b (c ∷ fitting (length (joined qs) + length (written_component c)) cs) (fitting (length (joined qs)) cs))
+    ≡ qs ++ written_all (cond b (c ∷ fitting (length (joined qs) + length (written_component c)) cs)
+    (fitting (length (joined qs)) cs))
 if-fits true qs c cs others =
-    others (qs ++ queued None c ∷ [])
-    ∙ (append_assoc qs (queued None c ∷ []) (written_all (fitting (length (joined (qs ++ queued None c ∷ []))) cs))
+    let more : List Queued = qs ++ queued None c ∷ [] in
+    others more
+    ∙ (append_assoc qs (queued None c ∷ []) (written_all (fitting (length (joined more)) cs))
     ∙ ap (λ (n : ℕ). qs ++ queued None c ∷ written_all (fitting n cs)) (length-more qs (queued None c)))
 if-fits false qs c cs others = others qs
 
-pub each-fitting : (cs : List ComponentParts) (qs : List Queued) → queue_each queue_limit qs (written_all cs) ≡ qs ++ written_all (fitting (length (joined qs)) cs)
+pub each-fitting : (cs : List ComponentParts) (qs : List Queued) →
+    queue_each queue_limit qs (written_all cs) ≡ qs ++ written_all (fitting (length (joined qs)) cs)
 each-fitting [] qs = sym (append-nil qs)
 each-fitting (c ∷ cs) qs = if-fits (fits queue_limit qs (queued None c)) qs c cs (each-fitting cs)
 
--- a Reject that is submitted
-abbrev pub rejected : ComponentParts → Submitted
-rejected c = record { component = c; number = None }
-
--- it can be written and read back
+-- a component that can be written and read back
 abbrev pub IsGood : ComponentParts → Type 0
 IsGood c = InRange c × CanWriteComponent c
 
-pub fitting-good : (waiting : ℕ) (cs : List ComponentParts) → AllByRecursion IsGood cs → AllByRecursion IsGood (fitting waiting cs)
+pub fitting-good : (waiting : ℕ) (cs : List ComponentParts) → AllByRecursion IsGood cs →
+    AllByRecursion IsGood (fitting waiting cs)
 fitting-good waiting [] good = tt
-fitting-good waiting (c ∷ cs) good = elim (cases_Bool (nat_le (waiting + length (written_component c)) queue_limit)) [
-  | inl yes' ↦ rw yes' (good.0, fitting-good (waiting + length (written_component c)) cs good.1)
-  | inr no' ↦ rw no' (fitting-good waiting cs good.1)
-]
+fitting-good waiting (c ∷ cs) good =
+    let more : ℕ = waiting + length (written_component c) in
+    elim (cases_Bool (nat_le more queue_limit)) [
+      | inl yes' ↦ rw yes' (good.0, fitting-good more cs good.1)
+      | inr no' ↦ rw no' (fitting-good waiting cs good.1)
+    ]
 
-pub rejects-written : (cs : List ComponentParts) → AllByRecursion IsGood cs → AreWritten (map rejected cs) (written_all cs)
+pub rejects-written : (cs : List ComponentParts) → AllByRecursion IsGood cs →
+    AreWritten (map submitted_reject cs) (written_all cs)
 rejects-written [] good = tt
-rejects-written (c ∷ cs) good = (record { is_octets = refl; is_number = refl; in_range = good.0.0; can = good.0.1 }, rejects-written cs good.1)
+rejects-written (c ∷ cs) good = (
+  record { is_octets = refl; is_number = refl; in_range = good.0.0; can = good.0.1 },
+  rejects-written cs good.1,
+)

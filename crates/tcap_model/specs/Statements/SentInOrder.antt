@@ -55,20 +55,29 @@ pub record HasComponents (bytes : List ℕ) (components : List ComponentParts) :
 abbrev pub HaveComponents : List (List ℕ) → List ComponentParts → Type 0
 HaveComponents [] components = components ≡ []
 HaveComponents (bytes ∷ messages) components =
-    (first : List ComponentParts) × (others : List ComponentParts) × HasComponents bytes first × HaveComponents messages others × (components ≡ first ++ others)
+    (first : List ComponentParts) × (others : List ComponentParts)
+    × HasComponents bytes first × HaveComponents messages others × (components ≡ first ++ others)
 
 -- ---- the statement
 
--- All that was submitted for a dialogue till now, without the Invokes that were given up before a request
--- sent them (own).
+-- The components of all that was submitted for a dialogue till now, without the Invokes that were given up
+-- before a request sent them (own).
 abbrev pub components_submitted : ℕ → Past → List ComponentParts
 components_submitted dialogue past = map (λ (s : Submitted). s.component) (submitted dialogue [] past)
 
--- Up to each accepted request that sends components, what a dialogue has sent are exactly the components
--- that were submitted for it before, each once and in order. Nothing else that is sent has components (own).
+-- No request on any dialogue that sends components (own).
+abbrev pub SendsNone : Pair → Type 0
+SendsNone pair = (dialogue : ℕ) → is_sending dialogue pair ≡ false
+
+-- Up to each accepted request that sends components, what a dialogue has sent has exactly the components
+-- that were submitted for it before, each once and in order. Nothing else that is sent has components
+-- (own).
 pub record SentInOrder (past : Past) : Type 0 where
-  pub in_order : (dialogue : ℕ) (pair : Pair) (before : Past) → StandsIn pair before past → is_sending dialogue pair ≡ true → HaveComponents (octets_sent dialogue (pair ∷ before)) (components_submitted dialogue before)
-  pub no_others : (pair : Pair) (before : Past) (bytes : List ℕ) → StandsIn pair before past → Tells pair.answer (Output.send bytes) → ((dialogue : ℕ) → is_sending dialogue pair ≡ false) → HasComponents bytes []
+  pub in_order : (dialogue : ℕ) (pair : Pair) (before : Past) →
+      StandsIn pair before past → is_sending dialogue pair ≡ true →
+      HaveComponents (octets_sent dialogue (pair ∷ before)) (components_submitted dialogue before)
+  pub no_others : (pair : Pair) (before : Past) (bytes : List ℕ) →
+      StandsIn pair before past → SendsNone pair → Tells pair.answer (Output.send bytes) → HasComponents bytes []
 
 -- Each component is sent once and in order, at every legal history (own).
 abbrev pub EachIsSentInOrder : Type 0

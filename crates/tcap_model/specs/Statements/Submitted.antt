@@ -73,15 +73,16 @@ is_given_up given None = false
 is_given_up given (Some number) = list_any (λ other. number == other) given
 
 -- What was submitted, without the Invokes of the invocations with these numbers (own).
-abbrev pub without : List ℕ → List Submitted → List Submitted
-without given submitted = filter (λ (s : Submitted). not (is_given_up given s.number)) submitted
+abbrev pub without_given_up : List ℕ → List Submitted → List Submitted
+without_given_up given submitted = filter (λ (s : Submitted). not (is_given_up given s.number)) submitted
 
 -- ---- Rejects that are formed
 
 -- The Rejects that the components of a message have, in the order of these
 -- (Q.774, Component related abnormal conditions).
 abbrev pub rejects_formed : ℕ → Past → Result Message FrameFault → List ComponentParts
-rejects_formed dialogue past (Ok m) = flat_map (λ (h : Handled). option_to_list h.reject) (handled_in dialogue past (portion_of m))
+rejects_formed dialogue past (Ok m) =
+    flat_map (λ (h : Handled). option_to_list h.reject) (handled_in dialogue past (portion_of m))
 rejects_formed dialogue past (Err f) = []
 
 -- Those that fit beside so many octets that wait, each in turn: one that doesn't fit doesn't stop a later
@@ -89,7 +90,9 @@ rejects_formed dialogue past (Err f) = []
 abbrev pub fitting : ℕ → List ComponentParts → List ComponentParts
 fitting waiting [] = []
 fitting waiting (c ∷ cs) =
-    if nat_le (waiting + length (written_component c)) queue_limit then c ∷ fitting (waiting + length (written_component c)) cs else fitting waiting cs
+    if nat_le (waiting + length (written_component c)) queue_limit
+    then c ∷ fitting (waiting + length (written_component c)) cs
+    else fitting waiting cs
 
 -- The TC-BEGIN indication of the dialogue, and a TC-CONTINUE indication of it: the message wasn't abnormal
 -- (Q.771, Dialogue begin; Q.771, Dialogue continuation).
@@ -116,19 +119,28 @@ is_taken dialogue (Answer.refused fault) = false
 
 -- ---- what is submitted
 
+-- A Reject as it is submitted: it makes no invocation (own).
+abbrev pub submitted_reject : ComponentParts → Submitted
+submitted_reject reject = record { component = reject; number = None }
+
 -- The component that an accepted request asks for, if it is a component request
 -- (Q.774, Component handling).
 abbrev pub asked_for : Request → Answer → List Submitted
-asked_for request answer = map (λ component. record { component = component; number = number_of answer }) (option_to_list (component_of request))
+asked_for request answer =
+    map (λ component. record { component = component; number = number_of answer })
+    (option_to_list (component_of request))
 
--- What an event with this answer submits for the dialogue, beside so many octets that wait: the component of
--- an accepted request; of its Begin and of a normal Continue the Rejects that fit. An End and a
+-- What an event with this answer submits for the dialogue, beside so many octets that wait: the component
+-- of an accepted request; of its Begin and of a normal Continue the Rejects that fit. An End and a
 -- Unidirectional submit none (Q.774, Component handling; Q.774, Component related abnormal conditions).
 abbrev pub submitted_by : ℕ → ℕ → Past → Event → Answer → List Submitted
 submitted_by dialogue waiting past Event.new_dialogue answer = []
-submitted_by dialogue waiting past (Event.on_dialogue named request) answer = if (named == dialogue) && is_accepted answer then asked_for request answer else []
+submitted_by dialogue waiting past (Event.on_dialogue named request) answer =
+    if (named == dialogue) && is_accepted answer then asked_for request answer else []
 submitted_by dialogue waiting past (Event.received bytes) answer =
-    if is_taken dialogue answer then map (λ reject. record { component = reject; number = None }) (fitting waiting (rejects_formed dialogue past (frame_at bytes))) else []
+    if is_taken dialogue answer
+    then map submitted_reject (fitting waiting (rejects_formed dialogue past (frame_at bytes)))
+    else []
 submitted_by dialogue waiting past (Event.moment now) answer = []
 
 -- How many octets these components have (own).
@@ -137,21 +149,30 @@ octet_count [] = 0
 octet_count (s ∷ submitted) = length (written_component s.component) + octet_count submitted
 
 -- What was submitted after the last request that sent components, oldest first: without the Invokes that
--- were given up later, those of `given` among them (own).
+-- were given up later. Those of `given` were given up after the last pair here (own).
 abbrev pub unsent : ℕ → List ℕ → Past → List Submitted
 unsent dialogue given [] = []
 unsent dialogue given (pair ∷ past) =
     if is_sending dialogue pair then []
-    else unsent dialogue (given_up_on dialogue pair.event pair.answer ++ given) past ++ without given (submitted_by dialogue (octet_count (unsent dialogue [] past)) past pair.event pair.answer)
+    else unsent dialogue (given_up_on dialogue pair.event pair.answer ++ given) past
+    ++ without_given_up given
+    (submitted_by dialogue (octet_count (unsent dialogue [] past)) past pair.event pair.answer)
 
--- The numbers that were given up since a place, from a pair on: an Invoke that a request has sent can't be
--- taken back (own).
+-- What a pair submits beside what then is unsent (own).
+abbrev pub submitted_at : ℕ → Pair → Past → List Submitted
+submitted_at dialogue pair past =
+    submitted_by dialogue (octet_count (unsent dialogue [] past)) past pair.event pair.answer
+
+-- The invocations that are given up from a pair on, and before the next request that sends components:
+-- an Invoke that such a request has sent can't be taken back (own).
 abbrev pub given_since : ℕ → Pair → List ℕ → List ℕ
-given_since dialogue pair given = if is_sending dialogue pair then [] else given_up_on dialogue pair.event pair.answer ++ given
+given_since dialogue pair given =
+    if is_sending dialogue pair then [] else given_up_on dialogue pair.event pair.answer ++ given
 
 -- All that was submitted for a dialogue, oldest first: without the Invokes that were given up before a
--- request sent them, those of `given` among them (own).
+-- request sent them. Those of `given` were given up so after the last pair here (own).
 abbrev pub submitted : ℕ → List ℕ → Past → List Submitted
 submitted dialogue given [] = []
 submitted dialogue given (pair ∷ past) =
-    submitted dialogue (given_since dialogue pair given) past ++ without given (submitted_by dialogue (octet_count (unsent dialogue [] past)) past pair.event pair.answer)
+    submitted dialogue (given_since dialogue pair given) past
+    ++ without_given_up given (submitted_at dialogue pair past)
