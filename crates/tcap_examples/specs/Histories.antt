@@ -6,6 +6,7 @@ pub mod Readings
 pub mod Receptions
 pub mod Refusals
 pub mod Requests
+pub mod StepWords
 pub mod SteppedHistories
 pub mod Steps
 pub mod Worked

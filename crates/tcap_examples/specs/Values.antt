@@ -2,5 +2,4 @@ pub mod Asked
 pub mod DialogueValues
 pub mod Hex
 pub mod HistoryWords
-pub mod StepWords
 pub mod Told

@@ -7,7 +7,7 @@ use Rattle.tcap_examples.specs.Values.Hex.{hex}
 use Rattle.tcap_model.specs.Words.Output.{Output, Closing, AbortCause}
 use Rattle.tcap_model.specs.Words.State.{State}
 use Rattle.tcap_examples.specs.Histories.Steps.{Walk}
-use Rattle.tcap_examples.specs.Values.StepWords.{engine_of_one, engine_after, dialogue_1, invoke_queued, queued_reject, class_one_row, walk, new_dialogue_1, request_step, receive_step, moment_step, invoke_request}
+use Rattle.tcap_examples.specs.Histories.StepWords.{engine_of_one, engine_after, dialogue_1, invoke_queued, queued_reject, class_one_row, walk, new_dialogue_1, request_step, receive_step, moment_step, invoke_request}
 use Rattle.tcap_examples.specs.Values.Asked as asks
 use Rattle.tcap_examples.specs.Values.Told as told
 
