@@ -1,4 +1,4 @@
-ghost use Rattle.std.specs.Prelude.{◌≡◌, ◌++◌, [], ◌∷◌, ℤ, Some, IfSome, OnOk, OnErr};
+ghost use Rattle.std.specs.Prelude.{◌≡◌, ◌+◌, ◌<◌, ◌++◌, [], ◌∷◌, ℤ, Some, IfSome, OnOk, OnErr, length, vec_len, vec_capacity};
 ghost use Rattle.std.specs.Int.{w32, cast_signed};
 ghost use Rattle.ber_core.specs.Tag.{IsTag};
 ghost use Rattle.ber_core.specs.Integer.{IsInteger, is_padded, sign_octet, word_of, integer_at, integer_octets};
@@ -75,6 +75,7 @@ fn append_int<A: Allocator + Copy>(
     requires { IsTag (tag ∷ []) }
     ensures ok { OnOk result (out.new.items ≡ out.old.items ++ written (tag ∷ []) (integer_octets value)) }
     ensures err { OnErr result (out.new.items ≡ out.old.items) }
+    ensures full { OnErr result (vec_capacity out.old < vec_len out.old + length (written (tag ∷ []) (integer_octets value))) }
 {
     let word = value.cast_unsigned();
     let a = (word / 0x100_0000) as u8;
@@ -103,6 +104,7 @@ pub fn write_int<A: Allocator + Copy>(
     requires { IsTag (tag ∷ []) }
     ensures ok { OnOk result (out.new.items ≡ out.old.items ++ written (tag ∷ []) (integer_octets value)) }
     ensures err { OnErr result (out.new.items ≡ out.old.items) }
+    ensures full { OnErr result (vec_capacity out.old < vec_len out.old + length (written (tag ∷ []) (integer_octets value))) }
     // What is written is the number.
     ensures spelled { IsInteger value (integer_octets value) }
 {

@@ -1,4 +1,4 @@
-ghost use Rattle.std.specs.Prelude.{◌≡◌, ◌+◌, ◌≤◌, ◌++◌, [], ◌∷◌, OnOk, OnErr, IsOk, length, vec_len, vec_capacity};
+ghost use Rattle.std.specs.Prelude.{◌≡◌, ◌+◌, ◌<◌, ◌≤◌, ◌++◌, [], ◌∷◌, OnOk, OnErr, IsOk, length, vec_len, vec_capacity};
 ghost use Rattle.ber_core.specs.Length.{length_limit};
 ghost use Rattle.ber_core.specs.Tag.{IsTag};
 ghost use Rattle.ber_core.specs.Written.{length_octets, written_head, written};
@@ -18,6 +18,7 @@ fn append_all<A: Allocator + Copy>(
     requires third { length third.now ≤ 65540 }
     ensures ok { OnOk result (out.new.items ≡ out.old.items ++ (first.now ++ second.now ++ third.now)) }
     ensures err { OnErr result (out.new.items ≡ out.old.items) }
+    ensures full { OnErr result (vec_capacity out.old < vec_len out.old + length (first.now ++ second.now ++ third.now)) }
 {
     out.reserve(first.len() + second.len() + third.len())?;
     out.extend_from_slice(first)?;
@@ -38,6 +39,7 @@ fn append_element<A: Allocator + Copy>(
     requires content { length content.now ≤ length_limit }
     ensures ok { OnOk result (out.new.items ≡ out.old.items ++ (written_head tag.now len ++ content.now)) }
     ensures err { OnErr result (out.new.items ≡ out.old.items) }
+    ensures full { OnErr result (vec_capacity out.old < vec_len out.old + length (written_head tag.now len ++ content.now)) }
 {
     let high = (len / 256) as u8;
     let low = (len % 256) as u8;
@@ -89,6 +91,7 @@ fn append_head<A: Allocator + Copy>(
     requires { len ≤ length_limit }
     ensures ok { OnOk result (out.new.items ≡ out.old.items ++ written_head (tag ∷ []) len) }
     ensures err { OnErr result (out.new.items ≡ out.old.items) }
+    ensures full { OnErr result (vec_capacity out.old < vec_len out.old + length (written_head (tag ∷ []) len)) }
 {
     let high = (len / 256) as u8;
     let low = (len % 256) as u8;
@@ -121,6 +124,7 @@ fn append_content<A: Allocator + Copy>(
     requires { length content.now ≤ length_limit }
     ensures ok { OnOk result (out.new.items ≡ out.old.items ++ written (tag ∷ []) content.now) }
     ensures err { OnErr result (out.new.items ≡ out.old.items) }
+    ensures full { OnErr result (vec_capacity out.old < vec_len out.old + length (written (tag ∷ []) content.now)) }
 {
     let high = (content.len() / 256) as u8;
     let low = (content.len() % 256) as u8;
@@ -155,6 +159,7 @@ pub fn write_head<A: Allocator + Copy>(
     requires len { len ≤ length_limit }
     ensures ok { OnOk result (out.new.items ≡ out.old.items ++ written_head tag.now len) }
     ensures err { OnErr result (out.new.items ≡ out.old.items) }
+    ensures full { OnErr result (vec_capacity out.old < vec_len out.old + length (written_head tag.now len)) }
 {
     match tag {
         [only] => append_head(out, *only, len),
@@ -174,6 +179,7 @@ pub fn write_element<A: Allocator + Copy>(
     requires content { length content.now ≤ length_limit }
     ensures ok { OnOk result (out.new.items ≡ out.old.items ++ written tag.now content.now) }
     ensures err { OnErr result (out.new.items ≡ out.old.items) }
+    ensures full { OnErr result (vec_capacity out.old < vec_len out.old + length (written tag.now content.now)) }
 {
     match tag {
         [only] => append_content(out, *only, content),
