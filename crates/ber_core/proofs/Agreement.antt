@@ -33,7 +33,7 @@ one_element depth e f x y p q is =
 abbrev both : Parts → List ℕ → Parts × List ℕ
 both e rest = (e, rest)
 
-element_fails : (depth : ℕ) (bytes : List ℕ) (f : BerFault) → element_at depth bytes ≡ Err f → ElementFault depth bytes f
+pub element_fails : (depth : ℕ) (bytes : List ℕ) (f : BerFault) → element_at depth bytes ≡ Err f → ElementFault depth bytes f
 unfolding element_at
 element_fails depth bytes f e =
     elim (bind_err (head_at bytes) (λ h. after_at depth bytes >>= (λ rest. done (both (parts_of bytes h rest) rest))) f e) [

@@ -1,7 +1,8 @@
 -- What is read is an element, and an element is read, whatever follows it.
 use Rattle.std.proofs.Common.{◌≡◌, ℕ, zero, suc, ◌+◌, ◌-◌, ◌<◌, ◌≤◌, true, cond, ltb, eqb, List, [], ◌∷◌, ◌++◌, length, take, drop, Option, Some, None, Ok, Err, Result, refl, sym, ap, subst, ◌∙◌, ◌⊎◌, inl, inr, arith, append_assoc}
 use Rattle.std.proofs.lemmas.Bool.{ltb-false, eqb-true, ne_eqb}
-use Rattle.std.proofs.lemmas.List.{take-append-drop, take_at, drop_at, length-append, length-take}
+use Rattle.std.proofs.lemmas.List.{take-append-drop, take_at, drop_at, length-append, length-take, take_rest}
+use Rattle.std.proofs.Math.Seq.{drop-append_seam}
 use Rattle.std.specs.List.{AllByRecursion}
 use Rattle.ber_core.specs.declared.fault.BerFault.{BerFault}
 use Rattle.ber_core.specs.declared.fault.BerFault.TheVariants.{Short, BadTag, TooDeep}
@@ -275,11 +276,17 @@ pub element_at-body_failed : (depth : ℕ) (bytes : List ℕ) (h : HeadRead) (f 
 unfolding element_at
 element_at-body_failed depth bytes h f e b = rw (e, after_at-body depth bytes h e, b) refl
 
-pub element_at-read : (depth : ℕ) (bytes : List ℕ) (h : HeadRead) (rest content whole : List ℕ) → head_at bytes ≡ Ok h → body_at depth h.2 h.3 ≡ Ok rest → content ≡ content_of h.2 h.3 rest → whole ≡ take (length bytes - length rest) bytes → element_at depth bytes ≡ Ok (record { tag = h.0; content = content; whole = whole }, rest)
+rest_of : (bytes whole rest : List ℕ) → bytes ≡ whole ++ rest → drop (length bytes - length rest) bytes ≡ rest
+rest_of bytes whole rest e =
+    let n : length (whole ++ rest) - length rest ≡ length whole = omega (arith, length-append whole rest) in
+    rw e (rw n (drop-append_seam whole rest))
+
+-- what follows an element ends the bytes
+pub after_at-rest : (depth : ℕ) (bytes rest : List ℕ) → after_at depth bytes ≡ Ok rest → drop (length bytes - length rest) bytes ≡ rest
+after_at-rest depth bytes rest e = let t = after_takes depth bytes rest e in rest_of bytes t.0.whole rest t.2
+
+pub element_at-read : (depth : ℕ) (bytes : List ℕ) (h : HeadRead) (rest content whole after : List ℕ) → head_at bytes ≡ Ok h → body_at depth h.2 h.3 ≡ Ok rest → content ≡ content_of h.2 h.3 rest → whole ≡ take (length bytes - length rest) bytes → after ≡ take (length bytes - (length bytes - length rest)) (drop (length bytes - length rest) bytes) → element_at depth bytes ≡ Ok (record { tag = h.0; content = content; whole = whole }, after)
 unfolding element_at
-element_at-read depth bytes h rest content whole e b p q = rw (e, after_at-body depth bytes h e, b, p, q) refl
-
--- ---- read_element's clauses
-
-abbrev pub Answers : List ℕ → Result (Parts × List ℕ) BerFault → Type 0
-Answers bytes r = element_at 32 bytes ≡ r
+element_at-read depth bytes h rest content whole after e b p q r =
+    let same : after ≡ rest = r ∙ take_rest bytes (length bytes - length rest) ∙ after_at-rest depth bytes rest (after_at-body depth bytes h e ∙ b) in
+    rw (e, after_at-body depth bytes h e, b, p, q, same) refl

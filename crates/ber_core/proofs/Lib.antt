@@ -11,11 +11,13 @@ pub mod HeadGrammar
 pub mod IntegerGrammar
 pub mod IntegerOctets
 pub mod IntegerSteps
+pub mod ItemGrammar
 pub mod ItemSteps
 pub mod ObjectIdentifierGrammar
 pub mod Octets
 pub mod PlainElement
 pub mod OptionSteps
+pub mod PlaceSteps
 pub mod ResultSteps
 pub mod SequenceGrammar
 pub mod Steps

@@ -9,6 +9,7 @@ pub mod Length
 pub mod ListReading
 pub mod ObjectIdentifier
 pub mod Options
+pub mod Place
 pub mod Results
 pub mod Sequence
 pub mod SequenceReading

@@ -1,14 +1,9 @@
-ghost use Rattle.std.specs.Prelude.{◌≡◌, ℕ, ◌++◌, List, IsOkAnd, IfOk, IfErr, Ok};
-ghost use Rattle.ber_core.specs.Results.{Gives};
+ghost use Rattle.std.specs.Prelude.{◌≡◌};
 ghost use Rattle.ber_core.specs.Tag.{is_constructor};
-ghost use Rattle.ber_core.specs.Element.{IsElement, Parts, depth_limit};
-ghost use Rattle.ber_core.specs.Fault.{ElementFault};
-ghost use Rattle.ber_core.specs.ElementReading.{element_at};
-ghost use Rattle.ber_core.specs.Views.{parts};
 
-use crate::fault::BerFault;
-use crate::head::read_head;
-use crate::scan::{MAX_DEPTH, split_body};
+mod read;
+
+pub use read::read_element;
 
 /// An element and its parts (X.690, Structure of an encoding).
 #[derive(Clone, Copy, Debug, PartialEq, Eq)]
@@ -21,49 +16,5 @@ pub struct Element<'a> {
     pub content: &'a [u8],
     /// All octets of the element, with the end of the indefinite form.
     pub whole: &'a [u8],
-}
-
-/// The first element, in which `depth` indefinite elements may stand one in another, and what follows
-/// it.
-#[inline(always)]
-fn split_within<'a>(bytes: &'a [u8], depth: u8) -> Result<(Element<'a>, &'a [u8]), BerFault>
-    ensures value { Gives (λ r. (parts r.0, r.1.now)) result (element_at depth bytes.now) }
-    ensures constructed { IfOk result (λ r. r.0.constructed ≡ is_constructor r.0.tag.now) }
-{
-    let head = read_head(bytes)?;
-    let (content, rest) = split_body(head.length, head.rest, depth)?;
-    let (whole, _) = bytes.split_at(bytes.len() - rest.len());
-    let element = Element {
-        tag: head.tag,
-        constructed: head.constructed,
-        content,
-        whole,
-    };
-    Ok((element, rest))
-}
-
-/// The first element and what follows it, in exact form.
-#[inline(always)]
-fn split_element<'a>(bytes: &'a [u8]) -> Result<(Element<'a>, &'a [u8]), BerFault>
-    ensures value { Gives (λ r. (parts r.0, r.1.now)) result (element_at depth_limit bytes.now) }
-    ensures constructed { IfOk result (λ r. r.0.constructed ≡ is_constructor r.0.tag.now) }
-{
-    split_within(bytes, MAX_DEPTH)
-}
-
-/// Reads the first element, and gives what follows it.
-#[inline(always)]
-pub fn read_element<'a>(bytes: &'a [u8]) -> Result<(Element<'a>, &'a [u8]), BerFault>
-    // What is read is an element, and what follows it.
-    ensures found { IfOk result (λ r. IsElement depth_limit (parts r.0) × (bytes.now ≡ r.0.whole.now ++ r.1.now)) }
-    ensures constructed { IfOk result (λ r. r.0.constructed ≡ is_constructor r.0.tag.now) }
-    // Each element is read.
-    ensures only { (e : Parts) (rest : List ℕ) → IsElement depth_limit e → bytes.now ≡ e.whole ++ rest →
-        IsOkAnd result (λ r. (parts r.0 ≡ e) × (r.1.now ≡ rest)) }
-    // Which fault, the first from the left.
-    ensures fault { IfErr result (λ f. ElementFault depth_limit bytes.now f) }
-    // The same, computed: what the layers above cite.
-    ensures exact { Gives (λ r. (parts r.0, r.1.now)) result (element_at depth_limit bytes.now) }
-{
-    split_element(bytes)
+    ghost constructs: { constructed ≡ is_constructor tag.now },
 }

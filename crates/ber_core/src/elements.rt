@@ -1,9 +1,11 @@
-ghost use Rattle.std.specs.Prelude.{◌≡◌, ◌≢◌, ◌↔◌, ◌==◌, ◌<◌, bit_and, false, IsTrue, IfOk, IfErr, is_ok, map, option_map, Ok, Err};
+ghost use Rattle.std.specs.Prelude.{◌≡◌, ◌≢◌, ◌↔◌, ◌==◌, ◌<◌, bit_and, false, List, IsTrue, IfOk, IfErr, IfSome, is_ok, map, option_map, Ok, Err};
+ghost use Rattle.ber_core.specs.ElementList.{IsList};
+ghost use Rattle.ber_core.specs.Place.{AtEnd};
 ghost use Rattle.ber_core.specs.Element.{Parts, depth_limit};
 ghost use Rattle.ber_core.specs.ElementReading.{element_at};
 ghost use Rattle.std.specs.List.{list_all};
 ghost use Rattle.ber_core.specs.ListReading.{items_of, item_at};
-ghost use Rattle.ber_core.specs.Views.{item_view};
+ghost use Rattle.ber_core.specs.Views.{item_view, ItemInPlace};
 
 use crate::element::{Element, read_element};
 use crate::fault::BerFault;
@@ -15,12 +17,24 @@ pub struct Elements<'a> {
 }
 
 impl<'a> Elements<'a> {
+    ghost use Rattle.ber_core.specs.Fault.{ElementFault};
+    ghost use Rattle.ber_core.specs.ElementList.{IsList, BreaksOff, AreItems, items, items_and};
     ghost use Rattle.ber_core.specs.ListReading.{items_of};
-    ghost use Rattle.ber_core.specs.Views.{items_left};
+    ghost use Rattle.ber_core.specs.Views.{items_left, bytes_left};
 
     /// The elements that the bytes are.
     pub fn new(bytes: &'a [u8]) -> Elements<'a>
-        ensures { items_left result ≡ items_of bytes.now }
+        // The elements of the list, or those before the first fault, and that fault.
+        ensures found { AreItems (items_left result) bytes.now }
+        // Each list of elements is read.
+        ensures only { (elements : List Parts) → IsList elements bytes.now → items_left result ≡ items elements }
+        // Which fault, the first from the left.
+        ensures fault { (elements : List Parts) (f : BerFault) → BreaksOff elements f bytes.now →
+            items_left result ≡ items_and elements f }
+        // All of these bytes are still to be read.
+        ensures place { bytes_left result ≡ bytes.entry }
+        // The same, computed: what the layers above cite.
+        ensures exact { items_left result ≡ items_of bytes.now }
     {
         Elements { rest: bytes }
     }
@@ -28,11 +42,12 @@ impl<'a> Elements<'a> {
 
 impl<'a> Iterator for Elements<'a> {
     ghost use Rattle.std.specs.Iterator.{YieldsFirstBy, item_count};
-    ghost use Rattle.ber_core.specs.Views.{item_view, items_left};
+    ghost use Rattle.ber_core.specs.Views.{item_view, items_left, StepsInPlace};
 
     type Item = Result<Element<'a>, BerFault>;
 
-    ghost next_gives = { YieldsFirstBy item_view items_left };
+    // The first item that is left; its slices are parts of the bytes that are left.
+    ghost next_gives = { λ old item new. YieldsFirstBy item_view items_left old item new × StepsInPlace old item new };
 
     ghost remaining = { item_count items_left };
 
@@ -48,14 +63,15 @@ impl<'a> Iterator for Elements<'a> {
 #[tactic(auto, unfolding(crate::specs::ListReading::item_at))]
 #[inline(always)]
 fn split_item<'a>(bytes: &'a [u8]) -> (Option<Result<Element<'a>, BerFault>>, &'a [u8])
-    ensures { (option_map item_view result.0, result.1.now) ≡ item_at bytes.now }
+    ensures value { (option_map item_view result.0, result.1.now) ≡ item_at bytes.now }
+    ensures place { IfSome result.0 (λ item. ItemInPlace item bytes.entry) × AtEnd result.1 bytes.entry }
 {
     if bytes.is_empty() {
-        return (None, &[]);
+        return (None, bytes);
     }
     match read_element(bytes) {
         Ok((element, rest)) => (Some(Ok(element)), rest),
-        Err(fault) => (Some(Err(fault)), &[]),
+        Err(fault) => (Some(Err(fault)), &bytes[bytes.len()..]),
     }
 }
 
@@ -105,7 +121,10 @@ fn are_elements(bytes: &[u8]) -> bool
 /// Whether the bytes are a list of elements.
 #[inline(always)]
 pub fn is_element_list(bytes: &[u8]) -> bool
-    ensures { result ≡ list_all is_ok (items_of bytes.now) }
+    ensures found { IsTrue result → (elements : List Parts) × IsList elements bytes.now }
+    ensures only { (elements : List Parts) → IsList elements bytes.now → IsTrue result }
+    // The same, computed: what the layers above cite.
+    ensures exact { result ≡ list_all is_ok (items_of bytes.now) }
 {
     are_elements(bytes)
 }

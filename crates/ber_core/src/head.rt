@@ -5,6 +5,7 @@ ghost use Rattle.ber_core.specs.Head.{BeginsWithHead};
 ghost use Rattle.ber_core.specs.Fault.{HeadFault};
 ghost use Rattle.ber_core.specs.HeadReading.{further_at, tag_at, number_at, length_at, head_at};
 ghost use Rattle.ber_core.specs.Views.{head_fields};
+ghost use Rattle.ber_core.specs.Place.{AtFront, AtEnd};
 
 use crate::fault::BerFault;
 
@@ -51,15 +52,16 @@ fn split_tag(bytes: &[u8]) -> Result<(&[u8], &[u8]), BerFault>
     ensures value { Gives (λ x. (x.0.now, x.1.now)) result (tag_at bytes.now) }
     ensures shorter { IfOk result (λ x. length x.1.now < length bytes.now) }
     ensures filled { IfOk result (λ x. 0 < length x.0.now) }
+    ensures place { IfOk result (λ x. AtFront x.0 bytes.entry × AtEnd x.1 bytes.entry) }
 {
     match bytes {
         [] => Err(BerFault::Short),
         [0, ..] => Err(BerFault::BadTag),
-        [first, ..] if *first & 0x1f != 0x1f => Ok(bytes.split_at(1)),
+        [first, ..] if *first & 0x1f != 0x1f => Ok((&bytes[..1], &bytes[1..])),
         [_, 0x80, ..] => Err(BerFault::BadTag),
         [_, further @ ..] => {
             let count = count_further(further)?;
-            Ok(bytes.split_at(1 + count))
+            Ok((&bytes[..1 + count], &bytes[1 + count..]))
         }
     }
 }
@@ -85,6 +87,7 @@ fn number(octets: &[u8]) -> Result<usize, BerFault>
 fn split_length(constructed: bool, bytes: &[u8]) -> Result<(Option<usize>, &[u8]), BerFault>
     ensures value { Gives (λ x. (x.0, x.1.now)) result (length_at constructed bytes.now) }
     ensures shorter { IfOk result (λ x. length x.1.now < length bytes.now) }
+    ensures place { IfOk result (λ x. AtEnd x.1 bytes.entry) }
 {
     match bytes {
         [] => Err(BerFault::Short),
@@ -102,8 +105,7 @@ fn split_length(constructed: bool, bytes: &[u8]) -> Result<(Option<usize>, &[u8]
             if rest.len() < count {
                 return Err(BerFault::Short);
             }
-            let (octets, rest) = rest.split_at(count);
-            Ok((Some(number(octets)?), rest))
+            Ok((Some(number(&rest[..count])?), &rest[count..]))
         }
     }
 }
@@ -114,6 +116,7 @@ fn split_length(constructed: bool, bytes: &[u8]) -> Result<(Option<usize>, &[u8]
 fn split_head<'a>(bytes: &'a [u8]) -> Result<Head<'a>, BerFault>
     ensures value { Gives head_fields result (head_at bytes.now) }
     ensures shorter { IfOk result (λ h. length h.rest.now < length bytes.now) }
+    ensures place { IfOk result (λ h. AtFront h.tag bytes.entry × AtEnd h.rest bytes.entry) }
 {
     let (tag, rest) = split_tag(bytes)?;
     let constructed = tag[0] & 0x20 != 0;
@@ -133,6 +136,8 @@ pub fn read_head<'a>(bytes: &'a [u8]) -> Result<Head<'a>, BerFault>
     ensures found { IfOk result (λ h. BeginsWithHead h.tag.now h.length h.rest.now bytes.now) }
     ensures constructed { IfOk result (λ h. h.constructed ≡ is_constructor h.tag.now) }
     ensures shorter { IfOk result (λ h. length h.rest.now < length bytes.now) }
+    // Both are parts of the bytes: the tag begins where they begin, what follows ends where they end.
+    ensures place { IfOk result (λ h. AtFront h.tag bytes.entry × AtEnd h.rest bytes.entry) }
     // Each head is read.
     ensures only { (tag rest : List ℕ) (len : Option ℕ) → BeginsWithHead tag len rest bytes.now →
         IsOkAnd result (λ h. (h.tag.now ≡ tag) × (h.length ≡ len) × (h.rest.now ≡ rest)) }

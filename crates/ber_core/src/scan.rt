@@ -5,6 +5,7 @@ ghost use Rattle.std.specs.Prelude.{◌≡◌, ◌+◌, ◌<◌, ◌≤◌, leng
 ghost use Rattle.std.specs.Option.{option_map};
 ghost use Rattle.ber_core.specs.Results.{Gives};
 ghost use Rattle.ber_core.specs.ElementReading.{end_at, after_at, contents_at, body_at, content_of};
+ghost use Rattle.ber_core.specs.Place.{AtFront};
 
 use crate::fault::BerFault;
 use crate::head::read_head;
@@ -39,21 +40,21 @@ pub fn split_body<'a>(
     ensures value { Gives (λ x. x.1.now) result (body_at depth len body.now) }
     ensures content { IfOk result (λ x. x.0.now ≡ content_of len body.now x.1.now) }
     ensures shorter { IfOk result (λ x. length x.1.now ≤ length body.now) }
+    ensures place { IfOk result (λ x. AtFront x.0 body.entry) }
 {
     match len {
         Some(len) => {
             if body.len() < len {
                 return Err(BerFault::Short);
             }
-            Ok(body.split_at(len))
+            Ok((&body[..len], &body[len..]))
         }
         None => {
             if depth == 0 {
                 return Err(BerFault::TooDeep);
             }
             let rest = skip_contents(body, depth - 1)?;
-            let (content, _) = body.split_at(body.len() - (rest.len() + 2));
-            Ok((content, rest))
+            Ok((&body[..body.len() - (rest.len() + 2)], rest))
         }
     }
 }

@@ -1,6 +1,7 @@
-ghost use Rattle.std.specs.Prelude.{◌≡◌, option_copied, option_map};
+ghost use Rattle.std.specs.Prelude.{◌≡◌, option_copied, option_map, IfSome};
 ghost use Rattle.ber_core.specs.SequenceReading.{tagged, content_at, first_whole, only_at, alone_at};
-ghost use Rattle.ber_core.specs.Views.{parts};
+ghost use Rattle.ber_core.specs.Place.{AtFront, IsAt, AtEnd, head_length};
+ghost use Rattle.ber_core.specs.Views.{parts, InPlace};
 
 use crate::element::{Element, read_element};
 
@@ -8,7 +9,8 @@ use crate::element::{Element, read_element};
 #[tactic(auto, unfolding(crate::specs::SequenceReading::tagged))]
 #[inline(always)]
 fn read_tagged<'a>(bytes: &'a [u8], tag: u8) -> (Option<&'a [u8]>, &'a [u8])
-    ensures { (option_copied result.0, result.1.now) ≡ tagged tag bytes.now }
+    ensures value { (option_copied result.0, result.1.now) ≡ tagged tag bytes.now }
+    ensures place { IfSome result.0 (λ c. IsAt (head_length bytes.now) c bytes.entry) × AtEnd result.1 bytes.entry }
 {
     match read_element(bytes) {
         Ok((element, rest)) => match element.tag {
@@ -24,7 +26,8 @@ fn read_tagged<'a>(bytes: &'a [u8], tag: u8) -> (Option<&'a [u8]>, &'a [u8])
 #[tactic(auto, using(crate::proofs::SequenceGrammar::tagged_none, crate::proofs::SequenceGrammar::tagged_other))]
 #[inline(always)]
 pub fn take_tagged<'a>(bytes: &'a [u8], tag: u8) -> (Option<&'a [u8]>, &'a [u8])
-    ensures { (option_copied result.0, result.1.now) ≡ tagged tag bytes.now }
+    ensures value { (option_copied result.0, result.1.now) ≡ tagged tag bytes.now }
+    ensures place { IfSome result.0 (λ c. IsAt (head_length bytes.now) c bytes.entry) × AtEnd result.1 bytes.entry }
 {
     match bytes {
         [] => (None, bytes),
@@ -36,7 +39,8 @@ pub fn take_tagged<'a>(bytes: &'a [u8], tag: u8) -> (Option<&'a [u8]>, &'a [u8])
 /// The content of the first element, which has to have this tag, and what follows it.
 #[inline(always)]
 pub fn take_content<'a>(bytes: &'a [u8], tag: u8) -> Option<(&'a [u8], &'a [u8])>
-    ensures { option_map (λ r. (r.0.now, r.1.now)) result ≡ content_at tag bytes.now }
+    ensures value { option_map (λ r. (r.0.now, r.1.now)) result ≡ content_at tag bytes.now }
+    ensures place { IfSome result (λ r. IsAt (head_length bytes.now) r.0 bytes.entry × AtEnd r.1 bytes.entry) }
 {
     match take_tagged(bytes, tag) {
         (Some(content), rest) => Some((content, rest)),
@@ -48,7 +52,8 @@ pub fn take_content<'a>(bytes: &'a [u8], tag: u8) -> Option<(&'a [u8], &'a [u8])
 #[tactic(auto, unfolding(crate::specs::SequenceReading::first_whole))]
 #[inline(always)]
 pub fn take_any<'a>(bytes: &'a [u8]) -> (Option<&'a [u8]>, &'a [u8])
-    ensures { (option_copied result.0, result.1.now) ≡ first_whole bytes.now }
+    ensures value { (option_copied result.0, result.1.now) ≡ first_whole bytes.now }
+    ensures place { IfSome result.0 (λ w. AtFront w bytes.entry) × AtEnd result.1 bytes.entry }
 {
     match read_element(bytes) {
         Ok((element, rest)) => (Some(element.whole), rest),
@@ -60,7 +65,8 @@ pub fn take_any<'a>(bytes: &'a [u8]) -> (Option<&'a [u8]>, &'a [u8])
 #[tactic(auto, unfolding(crate::specs::SequenceReading::only_at))]
 #[inline(always)]
 pub fn take_only<'a>(bytes: &'a [u8], tag: u8) -> Option<&'a [u8]>
-    ensures { option_copied result ≡ only_at tag bytes.now }
+    ensures value { option_copied result ≡ only_at tag bytes.now }
+    ensures place { IfSome result (λ c. IsAt (head_length bytes.now) c bytes.entry) }
 {
     let (content, rest) = take_content(bytes, tag)?;
     if !rest.is_empty() {
@@ -73,7 +79,8 @@ pub fn take_only<'a>(bytes: &'a [u8], tag: u8) -> Option<&'a [u8]>
 #[tactic(auto, unfolding(crate::specs::SequenceReading::alone_at))]
 #[inline(always)]
 pub fn read_alone<'a>(bytes: &'a [u8]) -> Option<Element<'a>>
-    ensures { option_map parts result ≡ alone_at bytes.now }
+    ensures value { option_map parts result ≡ alone_at bytes.now }
+    ensures place { IfSome result (λ e. InPlace e bytes.entry) }
 {
     match read_element(bytes) {
         Ok((element, [])) => Some(element),
