@@ -9,7 +9,7 @@ use Rattle.std.specs.Prelude.{IfErr}
 use Rattle.ber_core.specs.Fault.{ElementFault}
 use Rattle.ber_core.specs.Fault.ElementFault.{in_head}
 use Rattle.ber_core.specs.HeadReading.{head_at}
-use Rattle.ber_core.proofs.Steps.{done, ok_is, not_ok, not_err, bind_err}
+use Rattle.ber_core.proofs.ResultSteps.{read, read_is, not_read, not_refused, bind_refused}
 use Rattle.ber_core.proofs.HeadFaults.{head_fails}
 use Rattle.ber_core.proofs.ElementFaults.{after_fails}
 use Rattle.ber_core.proofs.ElementGrammar.{element_takes, element_again}
@@ -20,14 +20,14 @@ found view depth bytes (Err f) e = tt
 
 pub only : {X : Type 0} (view : X → Parts × List ℕ) (depth : ℕ) (bytes : List ℕ) (r : Result X BerFault) → Gives view r (element_at depth bytes) → (e : Parts) (rest : List ℕ) → IsElement depth e → bytes ≡ e.whole ++ rest → IsOkAnd r (λ x. ((view x).0 ≡ e) × ((view x).1 ≡ rest))
 only view depth bytes (Ok x) g e rest h is =
-    let same : view x ≡ (e, rest) = ok_is (view x) (e, rest) (sym g ∙ (ap (element_at depth) is ∙ element_again depth e rest h)) in
+    let same : view x ≡ (e, rest) = read_is (view x) (e, rest) (sym g ∙ (ap (element_at depth) is ∙ element_again depth e rest h)) in
     (ap (λ (p : Parts × List ℕ). p.0) same, ap (λ (p : Parts × List ℕ). p.1) same)
-only view depth bytes (Err f) g e rest h is = absurd (not_ok f (e, rest) (sym g ∙ (ap (element_at depth) is ∙ element_again depth e rest h)))
+only view depth bytes (Err f) g e rest h is = absurd (not_read f (e, rest) (sym g ∙ (ap (element_at depth) is ∙ element_again depth e rest h)))
 
 -- bytes spell one element: no element's whole begins another's
 pub one_element : (depth : ℕ) (e f : Parts) (x y : List ℕ) → IsElement depth e → IsElement depth f → e.whole ++ x ≡ f.whole ++ y → (e ≡ f) × (x ≡ y)
 one_element depth e f x y p q is =
-    let same : (e, x) ≡ (f, y) = ok_is (e, x) (f, y) (sym (element_again depth e x p) ∙ (ap (element_at depth) is ∙ element_again depth f y q)) in
+    let same : (e, x) ≡ (f, y) = read_is (e, x) (f, y) (sym (element_again depth e x p) ∙ (ap (element_at depth) is ∙ element_again depth f y q)) in
     (ap (λ (p : Parts × List ℕ). p.0) same, ap (λ (p : Parts × List ℕ). p.1) same)
 
 abbrev both : Parts → List ℕ → Parts × List ℕ
@@ -36,11 +36,11 @@ both e rest = (e, rest)
 pub element_fails : (depth : ℕ) (bytes : List ℕ) (f : BerFault) → element_at depth bytes ≡ Err f → ElementFault depth bytes f
 unfolding element_at
 element_fails depth bytes f e =
-    elim (bind_err (head_at bytes) (λ h. after_at depth bytes >>= (λ rest. done (both (parts_of bytes h rest) rest))) f e) [
+    elim (bind_refused (head_at bytes) (λ h. after_at depth bytes >>= (λ rest. read (both (parts_of bytes h rest) rest))) f e) [
       | inl p ↦ in_head depth bytes f (head_fails bytes f p)
-      | inr h ↦ elim (bind_err (after_at depth bytes) (λ rest. done (both (parts_of bytes h.0 rest) rest)) f h.2) [
+      | inr h ↦ elim (bind_refused (after_at depth bytes) (λ rest. read (both (parts_of bytes h.0 rest) rest)) f h.2) [
         | inl p ↦ after_fails depth bytes f p
-        | inr r ↦ absurd (not_err f (both (parts_of bytes h.0 r.0) r.0) r.2)
+        | inr r ↦ absurd (not_refused f (both (parts_of bytes h.0 r.0) r.0) r.2)
       ]
     ]
 

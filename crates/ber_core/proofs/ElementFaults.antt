@@ -12,7 +12,7 @@ use Rattle.ber_core.specs.Fault.ElementFault.{in_head, in_content, too_deep, end
 use Rattle.ber_core.specs.Results.{◌>>=◌}
 use Rattle.ber_core.specs.HeadReading.{head_at}
 use Rattle.ber_core.specs.ElementReading.{end_at, end_or, contents_by, after_at, body_at}
-use Rattle.ber_core.proofs.Steps.{done, failed, ok_is, not_ok, chosen, err_is, not_err, bind_err}
+use Rattle.ber_core.proofs.ResultSteps.{read, refused, read_is, not_read, chosen_by, refused_is, not_refused, bind_refused}
 use Rattle.ber_core.proofs.HeadGrammar.{HeadRead, SpellsHead, SpellsLength, head_takes}
 use Rattle.ber_core.proofs.HeadFaults.{head_fails}
 use Rattle.ber_core.proofs.ElementGrammar.{after_takes, by_length, then_more, IsElement-longer}
@@ -31,35 +31,35 @@ AllThen Inner next bytes f = (es : List Parts) × AllByRecursion Inner es × (ta
 
 end_at-fails : (next : List ℕ → Result (List ℕ) BerFault) (bytes : List ℕ) (f : BerFault) → end_at bytes ≡ Err f → TailFault next bytes f
 unfolding end_at
-end_at-fails next [] f e = sym (err_is {A = Option (List ℕ)} Short f e)
+end_at-fails next [] f e = sym (refused_is {A = Option (List ℕ)} Short f e)
 end_at-fails next (a ∷ []) f e =
-    elim (chosen (eqb a 0) (failed Short) (done None) (failed f) e) [
-      | inl p ↦ inl (eqb-true a 0 p.0, refl, sym (err_is {A = Option (List ℕ)} Short f p.1))
-      | inr p ↦ absurd (not_err {A = Option (List ℕ)} f None p.1)
+    elim (chosen_by (eqb a 0) (refused Short) (read None) (refused f) e) [
+      | inl p ↦ inl (eqb-true a 0 p.0, refl, sym (refused_is {A = Option (List ℕ)} Short f p.1))
+      | inr p ↦ absurd (not_refused {A = Option (List ℕ)} f None p.1)
     ]
 end_at-fails next (a ∷ b ∷ rest) f e =
-    elim (chosen (eqb a 0) (cond (eqb b 0) (done (Some rest)) (failed BadTag)) (done None) (failed f) e) [
-      | inl p ↦ elim (chosen (eqb b 0) (done (Some rest)) (failed BadTag) (failed f) p.1) [
-        | inl q ↦ absurd (not_err f (Some rest) q.1)
-        | inr q ↦ inr (inl (eqb-true a 0 p.0, b, eqb-false b 0 q.0, rest, refl, sym (err_is {A = Option (List ℕ)} BadTag f q.1)))
+    elim (chosen_by (eqb a 0) (cond (eqb b 0) (read (Some rest)) (refused BadTag)) (read None) (refused f) e) [
+      | inl p ↦ elim (chosen_by (eqb b 0) (read (Some rest)) (refused BadTag) (refused f) p.1) [
+        | inl q ↦ absurd (not_refused f (Some rest) q.1)
+        | inr q ↦ inr (inl (eqb-true a 0 p.0, b, eqb-false b 0 q.0, rest, refl, sym (refused_is {A = Option (List ℕ)} BadTag f q.1)))
       ]
-      | inr p ↦ absurd (not_err {A = Option (List ℕ)} f None p.1)
+      | inr p ↦ absurd (not_refused {A = Option (List ℕ)} f None p.1)
     ]
 
 -- where no contents end, an octet other than 0 stands
 end_at-goes_on : (bytes : List ℕ) → end_at bytes ≡ Ok None → (a : ℕ) × (rest : List ℕ) × (bytes ≡ a ∷ rest) × (a ≢ 0)
 unfolding end_at
-end_at-goes_on [] e = absurd (not_ok {A = Option (List ℕ)} Short None e)
+end_at-goes_on [] e = absurd (not_read {A = Option (List ℕ)} Short None e)
 end_at-goes_on (a ∷ []) e =
-    elim (chosen (eqb a 0) (failed Short) (done None) (done None) e) [
-      | inl p ↦ absurd (not_ok {A = Option (List ℕ)} Short None p.1)
+    elim (chosen_by (eqb a 0) (refused Short) (read None) (read None) e) [
+      | inl p ↦ absurd (not_read {A = Option (List ℕ)} Short None p.1)
       | inr p ↦ (a, [], refl, eqb-false a 0 p.0)
     ]
 end_at-goes_on (a ∷ b ∷ rest) e =
-    elim (chosen (eqb a 0) (cond (eqb b 0) (done (Some rest)) (failed BadTag)) (done None) (done None) e) [
-      | inl p ↦ elim (chosen (eqb b 0) (done (Some rest)) (failed BadTag) (done None) p.1) [
-        | inl q ↦ let same : Some rest ≡ None = ok_is (Some rest) None q.1 in absurd cc
-        | inr q ↦ absurd (not_ok {A = Option (List ℕ)} BadTag None q.1)
+    elim (chosen_by (eqb a 0) (cond (eqb b 0) (read (Some rest)) (refused BadTag)) (read None) (read None) e) [
+      | inl p ↦ elim (chosen_by (eqb b 0) (read (Some rest)) (refused BadTag) (read None) p.1) [
+        | inl q ↦ let same : Some rest ≡ None = read_is (Some rest) None q.1 in absurd cc
+        | inr q ↦ absurd (not_read {A = Option (List ℕ)} BadTag None q.1)
       ]
       | inr p ↦ (a, b ∷ rest, refl, eqb-false a 0 p.0)
     ]
@@ -70,16 +70,16 @@ next-tail next bytes f a rest is other e = subst (λ (bs : List ℕ). TailFault 
 module _ (depth : ℕ) where
   pub contents_fails : (fuel : ℕ) (bytes : List ℕ) (f : BerFault) → length bytes ≤ fuel → contents_by (after_at depth) fuel bytes ≡ Err f → AllThen (IsElement depth) (after_at depth) bytes f
   unfolding contents_by
-  contents_fails zero [] f le e = ([], tt, [], refl, sym (err_is {A = List ℕ} Short f e))
+  contents_fails zero [] f le e = ([], tt, [], refl, sym (refused_is {A = List ℕ} Short f e))
   contents_fails zero (a ∷ bytes) f le e = absurd (omega arith)
   contents_fails (suc fuel) bytes f le e =
       let next = after_at depth in
-      elim (bind_err (end_at bytes) (end_or (next bytes >>= contents_by next fuel)) f e) [
+      elim (bind_refused (end_at bytes) (end_or (next bytes >>= contents_by next fuel)) f e) [
         | inl p ↦ ([], tt, bytes, refl, end_at-fails next bytes f p)
         | inr o ↦
             let none : end_at bytes ≡ Ok None → (next bytes >>= contents_by next fuel) ≡ Err f → AllThen (IsElement depth) next bytes f = λ is more.
             let on = end_at-goes_on bytes is in
-            elim (bind_err (next bytes) (contents_by next fuel) f more) [
+            elim (bind_refused (next bytes) (contents_by next fuel) f more) [
               | inl p ↦ ([], tt, bytes, refl, next-tail next bytes f on.0 on.1 on.2 on.3 p)
               | inr n ↦
                   let first = after_takes depth bytes n.0 n.1 in
@@ -87,7 +87,7 @@ module _ (depth : ℕ) where
                   let others = contents_fails fuel n.0 f (omega arith) n.2 in
                   (first.0 ∷ others.0, (first.1, others.1), others.2, then_more bytes first.0.whole n.0 (joined others.0) others.2 first.2 others.3, others.4)
             ] in
-            let some : (after : List ℕ) → end_at bytes ≡ Ok (Some after) → done after ≡ Err f → AllThen (IsElement depth) next bytes f = λ after is more. absurd (not_err f after more) in
+            let some : (after : List ℕ) → end_at bytes ≡ Ok (Some after) → read after ≡ Err f → AllThen (IsElement depth) next bytes f = λ after is more. absurd (not_refused f after more) in
             elim o.0 as (λ v. end_at bytes ≡ Ok v → end_or (next bytes >>= contents_by next fuel) v ≡ Err f → AllThen (IsElement depth) next bytes f) [ None ↦ none | Some after ↦ some after ] o.1 o.2
       ]
 
@@ -107,10 +107,10 @@ tail-fault depth tag es (a ∷ rest) f t c all next (inr (inr h)) = inside depth
 short-fault : (depth n : ℕ) (bytes : List ℕ) (h : HeadRead) (f : BerFault) → SpellsHead bytes h → h.2 ≡ Some n → body_at depth h.2 h.3 ≡ Err f → ElementFault depth bytes f
 short-fault depth n bytes h f s is e =
     let spells : IsLength s.octets n = let P : Option ℕ → Type 0 = λ o. SpellsLength h.1 o s.octets in subst P is s.spells in
-    let read : body_at depth (Some n) h.3 ≡ Err f = let P : Option ℕ → Type 0 = λ o. body_at depth o h.3 ≡ Err f in subst P is e in
-    elim (chosen (ltb (length h.3) n) (failed Short) (done (drop n h.3)) (failed f) read) [
-      | inl p ↦ rw s.parts (subst (ElementFault depth _) (err_is {A = List ℕ} Short f p.1) (in_content depth n h.0 s.octets h.3 s.is_tag spells (ltb-true (length h.3) n p.0)))
-      | inr p ↦ absurd (not_err f (drop n h.3) p.1)
+    let went : body_at depth (Some n) h.3 ≡ Err f = let P : Option ℕ → Type 0 = λ o. body_at depth o h.3 ≡ Err f in subst P is e in
+    elim (chosen_by (ltb (length h.3) n) (refused Short) (read (drop n h.3)) (refused f) went) [
+      | inl p ↦ rw s.parts (subst (ElementFault depth _) (refused_is {A = List ℕ} Short f p.1) (in_content depth n h.0 s.octets h.3 s.is_tag spells (ltb-true (length h.3) n p.0)))
+      | inr p ↦ absurd (not_refused f (drop n h.3) p.1)
     ]
 
 -- the head of an indefinite element
@@ -121,7 +121,7 @@ opened bytes h s is =
 
 pub after_fails : (depth : ℕ) (bytes : List ℕ) (f : BerFault) → after_at depth bytes ≡ Err f → ElementFault depth bytes f
 after_fails zero bytes f e =
-    elim (bind_err (head_at bytes) (λ h. body_at zero h.2 h.3) f (sym (after_at-is zero bytes) ∙ e)) [
+    elim (bind_refused (head_at bytes) (λ h. body_at zero h.2 h.3) f (sym (after_at-is zero bytes) ∙ e)) [
       | inl p ↦ in_head zero bytes f (head_fails bytes f p)
       | inr h ↦
           let s = head_takes bytes h.0 h.1 in
@@ -129,12 +129,12 @@ after_fails zero bytes f e =
             | inl n ↦ short-fault zero n.0 bytes h.0 f s n.1 h.2
             | inr none ↦
                 let o = opened bytes h.0 s none in
-                let read : body_at zero None h.0.3 ≡ Err f = let P : Option ℕ → Type 0 = λ o. body_at zero o h.0.3 ≡ Err f in subst P none h.2 in
-                rw o.1 (subst (ElementFault zero _) (err_is {A = List ℕ} TooDeep f read) (too_deep h.0.0 h.0.3 s.is_tag o.0))
+                let went : body_at zero None h.0.3 ≡ Err f = let P : Option ℕ → Type 0 = λ o. body_at zero o h.0.3 ≡ Err f in subst P none h.2 in
+                rw o.1 (subst (ElementFault zero _) (refused_is {A = List ℕ} TooDeep f went) (too_deep h.0.0 h.0.3 s.is_tag o.0))
           ]
     ]
 after_fails (suc depth) bytes f e =
-    elim (bind_err (head_at bytes) (λ h. body_at (suc depth) h.2 h.3) f (sym (after_at-is (suc depth) bytes) ∙ e)) [
+    elim (bind_refused (head_at bytes) (λ h. body_at (suc depth) h.2 h.3) f (sym (after_at-is (suc depth) bytes) ∙ e)) [
       | inl p ↦ in_head (suc depth) bytes f (head_fails bytes f p)
       | inr h ↦
           let s = head_takes bytes h.0 h.1 in
@@ -142,8 +142,8 @@ after_fails (suc depth) bytes f e =
             | inl n ↦ short-fault (suc depth) n.0 bytes h.0 f s n.1 h.2
             | inr none ↦
                 let o = opened bytes h.0 s none in
-                let read : body_at (suc depth) None h.0.3 ≡ Err f = let P : Option ℕ → Type 0 = λ o. body_at (suc depth) o h.0.3 ≡ Err f in subst P none h.2 in
-                let c = contents_fails depth (length h.0.3) h.0.3 f (omega arith) read in
+                let went : body_at (suc depth) None h.0.3 ≡ Err f = let P : Option ℕ → Type 0 = λ o. body_at (suc depth) o h.0.3 ≡ Err f in subst P none h.2 in
+                let c = contents_fails depth (length h.0.3) h.0.3 f (omega arith) went in
                 let is : bytes ≡ h.0.0 ++ (128 ∷ (joined c.0 ++ c.2)) = o.1 ∙ ap (λ (w : List ℕ). h.0.0 ++ (128 ∷ w)) c.3 in
                 subst (λ (bs : List ℕ). ElementFault (suc depth) bs f) (sym is) (tail-fault depth h.0.0 c.0 c.2 f s.is_tag o.0 c.1 (after_fails depth) c.4)
           ]

@@ -12,7 +12,7 @@ use Rattle.ber_core.specs.Element.{Parts, IsDefinite, IsIndefinite, IsElement, j
 use Rattle.ber_core.specs.Results.{◌>>=◌}
 use Rattle.ber_core.specs.HeadReading.{head_at}
 use Rattle.ber_core.specs.ElementReading.{end_at, end_or, contents_by, after_at, body_by, body_at, inner_at, content_of, parts_of, element_at}
-use Rattle.ber_core.proofs.Steps.{done, failed, ok_is, not_ok, chosen, bind_ok, guard_ok}
+use Rattle.ber_core.proofs.ResultSteps.{read, refused, read_is, not_read, chosen_by, bind_read, guard_read}
 use Rattle.ber_core.proofs.HeadGrammar.{HeadRead, SpellsHead, SpellsLength, head_takes, head_again-definite, head_again-indefinite}
 use Rattle.ber_core.proofs.Contents.{after_at-is, after_at-body, body_at-definite}
 
@@ -48,7 +48,7 @@ definite_again : (depth : ℕ) (e : Parts) (rest : List ℕ) → IsDefinite e �
 definite_again depth e rest h =
     let head = head_again-definite e.tag h.octets (e.content ++ rest) (length e.content) h.is_tag h.is_length in
     let bytes : e.whole ++ rest ≡ e.tag ++ (h.octets ++ (e.content ++ rest)) = rw (h.is_whole, append_assoc) (rw append_assoc refl) in
-    rw bytes (after_at-body depth _ (e.tag, is_constructor e.tag, Some (length e.content), e.content ++ rest) head ∙ body_at-definite depth (length e.content) (Some (length e.content)) (e.content ++ rest) refl (omega (arith, length-append e.content rest)) ∙ ap (λ (w : List ℕ). done w) (drop_at e.content rest (length e.content) refl))
+    rw bytes (after_at-body depth _ (e.tag, is_constructor e.tag, Some (length e.content), e.content ++ rest) head ∙ body_at-definite depth (length e.content) (Some (length e.content)) (e.content ++ rest) refl (omega (arith, length-append e.content rest)) ∙ ap (λ (w : List ℕ). read w) (drop_at e.content rest (length e.content) refl))
 
 contents_again : (next : List ℕ → Result (List ℕ) BerFault) (Inner : Parts → Type 0) → ((e : Parts) (more : List ℕ) → Inner e → (next (e.whole ++ more) ≡ Ok more) × (end_at (e.whole ++ more) ≡ Ok None)) → (es : List Parts) (rest : List ℕ) (fuel : ℕ) → length es < fuel → AllByRecursion Inner es → contents_by next fuel (joined es ++ (0 ∷ 0 ∷ rest)) ≡ Ok rest
 unfolding contents_by end_at
@@ -93,16 +93,16 @@ after_again (suc depth) e rest (inr h) =
 end_at-takes : (bytes after : List ℕ) → end_at bytes ≡ Ok (Some after) → bytes ≡ 0 ∷ 0 ∷ after
 unfolding end_at
 end_at-takes [] after e = absurd cc
-end_at-takes (a ∷ []) after e = elim (chosen (eqb a 0) (failed Short) (done None) (done (Some after)) e) [ inl p ↦ absurd (not_ok Short (Some after) p.1) | inr p ↦ let q = p.1 in absurd cc ]
+end_at-takes (a ∷ []) after e = elim (chosen_by (eqb a 0) (refused Short) (read None) (read (Some after)) e) [ inl p ↦ absurd (not_read Short (Some after) p.1) | inr p ↦ let q = p.1 in absurd cc ]
 end_at-takes (a ∷ b ∷ rest) after e =
-    elim (chosen (eqb a 0) (cond (eqb b 0) (done (Some rest)) (failed BadTag)) (done None) (done (Some after)) e) [
-      | inl p ↦ elim (chosen (eqb b 0) (done (Some rest)) (failed BadTag) (done (Some after)) p.1) [
+    elim (chosen_by (eqb a 0) (cond (eqb b 0) (read (Some rest)) (refused BadTag)) (read None) (read (Some after)) e) [
+      | inl p ↦ elim (chosen_by (eqb b 0) (read (Some rest)) (refused BadTag) (read (Some after)) p.1) [
         | inl q ↦
             let a-is = eqb-true a 0 p.0 in
             let b-is = eqb-true b 0 q.0 in
             let rest-is : rest ≡ after = let e = q.1 in cc in
             rw (a-is, b-is, rest-is) refl
-        | inr q ↦ absurd (not_ok BadTag (Some after) q.1)
+        | inr q ↦ absurd (not_read BadTag (Some after) q.1)
       ]
       | inr p ↦ let q = p.1 in absurd cc
     ]
@@ -119,16 +119,16 @@ then_more bytes w more js rest p q = p ∙ (ap (λ (t : List ℕ). w ++ t) q ∙
 module _ (next : List ℕ → Result (List ℕ) BerFault) (Inner : Parts → Type 0) (takes : (bytes rest : List ℕ) → next bytes ≡ Ok rest → Found Inner bytes rest) where
   pub contents_takes : (fuel : ℕ) (bytes rest : List ℕ) → contents_by next fuel bytes ≡ Ok rest → AllFound Inner bytes rest
   unfolding contents_by
-  contents_takes zero bytes rest e = absurd (not_ok Short rest e)
+  contents_takes zero bytes rest e = absurd (not_read Short rest e)
   contents_takes (suc fuel) bytes rest e =
-      let o = bind_ok (end_at bytes) (end_or (next bytes >>= contents_by next fuel)) rest e in
+      let o = bind_read (end_at bytes) (end_or (next bytes >>= contents_by next fuel)) rest e in
       let none : end_at bytes ≡ Ok None → (next bytes >>= contents_by next fuel) ≡ Ok rest → AllFound Inner bytes rest = λ is more.
-      let n = bind_ok (next bytes) (contents_by next fuel) rest more in
+      let n = bind_read (next bytes) (contents_by next fuel) rest more in
       let first = takes bytes n.0 n.1 in
       let others = contents_takes fuel n.0 rest n.2 in
       (first.0 ∷ others.0, (first.1, others.1), then_more bytes first.0.whole n.0 (joined others.0) (0 ∷ 0 ∷ rest) first.2 others.2) in
-      let some : (after : List ℕ) → end_at bytes ≡ Ok (Some after) → done after ≡ Ok rest → AllFound Inner bytes rest = λ after is more.
-      ([], tt, end_at-takes bytes after is ∙ ap (λ (w : List ℕ). 0 ∷ 0 ∷ w) (ok_is after rest more)) in
+      let some : (after : List ℕ) → end_at bytes ≡ Ok (Some after) → read after ≡ Ok rest → AllFound Inner bytes rest = λ after is more.
+      ([], tt, end_at-takes bytes after is ∙ ap (λ (w : List ℕ). 0 ∷ 0 ∷ w) (read_is after rest more)) in
       elim o.0 as (λ v. end_at bytes ≡ Ok v → end_or (next bytes >>= contents_by next fuel) v ≡ Ok rest → AllFound Inner bytes rest) [ None ↦ none | Some after ↦ some after ] o.1 o.2
 
 -- an element with this tag and content
@@ -182,9 +182,9 @@ skip n body = cond (ltb (length body) n) (Err Short) (Ok (drop n body))
 body_takes : (depth : ℕ) (bytes : List ℕ) (h : HeadRead) (rest : List ℕ) → SpellsHead bytes h → body_by (inner_at depth) h.2 h.3 ≡ Ok rest → ((n : ℕ) → h.2 ≡ Some n → Found IsDefinite bytes rest) × (h.2 ≡ None → inner_at depth h.3 ≡ Ok rest)
 body_takes depth bytes h rest s e = (
   λ n is.
-      let read : skip n h.3 ≡ Ok rest = (let P : Option ℕ → Type 0 = λ o. body_by (inner_at depth) o h.3 ≡ Ok rest in subst P is e) in
-      let g = guard_ok (ltb (length h.3) n) Short (done (drop n h.3)) rest read in
-      definite_takes bytes h n rest s is (ltb-false (length h.3) n g.0) (ok_is (drop n h.3) rest g.1),
+      let went : skip n h.3 ≡ Ok rest = (let P : Option ℕ → Type 0 = λ o. body_by (inner_at depth) o h.3 ≡ Ok rest in subst P is e) in
+      let g = guard_read (ltb (length h.3) n) Short (read (drop n h.3)) rest went in
+      definite_takes bytes h n rest s is (ltb-false (length h.3) n g.0) (read_is (drop n h.3) rest g.1),
   λ is. let P : Option ℕ → Type 0 = λ o. body_by (inner_at depth) o h.3 ≡ Ok rest in subst P is e,
 )
 
@@ -197,7 +197,7 @@ Either h depth bytes rest = ((n : ℕ) → h.2 ≡ Some n → Found IsDefinite b
 
 head_first : (depth : ℕ) (bytes rest : List ℕ) → after_at depth bytes ≡ Ok rest → (h : HeadRead) × SpellsHead bytes h × Either h depth bytes rest
 head_first depth bytes rest e =
-    let b = bind_ok (head_at bytes) (λ h. body_by (inner_at depth) h.2 h.3) rest (sym (after_at-is depth bytes) ∙ e) in
+    let b = bind_read (head_at bytes) (λ h. body_by (inner_at depth) h.2 h.3) rest (sym (after_at-is depth bytes) ∙ e) in
     let s = head_takes bytes b.0 b.1 in
     (b.0, s, body_takes depth bytes b.0 rest s b.2)
 
@@ -207,7 +207,7 @@ after_takes zero bytes rest e =
     let r = head_first zero bytes rest e in
     elim (by_length r.0.2) [
       | inl p ↦ r.2.0 p.0 p.1
-      | inr none ↦ absurd (not_ok TooDeep rest (r.2.1 none))
+      | inr none ↦ absurd (not_read TooDeep rest (r.2.1 none))
     ]
 after_takes (suc depth) bytes rest e =
     let r = head_first (suc depth) bytes rest e in
@@ -227,8 +227,8 @@ read_parts e rest = Ok (e, rest)
 after_of : (depth : ℕ) (bytes : List ℕ) (p : Parts × List ℕ) → element_at depth bytes ≡ Ok p → (rest : List ℕ) × (after_at depth bytes ≡ Ok rest)
 unfolding element_at
 after_of depth bytes p e =
-    let h = bind_ok (head_at bytes) (λ h. after_at depth bytes >>= (λ rest. read_parts (parts_of bytes h rest) rest)) p e in
-    let r = bind_ok (after_at depth bytes) (λ rest. read_parts (parts_of bytes h.0 rest) rest) p h.2 in
+    let h = bind_read (head_at bytes) (λ h. after_at depth bytes >>= (λ rest. read_parts (parts_of bytes h rest) rest)) p e in
+    let r = bind_read (after_at depth bytes) (λ rest. read_parts (parts_of bytes h.0 rest) rest) p h.2 in
     (r.0, r.1)
 
 whole_of : (e : Parts) (rest : List ℕ) → take (length (e.whole ++ rest) - length rest) (e.whole ++ rest) ≡ e.whole
@@ -263,8 +263,8 @@ element_takes depth bytes p e =
     let rest = after_of depth bytes p e in
     let f = after_takes depth bytes rest.0 rest.1 in
     let again : element_at depth bytes ≡ Ok (f.0, rest.0) = ap (element_at depth) f.2 ∙ element_again depth f.0 rest.0 f.1 in
-    let same : done (f.0, rest.0) ≡ done p = sym again ∙ e in
-    subst (λ (q : Parts × List ℕ). IsElement depth q.0 × (bytes ≡ q.0.whole ++ q.1)) (ok_is (f.0, rest.0) p same) (f.1, f.2)
+    let same : read (f.0, rest.0) ≡ read p = sym again ∙ e in
+    subst (λ (q : Parts × List ℕ). IsElement depth q.0 × (bytes ≡ q.0.whole ++ q.1)) (read_is (f.0, rest.0) p same) (f.1, f.2)
 
 -- ---- the steps of reading one
 

@@ -13,18 +13,18 @@ use Rattle.ber_core.specs.Fault.HeadFault.{no_tag, in_tag, no_length, in_length,
 use Rattle.ber_core.specs.Fault.ElementFault.{in_head, in_content, too_deep, ends, ends_in_end, half_end, inside}
 use Rattle.ber_core.specs.HeadReading.{further_at, tag_at, length_at, head_at}
 use Rattle.ber_core.specs.ElementReading.{end_at, contents_by, after_at, inner_at}
-use Rattle.ber_core.proofs.Steps.{err_is, not_ok}
+use Rattle.ber_core.proofs.ResultSteps.{refused_is, not_read}
 use Rattle.ber_core.proofs.HeadGrammar.{tag_again, head_again-definite, head_again-indefinite}
 use Rattle.ber_core.proofs.ElementGrammar.{after_again, end_at-element, length-joined}
 use Rattle.ber_core.proofs.Contents.{after_at-failed, after_at-body, body_at-short}
 
-tag-failed : (bytes rest : List ℕ) (f : BerFault) → tag_at bytes ≡ Err f → head_at bytes ≡ Err f
+tag-refused : (bytes rest : List ℕ) (f : BerFault) → tag_at bytes ≡ Err f → head_at bytes ≡ Err f
 unfolding head_at
-tag-failed bytes rest f e = rw e refl
+tag-refused bytes rest f e = rw e refl
 
-length-failed : (tag rest : List ℕ) (f : BerFault) → IsTag tag → length_at (is_constructor tag) rest ≡ Err f → head_at (tag ++ rest) ≡ Err f
+length-refused : (tag rest : List ℕ) (f : BerFault) → IsTag tag → length_at (is_constructor tag) rest ≡ Err f → head_at (tag ++ rest) ≡ Err f
 unfolding head_at
-length-failed tag rest f t e = rw (tag_again tag rest t, e) refl
+length-refused tag rest f t e = rw (tag_again tag rest t, e) refl
 
 -- further octets that all go on
 on-short : (n : ℕ) (further : List ℕ) → GoOn further → length further < n → further_at n further ≡ Err Short
@@ -88,16 +88,16 @@ length-large c octets rest b above other e lt =
     (rw (take_at octets rest (b - 128) e, lt-ltb 65535 (number_after 0 octets) lt) refl)
 
 pub head_told : (bytes : List ℕ) (f : BerFault) → HeadFault bytes f → head_at bytes ≡ Err f
-head_told bytes f (no_tag) = tag-failed [] [] Short tag-none
-head_told bytes f (in_tag first further long on other lt) = tag-failed (first ∷ further) [] Short (tag-in_tag first further long on other lt)
-head_told bytes f (no_length tag t) = rw (sym (append_none tag)) (length-failed tag [] Short t (length-none (is_constructor tag)))
-head_told bytes f (in_length tag octets b t above other lt) = length-failed tag (b ∷ octets) Short t (length-in_length (is_constructor tag) octets b above other lt)
-head_told bytes f (zero_first rest) = tag-failed (0 ∷ rest) [] BadTag (tag-zero rest)
-head_told bytes f (padded first rest long) = tag-failed (first ∷ 128 ∷ rest) [] BadTag (tag-padded first rest long)
-head_told bytes f (long_tag first further rest long on other e) = tag-failed (first ∷ (further ++ rest)) [] BadTag (tag-long_tag first further rest long on other e)
-head_told bytes f (reserved tag rest t) = length-failed tag (255 ∷ rest) BadLength t (length-reserved (is_constructor tag) rest)
-head_told bytes f (large tag octets rest b t above other e lt) = length-failed tag (b ∷ (octets ++ rest)) BadLength t (length-large (is_constructor tag) octets rest b above other e lt)
-head_told bytes f (primitive tag rest t c) = length-failed tag (128 ∷ rest) IndefinitePrimitive t (length-primitive (is_constructor tag) rest c)
+head_told bytes f (no_tag) = tag-refused [] [] Short tag-none
+head_told bytes f (in_tag first further long on other lt) = tag-refused (first ∷ further) [] Short (tag-in_tag first further long on other lt)
+head_told bytes f (no_length tag t) = rw (sym (append_none tag)) (length-refused tag [] Short t (length-none (is_constructor tag)))
+head_told bytes f (in_length tag octets b t above other lt) = length-refused tag (b ∷ octets) Short t (length-in_length (is_constructor tag) octets b above other lt)
+head_told bytes f (zero_first rest) = tag-refused (0 ∷ rest) [] BadTag (tag-zero rest)
+head_told bytes f (padded first rest long) = tag-refused (first ∷ 128 ∷ rest) [] BadTag (tag-padded first rest long)
+head_told bytes f (long_tag first further rest long on other e) = tag-refused (first ∷ (further ++ rest)) [] BadTag (tag-long_tag first further rest long on other e)
+head_told bytes f (reserved tag rest t) = length-refused tag (255 ∷ rest) BadLength t (length-reserved (is_constructor tag) rest)
+head_told bytes f (large tag octets rest b t above other e lt) = length-refused tag (b ∷ (octets ++ rest)) BadLength t (length-large (is_constructor tag) octets rest b above other e lt)
+head_told bytes f (primitive tag rest t c) = length-refused tag (128 ∷ rest) IndefinitePrimitive t (length-primitive (is_constructor tag) rest c)
 
 -- reading on after some whole elements
 contents-on : (depth : ℕ) (es : List Parts) (tail : List ℕ) (more : ℕ) → AllByRecursion (IsElement depth) es → contents_by (after_at depth) (length es + more) (joined es ++ tail) ≡ contents_by (after_at depth) more tail
@@ -157,8 +157,8 @@ fault_told depth bytes f (inside d b tag rest es g t c all other h) =
 
 -- an input has one fault
 pub one_fault : (depth : ℕ) (bytes : List ℕ) (f g : BerFault) → ElementFault depth bytes f → ElementFault depth bytes g → f ≡ g
-one_fault depth bytes f g p q = err_is {A = List ℕ} f g (sym (fault_told depth bytes f p) ∙ fault_told depth bytes g q)
+one_fault depth bytes f g p q = refused_is {A = List ℕ} f g (sym (fault_told depth bytes f p) ∙ fault_told depth bytes g q)
 
 -- and then no element at its front
 pub no_element : (depth : ℕ) (e : Parts) (rest : List ℕ) (f : BerFault) → IsElement depth e → ElementFault depth (e.whole ++ rest) f → ⊥
-no_element depth e rest f h p = not_ok f rest (sym (fault_told depth (e.whole ++ rest) f p) ∙ after_again depth e rest h)
+no_element depth e rest f h p = not_read f rest (sym (fault_told depth (e.whole ++ rest) f p) ∙ after_again depth e rest h)

@@ -7,7 +7,7 @@ use Rattle.ber_core.specs.Head.{SaysLength, BeginsWithHead}
 use Rattle.ber_core.specs.Fault.{HeadFault}
 use Rattle.ber_core.specs.Results.{Gives}
 use Rattle.ber_core.specs.HeadReading.{head_at}
-use Rattle.ber_core.proofs.Steps.{ok_is, not_ok}
+use Rattle.ber_core.proofs.ResultSteps.{read_is, not_read}
 use Rattle.ber_core.proofs.HeadGrammar.{HeadRead, SpellsLength, head_takes, head_again-definite, head_again-indefinite}
 use Rattle.ber_core.proofs.HeadFaults.{head_fails}
 
@@ -40,9 +40,9 @@ module _ {X : Type 0} (view : X → HeadRead) (bytes : List ℕ) where
 
   pub only : (r : Result X BerFault) → Gives view r (head_at bytes) → (tag rest : List ℕ) (len : Option ℕ) → BeginsWithHead tag len rest bytes → IsOkAnd r (λ x. ((view x).0 ≡ tag) × ((view x).2 ≡ len) × ((view x).3 ≡ rest))
   only (Ok x) e tag rest len h =
-      let same : view x ≡ head tag len rest = ok_is (view x) (head tag len rest) (sym e ∙ begins_again tag len rest bytes h) in
+      let same : view x ≡ head tag len rest = read_is (view x) (head tag len rest) (sym e ∙ begins_again tag len rest bytes h) in
       (ap (λ (p : HeadRead). p.0) same, ap (λ (p : HeadRead). p.2) same, ap (λ (p : HeadRead). p.3) same)
-  only (Err f) e tag rest len h = absurd (not_ok f (head tag len rest) (sym e ∙ begins_again tag len rest bytes h))
+  only (Err f) e tag rest len h = absurd (not_read f (head tag len rest) (sym e ∙ begins_again tag len rest bytes h))
 
   pub fault : (r : Result X BerFault) → Gives view r (head_at bytes) → IfErr r (λ f. HeadFault bytes f)
   fault (Ok x) e = tt

@@ -3,7 +3,7 @@ use Rattle.std.proofs.Common.{◌≡◌, ℕ, zero, suc, ◌<◌, ◌≤◌, Lis
 use Rattle.std.specs.Prelude.{Bool, true, false, is_ok, map, option_map, MatchOption, Option, Some, None}
 use Rattle.std.specs.Iterator.{YieldsFirstBy, MakesProgress, item_count}
 use Rattle.std.proofs.lemmas.Bool.{eqb-true, eqb-false}
-use Rattle.ber_core.proofs.Steps.{chosen}
+use Rattle.ber_core.proofs.ResultSteps.{chosen_by}
 use Rattle.ber_core.proofs.OptionSteps.{some_is}
 use Rattle.std.specs.List.{AllByRecursion, list_all}
 use Rattle.ber_core.specs.declared.fault.BerFault.{BerFault}
@@ -73,7 +73,7 @@ module _ {X : Type 0} (view : X → Result Parts BerFault) where
   -- the first item, and the items behind it
   pub item_steps : (bytes : List ℕ) (o : Option X) (rest : List ℕ) → seen o rest ≡ item_at bytes → ItemSteps bytes o rest
   unfolding item_at
-  item_steps bytes o rest is = elim (chosen (eqb (length bytes) 0) no_item (item_of (element_at 32 bytes)) (seen o rest) (sym is)) [
+  item_steps bytes o rest is = elim (chosen_by (eqb (length bytes) 0) no_item (item_of (element_at 32 bytes)) (seen o rest) (sym is)) [
     | inl e ↦ empty_steps bytes o rest (eqb-true (length bytes) 0 e.0) (sym e.1)
     | inr e ↦ let filled = eqb-false (length bytes) 0 e.0 in filled_steps bytes o rest (element_at 32 bytes) (omega (arith, filled)) refl (sym e.1)
   ]

@@ -20,6 +20,5 @@ pub mod OptionSteps
 pub mod PlaceSteps
 pub mod ResultSteps
 pub mod SequenceGrammar
-pub mod Steps
 pub mod WrittenGrammar
 pub mod LengthOfWritten

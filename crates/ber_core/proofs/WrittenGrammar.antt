@@ -1,7 +1,9 @@
 -- What is written is spelled so.
-use Rattle.std.proofs.Common.{◌≡◌, ℕ, ◌+◌, ◌*◌, ◌/◌, ◌%◌, ◌≤◌, ltb, List, [], ◌∷◌, ◌++◌, length, Some, None, refl, sym, ap, subst, ◌∙◌, Ok, append-nil, append_assoc, inl, inr, arith, ltb-true, div-add-mod'}
-use Rattle.std.proofs.lemmas.Bool.{cases_Bool}
-use Rattle.ber_core.specs.Written.{length_octets, written, written_parts, written_fields, IsShort, CanWriteAll}
+use Rattle.std.proofs.Common.{◌≡◌, ℕ, ◌+◌, ◌-◌, ◌*◌, ◌/◌, ◌%◌, ◌<◌, ◌≤◌, ltb, List, [], ◌∷◌, ◌++◌, length, Some, None, refl, sym, ap, subst, ◌∙◌, Ok, append-nil, append_assoc, inl, inr, arith, ltb-true, div-add-mod'}
+use Rattle.std.proofs.lemmas.Bool.{cases_Bool, lt-ltb, ltb-false}
+use Rattle.std.specs.List.{AllByRecursion}
+use Rattle.ber_core.specs.Head.{BeginsWithHead}
+use Rattle.ber_core.specs.Written.{length_octets, written_head, written, written_parts, written_fields, IsShort, CanWriteAll}
 use Rattle.ber_core.specs.Length.{number_after, IsLength}
 use Rattle.ber_core.specs.Element.{Parts, IsElement}
 use Rattle.ber_core.specs.Tag.{IsTag}
@@ -63,3 +65,34 @@ element_spelled tag content t le = inl (record { octets = length_octets (length 
 
 pub element_written : (tag content : List ℕ) → IsTag tag → length content ≤ 65535 → element_at 32 (written tag content) ≡ Ok (written_parts tag content, [])
 element_written tag content t le = ap (element_at 32) (sym (append-nil (written tag content))) ∙ element_again 32 (written_parts tag content) [] (element_spelled tag content t le)
+
+-- ---- a head
+
+pub head_spelled : (tag : List ℕ) (len : ℕ) → IsTag tag → len ≤ 65535 → BeginsWithHead tag (Some len) [] (written_head tag len)
+head_spelled tag len t le = record { octets = length_octets len; is_tag = t; says = length_is len le; parts = ap (λ (w : List ℕ). tag ++ w) (sym (append-nil (length_octets len))) }
+
+-- more than 255 takes two octets
+two_at_least : (n : ℕ) (octets : List ℕ) → AllByRecursion (λ b. b < 256) octets → 0 < length octets → n ≡ number_after 0 octets → 256 ≤ n → 2 ≤ length octets
+unfolding number_after
+two_at_least n [] all lt is le = absurd (omega (arith, lt))
+two_at_least n (x ∷ []) all lt is le = let a = all.0 in absurd (omega (arith, a, is, le))
+two_at_least n (x ∷ y ∷ more) all lt is le = omega arith
+
+long_enough : (n b : ℕ) (octets : List ℕ) → AllByRecursion (λ c. c < 256) octets → 128 < b → length octets ≡ b - 128 → n ≡ number_after 0 octets → length (length_octets n) ≤ 1 + length octets
+long_enough n b octets all lt count is =
+    let one : 0 < length octets = omega (arith, lt, count) in
+    elim (cases_Bool (ltb n 128)) [
+      | inl p ↦ rw p (omega arith)
+      | inr p ↦ elim (cases_Bool (ltb n 256)) [
+        | inl q ↦ rw (p, q) (omega (arith, one))
+        | inr q ↦ let two = two_at_least n octets all one is (ltb-false n 256 q) in rw (p, q) (omega (arith, two))
+      ]
+    ]
+
+-- no octets of the same length are fewer
+pub shortest : (n : ℕ) (octets : List ℕ) → AllByRecursion (λ b. b < 256) octets → IsLength octets n → length (length_octets n) ≤ length octets
+shortest n [] all h = absurd h
+shortest n (b ∷ octets) all (inl h) =
+    let lt : n < 128 = omega (arith, h.0, h.2) in
+    rw (lt-ltb n 128 lt) (omega arith)
+shortest n (b ∷ octets) all (inr h) = let l = long_enough n b octets all.1 h.0 h.2 h.3 in omega (arith, l)

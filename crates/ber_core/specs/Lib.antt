@@ -2,6 +2,7 @@ pub mod Element
 pub mod ElementList
 pub mod ElementReading
 pub mod Fault
+pub mod FaultText
 pub mod Head
 pub mod HeadReading
 pub mod Integer

@@ -1,4 +1,6 @@
 use std::alloc::AllocError;
+use std::error::Error;
+use std::fmt;
 
 /// Why no element could be read: the first fault from left to right (X.690, Structure of an encoding;
 /// the numbers are our own).
@@ -16,6 +18,25 @@ pub enum BerFault {
     TooDeep = 5,
 }
 
+impl fmt::Display for BerFault {
+    ghost use Rattle.std.specs.Prelude.{Some};
+    ghost use Rattle.ber_core.specs.FaultText.{fault_text};
+
+    ghost output = { λ fault. Some (fault_text fault) };
+
+    fn fmt<W: fmt::Write>(&self, f: &mut fmt::Formatter<W>) -> fmt::Result {
+        f.write_str(match self {
+            BerFault::Short => "the input ends too early",
+            BerFault::BadTag => "bad tag",
+            BerFault::BadLength => "bad length",
+            BerFault::IndefinitePrimitive => "indefinite length behind a primitive tag",
+            BerFault::TooDeep => "too many indefinite elements are open",
+        })
+    }
+}
+
+impl Error for BerFault {}
+
 /// Memory was refused: the call changed nothing (our own).
 #[derive(Clone, Copy, Debug, PartialEq, Eq)]
 pub struct OutOfMemory;
@@ -25,3 +46,15 @@ impl From<AllocError> for OutOfMemory {
         OutOfMemory
     }
 }
+
+impl fmt::Display for OutOfMemory {
+    ghost use Rattle.std.specs.Prelude.{Some, codes};
+
+    ghost output = { λ _. Some (codes "out of memory") };
+
+    fn fmt<W: fmt::Write>(&self, f: &mut fmt::Formatter<W>) -> fmt::Result {
+        f.write_str("out of memory")
+    }
+}
+
+impl Error for OutOfMemory {}
