@@ -20,5 +20,6 @@ pub mod OptionSteps
 pub mod PlaceSteps
 pub mod ResultSteps
 pub mod SequenceGrammar
+pub mod WaySteps
 pub mod WrittenGrammar
 pub mod LengthOfWritten

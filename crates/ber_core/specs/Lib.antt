@@ -16,5 +16,6 @@ pub mod Sequence
 pub mod SequenceReading
 pub mod Tag
 pub mod Views
+pub mod Way
 pub mod Written
 pub mod WrittenLength
