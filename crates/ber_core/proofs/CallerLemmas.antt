@@ -12,4 +12,5 @@ pub use Rattle.ber_core.proofs.WrittenGrammar.{length_is, part_is, fields_spelle
 pub use Rattle.ber_core.proofs.LengthOfWritten.{element_length-least, element_length-most, length-written}
 pub use Rattle.ber_core.proofs.IntegerGrammar.{integer_takes, integer_again, integer-octets, integer_spelled, integer-fits}
 pub use Rattle.ber_core.proofs.IntegerOctets.{octet_of-signed_octet, signed_octet-octet_of, octet_of-below, signed_octet-fits, cast_signed-is, cast_unsigned-is}
-pub use Rattle.ber_core.proofs.WaySteps.{GoesOn, goes-all, goes-then, goes-past, inside-found, inside-first, way-one, way-in, head_length-whole}
+pub use Rattle.ber_core.proofs.WaySteps.{goes-all, goes-then, inside-goes, inside-goes-any, way-one, way-one-any, way-in, way-any, element-inside, head_length-whole}
+pub use Rattle.ber_core.proofs.ElementsRoad.{elements-yield}

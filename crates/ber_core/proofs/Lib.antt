@@ -3,6 +3,7 @@ pub mod AloneGrammar
 pub mod CallerLemmas
 pub mod Contents
 pub mod ElementFaults
+pub mod ElementsRoad
 pub mod ElementGrammar
 pub mod FaultAgain
 pub mod HeadAgreement

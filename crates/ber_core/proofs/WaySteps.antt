@@ -1,5 +1,6 @@
 -- Steps on the way to a content.
 use Rattle.std.proofs.Common.{◌≡◌, ℕ, zero, suc, ◌+◌, ◌-◌, true, false, eqb, List, [], ◌∷◌, ◌++◌, length, Option, Some, None, Ok, refl, sym, ap, subst, ◌∙◌, inl, inr, arith, length-append, append_assoc, append-nil}
+use Rattle.std.specs.Prelude.{IfSome, option_copied}
 use Rattle.std.proofs.lemmas.Bool.{cases_Bool}
 use Rattle.ber_core.specs.Tag.{is_constructor}
 use Rattle.ber_core.specs.Element.{Parts, IsDefinite, IsIndefinite, IsElement}
@@ -7,13 +8,13 @@ use Rattle.ber_core.specs.ElementReading.{element_at}
 use Rattle.ber_core.specs.HeadReading.{head_at}
 use Rattle.ber_core.specs.Place.{Slice, IsAt, AtEnd, head_length}
 use Rattle.ber_core.specs.SequenceReading.{is_tag, tagged}
-use Rattle.ber_core.specs.Way.{further, inside_items, inside, way_to, IsInside, IsOnWay}
+use Rattle.ber_core.specs.Way.{further, inside_items, inside, way_to, IsInside, IsInsideIfAny, GoesOn, IsOnWay, IsOnWayIfAny}
 use Rattle.ber_core.proofs.ResultSteps.{by_result}
 use Rattle.ber_core.proofs.OptionSteps.{some_is}
 use Rattle.ber_core.proofs.HeadGrammar.{HeadRead, head_again-definite, head_again-indefinite}
 use Rattle.ber_core.proofs.ElementGrammar.{element_takes}
 use Rattle.ber_core.proofs.ItemSteps.{items_of-next}
-use Rattle.ber_core.proofs.SequenceGrammar.{is_tag-is}
+use Rattle.ber_core.proofs.SequenceGrammar.{is_tag-is, is_tag-one}
 
 -- ---- the head of an element, whatever follows it
 
@@ -119,10 +120,6 @@ none_found tag bytes is = elim (by_result (element_at 32 bytes)) [
 
 -- ---- slices
 
--- what an element with another tag is followed by: the search of these bytes goes on in it
-abbrev pub GoesOn : ℕ → Slice → Slice → Type 0
-GoesOn tag rest bytes = AtEnd rest bytes × ((inside tag bytes.now).1 ≡ (inside tag rest.now).1) × ((inside tag bytes.now).0 + length rest.now ≡ length bytes.now + (inside tag rest.now).0)
-
 pub goes-all : (tag : ℕ) (bytes : Slice) → GoesOn tag bytes bytes
 goes-all tag bytes = ((refl, refl), refl, omega arith)
 
@@ -146,15 +143,47 @@ inside-found tag part rest bytes g is at =
 pub inside-first : (tag : ℕ) (part bytes : Slice) → (tagged tag bytes.now).0 ≡ Some part.now → IsAt (head_length bytes.now) part bytes → IsInside tag part bytes
 inside-first tag part bytes is at = inside-found tag part bytes bytes (goes-all tag bytes) is at
 
+-- ---- what the readers of this crate hand out
+
+pub tagged-inside : (tag : ℕ) (bytes : Slice) (o : Option Slice) (rest : List ℕ) → (option_copied o, rest) ≡ tagged tag bytes.now → IfSome o (λ c. IsAt (head_length bytes.now) c bytes) → IfSome o (λ c. IsInside tag c bytes)
+tagged-inside tag bytes None rest is at = tt
+tagged-inside tag bytes (Some c) rest is at = inside-first tag c bytes (ap (λ (p : Option (List ℕ) × List ℕ). p.0) (sym is)) at
+
+pub tagged-goes : (tag other : ℕ) (bytes rest : Slice) (o : Option Slice) → (option_copied o, rest.now) ≡ tagged tag bytes.now → AtEnd rest bytes → eqb tag other ≡ false → GoesOn other rest bytes
+tagged-goes tag other bytes rest o is at ne =
+    goes-past other tag rest bytes (tagged tag bytes.now).0 ne refl (ap (λ (p : Option (List ℕ) × List ℕ). p.1) (sym is)) at
+
+pub element-inside : (tag : ℕ) (content bytes : Slice) (e : Parts) (rest : List ℕ) → element_at 32 bytes.now ≡ Ok (e, rest) → e.tag ≡ tag ∷ [] → e.content ≡ content.now → IsAt (head_length bytes.now) content bytes → IsInside tag content bytes
+element-inside tag content bytes e rest is t same at =
+    let first = first_of tag bytes.now rest e is (is_tag-one tag e.tag t) in
+    let takes = element_takes 32 bytes.now (e, rest) is in
+    let head : head_length bytes.now ≡ head_length e.whole = ap head_length takes.1 ∙ head_length-whole 32 e rest takes.0 in
+    let place : (inside tag bytes.now).0 ≡ head_length e.whole = ap (λ (p : ℕ × List ℕ). p.0) first in
+    (ap (λ (p : ℕ × List ℕ). p.1) first ∙ same, (at.0, omega (arith, at.1, head, place)))
+
 -- ---- ways
+
+pub inside-goes : (tag : ℕ) (part rest bytes : Slice) → GoesOn tag rest bytes → IsInside tag part rest → IsInside tag part bytes
+inside-goes tag part rest bytes g i = (g.1 ∙ i.0, (i.1.0 ∙ g.0.0, omega (arith, i.1.1, g.2, g.0.1)))
+
+pub inside-goes-any : (tag : ℕ) (part rest bytes : Slice) → GoesOn tag rest bytes → IsInsideIfAny tag part rest → IsInsideIfAny tag part bytes
+inside-goes-any tag part rest bytes g (inl e) = inl e
+inside-goes-any tag part rest bytes g (inr i) = inr (inside-goes tag part rest bytes g i)
 
 pub way-one : (tag : ℕ) (part bytes : Slice) → IsInside tag part bytes → IsOnWay (tag ∷ []) part bytes
 unfolding way_to
-way-one tag part bytes i = inr (i.1.0, omega (arith, i.1.1))
+way-one tag part bytes i = (i.1.0, omega (arith, i.1.1))
 
 pub way-in : (tag : ℕ) (tags : List ℕ) (part mid bytes : Slice) → IsInside tag mid bytes → IsOnWay tags part mid → IsOnWay (tag ∷ tags) part bytes
 unfolding way_to
-way-in tag tags part mid bytes i (inl e) = inl e
-way-in tag tags part mid bytes i (inr w) =
+way-in tag tags part mid bytes i w =
     let same : way_to tags (inside tag bytes.now).1 ≡ way_to tags mid.now = ap (way_to tags) i.0 in
-    inr (w.0 ∙ i.1.0, omega (arith, w.1, i.1.1, same))
+    (w.0 ∙ i.1.0, omega (arith, w.1, i.1.1, same))
+
+pub way-any : (tag : ℕ) (tags : List ℕ) (part mid bytes : Slice) → IsInside tag mid bytes → IsOnWayIfAny tags part mid → IsOnWayIfAny (tag ∷ tags) part bytes
+way-any tag tags part mid bytes i (inl e) = inl e
+way-any tag tags part mid bytes i (inr w) = inr (way-in tag tags part mid bytes i w)
+
+pub way-one-any : (tag : ℕ) (part bytes : Slice) → IsInsideIfAny tag part bytes → IsOnWayIfAny (tag ∷ []) part bytes
+way-one-any tag part bytes (inl e) = inl e
+way-one-any tag part bytes (inr i) = inr (way-one tag part bytes i)

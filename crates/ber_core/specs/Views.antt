@@ -1,5 +1,6 @@
 -- Elements as a contract sees them.
 use Rattle.std.specs.Prelude.{ℕ, Bool, List, Option, Result, Ok, Err, IfSome}
+use Rattle.std.specs.Iterator.{YieldsFirstBy}
 use Rattle.ber_core.specs.declared.fault.BerFault.{BerFault}
 use Rattle.ber_core.specs.declared.head.Head.{Head}
 use Rattle.ber_core.specs.declared.element.Element.{Element}
@@ -45,3 +46,7 @@ bytes_left s = s.rest
 -- end (X.690, Contents octets).
 abbrev pub StepsInPlace : Elements → Option (Result Element BerFault) → Elements → Type 0
 StepsInPlace old item new = IfSome item (λ i. ItemInPlace i (bytes_left old)) × AtEnd (bytes_left new) (bytes_left old)
+
+-- One step of the iterator: the first item that is left, in its place (X.690, Contents octets).
+abbrev pub elements_steps : Elements → Option (Result Element BerFault) → Elements → Type 0
+elements_steps old item new = YieldsFirstBy item_view items_left old item new × StepsInPlace old item new

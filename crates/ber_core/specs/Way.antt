@@ -3,7 +3,7 @@ use Rattle.std.specs.Prelude.{◌≡◌, ◌⊎◌, ℕ, ◌+◌, List, [], ◌�
 use Rattle.ber_core.specs.declared.fault.BerFault.{BerFault}
 use Rattle.ber_core.specs.Element.{Parts}
 use Rattle.ber_core.specs.ListReading.{items_of}
-use Rattle.ber_core.specs.Place.{Slice, IsAt, head_length}
+use Rattle.ber_core.specs.Place.{Slice, IsAt, AtEnd, head_length}
 use Rattle.ber_core.specs.SequenceReading.{is_tag}
 
 -- So many octets further on (own).
@@ -32,7 +32,21 @@ way_to (tag ∷ tags) bytes = (inside tag bytes).0 + way_to tags (inside tag byt
 abbrev pub IsInside : ℕ → Slice → Slice → Type 0
 IsInside tag part bytes = ((inside tag bytes.now).1 ≡ part.now) × IsAt (inside tag bytes.now).0 part bytes
 
--- The slice lies in the bytes where the tags lead, or it is empty: a part that is left out may lie
--- anywhere (own).
+-- The rest ends where the bytes end, and the first element with this tag is looked for in it: what
+-- stands before it has other tags (own).
+abbrev pub GoesOn : ℕ → Slice → Slice → Type 0
+GoesOn tag rest bytes = AtEnd rest bytes
+    × ((inside tag bytes.now).1 ≡ (inside tag rest.now).1)
+    × ((inside tag bytes.now).0 + length rest.now ≡ length bytes.now + (inside tag rest.now).0)
+
+-- The slice lies in the bytes where the tags lead (own).
 abbrev pub IsOnWay : List ℕ → Slice → Slice → Type 0
-IsOnWay tags part bytes = (part.now ≡ []) ⊎ IsAt (way_to tags bytes.now) part bytes
+IsOnWay tags part bytes = IsAt (way_to tags bytes.now) part bytes
+
+-- The same, or the slice is empty: a part that is left out may lie anywhere (own).
+abbrev pub IsOnWayIfAny : List ℕ → Slice → Slice → Type 0
+IsOnWayIfAny tags part bytes = (part.now ≡ []) ⊎ IsOnWay tags part bytes
+
+-- The slice is the content of the first element with this tag, or it is empty (own).
+abbrev pub IsInsideIfAny : ℕ → Slice → Slice → Type 0
+IsInsideIfAny tag part bytes = (part.now ≡ []) ⊎ IsInside tag part bytes

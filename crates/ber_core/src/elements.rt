@@ -41,13 +41,13 @@ impl<'a> Elements<'a> {
 }
 
 impl<'a> Iterator for Elements<'a> {
-    ghost use Rattle.std.specs.Iterator.{YieldsFirstBy, item_count};
-    ghost use Rattle.ber_core.specs.Views.{item_view, items_left, StepsInPlace};
+    ghost use Rattle.std.specs.Iterator.{item_count};
+    ghost use Rattle.ber_core.specs.Views.{items_left, elements_steps};
 
     type Item = Result<Element<'a>, BerFault>;
 
     // The first item that is left; its slices are parts of the bytes that are left.
-    ghost next_gives = { λ old item new. YieldsFirstBy item_view items_left old item new × StepsInPlace old item new };
+    ghost next_gives = { elements_steps };
 
     ghost remaining = { item_count items_left };
 

@@ -1,7 +1,8 @@
-ghost use Rattle.std.specs.Prelude.{◌≡◌, option_copied, option_map, IfSome};
+ghost use Rattle.std.specs.Prelude.{◌≡◌, ◌==◌, ℕ, [], ◌∷◌, false, option_copied, option_map, IfSome};
 ghost use Rattle.ber_core.specs.SequenceReading.{tagged, content_at, first_whole, only_at, alone_at};
 ghost use Rattle.ber_core.specs.Place.{AtFront, IsAt, AtEnd, head_length};
 ghost use Rattle.ber_core.specs.Views.{parts, InPlace};
+ghost use Rattle.ber_core.specs.Way.{IsInside, GoesOn};
 
 use crate::element::{Element, read_element};
 
@@ -21,11 +22,10 @@ fn read_tagged<'a>(bytes: &'a [u8], tag: u8) -> (Option<&'a [u8]>, &'a [u8])
     }
 }
 
-/// The content of the first element, if it has this tag of one octet, and what follows it; else
-/// nothing and all bytes. Where another octet stands first, no element is read.
+/// The same of all bytes. Where another octet stands first, no element is read.
 #[tactic(auto, using(crate::proofs::SequenceGrammar::tagged_none, crate::proofs::SequenceGrammar::tagged_other))]
 #[inline(always)]
-pub fn take_tagged<'a>(bytes: &'a [u8], tag: u8) -> (Option<&'a [u8]>, &'a [u8])
+fn split_tagged<'a>(bytes: &'a [u8], tag: u8) -> (Option<&'a [u8]>, &'a [u8])
     ensures value { (option_copied result.0, result.1.now) ≡ tagged tag bytes.now }
     ensures place { IfSome result.0 (λ c. IsAt (head_length bytes.now) c bytes.entry) × AtEnd result.1 bytes.entry }
 {
@@ -36,11 +36,27 @@ pub fn take_tagged<'a>(bytes: &'a [u8], tag: u8) -> (Option<&'a [u8]>, &'a [u8])
     }
 }
 
+/// The content of the first element, if it has this tag of one octet, and what follows it; else
+/// nothing and all bytes.
+#[inline(always)]
+pub fn take_tagged<'a>(bytes: &'a [u8], tag: u8) -> (Option<&'a [u8]>, &'a [u8])
+    ensures value { (option_copied result.0, result.1.now) ≡ tagged tag bytes.now }
+    // Both are parts of the bytes, at their places.
+    ensures place { IfSome result.0 (λ c. IsAt (head_length bytes.now) c bytes.entry) × AtEnd result.1 bytes.entry }
+    // The same by tags: the content is this tag's, and other tags are looked for in what follows.
+    ensures inside { IfSome result.0 (λ c. IsInside tag c bytes.entry) }
+    ensures goes_on { (other : ℕ) → (tag == other) ≡ false → GoesOn other result.1 bytes.entry }
+{
+    split_tagged(bytes, tag)
+}
+
 /// The content of the first element, which has to have this tag, and what follows it.
 #[inline(always)]
 pub fn take_content<'a>(bytes: &'a [u8], tag: u8) -> Option<(&'a [u8], &'a [u8])>
     ensures value { option_map (λ r. (r.0.now, r.1.now)) result ≡ content_at tag bytes.now }
     ensures place { IfSome result (λ r. IsAt (head_length bytes.now) r.0 bytes.entry × AtEnd r.1 bytes.entry) }
+    ensures inside { IfSome result (λ r. IsInside tag r.0 bytes.entry) }
+    ensures goes_on { (other : ℕ) → (tag == other) ≡ false → IfSome result (λ r. GoesOn other r.1 bytes.entry) }
 {
     match take_tagged(bytes, tag) {
         (Some(content), rest) => Some((content, rest)),
@@ -67,6 +83,7 @@ pub fn take_any<'a>(bytes: &'a [u8]) -> (Option<&'a [u8]>, &'a [u8])
 pub fn take_only<'a>(bytes: &'a [u8], tag: u8) -> Option<&'a [u8]>
     ensures value { option_copied result ≡ only_at tag bytes.now }
     ensures place { IfSome result (λ c. IsAt (head_length bytes.now) c bytes.entry) }
+    ensures inside { IfSome result (λ c. IsInside tag c bytes.entry) }
 {
     let (content, rest) = take_content(bytes, tag)?;
     if !rest.is_empty() {
@@ -81,6 +98,7 @@ pub fn take_only<'a>(bytes: &'a [u8], tag: u8) -> Option<&'a [u8]>
 pub fn read_alone<'a>(bytes: &'a [u8]) -> Option<Element<'a>>
     ensures value { option_map parts result ≡ alone_at bytes.now }
     ensures place { IfSome result (λ e. InPlace e bytes.entry) }
+    ensures inside { (tag : ℕ) → IfSome result (λ e. e.tag.now ≡ tag ∷ [] → IsInside tag e.content bytes.entry) }
 {
     match read_element(bytes) {
         Ok((element, [])) => Some(element),

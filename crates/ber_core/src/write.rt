@@ -1,7 +1,5 @@
-ghost use Rattle.std.specs.Prelude.{◌≡◌, ◌+◌, ◌<◌, ◌≤◌, ◌++◌, [], ◌∷◌, ℕ, List, Some, OnOk, OnErr, IsOk, length, vec_len, vec_capacity};
-ghost use Rattle.std.specs.List.{AllByRecursion};
-ghost use Rattle.ber_core.specs.Head.{BeginsWithHead};
-ghost use Rattle.ber_core.specs.Length.{length_limit, IsLength};
+ghost use Rattle.std.specs.Prelude.{◌≡◌, ◌+◌, ◌<◌, ◌≤◌, ◌++◌, [], ◌∷◌, OnOk, OnErr, IsOk, length, vec_len, vec_capacity};
+ghost use Rattle.ber_core.specs.Length.{length_limit};
 ghost use Rattle.ber_core.specs.Tag.{IsTag};
 ghost use Rattle.ber_core.specs.Written.{length_octets, written_head, written};
 
@@ -162,10 +160,6 @@ pub fn write_head<A: Allocator + Copy>(
     ensures ok { OnOk result (out.new.items ≡ out.old.items ++ written_head tag.now len) }
     ensures err { OnErr result (out.new.items ≡ out.old.items) }
     ensures full { OnErr result (vec_capacity out.old < vec_len out.old + length (written_head tag.now len)) }
-    // What is written is a head, and no octets of the same length are fewer.
-    ensures spelled { BeginsWithHead tag.now (Some len) [] (written_head tag.now len) }
-    ensures shortest { (octets : List ℕ) → AllByRecursion (λ b. b < 0x100) octets → IsLength octets len →
-        length (length_octets len) ≤ length octets }
 {
     match tag {
         [only] => append_head(out, *only, len),
