@@ -68,7 +68,7 @@ type_from e h = (kind_of h.0, ap type_at h.1 ∙ type_again h.0)
 
 -- ---- messages
 
-is_frame : (e : Parts) (k : MessageType) (m : Message) → type_at e.tag ≡ Some k → message_at k e.content ≡ Some m → IsFrame m e
+pub is_frame : (e : Parts) (k : MessageType) (m : Message) → type_at e.tag ≡ Some k → message_at k e.content ≡ Some m → IsFrame m e
 is_frame e k m t h =
     let s = message_takes k e.content m h in
     record {

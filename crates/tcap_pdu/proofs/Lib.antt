@@ -4,12 +4,14 @@ pub mod DialogueAgreement
 pub mod DialogueGrammar
 pub mod DialogueLength
 pub mod DialogueParts
+pub mod DialoguePlaceSteps
 pub mod DueSteps
 pub mod FrameGrammar
 pub mod FrontGrammar
 pub mod LengthGrammar
 pub mod MessageGrammar
 pub mod PartsWithin
+pub mod PlaceSteps
 pub mod PortionGrammar
 pub mod SpelledWritable
 pub mod WriteAgreement

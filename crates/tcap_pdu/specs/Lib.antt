@@ -1,11 +1,14 @@
 pub mod DialogueDue
 pub mod DialoguePartsReading
+pub mod DialoguePlace
 pub mod DialogueReading
 pub mod DialogueSpelling
 pub mod DialogueViews
 pub mod DialogueWritten
 pub mod FrameFaults
 pub mod FrameLength
+pub mod FramePlace
+pub mod FramePortions
 pub mod FrameReading
 pub mod FrameSpelling
 pub mod FrameViews

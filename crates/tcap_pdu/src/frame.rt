@@ -2,6 +2,7 @@
 
 mod front;
 mod length;
+mod portions;
 mod read;
 mod write;
 
@@ -39,15 +40,15 @@ pub enum Frame<'a> {
         dialogue: Option<&'a [u8]>,
         components: &'a [u8],
     },
-    /// Continue: 48, 49, [6B], [6C].
-    Continue {
-        otid: TransId,
+    /// End: 49, [6B], [6C].
+    End {
         dtid: TransId,
         dialogue: Option<&'a [u8]>,
         components: &'a [u8],
     },
-    /// End: 49, [6B], [6C].
-    End {
+    /// Continue: 48, 49, [6B], [6C].
+    Continue {
+        otid: TransId,
         dtid: TransId,
         dialogue: Option<&'a [u8]>,
         components: &'a [u8],

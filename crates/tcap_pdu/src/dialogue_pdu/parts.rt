@@ -1,6 +1,5 @@
-ghost use Rattle.std.specs.Prelude.{◌≡◌, ◌↔◌, IsTrue, Some, option_map};
-ghost use Rattle.std.specs.List.{AllPass};
-ghost use Rattle.ber_core.specs.ListReading.{items_of};
+ghost use Rattle.std.specs.Prelude.{◌≡◌, ◌==◌, ℕ, [], ◌∷◌, false, Some, IfSome, option_map};
+ghost use Rattle.ber_core.specs.Way.{IsInside, IsInsideIfAny, IsOnWay, GoesOn};
 ghost use Rattle.tcap_pdu.specs.DialoguePartsReading.{one_octet, tag_and, one_at, is_external, is_information, information_at, version_of, version_at, context_at, opening, opening_at, number_at, source_of, diagnostic_at};
 ghost use Rattle.tcap_pdu.specs.DialogueViews.{source};
 
@@ -26,7 +25,8 @@ pub fn only_octet(content: &[u8]) -> Option<u8>
 /// The tag, of one octet, and the content of the one element that the bytes are.
 #[tactic(auto, unfolding(crate::specs::DialoguePartsReading::one_at))]
 pub fn take_one<'a>(bytes: &'a [u8]) -> Option<(u8, &'a [u8])>
-    ensures { option_map (λ r. tag_and r.0 r.1.now) result ≡ one_at bytes.now }
+    ensures value { option_map (λ r. tag_and r.0 r.1.now) result ≡ one_at bytes.now }
+    ensures inside { IfSome result (λ r. IsInside r.0 r.1 bytes.entry) }
 {
     let element = read_alone(bytes)?;
     let tag = only_octet(element.tag)?;
@@ -35,7 +35,7 @@ pub fn take_one<'a>(bytes: &'a [u8]) -> Option<(u8, &'a [u8])>
 
 /// Whether the bytes are user information: EXTERNALs one after the other.
 fn are_externals(bytes: &[u8]) -> bool
-    ensures { IsTrue result ↔ AllPass is_external (items_of bytes.now) }
+    ensures { result ≡ is_information bytes.now }
 {
     Elements::new(bytes).all(|item| match item {
         Ok(element) => match element.tag {
@@ -61,7 +61,8 @@ pub fn is_user_information(bytes: &[u8]) -> bool
 /// [BE user information], and nothing after it.
 #[tactic(auto, unfolding(crate::specs::DialoguePartsReading::information_at))]
 pub fn read_information<'a>(bytes: &'a [u8]) -> Option<&'a [u8]>
-    ensures { option_map (λ info. info.now) result ≡ information_at bytes.now }
+    ensures value { option_map (λ info. info.now) result ≡ information_at bytes.now }
+    ensures inside { IfSome result (λ info. IsInsideIfAny 0xbe info bytes.entry) }
 {
     let (info, rest) = take_tagged(bytes, USER_INFORMATION);
     let info = info.unwrap_or(&[]);
@@ -89,7 +90,8 @@ fn says_version1(octets: &[u8]) -> Option<bool>
 /// [80 protocol version]: whether it is absent or says version 1; and what follows it.
 #[tactic(auto, unfolding(crate::specs::DialoguePartsReading::version_at, crate::specs::DialoguePartsReading::version_of))]
 fn read_version<'a>(bytes: &'a [u8]) -> Option<(bool, &'a [u8])>
-    ensures { option_map (λ r. (r.0, r.1.now)) result ≡ version_at bytes.now }
+    ensures value { option_map (λ r. (r.0, r.1.now)) result ≡ version_at bytes.now }
+    ensures goes_on { (other : ℕ) → (0x80 == other) ≡ false → IfSome result (λ r. GoesOn other r.1 bytes.entry) }
 {
     match take_tagged(bytes, PROTOCOL_VERSION) {
         (Some(octets), rest) => Some((says_version1(octets)?, rest)),
@@ -100,7 +102,8 @@ fn read_version<'a>(bytes: &'a [u8]) -> Option<(bool, &'a [u8])>
 /// The application context name that is held: one element 06, an object identifier.
 #[tactic(auto, unfolding(crate::specs::DialoguePartsReading::context_at))]
 fn read_context<'a>(bytes: &'a [u8]) -> Option<&'a [u8]>
-    ensures { option_map (λ context. context.now) result ≡ context_at bytes.now }
+    ensures value { option_map (λ context. context.now) result ≡ context_at bytes.now }
+    ensures inside { IfSome result (λ context. IsInside 0x06 context bytes.entry) }
 {
     let context = take_only(bytes, OBJECT_IDENTIFIER)?;
     if is_oid(context) { Some(context) } else { None }
@@ -109,7 +112,10 @@ fn read_context<'a>(bytes: &'a [u8]) -> Option<&'a [u8]>
 /// [80 protocol version], A1 application context name; and what follows them.
 #[tactic(auto, unfolding(crate::specs::DialoguePartsReading::opening_at))]
 pub fn read_opening<'a>(bytes: &'a [u8]) -> Option<(bool, &'a [u8], &'a [u8])>
-    ensures { option_map (λ r. opening r.0 r.1.now r.2.now) result ≡ opening_at bytes.now }
+    ensures value { option_map (λ r. opening r.0 r.1.now r.2.now) result ≡ opening_at bytes.now }
+    ensures context { IfSome result (λ r. IsOnWay (0xa1 ∷ 0x06 ∷ []) r.1 bytes.entry) }
+    ensures goes_on { (other : ℕ) → (0x80 == other) ≡ false → (0xa1 == other) ≡ false →
+        IfSome result (λ r. GoesOn other r.2 bytes.entry) }
 {
     let (version1, rest) = read_version(bytes)?;
     let (name, rest) = take_content(rest, APPLICATION_CONTEXT_NAME)?;

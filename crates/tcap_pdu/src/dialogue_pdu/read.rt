@@ -1,9 +1,12 @@
-ghost use Rattle.std.specs.Prelude.{◌≡◌, IfOk, IfErr, IsOkAnd, option_map};
+ghost use Rattle.std.specs.Prelude.{◌≡◌, [], ◌∷◌, None, IfOk, IfErr, IfSome, IsOkAnd, option_map};
+ghost use Rattle.ber_core.specs.Place.{Slice};
+ghost use Rattle.ber_core.specs.Way.{IsOnWay, IsOnWayIfAny, GoesOn};
 ghost use Rattle.ber_core.specs.Results.{Gives};
 ghost use Rattle.tcap_pdu.specs.DialogueSpelling.{PduValue, SpellsDialogue};
 ghost use Rattle.tcap_pdu.specs.DialoguePartsReading.{opening};
 ghost use Rattle.tcap_pdu.specs.DialogueReading.{request_at, accepted_of, by_provider_of, response_at, abort_at, structured_at, unstructured_at, foreign_by, pdu_by, pdu_at, dialogue_at};
 ghost use Rattle.tcap_pdu.specs.DialogueViews.{pdu_value};
+ghost use Rattle.tcap_pdu.specs.DialoguePlace.{pdu_tag, foreign_slice, PartsOnWay, PduOnWay, PduInPlace};
 
 use crate::dialogue_pdu::DialoguePdu;
 use crate::dialogue_pdu::parts::{
@@ -20,7 +23,9 @@ use ber_core::{is_element_list, is_oid, take_content, take_only};
 /// AARQ and AUDT: [80 protocol version], A1 application context name, [BE user information].
 #[tactic(auto, unfolding(crate::specs::DialogueReading::request_at))]
 fn read_request<'a>(content: &'a [u8]) -> Option<(bool, &'a [u8], &'a [u8])>
-    ensures { option_map (λ r. opening r.0 r.1.now r.2.now) result ≡ request_at content.now }
+    ensures value { option_map (λ r. opening r.0 r.1.now r.2.now) result ≡ request_at content.now }
+    ensures context { IfSome result (λ r. IsOnWay (0xa1 ∷ 0x06 ∷ []) r.1 content.entry) }
+    ensures info { IfSome result (λ r. IsOnWayIfAny (0xbe ∷ []) r.2 content.entry) }
 {
     let (version1, context, rest) = read_opening(content)?;
     let info = read_information(rest)?;
@@ -53,7 +58,10 @@ fn by_provider_of(number: u8) -> Option<bool>
 /// [BE user information].
 #[tactic(auto, unfolding(crate::specs::DialogueReading::response_at))]
 fn read_response<'a>(content: &'a [u8]) -> Option<DialoguePdu<'a>>
-    ensures { option_map pdu_value result ≡ response_at content.now }
+    ensures value { option_map pdu_value result ≡ response_at content.now }
+    ensures tag { IfSome result (λ pdu. pdu_tag pdu ≡ 0x61) }
+    ensures own { IfSome result (λ pdu. foreign_slice pdu ≡ None) }
+    ensures place { IfSome result (λ pdu. PartsOnWay [] pdu content.entry) }
 {
     let (version1, context, rest) = read_opening(content)?;
     let (result, rest) = take_content(rest, RESULT)?;
@@ -74,7 +82,10 @@ fn read_response<'a>(content: &'a [u8]) -> Option<DialoguePdu<'a>>
 /// ABRT: 80 abort source, [BE user information].
 #[tactic(auto, unfolding(crate::specs::DialogueReading::abort_at))]
 fn read_abort<'a>(content: &'a [u8]) -> Option<DialoguePdu<'a>>
-    ensures { option_map pdu_value result ≡ abort_at content.now }
+    ensures value { option_map pdu_value result ≡ abort_at content.now }
+    ensures tag { IfSome result (λ pdu. pdu_tag pdu ≡ 0x64) }
+    ensures own { IfSome result (λ pdu. foreign_slice pdu ≡ None) }
+    ensures place { IfSome result (λ pdu. PartsOnWay [] pdu content.entry) }
 {
     let (source, rest) = take_content(content, ABORT_SOURCE)?;
     let number = only_octet(source)?;
@@ -86,7 +97,9 @@ fn read_abort<'a>(content: &'a [u8]) -> Option<DialoguePdu<'a>>
 /// The PDU of a structured dialogue, and nothing after it.
 #[tactic(auto, unfolding(crate::specs::DialogueReading::structured_at))]
 fn read_structured<'a>(bytes: &'a [u8]) -> Option<DialoguePdu<'a>>
-    ensures { option_map pdu_value result ≡ structured_at bytes.now }
+    ensures value { option_map pdu_value result ≡ structured_at bytes.now }
+    ensures own { IfSome result (λ pdu. foreign_slice pdu ≡ None) }
+    ensures place { IfSome result (λ pdu. PartsOnWay (pdu_tag pdu ∷ []) pdu bytes.entry) }
 {
     let (tag, content) = take_one(bytes)?;
     match tag {
@@ -107,7 +120,9 @@ fn read_structured<'a>(bytes: &'a [u8]) -> Option<DialoguePdu<'a>>
 /// The PDU of an unstructured dialogue, and nothing after it.
 #[tactic(auto, unfolding(crate::specs::DialogueReading::unstructured_at))]
 fn read_unstructured<'a>(bytes: &'a [u8]) -> Option<DialoguePdu<'a>>
-    ensures { option_map pdu_value result ≡ unstructured_at bytes.now }
+    ensures value { option_map pdu_value result ≡ unstructured_at bytes.now }
+    ensures own { IfSome result (λ pdu. foreign_slice pdu ≡ None) }
+    ensures place { IfSome result (λ pdu. PartsOnWay (pdu_tag pdu ∷ []) pdu bytes.entry) }
 {
     let content = take_only(bytes, UNIDIRECTIONAL_DIALOGUE)?;
     let (version1, context, info) = read_request(content)?;
@@ -121,7 +136,8 @@ fn read_unstructured<'a>(bytes: &'a [u8]) -> Option<DialoguePdu<'a>>
 /// The foreign EXTERNAL that all bytes are, with this syntax and what follows it.
 #[tactic(auto, unfolding(crate::specs::DialogueReading::foreign_by))]
 fn read_foreign<'a>(bytes: &'a [u8], syntax: &[u8], rest: &[u8]) -> Option<DialoguePdu<'a>>
-    ensures { option_map pdu_value result ≡ foreign_by bytes.now syntax.now rest.now }
+    ensures value { option_map pdu_value result ≡ foreign_by bytes.now syntax.now rest.now }
+    ensures place { (external : Slice) → IfSome result (λ pdu. PduOnWay (0xa0 ∷ []) pdu bytes.entry external) }
 {
     if !is_oid(syntax) {
         return None;
@@ -135,7 +151,9 @@ fn read_foreign<'a>(bytes: &'a [u8], syntax: &[u8], rest: &[u8]) -> Option<Dialo
 /// The PDU by the abstract syntax, which stands first in the EXTERNAL.
 #[tactic(auto, unfolding(crate::specs::DialogueReading::pdu_by))]
 fn read_by_syntax<'a>(bytes: &'a [u8], syntax: &'a [u8], rest: &'a [u8]) -> Option<DialoguePdu<'a>>
-    ensures { option_map pdu_value result ≡ pdu_by bytes.now syntax.now rest.now }
+    ensures value { option_map pdu_value result ≡ pdu_by bytes.now syntax.now rest.now }
+    ensures place { (external : Slice) → GoesOn 0xa0 rest.entry external →
+        IfSome result (λ pdu. PduOnWay (0xa0 ∷ []) pdu bytes.entry external) }
 {
     if syntax == STRUCTURED.as_slice() {
         read_structured(take_only(rest, SINGLE_ASN1_TYPE)?)
@@ -149,7 +167,8 @@ fn read_by_syntax<'a>(bytes: &'a [u8], syntax: &'a [u8], rest: &'a [u8]) -> Opti
 /// The PDU that the bytes spell, if any.
 #[tactic(auto, unfolding(crate::specs::DialogueReading::pdu_at))]
 pub fn read_pdu<'a>(bytes: &'a [u8]) -> Option<DialoguePdu<'a>>
-    ensures { option_map pdu_value result ≡ pdu_at bytes.now }
+    ensures value { option_map pdu_value result ≡ pdu_at bytes.now }
+    ensures place { IfSome result (λ pdu. PduOnWay (0x28 ∷ 0xa0 ∷ []) pdu bytes.entry bytes.entry) }
 {
     let external = take_only(bytes, EXTERNAL)?;
     let (syntax, rest) = take_content(external, OBJECT_IDENTIFIER)?;
@@ -159,7 +178,8 @@ pub fn read_pdu<'a>(bytes: &'a [u8]) -> Option<DialoguePdu<'a>>
 /// The same, with the fault.
 #[tactic(auto, unfolding(crate::specs::DialogueReading::dialogue_at))]
 fn read_portion<'a>(bytes: &'a [u8]) -> Result<DialoguePdu<'a>, DialogueFault>
-    ensures { Gives pdu_value result (dialogue_at bytes.now) }
+    ensures value { Gives pdu_value result (dialogue_at bytes.now) }
+    ensures place { IfOk result (λ pdu. PduOnWay (0x28 ∷ 0xa0 ∷ []) pdu bytes.entry bytes.entry) }
 {
     match read_pdu(bytes) {
         Some(pdu) => Ok(pdu),
@@ -175,6 +195,8 @@ pub fn read_dialogue<'a>(content: &'a [u8]) -> Result<DialoguePdu<'a>, DialogueF
     ensures only { (p : PduValue) → SpellsDialogue p content.now → IsOkAnd result (λ pdu. pdu_value pdu ≡ p) }
     // The fault comes where no PDU is spelled.
     ensures fault { IfErr result (λ _. (p : PduValue) → SpellsDialogue p content.now → ⊥) }
+    // Its slices are parts of the content, at their places.
+    ensures place { IfOk result (λ pdu. PduInPlace pdu content.entry) }
     // The same, computed: what the layers above cite.
     ensures exact { Gives pdu_value result (dialogue_at content.now) }
 {

@@ -1,9 +1,13 @@
-ghost use Rattle.std.specs.Prelude.{◌≡◌, IfOk, IfErr, IsOkAnd, option_map};
+ghost use Rattle.std.specs.Prelude.{◌≡◌, ◌==◌, ℕ, false, None, IfOk, IfErr, IfSome, IsOkAnd, option_map};
 ghost use Rattle.ber_core.specs.Results.{Gives};
 ghost use Rattle.tcap_pdu.specs.FrameSpelling.{Message, SpellsFrame};
 ghost use Rattle.tcap_pdu.specs.FrameFaults.{IsFrameFault};
 ghost use Rattle.tcap_pdu.specs.FrameReading.{frame_at, begin_at, end_at, go_on_at, abort_at, unidirectional_at, cause_at, reason_at, type_at, message_at, id_at, portions_at, pair};
 ghost use Rattle.tcap_pdu.specs.FrameViews.{message, reason_of};
+ghost use Rattle.ber_core.specs.SequenceReading.{ending};
+ghost use Rattle.tcap_pdu.specs.FramePortions.{reason_slice};
+ghost use Rattle.tcap_pdu.specs.FramePlace.{FrameIn, PortionsIn, ReasonIn, FrameInPlace};
+ghost use Rattle.ber_core.specs.Way.{GoesOn};
 ghost use Rattle.std.specs.Option.{option_copied};
 
 use super::{AbortPart, Frame};
@@ -42,7 +46,8 @@ fn message_type(tag: &[u8]) -> Option<MessageType>
 #[tactic(auto, unfolding(crate::specs::FrameReading::id_at))]
 #[inline(always)]
 fn take_id<'a>(bytes: &'a [u8], tag: u8) -> Option<(TransId, &'a [u8])>
-    ensures { option_map (λ r. (r.0, r.1.now)) result ≡ id_at tag bytes.now }
+    ensures value { option_map (λ r. (r.0, r.1.now)) result ≡ id_at tag bytes.now }
+    ensures goes_on { (other : ℕ) → (tag == other) ≡ false → IfSome result (λ r. GoesOn other r.1 bytes.entry) }
 {
     let (octets, rest) = take_content(bytes, tag)?;
     let id = TransId::new(octets)?;
@@ -53,7 +58,8 @@ fn take_id<'a>(bytes: &'a [u8], tag: u8) -> Option<(TransId, &'a [u8])>
 #[tactic(auto, unfolding(crate::specs::FrameReading::portions_at))]
 #[inline(always)]
 fn take_portions<'a>(bytes: &'a [u8]) -> Option<(Option<&'a [u8]>, &'a [u8])>
-    ensures { option_map (λ r. pair (option_copied r.0) r.1.now) result ≡ portions_at bytes.now }
+    ensures value { option_map (λ r. pair (option_copied r.0) r.1.now) result ≡ portions_at bytes.now }
+    ensures place { IfSome result (λ r. PortionsIn r.0 r.1 bytes.entry) }
 {
     let (dialogue, rest) = take_tagged(bytes, tag::DIALOGUE_PORTION);
     let (components, rest) = take_tagged(rest, tag::COMPONENT_PORTION);
@@ -67,7 +73,8 @@ fn take_portions<'a>(bytes: &'a [u8]) -> Option<(Option<&'a [u8]>, &'a [u8])>
 #[tactic(auto, unfolding(crate::specs::FrameReading::unidirectional_at))]
 #[inline(never)]
 fn read_unidirectional<'a>(content: &'a [u8]) -> Option<Frame<'a>>
-    ensures { option_map message result ≡ unidirectional_at content.now }
+    ensures value { option_map message result ≡ unidirectional_at content.now }
+    ensures place { IfSome result (λ frame. FrameIn frame content.entry) }
 {
     let (dialogue, rest) = take_tagged(content, tag::DIALOGUE_PORTION);
     let (components, rest) = take_content(rest, tag::COMPONENT_PORTION)?;
@@ -84,7 +91,8 @@ fn read_unidirectional<'a>(content: &'a [u8]) -> Option<Frame<'a>>
 #[tactic(auto, unfolding(crate::specs::FrameReading::begin_at))]
 #[inline(always)]
 fn read_begin<'a>(content: &'a [u8]) -> Option<Frame<'a>>
-    ensures { option_map message result ≡ begin_at content.now }
+    ensures value { option_map message result ≡ begin_at content.now }
+    ensures place { IfSome result (λ frame. FrameIn frame content.entry) }
 {
     let (otid, rest) = take_id(content, tag::ORIGIN)?;
     let (dialogue, components) = take_portions(rest)?;
@@ -98,7 +106,8 @@ fn read_begin<'a>(content: &'a [u8]) -> Option<Frame<'a>>
 /// End: 49, [6B], [6C].
 #[tactic(auto, unfolding(crate::specs::FrameReading::end_at))]
 fn read_end<'a>(content: &'a [u8]) -> Option<Frame<'a>>
-    ensures { option_map message result ≡ end_at content.now }
+    ensures value { option_map message result ≡ end_at content.now }
+    ensures place { IfSome result (λ frame. FrameIn frame content.entry) }
 {
     let (dtid, rest) = take_id(content, tag::DESTINATION)?;
     let (dialogue, components) = take_portions(rest)?;
@@ -113,7 +122,8 @@ fn read_end<'a>(content: &'a [u8]) -> Option<Frame<'a>>
 #[tactic(auto, unfolding(crate::specs::FrameReading::go_on_at))]
 #[inline(always)]
 fn read_continue<'a>(content: &'a [u8]) -> Option<Frame<'a>>
-    ensures { option_map message result ≡ go_on_at content.now }
+    ensures value { option_map message result ≡ go_on_at content.now }
+    ensures place { IfSome result (λ frame. FrameIn frame content.entry) }
 {
     let (otid, rest) = take_id(content, tag::ORIGIN)?;
     let (dtid, rest) = take_id(rest, tag::DESTINATION)?;
@@ -129,7 +139,8 @@ fn read_continue<'a>(content: &'a [u8]) -> Option<Frame<'a>>
 /// The P-Abort cause that a content of one octet is, 0 to 127.
 #[tactic(auto, unfolding(crate::specs::FrameReading::cause_at))]
 fn read_cause(content: &[u8]) -> Option<AbortPart<'static>>
-    ensures { option_map reason_of result ≡ cause_at content.now }
+    ensures value { option_map reason_of result ≡ cause_at content.now }
+    ensures none { IfSome result (λ part. reason_slice part ≡ None) }
 {
     match content {
         [cause] if *cause <= tag::MAX_CAUSE => Some(AbortPart::Cause(*cause)),
@@ -137,33 +148,40 @@ fn read_cause(content: &[u8]) -> Option<AbortPart<'static>>
     }
 }
 
+/// The part, if nothing follows it.
+#[inline(always)]
+fn if_last<'a>(part: AbortPart<'a>, rest: &[u8]) -> Option<AbortPart<'a>>
+    ensures value { option_map reason_of result ≡ ending (reason_of part.entry) rest.now }
+    ensures same { IfSome result (λ last. reason_slice last ≡ reason_slice part.entry) }
+{
+    if rest.is_empty() { Some(part) } else { None }
+}
+
 /// What follows the destination of an Abort: 4A or 6B or nothing.
 #[tactic(auto, unfolding(crate::specs::FrameReading::reason_at))]
 #[inline(never)]
 fn read_reason<'a>(bytes: &'a [u8]) -> Option<AbortPart<'a>>
-    ensures { option_map reason_of result ≡ reason_at bytes.now }
+    ensures value { option_map reason_of result ≡ reason_at bytes.now }
+    ensures place { IfSome result (λ reason. ReasonIn reason bytes.entry) }
 {
     if bytes.is_empty() {
         return Some(AbortPart::Nothing);
     }
-    let (part, rest) = match take_tagged(bytes, tag::P_ABORT_CAUSE) {
-        (Some(cause), rest) => (read_cause(cause)?, rest),
+    match take_tagged(bytes, tag::P_ABORT_CAUSE) {
+        (Some(cause), rest) => if_last(read_cause(cause)?, rest),
         (None, _) => {
             let (dialogue, rest) = take_content(bytes, tag::DIALOGUE_PORTION)?;
-            (AbortPart::Dialogue(dialogue), rest)
+            if_last(AbortPart::Dialogue(dialogue), rest)
         }
-    };
-    if !rest.is_empty() {
-        return None;
     }
-    Some(part)
 }
 
 /// Abort: 49, then 4A or 6B or nothing.
 #[tactic(auto, unfolding(crate::specs::FrameReading::abort_at))]
 #[inline(never)]
 fn read_abort<'a>(content: &'a [u8]) -> Option<Frame<'a>>
-    ensures { option_map message result ≡ abort_at content.now }
+    ensures value { option_map message result ≡ abort_at content.now }
+    ensures place { IfSome result (λ frame. FrameIn frame content.entry) }
 {
     let (dtid, rest) = take_id(content, tag::DESTINATION)?;
     let reason = read_reason(rest)?;
@@ -173,7 +191,8 @@ fn read_abort<'a>(content: &'a [u8]) -> Option<Frame<'a>>
 /// The message of this type that a content is.
 #[inline(always)]
 fn read_content<'a>(kind: MessageType, content: &'a [u8]) -> Option<Frame<'a>>
-    ensures { option_map message result ≡ message_at kind content.now }
+    ensures value { option_map message result ≡ message_at kind content.now }
+    ensures place { IfSome result (λ frame. FrameIn frame content.entry) }
 {
     match kind {
         MessageType::Uni => read_unidirectional(content),
@@ -188,7 +207,8 @@ fn read_content<'a>(kind: MessageType, content: &'a [u8]) -> Option<Frame<'a>>
 #[tactic(auto, unfolding(crate::specs::FrameReading::frame_at))]
 #[inline(always)]
 fn split_frame<'a>(bytes: &'a [u8]) -> Result<Frame<'a>, FrameFault>
-    ensures { Gives message result (frame_at bytes.now) }
+    ensures value { Gives message result (frame_at bytes.now) }
+    ensures place { IfOk result (λ frame. FrameInPlace frame bytes.entry) }
 {
     let Some(element) = read_alone(bytes) else {
         return Err(FrameFault::BadlyFormatted);
@@ -212,6 +232,8 @@ pub fn read_frame<'a>(bytes: &'a [u8]) -> Result<Frame<'a>, FrameFault>
     ensures only { (m : Message) → SpellsFrame m bytes.now → IsOkAnd result (λ frame. message frame ≡ m) }
     // Which fault, the first in their order.
     ensures fault { IfErr result (λ f. IsFrameFault bytes.now f) }
+    // The portions are parts of the bytes, at their places.
+    ensures place { IfOk result (λ frame. FrameInPlace frame bytes.entry) }
     // The same, computed: what the layers above cite.
     ensures exact { Gives message result (frame_at bytes.now) }
 {

@@ -1,0 +1,7 @@
+use Rattle.std.proofs.Common.{refl}
+use Rattle.tcap_pdu.proofs.DialoguePlaceSteps.{context-way}
+use Rattle.tcap_pdu.proofs.dialogue_pdu.parts.read_opening.Goals as goal
+
+pub returns-clause-context : goal.returns-clause-context
+returns-clause-context c =
+    context-way c.in_ok-context.context c.in_ok-name.name c.in_ok-version1.rest c.args.bytes (c.in_ok-version1.ensures.goes_on 0xa1 refl) c.in_ok-name.ensures.inside c.in_ok-context.ensures.inside
