@@ -1,10 +1,11 @@
 -- The length of what is written, by the lengths of its parts.
-use Rattle.std.proofs.Common.{◌≡◌, ◌≢◌, ℕ, ◌+◌, ◌<◌, ◌≤◌, bit_and, false, ltb, leb, IsTrue, ◌↔◌, rules, List, [], ◌∷◌, ◌++◌, length, Option, Some, None, unwrap_or, option_map, refl, sym, ap, subst, ◌∙◌, inl, inr, arith, length-append, append-nil}
-use Rattle.std.specs.Prelude.{◌==◌}
-use Rattle.std.proofs.lemmas.Bool.{cases_Bool}
+use Rattle.std.proofs.Common.{◌≡◌, ◌≢◌, Bool, ℕ, ◌+◌, ◌<◌, ◌≤◌, bit_and, false, IsTrue, ◌↔◌, List, [], ◌∷◌, length, Option, Some, None, unwrap_or, option_map, refl, sym, ap, subst, ◌∙◌, arith, length-append, append-nil}
+use Rattle.std.specs.Prelude.{◌==◌, IfNone}
+use Rattle.ber_core.specs.WrittenLength.{element_length as shortest_length}
+use Rattle.ber_core.proofs.CallerLemmas.{element_length-least, length-written as length-shortest}
 use Rattle.ber_core.specs.Sequence.{Field}
 use Rattle.ber_core.specs.Sequence.Field.{must, may, filled, any}
-use Rattle.ber_core.specs.Written.{length_octets, written, written_field, written_fields, IsShort, CanWrite, CanWriteAll}
+use Rattle.ber_core.specs.Written.{written, written_field, written_fields, IsShort, CanWrite, CanWriteAll}
 use Rattle.tcap_pdu.specs.FrameSpelling.{Reason, Message, message_tag, fields, reason_fields}
 use Rattle.tcap_pdu.specs.FrameSpelling.Reason.{nothing, cause, portion}
 use Rattle.tcap_pdu.specs.FrameSpelling.Message.{unidirectional, begin, end, go_on, abort}
@@ -13,23 +14,11 @@ use Rattle.tcap_pdu.specs.FrameLength.{reason_with, with_dialogue, reason_dialog
 
 pub content-fits : (n : ℕ) → n + 2 ≤ element_length n
 unfolding element_length
-content-fits n = elim (cases_Bool (ltb n 0x80)) [
-  | inl a ↦ rw a (omega arith)
-  | inr a ↦ elim (cases_Bool (ltb n 0x100)) [ inl b ↦ rw (a, b) (omega arith) | inr b ↦ rw (a, b) (omega arith) ]
-]
-
-octets-length : (n : ℕ) → length (length_octets n) + (n + 1) ≡ element_length n
-unfolding element_length
-octets-length n = elim (cases_Bool (ltb n 0x80)) [
-  | inl a ↦ rw a (omega arith)
-  | inr a ↦ elim (cases_Bool (ltb n 0x100)) [ inl b ↦ rw (a, b) (omega arith) | inr b ↦ rw (a, b) (omega arith) ]
-]
+content-fits n = element_length-least n
 
 pub length-written : (tag : ℕ) (c : List ℕ) → length (written (tag ∷ []) c) ≡ element_length (length c)
-length-written tag c =
-    let o = octets-length (length c) in
-    let a = length-append ((tag ∷ []) ++ length_octets (length c)) c in
-    omega (arith, o, a)
+unfolding element_length
+length-written tag c = length-shortest tag c
 
 may-length : (tag : ℕ) (d : Option (List ℕ)) → length (written_field (may tag d)) ≡ may_length (option_map length d)
 may-length tag None = refl
@@ -190,6 +179,16 @@ parts-can m le = all_can (fields m) (tagged_fields m) le
 
 -- ---- what write_frame and frame_fits count
 
+-- what element_len counts for contents of this length
+pub counted : (m : Message) (d : Option ℕ) (n t : ℕ) → n ≡ content_length d m → t ≡ shortest_length n → t ≡ frame_length d m
+unfolding element_length
+counted m d n t content total = total ∙ ap shortest_length content
+
+-- a message whose contents are above the limit is above it
+pub above : (m : Message) (d : Option ℕ) (o : Option ℕ) → 65535 < content_length d m → IfNone o (65535 < frame_length d m)
+above m d None lt = let least = content-fits (content_length d m) in omega (arith, least, lt)
+above m d (Some n) lt = tt
+
 pub sizes : (m : Message) (d : Option ℕ) (n t : ℕ) → d ≡ option_map length (dialogue_of m) → n ≡ content_length d m → t ≡ element_length n → (n ≡ length (written_fields (fields m))) × (t ≡ length (written_frame m)) × (n + 2 ≤ t)
 sizes m d n t own content total =
     let same = ap (λ (x : Option ℕ). content_length x m) own in
@@ -198,14 +197,14 @@ sizes m d n t own content total =
     let least = content-fits n in
     (is, total ∙ (ap element_length is ∙ sym (length-written (message_tag m) (written_fields (fields m)))), omega (arith, least, total))
 
-within : (r n k : ℕ) → r ≡ k → n ≡ k → (IsTrue (leb r 65535) ↔ (n ≤ 65535))
-within r n k p q = let s = p ∙ sym q in subst (λ (x : ℕ). IsTrue (leb x 65535) ↔ (n ≤ 65535)) (sym s) (both n)
-  where
-    both : (x : ℕ) → (IsTrue (leb x 65535) ↔ (x ≤ 65535))
-    both x = search rules
+-- the length of the written message, by the length of its own contents of 6B
+pub own_length : (m : Message) (d : Option ℕ) → d ≡ option_map length (dialogue_of m) → length (written_frame m) ≡ frame_length d m
+own_length m d is = length-own m ∙ ap (λ (x : Option ℕ). frame_length x m) (sym is)
 
-pub fits : (m : Message) (d : Option (List ℕ)) (e : Option ℕ) (r : ℕ) → option_map length d ≡ e → r ≡ frame_length e m → (IsTrue (leb r 65535) ↔ (length (written_frame (with_dialogue d m)) ≤ 65535))
-fits m d e r same is = within r (length (written_frame (with_dialogue d m))) (frame_length e m) is (length-with d m ∙ ap (λ (x : Option ℕ). frame_length x m) same)
+pub fits-with : (m : Message) (d : Option (List ℕ)) (e : Option ℕ) (r : Bool) → option_map length d ≡ e → (IsTrue r ↔ (frame_length e m ≤ 65535)) → (IsTrue r ↔ (length (written_frame (with_dialogue d m)) ≤ 65535))
+fits-with m d e r same h =
+    let n : length (written_frame (with_dialogue d m)) ≡ frame_length e m = length-with d m ∙ ap (λ (x : Option ℕ). frame_length x m) same in
+    subst (λ (x : ℕ). IsTrue r ↔ (x ≤ 65535)) (sym n) h
 
 size-own : (d : Option (List ℕ)) → d ≢ Some [] → option_map length d ≡ nonzero (length (unwrap_or d []))
 size-own None h = refl

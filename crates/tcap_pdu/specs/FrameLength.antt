@@ -1,5 +1,6 @@
 -- How many bytes a written message has, by the lengths of its parts.
-use Rattle.std.specs.Prelude.{◌≡◌, ℕ, zero, suc, ◌+◌, List, [], length, unwrap_or, Option, Some, None, nat_lt, if◌then◌else◌}
+use Rattle.std.specs.Prelude.{◌≡◌, ℕ, zero, suc, ◌+◌, List, [], length, unwrap_or, Option, Some, None}
+use Rattle.ber_core.specs.WrittenLength.{element_length as shortest_length}
 use Rattle.tcap_pdu.specs.FrameSpelling.{Reason, Message}
 use Rattle.tcap_pdu.specs.FrameSpelling.Reason.{nothing, cause, portion}
 use Rattle.tcap_pdu.specs.FrameSpelling.Message.{unidirectional, begin, end, go_on, abort}
@@ -57,7 +58,7 @@ CanHold (abort t (portion d)) n = Unit {0}
 -- The bytes of an element of this content length: a tag of one octet, the shortest length octets and
 -- the content (X.690, Length octets).
 unfoldable pub element_length : ℕ → ℕ
-element_length n = if nat_lt n 0x80 then n + 2 else if nat_lt n 0x100 then n + 3 else n + 4
+element_length n = shortest_length n
 
 -- The bytes of an optional element (Q.773, tables of information elements).
 abbrev pub may_length : Option ℕ → ℕ

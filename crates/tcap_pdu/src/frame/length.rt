@@ -1,43 +1,28 @@
-ghost use Rattle.std.specs.Prelude.{◌≡◌, ◌↔◌, ◌+◌, ◌^◌, ◌<◌, ◌≤◌, List, ℕ, Option, length, option_map, IsTrue};
+ghost use Rattle.std.specs.Prelude.{◌≡◌, ◌↔◌, ◌+◌, ◌^◌, ◌<◌, ◌≤◌, List, ℕ, Option, length, option_map, IsTrue, IfSome, IfNone};
 ghost use Rattle.tcap_pdu.specs.TransId.{IsTransId};
 ghost use Rattle.tcap_pdu.specs.FrameSpelling.{HasIds};
 ghost use Rattle.tcap_pdu.specs.FrameWritten.{message_limit, written_frame};
-ghost use Rattle.tcap_pdu.specs.FrameLength.{CanHold, content_length, dialogue_of, nonzero, element_length, frame_length, may_length, reason_length, with_dialogue};
+ghost use Rattle.tcap_pdu.specs.FrameLength.{CanHold, content_length, dialogue_of, nonzero, element_length, frame_length, may_length, filled_length, reason_length, with_dialogue};
 ghost use Rattle.tcap_pdu.specs.FrameViews.{message, reason_of};
 
 use super::{AbortPart, Frame};
 use crate::trans_id::TransId;
+use ber_core::{MAX_LENGTH, element_len};
 
 /// The greatest number of bytes of a message that is written: 65,535 (our own).
-pub const MAX_MESSAGE: usize = 65_535;
+pub const MAX_MESSAGE: usize = MAX_LENGTH;
 
-/// The bytes of an element with this many bytes of content. Lengths are added up in 128 bits: slices
-/// may be as long as they like, and no sum wraps.
+/// The bytes of an optional element, `None` where its contents alone are above the limit.
 #[tactic(auto, unfolding(crate::specs::FrameLength::element_length))]
 #[inline(always)]
-pub(super) fn element_len(content: u128) -> u128
-    requires { content < 2 ^ 100 }
-    ensures value { result ≡ element_length content }
-    ensures small { result ≤ content + 4 }
-{
-    if content < 0x80 {
-        content + 2
-    } else if content < 0x100 {
-        content + 3
-    } else {
-        content + 4
-    }
-}
-
-/// The bytes of an optional element.
-#[inline(always)]
-fn may_len(content: Option<usize>) -> u128
-    ensures value { result ≡ may_length content }
-    ensures small { result < 2 ^ 65 }
+fn may_len(content: Option<usize>) -> Option<usize>
+    ensures some { IfSome result (λ len. (len ≡ may_length content) × (len < 2 ^ 17)) }
+    ensures none { IfNone result (message_limit < may_length content) }
 {
     match content {
-        None => 0,
-        Some(len) => element_len(len as u128),
+        None => Some(0),
+        Some(len) if len > MAX_LENGTH => None,
+        Some(len) => Some(element_len(len)),
     }
 }
 
@@ -50,54 +35,83 @@ fn nonzero(len: usize) -> Option<usize>
 }
 
 /// The bytes of a transaction identifier.
+#[tactic(auto, unfolding(crate::specs::FrameLength::element_length))]
 #[inline(always)]
-fn id_len(id: &TransId) -> u128
+fn id_len(id: &TransId) -> usize
     ensures value { result ≡ element_length (length id.now) }
     ensures small { result ≤ 8 }
     ensures within { IsTransId id.now }
 {
-    element_len(id.octets().len() as u128)
+    element_len(id.octets().len())
 }
 
 /// The bytes behind the destination of an Abort, with 6B contents of this many bytes in place of its
 /// own.
-fn reason_len(reason: &AbortPart<'_>, dialogue: Option<usize>) -> u128
-    ensures value { result ≡ reason_length dialogue (reason_of reason.now) }
-    ensures small { result < 2 ^ 65 }
+fn reason_len(reason: &AbortPart<'_>, dialogue: Option<usize>) -> Option<usize>
+    ensures some { IfSome result (λ len. (len ≡ reason_length dialogue (reason_of reason.now)) × (len < 2 ^ 17)) }
+    ensures none { IfNone result (message_limit < reason_length dialogue (reason_of reason.now)) }
 {
     match reason {
-        AbortPart::Cause(_) => element_len(1),
+        AbortPart::Cause(_) => may_len(Some(1)),
         AbortPart::Nothing | AbortPart::Dialogue(_) => may_len(dialogue),
     }
 }
 
-/// The bytes of the contents, with 6B contents of this many bytes in place of its own.
+/// The bytes of the portions, with 6B contents of this many bytes in place of its own.
 #[inline(always)]
-pub(super) fn content_len(frame: &Frame<'_>, dialogue: Option<usize>) -> u128
-    ensures value { result ≡ content_length dialogue (message frame.now) }
-    ensures small { result < 2 ^ 68 }
+fn portions_len(dialogue: Option<usize>, components: &[u8]) -> Option<usize>
+    ensures some { IfSome result (λ len. (len ≡ may_length dialogue + filled_length (length components.now)) × (len < 2 ^ 18)) }
+    ensures none { IfNone result (message_limit < may_length dialogue + filled_length (length components.now)) }
+{
+    Some(may_len(dialogue)? + may_len(nonzero(components.len()))?)
+}
+
+/// The bytes of the contents, with 6B contents of this many bytes in place of its own; `None` where a
+/// part alone is above the limit.
+#[inline(always)]
+fn content_len(frame: &Frame<'_>, dialogue: Option<usize>) -> Option<usize>
+    ensures some { IfSome result (λ len. (len ≡ content_length dialogue (message frame.now)) × (len < 2 ^ 20)) }
+    ensures none { IfNone result (message_limit < content_length dialogue (message frame.now)) }
     ensures ids { HasIds (message frame.now) }
 {
     match frame {
-        Frame::Uni { components, .. } => may_len(dialogue) + element_len(components.len() as u128),
+        Frame::Uni { components, .. } => Some(
+            may_len(dialogue)? + may_len(Some(components.len()))?,
+        ),
         Frame::Begin {
             otid,
             components,
             ..
-        } => id_len(otid) + may_len(dialogue) + may_len(nonzero(components.len())),
+        } => Some(id_len(otid) + portions_len(dialogue, components)?),
+        Frame::End {
+            dtid,
+            components,
+            ..
+        } => Some(id_len(dtid) + portions_len(dialogue, components)?),
         Frame::Continue {
             otid,
             dtid,
             components,
             ..
-        } => id_len(otid) + id_len(dtid) + may_len(dialogue) + may_len(nonzero(components.len())),
-        Frame::End {
-            dtid,
-            components,
-            ..
-        } => id_len(dtid) + may_len(dialogue) + may_len(nonzero(components.len())),
-        Frame::Abort { dtid, reason } => id_len(dtid) + reason_len(reason, dialogue),
+        } => Some(id_len(otid) + id_len(dtid) + portions_len(dialogue, components)?),
+        Frame::Abort { dtid, reason } => Some(id_len(dtid) + reason_len(reason, dialogue)?),
     }
+}
+
+/// The bytes of the contents, with 6B contents of this many bytes in place of its own; `None` where
+/// the written message is above the limit.
+#[inline(always)]
+pub(super) fn fitting_len(frame: &Frame<'_>, dialogue: Option<usize>) -> Option<usize>
+    ensures some { IfSome result (λ len. (len ≡ content_length dialogue (message frame.now))
+        × (frame_length dialogue (message frame.now) ≤ message_limit)) }
+    ensures none { IfNone result (message_limit < frame_length dialogue (message frame.now)) }
+    ensures ids { HasIds (message frame.now) }
+{
+    let content = content_len(frame, dialogue)?;
+    if element_len(content) > MAX_MESSAGE {
+        return None;
+    }
+    Some(content)
 }
 
 /// The length of the message's own 6B contents, if it has any.
@@ -105,23 +119,16 @@ pub(super) fn content_len(frame: &Frame<'_>, dialogue: Option<usize>) -> u128
 pub(super) fn dialogue_len(frame: &Frame<'_>) -> Option<usize>
     ensures { result ≡ option_map length (dialogue_of (message frame.now)) }
 {
-    match frame {
-        Frame::Uni { dialogue, .. }
-        | Frame::Begin { dialogue, .. }
-        | Frame::Continue { dialogue, .. }
-        | Frame::End { dialogue, .. } => dialogue.map(|own| own.len()),
-        Frame::Abort { reason, .. } => match reason {
-            AbortPart::Nothing | AbortPart::Cause(_) => None,
-            AbortPart::Dialogue(own) => Some(own.len()),
-        },
-    }
+    frame.dialogue().map(|own| own.len())
 }
 
-/// The bytes of the written message, with 6B contents of this many bytes in place of its own.
-fn frame_len(frame: &Frame<'_>, dialogue: Option<usize>) -> u128
-    ensures { result ≡ frame_length dialogue (message frame.now) }
+/// Whether the written message, with 6B contents of this many bytes in place of its own, is within
+/// the limit.
+#[inline(always)]
+fn fits(frame: &Frame<'_>, dialogue: Option<usize>) -> bool
+    ensures { IsTrue result ↔ (frame_length dialogue (message frame.now) ≤ message_limit) }
 {
-    element_len(content_len(frame, dialogue))
+    fitting_len(frame, dialogue).is_some()
 }
 
 /// Whether the written message, with 6B contents of `dialogue` bytes in place of its own, or without
@@ -135,5 +142,5 @@ pub fn frame_fits(frame: &Frame<'_>, dialogue: usize) -> bool
     // The same by lengths, computed: what the layers above cite.
     ensures exact { IsTrue result ↔ (frame_length (nonzero dialogue) (message frame.now) ≤ message_limit) }
 {
-    frame_len(frame, nonzero(dialogue)) <= MAX_MESSAGE as u128
+    fits(frame, nonzero(dialogue))
 }

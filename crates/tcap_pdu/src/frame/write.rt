@@ -7,7 +7,7 @@ ghost use Rattle.tcap_pdu.specs.FrameSpelling.{HasCause, SpellsFrame, fields, me
 ghost use Rattle.tcap_pdu.specs.FrameWritten.{IsWriteFault, message_limit, written_frame};
 ghost use Rattle.tcap_pdu.specs.FrameViews.{message, reason_of};
 
-use super::length::{MAX_MESSAGE, content_len, dialogue_len, element_len};
+use super::length::{dialogue_len, fitting_len};
 use super::{AbortPart, Frame};
 use crate::fault::PduFault;
 use crate::tag;
@@ -103,6 +103,14 @@ fn write_content<A: Allocator + Copy>(
             write_part(out, tag::ORIGIN, otid.octets())?;
             write_portions(out, dialogue, components)
         }
+        Frame::End {
+            dtid,
+            dialogue,
+            components,
+        } => {
+            write_part(out, tag::DESTINATION, dtid.octets())?;
+            write_portions(out, dialogue, components)
+        }
         Frame::Continue {
             otid,
             dtid,
@@ -110,14 +118,6 @@ fn write_content<A: Allocator + Copy>(
             components,
         } => {
             write_part(out, tag::ORIGIN, otid.octets())?;
-            write_part(out, tag::DESTINATION, dtid.octets())?;
-            write_portions(out, dialogue, components)
-        }
-        Frame::End {
-            dtid,
-            dialogue,
-            components,
-        } => {
             write_part(out, tag::DESTINATION, dtid.octets())?;
             write_portions(out, dialogue, components)
         }
@@ -136,8 +136,8 @@ fn tag_of(frame: &Frame<'_>) -> u8
     match frame {
         Frame::Uni { .. } => tag::UNIDIRECTIONAL,
         Frame::Begin { .. } => tag::BEGIN,
-        Frame::Continue { .. } => tag::CONTINUE,
         Frame::End { .. } => tag::END,
+        Frame::Continue { .. } => tag::CONTINUE,
         Frame::Abort { .. } => tag::ABORT,
     }
 }
@@ -174,12 +174,8 @@ pub fn write_frame<A: Allocator + Copy>(alloc: A, frame: &Frame<'_>) -> Result<V
     ensures too_long { message_limit < length (written_frame (message frame.now)) → IsErrOf result TooLong }
     ensures fault { IfErr result (λ fault. IsWriteFault (message frame.now) fault) }
 {
-    let content = content_len(frame, dialogue_len(frame));
-    if element_len(content) > MAX_MESSAGE as u128 {
+    let Some(content) = fitting_len(frame, dialogue_len(frame)) else {
         return Err(PduFault::TooLong);
-    }
-    match spell_frame(alloc, frame, content as usize) {
-        Ok(bytes) => Ok(bytes),
-        Err(OutOfMemory) => Err(PduFault::OutOfMemory),
-    }
+    };
+    Ok(spell_frame(alloc, frame, content)?)
 }
