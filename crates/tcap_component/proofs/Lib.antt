@@ -2,6 +2,7 @@ pub mod CallerLemmas
 pub mod ComponentGrammar
 pub mod ContentsGrammar
 pub mod FaultGrammar
+pub mod ItemSteps
 pub mod LengthGrammar
 pub mod ListGrammar
 pub mod PartGrammar

@@ -232,3 +232,16 @@ components_by (suc n) (b ∷ bytes) = components_from (components_by n) (compone
 -- The components up to the first fault, and that fault (Q.773, Component portion).
 abbrev pub components_of : List ℕ → List (Result ComponentParts FaultParts)
 components_of content = components_by (length content) content
+
+-- The item that was read, and what is left behind it (own).
+abbrev pub item_of : Result (ComponentParts × List ℕ) FaultParts → Option (Result ComponentParts FaultParts) × List ℕ
+item_of (Ok r) = (Some (Ok r.0), r.1)
+item_of (Err f) = (Some (Err f), [])
+
+-- Nothing is left (own).
+abbrev pub no_item : Option (Result ComponentParts FaultParts) × List ℕ
+no_item = (None, [])
+
+-- The first item, and what is left behind it: after a fault, nothing (own).
+unfoldable pub item_at : List ℕ → Option (Result ComponentParts FaultParts) × List ℕ
+item_at bytes = if length bytes == 0 then no_item else item_of (component_at bytes)

@@ -1,5 +1,7 @@
-ghost use Rattle.std.specs.Prelude.{◌≡◌, List, Option};
+ghost use Rattle.std.specs.Prelude.{◌≡◌, List, Option, option_map};
 ghost use Rattle.tcap_component.specs.Component.{ComponentParts};
+ghost use Rattle.tcap_component.specs.ComponentReading.{item_at};
+ghost use Rattle.tcap_component.specs.Views.{item_view};
 
 use crate::component::Component;
 use crate::component::read::read_component;
@@ -21,6 +23,7 @@ impl<'a> Components<'a> {
 
     /// The components in the contents of 6C. It gives exactly the components before the first fault,
     /// then that fault, and then ends.
+    #[tactic(auto, using(crate::proofs::ListGrammar::first_fault_again, crate::proofs::ListGrammar::first_fault_is))]
     pub fn new(content: &'a [u8]) -> Components<'a>
         // The components before the first fault, and then that fault.
         ensures first_fault { (cs : List ComponentParts) (f : Option FaultParts) → FirstFault cs f content.now → components_left result ≡ items cs f }
@@ -45,18 +48,23 @@ impl<'a> Iterator for Components<'a> {
 
     #[inline(always)]
     fn next(&mut self) -> Option<Result<Component<'a>, ComponentFault>> {
-        if self.rest.is_empty() {
-            return None;
-        }
-        match read_component(self.rest) {
-            Ok((component, rest)) => {
-                self.rest = rest;
-                Some(Ok(component))
-            }
-            Err(fault) => {
-                self.rest = &[];
-                Some(Err(fault))
-            }
-        }
+        let (item, rest) = split_item(self.rest);
+        self.rest = rest;
+        item
+    }
+}
+
+/// The first item, and what is left behind it: after a fault, nothing.
+#[tactic(auto, unfolding(crate::specs::ComponentReading::item_at))]
+#[inline(always)]
+fn split_item<'a>(bytes: &'a [u8]) -> (Option<Result<Component<'a>, ComponentFault>>, &'a [u8])
+    ensures { (option_map item_view result.0, result.1.now) ≡ item_at bytes.now }
+{
+    if bytes.is_empty() {
+        return (None, &[]);
+    }
+    match read_component(bytes) {
+        Ok((component, rest)) => (Some(Ok(component)), rest),
+        Err(fault) => (Some(Err(fault)), &[]),
     }
 }
