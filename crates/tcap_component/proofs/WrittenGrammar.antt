@@ -120,3 +120,8 @@ length_known c whole len can is is_whole =
 
 pub length_unknown : (c : ComponentParts) (f : WriteFault) → IsWriteFault c f → None ≡ length_if_any (written_component c) (write_fault c)
 length_unknown c f h = rw (write_fault-told c f h) refl
+
+-- what a call that writes nothing cites
+pub ruleset fault_rules = (write_fault-none, write_fault-told)
+
+pub ruleset length_rules = (length_known, length_unknown, not_refused_by)

@@ -28,6 +28,26 @@ problem_tag kind.Error = 0x83
 abbrev pub general_problem : ℕ → ProblemParts
 general_problem code = record { kind = kind.General; code = code }
 
+-- The invoke problem "unrecognized linked identifier" (Q.773, Invoke Problem).
+abbrev pub unrecognized_linked_id : ProblemParts
+unrecognized_linked_id = record { kind = kind.Invoke; code = 5 }
+
+-- The return result problem "unrecognized invoke identifier" (Q.773, Return Result Problem).
+abbrev pub unrecognized_result : ProblemParts
+unrecognized_result = record { kind = kind.Result; code = 0 }
+
+-- The return result problem "return result unexpected" (Q.773, Return Result Problem).
+abbrev pub unexpected_result : ProblemParts
+unexpected_result = record { kind = kind.Result; code = 1 }
+
+-- The return error problem "unrecognized invoke identifier" (Q.773, Return Error Problem).
+abbrev pub unrecognized_error : ProblemParts
+unrecognized_error = record { kind = kind.Error; code = 0 }
+
+-- The return error problem "return error unexpected" (Q.773, Return Error Problem).
+abbrev pub unexpected_error : ProblemParts
+unexpected_error = record { kind = kind.Error; code = 1 }
+
 -- Whether a problem is one that the component sublayer tells: general 0 to 2, invoke 5, return
 -- result 0 and 1, return error 0 and 1 (own).
 abbrev pub is_by_provider : ProblemParts → Bool

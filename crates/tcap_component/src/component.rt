@@ -1,6 +1,8 @@
 pub mod length;
 pub mod parts;
+pub mod range;
 pub mod read;
+pub mod reject;
 pub mod write;
 
 use crate::problem::Problem;

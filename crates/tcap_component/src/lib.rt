@@ -11,8 +11,9 @@ pub mod laws;
 mod problem;
 mod tag;
 
-pub use component::length::component_len;
+pub use component::length::{component_fault, component_len};
 pub use component::read::read_component;
+pub use component::reject::{MAX_REJECT, reject_octets};
 pub use component::write::write_component;
 pub use component::{Body, Code, Component};
 pub use components::Components;

@@ -1,6 +1,8 @@
 ghost use Rattle.std.specs.Prelude.{◌≤◌};
 ghost use Rattle.tcap_component.specs.Problem.{problem_limit};
 
+use std::fmt;
+
 /// What a Reject speaks of (Q.773, Problem).
 #[derive(Clone, Copy, Debug, PartialEq, Eq)]
 pub enum Kind {
@@ -82,7 +84,7 @@ pub struct Problem {
 impl Problem {
     ghost use Rattle.std.specs.Prelude.{◌≡◌, ◌↔◌, IsSome, IfSome};
     ghost use Rattle.tcap_component.specs.Views.{problem_parts};
-    ghost use Rattle.tcap_component.specs.Problem.{IsProblem, general_problem, is_by_provider};
+    ghost use Rattle.tcap_component.specs.Problem.{IsProblem, general_problem, unrecognized_linked_id, unrecognized_result, unexpected_result, unrecognized_error, unexpected_error, is_by_provider};
 
     /// The problem with this code, if it is at most 127; those without a name are kept as numbers.
     pub fn new(kind: Kind, code: u8) -> Option<Problem>
@@ -103,6 +105,56 @@ impl Problem {
         Problem {
             kind: Kind::General,
             code,
+        }
+    }
+
+    /// The invoke problem "unrecognized linked identifier" (Q.773, Invoke Problem).
+    pub fn unrecognized_linked_id() -> Problem
+        ensures { problem_parts result ≡ unrecognized_linked_id }
+    {
+        Problem {
+            kind: Kind::Invoke,
+            code: invoke_problem::UNRECOGNIZED_LINKED_ID,
+        }
+    }
+
+    /// The return result problem "unrecognized invoke identifier" (Q.773, Return Result Problem).
+    pub fn unrecognized_result() -> Problem
+        ensures { problem_parts result ≡ unrecognized_result }
+    {
+        Problem {
+            kind: Kind::Result,
+            code: return_result_problem::UNRECOGNIZED_INVOKE_ID,
+        }
+    }
+
+    /// The return result problem "return result unexpected" (Q.773, Return Result Problem).
+    pub fn unexpected_result() -> Problem
+        ensures { problem_parts result ≡ unexpected_result }
+    {
+        Problem {
+            kind: Kind::Result,
+            code: return_result_problem::RETURN_RESULT_UNEXPECTED,
+        }
+    }
+
+    /// The return error problem "unrecognized invoke identifier" (Q.773, Return Error Problem).
+    pub fn unrecognized_error() -> Problem
+        ensures { problem_parts result ≡ unrecognized_error }
+    {
+        Problem {
+            kind: Kind::Error,
+            code: return_error_problem::UNRECOGNIZED_INVOKE_ID,
+        }
+    }
+
+    /// The return error problem "return error unexpected" (Q.773, Return Error Problem).
+    pub fn unexpected_error() -> Problem
+        ensures { problem_parts result ≡ unexpected_error }
+    {
+        Problem {
+            kind: Kind::Error,
+            code: return_error_problem::RETURN_ERROR_UNEXPECTED,
         }
     }
 
@@ -132,5 +184,22 @@ impl Problem {
             Kind::Result => self.code <= return_result_problem::RETURN_RESULT_UNEXPECTED,
             Kind::Error => self.code <= return_error_problem::RETURN_ERROR_UNEXPECTED,
         }
+    }
+}
+
+impl fmt::Display for Kind {
+    fn fmt<W: fmt::Write>(&self, f: &mut fmt::Formatter<W>) -> fmt::Result {
+        match self {
+            Kind::General => write!(f, "general"),
+            Kind::Invoke => write!(f, "invoke"),
+            Kind::Result => write!(f, "result"),
+            Kind::Error => write!(f, "error"),
+        }
+    }
+}
+
+impl fmt::Display for Problem {
+    fn fmt<W: fmt::Write>(&self, f: &mut fmt::Formatter<W>) -> fmt::Result {
+        write!(f, "{} problem {}", self.kind, self.code)
     }
 }

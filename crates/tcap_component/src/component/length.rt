@@ -1,6 +1,6 @@
 //! Why a component can't be written, and how long it is written; no memory is taken.
 
-ghost use Rattle.std.specs.Prelude.{◌≡◌, ℕ, ◌+◌, ◌<◌, ◌≤◌, ◌^◌, length, ◌↔◌, option_copied, IsNone, IfSome, IfOk, IfErr};
+ghost use Rattle.std.specs.Prelude.{◌≡◌, ℕ, ◌+◌, ◌<◌, ◌≤◌, ◌^◌, length, ◌↔◌, option_copied, IsNone, IfSome, IfNone, IfOk, IfErr};
 ghost use Rattle.ber_core.specs.Length.{length_limit};
 ghost use Rattle.std.specs.Option.{option_map};
 ghost use Rattle.ber_core.specs.Integer.{integer_octets};
@@ -219,8 +219,22 @@ pub fn checked_len(component: &Component<'_>) -> Result<usize, WriteFault>
     Ok(len)
 }
 
+/// Why `write_component` refuses the component for another cause than memory, if it does. It takes no
+/// memory.
+#[tactic(auto, using(crate::proofs::WrittenGrammar::fault_rules))]
+pub fn component_fault(component: &Component<'_>) -> Option<WriteFault>
+    // The fault that is due, or none where the component can be written.
+    ensures is { IfSome result (λ f. IsWriteFault (component_parts component.now) f) }
+    ensures none { IfNone result (CanWriteComponent (component_parts component.now)) }
+    // The same, computed.
+    ensures exact { result ≡ write_fault (component_parts component.now) }
+{
+    checked_len(component).err()
+}
+
 /// The length of the written component in octets, up to 65,535; `None` exactly where
 /// `write_component` refuses for another cause than memory. It takes no memory.
+#[tactic(auto, using(crate::proofs::WrittenGrammar::length_rules))]
 pub fn component_len(component: &Component<'_>) -> Option<usize>
     // The length of what is written, or nothing where there is a fault.
     ensures exact { result ≡ length_if_any (written_component (component_parts component.now)) (write_fault (component_parts component.now)) }
