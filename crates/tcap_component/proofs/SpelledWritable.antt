@@ -1,5 +1,5 @@
 -- A component that was read can be written, but for its length.
-use Rattle.std.proofs.Common.{◌≡◌, ℕ, List, [], ◌∷◌, Option, Some, None, sym, inl, inr}
+use Rattle.std.proofs.Common.{◌≡◌, ℕ, List, [], ◌∷◌, Option, Some, None, Result, Ok, Err, IfOk, sym, subst, inl, inr}
 use Rattle.std.specs.Option.{option_map}
 use Rattle.std.specs.List.{AllByRecursion}
 use Rattle.ber_core.specs.Element.{Parts, IsElement, depth_limit}
@@ -8,7 +8,14 @@ use Rattle.ber_core.specs.Sequence.Field.{must, may, any}
 use Rattle.tcap_component.specs.Component.{CodeParts, BodyParts, ComponentParts, identifier, code_field, HoldsBody, IsCode, IsBody, InRange, SpellsComponent}
 use Rattle.tcap_component.specs.Component.CodeParts.{local, global}
 use Rattle.tcap_component.specs.Component.ComponentParts.{invoke, result_last, error_back, reject_back, result_more}
-use Rattle.tcap_component.specs.Written.{coded_part, CanCode, CanHold, HasCode, HasParameter}
+use Rattle.tcap_component.specs.ComponentFault.{FaultParts}
+use Rattle.tcap_component.specs.ComponentList.{SpellsComponents, items}
+use Rattle.tcap_component.specs.declared.fault.ComponentFault.{ComponentFault}
+use Rattle.tcap_component.specs.Views.{Reads}
+use Rattle.tcap_component.specs.ComponentReading.{component_at, components_of}
+use Rattle.tcap_component.specs.Written.{coded_part, CanCode, CanHold, HasCode, HasParameter, HasParts}
+use Rattle.tcap_component.proofs.ComponentGrammar.{component_takes}
+use Rattle.tcap_component.proofs.ListGrammar.{first_fault_is}
 
 -- ---- the code
 
@@ -72,3 +79,28 @@ spelled_parameter (error_back id code parameter) bytes s =
     coded-holds code parameter (later (must 0x02 (identifier id)) (code_field code ∷ any parameter ∷ []) q.elements q.in_order q.is_list.each)
 spelled_parameter (reject_back id problem) bytes s = tt
 spelled_parameter (result_more id body) bytes s = held-holds body s.is_component.inner s.is_component.holds_body
+
+-- ---- what was read
+
+pub spelled_parts : (c : ComponentParts) (bytes : List ℕ) → SpellsComponent c bytes → HasParts c
+spelled_parts c bytes s = (spelled_code c bytes s, spelled_parameter c bytes s)
+
+abbrev IsWritable : Result ComponentParts FaultParts → Type 0
+IsWritable item = IfOk item HasParts
+
+items-writable : (cs : List ComponentParts) (f : Option FaultParts) (front : List ℕ) → SpellsComponents cs front → AllByRecursion IsWritable (items cs f)
+items-writable [] None front s = tt
+items-writable [] (Some f) front s = (tt, tt)
+items-writable (c ∷ cs) f front s = (spelled_parts c s.0 s.2, items-writable cs f s.1 s.4)
+
+pub all_writable : (content : List ℕ) → AllByRecursion IsWritable (components_of content)
+all_writable content =
+    let t = first_fault_is content in
+    subst (AllByRecursion IsWritable) (sym t.3) (items-writable t.0 t.1 t.2.front t.2.spelled)
+
+module _ {X : Type 0} (view : X → ComponentParts × List ℕ) (bytes : List ℕ) where
+  pub writable : (r : Result X ComponentFault) → Reads view r (component_at bytes) → IfOk r (λ x. HasParts (view x).0 × InRange (view x).0)
+  writable (Ok x) e =
+      let t = component_takes bytes (view x) e in
+      (spelled_parts (view x).0 t.0 t.1, t.1.is_component.in_range)
+  writable (Err f) e = tt

@@ -6,7 +6,7 @@ use Rattle.ber_core.specs.ObjectIdentifier.{IsObjectIdentifier, is_object_identi
 use Rattle.ber_core.specs.SequenceReading.{alone_at}
 use Rattle.ber_core.specs.Written.{written, written_fields}
 use Rattle.tcap_component.specs.declared.fault.WriteFault.{WriteFault}
-use Rattle.tcap_component.specs.declared.fault.WriteFault.TheVariants.{BadParameter, BadOid, TooLong}
+use Rattle.tcap_component.specs.declared.fault.WriteFault.TheVariants.{OutOfMemory, BadParameter, BadOid, TooLong}
 use Rattle.tcap_component.specs.Component.{CodeParts, BodyParts, ComponentParts, component_tag, fields, body_fields, body_of}
 use Rattle.tcap_component.specs.Component.CodeParts.{local, global}
 use Rattle.tcap_component.specs.Component.ComponentParts.{invoke, result_last, error_back, reject_back, result_more}
@@ -56,6 +56,10 @@ abbrev pub HasParameter : Option BodyParts → Type 0
 HasParameter None = Unit {0}
 HasParameter (Some body) = CanHold body.parameter
 
+-- The code and the parameter of a component can be written, whatever its length (own).
+abbrev pub HasParts : ComponentParts → Type 0
+HasParts c = HasCode (coded_part c) × HasParameter (coded_part c)
+
 -- The component can be written: its code and its parameter are such, and it has at most 65,535
 -- bytes (own).
 pub record CanWriteComponent (c : ComponentParts) : Type 0 where
@@ -68,6 +72,13 @@ pub data IsWriteFault : ComponentParts → WriteFault → Type 0 where
   bad_oid : (c : ComponentParts) → (HasCode (coded_part c) → ⊥) → IsWriteFault c BadOid
   bad_parameter : (c : ComponentParts) → HasCode (coded_part c) → (HasParameter (coded_part c) → ⊥) → IsWriteFault c BadParameter
   too_long : (c : ComponentParts) → HasCode (coded_part c) → HasParameter (coded_part c) → length_limit < length (written_component c) → IsWriteFault c TooLong
+
+-- The number of a fault (own).
+abbrev pub fault_number : WriteFault → ℕ
+fault_number OutOfMemory = 1
+fault_number BadParameter = 2
+fault_number BadOid = 3
+fault_number TooLong = 4
 
 -- ---- the same, computed
 

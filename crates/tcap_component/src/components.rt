@@ -1,4 +1,5 @@
-ghost use Rattle.std.specs.Prelude.{◌≡◌, List, Option, option_map};
+ghost use Rattle.std.specs.Prelude.{◌≡◌, List, Option, option_map, IfOk};
+ghost use Rattle.std.specs.List.{AllByRecursion};
 ghost use Rattle.tcap_component.specs.Component.{ComponentParts};
 ghost use Rattle.tcap_component.specs.ComponentReading.{item_at};
 ghost use Rattle.tcap_component.specs.Views.{item_view};
@@ -20,15 +21,18 @@ impl<'a> Components<'a> {
     ghost use Rattle.tcap_component.specs.ComponentList.{FirstFault, items};
     ghost use Rattle.tcap_component.specs.ComponentReading.{components_of};
     ghost use Rattle.tcap_component.specs.Views.{components_left};
+    ghost use Rattle.tcap_component.specs.Written.{HasParts};
 
     /// The components in the contents of 6C. It gives exactly the components before the first fault,
     /// then that fault, and then ends.
-    #[tactic(auto, using(crate::proofs::ListGrammar::first_fault_again, crate::proofs::ListGrammar::first_fault_is))]
+    #[tactic(auto, using(crate::proofs::ListGrammar::first_fault_again, crate::proofs::ListGrammar::first_fault_is, crate::proofs::SpelledWritable::all_writable))]
     pub fn new(content: &'a [u8]) -> Components<'a>
         // The components before the first fault, and then that fault.
         ensures first_fault { (cs : List ComponentParts) (f : Option FaultParts) → FirstFault cs f content.now → components_left result ≡ items cs f }
         // There are such components and such a fault, or none.
         ensures is { (cs : List ComponentParts) × (f : Option FaultParts) × FirstFault cs f content.now × (components_left result ≡ items cs f) }
+        // What is given can be written, but for its length.
+        ensures writable { AllByRecursion (λ item. IfOk item HasParts) (components_left result) }
         // The same, computed.
         ensures exact { components_left result ≡ components_of content.now }
     {

@@ -1,4 +1,10 @@
+ghost use Rattle.std.specs.Prelude.{◌≡◌};
+ghost use Rattle.tcap_component.specs.declared.fault.WriteFault.TheVariants.{OutOfMemory};
+ghost use Rattle.tcap_component.specs.Written.{fault_number};
+
 use crate::problem::Problem;
+use std::error::Error;
+use std::fmt;
 
 /// Why a component can't be read, as it is told to both users (our own).
 #[derive(Clone, Copy, Debug, PartialEq, Eq)]
@@ -22,4 +28,42 @@ pub enum WriteFault {
     BadOid = 3,
     /// The component would be longer than 65,535 bytes.
     TooLong = 4,
+}
+
+impl fmt::Display for ComponentFault {
+    fn fmt<W: fmt::Write>(&self, f: &mut fmt::Formatter<W>) -> fmt::Result {
+        write!(f, "faulty component: {}", self.problem)
+    }
+}
+
+impl Error for ComponentFault {}
+
+impl WriteFault {
+    /// Its number, 1 to 4.
+    pub fn number(self) -> u8
+        ensures { result ≡ fault_number self }
+    {
+        self as u8
+    }
+}
+
+impl fmt::Display for WriteFault {
+    fn fmt<W: fmt::Write>(&self, f: &mut fmt::Formatter<W>) -> fmt::Result {
+        match self {
+            WriteFault::OutOfMemory => write!(f, "out of memory"),
+            WriteFault::BadParameter => write!(f, "bad parameter"),
+            WriteFault::BadOid => write!(f, "bad object identifier"),
+            WriteFault::TooLong => write!(f, "too long"),
+        }
+    }
+}
+
+impl Error for WriteFault {}
+
+impl From<ber_core::OutOfMemory> for WriteFault {
+    ghost from_gives = { λ _ fault. fault ≡ OutOfMemory };
+
+    fn from(_refused: ber_core::OutOfMemory) -> WriteFault {
+        WriteFault::OutOfMemory
+    }
 }

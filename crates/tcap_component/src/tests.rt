@@ -1,6 +1,6 @@
 use crate::{
-    Body, Code, Component, ComponentFault, Components, Kind, Problem, WriteFault, component_len,
-    read_component, write_component,
+    Body, Code, Component, ComponentFault, Components, Kind, Problem, WriteFault, component_fault,
+    component_len, read_component, write_component,
 };
 use std::alloc::Global;
 use std::test::Fail;
@@ -33,11 +33,13 @@ fn is_written(alloc: Global, component: &Component<'_>, octets: &[u8]) -> bool {
     }
 }
 
-/// The fault of writing a component, which has no length then.
+/// The fault of writing a component, which is known without writing it, and then it has no length.
 fn refusal(alloc: Global, component: &Component<'_>) -> Option<WriteFault> {
-    match write_component(alloc, component) {
-        Err(fault) if component_len(component).is_none() => Some(fault),
-        _ => None,
+    let fault = write_component(alloc, component).err();
+    if component_fault(component) == fault && component_len(component).is_none() {
+        fault
+    } else {
+        None
     }
 }
 
@@ -260,30 +262,27 @@ fn components_refused(rt: HostRuntime) -> Result<(), Fail> {
     long[2] = 0xff;
     long[3] = 0xfb;
     let cut = [0x04, 0x05, 0xaa];
-    let bad_oid = Component::Invoke {
-        id: 1,
-        linked: None,
-        code: Code::Global(&[0x80]),
-        parameter: Some(&cut),
-    };
-    assert_eq!(rt; refusal(rt.alloc(), &bad_oid), Some(WriteFault::BadOid));
-    let bad_parameter = Component::ResultMore {
+    let invokes: [(Code<'_>, &[u8], WriteFault); 3] = [
+        (Code::Global(&[0x80]), &cut, WriteFault::BadOid),
+        (Code::Local(1), &cut, WriteFault::BadParameter),
+        (Code::Local(1), &long, WriteFault::TooLong),
+    ];
+    for (code, parameter, fault) in invokes {
+        let invoke = Component::Invoke {
+            id: 1,
+            linked: None,
+            code,
+            parameter: Some(parameter),
+        };
+        assert_eq!(rt; refusal(rt.alloc(), &invoke), Some(fault));
+    }
+    let more = Component::ResultMore {
         id: 1,
         body: Some(Body {
             code: Code::Local(1),
             parameter: Some(&cut),
         }),
     };
-    assert_eq!(rt;
-        refusal(rt.alloc(), &bad_parameter),
-        Some(WriteFault::BadParameter)
-    );
-    let too_long = Component::Invoke {
-        id: 1,
-        linked: None,
-        code: Code::Local(1),
-        parameter: Some(&long),
-    };
-    assert_eq!(rt; refusal(rt.alloc(), &too_long), Some(WriteFault::TooLong));
+    assert_eq!(rt; refusal(rt.alloc(), &more), Some(WriteFault::BadParameter));
     Ok(())
 }

@@ -6,9 +6,10 @@ ghost use Rattle.ber_core.specs.Results.{Gives};
 ghost use Rattle.ber_core.specs.Tag.{is_constructor};
 ghost use Rattle.ber_core.specs.Views.{parts};
 ghost use Rattle.tcap_component.specs.Problem.{IsProblem, general_problem};
-ghost use Rattle.tcap_component.specs.Component.{ComponentParts, SpellsComponent};
+ghost use Rattle.tcap_component.specs.Component.{ComponentParts, InRange, SpellsComponent};
 ghost use Rattle.tcap_component.specs.ComponentFault.{fault, IsComponentFault};
 ghost use Rattle.tcap_component.specs.ComponentReading.{invoke_at, result_last_at, error_at, reject_at, result_more_at, contents_at, form_at, second_is_listed, is_structured, verdict_by, front_identifier, component_at};
+ghost use Rattle.tcap_component.specs.Written.{HasParts};
 ghost use Rattle.tcap_component.specs.Views.{Reads, fault_parts, component_parts};
 
 use crate::component::parts::{
@@ -206,6 +207,8 @@ fn split_component<'a>(bytes: &'a [u8]) -> Result<(Component<'a>, &'a [u8]), Com
 pub fn read_component<'a>(bytes: &'a [u8]) -> Result<(Component<'a>, &'a [u8]), ComponentFault>
     // What is read is spelled by the bytes before the rest.
     ensures found { IfOk result (λ r. (whole : List ℕ) × SpellsComponent (component_parts r.0) whole × (bytes.now ≡ whole ++ r.1.now)) }
+    // Its code and its parameter can be written, and its numbers are such as a component has.
+    ensures writable { IfOk result (λ r. HasParts (component_parts r.0) × InRange (component_parts r.0)) }
     // Each component is read.
     ensures only { (c : ComponentParts) (whole rest : List ℕ) → SpellsComponent c whole → bytes.now ≡ whole ++ rest →
         IsOkAnd result (λ r. (component_parts r.0 ≡ c) × (r.1.now ≡ rest)) }

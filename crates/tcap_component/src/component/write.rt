@@ -7,7 +7,7 @@ ghost use Rattle.ber_core.specs.Sequence.Field.{must, may};
 ghost use Rattle.ber_core.specs.Tag.{IsTag};
 ghost use Rattle.ber_core.specs.Written.{written, written_field, written_fields};
 ghost use Rattle.tcap_component.specs.Problem.{problem_tag};
-ghost use Rattle.tcap_component.specs.Component.{component_tag, identifier, rejected_field, body_fields};
+ghost use Rattle.tcap_component.specs.Component.{component_tag, identifier, rejected_field, body_fields, SpellsComponent};
 ghost use Rattle.tcap_component.specs.Views.{code_parts, body_parts, problem_parts, component_parts};
 ghost use Rattle.tcap_component.specs.Written.{written_body, written_contents, written_component, coded_part, CanCode, HasCode, CanWriteComponent, IsWriteFault};
 ghost use Rattle.tcap_component.specs.declared.fault.WriteFault.{WriteFault};
@@ -15,6 +15,7 @@ ghost use Rattle.tcap_component.specs.declared.fault.WriteFault.TheVariants as f
 
 use crate::component::length::{body_len, checked_len, element_len};
 use crate::component::parts::tag_of;
+use crate::component::range::in_range;
 use crate::component::{Body, Code, Component};
 use crate::fault::WriteFault;
 use crate::problem::Problem;
@@ -164,6 +165,7 @@ fn write_all<A: Allocator + Copy>(
 
 /// Writes a component in the canonical form. A fault other than `OutOfMemory` comes exactly where the
 /// component can't be written: BadOid first, then BadParameter, then TooLong.
+#[tactic(auto, using(crate::proofs::WrittenGrammar::not_refused_by, crate::proofs::WrittenGrammar::one_due, crate::proofs::WrittenSpelling::component_spelled))]
 #[inline(always)]
 pub fn write_component<A: Allocator + Copy>(
     alloc: A,
@@ -172,15 +174,13 @@ pub fn write_component<A: Allocator + Copy>(
     // What is written, and that it can be.
     ensures written { IfOk result (λ octets. octets.items ≡ written_component (component_parts component.now)) }
     ensures ok { OnOk result (CanWriteComponent (component_parts component.now)) }
+    // It spells the component, so reading gives the component back.
+    ensures spelled { IfOk result (λ octets. SpellsComponent (component_parts component.now) octets.items) }
     // Each fault that is due comes, and no other but want of memory, which comes last.
     ensures due { (f : WriteFault) → IsWriteFault (component_parts component.now) f → IsErrOf result f }
     ensures only { IfErr result (λ f. IsWriteFault (component_parts component.now) f ⊎ ((f ≡ fault.OutOfMemory) × CanWriteComponent (component_parts component.now))) }
 {
-    match checked_len(component) {
-        Ok(contents) => match write_all(alloc, component, contents) {
-            Ok(octets) => Ok(octets),
-            Err(OutOfMemory) => Err(WriteFault::OutOfMemory),
-        },
-        Err(fault) => Err(fault),
-    }
+    let contents = checked_len(component)?;
+    in_range(component);
+    Ok(write_all(alloc, component, contents)?)
 }
