@@ -1,83 +1,80 @@
 //! Each growth refused in turn, and calls that take no memory.
-use super::{Call, answer};
-use crate::class::Class::One;
+use super::add;
 use crate::invocations::Invocations;
 use refusing::Refusing;
 use std::alloc::{Allocator, Global};
 use std::test::Fail;
 
-// A list with so many entries: of four and more the fourth waits for a Reject, and the others are Sent.
-fn standing<A: Allocator + Copy>(
-    heap: A,
-    alloc: Global,
-    queued: i8,
-) -> Result<Invocations<A>, Fail> {
+/// A call that takes memory.
+#[derive(Clone, Copy, Debug)]
+enum Call {
+    Add,
+    Lapse,
+    CloseAll,
+}
+
+/// A list of so many entries, Sent where there is one; of four the last waits for a Reject.
+fn standing<A: Allocator + Copy>(heap: A, entries: i8) -> Option<Invocations<A>> {
     let mut list = Invocations::new(heap, 1000);
-    for id in 0..queued {
-        answer(
-            alloc,
-            &mut list,
-            Call::Add(id, 1 + id.unsigned_abs() as u64, One, 10),
-        )?;
+    for id in 0..entries {
+        add(&mut list, id, 1 + id.unsigned_abs() as u64, 10)?.ok()?;
     }
-    if queued > 3 {
-        answer(alloc, &mut list, Call::Sent(0))?;
-        answer(alloc, &mut list, Call::OnResult(3, true, 1))?;
-    }
-    Ok(list)
+    list.sent(0);
+    list.on_error(3, 1);
+    Some(list)
 }
 
-// What a call and all later ones answer.
-fn answers_from<A: Allocator + Copy>(
+/// How many invocations the call tells, or nothing where memory was refused.
+fn told_count<A: Allocator + Copy>(list: &mut Invocations<A>, call: Call) -> Option<usize> {
+    match call {
+        Call::Add => {
+            add(list, 99, 200, 10)?.ok()?;
+            Some(0)
+        }
+        Call::Lapse => Some(list.lapse(10).ok()?.len()),
+        Call::CloseAll => Some(list.close_all().ok()?.len()),
+    }
+}
+
+/// Whether the call, with its growth of this number refused, leaves the list as it was, and made again
+/// answers as with ample memory and leaves the same list; nothing where it has no such growth.
+fn is_all_or_nothing(
     alloc: Global,
-    list: &mut Invocations<A>,
+    heap: &Refusing<Global>,
+    entries: i8,
     call: Call,
-) -> Result<String, Fail> {
-    let mut texts = String::new(alloc);
-    for later in [
-        call,
-        Call::InUse(99),
-        Call::IsOpen(0),
-        Call::DueCount(10),
-        Call::OnError(1, 5),
-        Call::Lapse(10),
-        Call::CloseAll,
-        Call::InUse(3),
-    ] {
-        texts.push_str(answer(alloc, list, later)?.as_str())?;
+    number: u64,
+) -> Result<Option<bool>, Fail> {
+    let mut ample = standing(heap, entries).ok_or("memory is there")?;
+    let expected = told_count(&mut ample, call);
+    let mut list = standing(heap, entries).ok_or("memory is there")?;
+    let before = format!(in alloc; "{list:?}")?;
+    heap.refuse(number);
+    let first = told_count(&mut list, call);
+    if heap.is_armed() {
+        heap.refuse(0);
+        return Ok(None);
     }
-    Ok(texts)
+    let unchanged = first.is_none() && format!(in alloc; "{list:?}")? == before;
+    let again = told_count(&mut list, call) == expected;
+    let same = format!(in alloc; "{list:?}")? == format!(in alloc; "{ample:?}")?;
+    Ok(Some(unchanged && again && same))
 }
 
-// Each growth of `add`, `lapse` and `close_all` is refused in turn; the list is as before, and the call
-// made again and all later ones answer as with ample memory.
 #[test]
 fn each_growth_is_refused_in_turn(rt: HostRuntime) -> Result<(), Fail> {
     let heap = Refusing::new(rt.alloc());
-    for (queued, call, growths) in [
-        (0, Call::Add(99, 200, One, 10), 4u64),
-        (4, Call::Lapse(10), 1),
+    for (entries, call, growths) in [
+        (0, Call::Add, 4u64),
+        (4, Call::Lapse, 1),
         (4, Call::CloseAll, 1),
     ] {
-        let mut ample = standing(&heap, rt.alloc(), queued)?;
-        let expected = answers_from(rt.alloc(), &mut ample, call)?;
-        let mut refused = 0u64;
-        for number in 1..32u64 {
-            let mut list = standing(&heap, rt.alloc(), queued)?;
-            let before = format!(in rt.alloc(); "{list:?}")?;
-            heap.refuse(number);
-            let first = answer(rt.alloc(), &mut list, call)?;
-            if heap.is_armed() {
-                heap.refuse(0);
-                break;
-            }
-            refused = number;
-            assert_eq!(rt; first.as_str(), "Err(OutOfMemory)");
-            assert_eq!(rt; format!(in rt.alloc(); "{list:?}")?, before);
-            let again = answers_from(rt.alloc(), &mut list, call)?;
-            assert_eq!(rt; again.as_str(), expected.as_str());
+        for number in 1..=growths {
+            let held = is_all_or_nothing(rt.alloc(), &heap, entries, call, number)?;
+            assert_eq!(rt; held, Some(true));
         }
-        assert_eq!(rt; refused, growths);
+        let more = is_all_or_nothing(rt.alloc(), &heap, entries, call, growths + 1)?;
+        assert_eq!(rt; more, None);
     }
     Ok(())
 }
@@ -86,22 +83,25 @@ fn each_growth_is_refused_in_turn(rt: HostRuntime) -> Result<(), Fail> {
 #[test]
 fn nothing_told_takes_no_memory(rt: HostRuntime) -> Result<(), Fail> {
     let heap = Refusing::new(rt.alloc());
-    let mut list = standing(&heap, rt.alloc(), 4)?;
+    let mut list = standing(&heap, 4).ok_or("memory is there")?;
     for id in 0..3i8 {
-        answer(rt.alloc(), &mut list, Call::OnError(id, 2))?;
+        list.on_error(id, 2);
     }
     heap.refuse(1);
-    for (call, expected) in [
-        (Call::Add(3, 200, One, 0), "Err(BadTimeout)"),
-        (Call::Add(3, 200, One, 5), "Err(InUse)"),
-        (Call::Lapse(900), "Ok([])"),
-        (Call::Lapse(1001), "Ok([])"),
-        (Call::InUse(3), "false"),
-        (Call::CloseAll, "Ok([])"),
-        (Call::InUse(2), "false"),
-    ] {
-        assert_eq!(rt; answer(rt.alloc(), &mut list, call)?.as_str(), expected);
-    }
-    assert!(rt; heap.is_armed());
+    assert!(rt;
+        matches!(
+            add(&mut list, 3, 200, 0),
+            Some(Err(crate::fault::AddFault::BadTimeout))
+        )
+    );
+    assert!(rt;
+        matches!(
+            add(&mut list, 3, 200, 5),
+            Some(Err(crate::fault::AddFault::InUse))
+        )
+    );
+    assert_eq!(rt; told_count(&mut list, Call::Lapse), Some(0));
+    assert_eq!(rt; told_count(&mut list, Call::CloseAll), Some(0));
+    assert!(rt; heap.is_armed() && !list.in_use(2));
     Ok(())
 }
