@@ -1,3 +1,8 @@
-mod LapseLemmas
+pub mod CallerLemmas
+pub mod InsertionLemmas
+pub mod KeptLemmas
+pub mod LapseLemmas
 mod ListLemmas
 pub mod OrderLemmas
+pub mod RemovalLemmas
+pub mod TellingLemmas

@@ -4,6 +4,7 @@ use Rattle.std.specs.List.{filter_map, cons_option}
 use Rattle.std.specs.Option.{option_to_list}
 use Rattle.std.proofs.lemmas.List.{take_more, take-append-drop}
 use Rattle.std.proofs.lemmas.List.Elements.{filter_map-append}
+use Rattle.tcap_invocation.specs.Order.{first_of}
 use Rattle.std.proofs.lemmas.Option.{get_or_from_slice_get, slice_get_within}
 
 -- what holds anyway holds of an error
@@ -30,3 +31,11 @@ module _ {X Y : Type 0} (f : X → Option Y) where
       let whole : length (filter_map f xs) ≡ length (filter_map f (take (i + 1) xs)) + length (filter_map f (drop (i + 1) xs)) =
       ap (λ zs. length (filter_map f zs)) (sym (take-append-drop (i + 1) xs)) ∙ ap length (filter_map-append f (take (i + 1) xs) (drop (i + 1) xs)) ∙ length-append (filter_map f (take (i + 1) xs)) (filter_map f (drop (i + 1) xs)) in
       omega (arith, more, whole)
+
+  -- the first that is given
+  pub filter_map-first : (xs : List X) (i : ℕ) (x : X) (y : Y) → slice_get xs i ≡ Some x → f x ≡ Some y → filter_map f (take i xs) ≡ [] → first_of (filter_map f xs) ≡ Some y
+  filter_map-first xs i x y found gives none =
+      let front : filter_map f (take (i + 1) xs) ≡ y ∷ [] =
+      filter_map-take_more xs i x found ∙ ap (λ zs. zs ++ option_to_list (f x)) none ∙ ap option_to_list gives in
+      ap (λ zs. first_of (filter_map f zs)) (sym (take-append-drop (i + 1) xs)) ∙ ap first_of (filter_map-append f (take (i + 1) xs) (drop (i + 1) xs))
+      ∙ ap (λ zs. first_of (zs ++ filter_map f (drop (i + 1) xs))) front

@@ -2,7 +2,7 @@
 use Rattle.std.proofs.Common.{◌≡◌, ℕ, ℤ, ◌<◌, ◌≤◌, Bool, true, false, cond, List, [], ◌∷◌, ◌++◌, filter, Option, Some, None, refl, ap, sym, arith, subst, ◌∙◌, unwrap_or, nat_lt, tests, if◌then◌else◌}
 use Rattle.std.specs.Ordering.{int_eq}
 use Rattle.std.specs.List.{AllPass, AllByRecursion}
-use Rattle.std.proofs.lemmas.List.Elements.{recursion_from_All}
+use Rattle.std.proofs.lemmas.List.Elements.{recursion_from_All, All-from_recursion}
 use Rattle.std.specs.Map.{values_of, lookup, remove_entry, set_value}
 use Rattle.std.specs.Map.Calls.{RetainsPairs}
 use Rattle.tcap_invocation.specs.declared.invocations.Invocation.{Invocation}
@@ -136,4 +136,11 @@ AllBelow-values number rows h = below rows (recursion_from_All (λ (e : Invocati
     below [] h = tt
     below (r ∷ rs) h = (let first = h.0 in grind (arith, tests, first), below rs h.1)
 
-pub ruleset below_rules = (AllBelow-values)
+pub AllBelow-values_again : (number : ℕ) (rows : List Row) → AllBelow number rows → AllPass (λ (e : Invocation). nat_lt e.number number) (values_of rows)
+AllBelow-values_again number rows h = All-from_recursion (λ (e : Invocation). nat_lt e.number number ≡ true) (values_of rows) (pass rows h)
+  where
+    pass : (rows : List Row) → AllBelow number rows → AllByRecursion (λ (e : Invocation). nat_lt e.number number ≡ true) (values_of rows)
+    pass [] h = tt
+    pass (r ∷ rs) h = (let first = h.0 in grind (arith, tests, first), pass rs h.1)
+
+pub ruleset below_rules = (AllBelow-values, AllBelow-values_again)

@@ -2,7 +2,8 @@
 use Rattle.std.specs.Prelude.{ℕ, ℤ, List, [], Option, Some, None, is_some, filter_map, if◌then◌else◌}
 use Rattle.tcap_invocation.specs.declared.invocations.Invocation.{Invocation}
 use Rattle.tcap_invocation.specs.Stage.{is_waiting, is_pending}
-use Rattle.tcap_invocation.specs.Invocations.{Row, InvocationList, with_rows, entry_at, passing, freed}
+use Rattle.tcap_invocation.specs.Invocations.{Row, InvocationList, with_rows, entry_at, passing, without, freed}
+use Rattle.tcap_invocation.specs.Order.{first_of}
 
 -- The number of an invocation, if there is one (own).
 abbrev pub number_of : Option Invocation → Option ℕ
@@ -31,6 +32,19 @@ ended_of r = if is_pending r.1.stage then Some (r.1.number, r.0) else None
 -- All that is told at the end of the dialogue, by number as the rows are (own).
 abbrev pub ended_at : List Row → List (ℕ × ℤ)
 ended_at rows = filter_map ended_of rows
+
+-- The first of it (own).
+abbrev pub first_ended_at : List Row → Option (ℕ × ℤ)
+first_ended_at rows = first_of (ended_at rows)
+
+-- The list without what is told, whose identifier is free at once (own).
+abbrev pub without_ended : InvocationList → Option (ℕ × ℤ) → InvocationList
+without_ended list None = list
+without_ended list (Some ended) = with_rows list (without list.rows ended.1)
+
+-- The list after the first of it was told (own).
+abbrev pub after_close_one : InvocationList → InvocationList
+after_close_one list = without_ended list (first_ended_at list.rows)
 
 -- The list at the end of the dialogue is empty (own).
 abbrev pub after_close : InvocationList → InvocationList

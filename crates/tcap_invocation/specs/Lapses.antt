@@ -7,6 +7,7 @@ use Rattle.tcap_invocation.specs.declared.invocations.Invocation.{Invocation}
 use Rattle.tcap_invocation.specs.declared.invocations.lapse.Lapse.{Lapse}
 use Rattle.tcap_invocation.specs.declared.stage.Stage.{Stage}
 use Rattle.tcap_invocation.specs.declared.stage.Stage.TheVariants.{Queued, Sent, Waiting}
+use Rattle.tcap_invocation.specs.Order.{in_order_by, first_of}
 use Rattle.tcap_invocation.specs.Invocations.{Row, InvocationList, with_rows, entry_at, freed}
 
 -- The deadline of an invocation that is Sent, if it is at most the clock (Q.774, Invocation timer).
@@ -36,24 +37,13 @@ is_before a b = nat_lt a.deadline b.deadline || ((a.deadline == b.deadline) && n
 abbrev pub derived_cmp : Lapse → Lapse → Ordering
 derived_cmp = then_cmp (on (λ l. l.deadline) nat_cmp) (then_cmp (on (λ l. l.number) nat_cmp) (on (λ l. l.id) int_cmp))
 
--- A lapse in its place among lapses that are in order (own).
-abbrev pub put : Lapse → List Lapse → List Lapse
-put x [] = x ∷ []
-put x (y ∷ ys) = if is_before y x then y ∷ put x ys else x ∷ y ∷ ys
-
 -- Lapses in the order in which they are told (own).
 abbrev pub in_order : List Lapse → List Lapse
-in_order [] = []
-in_order (x ∷ xs) = put x (in_order xs)
+in_order lapses = in_order_by is_before lapses
 
 -- All that is due at the clock, in the order in which it is told (own).
 abbrev pub told_at : ℕ → List Row → List Lapse
 told_at clock rows = in_order (due_at clock rows)
-
--- The first of some lapses (own).
-abbrev pub first_of : List Lapse → Option Lapse
-first_of [] = None
-first_of (l ∷ ls) = Some l
 
 -- Of two lapses the one that is told first; the earlier listed one where neither is before (own).
 abbrev pub earlier_of : Option Lapse → Lapse → Lapse

@@ -1,6 +1,9 @@
 pub mod Answers
 pub mod Class
 pub mod Closing
+pub mod Examples
+pub mod Fault
 pub mod Invocations
 pub mod Lapses
+pub mod Order
 pub mod Stage

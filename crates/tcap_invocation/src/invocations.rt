@@ -27,10 +27,11 @@ type Entries<A> = IndexMap<i8, Invocation, BuildHasherDefault<FoldHasher>, A>;
 
 /// The invocations of one dialogue (Q.774, Invocation state machine), by rising number.
 ///
-/// - Requests of the TC-user and of the dialogue: `add`, `sent`, `give_up`, `free_wait`, `close_all`.
+/// - Requests of the TC-user and of the dialogue: `add`, `sent`, `give_up`, `free_wait`, `close_all`, or
+///   one by one `open_count` and `close_one`.
 /// - Answers that were received: `on_result`, `on_error`, `on_reject`.
 /// - Time: `lapse`, or one by one `due_count`, `first_due`, `lapse_one` and `free_due`.
-/// - Getters: `is_open`, `in_use`.
+/// - Getters: `is_open`, `in_use`, `is_above_all`.
 ///
 /// Moments and lengths of time are in milliseconds by the caller's clock. A contract sees the length of
 /// the wait and the rows, and forgets how much room the table has.
@@ -77,6 +78,14 @@ impl<A: Allocator + Copy> Invocations<A> {
         ensures sound { IsSound self.now }
     {
         self.entries.contains_key(&id)
+    }
+
+    /// Whether the number is above all in the list, as `add` needs it.
+    #[tactic(auto, using(crate::proofs::OrderLemmas::below_rules))]
+    pub fn is_above_all(&self, number: u64) -> bool
+        ensures { IsTrue result ↔ AllBelow number self.now.rows }
+    {
+        are_below(&self.entries, number)
     }
 
     /// Takes an invocation in, Queued until the next message goes out. `number` is above all in the
@@ -137,20 +146,9 @@ fn sent_at<A: Allocator + Copy>(entries: &Entries<A>, id: &i8) -> Option<Invocat
 }
 
 /// Whether each number is below this one.
-#[cfg(test)]
 #[tactic(auto, using(crate::proofs::OrderLemmas::below_rules))]
 fn are_below<A: Allocator + Copy>(entries: &Entries<A>, number: u64) -> bool
-    ensures { IsTrue result → AllBelow number entries.now.entries }
+    ensures { IsTrue result ↔ AllBelow number entries.now.entries }
 {
     entries.values().all(|entry| entry.number < number)
-}
-
-#[cfg(test)]
-impl<A: Allocator + Copy> Invocations<A> {
-    /// Whether `number` is above all in the list, as `add` wants it.
-    pub(crate) fn is_above_all(&self, number: u64) -> bool
-        ensures { IsTrue result → AllBelow number self.now.rows }
-    {
-        are_below(&self.entries, number)
-    }
 }

@@ -1,7 +1,7 @@
-ghost use Rattle.std.specs.Prelude.{◌≡◌, ◌≢◌, ◌<◌, [], length, is_some, OnOk, OnErr, IfOk};
-ghost use Rattle.tcap_invocation.specs.Invocations.{entry_at, passing};
+ghost use Rattle.std.specs.Prelude.{◌≡◌, ◌≢◌, ◌<◌, [], ◌∷◌, length, is_some, OnOk, OnErr, IfOk, IfSome};
+ghost use Rattle.tcap_invocation.specs.Invocations.{IsSound, entry_at, passing};
 ghost use Rattle.tcap_invocation.specs.Stage.{is_waiting};
-ghost use Rattle.tcap_invocation.specs.Closing.{given_up_at, after_give_up, after_free_wait, ended_of, ended_at, after_close};
+ghost use Rattle.tcap_invocation.specs.Closing.{given_up_at, after_give_up, after_free_wait, ended_of, ended_at, first_ended_at, after_close_one, after_close};
 
 use super::{Entries, Invocation, Invocations};
 use crate::stage::Stage;
@@ -55,6 +55,48 @@ impl<A: Allocator + Copy> Invocations<A> {
         self.entries.clear();
         Ok(ended)
     }
+
+    /// How many invocations are Queued or Sent: so many are told at the end of the dialogue.
+    pub fn open_count(&self) -> usize
+        ensures { result ≡ length (ended_at self.now.rows) }
+    {
+        ended_count(&self.entries)
+    }
+
+    /// The dialogue is over: takes out the first invocation that is Queued or Sent and gives its number
+    /// and identifier, or nothing where there is none. It takes no memory.
+    pub fn close_one(&mut self) -> Option<(u64, i8)>
+        ensures told { result ≡ first_ended_at self.old.rows }
+        ensures list { self.new ≡ after_close_one self.old }
+        // What is told from here on is the rest.
+        ensures rest { IfSome result (λ one. ended_at self.old.rows ≡ one ∷ ended_at self.new.rows) }
+    {
+        self.take_ended()
+    }
+
+    /// The same, row by row.
+    fn take_ended(&mut self) -> Option<(u64, i8)>
+        ensures told { result ≡ first_ended_at self.old.rows }
+        ensures list { self.new ≡ after_close_one self.old }
+        ensures sound { IsSound self.old }
+    {
+        let (number, id) = first_ended(&self.entries)?;
+        self.entries.shift_remove(&id);
+        Some((number, id))
+    }
+}
+
+/// What is told first at the end of the dialogue.
+fn first_ended<A: Allocator + Copy>(entries: &Entries<A>) -> Option<(u64, i8)>
+    ensures { result ≡ first_ended_at entries.now.entries }
+{
+    for i in 0..entries.len() {
+        let (id, entry) = entries.get_index(i).unwrap();
+        if let Some(one) = ended_of(id, entry) {
+            return Some(one);
+        }
+    }
+    None
 }
 
 /// What is told of each invocation at the end of the dialogue, with all room found first.

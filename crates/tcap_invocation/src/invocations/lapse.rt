@@ -1,4 +1,5 @@
-ghost use Rattle.std.specs.Prelude.{◌≡◌, ◌≢◌, ◌<◌, [], length, IsSorted, IsPermutation, OnOk, OnErr, IfOk};
+ghost use Rattle.std.specs.Prelude.{◌≡◌, ◌≢◌, ◌<◌, [], ◌∷◌, length, IsSorted, IsPermutation, OnOk, OnErr, IfOk, IfSome};
+ghost use Rattle.tcap_invocation.specs.Invocations.{IsSound};
 ghost use Rattle.tcap_invocation.specs.Lapses.{due_at, told_at, first_due_at, is_before, derived_cmp, earlier_of, lapse_of, lapse_at, after_lapse, after_lapse_one, after_free_due, is_held, stays};
 
 use super::{Entries, Invocation, Invocations};
@@ -50,9 +51,23 @@ impl<A: Allocator + Copy> Invocations<A> {
     }
 
     /// Takes out the Sent invocation with the identifier, if its deadline is at most the clock.
+    #[tactic(auto, using(crate::proofs::TellingLemmas::lapse_rules))]
     pub fn lapse_one(&mut self, id: i8, clock: u64) -> Option<Lapse>
         ensures lapse { result ≡ lapse_at clock self.old.rows id }
         ensures list { self.new ≡ after_lapse_one self.old id clock }
+        // If it is the first that is due, what is told from here on is the rest.
+        ensures first { IfSome (first_due_at clock self.old.rows) (λ l. l.id ≡ id → told_at clock self.old.rows ≡ l ∷ told_at clock self.new.rows) }
+        // What all lapses together leave is the same.
+        ensures rest { after_lapse self.new clock ≡ after_lapse self.old clock }
+    {
+        self.take_due(id, clock)
+    }
+
+    /// The same, row by row.
+    fn take_due(&mut self, id: i8, clock: u64) -> Option<Lapse>
+        ensures lapse { result ≡ lapse_at clock self.old.rows id }
+        ensures list { self.new ≡ after_lapse_one self.old id clock }
+        ensures sound { IsSound self.old }
     {
         let entry = *self.entries.get(&id)?;
         let lapse = lapse_of(&id, &entry, clock)?;

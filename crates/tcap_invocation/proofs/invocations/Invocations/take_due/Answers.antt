@@ -1,5 +1,5 @@
 use Rattle.tcap_invocation.proofs.OrderLemmas.{AreInOrder-remove_entry}
-use Rattle.tcap_invocation.proofs.invocations.Invocations.lapse_one.Goals as goal
+use Rattle.tcap_invocation.proofs.invocations.Invocations.take_due.Goals as goal
 
 pub invariant_of-self : goal.invariant_of-self
 invariant_of-self g c =

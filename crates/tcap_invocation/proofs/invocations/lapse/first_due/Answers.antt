@@ -4,7 +4,8 @@ use Rattle.std.specs.Map.Iter.{deref_pair}
 use Rattle.std.proofs.lemmas.List.{append-nil}
 use Rattle.tcap_invocation.specs.Invocations.{Row}
 use Rattle.tcap_invocation.specs.declared.invocations.lapse.Lapse.{Lapse}
-use Rattle.tcap_invocation.specs.Lapses.{lapse_of, due_at, in_order, first_of, earlier_of}
+use Rattle.tcap_invocation.specs.Order.{first_of}
+use Rattle.tcap_invocation.specs.Lapses.{lapse_of, due_at, in_order, earlier_of}
 use Rattle.tcap_invocation.proofs.LapseLemmas.{first_of-push}
 use Rattle.tcap_invocation.proofs.ListLemmas.{filter_map-take_more}
 use Rattle.tcap_invocation.proofs.invocations.lapse.first_due.Goals as goal
