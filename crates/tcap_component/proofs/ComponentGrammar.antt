@@ -73,7 +73,7 @@ has_tag e f t = let s = sample f in (s.0, form_takes e.tag f t ∙ ap (λ (n : �
 form_from : (e : Parts) → HasComponentTag e → (f : Form) × (form_at e.tag ≡ Some f)
 form_from e h = (form_of_parts h.0, ap form_at h.1 ∙ form_again h.0)
 
-abbrev Verdict : Parts → List ℕ → Result ComponentParts ℕ → Type 0
+abbrev pub Verdict : Parts → List ℕ → Result ComponentParts ℕ → Type 0
 Verdict e rest (Ok c) = IsComponent c e
 Verdict e rest (Err code) = IsComponentFault (e.whole ++ rest) (fault code (front_identifier e) (e.whole ++ rest))
 
@@ -91,7 +91,7 @@ contents_judged e rest f i t = elim (cases_Bool (is_structured f e.content)) [
   | inr n ↦ rw n (unstructured e rest (front_identifier e) i (has_tag e f t) (λ s. let both : true ≡ false = sym (structured_again e f t s) ∙ n in absurd cc) (tells_takes e))
 ]
 
-element_judged : (e : Parts) (rest : List ℕ) → IsElement 32 e → Verdict e rest (verdict_by (form_at e.tag) e.content)
+pub element_judged : (e : Parts) (rest : List ℕ) → IsElement 32 e → Verdict e rest (verdict_by (form_at e.tag) e.content)
 element_judged e rest i = elim (by_option (form_at e.tag)) [
   | inl n ↦ rw n (unrecognized e rest (front_identifier e) i (λ h. let f = form_from e h in not_some f.0 (sym n ∙ f.1)) (tells_takes e))
   | inr f ↦ rw f.1 (contents_judged e rest f.0 i f.1)

@@ -6,6 +6,7 @@ pub mod ItemSteps
 pub mod LengthGrammar
 pub mod ListGrammar
 pub mod PartGrammar
+pub mod PlaceSteps
 pub mod SpelledWritable
 pub mod WrittenGrammar
 pub mod WrittenSpelling

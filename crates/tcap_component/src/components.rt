@@ -1,6 +1,8 @@
-ghost use Rattle.std.specs.Prelude.{◌≡◌, List, Option, option_map, IfOk};
+ghost use Rattle.std.specs.Prelude.{◌≡◌, List, Option, option_map, IfSome, IfOk};
 ghost use Rattle.std.specs.List.{AllByRecursion};
+ghost use Rattle.ber_core.specs.Place.{AtEnd};
 ghost use Rattle.tcap_component.specs.Component.{ComponentParts};
+ghost use Rattle.tcap_component.specs.Place.{ItemInPlace};
 ghost use Rattle.tcap_component.specs.ComponentReading.{item_at};
 ghost use Rattle.tcap_component.specs.Views.{item_view};
 
@@ -21,6 +23,7 @@ impl<'a> Components<'a> {
     ghost use Rattle.tcap_component.specs.ComponentList.{FirstFault, items};
     ghost use Rattle.tcap_component.specs.ComponentReading.{components_of};
     ghost use Rattle.tcap_component.specs.Views.{components_left};
+    ghost use Rattle.tcap_component.specs.Place.{bytes_left};
     ghost use Rattle.tcap_component.specs.Written.{HasParts};
 
     /// The components in the contents of 6C. It gives exactly the components before the first fault,
@@ -31,6 +34,8 @@ impl<'a> Components<'a> {
         ensures first_fault { (cs : List ComponentParts) (f : Option FaultParts) → FirstFault cs f content.now → components_left result ≡ items cs f }
         // There are such components and such a fault, or none.
         ensures is { (cs : List ComponentParts) × (f : Option FaultParts) × FirstFault cs f content.now × (components_left result ≡ items cs f) }
+        // All of these bytes are still to be read.
+        ensures place { bytes_left result ≡ content.entry }
         // What is given can be written, but for its length.
         ensures writable { AllByRecursion (λ item. IfOk item HasParts) (components_left result) }
         // The same, computed.
@@ -42,11 +47,13 @@ impl<'a> Components<'a> {
 
 impl<'a> Iterator for Components<'a> {
     ghost use Rattle.std.specs.Iterator.{YieldsFirstBy, item_count};
+    ghost use Rattle.tcap_component.specs.Place.{StepsInPlace};
     ghost use Rattle.tcap_component.specs.Views.{item_view, components_left};
 
     type Item = Result<Component<'a>, ComponentFault>;
 
-    ghost next_gives = { YieldsFirstBy item_view components_left };
+    // The first item that is left; its slices are parts of the bytes that are left.
+    ghost next_gives = { λ old item new. YieldsFirstBy item_view components_left old item new × StepsInPlace old item new };
 
     ghost remaining = { item_count components_left };
 
@@ -62,13 +69,14 @@ impl<'a> Iterator for Components<'a> {
 #[tactic(auto, unfolding(crate::specs::ComponentReading::item_at))]
 #[inline(always)]
 fn split_item<'a>(bytes: &'a [u8]) -> (Option<Result<Component<'a>, ComponentFault>>, &'a [u8])
-    ensures { (option_map item_view result.0, result.1.now) ≡ item_at bytes.now }
+    ensures value { (option_map item_view result.0, result.1.now) ≡ item_at bytes.now }
+    ensures place { IfSome result.0 (λ item. ItemInPlace item bytes.entry) × AtEnd result.1 bytes.entry }
 {
     if bytes.is_empty() {
-        return (None, &[]);
+        return (None, bytes);
     }
     match read_component(bytes) {
         Ok((component, rest)) => (Some(Ok(component)), rest),
-        Err(fault) => (Some(Err(fault)), &[]),
+        Err(fault) => (Some(Err(fault)), &bytes[bytes.len()..]),
     }
 }

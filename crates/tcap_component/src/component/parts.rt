@@ -1,9 +1,12 @@
 //! The parts of components, each by its line of the table in Q.773.
 
-ghost use Rattle.std.specs.Prelude.{◌≡◌, option_copied};
+ghost use Rattle.std.specs.Prelude.{◌≡◌, [], ◌∷◌, option_copied, IfSome};
 ghost use Rattle.std.specs.Option.{option_map};
 ghost use Rattle.ber_core.specs.Options.{◌>>=◌ as bound};
+ghost use Rattle.ber_core.specs.Place.{AtEnd};
 ghost use Rattle.ber_core.specs.SequenceReading.{content_at};
+ghost use Rattle.ber_core.specs.Way.{GoesOn};
+ghost use Rattle.tcap_component.specs.Place.{CodeOnWay, CodedOnWay, BodyOnWay};
 ghost use Rattle.tcap_component.specs.Problem.{problem_tag};
 ghost use Rattle.tcap_component.specs.ComponentReading.{identifier_of, identifier_at, linked_at, global_from, code_at, body_at, result_at, rejected_at, problem_kind, problem_code, problem_at};
 ghost use Rattle.tcap_component.specs.Views.{code_parts, body_parts, problem_parts};
@@ -29,7 +32,9 @@ pub fn identifier(content: &[u8]) -> Option<i8>
 #[tactic(auto, unfolding(crate::specs::ComponentReading::identifier_at))]
 #[inline(always)]
 pub fn take_identifier(bytes: &[u8]) -> Option<(i8, &[u8])>
-    ensures { option_map (λ r. (r.0, r.1.now)) result ≡ identifier_at bytes.now }
+    ensures value { option_map (λ r. (r.0, r.1.now)) result ≡ identifier_at bytes.now }
+    ensures code { IfSome result (λ r. GoesOn 0x06 r.1 bytes.entry) }
+    ensures body { IfSome result (λ r. GoesOn 0x30 r.1 bytes.entry) }
 {
     let (content, rest) = take_content(bytes, tag::INTEGER)?;
     let id = identifier(content)?;
@@ -40,7 +45,8 @@ pub fn take_identifier(bytes: &[u8]) -> Option<(i8, &[u8])>
 #[tactic(auto, unfolding(crate::specs::ComponentReading::linked_at))]
 #[inline(always)]
 pub fn take_linked(bytes: &[u8]) -> Option<(Option<i8>, &[u8])>
-    ensures { option_map (λ r. (r.0, r.1.now)) result ≡ linked_at bytes.now }
+    ensures value { option_map (λ r. (r.0, r.1.now)) result ≡ linked_at bytes.now }
+    ensures code { IfSome result (λ r. GoesOn 0x06 r.1 bytes.entry) }
 {
     match take_tagged(bytes, tag::LINKED_ID) {
         (None, rest) => Some((None, rest)),
@@ -54,7 +60,8 @@ pub fn take_linked(bytes: &[u8]) -> Option<(Option<i8>, &[u8])>
 /// 06 object identifier, and what follows it. Most codes are local, so it stands apart.
 #[inline(never)]
 fn take_global<'a>(bytes: &'a [u8]) -> Option<(Code<'a>, &'a [u8])>
-    ensures { option_map (λ r. (code_parts r.0, r.1.now)) result ≡ bound (content_at 0x06 bytes.now) global_from }
+    ensures value { option_map (λ r. (code_parts r.0, r.1.now)) result ≡ bound (content_at 0x06 bytes.now) global_from }
+    ensures place { IfSome result (λ r. CodeOnWay [] r.0 bytes.entry × AtEnd r.1 bytes.entry) }
 {
     let (octets, rest) = take_content(bytes, tag::OBJECT_IDENTIFIER)?;
     if !is_oid(octets) {
@@ -67,7 +74,8 @@ fn take_global<'a>(bytes: &'a [u8]) -> Option<(Code<'a>, &'a [u8])>
 #[tactic(auto, unfolding(crate::specs::ComponentReading::code_at))]
 #[inline(always)]
 fn take_code<'a>(bytes: &'a [u8]) -> Option<(Code<'a>, &'a [u8])>
-    ensures { option_map (λ r. (code_parts r.0, r.1.now)) result ≡ code_at bytes.now }
+    ensures value { option_map (λ r. (code_parts r.0, r.1.now)) result ≡ code_at bytes.now }
+    ensures place { IfSome result (λ r. CodeOnWay [] r.0 bytes.entry × AtEnd r.1 bytes.entry) }
 {
     if let (Some(content), rest) = take_tagged(bytes, tag::INTEGER) {
         let number = read_int(content)?;
@@ -80,7 +88,8 @@ fn take_code<'a>(bytes: &'a [u8]) -> Option<(Code<'a>, &'a [u8])>
 #[tactic(auto, unfolding(crate::specs::ComponentReading::body_at))]
 #[inline(always)]
 pub fn read_body<'a>(bytes: &'a [u8]) -> Option<Body<'a>>
-    ensures { option_map body_parts result ≡ body_at bytes.now }
+    ensures value { option_map body_parts result ≡ body_at bytes.now }
+    ensures place { IfSome result (λ b. CodedOnWay [] b.code b.parameter bytes.entry) }
 {
     let (code, rest) = take_code(bytes)?;
     let (parameter, rest) = take_any(rest);
@@ -93,7 +102,8 @@ pub fn read_body<'a>(bytes: &'a [u8]) -> Option<Body<'a>>
 /// A result: 02 identifier, [30 { code, [parameter] }].
 #[tactic(auto, unfolding(crate::specs::ComponentReading::result_at))]
 pub fn read_result<'a>(bytes: &'a [u8]) -> Option<(i8, Option<Body<'a>>)>
-    ensures { option_map (λ r. (r.0, option_map body_parts r.1)) result ≡ result_at bytes.now }
+    ensures value { option_map (λ r. (r.0, option_map body_parts r.1)) result ≡ result_at bytes.now }
+    ensures place { IfSome result (λ r. BodyOnWay (0x30 ∷ []) r.1 bytes.entry) }
 {
     let (id, rest) = take_identifier(bytes)?;
     let (inner, rest) = take_tagged(rest, tag::SEQUENCE);

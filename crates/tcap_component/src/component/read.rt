@@ -1,10 +1,12 @@
 //! Components read, each by its line of the table in Q.773, and the faults.
 
-ghost use Rattle.std.specs.Prelude.{◌≡◌, ℕ, List, ◌++◌, IfOk, IfErr, IsOkAnd};
+ghost use Rattle.std.specs.Prelude.{◌≡◌, ℕ, List, [], ◌++◌, IfSome, IfOk, IfErr, IsOkAnd};
 ghost use Rattle.std.specs.Option.{option_map};
 ghost use Rattle.ber_core.specs.Results.{Gives};
+ghost use Rattle.ber_core.specs.Place.{AtEnd};
 ghost use Rattle.ber_core.specs.Tag.{is_constructor};
 ghost use Rattle.ber_core.specs.Views.{parts};
+ghost use Rattle.tcap_component.specs.Place.{FieldsOnWay, ComponentInPlace};
 ghost use Rattle.tcap_component.specs.Problem.{IsProblem, general_problem};
 ghost use Rattle.tcap_component.specs.Component.{ComponentParts, InRange, SpellsComponent};
 ghost use Rattle.tcap_component.specs.ComponentFault.{fault, IsComponentFault};
@@ -28,7 +30,8 @@ use ber_core::{Element, is_element_list, read_element, take_any, take_tagged};
 #[tactic(auto, unfolding(crate::specs::ComponentReading::invoke_at))]
 #[inline(always)]
 fn read_invoke<'a>(content: &'a [u8]) -> Option<Component<'a>>
-    ensures { option_map component_parts result ≡ invoke_at content.now }
+    ensures value { option_map component_parts result ≡ invoke_at content.now }
+    ensures place { IfSome result (λ c. FieldsOnWay [] c content.entry) }
 {
     let (id, rest) = take_identifier(content)?;
     let (linked, rest) = take_linked(rest)?;
@@ -44,7 +47,8 @@ fn read_invoke<'a>(content: &'a [u8]) -> Option<Component<'a>>
 /// Return Result Last: 02 identifier, [30 { code, [parameter] }].
 #[tactic(auto, unfolding(crate::specs::ComponentReading::result_last_at))]
 fn read_result_last<'a>(content: &'a [u8]) -> Option<Component<'a>>
-    ensures { option_map component_parts result ≡ result_last_at content.now }
+    ensures value { option_map component_parts result ≡ result_last_at content.now }
+    ensures place { IfSome result (λ c. FieldsOnWay [] c content.entry) }
 {
     let (id, body) = read_result(content)?;
     Some(Component::ResultLast { id, body })
@@ -53,7 +57,8 @@ fn read_result_last<'a>(content: &'a [u8]) -> Option<Component<'a>>
 /// Return Error: 02 identifier, code, [parameter].
 #[tactic(auto, unfolding(crate::specs::ComponentReading::error_at))]
 fn read_error<'a>(content: &'a [u8]) -> Option<Component<'a>>
-    ensures { option_map component_parts result ≡ error_at content.now }
+    ensures value { option_map component_parts result ≡ error_at content.now }
+    ensures place { IfSome result (λ c. FieldsOnWay [] c content.entry) }
 {
     let (id, rest) = take_identifier(content)?;
     let Body { code, parameter } = read_body(rest)?;
@@ -67,7 +72,8 @@ fn read_error<'a>(content: &'a [u8]) -> Option<Component<'a>>
 /// Reject: 02 identifier or 05 00, then the problem.
 #[tactic(auto, unfolding(crate::specs::ComponentReading::reject_at))]
 fn read_reject<'a>(content: &'a [u8]) -> Option<Component<'a>>
-    ensures { option_map component_parts result ≡ reject_at content.now }
+    ensures value { option_map component_parts result ≡ reject_at content.now }
+    ensures place { IfSome result (λ c. FieldsOnWay [] c content.entry) }
 {
     let (id, rest) = take_rejected(content)?;
     let problem = read_problem(rest)?;
@@ -77,7 +83,8 @@ fn read_reject<'a>(content: &'a [u8]) -> Option<Component<'a>>
 /// Return Result Not Last: 02 identifier, [30 { code, [parameter] }].
 #[tactic(auto, unfolding(crate::specs::ComponentReading::result_more_at))]
 fn read_result_more<'a>(content: &'a [u8]) -> Option<Component<'a>>
-    ensures { option_map component_parts result ≡ result_more_at content.now }
+    ensures value { option_map component_parts result ≡ result_more_at content.now }
+    ensures place { IfSome result (λ c. FieldsOnWay [] c content.entry) }
 {
     let (id, body) = read_result(content)?;
     Some(Component::ResultMore { id, body })
@@ -86,7 +93,8 @@ fn read_result_more<'a>(content: &'a [u8]) -> Option<Component<'a>>
 /// The component that the contents are, by its form.
 #[inline(always)]
 fn read_contents<'a>(form: Form, content: &'a [u8]) -> Option<Component<'a>>
-    ensures { option_map component_parts result ≡ contents_at form content.now }
+    ensures value { option_map component_parts result ≡ contents_at form content.now }
+    ensures place { IfSome result (λ c. FieldsOnWay [] c content.entry) }
 {
     match form {
         Form::Invoke => read_invoke(content),
@@ -144,6 +152,7 @@ fn structured(form: Form, content: &[u8]) -> bool
 #[inline(always)]
 fn judge<'a>(octets: &[u8], content: &'a [u8]) -> Result<Component<'a>, u8>
     ensures value { Gives component_parts result (verdict_by (form_at octets.now) content.now) }
+    ensures place { IfOk result (λ c. FieldsOnWay [] c content.entry) }
     ensures within { IfErr result (λ code. IsProblem (general_problem code)) }
 {
     let Some(form) = form_of(octets) else {
@@ -189,7 +198,8 @@ fn general_fault(code: u8, id: Option<i8>, octets: &[u8]) -> ComponentFault
 #[tactic(auto, unfolding(crate::specs::ComponentReading::component_at))]
 #[inline(always)]
 fn split_component<'a>(bytes: &'a [u8]) -> Result<(Component<'a>, &'a [u8]), ComponentFault>
-    ensures { Reads (λ r. (component_parts r.0, r.1.now)) result (component_at bytes.now) }
+    ensures value { Reads (λ r. (component_parts r.0, r.1.now)) result (component_at bytes.now) }
+    ensures place { IfOk result (λ r. ComponentInPlace r.0 bytes.entry × AtEnd r.1 bytes.entry) }
 {
     let Ok((element, rest)) = read_element(bytes) else {
         return Err(general_fault(BADLY_STRUCTURED_COMPONENT, None, bytes));
@@ -209,6 +219,8 @@ pub fn read_component<'a>(bytes: &'a [u8]) -> Result<(Component<'a>, &'a [u8]), 
     ensures found { IfOk result (λ r. (whole : List ℕ) × SpellsComponent (component_parts r.0) whole × (bytes.now ≡ whole ++ r.1.now)) }
     // Its code and its parameter can be written, and its numbers are such as a component has.
     ensures writable { IfOk result (λ r. HasParts (component_parts r.0) × InRange (component_parts r.0)) }
+    // Its slices are parts of the bytes, at their places, and so is what follows it.
+    ensures place { IfOk result (λ r. ComponentInPlace r.0 bytes.entry × AtEnd r.1 bytes.entry) }
     // Each component is read.
     ensures only { (c : ComponentParts) (whole rest : List ℕ) → SpellsComponent c whole → bytes.now ≡ whole ++ rest →
         IsOkAnd result (λ r. (component_parts r.0 ≡ c) × (r.1.now ≡ rest)) }

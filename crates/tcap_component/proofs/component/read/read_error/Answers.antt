@@ -1,0 +1,5 @@
+use Rattle.tcap_component.proofs.PlaceSteps.{coded-rest}
+use Rattle.tcap_component.proofs.component.read.read_error.Goals as goal
+
+pub returns-clause-place : goal.returns-clause-place
+returns-clause-place c = coded-rest c.in_ok-code.field-0.code c.in_ok-code.field-0.parameter c.in_ok-id.rest c.args.content c.in_ok-id.ensures.code c.in_ok-code.ensures.place
