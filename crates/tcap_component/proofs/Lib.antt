@@ -3,7 +3,6 @@ pub mod ComponentGrammar
 pub mod ContentsGrammar
 pub mod FaultGrammar
 pub mod ItemSteps
-pub mod LengthGrammar
 pub mod ListGrammar
 pub mod PartGrammar
 pub mod PlaceSteps

@@ -1,5 +1,5 @@
 -- Steps to the place of a component's slices.
-use Rattle.std.proofs.Common.{◌≡◌, ℕ, ◌+◌, List, [], ◌∷◌, ◌++◌, length, Option, Some, None, Result, Ok, Err, refl, sym, ap, subst, ◌∙◌, arith, inl, inr, length-append}
+use Rattle.std.proofs.Common.{◌≡◌, ℕ, List, [], ◌∷◌, ◌++◌, length, Option, Some, None, Ok, sym, ap, subst, ◌∙◌, arith, inl, inr, length-append}
 use Rattle.std.specs.Prelude.{IfSome, option_copied}
 use Rattle.ber_core.specs.Element.{Parts}
 use Rattle.ber_core.specs.ElementReading.{element_at}
@@ -23,7 +23,7 @@ pub ends-all : (part bytes : Slice) → AtEnd part bytes → EndsOnWay [] part b
 unfolding way_to content_on
 ends-all part bytes h = (h.0, omega (arith, h.1))
 
-ends-rest : (part rest bytes : Slice) → AtEnd rest bytes → EndsOnWay [] part rest → EndsOnWay [] part bytes
+pub ends-rest : (part rest bytes : Slice) → AtEnd rest bytes → EndsOnWay [] part rest → EndsOnWay [] part bytes
 unfolding way_to content_on
 ends-rest part rest bytes h e = (e.0 ∙ h.0, omega (arith, e.1, h.1))
 
@@ -45,7 +45,7 @@ coded-rest c o rest bytes g h = (code-rest c rest bytes g h.0, parameter-rest o 
 
 -- ---- from a content to the bytes that it lies in
 
-ends-in : (tag : ℕ) (tags : List ℕ) (part mid bytes : Slice) → IsInside tag mid bytes → EndsOnWay tags part mid → EndsOnWay (tag ∷ tags) part bytes
+pub ends-in : (tag : ℕ) (tags : List ℕ) (part mid bytes : Slice) → IsInside tag mid bytes → EndsOnWay tags part mid → EndsOnWay (tag ∷ tags) part bytes
 unfolding way_to content_on
 ends-in tag tags part mid bytes i e =
     let way : way_to tags (inside tag bytes.now).1 ≡ way_to tags mid.now = ap (way_to tags) i.0 in

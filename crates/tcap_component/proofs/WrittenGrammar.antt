@@ -1,15 +1,14 @@
 -- Why a component can't be written, and that what is written is the component.
-use Rattle.std.proofs.Common.{◌≡◌, ℕ, ◌+◌, ◌<◌, ◌≤◌, Bool, true, false, ltb, List, length, Option, Some, None, refl, sym, ap, ◌∙◌, inl, inr, arith}
+use Rattle.std.proofs.Common.{◌≡◌, ℕ, ◌<◌, ◌≤◌, Bool, true, false, ltb, List, length, Option, Some, None, refl, sym, ap, ◌∙◌, inl, inr, arith}
 use Rattle.std.proofs.lemmas.Bool.{cases_Bool, lt-ltb, le-ltb, ltb-true, ltb-false}
 use Rattle.ber_core.specs.SequenceReading.{alone_at}
-use Rattle.ber_core.proofs.CallerLemmas.{some, some_is, by_option, alone_takes, alone_again, object_identifier_takes, object_identifier_again}
-use Rattle.ber_core.specs.Written.{length_octets}
+use Rattle.ber_core.proofs.CallerLemmas.{some, some_is, by_option, alone_takes, alone_again, object_identifier_takes, object_identifier_again, length-written}
+use Rattle.ber_core.specs.WrittenLength.{element_length}
 use Rattle.tcap_component.specs.declared.fault.WriteFault.{WriteFault}
 use Rattle.tcap_component.specs.declared.fault.WriteFault.TheVariants.{BadOid, BadParameter, TooLong}
 use Rattle.tcap_component.specs.Component.{CodeParts, BodyParts, ComponentParts, component_tag}
 use Rattle.tcap_component.specs.Component.CodeParts.{local, global}
 use Rattle.tcap_component.specs.Written.{written_contents, written_component, coded_part, CanCode, CanHold, HasCode, HasParameter, CanWriteComponent, IsWriteFault, can_code, can_hold, has_code, has_parameter, write_fault, length_if_any}
-use Rattle.tcap_component.proofs.LengthGrammar.{written-length}
 use Rattle.tcap_component.specs.Written.IsWriteFault.{bad_oid, bad_parameter, too_long}
 
 -- ---- the tests
@@ -103,9 +102,9 @@ due_code c n = bad_oid c (λ h. true_not_false _ n (has_code-again _ h))
 pub due_parameter : (c : ComponentParts) → has_code (coded_part c) ≡ true → has_parameter (coded_part c) ≡ false → IsWriteFault c BadParameter
 due_parameter c y n = bad_parameter c (has_code-takes _ y) (λ h. true_not_false _ n (has_parameter-again _ h))
 
-module _ (c : ComponentParts) (len whole : ℕ) (code : has_code (coded_part c) ≡ true) (parameter : has_parameter (coded_part c) ≡ true) (is : len ≡ length (written_contents c)) (is_whole : whole ≡ 1 + length (length_octets len) + len) where
+module _ (c : ComponentParts) (len whole : ℕ) (code : has_code (coded_part c) ≡ true) (parameter : has_parameter (coded_part c) ≡ true) (is : len ≡ length (written_contents c)) (is_whole : whole ≡ element_length len) where
   same : length (written_component c) ≡ whole
-  same = written-length (component_tag c) (written_contents c) ∙ sym (is_whole ∙ ap (λ (n : ℕ). 1 + length (length_octets n) + n) is)
+  same = length-written (component_tag c) (written_contents c) ∙ sym (is_whole ∙ ap element_length is)
 
   pub due_length : 65535 < whole → IsWriteFault c TooLong
   due_length lt = too_long c (has_code-takes _ code) (has_parameter-takes _ parameter) (omega (arith, lt, same))
@@ -113,9 +112,9 @@ module _ (c : ComponentParts) (len whole : ℕ) (code : has_code (coded_part c) 
   pub can_write : whole ≤ 65535 → CanWriteComponent c
   can_write le = record { has_code = has_code-takes _ code; has_parameter = has_parameter-takes _ parameter; is_short = omega (arith, le, same) }
 
-pub length_known : (c : ComponentParts) (whole len : ℕ) → CanWriteComponent c → len ≡ length (written_contents c) → whole ≡ 1 + length (length_octets len) + len → Some whole ≡ length_if_any (written_component c) (write_fault c)
+pub length_known : (c : ComponentParts) (whole len : ℕ) → CanWriteComponent c → len ≡ length (written_contents c) → whole ≡ element_length len → Some whole ≡ length_if_any (written_component c) (write_fault c)
 length_known c whole len can is is_whole =
-    let e : whole ≡ length (written_component c) = is_whole ∙ (ap (λ (n : ℕ). 1 + length (length_octets n) + n) is ∙ sym (written-length (component_tag c) (written_contents c))) in
+    let e : whole ≡ length (written_component c) = is_whole ∙ (ap element_length is ∙ sym (length-written (component_tag c) (written_contents c))) in
     rw (write_fault-none c can) (ap some e)
 
 pub length_unknown : (c : ComponentParts) (f : WriteFault) → IsWriteFault c f → None ≡ length_if_any (written_component c) (write_fault c)
@@ -125,3 +124,5 @@ length_unknown c f h = rw (write_fault-told c f h) refl
 pub ruleset fault_rules = (write_fault-none, write_fault-told)
 
 pub ruleset length_rules = (length_known, length_unknown, not_refused_by)
+
+pub ruleset written_rules = (length-written)

@@ -3,7 +3,7 @@ use Rattle.std.proofs.Common.{◌≡◌, ◌≢◌, ℕ, ◌≤◌, ℤ, false, 
 use Rattle.std.specs.Option.{option_map}
 use Rattle.ber_core.specs.Sequence.Field.{must, may, any}
 use Rattle.ber_core.specs.Written.{written, written_fields, CanWrite, CanWriteAll, written_parts}
-use Rattle.ber_core.proofs.CallerLemmas.{part_is, fields_spelled, integer_spelled}
+use Rattle.ber_core.proofs.CallerLemmas.{part_is, fields_spelled, integer_spelled, length-written, element_length-least}
 use Rattle.tcap_component.specs.declared.problem.Kind.{Kind}
 use Rattle.tcap_component.specs.declared.problem.Kind.TheVariants as kind
 use Rattle.tcap_component.specs.Problem.{problem_tag}
@@ -13,7 +13,6 @@ use Rattle.tcap_component.specs.Component.ComponentParts.{invoke, result_last, e
 use Rattle.tcap_component.specs.ComponentReading.{component_at}
 use Rattle.tcap_component.specs.Written.{written_body, written_contents, written_component, CanHold, HasParameter, CanWriteComponent}
 use Rattle.tcap_component.proofs.ComponentGrammar.{component_again}
-use Rattle.tcap_component.proofs.LengthGrammar.{written-length}
 
 -- a tag of one octet that has no further octets
 abbrev IsTagOctet : ℕ → Type 0
@@ -48,7 +47,7 @@ problem-can kind.Error n = ((λ e. absurd (omega (arith, e))), refl, omega arith
 
 -- the parts of a list are no longer than the list
 first-short : (tag : ℕ) (c more : List ℕ) → length (written (tag ∷ []) c ++ more) ≤ 65535 → length c ≤ 65535
-first-short tag c more h = omega (arith, length-append (written (tag ∷ []) c) more, written-length tag c)
+first-short tag c more h = omega (arith, h, length-append (written (tag ∷ []) c) more, length-written tag c, element_length-least (length c))
 
 body-short : (id : ℤ) (inner : List ℕ) → length (written_fields (must 0x02 (identifier id) ∷ may 0x30 (Some inner) ∷ [])) ≤ 65535 → length inner ≤ 65535
 body-short id inner h =
@@ -59,7 +58,7 @@ result-can id None h = (identifier-can id, (tt, tt))
 result-can id (Some b) h = (identifier-can id, (((λ e. absurd (omega (arith, e))), refl, body-short id (written_fields (body_fields b)) h), tt))
 
 contents-short : (c : ComponentParts) → CanWriteComponent c → length (written_contents c) ≤ 65535
-contents-short c h = omega (arith, h.is_short, written-length (component_tag c) (written_contents c))
+contents-short c h = omega (arith, h.is_short, length-written (component_tag c) (written_contents c), element_length-least (length (written_contents c)))
 
 fields-can : (c : ComponentParts) → InRange c → CanWriteComponent c → CanWriteAll (fields c (written_body (body_of c)))
 fields-can (invoke id linked code parameter) r h = (identifier-can id, (linked-can linked, (code-can code r.2, (parameter-can parameter h.has_parameter, tt))))

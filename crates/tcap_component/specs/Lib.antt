@@ -2,6 +2,7 @@ pub mod Component
 pub mod ComponentFault
 pub mod ComponentList
 pub mod ComponentReading
+pub mod FaultText
 pub mod Place
 pub mod Problem
 pub mod ProblemCodes

@@ -3,6 +3,9 @@ ghost use Rattle.tcap_component.specs.declared.fault.WriteFault.TheVariants.{Out
 ghost use Rattle.tcap_component.specs.Written.{fault_number};
 
 use crate::problem::Problem;
+use crate::problem::general_problem::{
+    BADLY_STRUCTURED_COMPONENT, MISTYPED_COMPONENT, UNRECOGNIZED_COMPONENT,
+};
 use std::error::Error;
 use std::fmt;
 
@@ -31,8 +34,18 @@ pub enum WriteFault {
 }
 
 impl fmt::Display for ComponentFault {
+    ghost use Rattle.std.specs.Prelude.{Some};
+    ghost use Rattle.tcap_component.specs.FaultText.{fault_text};
+
+    ghost output = { λ fault. Some (fault_text fault) };
+
     fn fmt<W: fmt::Write>(&self, f: &mut fmt::Formatter<W>) -> fmt::Result {
-        write!(f, "faulty component: {}", self.problem)
+        f.write_str(match self.problem.code() {
+            UNRECOGNIZED_COMPONENT => "unrecognized component",
+            MISTYPED_COMPONENT => "mistyped component",
+            BADLY_STRUCTURED_COMPONENT => "badly structured component",
+            _ => "faulty component",
+        })
     }
 }
 
@@ -48,13 +61,18 @@ impl WriteFault {
 }
 
 impl fmt::Display for WriteFault {
+    ghost use Rattle.std.specs.Prelude.{Some};
+    ghost use Rattle.tcap_component.specs.FaultText.{write_text};
+
+    ghost output = { λ fault. Some (write_text fault) };
+
     fn fmt<W: fmt::Write>(&self, f: &mut fmt::Formatter<W>) -> fmt::Result {
-        match self {
-            WriteFault::OutOfMemory => write!(f, "out of memory"),
-            WriteFault::BadParameter => write!(f, "bad parameter"),
-            WriteFault::BadOid => write!(f, "bad object identifier"),
-            WriteFault::TooLong => write!(f, "too long"),
-        }
+        f.write_str(match self {
+            WriteFault::OutOfMemory => "out of memory",
+            WriteFault::BadParameter => "bad parameter",
+            WriteFault::BadOid => "bad object identifier",
+            WriteFault::TooLong => "too long",
+        })
     }
 }
 

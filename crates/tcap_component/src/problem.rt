@@ -1,8 +1,6 @@
 ghost use Rattle.std.specs.Prelude.{◌≤◌};
 ghost use Rattle.tcap_component.specs.Problem.{problem_limit};
 
-use std::fmt;
-
 /// What a Reject speaks of (Q.773, Problem).
 #[derive(Clone, Copy, Debug, PartialEq, Eq)]
 pub enum Kind {
@@ -184,22 +182,5 @@ impl Problem {
             Kind::Result => self.code <= return_result_problem::RETURN_RESULT_UNEXPECTED,
             Kind::Error => self.code <= return_error_problem::RETURN_ERROR_UNEXPECTED,
         }
-    }
-}
-
-impl fmt::Display for Kind {
-    fn fmt<W: fmt::Write>(&self, f: &mut fmt::Formatter<W>) -> fmt::Result {
-        match self {
-            Kind::General => write!(f, "general"),
-            Kind::Invoke => write!(f, "invoke"),
-            Kind::Result => write!(f, "result"),
-            Kind::Error => write!(f, "error"),
-        }
-    }
-}
-
-impl fmt::Display for Problem {
-    fn fmt<W: fmt::Write>(&self, f: &mut fmt::Formatter<W>) -> fmt::Result {
-        write!(f, "{} problem {}", self.kind, self.code)
     }
 }

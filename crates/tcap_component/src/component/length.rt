@@ -5,7 +5,7 @@ ghost use Rattle.ber_core.specs.Length.{length_limit};
 ghost use Rattle.std.specs.Option.{option_map};
 ghost use Rattle.ber_core.specs.Integer.{integer_octets};
 ghost use Rattle.ber_core.specs.Sequence.Field.{may, any};
-ghost use Rattle.ber_core.specs.Written.{length_octets, written_field, written_fields};
+ghost use Rattle.ber_core.specs.Written.{written_field, written_fields};
 ghost use Rattle.tcap_component.specs.Component.{code_field, body_fields};
 ghost use Rattle.tcap_component.specs.Views.{code_parts, body_parts, component_parts};
 ghost use Rattle.tcap_component.specs.Written.{written_body, written_contents, written_component, coded_part, CanCode, HasCode, CanWriteComponent, IsWriteFault, can_code, can_hold, has_code, has_parameter, write_fault, length_if_any};
@@ -13,7 +13,7 @@ ghost use Rattle.tcap_component.specs.declared.fault.WriteFault.{WriteFault};
 
 use crate::component::{Body, Code, Component};
 use crate::fault::WriteFault;
-use ber_core::{MAX_LENGTH, is_oid, read_alone};
+use ber_core::{MAX_LENGTH, element_len, is_oid, read_alone};
 
 /// The code and the parameter of a component; a Reject and a result without a body have none.
 #[inline(always)]
@@ -60,21 +60,6 @@ fn is_parameter(parameter: Option<&[u8]>) -> bool
 }
 
 // ---- lengths
-
-/// The length of an element with a tag of one octet, in octets.
-#[inline(always)]
-pub fn element_len(content: usize) -> usize
-    requires { content < 2 ^ 63 + 2 ^ 11 }
-    ensures { result ≡ 1 + length (length_octets content) + content }
-{
-    if content < 0x80 {
-        2 + content
-    } else if content < 0x100 {
-        3 + content
-    } else {
-        4 + content
-    }
-}
 
 /// How many octets an integer has, 1 to 4.
 #[inline(always)]
@@ -131,6 +116,7 @@ pub fn body_len(body: &Body<'_>) -> usize
 const IDENTIFIER_LEN: usize = 3;
 
 /// The length of the written 30 of a result, in octets, 0 without a body.
+#[tactic(auto, using(crate::proofs::WrittenGrammar::written_rules))]
 #[inline(always)]
 fn result_len(body: Option<Body<'_>>) -> usize
     requires { HasCode (option_map body_parts body) }

@@ -13,14 +13,14 @@ ghost use Rattle.tcap_component.specs.Written.{written_body, written_contents, w
 ghost use Rattle.tcap_component.specs.declared.fault.WriteFault.{WriteFault};
 ghost use Rattle.tcap_component.specs.declared.fault.WriteFault.TheVariants as fault;
 
-use crate::component::length::{body_len, checked_len, element_len};
+use crate::component::length::{body_len, checked_len};
 use crate::component::parts::tag_of;
 use crate::component::range::in_range;
 use crate::component::{Body, Code, Component};
 use crate::fault::WriteFault;
 use crate::problem::Problem;
 use crate::tag;
-use ber_core::{OutOfMemory, write_element, write_head, write_int};
+use ber_core::{OutOfMemory, element_len, write_element, write_head, write_int};
 use std::alloc::Allocator;
 
 /// Appends an identifier, or nothing.
