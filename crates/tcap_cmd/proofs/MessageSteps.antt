@@ -11,7 +11,7 @@ use Rattle.tcap_pdu.proofs.CallerLemmas.{frame_takes}
 use Rattle.tcap_cmd.specs.declared.verdict.Verdict.{Verdict}
 use Rattle.tcap_cmd.specs.declared.verdict.Verdict.TheVariants.{TooLong, UnknownType, BadlyFormatted, Incorrect, Dialogue, Component, Good}
 use Rattle.tcap_cmd.specs.Text.{line}
-use Rattle.tcap_cmd.specs.Verdict.{verdict_of_fault, message_by, message_of, verdict_by, verdict_of, is_good, verdict_words}
+use Rattle.tcap_cmd.specs.Verdict.{verdict_of_fault, message_by, message_of, message_verdict, verdict_by, verdict_of, is_good, verdict_words}
 use Rattle.tcap_cmd.specs.Canonical.{canonical_frame, canonical_by, canonical_of, canon_verdict, canon_line, canon_text_of, canon_is_good}
 
 abbrev framed : Message → Result Message FrameFault
@@ -70,13 +70,17 @@ good_is Dialogue e = absurd cc
 good_is (Component n) e = absurd cc
 good_is Good e = refl
 
-pub text_good : (bytes : List ℕ) (m : Message) (v : Verdict) (b : Bool) → message_of bytes ≡ Ok m → v ≡ verdict_of bytes → b ≡ is_good v → b ≡ true → canon_line Good (canonical_frame m) ≡ canon_text_of bytes
-text_good bytes m v b e is said good =
-    ap₂ canon_line (sym (good_is v (sym said ∙ good)) ∙ is) (sym (canonical_of-read bytes m e))
+-- the verdict on what was read is that on the bytes
+judged : (bytes : List ℕ) (m : Message) (v : Verdict) → message_of bytes ≡ Ok m → v ≡ message_verdict m → v ≡ verdict_of bytes
+judged bytes m v read is = is ∙ sym (ap verdict_by read)
 
-pub flag_good : (bytes : List ℕ) (m : Message) (v : Verdict) (b : Bool) → message_of bytes ≡ Ok m → v ≡ verdict_of bytes → b ≡ is_good v → b ≡ true → is_good (canon_verdict Good (canonical_frame m)) ≡ canon_is_good bytes
-flag_good bytes m v b e is said good =
-    ap is_good (ap₂ canon_verdict (sym (good_is v (sym said ∙ good)) ∙ is) (sym (canonical_of-read bytes m e)))
+pub text_good : (bytes : List ℕ) (m : Message) (v : Verdict) (b : Bool) → message_of bytes ≡ Ok m → v ≡ message_verdict m → b ≡ is_good v → b ≡ true → canon_line Good (canonical_frame m) ≡ canon_text_of bytes
+text_good bytes m v b read is said good =
+    ap₂ canon_line (sym (good_is v (sym said ∙ good)) ∙ judged bytes m v read is) (sym (canonical_of-read bytes m read))
+
+pub flag_good : (bytes : List ℕ) (m : Message) (v : Verdict) (b : Bool) → message_of bytes ≡ Ok m → v ≡ message_verdict m → b ≡ is_good v → b ≡ true → is_good (canon_verdict Good (canonical_frame m)) ≡ canon_is_good bytes
+flag_good bytes m v b read is said good =
+    ap is_good (ap₂ canon_verdict (sym (good_is v (sym said ∙ good)) ∙ judged bytes m v read is) (sym (canonical_of-read bytes m read)))
 
 line-bad : (v : Verdict) (form : List ℕ) → is_good v ≡ false → line (verdict_words v) ≡ canon_line v form
 line-bad TooLong form e = refl

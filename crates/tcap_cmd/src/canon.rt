@@ -13,7 +13,7 @@ ghost use Rattle.tcap_cmd.specs.Verdict.{message_limit, is_good, verdict_words};
 ghost use Rattle.tcap_cmd.specs.declared.verdict.Verdict.TheVariants as verdict;
 ghost use Rattle.tcap_cmd.specs.Canonical.{canonical_item, canonical_components, canonical_dialogue, components_in, with_portions, canonical_frame, of_pdu_fault, of_write_fault, IsCanonFault, IsWritableItem, canon_verdict, canon_line, canon_text_of, canon_is_good};
 
-use crate::judge::{add_verdict, read_message, verdict_on};
+use crate::judge::{judge_message, read_message, verdict_text};
 use crate::portions::{components_of, dialogue_in, with_portions};
 use crate::shown::Shown;
 use crate::verdict::Verdict;
@@ -182,19 +182,6 @@ fn rewrite_frame<A: Allocator + Copy>(alloc: A, frame: Frame<'_>) -> Result<Vec<
     }
 }
 
-/// The line of a verdict that is not good.
-fn verdict_text<A: Allocator + Copy>(alloc: A, verdict: Verdict) -> Result<Shown<A>, OutOfMemory>
-    ensures text { IfOk result (λ shown. shown.text.items ≡ line (verdict_words verdict)) }
-    ensures good { IfOk result (λ shown. shown.good ≡ is_good verdict) }
-{
-    let mut text = String::new(alloc);
-    add_verdict(&mut text, verdict)?;
-    Ok(Shown {
-        text: text.into_bytes(),
-        good: verdict.is_good(),
-    })
-}
-
 /// The line of octets in lower case hexadecimal, which is good.
 fn octets_text<A: Allocator + Copy>(alloc: A, octets: &[u8]) -> Result<Shown<A>, OutOfMemory>
     ensures text { IfOk result (λ shown. shown.text.items ≡ line (encode_lower octets.now)) }
@@ -202,10 +189,7 @@ fn octets_text<A: Allocator + Copy>(alloc: A, octets: &[u8]) -> Result<Shown<A>,
 {
     let mut text = hex::encode(alloc, octets)?;
     text.push('\n')?;
-    Ok(Shown {
-        text: text.into_bytes(),
-        good: true,
-    })
+    Ok(Shown::of(text, Verdict::Good))
 }
 
 /// The text of a message whose verdict is good.
@@ -227,9 +211,9 @@ pub fn canon_text<A: Allocator + Copy>(alloc: A, bytes: &[u8]) -> Result<Shown<A
     ensures text { IfOk result (λ shown. shown.text.items ≡ canon_text_of bytes.now) }
     ensures good { IfOk result (λ shown. shown.good ≡ canon_is_good bytes.now) }
 {
-    let verdict = verdict_on(bytes);
     match read_message(bytes) {
         Ok(frame) => {
+            let verdict = judge_message(&frame);
             if verdict.is_good() {
                 frame_text(alloc, frame)
             } else {

@@ -1,14 +1,15 @@
 //! What the verdict on bytes is.
 
-ghost use Rattle.std.specs.Prelude.{◌≡◌, ◌<◌, ◌++◌, length, is_err, IfSome, OnOk, Ok, string_bytes, option_copied};
+ghost use Rattle.std.specs.Prelude.{◌≡◌, ◌<◌, ◌++◌, length, is_err, IfSome, IfOk, OnOk, Ok, string_bytes, option_copied};
 ghost use Rattle.std.specs.List.{position_from};
 ghost use Rattle.ber_core.specs.Results.{Gives};
 ghost use Rattle.tcap_pdu.specs.FrameViews.{message, reason_of};
 ghost use Rattle.tcap_pdu.specs.DialogueReading.{dialogue_at};
 ghost use Rattle.tcap_component.specs.ComponentReading.{components_of};
 ghost use Rattle.tcap_cmd.specs.Text.{line};
-ghost use Rattle.tcap_cmd.specs.Verdict.{verdict_of_fault, message_of, is_known, is_read, is_good_portion, is_good_reason, components_verdict, portions_verdict, message_verdict, verdict_of, verdict_words};
+ghost use Rattle.tcap_cmd.specs.Verdict.{verdict_of_fault, message_of, is_known, is_read, is_good_portion, is_good_reason, components_verdict, portions_verdict, message_verdict, verdict_of, is_good, verdict_words};
 
+use crate::shown::Shown;
 use crate::verdict::Verdict;
 use ber_core::OutOfMemory;
 use std::alloc::Allocator;
@@ -115,7 +116,7 @@ fn judge_portions(dialogue: &Option<&[u8]>, components: &[u8]) -> Verdict
 }
 
 /// The verdict on a message.
-fn judge_message(frame: &Frame<'_>) -> Verdict
+pub fn judge_message(frame: &Frame<'_>) -> Verdict
     ensures { result ≡ message_verdict (message frame.now) }
 {
     match frame {
@@ -175,4 +176,17 @@ pub fn add_verdict<A: Allocator + Copy>(
         Verdict::Good => write!(text, "good\n")?,
     }
     Ok(())
+}
+
+/// The line of a verdict alone.
+pub fn verdict_text<A: Allocator + Copy>(
+    alloc: A,
+    verdict: Verdict,
+) -> Result<Shown<A>, OutOfMemory>
+    ensures text { IfOk result (λ shown. shown.text.items ≡ line (verdict_words verdict)) }
+    ensures good { IfOk result (λ shown. shown.good ≡ is_good verdict) }
+{
+    let mut text = String::new(alloc);
+    add_verdict(&mut text, verdict)?;
+    Ok(Shown::of(text, verdict))
 }

@@ -8,7 +8,7 @@ ghost use Rattle.tcap_cmd.specs.Show.{origin_line, destination_line, dialogue_li
 
 use crate::component_text::{component_text, fault_text};
 use crate::dialogue_text::add_portion;
-use crate::judge::{add_verdict, read_message, verdict_on};
+use crate::judge::{add_verdict, judge_message, read_message, verdict_on, verdict_text};
 use crate::shown::Shown;
 use crate::text::{add_line, add_number, add_octets};
 use ber_core::OutOfMemory;
@@ -187,14 +187,17 @@ pub fn show_text<A: Allocator + Copy>(alloc: A, bytes: &[u8]) -> Result<Shown<A>
     ensures good { IfOk result (λ shown. shown.good ≡ show_is_good bytes.now) }
 {
     let mut text = String::new(alloc);
-    match read_message(bytes) {
-        Ok(frame) => add_message(alloc, &mut text, &frame)?,
-        Err(verdict) => add_verdict(&mut text, verdict)?,
-    }
-    Ok(Shown {
-        text: text.into_bytes(),
-        good: verdict_on(bytes).is_good(),
-    })
+    let verdict = match read_message(bytes) {
+        Ok(frame) => {
+            add_message(alloc, &mut text, &frame)?;
+            judge_message(&frame)
+        }
+        Err(verdict) => {
+            add_verdict(&mut text, verdict)?;
+            verdict
+        }
+    };
+    Ok(Shown::of(text, verdict))
 }
 
 /// The text of `check`: the verdict on the bytes.
@@ -202,11 +205,5 @@ pub fn check_text<A: Allocator + Copy>(alloc: A, bytes: &[u8]) -> Result<Shown<A
     ensures text { IfOk result (λ shown. shown.text.items ≡ check_text_of bytes.now) }
     ensures good { IfOk result (λ shown. shown.good ≡ show_is_good bytes.now) }
 {
-    let verdict = verdict_on(bytes);
-    let mut text = String::new(alloc);
-    add_verdict(&mut text, verdict)?;
-    Ok(Shown {
-        text: text.into_bytes(),
-        good: verdict.is_good(),
-    })
+    verdict_text(alloc, verdict_on(bytes))
 }

@@ -8,10 +8,10 @@ pub frame_text-requires : goal.frame_text-requires
 frame_text-requires g c = read-cause c.args.bytes.now (message c.in-Ok.frame) c.in-Ok.ensures
 
 pub returns-then-is_good-clause-text : goal.returns-then-is_good-clause-text
-returns-then-is_good-clause-text g c = IfOk-weaker c.frame_text.result _ _ (λ s h. h ∙ text_good c.args.bytes.now (message c.in-Ok.frame) c.verdict_on-verdict.result c.is_good.result c.in-Ok.ensures c.verdict_on-verdict.ensures c.is_good.ensures c.if-is_good.true) c.frame_text.ensures.text
+returns-then-is_good-clause-text g c = IfOk-weaker c.frame_text.result _ _ (λ s h. h ∙ text_good c.args.bytes.now (message c.in-Ok.frame) c.judge_message-verdict.result c.is_good.result c.in-Ok.ensures c.judge_message-verdict.ensures c.is_good.ensures c.if-is_good.true) c.frame_text.ensures.text
 
 pub returns-then-is_good-clause-good : goal.returns-then-is_good-clause-good
-returns-then-is_good-clause-good g c = IfOk-weaker c.frame_text.result _ _ (λ s h. h ∙ flag_good c.args.bytes.now (message c.in-Ok.frame) c.verdict_on-verdict.result c.is_good.result c.in-Ok.ensures c.verdict_on-verdict.ensures c.is_good.ensures c.if-is_good.true) c.frame_text.ensures.good
+returns-then-is_good-clause-good g c = IfOk-weaker c.frame_text.result _ _ (λ s h. h ∙ flag_good c.args.bytes.now (message c.in-Ok.frame) c.judge_message-verdict.result c.is_good.result c.in-Ok.ensures c.judge_message-verdict.ensures c.is_good.ensures c.if-is_good.true) c.frame_text.ensures.good
 
 pub returns-in-Err-clause-text : goal.returns-in-Err-clause-text
 returns-in-Err-clause-text g c = IfOk-weaker c.verdict_text-in-Err.result _ _ (λ s h. h ∙ text_bad c.args.bytes.now c.in-Err.verdict c.in-Err.ensures) c.verdict_text-in-Err.ensures.text
