@@ -6,3 +6,4 @@ pub mod ItemLines
 pub mod MessageSteps
 pub mod TextSteps
 pub mod WordRows
+pub mod WrittenFronts

@@ -1,7 +1,8 @@
 -- What a run of the command gives: the text asked for and its verdict, or why it came to none.
-use Rattle.std.specs.Prelude.{◌≡◌, ℕ, Bool, true, false, List, Option, Result, Ok, Err, MatchResult}
+use Rattle.std.specs.Prelude.{◌≡◌, ◌<◌, ◌%◌, ◌++◌, ℕ, Bool, true, false, List, length, Option, Result, Ok, Err, MatchResult}
 use Rattle.std.specs.Io.KnownBytes.{Appends, Keeps}
-use Rattle.hex.specs.Hex.{decode_of}
+use Rattle.std.specs.List.{AllPass}
+use Rattle.hex.specs.Hex.{decode_of, is_hex_digit}
 use Rattle.clap.specs.Words.{Text}
 use Rattle.tcap_cmd.specs.declared.refusal.Refusal.{Refusal}
 use Rattle.tcap_cmd.specs.declared.refusal.Refusal.TheVariants.{BadCommand, BadHex, OutOfMemory, WriteFailed}
@@ -27,6 +28,25 @@ is_good_of (show hex) bytes = show_is_good bytes
 is_good_of (check hex) bytes = show_is_good bytes
 is_good_of (canon hex) bytes = canon_is_good bytes
 
+-- HEX is hexadecimal: an even number of digits, of both cases (own).
+abbrev pub IsHex : List ℕ → Type 0
+IsHex hex = (length hex % 2 ≡ 0) × AllPass is_hex_digit hex
+
+-- Why there are no bytes of HEX, and so no text: it spells none, or it spells some and memory is wanting
+-- (own).
+abbrev pub IsUnspelled : List ℕ → Refusal → Type 0
+IsUnspelled hex BadCommand = ⊥
+IsUnspelled hex BadHex = (bytes : List ℕ) → decode_of hex ≡ Ok bytes → ⊥
+IsUnspelled hex OutOfMemory = (bytes : List ℕ) × (decode_of hex ≡ Ok bytes)
+IsUnspelled hex WriteFailed = ⊥
+
+-- HEX spells bytes, of which this is the text that is asked for and its verdict (own).
+pub record IsTextOf (asked : Asked) (text : List ℕ) (good : Bool) : Type 0 where
+  pub bytes : List ℕ
+  pub spelled : decode_of (hex_of asked) ≡ Ok bytes
+  pub is_text : text ≡ text_of asked bytes
+  pub verdict : good ≡ is_good_of asked bytes
+
 -- HEX spells bytes, their text was written behind what the writer held, and this is its verdict (own).
 pub record IsAnswered (asked : Asked) (old new : Option (List ℕ)) (good : Bool) : Type 0 where
   pub bytes : List ℕ
@@ -38,20 +58,37 @@ pub record IsAnswered (asked : Asked) (old new : Option (List ℕ)) (good : Bool
 abbrev pub SpellsBytes : Asked → Type 0
 SpellsBytes asked = (bytes : List ℕ) × (decode_of (hex_of asked) ≡ Ok bytes)
 
--- When a run that asks for something may be refused: where HEX spells no bytes, where it spells
--- bytes but a write fails, and for want of memory at any time (own).
-abbrev pub IsRefusable : Asked → Refusal → Type 0
-IsRefusable asked BadCommand = ⊥
-IsRefusable asked BadHex = SpellsBytes asked → ⊥
-IsRefusable asked OutOfMemory = Unit {0}
-IsRefusable asked WriteFailed = SpellsBytes asked
+-- A front of a text, but not all of it, was written behind what the writer held (own).
+pub record IsFront (text : List ℕ) (old new : Option (List ℕ)) : Type 0 where
+  pub front : List ℕ
+  pub rest : List ℕ
+  pub is_text : text ≡ front ++ rest
+  pub is_cut : 0 < length rest
+  pub written : Appends old new front
 
--- When a run for these words may be refused (own).
-abbrev pub IsRefusal : List Text → Refusal → Type 0
-IsRefusal words BadCommand = AskNothing words
-IsRefusal words BadHex = (asked : Asked) × Ask words asked × IsRefusable asked BadHex
-IsRefusal words OutOfMemory = Unit {0}
-IsRefusal words WriteFailed = (asked : Asked) × Ask words asked × IsRefusable asked WriteFailed
+-- HEX spells bytes, and a front of their text, never all of it, was written behind what the writer held
+-- (own).
+pub record IsCut (asked : Asked) (old new : Option (List ℕ)) : Type 0 where
+  pub bytes : List ℕ
+  pub spelled : decode_of (hex_of asked) ≡ Ok bytes
+  pub written : IsFront (text_of asked bytes) old new
+
+-- When a run that asks for something may be refused, and what it wrote: nothing where HEX spells no
+-- bytes; nothing where it spells bytes but memory is wanting; a front of their text where a write fails
+-- (own).
+abbrev pub IsRefused : Asked → Refusal → Option (List ℕ) → Option (List ℕ) → Type 0
+IsRefused asked BadCommand old new = ⊥
+IsRefused asked BadHex old new = (SpellsBytes asked → ⊥) × Keeps old new
+IsRefused asked OutOfMemory old new = SpellsBytes asked × Keeps old new
+IsRefused asked WriteFailed old new = IsCut asked old new
+
+-- When a run for these words may be refused, and what it wrote: memory may be wanting while they are
+-- read, whatever they ask for (own).
+abbrev pub IsRefusal : List Text → Refusal → Option (List ℕ) → Option (List ℕ) → Type 0
+IsRefusal words BadCommand old new = AskNothing words × Keeps old new
+IsRefusal words BadHex old new = (asked : Asked) × Ask words asked × IsRefused asked BadHex old new
+IsRefusal words OutOfMemory old new = Keeps old new
+IsRefusal words WriteFailed old new = (asked : Asked) × Ask words asked × IsRefused asked WriteFailed old new
 
 -- The status: 0 good, 1 not good, 2 refused (own).
 abbrev pub status_of : Result Bool Refusal → ℕ
@@ -59,15 +96,8 @@ status_of (Ok true) = 0
 status_of (Ok false) = 1
 status_of (Err refusal) = 2
 
--- A refused run wrote nothing, but where a write failed (own).
-abbrev pub IsQuiet : Refusal → Option (List ℕ) → Option (List ℕ) → Type 0
-IsQuiet BadCommand old new = Keeps old new
-IsQuiet BadHex old new = Keeps old new
-IsQuiet OutOfMemory old new = Keeps old new
-IsQuiet WriteFailed old new = Unit {0}
-
 -- What a run for these words gives, and what the writer held before and after (own).
 abbrev pub Gave : List Text → Option (List ℕ) → Option (List ℕ) → Result Bool Refusal → Type 0
 Gave words old new answer = MatchResult answer
     (λ good. (asked : Asked) × Ask words asked × IsAnswered asked old new good)
-    (λ refusal. IsRefusal words refusal × IsQuiet refusal old new)
+    (λ refusal. IsRefusal words refusal old new)

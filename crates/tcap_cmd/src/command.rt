@@ -1,16 +1,17 @@
-ghost use Rattle.std.specs.Prelude.{◌≡◌, ◌⊎◌, Bool, Result, map, MatchResult, IfOk, IfErr, IsErr};
-ghost use Rattle.std.specs.Io.KnownBytes.{Keeps};
-ghost use Rattle.hex.specs.Hex.{decode_of};
+ghost use Rattle.std.specs.Prelude.{◌≡◌, ◌≤◌, ◌↔◌, Bool, length, take, unwrap_or, IsTrue, IfSome, Result, map, MatchResult};
+ghost use Rattle.std.specs.Io.KnownBytes.{Appends};
+ghost use Rattle.hex.specs.Hex.{decode_of, is_hex_digit};
 ghost use Rattle.tcap_cmd.specs.CommandLine.{asked};
-ghost use Rattle.tcap_cmd.specs.Command.{IsAnswered, IsRefusable, IsQuiet, Gave, status_of};
+ghost use Rattle.tcap_cmd.specs.Command.{IsHex, hex_of, IsUnspelled, IsTextOf, IsAnswered, IsFront, IsRefused, Gave, status_of};
 
 use crate::canon::canon_text;
 use crate::refusal::Refusal;
 use crate::request::Request;
 use crate::show::{check_text, show_text};
+use crate::shown::Shown;
 use crate::words::read_words;
 use std::alloc::{Allocator, Global};
-use std::io::{Read, Write};
+use std::io::{ErrorKind, Read, Write};
 
 /// The status of a good verdict.
 const GOOD: u8 = 0;
@@ -19,15 +20,79 @@ const FAULTY: u8 = 1;
 /// The status of a run that came to no verdict.
 const REFUSED: u8 = 2;
 
-/// The bytes that HEX spells.
-fn bytes_of<A: Allocator + Copy>(heap: A, hex: &str) -> Result<Vec<u8, A>, Refusal>
-    ensures ok { IfOk result (λ bytes. decode_of hex.now ≡ Ok bytes.items) }
-    ensures err { IfErr result (λ refusal. (refusal ≡ Refusal.OutOfMemory) ⊎ ((refusal ≡ Refusal.BadHex) × IsErr (decode_of hex.now))) }
+/// Whether this octet is a hexadecimal digit, of either case.
+fn is_digit(octet: u8) -> bool
+    ensures { result ≡ is_hex_digit octet }
 {
+    matches!(octet, b'0'..=b'9' | b'A'..=b'F' | b'a'..=b'f')
+}
+
+/// Whether HEX spells bytes: an even number of hexadecimal digits. It takes no memory.
+fn is_hex(hex: &str) -> bool
+    ensures { IsTrue result ↔ IsHex hex.now }
+{
+    hex.len() % 2 == 0 && hex.bytes().all(is_digit)
+}
+
+/// The bytes that HEX spells. Its digits are judged before memory is asked for.
+fn bytes_of<A: Allocator + Copy>(heap: A, hex: &str) -> Result<Vec<u8, A>, Refusal>
+    ensures { MatchResult result (λ bytes. decode_of hex.now ≡ Ok bytes.items) (λ refusal. IsUnspelled hex.now refusal) }
+{
+    if !is_hex(hex) {
+        return Err(Refusal::BadHex);
+    }
     match hex::decode(heap, hex) {
         Ok(bytes) => Ok(bytes),
-        Err(hex::FromHexError::OutOfMemory) => Err(Refusal::OutOfMemory),
-        Err(_) => Err(Refusal::BadHex),
+        Err(_) => Err(Refusal::OutOfMemory),
+    }
+}
+
+/// The text that is asked for, and its verdict.
+fn text_of<A: Allocator + Copy>(heap: A, request: Request<'_>) -> Result<Shown<A>, Refusal>
+    ensures { MatchResult result (λ shown. IsTextOf (asked request.entry) shown.text.items shown.good) (λ refusal. IsUnspelled (hex_of (asked request.entry)) refusal) }
+{
+    let shown = match request {
+        Request::Show(hex) => show_text(heap, bytes_of(heap, hex)?.as_slice())?,
+        Request::Check(hex) => check_text(heap, bytes_of(heap, hex)?.as_slice())?,
+        Request::Canon(hex) => canon_text(heap, bytes_of(heap, hex)?.as_slice())?,
+    };
+    Ok(shown)
+}
+
+/// Writes a front of the text by one write, and tells its length, 0 where the write was interrupted;
+/// None where it failed.
+fn write_front<W: Write>(out: &mut W, text: &[u8]) -> Option<usize>
+    ensures bound { IfSome result (λ count. count ≤ length text.now) }
+    ensures written { Appends (W.contents out.old) (W.contents out.new) (take (unwrap_or result 0) text.now) }
+{
+    match out.write(text) {
+        Ok(0) => None,
+        Ok(count) => Some(count),
+        Err(error) if error.kind() == ErrorKind::Interrupted => Some(0),
+        Err(_) => None,
+    }
+}
+
+/// Writes the text; where a write fails, a front of it was written, and never all of it.
+fn write_text<W: Write>(out: &mut W, text: &[u8]) -> Result<(), Refusal>
+    ensures { MatchResult result
+        (λ _. Appends (W.contents out.old) (W.contents out.new) text.now)
+        (λ refusal. (refusal ≡ Refusal.WriteFailed) × IsFront text.now (W.contents out.old) (W.contents out.new)) }
+{
+    let mut rest = text;
+    for _ in 0..u64::MAX {
+        if rest.is_empty() {
+            break;
+        }
+        let Some(count) = write_front(out, rest) else {
+            break;
+        };
+        rest = &rest[count..];
+    }
+    if rest.is_empty() {
+        Ok(())
+    } else {
+        Err(Refusal::WriteFailed)
     }
 }
 
@@ -39,25 +104,10 @@ pub fn answer<A: Allocator + Copy, W: Write>(
 ) -> Result<bool, Refusal>
     ensures { MatchResult result
         (λ good. IsAnswered (asked request.entry) (W.contents out.old) (W.contents out.new) good)
-        (λ refusal. IsRefusable (asked request.entry) refusal × IsQuiet refusal (W.contents out.old) (W.contents out.new)) }
+        (λ refusal. IsRefused (asked request.entry) refusal (W.contents out.old) (W.contents out.new)) }
 {
-    let shown = match request {
-        Request::Show(hex) => {
-            let bytes = bytes_of(heap, hex)?;
-            show_text(heap, bytes.as_slice())?
-        }
-        Request::Check(hex) => {
-            let bytes = bytes_of(heap, hex)?;
-            check_text(heap, bytes.as_slice())?
-        }
-        Request::Canon(hex) => {
-            let bytes = bytes_of(heap, hex)?;
-            canon_text(heap, bytes.as_slice())?
-        }
-    };
-    if out.write_all(shown.text.as_slice()).is_err() {
-        return Err(Refusal::WriteFailed);
-    }
+    let shown = text_of(heap, request)?;
+    write_text(out, shown.text.as_slice())?;
     Ok(shown.good)
 }
 
@@ -84,18 +134,21 @@ pub fn report<E: Write>(err: &mut E, refusal: Refusal) -> u8
 
 /// The whole program for the words after its name: writes to `out` what they ask for, and gives the
 /// status, 0 where the verdict is good, 1 where it isn't, 2 where there is none; why there is none is
-/// told on `err`. `clap` takes its memory from `alloc`, all else from `heap`.
+/// told on `err`. `clap` takes its memory from `alloc`, all else from `heap`. Nothing is read from
+/// `reader`.
 pub fn run_command<A: Allocator + Copy, R: Read, W: Write, E: Write>(
     alloc: Global,
     heap: A,
     words: &[&str],
-    _reader: &mut R,
+    reader: &mut R,
     out: &mut W,
     err: &mut E,
 ) -> u8
-    ensures { (answer : Result Bool Refusal) × (result ≡ status_of answer)
+    ensures reader { reader.new ≡ reader.old }
+    ensures gave { (answer : Result Bool Refusal) × (result ≡ status_of answer)
         × Gave (map (λ w. w.now) words.now) (W.contents out.old) (W.contents out.new) answer }
 {
+    let _ = reader;
     match respond(alloc, heap, words, out) {
         Ok(true) => GOOD,
         Ok(false) => FAULTY,
