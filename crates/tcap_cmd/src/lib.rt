@@ -24,6 +24,3 @@ pub use refusal::Refusal;
 pub use request::Request;
 pub use show::{check_text, show_text};
 pub use shown::Shown;
-
-#[cfg(test)]
-mod tests;

@@ -1,0 +1,9 @@
+//! What no clause says, run; and what the definitions print, computed.
+
+mod caller;
+mod growths;
+mod limits;
+mod outputs;
+mod printed;
+mod words;
+mod writers;
