@@ -4,6 +4,7 @@ pub mod CanonicalFrame
 pub mod CanonicalTwice
 pub mod ItemLines
 pub mod MessageSteps
+pub mod PrintedHex
 pub mod TextSteps
 pub mod WordRows
 pub mod WrittenFronts

@@ -59,6 +59,10 @@ message-bad bytes v e = elim (chosen_by (nat_lt 65535 (length bytes)) (Err TooLo
   | inr h ↦ by-bad (frame_at bytes) v h.1
 ]
 
+pub bad_not_good : (bytes : List ℕ) (v : Verdict) (b : Bool) → message_of bytes ≡ Err v → b ≡ is_good v → b ≡ true → ⊥
+bad_not_good bytes v b e is good =
+    let bad = message-bad bytes v e in cc
+
 -- ---- the text
 
 pub good_is : (v : Verdict) → is_good v ≡ true → v ≡ Good

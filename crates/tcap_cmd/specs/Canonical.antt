@@ -1,7 +1,7 @@
 -- The canonical form of a message, and the text of `canon`.
-use Rattle.std.specs.Prelude.{ℕ, ◌<◌, Bool, List, [], length, Option, Result, Ok, Err, option_map, nat_lt, if◌then◌else◌}
+use Rattle.std.specs.Prelude.{◌≡◌, ℕ, ◌<◌, Bool, List, [], length, Option, Result, Ok, Err, option_map, nat_lt, if◌then◌else◌}
 use Rattle.std.specs.List.{flat_map}
-use Rattle.hex.specs.Hex.{encode_lower}
+use Rattle.hex.specs.Hex.{encode_lower, decode_of}
 use Rattle.tcap_pdu.specs.FrameSpelling.{Message}
 use Rattle.tcap_pdu.specs.FrameSpelling.Message.{unidirectional, begin, end, go_on, abort}
 use Rattle.tcap_pdu.specs.FrameLength.{reason_with, dialogue_of}
@@ -148,3 +148,9 @@ canon_text_of bytes = canon_line (verdict_of bytes) (canonical_of bytes)
 -- Whether the verdict of `canon` is good (own).
 abbrev pub canon_is_good : List ℕ → Bool
 canon_is_good bytes = is_good (canon_verdict (verdict_of bytes) (canonical_of bytes))
+
+-- A text is one line of HEX, which spells these bytes (own).
+pub record IsHexLine (text bytes : List ℕ) : Type 0 where
+  pub hex : List ℕ
+  pub is_text : text ≡ line hex
+  pub spelled : decode_of hex ≡ Ok bytes

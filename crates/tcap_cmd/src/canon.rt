@@ -11,7 +11,7 @@ ghost use Rattle.tcap_component.specs.Written.{coded_part, written_component, Ha
 ghost use Rattle.tcap_cmd.specs.Text.{line};
 ghost use Rattle.tcap_cmd.specs.Verdict.{message_limit, is_good, verdict_words};
 ghost use Rattle.tcap_cmd.specs.declared.verdict.Verdict.TheVariants as verdict;
-ghost use Rattle.tcap_cmd.specs.Canonical.{canonical_item, canonical_components, canonical_dialogue, components_in, with_portions, canonical_frame, of_pdu_fault, of_write_fault, IsCanonFault, IsWritableItem, canon_verdict, canon_line, canon_text_of, canon_is_good};
+ghost use Rattle.tcap_cmd.specs.Canonical.{canonical_item, canonical_components, canonical_dialogue, components_in, with_portions, canonical_frame, of_pdu_fault, of_write_fault, IsCanonFault, IsWritableItem, canon_verdict, canon_line, canonical_of, canon_text_of, canon_is_good, IsHexLine};
 
 use crate::judge::{judge_message, read_message, verdict_text};
 use crate::portions::{components_of, dialogue_in, with_portions};
@@ -186,6 +186,7 @@ fn rewrite_frame<A: Allocator + Copy>(alloc: A, frame: Frame<'_>) -> Result<Vec<
 fn octets_text<A: Allocator + Copy>(alloc: A, octets: &[u8]) -> Result<Shown<A>, OutOfMemory>
     ensures text { IfOk result (λ shown. shown.text.items ≡ line (encode_lower octets.now)) }
     ensures good { IfOk result (λ shown. shown.good ≡ true) }
+    ensures hex { IfOk result (λ shown. IsHexLine shown.text.items octets.now) }
 {
     let mut text = hex::encode(alloc, octets)?;
     text.push('\n')?;
@@ -197,6 +198,7 @@ fn frame_text<A: Allocator + Copy>(alloc: A, frame: Frame<'_>) -> Result<Shown<A
     requires { HasCause (message frame) }
     ensures text { IfOk result (λ shown. shown.text.items ≡ canon_line verdict.Good (canonical_frame (message frame.entry))) }
     ensures good { IfOk result (λ shown. shown.good ≡ is_good (canon_verdict verdict.Good (canonical_frame (message frame.entry)))) }
+    ensures hex { IfOk result (λ shown. shown.good ≡ true → IsHexLine shown.text.items (canonical_frame (message frame.entry))) }
 {
     match rewrite_frame(alloc, frame) {
         Ok(octets) => octets_text(alloc, octets.as_slice()),
@@ -210,6 +212,7 @@ fn frame_text<A: Allocator + Copy>(alloc: A, frame: Frame<'_>) -> Result<Shown<A
 pub fn canon_text<A: Allocator + Copy>(alloc: A, bytes: &[u8]) -> Result<Shown<A>, OutOfMemory>
     ensures text { IfOk result (λ shown. shown.text.items ≡ canon_text_of bytes.now) }
     ensures good { IfOk result (λ shown. shown.good ≡ canon_is_good bytes.now) }
+    ensures hex { IfOk result (λ shown. shown.good ≡ true → IsHexLine shown.text.items (canonical_of bytes.now)) }
 {
     match read_message(bytes) {
         Ok(frame) => {

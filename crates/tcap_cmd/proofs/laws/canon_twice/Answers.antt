@@ -1,4 +1,5 @@
 use Rattle.tcap_cmd.proofs.CanonicalTwice.{twice, text_twice}
+use Rattle.tcap_cmd.proofs.PrintedHex.{printed_twice}
 use Rattle.tcap_cmd.proofs.laws.canon_twice.Goals as goal
 
 pub returns-clause-verdict : goal.returns-clause-verdict
@@ -9,3 +10,6 @@ returns-clause-form c bytes good le = (twice bytes good le).1
 
 pub returns-clause-text : goal.returns-clause-text
 returns-clause-text c = text_twice
+
+pub returns-clause-printed : goal.returns-clause-printed
+returns-clause-printed c = printed_twice
