@@ -10,11 +10,7 @@ use Rattle.tcap_pdu.specs.DialogueSpelling.{PduValue}
 use Rattle.tcap_pdu.specs.DialogueReading.{dialogue_at}
 use Rattle.tcap_pdu.specs.DialogueWritten.{written_dialogue}
 use Rattle.tcap_pdu.specs.declared.fault.DialogueFault.{DialogueFault}
-use Rattle.tcap_pdu.specs.declared.fault.PduFault.{PduFault}
-use Rattle.tcap_pdu.specs.declared.fault.PduFault.TheVariants as pdu
 use Rattle.tcap_component.specs.ComponentFault.{FaultParts}
-use Rattle.tcap_component.specs.declared.fault.WriteFault.{WriteFault}
-use Rattle.tcap_component.specs.declared.fault.WriteFault.TheVariants as write
 use Rattle.tcap_component.specs.Component.{ComponentParts}
 use Rattle.tcap_component.specs.ComponentReading.{components_of}
 use Rattle.tcap_component.specs.Written.{written_component, coded_part, HasCode, HasParameter}
@@ -91,21 +87,6 @@ canonical_of bytes = canonical_by (message_of bytes)
 abbrev pub IsCanonFault : List ℕ → CanonFault → Type 0
 IsCanonFault form canon.OutOfMemory = Unit {0}
 IsCanonFault form canon.TooLong = message_limit < length form
-
--- What is said of a fault of writing a dialogue PDU or a message that was read: the other two don't
--- come there (own).
-abbrev pub of_pdu_fault : PduFault → CanonFault
-of_pdu_fault pdu.OutOfMemory = canon.OutOfMemory
-of_pdu_fault pdu.TooLong = canon.TooLong
-of_pdu_fault pdu.BadOid = canon.TooLong
-of_pdu_fault pdu.BadInfo = canon.TooLong
-
--- What is said of a fault of writing a component that was read: the other two don't come there (own).
-abbrev pub of_write_fault : WriteFault → CanonFault
-of_write_fault write.OutOfMemory = canon.OutOfMemory
-of_write_fault write.TooLong = canon.TooLong
-of_write_fault write.BadOid = canon.TooLong
-of_write_fault write.BadParameter = canon.TooLong
 
 -- The code and the parameter of a component, where they are there, can be written: those of every
 -- component that was read can (own).

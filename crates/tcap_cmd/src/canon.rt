@@ -11,14 +11,15 @@ ghost use Rattle.tcap_component.specs.Written.{coded_part, written_component, Ha
 ghost use Rattle.tcap_cmd.specs.Text.{line};
 ghost use Rattle.tcap_cmd.specs.Verdict.{message_limit, is_good, verdict_words};
 ghost use Rattle.tcap_cmd.specs.declared.verdict.Verdict.TheVariants as verdict;
-ghost use Rattle.tcap_cmd.specs.Canonical.{canonical_item, canonical_components, canonical_dialogue, components_in, with_portions, canonical_frame, of_pdu_fault, of_write_fault, IsCanonFault, IsWritableItem, canon_verdict, canon_line, canonical_of, canon_text_of, canon_is_good, IsHexLine};
+ghost use Rattle.tcap_cmd.specs.declared.canon.CanonFault.TheVariants as canon;
+ghost use Rattle.tcap_cmd.specs.Canonical.{canonical_item, canonical_components, canonical_dialogue, components_in, with_portions, canonical_frame, IsCanonFault, IsWritableItem, canon_verdict, canon_line, canonical_of, canon_text_of, canon_is_good, IsHexLine};
 
 use crate::judge::{judge_message, read_message, verdict_text};
 use crate::portions::{components_of, dialogue_in, with_portions};
 use crate::shown::Shown;
 use crate::verdict::Verdict;
 use ber_core::OutOfMemory;
-use std::alloc::Allocator;
+use std::alloc::{AllocError, Allocator};
 use tcap_component::{Component, ComponentFault, Components, WriteFault, write_component};
 use tcap_pdu::{Frame, PduFault, read_dialogue, write_dialogue, write_frame};
 
@@ -31,37 +32,29 @@ pub enum CanonFault {
     TooLong,
 }
 
-/// What is said of a fault of writing a dialogue PDU or a message that was read.
-fn pdu_fault(fault: PduFault) -> CanonFault
-    ensures { result ≡ of_pdu_fault fault }
-{
-    match fault {
-        PduFault::OutOfMemory => CanonFault::OutOfMemory,
-        PduFault::TooLong | PduFault::BadOid | PduFault::BadInfo => CanonFault::TooLong,
+impl From<AllocError> for CanonFault {
+    ghost from_gives = { λ _ r. r ≡ canon.OutOfMemory };
+
+    fn from(_error: AllocError) -> CanonFault {
+        CanonFault::OutOfMemory
     }
 }
 
-/// What is said of a fault of writing a component that was read.
-fn component_fault(fault: WriteFault) -> CanonFault
-    ensures { result ≡ of_write_fault fault }
-{
-    match fault {
-        WriteFault::OutOfMemory => CanonFault::OutOfMemory,
-        WriteFault::TooLong | WriteFault::BadOid | WriteFault::BadParameter => CanonFault::TooLong,
-    }
-}
-
-/// The contents of a dialogue portion in the canonical form, of nothing where they can't be read.
+/// The contents of a dialogue portion in the canonical form, of nothing where they can't be read. What
+/// was read has a context and information that can be written.
 fn rewrite_dialogue<A: Allocator + Copy>(alloc: A, content: &[u8]) -> Result<Vec<u8, A>, CanonFault>
     ensures ok { IfOk result (λ octets. octets.items ≡ canonical_dialogue content.now) }
     ensures err { IfErr result (λ fault. IsCanonFault (canonical_dialogue content.now) fault) }
 {
-    match read_dialogue(content) {
-        Ok(pdu) => match write_dialogue(alloc, &pdu) {
-            Ok(octets) => Ok(octets),
-            Err(fault) => Err(pdu_fault(fault)),
-        },
-        Err(_) => Ok(Vec::new(alloc)),
+    let Ok(pdu) = read_dialogue(content) else {
+        return Ok(Vec::new(alloc));
+    };
+    match write_dialogue(alloc, &pdu) {
+        Ok(octets) => Ok(octets),
+        Err(PduFault::OutOfMemory) => Err(CanonFault::OutOfMemory),
+        Err(PduFault::TooLong) => Err(CanonFault::TooLong),
+        Err(PduFault::BadOid) => unreachable!(),
+        Err(PduFault::BadInfo) => unreachable!(),
     }
 }
 
@@ -74,10 +67,7 @@ fn rewrite_portion<A: Allocator + Copy>(
     ensures err { IfErr result (λ fault. IsCanonFault (unwrap_or (option_map canonical_dialogue (option_copied dialogue.entry)) []) fault) }
 {
     match dialogue {
-        Some(content) => match rewrite_dialogue(alloc, content) {
-            Ok(octets) => Ok(Some(octets)),
-            Err(fault) => Err(fault),
-        },
+        Some(content) => Ok(Some(rewrite_dialogue(alloc, content)?)),
         None => Ok(None),
     }
 }
@@ -94,11 +84,10 @@ fn append_component<A: Allocator + Copy>(
     ensures err { IfErr result (λ fault. IsCanonFault (written_component (component_parts component.now)) fault) }
 {
     match write_component(alloc, component) {
-        Ok(written) => match octets.extend_from_slice(written.as_slice()) {
-            Ok(()) => Ok(()),
-            Err(_) => Err(CanonFault::OutOfMemory),
-        },
-        Err(fault) => Err(component_fault(fault)),
+        Ok(written) => Ok(octets.extend_from_slice(written.as_slice())?),
+        Err(WriteFault::OutOfMemory) => Err(CanonFault::OutOfMemory),
+        Err(WriteFault::TooLong) => Err(CanonFault::TooLong),
+        Err(WriteFault::BadOid | WriteFault::BadParameter) => unreachable!(),
     }
 }
 
@@ -142,7 +131,9 @@ fn spell_frame<A: Allocator + Copy>(alloc: A, frame: &Frame<'_>) -> Result<Vec<u
 {
     match write_frame(alloc, frame) {
         Ok(octets) => Ok(octets),
-        Err(fault) => Err(pdu_fault(fault)),
+        Err(PduFault::OutOfMemory) => Err(CanonFault::OutOfMemory),
+        Err(PduFault::TooLong) => Err(CanonFault::TooLong),
+        Err(PduFault::BadOid | PduFault::BadInfo) => unreachable!(),
     }
 }
 
