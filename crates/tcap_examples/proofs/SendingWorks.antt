@@ -1,5 +1,5 @@
 -- That components are sent once and in order, on a worked history: the premises, and what is computed.
-use Rattle.std.proofs.Common.{◌≡◌, ℕ, List, [], ◌∷◌, ◌++◌, None, Ok, refl, sym, ap, ◌∙◌}
+use Rattle.std.proofs.Common.{◌≡◌, ℕ, List, [], ◌∷◌, ◌++◌, map, None, Ok, refl, sym, ap, ◌∙◌}
 use Rattle.std.specs.Prelude.{take, drop}
 use Rattle.tcap_pdu.specs.FrameReading.{frame_at}
 use Rattle.tcap_pdu.specs.FrameSpelling.{Message}
@@ -11,9 +11,12 @@ use Rattle.tcap_model.specs.Statements.ComponentLaws.{portion_of}
 use Rattle.tcap_examples.specs.Computing.{computing}
 use Rattle.tcap_model.specs.Replies.Legal.{IsLegal}
 use Rattle.tcap_model.specs.Statements.Places.{StandsIn}
+use Rattle.tcap_model.specs.Replies.Queue.{queue}
+use Rattle.tcap_model.specs.Procedures.QueueRules.{Queued}
+use Rattle.tcap_model.specs.Statements.Submitted.{Submitted, unsent}
 use Rattle.tcap_model.specs.Statements.SentInOrder.{HaveComponents, components_submitted}
 use Rattle.tcap_examples.specs.Histories.Receptions.{unknown_linked_identifier}
-use Rattle.tcap_examples.specs.Statements.SendingExamples.{begin_sent, begin_message, continue_sent, continue_message, continue_pair, abort_sent, abort_message, sent_in_parts, before_the_continue, all_parts, reject_of_invoke, answer_sent, answer_message, begun_by_the_peer}
+use Rattle.tcap_examples.specs.Statements.SendingExamples.{begin_sent, begin_message, continue_sent, continue_message, continue_pair, abort_sent, abort_message, sent_in_parts, before_the_continue, up_to_the_continue, waits_for_the_continue, all_parts, reject_of_invoke, answer_sent, answer_message, begun_by_the_peer}
 use Rattle.tcap_examples.proofs.ComponentPremises.{first_fault_at, spelled_read}
 
 -- ---- messages by the reading functions
@@ -97,6 +100,18 @@ parts-legal = (
   ),
 )
 
+-- Up to the Continue it is legal, and two components wait.
+pub waiting-legal : IsLegal up_to_the_continue
+waiting-legal = (parts-legal.0, parts-legal.1.2.2.2)
+
+pub waiting-queued : map (λ (q : Queued). q.octets) (queue 1 before_the_continue) ≡ waits_for_the_continue
+unfolding computing
+waiting-queued = refl
+
+pub waiting-unsent : map (λ (s : Submitted). s.component) (unsent 1 [] before_the_continue) ≡ drop 1 all_parts
+unfolding computing
+waiting-unsent = refl
+
 pub parts-stand : StandsIn continue_pair before_the_continue sent_in_parts.pairs
 parts-stand = record { later = take 2 sent_in_parts.pairs; is_past = refl }
 
@@ -145,4 +160,7 @@ pub ruleset sending_works = (
   parts-stand,
   parts-submitted,
   parts-have,
+  waiting-legal,
+  waiting-queued,
+  waiting-unsent,
 )

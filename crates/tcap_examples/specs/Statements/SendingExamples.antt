@@ -85,6 +85,14 @@ sent_in_parts = record {
 abbrev pub before_the_continue : Past
 before_the_continue = drop 3 sent_in_parts.pairs
 
+-- The history up to there (own).
+abbrev pub up_to_the_continue : History
+up_to_the_continue = record { start = usual_start; pairs = before_the_continue }
+
+-- What waits there: the Reject and the third Invoke, by their octets (own).
+abbrev pub waits_for_the_continue : List (List ℕ)
+waits_for_the_continue = hex 8 0xA406_020102_820100 ∷ hex 8 0xA106_020101_02010A ∷ []
+
 -- What was submitted till then, and not given up unsent (own).
 abbrev pub all_parts : List ComponentParts
 all_parts = invoke_of 2 ∷ reject_of_second ∷ invoke_of 1 ∷ []

@@ -2,17 +2,19 @@
 //! conclusion; and histories that miss it.
 #![tactic(auto, using(crate::proofs::SendingWorks::sending_works, crate::proofs::SendingBroken::sending_broken))]
 
-ghost use Rattle.std.specs.Prelude.{◌≡◌, [], ◌∷◌, true};
+ghost use Rattle.std.specs.Prelude.{◌≡◌, [], ◌∷◌, drop, map, true};
 ghost use Rattle.tcap_model.specs.Statements.ComponentLaws.{SentFrom};
 ghost use Rattle.tcap_model.specs.Replies.Legal.{IsLegal};
+ghost use Rattle.tcap_model.specs.Replies.Queue.{queue};
+ghost use Rattle.tcap_model.specs.Procedures.QueueRules.{Queued};
 ghost use Rattle.tcap_model.specs.Statements.Places.{StandsIn};
-ghost use Rattle.tcap_model.specs.Statements.SentInOrder.{octets_sent, components_submitted, HaveComponents, SentInOrder};
-ghost use Rattle.tcap_model.specs.Statements.Submitted.{is_sending, fitting};
+ghost use Rattle.tcap_model.specs.Statements.SentInOrder.{octets_sent, components_submitted, HaveComponents, SentInOrder, QueueIsUnsent};
+ghost use Rattle.tcap_model.specs.Statements.Submitted.{Submitted, is_sending, fitting, unsent};
 ghost use Rattle.tcap_examples.specs.Histories.Receptions.{unknown_linked_identifier};
-ghost use Rattle.tcap_examples.specs.Statements.SendingExamples.{sent_in_parts, begin_sent, continue_sent, continue_pair, abort_sent, before_the_continue, all_parts, reject_of_second, reject_of_none, reject_of_invoke, answer_sent, answer_pair, begun_by_the_peer, sent_twice, sent_swapped, sent_though_given_up, not_sent};
+ghost use Rattle.tcap_examples.specs.Statements.SendingExamples.{sent_in_parts, begin_sent, continue_sent, continue_pair, abort_sent, before_the_continue, up_to_the_continue, waits_for_the_continue, all_parts, reject_of_second, reject_of_none, reject_of_invoke, answer_sent, answer_pair, begun_by_the_peer, sent_twice, sent_swapped, sent_though_given_up, not_sent};
 ghost use Rattle.tcap_examples.specs.Wrong.WrongHistories.{GoesWrong, whole};
 
-use tcap_laws::sending::sent_once_in_order;
+use tcap_laws::sending::{queue_is_unsent, sent_once_in_order};
 
 /// An Invoke that was given up unsent is missing; one that was given up later, a Reject and a third Invoke are
 /// sent, in this order; a fourth is queued and never sent.
@@ -26,6 +28,16 @@ pub fn a_dialogue_sends_in_parts()
     ensures in_order { SentInOrder sent_in_parts.pairs }
 {
     sent_once_in_order();
+}
+
+/// What waits for the Continue is what is unsent: the Reject and the third Invoke.
+pub fn what_waits_is_unsent()
+    ensures legal { IsLegal up_to_the_continue }
+    ensures queued { map (λ (q : Queued). q.octets) (queue 1 before_the_continue) ≡ waits_for_the_continue }
+    ensures unsent { map (λ (s : Submitted). s.component) (unsent 1 [] before_the_continue) ≡ drop 1 all_parts }
+    ensures same { QueueIsUnsent before_the_continue }
+{
+    queue_is_unsent();
 }
 
 /// A Reject of a component of the peer's Begin is sent in the first answer.

@@ -16,16 +16,17 @@ use Rattle.tcap_model.specs.Invocations.Numbers.{number_of}
 use Rattle.tcap_model.specs.Words.Output.{Output}
 use Rattle.tcap_model.specs.Histories.Pair.{Pair, Past}
 use Rattle.tcap_model.specs.Statements.Places.{Tells}
+use Rattle.tcap_model.specs.Replies.Queue.{queue}
 use Rattle.tcap_model.specs.Replies.Reply.{reply, accepted_answer, request_answer}
 use Rattle.tcap_model.specs.Words.Request.{Request, ComponentRequest, DialogueRequest}
-use Rattle.tcap_model.specs.Statements.SentInOrder.{octets_in, octets_on, octets_sent, HasComponents, HaveComponents, SendsNone, EachIsSentInOrder}
+use Rattle.tcap_model.specs.Statements.SentInOrder.{octets_in, octets_on, octets_sent, HasComponents, HaveComponents, SendsNone, EachIsSentInOrder, EachQueueIsUnsent}
 use Rattle.tcap_model.specs.Statements.Submitted.{Submitted, sends_components, is_sending, given_up_on, without_given_up, asked_for, submitted_by, octet_count, unsent, submitted_at, submitted}
 use Rattle.tcap_model.specs.Words.Time.{moment_fault}
 use Rattle.tcap_laws.proofs.Receptions.SentMessages.{Nothing, tells-sends, birth-sends, moment-sends, sent_for_bytes, sent_for_request}
 use Rattle.tcap_laws.proofs.Submission.SentOctets.{IsBare, others-bare, none-bare, none-have, have-append, accepted-sends}
-use Rattle.tcap_laws.proofs.Submission.SubmittedParts.{components}
+use Rattle.tcap_laws.proofs.Submission.SubmittedParts.{components, octets-same}
 use Rattle.tcap_laws.proofs.Submission.SubmittedQueues.{queue-unsent}
-use Rattle.tcap_laws.proofs.Submission.SubmittedRequests.{Waits}
+use Rattle.tcap_laws.proofs.Submission.SubmittedRequests.{Waits, waits-now}
 use Rattle.tcap_laws.proofs.Receptions.ToldFromOctets.{legal-before}
 
 -- ---- what is submitted is sent, or it isn't sent yet
@@ -223,7 +224,7 @@ module _ (h : History) (bytes : List ℕ) where
       let bare = others-bare (standing_of named h.pairs sent.state sent.context) request other in
       none-bare bytes sent.message sent.is_message.spelled (subst IsBare sent.is_asked bare)
 
--- ---- the statement
+-- ---- the statements
 
 pub sent-once : EachIsSentInOrder
 sent-once h legal = record {
@@ -238,3 +239,8 @@ sent-once h legal = record {
       (λ d. sym (ap (λ (a : Answer). is_sending d (record { event = pair.event; answer = a })) here.1) ∙ none d)
       (subst (λ (a : Answer). Tells a (Output.send bytes)) here.1 tells);
 }
+
+pub queue-is-unsent : EachQueueIsUnsent
+queue-is-unsent h legal dialogue =
+    octets-same (unsent dialogue [] h.pairs) (queue dialogue h.pairs)
+    (waits-now dialogue h.pairs (queue-unsent h.start dialogue h.pairs legal.1))

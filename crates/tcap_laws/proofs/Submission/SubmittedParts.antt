@@ -105,6 +105,17 @@ octets-counted (s ∷ ss) (q ∷ qs) are =
     let whole = length-append q.octets (joined qs) in
     omega (arith, here, others, whole)
 
+pub octets-same : (ss : List Submitted) (qs : List Queued) → AreWritten ss qs →
+    map (λ (q : Queued). q.octets) qs ≡ map (λ (s : Submitted). written_component s.component) ss
+octets-same [] [] are = refl
+octets-same [] (q ∷ qs) are = absurd are
+octets-same (s ∷ ss) [] are = absurd are
+octets-same (s ∷ ss) (q ∷ qs) are =
+    let first : IsWritten s q = are.0 in
+    let written : List (List ℕ) = map (λ (x : Submitted). written_component x.component) ss in
+    ap (λ (octets : List (List ℕ)). q.octets ∷ octets) (octets-same ss qs are.1)
+    ∙ ap (λ (octets : List ℕ). octets ∷ written) first.is_octets
+
 abbrev pub components : List Submitted → List ComponentParts
 components ss = map (λ (s : Submitted). s.component) ss
 

@@ -3,6 +3,7 @@ use Rattle.std.specs.Prelude.{◌≡◌, ℕ, ◌==◌, true, false, List, [], �
 use Rattle.tcap_pdu.specs.FrameSpelling.{Message, SpellsFrame}
 use Rattle.tcap_component.specs.Component.{ComponentParts}
 use Rattle.tcap_component.specs.ComponentList.{FirstFault}
+use Rattle.tcap_component.specs.Written.{written_component}
 use Rattle.tcap_model.specs.Words.Answer.{Answer}
 use Rattle.tcap_model.specs.Statements.ComponentLaws.{portion_of}
 use Rattle.tcap_model.specs.Words.Event.{Event}
@@ -10,8 +11,10 @@ use Rattle.tcap_model.specs.Histories.History.{History}
 use Rattle.tcap_model.specs.Replies.Legal.{IsLegal}
 use Rattle.tcap_model.specs.Words.Output.{Output}
 use Rattle.tcap_model.specs.Histories.Pair.{Pair, Past, gathered}
+use Rattle.tcap_model.specs.Replies.Queue.{queue}
+use Rattle.tcap_model.specs.Procedures.QueueRules.{Queued}
 use Rattle.tcap_model.specs.Statements.Places.{StandsIn, Tells}
-use Rattle.tcap_model.specs.Statements.Submitted.{Submitted, is_sending, submitted}
+use Rattle.tcap_model.specs.Statements.Submitted.{Submitted, is_sending, unsent, submitted}
 
 -- ---- the octets that are sent
 
@@ -82,3 +85,15 @@ pub record SentInOrder (past : Past) : Type 0 where
 -- Each component is sent once and in order, at every legal history (own).
 abbrev pub EachIsSentInOrder : Type 0
 EachIsSentInOrder = (h : History) → IsLegal h → SentInOrder h.pairs
+
+-- What waits in the queue of a dialogue is what was submitted for it and isn't sent, in order: each component
+-- by its octets (own).
+abbrev pub QueueIsUnsent : Past → Type 0
+QueueIsUnsent past =
+    (dialogue : ℕ) →
+    map (λ (q : Queued). q.octets) (queue dialogue past)
+    ≡ map (λ (s : Submitted). written_component s.component) (unsent dialogue [] past)
+
+-- Each queue is that, at every legal history (own).
+abbrev pub EachQueueIsUnsent : Type 0
+EachQueueIsUnsent = (h : History) → IsLegal h → QueueIsUnsent h.pairs
