@@ -4,9 +4,9 @@ ghost use Rattle.std.specs.Prelude.{◌≡◌, ℕ, List};
 ghost use Rattle.tcap_component.specs.Component.{ComponentParts};
 ghost use Rattle.tcap_model.specs.Statements.SentInOrder.{HaveComponents, EachIsSentInOrder, EachQueueIsUnsent};
 
-/// In a legal history each component that is submitted for a dialogue is sent once, in the order of
-/// submission, by the next request that sends components, and nothing else that is sent has any
-/// (Q.774, Component handling).
+/// In a legal history each request that sends components sends those that were submitted for its dialogue
+/// since the last one, each once, in the order of submission, and without the Invokes that were given up by
+/// then; nothing else that is sent has any (Q.774, Component handling).
 pub fn sent_once_in_order()
     ensures { EachIsSentInOrder }
 {}
