@@ -12,5 +12,4 @@ mod PlainlyDecided
 mod SendingBroken
 mod SendingWorks
 mod TwoEndsWork
-mod WrongAnswersGiven
-mod WrongEndsTold
+mod WrongHistoriesTold

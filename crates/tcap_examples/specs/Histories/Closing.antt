@@ -1,8 +1,8 @@
 -- Worked histories: how invocations end.
-use Rattle.std.specs.Prelude.{ℕ, pos, negsuc, List, [], ◌∷◌, ◌++◌, Some}
+use Rattle.std.specs.Prelude.{ℕ, pos, negsuc, List, [], ◌∷◌, ◌++◌, Some, None}
 use Rattle.tcap_invocation.specs.declared.class.Class.TheVariants.{One, Two, Three, Four}
 use Rattle.tcap_model.specs.Words.Answer.{Answer}
-use Rattle.tcap_examples.specs.Values.DialogueValues.{context, aarq, aare, result_of_first, of_result, of_error, general}
+use Rattle.tcap_examples.specs.Values.DialogueValues.{code, context, aarq, aare, result_of_first, of_result, of_error, general}
 use Rattle.tcap_model.specs.Words.Fault.{Fault}
 use Rattle.tcap_examples.specs.Values.Hex.{hex}
 use Rattle.tcap_model.specs.Words.Output.{Output, Closing, Rejector, AbortCause, DropCause}
@@ -70,6 +70,75 @@ answers_the_class_forbids = worked usual_start (
     (closed_at 1 6 1 (pos 1) (Closing.rejected (of_result 1) Rejector.local)
     ∷ closed_at 2 6 1 (pos 2) (Closing.rejected (of_error 1) Rejector.local)
     ∷ closed_at 3 6 1 (pos 3) (Closing.rejected (of_result 1) Rejector.local)
+    ∷ [])
+
+-- The Begin with twelve Invokes, three of each class (own).
+abbrev pub each_class_invoked : List ℕ
+each_class_invoked =
+    hex 42 0x6268_480400000001_6C60_A106_020101_02010A_A106_020102_02010A_A106_020103_02010A_A106_020104_02010A
+    ++ hex 32 0xA106_020105_02010A_A106_020106_02010A_A106_020107_02010A_A106_020108_02010A
+    ++ hex 32 0xA106_020109_02010A_A106_02010A_02010A_A106_02010B_02010A_A106_02010C_02010A
+
+-- The Continue that answers them: four results, four parts of one, and four errors (own).
+abbrev pub each_class_answered : List ℕ
+each_class_answered =
+    hex 36 0x6556_480400000005_490400000001_6C48_A203_020101_A203_020102_A203_020103_A203_020104
+    ++ hex 20 0xA703_020105_A703_020106_A703_020107_A703_020108
+    ++ hex 32 0xA306_020109_020101_A306_02010A_020101_A306_02010B_020101_A306_02010C_020101
+
+-- The Continue with the Rejects of what the classes don't have (own).
+abbrev pub each_class_rejects : List ℕ
+each_class_rejects =
+    hex 40 0x653E_480400000001_490400000005_6C30_A406_020102_820101_A406_020104_820101_A406_020106_820101
+    ++ hex 24 0xA406_020108_820101_A406_02010B_830101_A406_02010C_830101
+
+-- What each class makes of a Return Result Last, a Return Result Not Last and a Return Error
+-- (Q.774, Component sublayer procedures).
+abbrev pub each_answer_of_each_class : Worked
+each_answer_of_each_class = worked usual_start (
+    dialogue_born 1
+    ∷ invoke_pair 1 (pos 1) One (pos 10) 1000 (Answer.number 1)
+    ∷ invoke_pair 1 (pos 2) Two (pos 10) 1000 (Answer.number 2)
+    ∷ invoke_pair 1 (pos 3) Three (pos 10) 1000 (Answer.number 3)
+    ∷ invoke_pair 1 (pos 4) Four (pos 10) 1000 (Answer.number 4)
+    ∷ invoke_pair 1 (pos 5) One (pos 10) 1000 (Answer.number 5)
+    ∷ invoke_pair 1 (pos 6) Two (pos 10) 1000 (Answer.number 6)
+    ∷ invoke_pair 1 (pos 7) Three (pos 10) 1000 (Answer.number 7)
+    ∷ invoke_pair 1 (pos 8) Four (pos 10) 1000 (Answer.number 8)
+    ∷ invoke_pair 1 (pos 9) One (pos 10) 1000 (Answer.number 9)
+    ∷ invoke_pair 1 (pos 10) Two (pos 10) 1000 (Answer.number 10)
+    ∷ invoke_pair 1 (pos 11) Three (pos 10) 1000 (Answer.number 11)
+    ∷ invoke_pair 1 (pos 12) Four (pos 10) 1000 (Answer.number 12)
+    ∷ request_pair 1 begin_request (Answer.outputs (Output.send each_class_invoked ∷ []))
+    ∷ received_pair each_class_answered (
+    continued 1
+    ∷ told.closed 1 1 (pos 1) empty_result
+    ∷ told.closed 1 2 (pos 2) (Closing.rejected (of_result 1) Rejector.local)
+    ∷ told.closed 1 3 (pos 3) empty_result
+    ∷ told.closed 1 4 (pos 4) (Closing.rejected (of_result 1) Rejector.local)
+    ∷ told.result_more 1 5 (pos 5) None
+    ∷ told.closed 1 6 (pos 6) (Closing.rejected (of_result 1) Rejector.local)
+    ∷ told.result_more 1 7 (pos 7) None
+    ∷ told.closed 1 8 (pos 8) (Closing.rejected (of_result 1) Rejector.local)
+    ∷ told.closed 1 9 (pos 9) (Closing.error_back (code 1) None)
+    ∷ told.closed 1 10 (pos 10) (Closing.error_back (code 1) None)
+    ∷ told.closed 1 11 (pos 11) (Closing.rejected (of_error 1) Rejector.local)
+    ∷ told.closed 1 12 (pos 12) (Closing.rejected (of_error 1) Rejector.local)
+    ∷ [])
+    ∷ request_pair 1 continue_request (Answer.outputs (Output.send each_class_rejects ∷ []))
+    ∷ [])
+    (closed_at 1 15 1 (pos 1) empty_result
+    ∷ closed_at 2 15 1 (pos 2) (Closing.rejected (of_result 1) Rejector.local)
+    ∷ closed_at 3 15 1 (pos 3) empty_result
+    ∷ closed_at 4 15 1 (pos 4) (Closing.rejected (of_result 1) Rejector.local)
+    ∷ not_closed 5
+    ∷ closed_at 6 15 1 (pos 6) (Closing.rejected (of_result 1) Rejector.local)
+    ∷ not_closed 7
+    ∷ closed_at 8 15 1 (pos 8) (Closing.rejected (of_result 1) Rejector.local)
+    ∷ closed_at 9 15 1 (pos 9) (Closing.error_back (code 1) None)
+    ∷ closed_at 10 15 1 (pos 10) (Closing.error_back (code 1) None)
+    ∷ closed_at 11 15 1 (pos 11) (Closing.rejected (of_error 1) Rejector.local)
+    ∷ closed_at 12 15 1 (pos 12) (Closing.rejected (of_error 1) Rejector.local)
     ∷ [])
 
 -- After a result its identifier is held until a moment that is `reject_ms` later (own).

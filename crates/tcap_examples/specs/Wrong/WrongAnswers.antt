@@ -1,8 +1,8 @@
 -- Histories in which an engine gives an answer that isn't the reply.
 use Rattle.std.specs.Prelude.{pos, negsuc, [], ◌∷◌, Some, None}
-use Rattle.tcap_invocation.specs.declared.class.Class.TheVariants.{One, Two}
+use Rattle.tcap_invocation.specs.declared.class.Class.TheVariants.{One}
 use Rattle.tcap_model.specs.Words.Answer.{Answer}
-use Rattle.tcap_examples.specs.Values.DialogueValues.{shown_begin, result_of_first, begin_with_aarq, of_result, general, code}
+use Rattle.tcap_examples.specs.Values.DialogueValues.{shown_begin, begin_with_aarq, of_result, general, code}
 use Rattle.tcap_model.specs.Words.Fault.{Fault}
 use Rattle.tcap_examples.specs.Values.Hex.{hex}
 use Rattle.tcap_model.specs.Words.Output.{Output, Closing, Rejector, DropCause}
@@ -12,23 +12,6 @@ use Rattle.tcap_examples.specs.Wrong.WrongHistories.{Wrong, wrong}
 use Rattle.tcap_examples.specs.Wrong.WrongEnds.{answered_once}
 use Rattle.tcap_examples.specs.Values.Asked as asks
 use Rattle.tcap_examples.specs.Values.Told as told
-
--- A result of class 2 is told as a result (own).
-abbrev pub class_two_result : Wrong
-class_two_result = wrong usual_start (
-    dialogue_born 1
-    ∷ invoke_pair 1 (pos 1) Two (pos 10) 1000 (Answer.number 1)
-    ∷ request_pair 1 begin_request (Answer.outputs (Output.send (hex 18 0x6210_480400000001_6C08_A106_020101_02010A) ∷ []))
-    ∷ [])
-    (received_pair result_of_first (continued 1 ∷ told.closed 1 1 (pos 1) empty_result ∷ []))
-
--- A Reject with a Return Result problem closes the invocation (own).
-abbrev pub reject_of_a_result_closes : Wrong
-reject_of_a_result_closes = wrong usual_start (opened_with_invoke [])
-    (received_pair (hex 24 0x6516_480400000005_490400000001_6C08_A406_020101_820100) (
-    continued 1
-    ∷ told.closed 1 1 (pos 1) (Closing.rejected (of_result 0) Rejector.remote_provider)
-    ∷ []))
 
 -- A component behind a faulty one is told (own).
 abbrev pub components_after_a_fault : Wrong

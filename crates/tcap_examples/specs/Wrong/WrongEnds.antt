@@ -1,10 +1,11 @@
 -- Histories in which an engine tells a wrong end of an invocation.
-use Rattle.std.specs.Prelude.{pos, List, [], ◌∷◌, reverse, Some}
-use Rattle.tcap_invocation.specs.declared.class.Class.TheVariants.{One}
+use Rattle.std.specs.Prelude.{pos, List, [], ◌∷◌, reverse, Some, None}
+use Rattle.tcap_invocation.specs.declared.class.Class.{Class}
+use Rattle.tcap_invocation.specs.declared.class.Class.TheVariants.{One, Two, Three}
 use Rattle.tcap_model.specs.Words.Answer.{Answer}
-use Rattle.tcap_examples.specs.Values.DialogueValues.{result_of_first, of_result}
+use Rattle.tcap_examples.specs.Values.DialogueValues.{code, result_of_first, of_result}
 use Rattle.tcap_examples.specs.Values.Hex.{hex}
-use Rattle.tcap_model.specs.Words.Output.{Output, Closing}
+use Rattle.tcap_model.specs.Words.Output.{Output, Closing, Rejector}
 use Rattle.tcap_model.specs.Histories.Pair.{Pair, Past}
 use Rattle.tcap_examples.specs.Values.HistoryWords.{dialogue_born, invoke_pair, request_pair, received_pair, moment_pair, begin_request, continued, ended, empty_result, usual_start, opened_with_invoke}
 use Rattle.tcap_examples.specs.Wrong.WrongHistories.{Wrong, wrong}
@@ -53,6 +54,40 @@ end_before_components = wrong usual_start (opened_with_invoke [])
     ended 1
     ∷ told.closed 1 1 (pos 1) Closing.ended
     ∷ told.local_reject (Some 1) (Some (pos 1)) (of_result 0)
+    ∷ []))
+
+-- Dialogue 1 is opened with one Invoke of this class (own).
+abbrev pub opened_as : Class → List Pair
+opened_as class =
+    dialogue_born 1
+    ∷ invoke_pair 1 (pos 1) class (pos 10) 1000 (Answer.number 1)
+    ∷ request_pair 1 begin_request (
+    Answer.outputs (Output.send (hex 18 0x6210_480400000001_6C08_A106_020101_02010A) ∷ []))
+    ∷ []
+
+-- A result of class 2 is told as a result (own).
+abbrev pub class_two_result : Wrong
+class_two_result = wrong usual_start (opened_as Two)
+    (received_pair result_of_first (continued 1 ∷ told.closed 1 1 (pos 1) empty_result ∷ []))
+
+-- A part of a result of class 2 is told as such, and closes nothing (own).
+abbrev pub class_two_part : Wrong
+class_two_part = wrong usual_start (opened_as Two)
+    (received_pair (hex 21 0x6513_480400000005_490400000001_6C05_A703_020101) (
+    continued 1 ∷ told.result_more 1 1 (pos 1) None ∷ []))
+
+-- An error of class 3 is told as an error (own).
+abbrev pub class_three_error : Wrong
+class_three_error = wrong usual_start (opened_as Three)
+    (received_pair (hex 24 0x6516_480400000005_490400000001_6C08_A306_020101_020101) (
+    continued 1 ∷ told.closed 1 1 (pos 1) (Closing.error_back (code 1) None) ∷ []))
+
+-- A Reject with a Return Result problem closes the invocation (own).
+abbrev pub reject_of_a_result_closes : Wrong
+reject_of_a_result_closes = wrong usual_start (opened_with_invoke [])
+    (received_pair (hex 24 0x6516_480400000005_490400000001_6C08_A406_020101_820100) (
+    continued 1
+    ∷ told.closed 1 1 (pos 1) (Closing.rejected (of_result 0) Rejector.remote_provider)
     ∷ []))
 
 -- The right result, told one event late (own).

@@ -24,6 +24,11 @@ pub fn answers_the_class_forbids()
     ensures { Works worked.answers_the_class_forbids }
 {}
 
+/// Each class has the answers that it reports by; any other one is rejected.
+pub fn each_answer_of_each_class()
+    ensures { Works worked.each_answer_of_each_class }
+{}
+
 /// After a result its identifier waits for a Reject: for `reject_ms`, and at least until the next
 /// accepted moment.
 pub fn identifier_held_after_a_result()

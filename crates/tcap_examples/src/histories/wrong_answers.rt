@@ -1,18 +1,8 @@
 //! Answers that aren't the reply: each history is legal up to its last answer, and not with it.
-#![tactic(auto, using(crate::proofs::WrongAnswersGiven::wrong_answers_given))]
+#![tactic(auto, using(crate::proofs::WrongHistoriesTold::wrong_answers_given))]
 
 ghost use Rattle.tcap_examples.specs.Wrong.WrongHistories.{GoesWrong};
 ghost use Rattle.tcap_examples.specs.Wrong.WrongAnswers as wrong;
-
-/// A result of class 2 is told as a result.
-pub fn class_two_result()
-    ensures { GoesWrong wrong.class_two_result }
-{}
-
-/// A Reject of a result closes the invocation.
-pub fn reject_of_a_result_closes()
-    ensures { GoesWrong wrong.reject_of_a_result_closes }
-{}
 
 /// A component behind a faulty one is told.
 pub fn components_after_a_fault()

@@ -1,6 +1,6 @@
 //! Wrong ends of invocations: each history is legal up to its last answer, and not with it; and what
 //! it tells of the invocation isn't what was decided.
-#![tactic(auto, using(crate::proofs::WrongEndsTold::wrong_ends_told))]
+#![tactic(auto, using(crate::proofs::WrongHistoriesTold::wrong_ends_told))]
 
 ghost use Rattle.tcap_examples.specs.Wrong.WrongHistories.{GoesWrong, TellsWrong, TellsElsewhere, whole};
 ghost use Rattle.tcap_examples.specs.Wrong.WrongEnds as wrong;
@@ -39,6 +39,30 @@ pub fn lapse_by_identifier()
 pub fn end_before_components()
     ensures legal { GoesWrong wrong.end_before_components }
     ensures told { TellsWrong 1 (whole wrong.end_before_components) }
+{}
+
+/// A result of class 2 is told as a result.
+pub fn class_two_result()
+    ensures legal { GoesWrong wrong.class_two_result }
+    ensures told { TellsWrong 1 (whole wrong.class_two_result) }
+{}
+
+/// A part of a result of class 2 is told as such.
+pub fn class_two_part()
+    ensures legal { GoesWrong wrong.class_two_part }
+    ensures told { TellsWrong 1 (whole wrong.class_two_part) }
+{}
+
+/// An error of class 3 is told as an error.
+pub fn class_three_error()
+    ensures legal { GoesWrong wrong.class_three_error }
+    ensures told { TellsWrong 1 (whole wrong.class_three_error) }
+{}
+
+/// A Reject of a result closes the invocation.
+pub fn reject_of_a_result_closes()
+    ensures legal { GoesWrong wrong.reject_of_a_result_closes }
+    ensures told { TellsWrong 1 (whole wrong.reject_of_a_result_closes) }
 {}
 
 /// The right result is told one event late.
