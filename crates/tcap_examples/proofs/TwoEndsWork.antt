@@ -3,7 +3,7 @@ use Rattle.std.proofs.Common.{◌≡◌, ℕ, ℤ, Option, Some, None, refl, sub
 use Rattle.std.specs.Prelude.{◌==◌}
 use Rattle.std.specs.List.{AllByRecursion}
 use Rattle.std.proofs.lemmas.Bool.{cases_Bool}
-use Rattle.tcap_examples.proofs.NetsWork.{repeat-origin, repeat-after, repeat-asked}
+use Rattle.tcap_examples.proofs.RepeatedBegin.{repeat-origin, repeat-after, repeat-asked}
 use Rattle.tcap_examples.proofs.PlaceLemmas.{Everywhere, at_happening, outputs_of, told_there}
 use Rattle.tcap_model.specs.Statements.Net.{Engine, far, Marked, Trace, side}
 use Rattle.tcap_model.specs.Words.Output.{Output, Closing, Rejector, ComponentIndication}

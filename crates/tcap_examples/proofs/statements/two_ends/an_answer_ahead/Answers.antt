@@ -1,4 +1,4 @@
-use Rattle.tcap_examples.proofs.NetsWork.{ahead-uses_once}
+use Rattle.tcap_examples.proofs.AnswersAhead.{ahead-uses_once}
 use Rattle.tcap_examples.proofs.statements.two_ends.an_answer_ahead.Goals as goal
 
 pub returns-clause-uses_once : goal.returns-clause-uses_once

@@ -1,4 +1,4 @@
-use Rattle.tcap_examples.proofs.NetsWork.{repeat-uses_once, repeat-answers, repeat-after}
+use Rattle.tcap_examples.proofs.RepeatedBegin.{repeat-uses_once, repeat-answers, repeat-after}
 use Rattle.tcap_examples.proofs.statements.two_ends.an_answer_comes_after_its_invoke.Goals as goal
 
 pub returns-clause-uses_once : goal.returns-clause-uses_once

@@ -1,4 +1,4 @@
-use Rattle.tcap_examples.proofs.NetsBroken.{again-answers, again-used_twice}
+use Rattle.tcap_examples.proofs.AnswersAhead.{again-answers, again-used_twice}
 use Rattle.tcap_examples.proofs.statements.two_ends.an_identifier_used_again.Goals as goal
 
 pub returns-clause-answers_what_it_was_told : goal.returns-clause-answers_what_it_was_told

@@ -1,4 +1,4 @@
-use Rattle.tcap_examples.proofs.NetsBroken.{forged-legal, forged-not_carried, forged-no_origin, forged-no_operation}
+use Rattle.tcap_examples.proofs.ForgedMessages.{forged-legal, forged-not_carried, forged-no_origin, forged-no_operation}
 use Rattle.tcap_examples.proofs.statements.two_ends.messages_that_are_forged.Goals as goal
 
 pub returns-clause-legal : goal.returns-clause-legal

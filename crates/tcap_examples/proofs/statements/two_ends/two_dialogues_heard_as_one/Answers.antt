@@ -1,4 +1,4 @@
-use Rattle.tcap_examples.proofs.NetsWork.{heard-uses_once, heard-answers}
+use Rattle.tcap_examples.proofs.AnswersAhead.{heard-uses_once, heard-answers}
 use Rattle.tcap_examples.proofs.statements.two_ends.two_dialogues_heard_as_one.Goals as goal
 
 pub returns-clause-uses_once : goal.returns-clause-uses_once

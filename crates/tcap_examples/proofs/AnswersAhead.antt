@@ -1,0 +1,160 @@
+-- Three nets in which an answer comes ahead of its Invoke: each breaks one premise of "after the
+-- Invoke" and keeps the others.
+use Rattle.std.proofs.Common.{◌≡◌, pos, [], ◌∷◌, None, refl, arith}
+use Rattle.std.specs.Prelude.{drop, take}
+use Rattle.tcap_component.specs.Component.{CodeParts}
+use Rattle.tcap_invocation.specs.declared.class.Class.TheVariants.{One}
+use Rattle.tcap_examples.proofs.EndPremises.{answers_what_it_was_told, uses_once, not_told, not_opened}
+use Rattle.tcap_examples.proofs.PlaceLemmas.{not_sent}
+use Rattle.tcap_model.specs.Words.Answer.{Answer}
+use Rattle.tcap_examples.specs.Computing.{computing}
+use Rattle.tcap_model.specs.Replies.Legal.{IsLegal}
+use Rattle.tcap_model.specs.Statements.Net.{Engine, IsNet, side, history_in}
+use Rattle.tcap_model.specs.Words.Output.{Output, ComponentIndication, DialogueIndication}
+use Rattle.tcap_model.specs.Statements.TwoEnds.{IsAnswer, UsesOnce, AnswersInvoke, AnswersWhatItWasTold, WasOpened}
+use Rattle.tcap_examples.specs.Nets.PlayedNets.{invoked, answer, result_continue, used_again, IsAnsweredAhead, second_invoke, answered_ahead, heard_as_one}
+use Rattle.tcap_examples.specs.Values.HistoryWords.{dialogue_born, invoke_pair, request_pair, received_pair, continued, empty_result}
+use Rattle.tcap_examples.specs.Values.Hex.{hex}
+
+-- ---- an answer ahead
+
+pub ahead-uses_once : UsesOnce Engine.a 1 answered_ahead.trace
+ahead-uses_once = uses_once Engine.a 1 1 answered_ahead.trace (tt, (tt, ((λ own. refl), (tt, (tt, (tt, tt))))))
+
+pub ahead-opened : WasOpened Engine.a 1 answered_ahead.trace
+ahead-opened = record { pair = dialogue_born 1; before = []; stands = record { later = take 5 (side Engine.a answered_ahead.trace); is_past = refl }; is_event = refl; is_answer = refl }
+
+pub ahead-fails : IsAnsweredAhead Engine.a 1 1 answered_ahead.trace
+unfolding computing
+ahead-fails = record {
+  pair = received_pair result_continue (continued 1 ∷ Output.component (ComponentIndication.closed 1 1 (pos 1) empty_result) ∷ []);
+  before = drop 1 answered_ahead.trace;
+  id = pos 1;
+  output = Output.component (ComponentIndication.closed 1 1 (pos 1) empty_result);
+  request_pair = answer;
+  asked = request_pair 1 answer Answer.done;
+  earlier = drop 5 answered_ahead.trace;
+  happens = record { later = []; is_trace = refl };
+  tells = record { earlier = continued 1 ∷ []; later = []; is_answer = refl };
+  is_answer = IsAnswer.a_result_last None;
+  was_asked = record { later = take 3 (drop 1 answered_ahead.trace); is_trace = refl };
+  is_far_request = record { far_dialogue = 1; is_event = refl; accepted = refl; is_peer = refl };
+  not_sent = not_sent 1 (side Engine.a (drop 5 answered_ahead.trace)) refl;
+}
+
+pub ahead-untold : AnswersWhatItWasTold Engine.b answered_ahead.trace → ⊥
+ahead-untold told =
+    let past = side Engine.b answered_ahead.trace in
+    not_told 1 (pos 1) (drop 2 past) (refl, (refl, tt)) (told (request_pair 1 answer Answer.done) (drop 2 past) 1 (pos 1) answer (record { later = take 1 past; is_past = refl }) refl refl (AnswersInvoke.a_result_last None))
+
+-- ---- two dialogues heard as one
+
+heard-legal : (engine : Engine) → IsLegal (history_in heard_as_one engine heard_as_one.trace)
+unfolding computing
+heard-legal Engine.a = (refl, (refl, refl, (refl, refl, (refl, refl, (refl, refl, (refl, refl, (refl, refl, (refl, refl, (refl, refl, tt)))))))))
+heard-legal Engine.b = (refl, (refl, refl, (refl, refl, (refl, refl, (refl, refl, (refl, refl, (refl, refl, tt)))))))
+
+pub heard-net : IsNet heard_as_one
+heard-net = record { is_legal = heard-legal; is_carried = (refl, (tt, (tt, (tt, (tt, (refl, (tt, (tt, (refl, (tt, (refl, (refl, (tt, (tt, tt)))))))))))))) }
+
+pub heard-uses_once : UsesOnce Engine.a 1 heard_as_one.trace
+heard-uses_once = uses_once Engine.a 1 2 heard_as_one.trace (tt, (tt, ((λ own. refl), (tt, ((λ other. absurd (omega (arith, other))), (tt, (tt, (tt, tt))))))))
+
+pub heard-answers : AnswersWhatItWasTold Engine.b heard_as_one.trace
+heard-answers = answers_what_it_was_told Engine.b heard_as_one.trace (
+  tt,
+  (
+    record {
+      pair = received_pair second_invoke (continued 1 ∷ invoked 1 ∷ []);
+      before = drop 3 (side Engine.b heard_as_one.trace);
+      linked = None;
+      code = CodeParts.local (pos 10);
+      parameter = None;
+      stands = record { later = []; is_past = refl };
+      tells = record { earlier = continued 1 ∷ []; later = []; is_answer = refl };
+    },
+    (tt, (tt, (tt, (tt, tt)))),
+  ),
+)
+
+pub heard-fails : IsAnsweredAhead Engine.a 1 2 heard_as_one.trace
+unfolding computing
+heard-fails = record {
+  pair = received_pair result_continue (continued 1 ∷ Output.component (ComponentIndication.closed 1 2 (pos 1) empty_result) ∷ []);
+  before = drop 1 heard_as_one.trace;
+  id = pos 1;
+  output = Output.component (ComponentIndication.closed 1 2 (pos 1) empty_result);
+  request_pair = answer;
+  asked = request_pair 1 answer Answer.done;
+  earlier = drop 5 heard_as_one.trace;
+  happens = record { later = []; is_trace = refl };
+  tells = record { earlier = continued 1 ∷ []; later = []; is_answer = refl };
+  is_answer = IsAnswer.a_result_last None;
+  was_asked = record { later = take 3 (drop 1 heard_as_one.trace); is_trace = refl };
+  is_far_request = record { far_dialogue = 1; is_event = refl; accepted = refl; is_peer = refl };
+  not_sent = not_sent 2 (side Engine.a (drop 5 heard_as_one.trace)) refl;
+}
+
+pub heard-not_opened : WasOpened Engine.a 1 heard_as_one.trace → ⊥
+heard-not_opened = not_opened Engine.a 1 heard_as_one.trace (refl, (refl, (refl, (refl, (refl, (refl, (refl, (refl, tt))))))))
+
+-- ---- an identifier used again
+
+again-legal : (engine : Engine) → IsLegal (history_in used_again engine used_again.trace)
+unfolding computing
+again-legal Engine.a = (refl, (refl, refl, (refl, refl, (refl, refl, (refl, refl, (refl, refl, (refl, refl, (refl, refl, (refl, refl, tt)))))))))
+again-legal Engine.b = (refl, (refl, refl, (refl, refl, (refl, refl, tt))))
+
+pub again-net : IsNet used_again
+again-net = record { is_legal = again-legal; is_carried = (refl, (tt, (tt, (tt, (refl, (tt, (tt, (refl, (tt, (tt, (tt, tt))))))))))) }
+
+pub again-answers : AnswersWhatItWasTold Engine.b used_again.trace
+again-answers = answers_what_it_was_told Engine.b used_again.trace (
+  tt,
+  (
+    record {
+      pair = received_pair (hex 18 0x6210_480400000001_6C08_A106_020101_02010A) (Output.dialogue (DialogueIndication.begin 1 None []) ∷ invoked 1 ∷ []);
+      before = [];
+      linked = None;
+      code = CodeParts.local (pos 10);
+      parameter = None;
+      stands = record { later = []; is_past = refl };
+      tells = record { earlier = Output.dialogue (DialogueIndication.begin 1 None []) ∷ []; later = []; is_answer = refl };
+    },
+    (tt, tt),
+  ),
+)
+
+pub again-opened : WasOpened Engine.a 1 used_again.trace
+again-opened = record { pair = dialogue_born 1; before = []; stands = record { later = take 7 (side Engine.a used_again.trace); is_past = refl }; is_event = refl; is_answer = refl }
+
+pub again-fails : IsAnsweredAhead Engine.a 1 2 used_again.trace
+unfolding computing
+again-fails = record {
+  pair = received_pair result_continue (continued 1 ∷ Output.component (ComponentIndication.closed 1 2 (pos 1) empty_result) ∷ []);
+  before = drop 1 used_again.trace;
+  id = pos 1;
+  output = Output.component (ComponentIndication.closed 1 2 (pos 1) empty_result);
+  request_pair = answer;
+  asked = request_pair 1 answer Answer.done;
+  earlier = drop 7 used_again.trace;
+  happens = record { later = []; is_trace = refl };
+  tells = record { earlier = continued 1 ∷ []; later = []; is_answer = refl };
+  is_answer = IsAnswer.a_result_last None;
+  was_asked = record { later = take 5 (drop 1 used_again.trace); is_trace = refl };
+  is_far_request = record { far_dialogue = 1; is_event = refl; accepted = refl; is_peer = refl };
+  not_sent = not_sent 2 (side Engine.a (drop 7 used_again.trace)) refl;
+}
+
+-- The two invocations have one identifier.
+pub again-used_twice : UsesOnce Engine.a 1 used_again.trace → ⊥
+again-used_twice once =
+    let past = side Engine.a used_again.trace in
+    let same : 1 ≡ 2 = once
+    (invoke_pair 1 (pos 1) One (pos 10) 5000 (Answer.number 1)) (invoke_pair 1 (pos 1) One (pos 10) 5000 (Answer.number 2)) (drop 7 past) (drop 3 past)
+    (record { number = 1; dialogue = 1; id = pos 1; class = One; timeout = 5000 }) (record { number = 2; dialogue = 1; id = pos 1; class = One; timeout = 5000 })
+    (record { later = take 6 past; is_past = refl }) (record { later = take 2 past; is_past = refl }) refl refl refl refl refl in
+    omega (arith, same)
+
+-- What the tests state.
+pub ruleset answers_ahead = (ahead-opened, ahead-fails, ahead-untold, heard-net, heard-fails, heard-not_opened, again-net, again-opened, again-fails)

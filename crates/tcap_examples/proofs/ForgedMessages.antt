@@ -1,0 +1,72 @@
+-- Two engines and messages that are forged: no answer and no Invoke need come from the other user.
+use Rattle.std.proofs.Common.{◌≡◌, pos, [], ◌∷◌, Some, None, refl, ℕ, false, negsuc, sym, ap, ◌∙◌}
+use Rattle.std.specs.Prelude.{drop, take, ◌==◌}
+use Rattle.tcap_component.specs.Component.{CodeParts}
+use Rattle.tcap_examples.proofs.EndPremises.{not_both}
+use Rattle.tcap_examples.proofs.PlaceLemmas.{at_happening, at_place}
+use Rattle.tcap_examples.specs.Computing.{computing}
+use Rattle.tcap_examples.specs.Values.DialogueValues.{code}
+use Rattle.tcap_model.specs.Replies.Legal.{IsLegal}
+use Rattle.tcap_model.specs.Statements.Net.{Engine, Marked, Trace, IsCarried, side, history_in}
+use Rattle.tcap_model.specs.Words.Output.{Output, ComponentIndication, DialogueIndication}
+use Rattle.tcap_model.specs.Histories.Pair.{Pair, Past}
+use Rattle.tcap_model.specs.Statements.TwoEnds.{IsAnswer, ComesFromFar, WasAsked, Origin, Operations}
+use Rattle.tcap_examples.specs.Nets.PlayedNets.{answer, result_continue, forged}
+use Rattle.tcap_examples.specs.Values.HistoryWords.{request_pair, received_pair, continued, empty_result}
+use Rattle.std.proofs.lemmas.Bool.{false≢true}
+use Rattle.tcap_model.specs.Words.Event.{Event}
+use Rattle.tcap_examples.specs.Values.Hex.{hex}
+use Rattle.tcap_model.specs.Words.Request.{Request, ComponentRequest}
+
+pub forged-legal : (engine : Engine) → IsLegal (history_in forged engine forged.trace)
+unfolding computing
+forged-legal Engine.a = (refl, (refl, refl, (refl, refl, (refl, refl, (refl, refl, (refl, refl, (refl, refl, tt)))))))
+forged-legal Engine.b = (refl, (refl, refl, tt))
+
+pub forged-not_carried : IsCarried forged.trace → ⊥
+forged-not_carried carried = false≢true carried.0
+
+not_from_far : (dialogue : ℕ) (asked : Request) → ComesFromFar Engine.a dialogue asked (drop 2 forged.trace) → ⊥
+not_from_far dialogue asked from =
+    let All : Marked → Trace → Type 0 = λ m before. m.engine ≡ Engine.a in
+    not_both (sym (at_happening All (drop 2 forged.trace) (refl, (refl, (refl, (refl, (refl, tt))))) Engine.b from.pair from.before from.happens))
+
+pub forged-no_origin : Origin forged.trace → ⊥
+forged-no_origin origin = not_from_far 1 answer (origin Engine.a
+    (received_pair result_continue (continued 1 ∷ Output.component (ComponentIndication.closed 1 1 (pos 1) empty_result) ∷ [])) (drop 2 forged.trace) 1 1 (pos 1) (Output.component (ComponentIndication.closed 1 1 (pos 1) empty_result)) answer
+    (record { later = take 1 forged.trace; is_trace = refl }) (record { earlier = continued 1 ∷ []; later = []; is_answer = refl }) (IsAnswer.a_result_last None))
+
+-- A local operation code.
+abbrev local_code : CodeParts → ℕ
+local_code (CodeParts.local (pos number)) = number
+local_code (CodeParts.local (negsuc number)) = 0
+local_code (CodeParts.global octets) = 0
+
+-- The operation that a request asks for; 0 where it asks for none.
+abbrev operation : Request → ℕ
+operation (Request.component (ComponentRequest.invoke id class code parameter linked timeout)) = local_code code
+operation (Request.component (ComponentRequest.result_last id body)) = 0
+operation (Request.component (ComponentRequest.result_more id body)) = 0
+operation (Request.component (ComponentRequest.error_back id code parameter)) = 0
+operation (Request.component (ComponentRequest.u_reject id problem)) = 0
+operation (Request.component (ComponentRequest.u_cancel id)) = 0
+operation (Request.dialogue asked) = 0
+
+-- The operation that an event asks for.
+abbrev asked_for : Event → ℕ
+asked_for Event.new_dialogue = 0
+asked_for (Event.on_dialogue dialogue request_pair) = operation request_pair
+asked_for (Event.received bytes) = 0
+asked_for (Event.moment now) = 0
+
+not_asked : WasAsked (pos 1) None (code 11) None (side Engine.a (drop 1 forged.trace)) → ⊥
+not_asked asked =
+    let Other : Pair → Past → Type 0 = λ pair before. (asked_for pair.event == 11) ≡ false in
+    let other = at_place Other (side Engine.a (drop 1 forged.trace)) (refl, (refl, (refl, (refl, (refl, (refl, tt)))))) asked.pair asked.before asked.stands in
+    false≢true (sym other ∙ ap (λ (event : Event). asked_for event == 11) asked.is_event)
+
+pub forged-no_operation : Operations forged.trace → ⊥
+forged-no_operation operations = not_asked (operations Engine.b
+    (received_pair (hex 18 0x6210_480400000001_6C08_A106_020101_02010B) (Output.dialogue (DialogueIndication.begin 1 None []) ∷ Output.component (ComponentIndication.invoked (Some 1) (pos 1) None (code 11) None) ∷ []))
+    (drop 1 forged.trace) (Some 1) (pos 1) None (code 11) None
+    (record { later = []; is_trace = refl }) (record { earlier = Output.dialogue (DialogueIndication.begin 1 None []) ∷ []; later = []; is_answer = refl }))
