@@ -157,4 +157,14 @@ again-used_twice once =
     omega (arith, same)
 
 -- What the tests state.
-pub ruleset answers_ahead = (ahead-opened, ahead-fails, ahead-untold, heard-net, heard-fails, heard-not_opened, again-net, again-opened, again-fails)
+pub ruleset answers_ahead = (
+  ahead-opened,
+  ahead-fails,
+  ahead-untold,
+  heard-net,
+  heard-fails,
+  heard-not_opened,
+  again-net,
+  again-opened,
+  again-fails,
+)

@@ -66,4 +66,12 @@ unfolding computing
 cancelled-never-sent = never_sent 1 given_up_before_it_was_sent.history.pairs first refl refl
 
 -- What the tests state.
-pub ruleset last_messages = (alone-happens, alone-tells, alone-asked, end-happens, end-tells, end-asked, cancelled-never-sent)
+pub ruleset last_messages = (
+  alone-happens,
+  alone-tells,
+  alone-asked,
+  end-happens,
+  end-tells,
+  end-asked,
+  cancelled-never-sent,
+)

@@ -106,4 +106,13 @@ repeat-asked = record {
 }
 
 -- What the tests state.
-pub ruleset repeated_begin_works = (repeat-answer-happens, repeat-answer-tells, repeat-is-answer, repeat-origin, repeat-opened, repeat-invoked-happens, repeat-invoked-tells, repeat-asked)
+pub ruleset repeated_begin_works = (
+  repeat-answer-happens,
+  repeat-answer-tells,
+  repeat-is-answer,
+  repeat-origin,
+  repeat-opened,
+  repeat-invoked-happens,
+  repeat-invoked-tells,
+  repeat-asked,
+)

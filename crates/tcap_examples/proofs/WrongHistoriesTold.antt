@@ -65,7 +65,16 @@ drops_every_message = record {
 }
 
 -- All of them.
-pub ruleset wrong_answers_given = (components_after_a_fault, identifier_freed_early, clock_set_back, moving_peer, recognised_begin, reused_dialogue_identifier, everything_wrong_state, drops_every_message)
+pub ruleset wrong_answers_given = (
+  components_after_a_fault,
+  identifier_freed_early,
+  clock_set_back,
+  moving_peer,
+  recognised_begin,
+  reused_dialogue_identifier,
+  everything_wrong_state,
+  drops_every_message,
+)
 
 -- ---- wrong ends
 
@@ -188,4 +197,27 @@ unfolding computing
 lapse_told_late = record { is_outcome = refl; tells_wrong = λ h. apart told_number h refl }
 
 -- All of them.
-pub ruleset wrong_ends_told = (double_result, double_result-told, stale_timer, stale_timer-told, empty_result_at_a_lapse, empty_result_at_a_lapse-told, ended_at_once, ended_at_once-told, lapse_by_identifier, lapse_by_identifier-told, end_before_components, end_before_components-told, class_two_result, class_two_result-told, class_two_part, class_two_part-told, class_three_error, class_three_error-told, reject_of_a_result_closes, reject_of_a_result_closes-told, result_told_late, lapse_told_late)
+pub ruleset wrong_ends_told = (
+  double_result,
+  double_result-told,
+  stale_timer,
+  stale_timer-told,
+  empty_result_at_a_lapse,
+  empty_result_at_a_lapse-told,
+  ended_at_once,
+  ended_at_once-told,
+  lapse_by_identifier,
+  lapse_by_identifier-told,
+  end_before_components,
+  end_before_components-told,
+  class_two_result,
+  class_two_result-told,
+  class_two_part,
+  class_two_part-told,
+  class_three_error,
+  class_three_error-told,
+  reject_of_a_result_closes,
+  reject_of_a_result_closes-told,
+  result_told_late,
+  lapse_told_late,
+)

@@ -7,6 +7,7 @@ pub use Rattle.tcap_laws.proofs.Births.BoundedDialogues.{dialogues-bounded}
 pub use Rattle.tcap_laws.proofs.Table.BoundedIdentifiers.{identifiers-bounded}
 pub use Rattle.tcap_laws.proofs.Queues.BoundedQueues.{queues-bounded}
 pub use Rattle.tcap_laws.proofs.Births.Clocks.{clock-step, clock-later}
+pub use Rattle.tcap_laws.proofs.Decisions.ClassTables.{class-tables}
 pub use Rattle.tcap_laws.proofs.Decisions.CountedHistories.{counted, open_before}
 pub use Rattle.tcap_laws.proofs.Decisions.DecidedHistories.{closings_are}
 pub use Rattle.tcap_laws.proofs.Decisions.DecidedOutcomes.{outcome_told, plainly_decided}

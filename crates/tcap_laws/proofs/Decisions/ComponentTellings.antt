@@ -97,31 +97,41 @@ module _ (n : ℕ) (place : Past) (i : Invocation) (me : (i.number == n) ≡ tru
   abbrev pub self : Class → SentInvocation
   self class = record { dialogue = i.dialogue; number = i.number; class = class }
 
-  last_class : (body : Option BodyParts) (class : Class) → told_by_output n place (last_by (self class) i.id body (reports_success class)).told ≡ tells (option_or (closing_by_last class body) None)
+  last_class : (body : Option BodyParts) (class : Class)
+      → told_by_output n place (last_by (self class) i.id body (reports_success class)).told
+      ≡ tells (option_or (closing_by_last class body) None)
   last_class body One = rw me refl
   last_class body Two = rw me refl
   last_class body Three = rw me refl
   last_class body Four = rw me refl
 
-  more_class : (body : Option BodyParts) (class : Class) → told_by_output n place (more_by (self class) i.id body (reports_success class)).told ≡ tells (option_or (closing_by_more class) None)
+  more_class : (body : Option BodyParts) (class : Class)
+      → told_by_output n place (more_by (self class) i.id body (reports_success class)).told
+      ≡ tells (option_or (closing_by_more class) None)
   more_class body One = refl
   more_class body Two = rw me refl
   more_class body Three = refl
   more_class body Four = rw me refl
 
-  error_class : (code : CodeParts) (parameter : Option (List ℕ)) (class : Class) → told_by_output n place (error_by (self class) i.id code parameter (reports_failure class)).told ≡ tells (option_or (closing_by_error class code parameter) None)
+  error_class : (code : CodeParts) (parameter : Option (List ℕ)) (class : Class)
+      → told_by_output n place (error_by (self class) i.id code parameter (reports_failure class)).told
+      ≡ tells (option_or (closing_by_error class code parameter) None)
   error_class code parameter One = rw me refl
   error_class code parameter Two = rw me refl
   error_class code parameter Three = rw me refl
   error_class code parameter Four = rw me refl
 
-  pub last_here : (body : Option BodyParts) (f : Option Closing) (s : Option ℕ) → told_by_output n place (last_handled (Some i.dialogue) (sent_by f s) i.id body).told ≡ unless f (tells (option_or (closing_of i.class i.timeout s (Mark.last body)) None))
+  pub last_here : (body : Option BodyParts) (f : Option Closing) (s : Option ℕ)
+      → told_by_output n place (last_handled (Some i.dialogue) (sent_by f s) i.id body).told
+      ≡ unless f (tells (option_or (closing_of i.class i.timeout s (Mark.last body)) None))
   last_here body None None = refl
   last_here body None (Some c) = last_class body i.class
   last_here body (Some x) None = refl
   last_here body (Some x) (Some c) = refl
 
-  pub more_here : (body : Option BodyParts) (f : Option Closing) (s : Option ℕ) → told_by_output n place (more_handled (Some i.dialogue) (sent_by f s) i.id body).told ≡ unless f (tells (option_or (closing_of i.class i.timeout s (Mark.more body)) None))
+  pub more_here : (body : Option BodyParts) (f : Option Closing) (s : Option ℕ)
+      → told_by_output n place (more_handled (Some i.dialogue) (sent_by f s) i.id body).told
+      ≡ unless f (tells (option_or (closing_of i.class i.timeout s (Mark.more body)) None))
   more_here body None None = refl
   more_here body None (Some c) = more_class body i.class
   more_here body (Some x) None = refl
@@ -134,7 +144,8 @@ module _ (n : ℕ) (place : Past) (i : Invocation) (me : (i.number == n) ≡ tru
   error_here code parameter (Some x) (Some c) = refl
 
   pub reject_here : (problem : ProblemParts) → is_of_answer problem.kind ≡ false → (f : Option Closing) (s : Option ℕ)
-      → told_by_output n place (reject_handled (Some i.dialogue) (sent_by f s) (Some i.id) problem).told ≡ unless f (tells (option_or (closing_of i.class i.timeout s (Mark.reject problem)) None))
+      → told_by_output n place (reject_handled (Some i.dialogue) (sent_by f s) (Some i.id) problem).told
+      ≡ unless f (tells (option_or (closing_of i.class i.timeout s (Mark.reject problem)) None))
   reject_here problem of None None = refl
   reject_here problem of None (Some c) = rw (of, me) refl
   reject_here problem of (Some x) None = refl

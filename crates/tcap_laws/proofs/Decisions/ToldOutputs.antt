@@ -29,7 +29,8 @@ module _ (n : ℕ) (place : Past) where
   invoke_silent dialogue (Some s) id (Some linked) code parameter = refl
   invoke_silent dialogue None id (Some linked) code parameter = refl
 
-  other : (dialogue : Option ℕ) (sent : Option SentInvocation) (item : Item) (h : Handled) → ComesOf dialogue sent item h → IsOther n sent → told_by_output n place h.told ≡ []
+  other : (dialogue : Option ℕ) (sent : Option SentInvocation) (item : Item) (h : Handled)
+      → ComesOf dialogue sent item h → IsOther n sent → told_by_output n place h.told ≡ []
   other _ _ _ _ (ComesOf.an_invoke sent id linked code parameter) e = refl
   other _ _ _ _ (ComesOf.not_sent item id problem carries here) e = refl
   other _ _ _ _ (ComesOf.a_result_last sent id body) e = rw (e sent refl) refl

@@ -34,7 +34,8 @@ use Rattle.tcap_model.specs.Invocations.SentThere.{if_sent, marks_up_to, sent_th
 
 -- ---- a Reject of an answer closes nothing
 
-answer_silent : (n : ℕ) (place : Past) (dialogue : Option ℕ) (sent : Option SentInvocation) (named : ℤ) (problem : ProblemParts) → is_of_answer problem.kind ≡ true
+answer_silent : (n : ℕ) (place : Past) (dialogue : Option ℕ) (sent : Option SentInvocation) (named : ℤ)
+    (problem : ProblemParts) → is_of_answer problem.kind ≡ true
     → told_by_output n place (reject_handled dialogue sent (Some named) problem).told ≡ []
 answer_silent n place dialogue None named problem e = refl
 answer_silent n place dialogue (Some s) named problem e = rw e refl
@@ -106,22 +107,30 @@ module _ (start : Start) (past place : Past) (n : ℕ) (i : Invocation) (legal :
     rejected_here earlier named problem kind.General q =
         on_key earlier named (λ (k : ℤ) (sent : Option SentInvocation). told_by_output n place (reject_handled (Some i.dialogue) sent (Some k) problem).told) (Mark.reject problem)
         (λ sent o. handled_other n place (Some i.dialogue) sent (Ok (ComponentParts.reject_back (Some named) problem)) o)
-        (reject_here n place i own problem (ap is_of_answer q) (closed_before earlier) (sent_clock (marks_up_to past earlier i)))
+        (reject_here n place i own problem (ap is_of_answer q) (closed_before earlier)
+        (sent_clock (marks_up_to past earlier i)))
     rejected_here earlier named problem kind.Invoke q =
         on_key earlier named (λ (k : ℤ) (sent : Option SentInvocation). told_by_output n place (reject_handled (Some i.dialogue) sent (Some k) problem).told) (Mark.reject problem)
         (λ sent o. handled_other n place (Some i.dialogue) sent (Ok (ComponentParts.reject_back (Some named) problem)) o)
-        (reject_here n place i own problem (ap is_of_answer q) (closed_before earlier) (sent_clock (marks_up_to past earlier i)))
-    rejected_here earlier named problem kind.Result q = answer_silent n place (Some i.dialogue) (if_sent past earlier (latest i.dialogue named past)) named problem (ap is_of_answer q) ∙ sym (unless_nothing (closed_before earlier))
-    rejected_here earlier named problem kind.Error q = answer_silent n place (Some i.dialogue) (if_sent past earlier (latest i.dialogue named past)) named problem (ap is_of_answer q) ∙ sym (unless_nothing (closed_before earlier))
+        (reject_here n place i own problem (ap is_of_answer q) (closed_before earlier)
+        (sent_clock (marks_up_to past earlier i)))
+    rejected_here earlier named problem kind.Result q = answer_silent n place (Some i.dialogue)
+        (if_sent past earlier (latest i.dialogue named past)) named problem (ap is_of_answer q)
+        ∙ sym (unless_nothing (closed_before earlier))
+    rejected_here earlier named problem kind.Error q = answer_silent n place (Some i.dialogue)
+        (if_sent past earlier (latest i.dialogue named past)) named problem (ap is_of_answer q)
+        ∙ sym (unless_nothing (closed_before earlier))
 
     component_here : (earlier : List Item) (c : ComponentParts) → told_by_output n place (handled (Some i.dialogue) (sent_there i.dialogue past earlier (subject_of (Ok c))) (Ok c)).told ≡ unless (closed_before earlier) (gain place i (closed_then earlier (marks_of_component i.id c)))
     component_here earlier (ComponentParts.invoke id linked code parameter) = invoke_silent n place (Some i.dialogue) (sent_there i.dialogue past earlier linked) id linked code parameter ∙ sym (unless_nothing (closed_before earlier))
     component_here earlier (ComponentParts.result_last named body) =
-        on_key earlier named (λ (k : ℤ) (sent : Option SentInvocation). told_by_output n place (last_handled (Some i.dialogue) sent k body).told) (Mark.last body)
+        on_key earlier named (λ (k : ℤ) (sent : Option SentInvocation). told_by_output n place
+        (last_handled (Some i.dialogue) sent k body).told) (Mark.last body)
         (λ sent o. handled_other n place (Some i.dialogue) sent (Ok (ComponentParts.result_last named body)) o)
         (last_here n place i own body (closed_before earlier) (sent_clock (marks_up_to past earlier i)))
     component_here earlier (ComponentParts.result_more named body) =
-        on_key earlier named (λ (k : ℤ) (sent : Option SentInvocation). told_by_output n place (more_handled (Some i.dialogue) sent k body).told) (Mark.more body)
+        on_key earlier named (λ (k : ℤ) (sent : Option SentInvocation). told_by_output n place
+        (more_handled (Some i.dialogue) sent k body).told) (Mark.more body)
         (λ sent o. handled_other n place (Some i.dialogue) sent (Ok (ComponentParts.result_more named body)) o)
         (more_here n place i own body (closed_before earlier) (sent_clock (marks_up_to past earlier i)))
     component_here earlier (ComponentParts.error_back named code parameter) =

@@ -84,7 +84,8 @@ is-fair bytes content _ _ _ _ (ComesOf.of_fault sent f) reached read = fault_her
 
 handled-fair : (bytes content : List ℕ) (dialogue : Option ℕ) (sent : Option SentInvocation) (item : Item)
     → IsReached bytes sent → IsReadIn content item → Fair bytes (handled dialogue sent item).told
-handled-fair bytes content dialogue sent item = is-fair bytes content dialogue sent item (handled dialogue sent item) (comes_of dialogue sent item)
+handled-fair bytes content dialogue sent item =
+    is-fair bytes content dialogue sent item (handled dialogue sent item) (comes_of dialogue sent item)
 
 -- ---- the invocations that components of a message are about
 
@@ -93,7 +94,8 @@ reached-named : (bytes : List ℕ) (dialogue : ℕ) (sent : Option SentInvocatio
 reached-named bytes dialogue None named of = tt
 reached-named bytes dialogue (Some sent) named of = subst (IsNamedBy bytes) (sym of) named
 
-reached-there : (bytes : List ℕ) (dialogue : ℕ) (past : Past) → IsNamedBy bytes dialogue → (earlier : List Item) (subject : Option ℤ) → IsReached bytes (sent_there dialogue past earlier subject)
+reached-there : (bytes : List ℕ) (dialogue : ℕ) (past : Past) → IsNamedBy bytes dialogue
+    → (earlier : List Item) (subject : Option ℤ) → IsReached bytes (sent_there dialogue past earlier subject)
 reached-there bytes dialogue past named earlier subject = reached-named bytes dialogue (sent_there dialogue past earlier subject) named (sent_there-of dialogue past earlier subject)
 
 -- ---- a dialogue that is not born yet has no invocation
@@ -125,7 +127,8 @@ no-latest h id legal = go (latest (next_dialogue h) id h.pairs) refl
     go None q = q
     go (Some i) q = let never : false ≡ true = ap was_alive (sym unborn) ∙ latest-alive h.start (next_dialogue h) id h.pairs i legal q in absurd cc
 
-next-reached : (bytes : List ℕ) (h : History) → AreReplies h.start h.pairs → (earlier : List Item) (subject : Option ℤ) → IsReached bytes (sent_there (next_dialogue h) h.pairs earlier subject)
+next-reached : (bytes : List ℕ) (h : History) → AreReplies h.start h.pairs → (earlier : List Item) (subject : Option ℤ)
+    → IsReached bytes (sent_there (next_dialogue h) h.pairs earlier subject)
 next-reached bytes h legal earlier None = tt
 next-reached bytes h legal earlier (Some id) = subst (λ (o : Option Invocation). IsReached bytes (if_sent h.pairs earlier o)) (sym (no-latest h id legal)) tt
 
@@ -133,18 +136,22 @@ next-reached bytes h legal earlier (Some id) = subst (λ (o : Option Invocation)
 
 module _ (h : History) (legal : AreReplies h.start h.pairs) (bytes : List ℕ) where
   besides-fair : HoldsBesides (Fair bytes)
-  besides-fair = record { sends = λ octets. tt; tells = λ indication. tt; ends = λ dialogue number id. tt; drops = λ why. tt }
+  besides-fair =
+      record { sends = λ octets. tt; tells = λ indication. tt; ends = λ dialogue number id. tt; drops = λ why. tt }
 
   each-fair : (r : Reception) → HoldsOfEach (Fair bytes) h bytes r
   each-fair r = record {
     of_uni = λ m spelled item read. handled-fair bytes (portion_of m) None None item tt read;
     of_named = λ m spelled dialogue named earlier item read.
-        handled-fair bytes (portion_of m) (Some dialogue) (sent_there dialogue h.pairs earlier (subject_of item)) item
-        (reached-there bytes dialogue h.pairs named earlier (subject_of item)) read;
+        let sent = sent_there dialogue h.pairs earlier (subject_of item) in
+        let reached = reached-there bytes dialogue h.pairs named earlier (subject_of item) in
+        handled-fair bytes (portion_of m) (Some dialogue) sent item reached read;
     of_born = λ m spelled begun earlier item read.
-        handled-fair bytes (portion_of m) (Some (next_dialogue h)) (sent_there (next_dialogue h) h.pairs earlier (subject_of item)) item
-        (next-reached bytes h legal earlier (subject_of item)) read;
+        let sent = sent_there (next_dialogue h) h.pairs earlier (subject_of item) in
+        let reached = next-reached bytes h legal earlier (subject_of item) in
+        handled-fair bytes (portion_of m) (Some (next_dialogue h)) sent item reached read;
   }
 
   pub reply-fair : (output : Output) → Tells (reply h (Event.received bytes)) output → Fair bytes output
-  reply-fair output tells = one-received (Fair bytes) besides-fair h bytes (each-fair (received_at h bytes)) output tells
+  reply-fair output tells =
+      one-received (Fair bytes) besides-fair h bytes (each-fair (received_at h bytes)) output tells

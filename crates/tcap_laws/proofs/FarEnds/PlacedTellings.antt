@@ -105,7 +105,8 @@ rejects kind.Error e = absurd cc
 
 module _ (past : Past) (bytes : List ℕ) (born : Option ℕ) where
   is-placed : (dialogue : Option ℕ) (sent : Option SentInvocation) (item : Item) (h : Handled)
-      → ComesOf dialogue sent item h → IsPlaced bytes born dialogue → IsAbout past (subject_of item) sent → Placed past bytes born h.told
+      → ComesOf dialogue sent item h → IsPlaced bytes born dialogue → IsAbout past (subject_of item) sent
+      → Placed past bytes born h.told
   is-placed _ _ _ _ (ComesOf.an_invoke sent id linked code parameter) placed about = placed
   is-placed _ _ _ _ (ComesOf.not_sent item id problem carries here) placed about = tt
   is-placed _ _ _ _ (ComesOf.a_result_last sent id body) placed about = about
@@ -118,11 +119,14 @@ module _ (past : Past) (bytes : List ℕ) (born : Option ℕ) where
   is-placed _ _ _ _ (ComesOf.of_fault sent f) placed about = tt
 
   handled-placed : (dialogue : Option ℕ) (sent : Option SentInvocation) (item : Item)
-      → IsPlaced bytes born dialogue → IsAbout past (subject_of item) sent → Placed past bytes born (handled dialogue sent item).told
-  handled-placed dialogue sent item = is-placed dialogue sent item (handled dialogue sent item) (comes_of dialogue sent item)
+      → IsPlaced bytes born dialogue → IsAbout past (subject_of item) sent
+      → Placed past bytes born (handled dialogue sent item).told
+  handled-placed dialogue sent item =
+      is-placed dialogue sent item (handled dialogue sent item) (comes_of dialogue sent item)
 
   besides-placed : HoldsBesides (Placed past bytes born)
-  besides-placed = record { sends = λ octets. tt; tells = λ indication. tt; ends = λ dialogue number id. tt; drops = λ why. tt }
+  besides-placed =
+      record { sends = λ octets. tt; tells = λ indication. tt; ends = λ dialogue number id. tt; drops = λ why. tt }
 
 -- ---- all that is told
 
@@ -135,15 +139,19 @@ module _ (h : History) (legal : AreReplies h.start h.pairs) (bytes : List ℕ) w
 
   each-placed : HoldsOfEach (Placed h.pairs bytes born_then) h bytes (received_at h bytes)
   each-placed = record {
-    of_uni = λ m spelled item read. handled-placed h.pairs bytes born_then None None item tt (none-about h.pairs (subject_of item));
+    of_uni = λ m spelled item read.
+        handled-placed h.pairs bytes born_then None None item tt (none-about h.pairs (subject_of item));
     of_named = λ m spelled dialogue named earlier item read.
-        handled-placed h.pairs bytes born_then (Some dialogue) (sent_there dialogue h.pairs earlier (subject_of item)) item
-        (inl named) (sent-about h.start h.pairs legal dialogue earlier (subject_of item));
+        let sent = sent_there dialogue h.pairs earlier (subject_of item) in
+        let about = sent-about h.start h.pairs legal dialogue earlier (subject_of item) in
+        handled-placed h.pairs bytes born_then (Some dialogue) sent item (inl named) about;
     of_born = λ m spelled begun earlier item read.
-        handled-placed h.pairs bytes born_then (Some (next_dialogue h)) (sent_there (next_dialogue h) h.pairs earlier (subject_of item)) item
-        (is-born born_then begun) (sent-about h.start h.pairs legal (next_dialogue h) earlier (subject_of item));
+        let sent = sent_there (next_dialogue h) h.pairs earlier (subject_of item) in
+        let about = sent-about h.start h.pairs legal (next_dialogue h) earlier (subject_of item) in
+        handled-placed h.pairs bytes born_then (Some (next_dialogue h)) sent item (is-born born_then begun) about;
   }
 
   pub reply-placed : (output : Output) → Tells (reply h (Event.received bytes)) output
       → Placed h.pairs bytes (born_on_message (reply h (Event.received bytes))) output
-  reply-placed = one-received (Placed h.pairs bytes born_then) (besides-placed h.pairs bytes born_then) h bytes each-placed
+  reply-placed =
+      one-received (Placed h.pairs bytes born_then) (besides-placed h.pairs bytes born_then) h bytes each-placed

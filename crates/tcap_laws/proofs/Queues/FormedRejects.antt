@@ -32,7 +32,8 @@ tells-id e None tells = tt
 tells-id e (Some id) tells = tells.is_identifier
 
 -- what can't be read has an identifier in range, if any, and a problem
-fault-formed : (bytes : List ℕ) (f : FaultParts) → IsComponentFault bytes f → IsIdentifierIfAny f.id × IsProblem f.problem
+fault-formed : (bytes : List ℕ) (f : FaultParts) → IsComponentFault bytes f
+    → IsIdentifierIfAny f.id × IsProblem f.problem
 fault-formed _ _ (unreadable bytes none) = (tt, omega arith)
 fault-formed _ _ (unrecognized e rest id is none tells) = (tells-id e id tells, omega arith)
 fault-formed _ _ (unstructured e rest id is has none tells) = (tells-id e id tells, omega arith)
@@ -94,11 +95,14 @@ IsFormed dialogue told (Some c) = (id : Option ℤ) × (problem : ProblemParts) 
 abbrev pub HasFormed : ℕ → Handled → Type 0
 HasFormed dialogue h = IsFormed dialogue h.told h.reject
 
-carried-range : (content : List ℕ) (item : Item) (id : ℤ) → IsReadIn content item → identifier_of item ≡ Some id → IsIdentifierIfAny (Some id)
+carried-range : (content : List ℕ) (item : Item) (id : ℤ) → IsReadIn content item → identifier_of item ≡ Some id
+    → IsIdentifierIfAny (Some id)
 carried-range content item id read carries = subst IsIdentifierIfAny carries (identifier-read content item read)
 
-of-fault : (dialogue : ℕ) (was_reject : Bool) (id : Option ℤ) (problem : ProblemParts) → IsIdentifierIfAny id × IsProblem problem
-    → IsFormed dialogue (Output.component (ComponentIndication.local_reject (Some dialogue) id problem)) (if was_reject then None else Some (reject_back id problem))
+of-fault : (dialogue : ℕ) (was_reject : Bool) (id : Option ℤ) (problem : ProblemParts)
+    → IsIdentifierIfAny id × IsProblem problem
+    → IsFormed dialogue (Output.component (ComponentIndication.local_reject (Some dialogue) id problem))
+    (if was_reject then None else Some (reject_back id problem))
 of-fault dialogue true id problem range = tt
 of-fault dialogue false id problem range = (id, problem, refl, inl refl, range.0, range.1)
 
@@ -111,12 +115,15 @@ is-formed dialogue content _ _ _ (ComesOf.a_result_last sent id body) of read = 
 is-formed dialogue content _ _ _ (ComesOf.a_result_more sent id body) of read = tt
 is-formed dialogue content _ _ _ (ComesOf.an_error sent id code parameter) of read = tt
 is-formed dialogue content _ _ _ (ComesOf.unexpected sent item id problem carries here) of read =
-    let closed = λ (d : ℕ). Output.component (ComponentIndication.closed d sent.number id (Closing.rejected problem Rejector.local)) in
-    (Some id, problem, refl, inr (sent.number, id, refl, ap closed of), carried-range content item id read carries, here.is_problem)
+    let how = Closing.rejected problem Rejector.local in
+    let closed = λ (d : ℕ). Output.component (ComponentIndication.closed d sent.number id how) in
+    let told = inr (sent.number, id, refl, ap closed of) in
+    (Some id, problem, refl, told, carried-range content item id read carries, here.is_problem)
 is-formed dialogue content _ _ _ (ComesOf.by_provider sent id problem kind provided) of read = tt
 is-formed dialogue content _ _ _ (ComesOf.by_user sent id problem kind provided) of read = tt
 is-formed dialogue content _ _ _ (ComesOf.of_none sent named id problem) of read = tt
-is-formed dialogue content _ _ _ (ComesOf.of_fault sent f) of read = of-fault dialogue f.was_reject f.id f.problem (fault-formed read.0 f read.1)
+is-formed dialogue content _ _ _ (ComesOf.of_fault sent f) of read =
+    of-fault dialogue f.was_reject f.id f.problem (fault-formed read.0 f read.1)
 
 pub handled_in-formed : (dialogue : ℕ) (past : Past) (content : List ℕ) → AllByRecursion (HasFormed dialogue) (handled_in dialogue past content)
 handled_in-formed dialogue past content = each-handled dialogue past content (HasFormed dialogue) (λ earlier item read.

@@ -15,7 +15,8 @@ use Rattle.tcap_model.specs.Invocations.SentThere.{sent_there}
 
 -- ---- lists
 
-pub each-map : {X Y : Type 0} (P : Y → Type 0) (f : X → Y) → ((x : X) → P (f x)) → (xs : List X) → AllByRecursion P (map f xs)
+pub each-map : {X Y : Type 0} (P : Y → Type 0) (f : X → Y) → ((x : X) → P (f x)) → (xs : List X)
+    → AllByRecursion P (map f xs)
 each-map P f holds [] = tt
 each-map P f holds (x ∷ xs) = (holds x, each-map P f holds xs)
 
@@ -34,8 +35,10 @@ abbrev pub IsReadIn : List ℕ → Item → Type 0
 IsReadIn content (Ok c) = ReadAt content c
 IsReadIn content (Err f) = (rest : List ℕ) × IsComponentFault rest f
 
-module _ (content : List ℕ) (all : List ComponentParts) (fault : Option FaultParts) (first : FirstFault all fault content) where
-  items-read : (earlier cs : List ComponentParts) (front rest : List ℕ) → all ≡ earlier ++ cs → SpellsComponents cs front → EndsIn fault rest
+module _ (content : List ℕ) (all : List ComponentParts) (fault : Option FaultParts)
+    (first : FirstFault all fault content) where
+  items-read : (earlier cs : List ComponentParts) (front rest : List ℕ) → all ≡ earlier ++ cs
+      → SpellsComponents cs front → EndsIn fault rest
       → AllByRecursion (IsReadIn content) (items cs fault)
   items-read earlier [] front rest is spelled ends = last fault ends
     where
@@ -72,19 +75,23 @@ module _ (dialogue : ℕ) (past : Past) (content : List ℕ) where
   pub each-handled : (P : Handled → Type 0) → OfEach P → AllByRecursion P (handled_in dialogue past content)
   each-handled P holds = go [] (components_of content) (all-read content)
     where
-      go : (earlier items : List Item) → AllByRecursion (IsReadIn content) items → AllByRecursion P (handled_after dialogue past earlier items)
+      go : (earlier items : List Item) → AllByRecursion (IsReadIn content) items
+          → AllByRecursion P (handled_after dialogue past earlier items)
       go earlier [] read = tt
       go earlier (item ∷ items) read = (holds earlier item read.0, go (earlier ++ item ∷ []) items read.1)
 
-  pub each-told : (P : Output → Type 0) → OfEach (λ (h : Handled). P h.told) → AllByRecursion P (told_of (handled_in dialogue past content))
+  pub each-told : (P : Output → Type 0) → OfEach (λ (h : Handled). P h.told)
+      → AllByRecursion P (told_of (handled_in dialogue past content))
   each-told P holds = go (handled_in dialogue past content) (each-handled (λ (h : Handled). P h.told) holds)
     where
-      go : (components : List Handled) → AllByRecursion (λ (h : Handled). P h.told) components → AllByRecursion P (told_of components)
+      go : (components : List Handled) → AllByRecursion (λ (h : Handled). P h.told) components
+          → AllByRecursion P (told_of components)
       go [] all = tt
       go (h ∷ components) all = (all.0, go components all.1)
 
 -- the same of a Unidirectional
-pub each-uni : (P : Output → Type 0) (content : List ℕ) → ((item : Item) → IsReadIn content item → P (handled None None item).told)
+pub each-uni : (P : Output → Type 0) (content : List ℕ)
+    → ((item : Item) → IsReadIn content item → P (handled None None item).told)
     → AllByRecursion P (uni_told (components_of content))
 each-uni P content holds = go (components_of content) (all-read content)
   where

@@ -37,24 +37,35 @@ use Rattle.tcap_model.specs.Invocations.SentThere.{marks_up_to}
 
 -- ---- the end of a dialogue, and its Abort
 
+abbrev pub told_ended : ℕ → ℕ → ℤ → Output
+told_ended dialogue number id = Output.component (ComponentIndication.closed dialogue number id Closing.ended)
+
+abbrev pub told_p_abort : ℕ → AbortCause → Output
+told_p_abort dialogue why = Output.dialogue (DialogueIndication.p_abort dialogue why)
+
+abbrev pub told_u_abort : ℕ → Option PduValue → Output
+told_u_abort dialogue pdu = Output.dialogue (DialogueIndication.u_abort dialogue pdu)
+
 module _ (P : Output → Type 0) where
-  pub each-ended : ((dialogue number : ℕ) (id : ℤ) → P (Output.component (ComponentIndication.closed dialogue number id Closing.ended)))
+  pub each-ended : ((dialogue number : ℕ) (id : ℤ) → P (told_ended dialogue number id))
       → (dialogue : ℕ) (past : Past) (components : List Item) → AllByRecursion P (ended_in dialogue past components)
   each-ended ends dialogue past components = go (invocations past)
     where
       one : (i : Invocation) (others : List Output) (test : Bool) → AllByRecursion P others
-          → AllByRecursion P (cons_option (if test then Some (Output.component (ComponentIndication.closed dialogue i.number i.id Closing.ended)) else None) others)
+          → AllByRecursion P (cons_option (if test then Some (told_ended dialogue i.number i.id) else None) others)
       one i others true all = (ends dialogue i.number i.id, all)
       one i others false all = all
+
+      still_open : Invocation → Bool
+      still_open i = is_none (first_closing i.class i.timeout (marks_up_to past components i))
 
       go : (is : List Invocation) → AllByRecursion P (filter_map (ended_of dialogue past components) is)
       go [] = tt
       go (i ∷ is) =
-          one i (filter_map (ended_of dialogue past components) is)
-          ((i.dialogue == dialogue) && is_none (first_closing i.class i.timeout (marks_up_to past components i))) (go is)
+          one i (filter_map (ended_of dialogue past components) is) ((i.dialogue == dialogue) && still_open i) (go is)
 
-  module _ (by_user : (dialogue : ℕ) (pdu : Option PduValue) → P (Output.dialogue (DialogueIndication.u_abort dialogue pdu)))
-      (by_provider : (dialogue : ℕ) (why : AbortCause) → P (Output.dialogue (DialogueIndication.p_abort dialogue why))) where
+  module _ (by_user : (dialogue : ℕ) (pdu : Option PduValue) → P (told_u_abort dialogue pdu))
+      (by_provider : (dialogue : ℕ) (why : AbortCause) → P (told_p_abort dialogue why)) where
     of-portion : (dialogue : ℕ) (read : Result PduValue DialogueFault) → P (portion_told dialogue read)
     of-portion dialogue (Ok (abrt true info)) = by_provider dialogue AbortCause.abnormal
     of-portion dialogue (Ok (abrt false info)) = by_user dialogue (Some (abrt false info))
@@ -65,7 +76,8 @@ module _ (P : Output → Type 0) where
         pdu : Option PduValue
         pdu = Some (aare version1 context false diagnostic info)
 
-        chosen : (test : Bool) → P (if test then Output.dialogue (DialogueIndication.p_abort dialogue AbortCause.no_common) else Output.dialogue (DialogueIndication.u_abort dialogue pdu))
+        chosen : (test : Bool)
+            → P (if test then told_p_abort dialogue AbortCause.no_common else told_u_abort dialogue pdu)
         chosen true = by_provider dialogue AbortCause.no_common
         chosen false = by_user dialogue pdu
     of-portion dialogue (Ok (aarq version1 context info)) = by_provider dialogue AbortCause.abnormal
@@ -83,13 +95,14 @@ module _ (P : Output → Type 0) where
 pub record HoldsBesides (P : Output → Type 0) : Type 0 where
   pub sends : (bytes : List ℕ) → P (Output.send bytes)
   pub tells : (indication : DialogueIndication) → P (Output.dialogue indication)
-  pub ends : (dialogue number : ℕ) (id : ℤ) → P (Output.component (ComponentIndication.closed dialogue number id Closing.ended))
+  pub ends : (dialogue number : ℕ) (id : ℤ) → P (told_ended dialogue number id)
   pub drops : (why : DropCause) → P (Output.dropped why)
 
 -- and of what each component of a message tells: in a Unidirectional, in a dialogue that the bytes name,
 -- and in one that they give birth to
 pub record HoldsOfEach (P : Output → Type 0) (h : History) (bytes : List ℕ) (r : Reception) : Type 0 where
-  pub of_uni : (m : Message) → SpellsFrame m bytes → (item : Item) → IsReadIn (portion_of m) item → P (handled None None item).told
+  pub of_uni : (m : Message) → SpellsFrame m bytes → (item : Item) → IsReadIn (portion_of m) item
+      → P (handled None None item).told
   pub of_named : (m : Message) → SpellsFrame m bytes → (dialogue : ℕ) → names (Event.received bytes) dialogue ≡ true
       → OfEach dialogue h.pairs (portion_of m) (λ (c : Handled). P c.told)
   pub of_born : (m : Message) → SpellsFrame m bytes → first_begun (reception_outputs h r) ≡ Some (next_dialogue h)
@@ -103,22 +116,29 @@ module _ (P : Output → Type 0) (besides : HoldsBesides P) (bytes : List ℕ) w
     of-ended : (components : List Item) → AllByRecursion P (ended_in dialogue past components)
     of-ended components = each-ended P besides.ends dialogue past components
 
-    module _ (of_each : (m : Message) → SpellsFrame m bytes → OfEach dialogue past (portion_of m) (λ (c : Handled). P c.told)) where
-      of-told : (m : Message) → SpellsFrame m bytes → AllByRecursion P (told_of (handled_in dialogue past (portion_of m)))
+    module _ (of_each : (m : Message) → SpellsFrame m bytes
+        → OfEach dialogue past (portion_of m) (λ (c : Handled). P c.told)) where
+      of-told : (m : Message) → SpellsFrame m bytes
+          → AllByRecursion P (told_of (handled_in dialogue past (portion_of m)))
       of-told m spelled = each-told dialogue past (portion_of m) P (of_each m spelled)
 
-      of-message : (state : State) (context : Option (List ℕ)) (m : Message) → SpellsFrame m bytes → AllByRecursion P (message_outputs dialogue past state context m)
-      of-message state context (Message.go_on origin to portion components) spelled = go (portion_verdict state context portion)
+      of-message : (state : State) (context : Option (List ℕ)) (m : Message) → SpellsFrame m bytes
+          → AllByRecursion P (message_outputs dialogue past state context m)
+      of-message state context (Message.go_on origin to portion components) spelled =
+          go (portion_verdict state context portion)
         where
-          go : (verdict : PortionVerdict) → AllByRecursion P (continue_outputs dialogue past state origin components verdict)
-          go (PortionVerdict.normal told info) = (besides.tells _, of-told (Message.go_on origin to portion components) spelled)
+          go : (verdict : PortionVerdict)
+              → AllByRecursion P (continue_outputs dialogue past state origin components verdict)
+          go (PortionVerdict.normal told info) =
+              (besides.tells _, of-told (Message.go_on origin to portion components) spelled)
           go PortionVerdict.abnormal = (besides.sends _, (besides.tells _, of-ended []))
       of-message state context (Message.end to portion components) spelled = go (portion_verdict state context portion)
         where
           go : (verdict : PortionVerdict) → AllByRecursion P (end_outputs dialogue past components verdict)
           go (PortionVerdict.normal told info) = (
             besides.tells _,
-            each-append P (told_of (handled_in dialogue past components)) (ended_in dialogue past (components_of components))
+            each-append P (told_of (handled_in dialogue past components))
+                (ended_in dialogue past (components_of components))
                 (of-told (Message.end to portion components) spelled) (of-ended (components_of components)),
           )
           go PortionVerdict.abnormal = (besides.tells _, of-ended [])
@@ -127,43 +147,54 @@ module _ (P : Output → Type 0) (besides : HoldsBesides P) (bytes : List ℕ) w
       of-message state context (Message.unidirectional portion components) spelled = tt
       of-message state context (Message.begin origin portion components) spelled = tt
 
-      of-taken : (before : Life) (m : Message) → SpellsFrame m bytes → AllByRecursion P (taken_outputs dialogue past before m)
+      of-taken : (before : Life) (m : Message) → SpellsFrame m bytes
+          → AllByRecursion P (taken_outputs dialogue past before m)
       of-taken Life.unborn m spelled = tt
       of-taken (Life.standing state context) m spelled = of-message state context m spelled
       of-taken Life.over m spelled = tt
 
     of-broken : (cause : ℕ) (abort : Option Output) → IfSends abort
-        → AllByRecursion P (option_to_list abort ++ Output.dialogue (DialogueIndication.p_abort dialogue (AbortCause.cause cause)) ∷ ended_in dialogue past [])
+        → AllByRecursion P
+        (option_to_list abort ++ told_p_abort dialogue (AbortCause.cause cause) ∷ ended_in dialogue past [])
     of-broken cause None sends = (besides.tells _, of-ended [])
     of-broken cause (Some abort) sends = (of-sent abort sends, (besides.tells _, of-ended []))
 
   module _ (h : History) where
-    of-reception : (full : Bool) (live : ℕ → Bool) (r : Reception) → IsSound full bytes r → IsNamed live bytes r → HoldsOfEach P h bytes r → AllByRecursion P (reception_outputs h r)
+    of-reception : (full : Bool) (live : ℕ → Bool) (r : Reception) → IsSound full bytes r → IsNamed live bytes r
+        → HoldsOfEach P h bytes r → AllByRecursion P (reception_outputs h r)
     of-reception full live (Reception.dropped why) sound named each = (besides.drops why, tt)
     of-reception full live (Reception.aborted abort) sound named each = (of-sent abort sound, tt)
     of-reception full live (Reception.unidirectional context info components) sound named each =
         let m = Message.unidirectional sound.0 components in
         (besides.tells _, each-uni P components (each.of_uni m (frame_takes bytes m sound.1)))
     of-reception full live (Reception.begun origin context info components) sound named each =
-        let m = Message.begin origin sound.0 components in
-        (besides.tells _, each-told (next_dialogue h) h.pairs components P (each.of_born m (frame_takes bytes m sound.1) refl))
+        let m = Message.begin origin sound.0 components in (
+          besides.tells _,
+          each-told (next_dialogue h) h.pairs components P
+              (each.of_born m (frame_takes bytes m sound.1) refl),
+        )
     of-reception full live (Reception.taken dialogue message) sound named each =
-        of-taken dialogue h.pairs (λ m spelled. each.of_named m spelled dialogue named.0) (life dialogue h.pairs) message (frame_takes bytes message sound)
-    of-reception full live (Reception.broken dialogue abort cause) sound named each = of-broken dialogue h.pairs cause abort sound
+        of-taken dialogue h.pairs (λ m spelled. each.of_named m spelled dialogue named.0) (life dialogue h.pairs)
+        message (frame_takes bytes message sound)
+    of-reception full live (Reception.broken dialogue abort cause) sound named each =
+        of-broken dialogue h.pairs cause abort sound
 
 -- what becomes of the bytes at a history
 abbrev pub received_at : History → List ℕ → Reception
 received_at h bytes = reception (λ (dialogue : ℕ). live_in (life dialogue h.pairs)) (is_some (birth_due h)) bytes
 
-module _ (P : Output → Type 0) (besides : HoldsBesides P) (h : History) (bytes : List ℕ) (each : HoldsOfEach P h bytes (received_at h bytes)) where
+module _ (P : Output → Type 0) (besides : HoldsBesides P) (h : History) (bytes : List ℕ)
+    (each : HoldsOfEach P h bytes (received_at h bytes)) where
   pub each-received : AllByRecursion P (reception_outputs h (received_at h bytes))
   each-received =
       let live = λ (dialogue : ℕ). live_in (life dialogue h.pairs) in
       let full = is_some (birth_due h) in
-      of-reception P besides bytes h full live (received_at h bytes) (reception-sound live full bytes) (reception-named live full bytes) each
+      of-reception P besides bytes h full live (received_at h bytes) (reception-sound live full bytes)
+      (reception-named live full bytes) each
 
   pub one-received : (output : Output) → Tells (reply h (Event.received bytes)) output → P output
   one-received output tells =
-      let is : Answer.outputs (reception_outputs h (received_at h bytes)) ≡ Answer.outputs (tells.earlier ++ output ∷ tells.later) = tells.is_answer in
-      let same : reception_outputs h (received_at h bytes) ≡ tells.earlier ++ output ∷ tells.later = cc in
+      let whole = tells.earlier ++ output ∷ tells.later in
+      let is : Answer.outputs (reception_outputs h (received_at h bytes)) ≡ Answer.outputs whole = tells.is_answer in
+      let same : reception_outputs h (received_at h bytes) ≡ whole = cc in
       one-of P tells.earlier tells.later output (subst (AllByRecursion P) same each-received)

@@ -25,26 +25,38 @@ pub record IsFormedHere (problem : ProblemParts) : Type 0 where
 
 -- what comes of a component of a dialogue, where this invocation is Sent
 pub data ComesOf (dialogue : Option ℕ) : Option SentInvocation → Item → Handled → Type 0 where
-  an_invoke : (sent : Option SentInvocation) (id : ℤ) (linked : Option ℤ) (code : CodeParts) (parameter : Option (List ℕ))
-      → ComesOf dialogue sent (Ok (invoke id linked code parameter)) (telling (Output.component (ComponentIndication.invoked dialogue id linked code parameter)))
+  an_invoke : (sent : Option SentInvocation) (id : ℤ) (linked : Option ℤ) (code : CodeParts)
+      (parameter : Option (List ℕ))
+      → ComesOf dialogue sent (Ok (invoke id linked code parameter))
+      (telling (Output.component (ComponentIndication.invoked dialogue id linked code parameter)))
   not_sent : (item : Item) (id : ℤ) (problem : ProblemParts) → identifier_of item ≡ Some id → IsFormedHere problem
       → ComesOf dialogue None item (rejecting dialogue (Some id) problem)
   a_result_last : (sent : SentInvocation) (id : ℤ) (body : Option BodyParts)
       → ComesOf dialogue (Some sent) (Ok (result_last id body)) (closing sent id (Closing.result_last body))
   a_result_more : (sent : SentInvocation) (id : ℤ) (body : Option BodyParts)
-      → ComesOf dialogue (Some sent) (Ok (result_more id body)) (telling (Output.component (ComponentIndication.result_more sent.dialogue sent.number id body)))
+      → ComesOf dialogue (Some sent) (Ok (result_more id body))
+      (telling (Output.component (ComponentIndication.result_more sent.dialogue sent.number id body)))
   an_error : (sent : SentInvocation) (id : ℤ) (code : CodeParts) (parameter : Option (List ℕ))
-      → ComesOf dialogue (Some sent) (Ok (error_back id code parameter)) (closing sent id (Closing.error_back code parameter))
-  unexpected : (sent : SentInvocation) (item : Item) (id : ℤ) (problem : ProblemParts) → identifier_of item ≡ Some id → IsFormedHere problem
+      → ComesOf dialogue (Some sent) (Ok (error_back id code parameter))
+      (closing sent id (Closing.error_back code parameter))
+  unexpected : (sent : SentInvocation) (item : Item) (id : ℤ) (problem : ProblemParts)
+      → identifier_of item ≡ Some id → IsFormedHere problem
       → ComesOf dialogue (Some sent) item (closing_unexpected sent id problem)
-  by_provider : (sent : SentInvocation) (id : ℤ) (problem : ProblemParts) → is_of_answer problem.kind ≡ false → is_by_provider problem ≡ true
-      → ComesOf dialogue (Some sent) (Ok (reject_back (Some id) problem)) (closing sent id (Closing.rejected problem Rejector.remote_provider))
-  by_user : (sent : SentInvocation) (id : ℤ) (problem : ProblemParts) → is_of_answer problem.kind ≡ false → is_by_provider problem ≡ false
-      → ComesOf dialogue (Some sent) (Ok (reject_back (Some id) problem)) (closing sent id (Closing.rejected problem Rejector.remote_user))
+  by_provider : (sent : SentInvocation) (id : ℤ) (problem : ProblemParts)
+      → is_of_answer problem.kind ≡ false → is_by_provider problem ≡ true
+      → ComesOf dialogue (Some sent) (Ok (reject_back (Some id) problem))
+      (closing sent id (Closing.rejected problem Rejector.remote_provider))
+  by_user : (sent : SentInvocation) (id : ℤ) (problem : ProblemParts)
+      → is_of_answer problem.kind ≡ false → is_by_provider problem ≡ false
+      → ComesOf dialogue (Some sent) (Ok (reject_back (Some id) problem))
+      (closing sent id (Closing.rejected problem Rejector.remote_user))
   of_none : (sent : Option SentInvocation) (named : Option ℕ) (id : Option ℤ) (problem : ProblemParts)
       → ComesOf dialogue sent (Ok (reject_back id problem)) (remote named id problem)
   of_fault : (sent : Option SentInvocation) (f : FaultParts)
-      → ComesOf dialogue sent (Err f) (record { told = Output.component (ComponentIndication.local_reject dialogue f.id f.problem); reject = fault_reject f })
+      → ComesOf dialogue sent (Err f) (record {
+        told = Output.component (ComponentIndication.local_reject dialogue f.id f.problem);
+        reject = fault_reject f;
+      })
 
 unlinked-here : IsFormedHere unrecognized_linked
 unlinked-here = record { is_problem = omega arith; is_provided = refl }
@@ -61,9 +73,14 @@ no_error-here = record { is_problem = omega arith; is_provided = refl }
 error-here : IsFormedHere unexpected_error
 error-here = record { is_problem = omega arith; is_provided = refl }
 
+abbrev rejector_by : Bool → Rejector
+rejector_by provided = if provided then Rejector.remote_provider else Rejector.remote_user
+
 module _ (dialogue : Option ℕ) where
-  of-invoke : (sent : Option SentInvocation) (id : ℤ) (linked : Option ℤ) (code : CodeParts) (parameter : Option (List ℕ))
-      → ComesOf dialogue sent (Ok (invoke id linked code parameter)) (invoke_handled dialogue sent id linked code parameter)
+  of-invoke : (sent : Option SentInvocation) (id : ℤ) (linked : Option ℤ) (code : CodeParts)
+      (parameter : Option (List ℕ))
+      → ComesOf dialogue sent (Ok (invoke id linked code parameter))
+      (invoke_handled dialogue sent id linked code parameter)
   of-invoke sent id None code parameter = ComesOf.an_invoke sent id None code parameter
   of-invoke (Some sent) id (Some linked) code parameter = ComesOf.an_invoke (Some sent) id (Some linked) code parameter
   of-invoke None id (Some linked) code parameter =
@@ -89,10 +106,12 @@ module _ (dialogue : Option ℕ) where
 
   of-error : (sent : Option SentInvocation) (id : ℤ) (code : CodeParts) (parameter : Option (List ℕ))
       → ComesOf dialogue sent (Ok (error_back id code parameter)) (error_handled dialogue sent id code parameter)
-  of-error None id code parameter = ComesOf.not_sent (Ok (error_back id code parameter)) id unrecognized_error refl no_error-here
+  of-error None id code parameter =
+      ComesOf.not_sent (Ok (error_back id code parameter)) id unrecognized_error refl no_error-here
   of-error (Some sent) id code parameter = go (reports_failure sent.class)
     where
-      go : (good : Bool) → ComesOf dialogue (Some sent) (Ok (error_back id code parameter)) (error_by sent id code parameter good)
+      go : (good : Bool)
+          → ComesOf dialogue (Some sent) (Ok (error_back id code parameter)) (error_by sent id code parameter good)
       go true = ComesOf.an_error sent id code parameter
       go false = ComesOf.unexpected sent (Ok (error_back id code parameter)) id unexpected_error refl error-here
 
@@ -103,11 +122,13 @@ module _ (dialogue : Option ℕ) where
   of-reject (Some sent) (Some id) problem = go (is_of_answer problem.kind) refl
     where
       whose : is_of_answer problem.kind ≡ false → (provided : Bool) → is_by_provider problem ≡ provided
-          → ComesOf dialogue (Some sent) (Ok (reject_back (Some id) problem)) (closing sent id (Closing.rejected problem (if provided then Rejector.remote_provider else Rejector.remote_user)))
+          → ComesOf dialogue (Some sent) (Ok (reject_back (Some id) problem))
+          (closing sent id (Closing.rejected problem (rejector_by provided)))
       whose of true e = ComesOf.by_provider sent id problem of e
       whose of false e = ComesOf.by_user sent id problem of e
 
-      go : (of : Bool) → is_of_answer problem.kind ≡ of → ComesOf dialogue (Some sent) (Ok (reject_back (Some id) problem)) (reject_by sent id problem of)
+      go : (of : Bool) → is_of_answer problem.kind ≡ of
+          → ComesOf dialogue (Some sent) (Ok (reject_back (Some id) problem)) (reject_by sent id problem of)
       go true e = ComesOf.of_none (Some sent) (Some sent.dialogue) (Some id) problem
       go false e = whose e (is_by_provider problem) refl
 

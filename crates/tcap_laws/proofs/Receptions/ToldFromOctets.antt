@@ -70,14 +70,17 @@ StandsForItem (Err f) output = ⊥
 
 shows : (dialogue : Option ℕ) (sent : Option SentInvocation) (item : Item) (h : Handled) → ComesOf dialogue sent item h
     → IsOfComponent h.told → StandsForItem item h.told
-shows dialogue _ _ _ (ComesOf.an_invoke sent id linked code parameter) of = StandsFor.an_invoke dialogue id linked code parameter
+shows dialogue _ _ _ (ComesOf.an_invoke sent id linked code parameter) of =
+    StandsFor.an_invoke dialogue id linked code parameter
 shows dialogue _ _ _ (ComesOf.not_sent item id problem carries here) of = absurd (indicates _ of)
 shows dialogue _ _ _ (ComesOf.a_result_last sent id body) of = StandsFor.a_result_last sent.dialogue sent.number id body
 shows dialogue _ _ _ (ComesOf.a_result_more sent id body) of = StandsFor.a_result_more sent.dialogue sent.number id body
-shows dialogue _ _ _ (ComesOf.an_error sent id code parameter) of = StandsFor.an_error sent.dialogue sent.number id code parameter
+shows dialogue _ _ _ (ComesOf.an_error sent id code parameter) of =
+    StandsFor.an_error sent.dialogue sent.number id code parameter
 shows dialogue _ _ _ (ComesOf.unexpected sent item id problem carries here) of = absurd (indicates _ of)
 shows dialogue _ _ _ (ComesOf.by_provider sent id problem kind provided) of = absurd (indicates _ of)
-shows dialogue _ _ _ (ComesOf.by_user sent id problem kind provided) of = StandsFor.a_reject sent.dialogue sent.number id problem
+shows dialogue _ _ _ (ComesOf.by_user sent id problem kind provided) of =
+    StandsFor.a_reject sent.dialogue sent.number id problem
 shows dialogue _ _ _ (ComesOf.of_none sent named id problem) of = absurd (indicates _ of)
 shows dialogue _ _ _ (ComesOf.of_fault sent f) of = indicates _ of
 
@@ -99,7 +102,8 @@ besides-stand event = record {
 }
 
 module _ (bytes : List ℕ) (m : Message) (spelled : SpellsFrame m bytes) where
-  one-stands : (item : Item) → IsReadIn (portion_of m) item → (output : Output) → (IsOfComponent output → StandsForItem item output)
+  one-stands : (item : Item) → IsReadIn (portion_of m) item → (output : Output)
+      → (IsOfComponent output → StandsForItem item output)
       → StandsForOne (Event.received bytes) output
   one-stands (Ok c) read output shown of = record {
     bytes = bytes;
@@ -118,13 +122,18 @@ module _ (bytes : List ℕ) (m : Message) (spelled : SpellsFrame m bytes) where
   handled-stands : (dialogue : Option ℕ) (sent : Option SentInvocation) (item : Item) → IsReadIn (portion_of m) item
       → StandsForOne (Event.received bytes) (handled dialogue sent item).told
   handled-stands dialogue sent item read =
-      one-stands item read (handled dialogue sent item).told (shows dialogue sent item (handled dialogue sent item) (comes_of dialogue sent item))
+      one-stands item read (handled dialogue sent item).told
+      (shows dialogue sent item (handled dialogue sent item) (comes_of dialogue sent item))
 
-each-stands : (h : History) (bytes : List ℕ) (r : Reception) → HoldsOfEach (StandsForOne (Event.received bytes)) h bytes r
+each-stands : (h : History) (bytes : List ℕ) (r : Reception)
+    → HoldsOfEach (StandsForOne (Event.received bytes)) h bytes r
 each-stands h bytes r = record {
   of_uni = λ m spelled. handled-stands bytes m spelled None None;
-  of_named = λ m spelled dialogue named earlier item read. handled-stands bytes m spelled (Some dialogue) (sent_there dialogue h.pairs earlier (subject_of item)) item read;
-  of_born = λ m spelled begun earlier item read. handled-stands bytes m spelled (Some (next_dialogue h)) (sent_there (next_dialogue h) h.pairs earlier (subject_of item)) item read;
+  of_named = λ m spelled dialogue named earlier item read.
+      handled-stands bytes m spelled (Some dialogue) (sent_there dialogue h.pairs earlier (subject_of item)) item read;
+  of_born = λ m spelled begun earlier item read.
+      let next = next_dialogue h in
+      handled-stands bytes m spelled (Some next) (sent_there next h.pairs earlier (subject_of item)) item read;
 }
 
 ended-stand : (event : Event) (dialogue : ℕ) (past : Past) (components : List Item) → AllStand event (ended_in dialogue past components)
@@ -177,7 +186,8 @@ moment-stands event past now None = chosen (nat_lt now (clock past))
   where
     chosen : (early : Bool) → AnswerStands event (if early then Answer.outputs [] else Answer.outputs (lapses past now))
     chosen true = tt
-    chosen false = each-map (StandsForOne event) lapse_told (λ l of. absurd (indicates _ of)) (in_order lapse_key (filter_map (lapsing_at past now) (invocations past)))
+    chosen false = each-map (StandsForOne event) lapse_told (λ l of. absurd (indicates _ of))
+        (in_order lapse_key (filter_map (lapsing_at past now) (invocations past)))
 
 birth-stands : (event : Event) (h : History) (fault : Option Fault) → AnswerStands event (birth_answer h fault)
 birth-stands event h (Some f) = tt
@@ -187,7 +197,8 @@ reply-stands : (h : History) (event : Event) → AnswerStands event (reply h eve
 reply-stands h Event.new_dialogue = birth-stands Event.new_dialogue h (birth_due h)
 reply-stands h (Event.on_dialogue dialogue request) = request-stands (Event.on_dialogue dialogue request) h dialogue request (life dialogue h.pairs) (due h dialogue request)
 reply-stands h (Event.received bytes) =
-    each-received (StandsForOne (Event.received bytes)) (besides-stand (Event.received bytes)) h bytes (each-stands h bytes (received_at h bytes))
+    each-received (StandsForOne (Event.received bytes)) (besides-stand (Event.received bytes)) h bytes
+    (each-stands h bytes (received_at h bytes))
 reply-stands h (Event.moment now) = moment-stands (Event.moment now) h.pairs now (moment_fault now)
 
 -- ---- legal histories

@@ -28,7 +28,8 @@ IsTold (Output.dropped why) = Unit {0}
 abbrev pub AreTold : List Output → Type 0
 AreTold outputs = AllByRecursion IsTold outputs
 
-is-told : (dialogue : Option ℕ) (sent : Option SentInvocation) (item : Item) (h : Handled) → ComesOf dialogue sent item h → IsTold h.told
+is-told : (dialogue : Option ℕ) (sent : Option SentInvocation) (item : Item) (h : Handled)
+    → ComesOf dialogue sent item h → IsTold h.told
 is-told _ _ _ _ (ComesOf.an_invoke sent id linked code parameter) = tt
 is-told _ _ _ _ (ComesOf.not_sent item id problem carries here) = tt
 is-told _ _ _ _ (ComesOf.a_result_last sent id body) = tt
@@ -40,12 +41,13 @@ is-told _ _ _ _ (ComesOf.by_user sent id problem of provided) = tt
 is-told _ _ _ _ (ComesOf.of_none sent named id problem) = tt
 is-told _ _ _ _ (ComesOf.of_fault sent f) = tt
 
-handled-told : (dialogue : Option ℕ) (sent : Option SentInvocation) (item : Item) → IsTold (handled dialogue sent item).told
+handled-told : (dialogue : Option ℕ) (sent : Option SentInvocation) (item : Item)
+    → IsTold (handled dialogue sent item).told
 handled-told dialogue sent item = is-told dialogue sent item (handled dialogue sent item) (comes_of dialogue sent item)
 
 pub components-told : (dialogue : ℕ) (past : Past) (components : List ℕ) → AreTold (told_of (handled_in dialogue past components))
-components-told dialogue past components =
-    each-told dialogue past components IsTold (λ earlier item read. handled-told (Some dialogue) (sent_there dialogue past earlier (subject_of item)) item)
+components-told dialogue past components = each-told dialogue past components IsTold (λ earlier item read.
+    handled-told (Some dialogue) (sent_there dialogue past earlier (subject_of item)) item)
 
 pub uni-told : (items : List Item) → AreTold (uni_told items)
 uni-told items = each-map IsTold (λ item. (handled None None item).told) (handled-told None None) items

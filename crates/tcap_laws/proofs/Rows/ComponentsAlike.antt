@@ -36,7 +36,8 @@ use Rattle.tcap_model.specs.Invocations.SentThere.{if_sent, marks_up_to, sent_th
 
 -- ---- the marks of answers
 
-last_stays : (body : Option BodyParts) (class : Class) → is_none (closing_by_last class body) ≡ stays class Received.return_result_last
+last_stays : (body : Option BodyParts) (class : Class)
+    → is_none (closing_by_last class body) ≡ stays class Received.return_result_last
 last_stays body One = refl
 last_stays body Two = refl
 last_stays body Three = refl
@@ -54,6 +55,11 @@ error_stays code parameter One = refl
 error_stays code parameter Two = refl
 error_stays code parameter Three = refl
 error_stays code parameter Four = refl
+
+mark_of_reject : (problem : ProblemParts) → is_of_answer problem.kind ≡ false
+    → IsMarkOf (Received.reject problem.kind) (Mark.reject problem)
+mark_of_reject problem of =
+    record { sends_not = refl; closes = λ class timeout sent. sym (reject_stays class problem.kind ∙ of) }
 
 -- ---- one component
 
@@ -149,17 +155,21 @@ sent-kept received all id rows after l k = l.sent k ∙ go (int_eq id k) (sent_a
 module _ (dialogue : ℕ) (past : Past) (list : InvocationList) (earlier : List Item) (read : AreRead earlier) (like : IsLike dialogue past list.rows earlier) where
   like_reject : (id : ℤ) (problem : ProblemParts) (k : Kind) → problem.kind ≡ k → IsLike dialogue past (after_item (clock past) list (Ok (ComponentParts.reject_back (Some id) problem))).rows (earlier ++ Ok (ComponentParts.reject_back (Some id) problem) ∷ [])
   like_reject id problem kind.General e = like_answer dialogue past list.rows earlier read like (ComponentParts.reject_back (Some id) problem) id (Received.reject problem.kind) (Mark.reject problem)
-      (record { sends_not = refl; closes = λ class timeout sent. sym (reject_stays class problem.kind ∙ ap is_of_answer e) })
+      (mark_of_reject problem (ap is_of_answer e))
       (λ n. ap (reject_marks n id problem) e) (after_item (clock past) list (Ok (ComponentParts.reject_back (Some id) problem))).rows (reject_leaves list id problem.kind like.distinct)
   like_reject id problem kind.Invoke e = like_answer dialogue past list.rows earlier read like (ComponentParts.reject_back (Some id) problem) id (Received.reject problem.kind) (Mark.reject problem)
-      (record { sends_not = refl; closes = λ class timeout sent. sym (reject_stays class problem.kind ∙ ap is_of_answer e) })
+      (mark_of_reject problem (ap is_of_answer e))
       (λ n. ap (reject_marks n id problem) e) (after_item (clock past) list (Ok (ComponentParts.reject_back (Some id) problem))).rows (reject_leaves list id problem.kind like.distinct)
   like_reject id problem kind.Result e = like_same dialogue past list.rows earlier read like (ComponentParts.reject_back (Some id) problem)
       (λ n. ap (reject_marks n id problem) e) (after_item (clock past) list (Ok (ComponentParts.reject_back (Some id) problem))).rows (reject_leaves list id problem.kind like.distinct).distinct
-      (sent-kept (Received.reject problem.kind) (λ class. reject_stays class problem.kind ∙ ap is_of_answer e) id list.rows (after_item (clock past) list (Ok (ComponentParts.reject_back (Some id) problem))).rows (reject_leaves list id problem.kind like.distinct))
+      (sent-kept (Received.reject problem.kind) (λ class. reject_stays class problem.kind ∙ ap is_of_answer e) id
+      list.rows (after_item (clock past) list (Ok (ComponentParts.reject_back (Some id) problem))).rows
+      (reject_leaves list id problem.kind like.distinct))
   like_reject id problem kind.Error e = like_same dialogue past list.rows earlier read like (ComponentParts.reject_back (Some id) problem)
       (λ n. ap (reject_marks n id problem) e) (after_item (clock past) list (Ok (ComponentParts.reject_back (Some id) problem))).rows (reject_leaves list id problem.kind like.distinct).distinct
-      (sent-kept (Received.reject problem.kind) (λ class. reject_stays class problem.kind ∙ ap is_of_answer e) id list.rows (after_item (clock past) list (Ok (ComponentParts.reject_back (Some id) problem))).rows (reject_leaves list id problem.kind like.distinct))
+      (sent-kept (Received.reject problem.kind) (λ class. reject_stays class problem.kind ∙ ap is_of_answer e) id
+      list.rows (after_item (clock past) list (Ok (ComponentParts.reject_back (Some id) problem))).rows
+      (reject_leaves list id problem.kind like.distinct))
 
   pub like_item : (c : ComponentParts) → IsLike dialogue past (after_item (clock past) list (Ok c)).rows (earlier ++ Ok c ∷ [])
   like_item (ComponentParts.invoke id linked code parameter) = like_same dialogue past list.rows earlier read like (ComponentParts.invoke id linked code parameter) (λ k. refl) list.rows like.distinct (λ k. refl)

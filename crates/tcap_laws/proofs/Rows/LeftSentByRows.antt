@@ -154,7 +154,8 @@ module _ (rows : List Row) (id : ℤ) (received : Received) (distinct : IsDistin
 
 module _ (list : InvocationList) (id : ℤ) (k : Kind) (distinct : IsDistinct int_eq (keys_of list.rows)) where
   reject_step : (e : Entry) → sent_at list.rows id ≡ Some e → (of : Bool) → is_of_answer k ≡ of
-      → LeavesSent (Received.reject k) id list.rows (freed list id (is_some (rejected_number (rejecting of) e.number))).rows
+      → LeavesSent (Received.reject k) id list.rows
+      (freed list id (is_some (rejected_number (rejecting of) e.number))).rows
   reject_step e is true q =
       unchanged list.rows id (Received.reject k) distinct
       (left_is list.rows id (Received.reject k) distinct e is true (reject_stays e.class k ∙ q) ∙ sym is)
@@ -163,8 +164,10 @@ module _ (list : InvocationList) (id : ℤ) (k : Kind) (distinct : IsDistinct in
   pub reject_leaves : LeavesSent (Received.reject k) id list.rows (after_reject list id k).rows
   reject_leaves = go (sent_at list.rows id) refl
     where
-      go : (o : Option Entry) → sent_at list.rows id ≡ o → LeavesSent (Received.reject k) id list.rows (freed list id (is_some (rejected_for o k))).rows
+      go : (o : Option Entry) → sent_at list.rows id ≡ o
+          → LeavesSent (Received.reject k) id list.rows (freed list id (is_some (rejected_for o k))).rows
       go None q = unchanged list.rows id (Received.reject k) distinct (ap (left (Received.reject k)) q ∙ sym q)
       go (Some e) q =
-          subst (λ c. LeavesSent (Received.reject k) id list.rows (freed list id (is_some (rejected_number c e.number))).rows)
+          subst (λ c. LeavesSent (Received.reject k) id list.rows
+          (freed list id (is_some (rejected_number c e.number))).rows)
           (sym (reject_rule e.class k)) (reject_step e q (is_of_answer k) refl)

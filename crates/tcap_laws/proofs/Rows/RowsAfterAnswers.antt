@@ -61,10 +61,13 @@ module _ (list : InvocationList) (id : ℤ) (k : Kind) (until : ℕ) (distinct :
   abbrev rejected_rows : List Row
   rejected_rows = answered_rows list.rows id (Received.reject k) until distinct
 
-  reject_moves_by : (e : Entry) → entry_at list.rows id ≡ Some e → (deadline : ℕ) → e.stage ≡ Sent deadline → (of : Bool) → class_rule e.class (Received.reject k) ≡ rejecting of
+  reject_moves_by : (e : Entry) → entry_at list.rows id ≡ Some e → (deadline : ℕ) → e.stage ≡ Sent deadline
+      → (of : Bool) → class_rule e.class (Received.reject k) ≡ rejecting of
       → (freed list id (is_some (rejected_number (rejecting of) e.number))).rows ≡ rejected_rows
-  reject_moves_by e at deadline q true w = by_consequence list.rows id (Received.reject k) until distinct e at deadline q Consequence.not_of_the_invoke w
-  reject_moves_by e at deadline q false w = by_consequence list.rows id (Received.reject k) until distinct e at deadline q Consequence.rejected w
+  reject_moves_by e at deadline q true w =
+      by_consequence list.rows id (Received.reject k) until distinct e at deadline q Consequence.not_of_the_invoke w
+  reject_moves_by e at deadline q false w =
+      by_consequence list.rows id (Received.reject k) until distinct e at deadline q Consequence.rejected w
 
   pub reject_moves : (after_reject list id k).rows ≡ rejected_rows
   reject_moves = by_entry list.rows id (Received.reject k) until distinct (λ o. (freed list id (is_some (rejected_for o k))).rows) refl

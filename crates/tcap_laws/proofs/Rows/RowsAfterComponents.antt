@@ -147,9 +147,11 @@ module _ (start : Start) (past : Past) (legal : AreReplies start past) (reject_m
     freed_wait id false = refl
 
     -- a Reject of the Invoke
-    invoke_at : (id : ℤ) (problem : ProblemParts) → is_of_answer problem.kind ≡ false → ((k : ℤ) → reject_marks k id problem problem.kind ≡ marked k id (Mark.reject problem))
+    invoke_at : (id : ℤ) (problem : ProblemParts) → is_of_answer problem.kind ≡ false
+        → ((k : ℤ) → reject_marks k id problem problem.kind ≡ marked k id (Mark.reject problem))
         → IsAt (earlier ++ Ok (ComponentParts.reject_back (Some id) problem) ∷ []) (after_reject list id problem.kind)
-    invoke_at id problem of marks = answer_at (ComponentParts.reject_back (Some id) problem) id (Received.reject problem.kind) (Mark.reject problem) (reject_frees until problem.kind of) marks
+    invoke_at id problem of marks = answer_at (ComponentParts.reject_back (Some id) problem) id
+        (Received.reject problem.kind) (Mark.reject problem) (reject_frees until problem.kind of) marks
         (after_reject list id problem.kind) (freed_wait id (is_some (rejected_at list.rows id problem.kind))) (reject_moves list id problem.kind (clock past + list.reject_ms) at.distinct)
 
     -- a Reject of an answer from here
@@ -173,8 +175,10 @@ module _ (start : Start) (past : Past) (legal : AreReplies start past) (reject_m
             go false = refl
 
     reject_at : (id : ℤ) (problem : ProblemParts) (k : Kind) → problem.kind ≡ k → IsAt (earlier ++ Ok (ComponentParts.reject_back (Some id) problem) ∷ []) (after_reject list id problem.kind)
-    reject_at id problem kind.General e = invoke_at id problem (ap is_of_answer e) (λ n. ap (reject_marks n id problem) e)
-    reject_at id problem kind.Invoke e = invoke_at id problem (ap is_of_answer e) (λ n. ap (reject_marks n id problem) e)
+    reject_at id problem kind.General e =
+        invoke_at id problem (ap is_of_answer e) (λ n. ap (reject_marks n id problem) e)
+    reject_at id problem kind.Invoke e =
+        invoke_at id problem (ap is_of_answer e) (λ n. ap (reject_marks n id problem) e)
     reject_at id problem kind.Result e = own_at id problem (λ n. ap (reject_marks n id problem) e)
         (reject_keeps (clock past + list.reject_ms) problem.kind (ap is_of_answer e))
     reject_at id problem kind.Error e = own_at id problem (λ n. ap (reject_marks n id problem) e)

@@ -61,14 +61,16 @@ rejected_stage (Waiting u) = Some (Waiting u)
 pub reject_frees : (until : ℕ) (k : Kind) → is_of_answer k ≡ false → (class : Class) (s : Stage)
     → rejected_stage s ≡ answered_stage until (Received.reject k) class s
 reject_frees until k of class (Queued timeout) = refl
-reject_frees until k of class (Sent deadline) = sym (ap (answered_by until (Sent deadline)) (reject_rule class k ∙ ap rejecting of))
+reject_frees until k of class (Sent deadline) =
+    sym (ap (answered_by until (Sent deadline)) (reject_rule class k ∙ ap rejecting of))
 reject_frees until k of class (Waiting u) = refl
 
 -- a Reject of an answer from here leaves each stage
 pub reject_keeps : (until : ℕ) (k : Kind) → is_of_answer k ≡ true → (class : Class) (s : Stage)
     → answered_stage until (Received.reject k) class s ≡ Some s
 reject_keeps until k of class (Queued timeout) = refl
-reject_keeps until k of class (Sent deadline) = ap (answered_by until (Sent deadline)) (reject_rule class k ∙ ap rejecting of)
+reject_keeps until k of class (Sent deadline) =
+    ap (answered_by until (Sent deadline)) (reject_rule class k ∙ ap rejecting of)
 reject_keeps until k of class (Waiting u) = refl
 
 -- the user gives it up, or the dialogue ends
@@ -123,14 +125,16 @@ module _ (until clock timeout : ℕ) (class : Class) where
       go false = refl
 
   -- an answer that closes an invocation that is Sent, or leaves it
-  last_steps : (body : Option BodyParts) (sent : ℕ) (class : Class) → closed_stage until timeout (option_or (closing_by_last class body) None) (Some sent)
+  last_steps : (body : Option BodyParts) (sent : ℕ) (class : Class)
+      → closed_stage until timeout (option_or (closing_by_last class body) None) (Some sent)
       ≡ answered_by until (Sent (sent + timeout)) (class_rule class Received.return_result_last)
   last_steps body sent One = refl
   last_steps body sent Two = refl
   last_steps body sent Three = refl
   last_steps body sent Four = refl
 
-  more_steps : (sent : ℕ) (class : Class) → closed_stage until timeout (option_or (closing_by_more class) None) (Some sent)
+  more_steps : (sent : ℕ) (class : Class)
+      → closed_stage until timeout (option_or (closing_by_more class) None) (Some sent)
       ≡ answered_by until (Sent (sent + timeout)) (class_rule class Received.return_result_not_last)
   more_steps sent One = refl
   more_steps sent Two = refl

@@ -14,15 +14,21 @@ use Rattle.tcap_model.specs.Words.Output.{Output, Closing, Rejector, ComponentIn
 -- what is told and rejected, and how the invocation is closed (Q.774, Component sublayer procedures).
 pub data IsLine (sent : SentInvocation) (id : ℤ) : Consequence → Handled → Option Closing → Type 0 where
   a_result : (body : Option BodyParts) →
-      IsLine sent id Consequence.result_last (closing sent id (Closing.result_last body)) (Some (Closing.result_last body))
+      IsLine sent id Consequence.result_last (closing sent id (Closing.result_last body))
+      (Some (Closing.result_last body))
   a_part : (body : Option BodyParts) →
-      IsLine sent id Consequence.result_more (telling (Output.component (ComponentIndication.result_more sent.dialogue sent.number id body))) None
+      IsLine sent id Consequence.result_more
+      (telling (Output.component (ComponentIndication.result_more sent.dialogue sent.number id body))) None
   an_error : (code : CodeParts) (parameter : Option (List ℕ)) →
-      IsLine sent id Consequence.error_back (closing sent id (Closing.error_back code parameter)) (Some (Closing.error_back code parameter))
-  no_result : IsLine sent id Consequence.rejected_result (closing_unexpected sent id unexpected_result) (Some (Closing.rejected unexpected_result Rejector.local))
-  no_error : IsLine sent id Consequence.rejected_error (closing_unexpected sent id unexpected_error) (Some (Closing.rejected unexpected_error Rejector.local))
+      IsLine sent id Consequence.error_back (closing sent id (Closing.error_back code parameter))
+      (Some (Closing.error_back code parameter))
+  no_result : IsLine sent id Consequence.rejected_result (closing_unexpected sent id unexpected_result)
+      (Some (Closing.rejected unexpected_result Rejector.local))
+  no_error : IsLine sent id Consequence.rejected_error (closing_unexpected sent id unexpected_error)
+      (Some (Closing.rejected unexpected_error Rejector.local))
   a_reject : (problem : ProblemParts) →
-      IsLine sent id Consequence.rejected (closing sent id (Closing.rejected problem (remote_rejector problem))) (Some (Closing.rejected problem (remote_rejector problem)))
+      IsLine sent id Consequence.rejected (closing sent id (Closing.rejected problem (remote_rejector problem)))
+      (Some (Closing.rejected problem (remote_rejector problem)))
   of_an_answer : (problem : ProblemParts) →
       IsLine sent id Consequence.not_of_the_invoke (remote (Some sent.dialogue) (Some id) problem) None
 
