@@ -1,6 +1,6 @@
 -- Three nets in which an answer comes ahead of its Invoke: each breaks one premise of "after the
 -- Invoke" and keeps the others.
-use Rattle.std.proofs.Common.{◌≡◌, pos, [], ◌∷◌, None, refl, arith}
+use Rattle.std.proofs.Common.{◌≡◌, ℕ, pos, [], ◌∷◌, None, refl, arith}
 use Rattle.std.specs.Prelude.{drop, take}
 use Rattle.tcap_component.specs.Component.{CodeParts}
 use Rattle.tcap_invocation.specs.declared.class.Class.TheVariants.{One}
@@ -11,10 +11,17 @@ use Rattle.tcap_examples.specs.Computing.{computing}
 use Rattle.tcap_model.specs.Replies.Legal.{IsLegal}
 use Rattle.tcap_model.specs.Statements.Net.{Engine, IsNet, side, history_in}
 use Rattle.tcap_model.specs.Words.Output.{Output, ComponentIndication, DialogueIndication}
+use Rattle.tcap_model.specs.Statements.Places.{StandsIn}
+use Rattle.tcap_model.specs.Invocations.Invocation.{Invocation}
+use Rattle.tcap_model.specs.Histories.Pair.{Pair}
 use Rattle.tcap_model.specs.Statements.TwoEnds.{IsAnswer, UsesOnce, AnswersInvoke, AnswersWhatItWasTold, WasOpened}
 use Rattle.tcap_examples.specs.Nets.PlayedNets.{invoked, answer, result_continue, used_again, IsAnsweredAhead, second_invoke, answered_ahead, heard_as_one}
 use Rattle.tcap_examples.specs.Values.HistoryWords.{dialogue_born, invoke_pair, request_pair, received_pair, continued, empty_result}
 use Rattle.tcap_examples.specs.Values.Hex.{hex}
+
+-- The result that closes the invocation of a number.
+abbrev closes : ℕ → Output
+closes number = Output.component (ComponentIndication.closed 1 number (pos 1) empty_result)
 
 -- ---- an answer ahead
 
@@ -22,15 +29,21 @@ pub ahead-uses_once : UsesOnce Engine.a 1 answered_ahead.trace
 ahead-uses_once = uses_once Engine.a 1 1 answered_ahead.trace (tt, (tt, ((λ own. refl), (tt, (tt, (tt, tt))))))
 
 pub ahead-opened : WasOpened Engine.a 1 answered_ahead.trace
-ahead-opened = record { pair = dialogue_born 1; before = []; stands = record { later = take 5 (side Engine.a answered_ahead.trace); is_past = refl }; is_event = refl; is_answer = refl }
+ahead-opened = record {
+  pair = dialogue_born 1;
+  before = [];
+  stands = record { later = take 5 (side Engine.a answered_ahead.trace); is_past = refl };
+  is_event = refl;
+  is_answer = refl;
+}
 
 pub ahead-fails : IsAnsweredAhead Engine.a 1 1 answered_ahead.trace
 unfolding computing
 ahead-fails = record {
-  pair = received_pair result_continue (continued 1 ∷ Output.component (ComponentIndication.closed 1 1 (pos 1) empty_result) ∷ []);
+  pair = received_pair result_continue (continued 1 ∷ closes 1 ∷ []);
   before = drop 1 answered_ahead.trace;
   id = pos 1;
-  output = Output.component (ComponentIndication.closed 1 1 (pos 1) empty_result);
+  output = closes 1;
   request_pair = answer;
   asked = request_pair 1 answer Answer.done;
   earlier = drop 5 answered_ahead.trace;
@@ -45,7 +58,10 @@ ahead-fails = record {
 pub ahead-untold : AnswersWhatItWasTold Engine.b answered_ahead.trace → ⊥
 ahead-untold told =
     let past = side Engine.b answered_ahead.trace in
-    not_told 1 (pos 1) (drop 2 past) (refl, (refl, tt)) (told (request_pair 1 answer Answer.done) (drop 2 past) 1 (pos 1) answer (record { later = take 1 past; is_past = refl }) refl refl (AnswersInvoke.a_result_last None))
+    let asked = request_pair 1 answer Answer.done in
+    let stands : StandsIn asked (drop 2 past) past = record { later = take 1 past; is_past = refl } in
+    let invoked = told asked (drop 2 past) 1 (pos 1) answer stands refl refl (AnswersInvoke.a_result_last None) in
+    not_told 1 (pos 1) (drop 2 past) (refl, (refl, tt)) invoked
 
 -- ---- two dialogues heard as one
 
@@ -55,10 +71,14 @@ heard-legal Engine.a = (refl, (refl, refl, (refl, refl, (refl, refl, (refl, refl
 heard-legal Engine.b = (refl, (refl, refl, (refl, refl, (refl, refl, (refl, refl, (refl, refl, (refl, refl, tt)))))))
 
 pub heard-net : IsNet heard_as_one
-heard-net = record { is_legal = heard-legal; is_carried = (refl, (tt, (tt, (tt, (tt, (refl, (tt, (tt, (refl, (tt, (refl, (refl, (tt, (tt, tt)))))))))))))) }
+heard-net = record {
+  is_legal = heard-legal;
+  is_carried = (refl, (tt, (tt, (tt, (tt, (refl, (tt, (tt, (refl, (tt, (refl, (refl, (tt, (tt, tt))))))))))))));
+}
 
 pub heard-uses_once : UsesOnce Engine.a 1 heard_as_one.trace
-heard-uses_once = uses_once Engine.a 1 2 heard_as_one.trace (tt, (tt, ((λ own. refl), (tt, ((λ other. absurd (omega (arith, other))), (tt, (tt, (tt, tt))))))))
+heard-uses_once = uses_once Engine.a 1 2 heard_as_one.trace
+    (tt, (tt, ((λ own. refl), (tt, ((λ other. absurd (omega (arith, other))), (tt, (tt, (tt, tt))))))))
 
 pub heard-answers : AnswersWhatItWasTold Engine.b heard_as_one.trace
 heard-answers = answers_what_it_was_told Engine.b heard_as_one.trace (
@@ -80,10 +100,10 @@ heard-answers = answers_what_it_was_told Engine.b heard_as_one.trace (
 pub heard-fails : IsAnsweredAhead Engine.a 1 2 heard_as_one.trace
 unfolding computing
 heard-fails = record {
-  pair = received_pair result_continue (continued 1 ∷ Output.component (ComponentIndication.closed 1 2 (pos 1) empty_result) ∷ []);
+  pair = received_pair result_continue (continued 1 ∷ closes 2 ∷ []);
   before = drop 1 heard_as_one.trace;
   id = pos 1;
-  output = Output.component (ComponentIndication.closed 1 2 (pos 1) empty_result);
+  output = closes 2;
   request_pair = answer;
   asked = request_pair 1 answer Answer.done;
   earlier = drop 5 heard_as_one.trace;
@@ -96,9 +116,13 @@ heard-fails = record {
 }
 
 pub heard-not_opened : WasOpened Engine.a 1 heard_as_one.trace → ⊥
-heard-not_opened = not_opened Engine.a 1 heard_as_one.trace (refl, (refl, (refl, (refl, (refl, (refl, (refl, (refl, tt))))))))
+heard-not_opened =
+    not_opened Engine.a 1 heard_as_one.trace (refl, (refl, (refl, (refl, (refl, (refl, (refl, (refl, tt))))))))
 
 -- ---- an identifier used again
+
+abbrev begun : Output
+begun = Output.dialogue (DialogueIndication.begin 1 None [])
 
 again-legal : (engine : Engine) → IsLegal (history_in used_again engine used_again.trace)
 unfolding computing
@@ -106,35 +130,44 @@ again-legal Engine.a = (refl, (refl, refl, (refl, refl, (refl, refl, (refl, refl
 again-legal Engine.b = (refl, (refl, refl, (refl, refl, (refl, refl, tt))))
 
 pub again-net : IsNet used_again
-again-net = record { is_legal = again-legal; is_carried = (refl, (tt, (tt, (tt, (refl, (tt, (tt, (refl, (tt, (tt, (tt, tt))))))))))) }
+again-net = record {
+  is_legal = again-legal;
+  is_carried = (refl, (tt, (tt, (tt, (refl, (tt, (tt, (refl, (tt, (tt, (tt, tt)))))))))));
+}
 
 pub again-answers : AnswersWhatItWasTold Engine.b used_again.trace
 again-answers = answers_what_it_was_told Engine.b used_again.trace (
   tt,
   (
     record {
-      pair = received_pair (hex 18 0x6210_480400000001_6C08_A106_020101_02010A) (Output.dialogue (DialogueIndication.begin 1 None []) ∷ invoked 1 ∷ []);
+      pair = received_pair (hex 18 0x6210_480400000001_6C08_A106_020101_02010A) (begun ∷ invoked 1 ∷ []);
       before = [];
       linked = None;
       code = CodeParts.local (pos 10);
       parameter = None;
       stands = record { later = []; is_past = refl };
-      tells = record { earlier = Output.dialogue (DialogueIndication.begin 1 None []) ∷ []; later = []; is_answer = refl };
+      tells = record { earlier = begun ∷ []; later = []; is_answer = refl };
     },
     (tt, tt),
   ),
 )
 
 pub again-opened : WasOpened Engine.a 1 used_again.trace
-again-opened = record { pair = dialogue_born 1; before = []; stands = record { later = take 7 (side Engine.a used_again.trace); is_past = refl }; is_event = refl; is_answer = refl }
+again-opened = record {
+  pair = dialogue_born 1;
+  before = [];
+  stands = record { later = take 7 (side Engine.a used_again.trace); is_past = refl };
+  is_event = refl;
+  is_answer = refl;
+}
 
 pub again-fails : IsAnsweredAhead Engine.a 1 2 used_again.trace
 unfolding computing
 again-fails = record {
-  pair = received_pair result_continue (continued 1 ∷ Output.component (ComponentIndication.closed 1 2 (pos 1) empty_result) ∷ []);
+  pair = received_pair result_continue (continued 1 ∷ closes 2 ∷ []);
   before = drop 1 used_again.trace;
   id = pos 1;
-  output = Output.component (ComponentIndication.closed 1 2 (pos 1) empty_result);
+  output = closes 2;
   request_pair = answer;
   asked = request_pair 1 answer Answer.done;
   earlier = drop 7 used_again.trace;
@@ -150,10 +183,13 @@ again-fails = record {
 pub again-used_twice : UsesOnce Engine.a 1 used_again.trace → ⊥
 again-used_twice once =
     let past = side Engine.a used_again.trace in
-    let same : 1 ≡ 2 = once
-    (invoke_pair 1 (pos 1) One (pos 10) 5000 (Answer.number 1)) (invoke_pair 1 (pos 1) One (pos 10) 5000 (Answer.number 2)) (drop 7 past) (drop 3 past)
-    (record { number = 1; dialogue = 1; id = pos 1; class = One; timeout = 5000 }) (record { number = 2; dialogue = 1; id = pos 1; class = One; timeout = 5000 })
-    (record { later = take 6 past; is_past = refl }) (record { later = take 2 past; is_past = refl }) refl refl refl refl refl in
+    let asked : ℕ → Pair = λ number. invoke_pair 1 (pos 1) One (pos 10) 5000 (Answer.number number) in
+    let made : ℕ → Invocation =
+    λ number. record { number = number; dialogue = 1; id = pos 1; class = One; timeout = 5000 } in
+    let stands : StandsIn (asked 1) (drop 7 past) past = record { later = take 6 past; is_past = refl } in
+    let stood : StandsIn (asked 2) (drop 3 past) past = record { later = take 2 past; is_past = refl } in
+    let same : 1 ≡ 2 = once (asked 1) (asked 2) (drop 7 past) (drop 3 past) (made 1) (made 2) stands stood
+    refl refl refl refl refl in
     omega (arith, same)
 
 -- What the tests state.

@@ -22,7 +22,8 @@ alone = record { number = 1; dialogue = 1; id = pos 1; class = Four; timeout = 1
 pub alone-happens : Happens Engine.b alone_told (drop 1 in_a_unidirectional.trace) in_a_unidirectional.trace
 alone-happens = record { later = []; is_trace = refl }
 
-pub alone-tells : Tells alone_told.answer (Output.component (ComponentIndication.invoked None (pos 1) None (code 7) None))
+pub alone-tells : Tells alone_told.answer
+    (Output.component (ComponentIndication.invoked None (pos 1) None (code 7) None))
 alone-tells = record { earlier = Output.dialogue (DialogueIndication.uni None []) ∷ []; later = []; is_answer = refl }
 
 pub alone-asked : WasAsked (pos 1) None (code 7) None (side Engine.a (drop 1 in_a_unidirectional.trace))

@@ -1,5 +1,5 @@
 -- The statements about two ends on the net of a repeated Begin: the premises, and the conclusions.
-use Rattle.std.proofs.Common.{◌≡◌, pos, [], ◌∷◌, Some, None, refl}
+use Rattle.std.proofs.Common.{◌≡◌, ℕ, pos, [], ◌∷◌, Some, None, refl}
 use Rattle.std.specs.Prelude.{drop, take}
 use Rattle.tcap_component.specs.Component.{CodeParts}
 use Rattle.tcap_invocation.specs.declared.class.Class.TheVariants.{One}
@@ -16,6 +16,9 @@ use Rattle.tcap_examples.specs.Nets.PlayedNets.{invoked, repeated_begin, before_
 use Rattle.tcap_examples.specs.Nets.Play as play
 use Rattle.tcap_examples.specs.Statements.HeadlineExamples.{first}
 use Rattle.tcap_examples.specs.Values.HistoryWords.{dialogue_born, invoke_pair, request_pair, received_pair, continued}
+
+abbrev begun : ℕ → Output
+begun dialogue = Output.dialogue (DialogueIndication.begin dialogue None [])
 
 pub repeat-answer-happens : Happens Engine.a answer_told before_the_answer repeated_begin.trace
 repeat-answer-happens = record { later = take 3 repeated_begin.trace; is_trace = refl }
@@ -51,7 +54,7 @@ repeat-answers = answers_what_it_was_told Engine.b repeated_begin.trace (
         code = CodeParts.local (pos 10);
         parameter = None;
         stands = record { later = drop 3 (take 5 (side Engine.b repeated_begin.trace)); is_past = refl };
-        tells = record { earlier = Output.dialogue (DialogueIndication.begin 2 None []) ∷ []; later = []; is_answer = refl };
+        tells = record { earlier = begun 2 ∷ []; later = []; is_answer = refl };
       },
       (
         tt,
@@ -63,7 +66,7 @@ repeat-answers = answers_what_it_was_told Engine.b repeated_begin.trace (
             code = CodeParts.local (pos 10);
             parameter = None;
             stands = record { later = received_pair play.first_begin (play.begin_told 2) ∷ []; is_past = refl };
-            tells = record { earlier = Output.dialogue (DialogueIndication.begin 1 None []) ∷ []; later = []; is_answer = refl };
+            tells = record { earlier = begun 1 ∷ []; later = []; is_answer = refl };
           },
           (tt, (tt, tt)),
         ),
@@ -73,23 +76,32 @@ repeat-answers = answers_what_it_was_told Engine.b repeated_begin.trace (
 )
 
 pub repeat-opened : WasOpened Engine.a 1 repeated_begin.trace
-repeat-opened = record { pair = dialogue_born 1; before = []; stands = record { later = take 5 (side Engine.a repeated_begin.trace); is_past = refl }; is_event = refl; is_answer = refl }
+repeat-opened = record {
+  pair = dialogue_born 1;
+  before = [];
+  stands = record { later = take 5 (side Engine.a repeated_begin.trace); is_past = refl };
+  is_event = refl;
+  is_answer = refl;
+}
 
 sent : WasSent 1 (side Engine.a (drop 10 repeated_begin.trace))
 unfolding computing
 sent = record { invocation = first; is_invocation = refl; is_sent = refl }
 
-pub repeat-after : (asked : Pair) (earlier : Trace) → Happens Engine.b asked earlier before_the_answer → IsFarRequest Engine.a 1 second_request asked earlier → WasSent 1 (side Engine.a earlier)
+pub repeat-after : (asked : Pair) (earlier : Trace) → Happens Engine.b asked earlier before_the_answer
+    → IsFarRequest Engine.a 1 second_request asked earlier → WasSent 1 (side Engine.a earlier)
 repeat-after asked earlier happens is =
     let After : Marked → Trace → Type 0 = λ m earlier. m.engine ≡ Engine.b → WasSent 1 (side Engine.a earlier) in
     let b : Engine.b ≡ Engine.b → WasSent 1 (side Engine.a (drop 10 repeated_begin.trace)) = λ own. sent in
-    at_happening After before_the_answer (b, (b, (b, (b, (b, (b, ((λ is. absurd (not_both is)), ((λ is. absurd (not_both is)), ((λ is. absurd (not_both is)), tt))))))))) Engine.b asked earlier happens refl
+    at_happening After before_the_answer
+    (b, (b, (b, (b, (b, (b, ((λ a. absurd (not_both a)), ((λ a. absurd (not_both a)), ((λ a. absurd (not_both a)), tt)))))))))
+    Engine.b asked earlier happens refl
 
 pub repeat-invoked-happens : Happens Engine.b repeat_told before_the_repeat repeated_begin.trace
 repeat-invoked-happens = record { later = take 8 repeated_begin.trace; is_trace = refl }
 
 pub repeat-invoked-tells : Tells repeat_told.answer (invoked 2)
-repeat-invoked-tells = record { earlier = Output.dialogue (DialogueIndication.begin 2 None []) ∷ []; later = []; is_answer = refl }
+repeat-invoked-tells = record { earlier = begun 2 ∷ []; later = []; is_answer = refl }
 
 pub repeat-asked : WasAsked (pos 1) None (CodeParts.local (pos 10)) None (side Engine.a before_the_repeat)
 repeat-asked = record {
