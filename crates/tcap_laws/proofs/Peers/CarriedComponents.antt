@@ -1,7 +1,6 @@
 -- A component that is told of was in a message that a far dialogue sent for a request.
 use Rattle.std.proofs.Common.{◌≡◌, ℕ, ℤ, ◌⊎◌, List, [], ◌∷◌, ◌++◌, Option, Some, None, refl, sym, ap, subst, ◌∙◌, inl, inr, append_assoc}
 use Rattle.std.specs.Prelude.{unwrap_or}
-use Rattle.std.specs.List.{AllByRecursion}
 use Rattle.tcap_pdu.specs.FrameSpelling.{Message, Reason, SpellsFrame}
 use Rattle.tcap_pdu.specs.FrameWritten.{written_frame}
 use Rattle.tcap_pdu.proofs.CallerLemmas.{one_frame}
@@ -34,7 +33,6 @@ use Rattle.tcap_model.specs.Statements.TwoEnds.{Happens}
 use Rattle.tcap_laws.proofs.Peers.NetPlaces.{happens-stands, happens-rest, carried-there, SentBy, bytes_sent}
 use Rattle.tcap_laws.proofs.Receptions.SentMessages.{Nothing, tells-sends, birth-sends, moment-sends, sent_for_bytes, sent_for_request}
 use Rattle.tcap_laws.proofs.Receptions.ToldFromOctets.{legal-before, told-from}
-use Rattle.tcap_laws.proofs.ListLemmas.{one-of}
 
 -- ---- what a message that carries components takes
 

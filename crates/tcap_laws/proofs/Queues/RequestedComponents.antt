@@ -1,5 +1,5 @@
 -- The component of an accepted request is one, and it can be written.
-use Rattle.std.proofs.Common.{◌≡◌, ℕ, ℤ, ◌+◌, ◌≤◌, pos, negsuc, true, false, Bool, not, List, length, Option, Some, None, refl, subst, IsTrue, arith}
+use Rattle.std.proofs.Common.{◌≡◌, ℕ, ℤ, ◌+◌, ◌≤◌, pos, negsuc, true, false, List, length, Option, Some, None, refl, subst, IsTrue, arith}
 use Rattle.std.specs.Prelude.{int_le}
 use Rattle.std.proofs.lemmas.Bool.{and_parts, or_parts, leb-true, le-ltb}
 use Rattle.tcap_component.specs.Problem.{problem_limit}

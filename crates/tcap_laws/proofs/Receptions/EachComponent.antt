@@ -10,7 +10,6 @@ use Rattle.tcap_model.specs.Histories.Pair.{Past}
 use Rattle.tcap_model.specs.Procedures.ComponentHandling.{Item, Handled, subject_of, handled, told_of, uni_told}
 use Rattle.tcap_model.specs.Replies.Queue.{handled_after, handled_in}
 use Rattle.tcap_model.specs.Words.Output.{Output}
-use Rattle.tcap_laws.proofs.ListLemmas.{each-append, one-of}
 use Rattle.tcap_model.specs.Invocations.SentThere.{sent_there}
 
 -- ---- lists
