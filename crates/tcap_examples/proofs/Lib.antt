@@ -5,6 +5,7 @@ mod ComponentsBroken
 mod ComponentsWork
 mod EndPremises
 mod ForgedMessages
+mod GrammarWorks
 mod HeadlineWorks
 mod IsolationWorks
 mod LastMessages

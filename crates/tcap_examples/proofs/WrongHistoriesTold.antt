@@ -64,6 +64,20 @@ drops_every_message = record {
   not_legal = λ legal. apart answer_number legal.1.1 refl;
 }
 
+pub fault_answered_to_the_peer : GoesWrong answers.fault_answered_to_the_peer
+unfolding computing
+fault_answered_to_the_peer = record {
+  legal_before = (refl, (refl, refl, (refl, refl, (refl, refl, (refl, refl, tt)))));
+  not_legal = λ legal. apart answer_number legal.1.1 refl;
+}
+
+pub faulty_end_answered : GoesWrong answers.faulty_end_answered
+unfolding computing
+faulty_end_answered = record {
+  legal_before = (refl, (refl, refl, (refl, refl, (refl, refl, tt))));
+  not_legal = λ legal. apart answer_number legal.1.1 refl;
+}
+
 -- All of them.
 pub ruleset wrong_answers_given = (
   components_after_a_fault,
@@ -74,6 +88,8 @@ pub ruleset wrong_answers_given = (
   reused_dialogue_identifier,
   everything_wrong_state,
   drops_every_message,
+  fault_answered_to_the_peer,
+  faulty_end_answered,
 )
 
 -- ---- wrong ends

@@ -1,4 +1,5 @@
 pub mod ComponentExamples
+pub mod GrammarExamples
 pub mod HeadlineExamples
 pub mod IsolationExamples
 pub mod SendingExamples

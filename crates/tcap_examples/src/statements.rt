@@ -2,6 +2,7 @@
 //! that break them.
 
 pub mod components;
+pub mod grammar;
 pub mod headline;
 pub mod isolation;
 pub mod sending;

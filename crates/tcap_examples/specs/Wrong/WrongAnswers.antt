@@ -5,9 +5,9 @@ use Rattle.tcap_model.specs.Words.Answer.{Answer}
 use Rattle.tcap_examples.specs.Values.DialogueValues.{shown_begin, begin_with_aarq, of_result, general, code}
 use Rattle.tcap_model.specs.Words.Fault.{Fault}
 use Rattle.tcap_examples.specs.Values.Hex.{hex}
-use Rattle.tcap_model.specs.Words.Output.{Output, Closing, DropCause}
+use Rattle.tcap_model.specs.Words.Output.{Output, AbortCause, Closing, DropCause}
 use Rattle.tcap_model.specs.Words.Request.{AbortReason}
-use Rattle.tcap_examples.specs.Values.HistoryWords.{dialogue_born, birth_refused, invoke_pair, request_pair, received_pair, moment_pair, begin_request, continue_request, continued, empty_result, usual_start}
+use Rattle.tcap_examples.specs.Values.HistoryWords.{dialogue_born, birth_refused, invoke_pair, request_pair, received_pair, moment_pair, begin_request, continue_request, continued, empty_result, usual_start, opened_with_invoke}
 use Rattle.tcap_examples.specs.Wrong.WrongHistories.{Wrong, wrong}
 use Rattle.tcap_examples.specs.Wrong.WrongEnds.{answered_once}
 use Rattle.tcap_examples.specs.Values.Asked as asks
@@ -78,3 +78,23 @@ everything_wrong_state = wrong usual_start []
 abbrev pub drops_every_message : Wrong
 drops_every_message = wrong usual_start []
     (received_pair begin_with_aarq (Output.dropped DropCause.bad_message ∷ []))
+
+-- A faulty Continue is answered to the peer, and not to the origin at its front (own).
+abbrev pub fault_answered_to_the_peer : Wrong
+fault_answered_to_the_peer = wrong usual_start (opened_with_invoke (
+    received_pair (hex 14 0x650C_480400000005_490400000001) (continued 1 ∷ [])
+    ∷ []))
+    (received_pair (hex 15 0x650D_480400000006_490400000001_6C) (
+    Output.send (hex 11 0x6709_490400000005_4A0102)
+    ∷ told.p_abort 1 (AbortCause.cause 2)
+    ∷ told.closed 1 1 (pos 1) Closing.ended
+    ∷ []))
+
+-- A faulty End that has an origin is answered (own).
+abbrev pub faulty_end_answered : Wrong
+faulty_end_answered = wrong usual_start (opened_with_invoke [])
+    (received_pair (hex 15 0x640D_480400000005_490400000001_6C) (
+    Output.send (hex 11 0x6709_490400000005_4A0102)
+    ∷ told.p_abort 1 (AbortCause.cause 2)
+    ∷ told.closed 1 1 (pos 1) Closing.ended
+    ∷ []))

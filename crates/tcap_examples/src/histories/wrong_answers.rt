@@ -43,3 +43,13 @@ pub fn everything_wrong_state()
 pub fn drops_every_message()
     ensures { GoesWrong wrong.drops_every_message }
 {}
+
+/// A faulty Continue is answered to the peer, and not to the origin at its front.
+pub fn fault_answered_to_the_peer()
+    ensures { GoesWrong wrong.fault_answered_to_the_peer }
+{}
+
+/// A faulty End is answered.
+pub fn faulty_end_answered()
+    ensures { GoesWrong wrong.faulty_end_answered }
+{}
