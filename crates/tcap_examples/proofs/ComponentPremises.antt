@@ -11,7 +11,9 @@ use Rattle.tcap_component.specs.ComponentList.{FirstFault, items}
 use Rattle.tcap_component.specs.ComponentReading.{components_of}
 use Rattle.tcap_component.proofs.CallerLemmas.{first_fault_again, first_fault_is}
 use Rattle.tcap_examples.proofs.PlaceLemmas.{Everywhere, at_place, outputs_of, told_there}
-use Rattle.tcap_model.specs.Statements.ComponentLaws.{portion_of, SentFromOne, SentFrom, ToldFromOne, ToldFrom, IsOfComponent}
+use Rattle.tcap_model.specs.Statements.ToldFrom.{ToldFromOne, ToldFrom, IsOfComponent}
+use Rattle.tcap_model.specs.Statements.SentFrom.{SentFromOne, SentFrom}
+use Rattle.tcap_model.specs.Statements.ComponentPortion.{portion_of}
 use Rattle.tcap_model.specs.Words.Event.{Event}
 use Rattle.tcap_model.specs.Words.Output.{Output, Closing, Rejector, ComponentIndication}
 use Rattle.tcap_model.specs.Histories.Pair.{Pair, Past}
@@ -83,9 +85,17 @@ SentSo event before (Output.component indication) = Unit {0}
 SentSo event before (Output.dropped why) = Unit {0}
 
 pub sent_from : (past : Past) → Everywhere (λ (pair : Pair) before. AllByRecursion (SentSo pair.event before) (outputs_of pair.answer)) past → SentFrom past
-sent_from past all pair before bytes m components fault stands tells spells first =
-    let here = at_place (λ (pair : Pair) before. AllByRecursion (SentSo pair.event before) (outputs_of pair.answer)) past all pair before stands in
-    let so = told_there (SentSo pair.event before) pair.answer (Output.send bytes) tells here in
+sent_from past all sent =
+    let pair = sent.pair in
+    let before = sent.before in
+    let bytes = sent.bytes in
+    let m = sent.message in
+    let components = sent.components in
+    let fault = sent.fault in
+    let spells = sent.spelled in
+    let first = sent.read in
+    let here = at_place (λ (pair : Pair) before. AllByRecursion (SentSo pair.event before) (outputs_of pair.answer)) past all pair before sent.stands in
+    let so = told_there (SentSo pair.event before) pair.answer (Output.send bytes) sent.tells here in
     let same : so.0 ≡ m = message_is bytes so.0 m so.3 (frame_again m bytes spells) in
     let listed : items so.1 so.2 ≡ items components fault = sym so.4 ∙ (ap (λ (n : Message). components_of (portion_of n)) same ∙ first_fault_again components fault (portion_of m) first) in
     let moved : (portion_of m ≡ []) ⊎ SentFromOne pair.event before so.1 so.2 = subst (λ (n : Message). (portion_of n ≡ []) ⊎ SentFromOne pair.event before so.1 so.2) same so.5 in
@@ -123,6 +133,6 @@ told_so event output (IsOfComponent.error_back dialogue number id code parameter
 told_so event output (IsOfComponent.rejected dialogue number id problem) so = so
 
 pub told_from : (past : Past) → Everywhere (λ (pair : Pair) before. AllByRecursion (ToldSo pair.event) (outputs_of pair.answer)) past → ToldFrom past
-told_from past all pair before output stands tells is =
-    let here = at_place (λ (pair : Pair) before. AllByRecursion (ToldSo pair.event) (outputs_of pair.answer)) past all pair before stands in
-    told_so pair.event output is (told_there (ToldSo pair.event) pair.answer output tells here)
+told_from past all told =
+    let here = at_place (λ (pair : Pair) before. AllByRecursion (ToldSo pair.event) (outputs_of pair.answer)) past all told.pair told.before told.stands in
+    told_so told.pair.event told.output told.is_of_component (told_there (ToldSo told.pair.event) told.pair.answer told.output told.tells here)

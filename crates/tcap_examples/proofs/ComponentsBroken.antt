@@ -8,7 +8,7 @@ use Rattle.tcap_component.specs.Component.{ComponentParts, CodeParts}
 use Rattle.tcap_examples.proofs.ComponentPremises.{spelled_read}
 use Rattle.tcap_examples.proofs.PlaceLemmas.{any_there, outputs_of}
 use Rattle.tcap_model.specs.Words.Answer.{Answer}
-use Rattle.tcap_model.specs.Statements.ComponentLaws.{StandsFor, IsOfComponent, ToldFromOne, ToldFrom}
+use Rattle.tcap_model.specs.Statements.ToldFrom.{StandsFor, IsOfComponent, ToldFromOne, ToldFrom}
 use Rattle.tcap_examples.specs.Computing.{computing}
 use Rattle.tcap_model.specs.Words.Event.{Event}
 use Rattle.tcap_examples.specs.Values.DialogueValues.{context as context_name, begin_with_aarq, code}
@@ -65,10 +65,14 @@ not_received told =
     false≢true (sym (ap (list_any asks_for_three) read) ∙ three)
 
 pub misread-not_told_from : ToldFrom (whole misread) → ⊥
-misread-not_told_from from = not_received (from misread.last [] misread_told
-    (record { later = []; is_past = refl })
-    (record { earlier = Output.dialogue (DialogueIndication.begin 1 (Some context_name) []) ∷ []; later = []; is_answer = refl })
-    (IsOfComponent.invoke (Some 1) (pos 1) None (code 3) (Some (hex 5 0x3003_0401AA))))
+misread-not_told_from from = not_received (from (record {
+  pair = misread.last;
+  before = [];
+  output = misread_told;
+  stands = record { later = []; is_past = refl };
+  tells = record { earlier = Output.dialogue (DialogueIndication.begin 1 (Some context_name) []) ∷ []; later = []; is_answer = refl };
+  is_of_component = IsOfComponent.invoke (Some 1) (pos 1) None (code 3) (Some (hex 5 0x3003_0401AA));
+}))
 
 pub misread-wrong : GoesWrong misread
 unfolding computing

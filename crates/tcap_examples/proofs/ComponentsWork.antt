@@ -11,7 +11,9 @@ use Rattle.tcap_examples.proofs.Apart.{apart, answer_number}
 use Rattle.tcap_examples.proofs.ComponentPremises.{first_fault_at, sent_from, told_from}
 use Rattle.tcap_examples.proofs.PlaceLemmas.{at_place}
 use Rattle.tcap_model.specs.Words.Answer.{Answer}
-use Rattle.tcap_model.specs.Statements.ComponentLaws.{portion_of, WasRequested, WasFormed, ComesFrom, SentFromOne, SentFrom, StandsFor, IsOfComponent, ToldFromOne, ToldFrom}
+use Rattle.tcap_model.specs.Statements.ToldFrom.{StandsFor, IsOfComponent, ToldFromOne, ToldFrom}
+use Rattle.tcap_model.specs.Statements.SentFrom.{WasRequested, WasFormed, ComesFrom, SentFromOne, SentFrom}
+use Rattle.tcap_model.specs.Statements.ComponentPortion.{portion_of}
 use Rattle.tcap_examples.specs.Computing.{computing}
 use Rattle.tcap_model.specs.Words.Event.{Event}
 use Rattle.tcap_examples.specs.Values.DialogueValues.{context, begin_with_aarq, result_of_first, general, of_result, code}

@@ -6,7 +6,6 @@ use Rattle.tcap_component.specs.Component.{ComponentParts}
 use Rattle.tcap_component.specs.Written.{written_component}
 use Rattle.tcap_invocation.specs.declared.class.Class.TheVariants.{One}
 use Rattle.tcap_model.specs.Words.Answer.{Answer}
-use Rattle.tcap_model.specs.Statements.ComponentLaws.{ComesFrom, SentFromOne, SentFrom}
 use Rattle.tcap_examples.specs.Computing.{computing}
 use Rattle.tcap_model.specs.Words.Event.{Event}
 use Rattle.tcap_examples.specs.Values.DialogueValues.{code}
@@ -20,6 +19,7 @@ use Rattle.tcap_examples.specs.Wrong.WrongHistories.{Wrong, GoesWrong, whole}
 use Rattle.tcap_examples.proofs.Apart.{apart, answer_number}
 use Rattle.tcap_examples.proofs.ComponentPremises.{sent_from}
 use Rattle.tcap_examples.proofs.SendingWorks.{AreRead, read-same}
+use Rattle.tcap_model.specs.Statements.SentFrom.{ComesFrom, SentFrom, SentFromOne}
 
 -- A history is refused whose octets are read as other components than were submitted.
 refused : (w : Wrong) (ds : List ComponentParts) → is_sending 1 w.last ≡ true →

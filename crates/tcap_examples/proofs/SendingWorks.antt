@@ -7,7 +7,6 @@ use Rattle.tcap_pdu.proofs.CallerLemmas.{frame_takes}
 use Rattle.tcap_component.specs.Component.{ComponentParts}
 use Rattle.tcap_component.specs.ComponentList.{items}
 use Rattle.tcap_component.specs.ComponentReading.{components_of}
-use Rattle.tcap_model.specs.Statements.ComponentLaws.{portion_of}
 use Rattle.tcap_examples.specs.Computing.{computing}
 use Rattle.tcap_model.specs.Replies.Legal.{IsLegal}
 use Rattle.tcap_model.specs.Statements.Places.{StandsIn}
@@ -18,6 +17,7 @@ use Rattle.tcap_model.specs.Statements.SentInOrder.{HaveComponents, components_s
 use Rattle.tcap_examples.specs.Histories.Receptions.{unknown_linked_identifier}
 use Rattle.tcap_examples.specs.Statements.SendingExamples.{begin_sent, begin_message, continue_sent, continue_message, continue_pair, abort_sent, abort_message, sent_in_parts, before_the_continue, up_to_the_continue, waits_for_the_continue, all_parts, reject_of_invoke, answer_sent, answer_message, begun_by_the_peer}
 use Rattle.tcap_examples.proofs.ComponentPremises.{first_fault_at, spelled_read}
+use Rattle.tcap_model.specs.Statements.ComponentPortion.{portion_of}
 
 -- ---- messages by the reading functions
 

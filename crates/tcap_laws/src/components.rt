@@ -1,6 +1,7 @@
 //! Where the components of messages come from, and what the indications of components stand for.
 
-ghost use Rattle.tcap_model.specs.Statements.ComponentLaws.{EachIsSentFrom, EachIsToldFrom};
+ghost use Rattle.tcap_model.specs.Statements.ToldFrom.{EachIsToldFrom};
+ghost use Rattle.tcap_model.specs.Statements.SentFrom.{EachIsSentFrom};
 
 /// In a legal history each indication of a component stands for one in the octets received (our own).
 pub fn told_from()

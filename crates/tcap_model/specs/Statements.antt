@@ -1,5 +1,5 @@
 pub mod ClassTable
-pub mod ComponentLaws
+pub mod ComponentPortion
 pub mod FaultAnswer
 pub mod Headline
 pub mod Isolation
@@ -9,7 +9,9 @@ pub mod NormalPortion
 pub mod Only
 pub mod Places
 pub mod ReceivedMark
+pub mod SentFrom
 pub mod SentInOrder
 pub mod SentMessage
 pub mod Submitted
+pub mod ToldFrom
 pub mod TwoEnds

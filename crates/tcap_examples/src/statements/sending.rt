@@ -3,7 +3,6 @@
 #![tactic(auto, using(crate::proofs::SendingWorks::sending_works, crate::proofs::SendingBroken::sending_broken))]
 
 ghost use Rattle.std.specs.Prelude.{◌≡◌, [], ◌∷◌, drop, map, true};
-ghost use Rattle.tcap_model.specs.Statements.ComponentLaws.{SentFrom};
 ghost use Rattle.tcap_model.specs.Replies.Legal.{IsLegal};
 ghost use Rattle.tcap_model.specs.Replies.Queue.{queue};
 ghost use Rattle.tcap_model.specs.Procedures.QueueRules.{Queued};
@@ -15,6 +14,7 @@ ghost use Rattle.tcap_examples.specs.Statements.SendingExamples.{sent_in_parts, 
 ghost use Rattle.tcap_examples.specs.Wrong.WrongHistories.{GoesWrong, whole};
 
 use tcap_laws::sending::{queue_is_unsent, sent_once_in_order};
+ghost use Rattle.tcap_model.specs.Statements.SentFrom.{SentFrom};
 
 /// An Invoke that was given up unsent is missing; one that was given up later, a Reject and a third Invoke are
 /// sent, in this order; a fourth is queued and never sent.

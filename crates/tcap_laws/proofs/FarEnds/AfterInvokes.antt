@@ -6,7 +6,7 @@ use Rattle.tcap_component.specs.declared.problem.Kind.{Kind}
 use Rattle.tcap_component.specs.declared.problem.Kind.TheVariants as kind
 use Rattle.tcap_model.specs.Words.Answer.{Answer}
 use Rattle.tcap_model.specs.Histories.Birth.{born_on_message}
-use Rattle.tcap_model.specs.Statements.ComponentLaws.{ToldFromOne}
+use Rattle.tcap_model.specs.Statements.ToldFrom.{ToldFromOne}
 use Rattle.tcap_model.specs.Words.Event.{Event}
 use Rattle.tcap_model.specs.Histories.History.{History}
 use Rattle.tcap_model.specs.Invocations.Invocation.{Invocation, invocation_of, invoked_by, invoked_of}
@@ -107,7 +107,14 @@ module _ (net : Net) (is : IsNet net) (engine : Engine) (pair : Pair) (before : 
       let stands = happens-stands engine pair before net.trace happens in
       let legal = legal-before (net.start engine) stands.later (pair ∷ side engine before) (subst (AreReplies (net.start engine)) stands.is_past (is.is_legal engine).1) in
       let h : History = record { start = net.start engine; pairs = side engine before } in
-      let told : ToldFromOne pair.event output = told-from (history_in net engine net.trace) (is.is_legal engine) pair (side engine before) output stands tells (answer-indicates dialogue number id output request answers) in
+      let told : ToldFromOne pair.event output = told-from (history_in net engine net.trace) (is.is_legal engine) (record {
+        pair = pair;
+        before = side engine before;
+        output = output;
+        stands = stands;
+        tells = tells;
+        is_of_component = answer-indicates dialogue number id output request answers;
+      }) in
       let placed = reply-placed h legal.2 told.bytes output (subst (λ (e : Event). Tells (reply h e) output) told.is_event (subst (λ (a : Answer). Tells a output) legal.1 tells)) in
       answer-of (side engine before) told.bytes (born_on_message (reply h (Event.received told.bytes))) dialogue number id output request answers placed
 

@@ -18,7 +18,6 @@ use Rattle.tcap_model.specs.Histories.Names.{names}
 use Rattle.tcap_model.specs.Words.Output.{Output, Closing, Rejector, ComponentIndication}
 use Rattle.tcap_model.specs.Histories.Pair.{Past}
 use Rattle.tcap_model.specs.Replies.Reply.{reply}
-use Rattle.tcap_model.specs.Statements.ComponentLaws.{portion_of}
 use Rattle.tcap_model.specs.Statements.Places.{Tells}
 use Rattle.tcap_laws.proofs.Births.DrawnDialogues.{beyond-unborn, unborn-life}
 use Rattle.tcap_laws.proofs.Spans.MarksAfterBirth.{was_alive, stays_alive}
@@ -29,6 +28,7 @@ use Rattle.tcap_laws.proofs.Receptions.EachOutput.{HoldsBesides, HoldsOfEach, re
 use Rattle.tcap_laws.proofs.Receptions.HandledComponents.{ComesOf, comes_of}
 use Rattle.tcap_laws.proofs.Spans.LatestInvocations.{id_of}
 use Rattle.tcap_model.specs.Invocations.SentThere.{if_sent, sent_there}
+use Rattle.tcap_model.specs.Statements.ComponentPortion.{portion_of}
 
 -- ---- fair tellings
 

@@ -7,7 +7,7 @@ use Rattle.tcap_pdu.proofs.CallerLemmas.{frame_takes}
 use Rattle.tcap_component.specs.Component.{CodeParts}
 use Rattle.tcap_model.specs.Words.Answer.{Answer, is_accepted}
 use Rattle.tcap_model.specs.Histories.Birth.{born_of, born_on_message, is_birth_of}
-use Rattle.tcap_model.specs.Statements.ComponentLaws.{IsOfComponent}
+use Rattle.tcap_model.specs.Statements.ToldFrom.{IsOfComponent}
 use Rattle.tcap_model.specs.Procedures.Destination.{destination}
 use Rattle.tcap_model.specs.Replies.Due.{standing_of}
 use Rattle.tcap_model.specs.Words.Event.{Event}

@@ -8,7 +8,8 @@ use Rattle.tcap_component.specs.Component.{ComponentParts}
 use Rattle.tcap_component.specs.Component.ComponentParts.{invoke, result_last, error_back, reject_back, result_more}
 use Rattle.tcap_component.specs.Problem.{ProblemParts, is_by_provider}
 use Rattle.tcap_model.specs.Words.Answer.{Answer, is_accepted}
-use Rattle.tcap_model.specs.Statements.ComponentLaws.{IsOfComponent, StandsFor, ComesFrom, IsLocalReject, WasRequested, WasFormed}
+use Rattle.tcap_model.specs.Statements.ToldFrom.{IsOfComponent, StandsFor}
+use Rattle.tcap_model.specs.Statements.SentFrom.{SentPortion, ComesFrom, IsLocalReject, WasRequested, WasFormed}
 use Rattle.tcap_model.specs.Procedures.ComponentRequest.{component_of}
 use Rattle.tcap_model.specs.Procedures.Destination.{destination, destination_by, destination_of}
 use Rattle.tcap_model.specs.Replies.Due.{due}
@@ -198,7 +199,19 @@ module _ (net : Net) (is : IsNet net) (engine : Engine) (pair : Pair) (before : 
   source =
       let h : History = record { start = net.start (far engine); pairs = it.sender ∷ it.past } in
       let legal : IsLegal h = ((is.is_legal (far engine)).0, it.is_legal) in
-      elim (sent-from h legal it.sender it.past it.told.bytes it.told.message (it.told.earlier ++ it.told.component ∷ it.told.later) it.told.fault (record { later = []; is_past = refl }) it.tells it.told.spelled it.told.read) [
+      let sent : SentPortion h.pairs = record {
+        pair = it.sender;
+        before = it.past;
+        bytes = it.told.bytes;
+        message = it.told.message;
+        components = it.told.earlier ++ it.told.component ∷ it.told.later;
+        fault = it.told.fault;
+        stands = record { later = []; is_past = refl };
+        tells = it.tells;
+        spelled = it.told.spelled;
+        read = it.told.read;
+      } in
+      elim (sent-from h legal sent) [
         | inl none ↦ absurd (some_components h it.told.bytes it.told.message it.told.spelled it.told.earlier it.told.later it.told.component it.told.fault it.told.read none)
         | inr one ↦
             let events : Event.on_dialogue one.dialogue one.request ≡ Event.on_dialogue d it.sent.request = sym one.is_event ∙ it.sent.is_event in

@@ -10,7 +10,7 @@ use Rattle.tcap_component.specs.ComponentReading.{components_of}
 use Rattle.tcap_component.proofs.CallerLemmas.{component_spelled, first_fault_again}
 use Rattle.tcap_model.specs.Words.Answer.{Answer, is_accepted}
 use Rattle.tcap_model.specs.Histories.Clock.{clock}
-use Rattle.tcap_model.specs.Statements.ComponentLaws.{IsOfComponent, StandsFor}
+use Rattle.tcap_model.specs.Statements.ToldFrom.{IsOfComponent, StandsFor}
 use Rattle.tcap_model.specs.Words.Event.{Event}
 use Rattle.tcap_model.specs.Histories.History.{Start}
 use Rattle.tcap_model.specs.Invocations.Invocation.{Invocation, invocation_of, invoked_by, invoked_of, has_id}

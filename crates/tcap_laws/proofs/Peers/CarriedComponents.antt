@@ -9,7 +9,8 @@ use Rattle.tcap_component.specs.ComponentFault.{FaultParts}
 use Rattle.tcap_component.specs.ComponentList.{FirstFault, items}
 use Rattle.tcap_component.specs.ComponentReading.{components_of}
 use Rattle.tcap_component.proofs.CallerLemmas.{first_fault_again, components_of-empty}
-use Rattle.tcap_model.specs.Statements.ComponentLaws.{portion_of, IsOfComponent, ToldFromOne}
+use Rattle.tcap_model.specs.Statements.ToldFrom.{IsOfComponent, ToldFromOne}
+use Rattle.tcap_model.specs.Statements.ComponentPortion.{portion_of}
 use Rattle.tcap_model.specs.Procedures.Destination.{destination}
 use Rattle.tcap_model.specs.Replies.Due.{birth_due, standing_of}
 use Rattle.tcap_model.specs.Words.Event.{Event}
@@ -146,7 +147,14 @@ module _ (net : Net) (is : IsNet net) (engine : Engine) (pair : Pair) (before : 
 
   pub carried : (output : Output) → Tells pair.answer output → IsOfComponent output → Carried net engine before pair.event output
   carried output tells of =
-      let told = told-from (history_in net engine net.trace) (is.is_legal engine) pair (side engine before) output (happens-stands engine pair before net.trace happens) tells of in
+      let told : ToldFromOne pair.event output = told-from (history_in net engine net.trace) (is.is_legal engine) (record {
+        pair = pair;
+        before = side engine before;
+        output = output;
+        stands = happens-stands engine pair before net.trace happens;
+        tells = tells;
+        is_of_component = of;
+      }) in
       let arrives : IsCarriedTo engine (Event.received told.bytes) before = subst (λ (e : Event). IsCarriedTo engine e before) told.is_event (carried-there engine pair before net.trace happens is.is_carried) in
       let by : SentBy told.bytes (side (far engine) before) = bytes_sent told.bytes (side (far engine) before) arrives in
       let legal = legal-before (net.start (far engine)) by.stands.later (by.pair ∷ by.before) (subst (AreReplies (net.start (far engine))) by.stands.is_past (legal-there (far engine))) in

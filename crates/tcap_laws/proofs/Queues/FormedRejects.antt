@@ -15,7 +15,6 @@ use Rattle.tcap_component.specs.ComponentFault.{FaultParts, IsComponentFault, Te
 use Rattle.tcap_component.specs.ComponentFault.IsComponentFault.{unreadable, unrecognized, unstructured, mistyped}
 use Rattle.tcap_component.specs.Written.{written_component, CanWriteComponent}
 use Rattle.tcap_model.specs.Procedures.ComponentHandling.{Item, SentInvocation, Handled, subject_of, handled}
-use Rattle.tcap_model.specs.Statements.ComponentLaws.{IsLocalReject}
 use Rattle.tcap_model.specs.Invocations.Invocation.{Invocation, has_id, with_id, invoked_by, latest}
 use Rattle.tcap_model.specs.Invocations.Outcome.{is_sent_in}
 use Rattle.tcap_model.specs.Words.Output.{Output, Closing, Rejector, ComponentIndication}
@@ -24,6 +23,7 @@ use Rattle.tcap_model.specs.Replies.Queue.{handled_in}
 use Rattle.tcap_laws.proofs.Receptions.EachComponent.{IsReadIn, each-handled}
 use Rattle.tcap_laws.proofs.Receptions.HandledComponents.{identifier_of, ComesOf, comes_of}
 use Rattle.tcap_model.specs.Invocations.SentThere.{if_sent, marks_up_to, sent_there}
+use Rattle.tcap_model.specs.Statements.SentFrom.{IsLocalReject}
 
 -- ---- the identifiers and problems of what was received
 

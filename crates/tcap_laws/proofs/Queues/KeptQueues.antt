@@ -6,7 +6,7 @@ use Rattle.tcap_component.specs.Component.{ComponentParts, InRange}
 use Rattle.tcap_component.specs.Written.{written_component, CanWriteComponent}
 use Rattle.tcap_model.specs.Words.Answer.{Answer}
 use Rattle.tcap_model.specs.Procedures.ComponentHandling.{Handled, told_of}
-use Rattle.tcap_model.specs.Statements.ComponentLaws.{ComesFrom}
+use Rattle.tcap_model.specs.Statements.SentFrom.{ComesFrom}
 use Rattle.tcap_model.specs.Words.Event.{Event}
 use Rattle.tcap_model.specs.Words.Output.{Output}
 use Rattle.tcap_model.specs.Histories.Pair.{Pair, Past}

@@ -9,7 +9,8 @@ use Rattle.tcap_component.specs.ComponentList.{SpellsComponents, FirstFault, ite
 use Rattle.tcap_component.specs.ComponentReading.{components_of}
 use Rattle.tcap_component.proofs.CallerLemmas.{component_spelled, first_fault_again}
 use Rattle.tcap_model.specs.Words.Answer.{Answer}
-use Rattle.tcap_model.specs.Statements.ComponentLaws.{portion_of, ComesFrom, SentFromOne, EachIsSentFrom}
+use Rattle.tcap_model.specs.Statements.SentFrom.{ComesFrom, SentFromOne, EachIsSentFrom}
+use Rattle.tcap_model.specs.Statements.ComponentPortion.{portion_of}
 use Rattle.tcap_model.specs.Replies.Due.{birth_due, standing_of}
 use Rattle.tcap_model.specs.Words.Event.{Event}
 use Rattle.tcap_model.specs.Histories.History.{History}
@@ -143,7 +144,7 @@ module _ (h : History) (legal : AreReplies h.start h.pairs) (bytes : List ℕ) (
       ]
 
 pub sent-from : EachIsSentFrom
-sent-from h legal pair before bytes m components fault stands tells spelled first =
-    let here = legal-before h.start stands.later (pair ∷ before) (subst (AreReplies h.start) stands.is_past legal.1) in
-    from-event (record { start = h.start; pairs = before }) here.2 bytes m components fault spelled first pair.event
-    (subst (λ (a : Answer). Tells a (Output.send bytes)) here.1 tells)
+sent-from h legal sent =
+    let here = legal-before h.start sent.stands.later (sent.pair ∷ sent.before) (subst (AreReplies h.start) sent.stands.is_past legal.1) in
+    from-event (record { start = h.start; pairs = sent.before }) here.2 sent.bytes sent.message sent.components sent.fault sent.spelled sent.read sent.pair.event
+    (subst (λ (a : Answer). Tells a (Output.send sent.bytes)) here.1 sent.tells)

@@ -22,7 +22,6 @@ use Rattle.tcap_model.specs.Procedures.Reception.{Reception, reception}
 use Rattle.tcap_model.specs.Replies.Due.{birth_due}
 use Rattle.tcap_model.specs.Replies.Queue.{handled_in}
 use Rattle.tcap_model.specs.Replies.Reply.{ended_of, ended_in, continue_outputs, end_outputs, message_outputs, taken_outputs, reception_outputs, reply}
-use Rattle.tcap_model.specs.Statements.ComponentLaws.{portion_of}
 use Rattle.tcap_model.specs.Statements.Places.{Tells}
 use Rattle.tcap_model.specs.Words.Answer.{Answer}
 use Rattle.tcap_model.specs.Words.Event.{Event}
@@ -34,6 +33,7 @@ use Rattle.tcap_laws.proofs.Receptions.ProviderAborts.{Sends}
 use Rattle.tcap_laws.proofs.Receptions.SoundReceptions.{IfSends, IsSound, reception-sound}
 use Rattle.tcap_laws.proofs.ListLemmas.{each-append, one-of}
 use Rattle.tcap_model.specs.Invocations.SentThere.{marks_up_to}
+use Rattle.tcap_model.specs.Statements.ComponentPortion.{portion_of}
 
 -- ---- the end of a dialogue, and its Abort
 

@@ -7,7 +7,6 @@ use Rattle.tcap_model.specs.Words.Answer.{Answer}
 use Rattle.tcap_model.specs.Histories.Birth.{next_dialogue}
 use Rattle.tcap_model.specs.Histories.Clock.{clock}
 use Rattle.tcap_model.specs.Procedures.ComponentHandling.{Item, SentInvocation, Handled, subject_of, handled}
-use Rattle.tcap_model.specs.Statements.ComponentLaws.{portion_of, StandsFor, IsOfComponent, ToldFromOne, EachIsToldFrom}
 use Rattle.tcap_model.specs.Replies.Due.{due, birth_due, standing_of}
 use Rattle.tcap_model.specs.Words.Event.{Event}
 use Rattle.tcap_model.specs.Words.Fault.{Fault}
@@ -30,6 +29,8 @@ use Rattle.tcap_laws.proofs.Receptions.EachOutput.{HoldsBesides, HoldsOfEach, re
 use Rattle.tcap_laws.proofs.Receptions.HandledComponents.{ComesOf, comes_of}
 use Rattle.tcap_laws.proofs.ListLemmas.{each-append, one-of}
 use Rattle.tcap_model.specs.Invocations.SentThere.{sent_there}
+use Rattle.tcap_model.specs.Statements.ToldFrom.{EachIsToldFrom, IsOfComponent, StandsFor, ToldFromOne}
+use Rattle.tcap_model.specs.Statements.ComponentPortion.{portion_of}
 
 -- ---- outputs that are no indication of a component
 
@@ -209,7 +210,7 @@ legal-before start [] past legal = legal
 legal-before start (pair ∷ later) past legal = legal-before start later past legal.2
 
 pub told-from : EachIsToldFrom
-told-from h legal pair before output stands tells of =
-    let here = legal-before h.start stands.later (pair ∷ before) (subst (AreReplies h.start) stands.is_past legal.1) in
-    let all = subst (AnswerStands pair.event) (sym here.1 ∙ tells.is_answer) (reply-stands (record { start = h.start; pairs = before }) pair.event) in
-    one-of (StandsForOne pair.event) tells.earlier tells.later output all of
+told-from h legal told =
+    let here = legal-before h.start told.stands.later (told.pair ∷ told.before) (subst (AreReplies h.start) told.stands.is_past legal.1) in
+    let all = subst (AnswerStands told.pair.event) (sym here.1 ∙ told.tells.is_answer) (reply-stands (record { start = h.start; pairs = told.before }) told.pair.event) in
+    one-of (StandsForOne told.pair.event) told.tells.earlier told.tells.later told.output all told.is_of_component

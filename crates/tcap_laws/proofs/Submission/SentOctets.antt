@@ -9,7 +9,6 @@ use Rattle.tcap_component.specs.ComponentList.{SpellsComponents}
 use Rattle.tcap_component.specs.ComponentReading.{components_of}
 use Rattle.tcap_component.proofs.CallerLemmas.{first_fault_again}
 use Rattle.tcap_model.specs.Procedures.AbortRules.{sent_if_any}
-use Rattle.tcap_model.specs.Statements.ComponentLaws.{portion_of}
 use Rattle.tcap_model.specs.Replies.Due.{situation_of, standing_of}
 use Rattle.tcap_model.specs.Words.Fault.{Fault}
 use Rattle.tcap_model.specs.Replies.Held.{pending}
@@ -35,6 +34,7 @@ use Rattle.tcap_laws.proofs.Queues.SentComponents.{all-first, same-items}
 use Rattle.tcap_laws.proofs.Submission.SubmittedParts.{components, joined-spelled}
 use Rattle.tcap_laws.proofs.Submission.SubmittedRequests.{Waits, waits-now}
 use Rattle.tcap_laws.proofs.Receptions.ToldOutputKinds.{IsTold, AreTold, ended-told}
+use Rattle.tcap_model.specs.Statements.ComponentPortion.{portion_of}
 
 -- ---- what is told besides has no octets
 

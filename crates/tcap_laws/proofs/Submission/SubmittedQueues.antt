@@ -11,7 +11,6 @@ use Rattle.tcap_component.specs.Written.{CanWriteComponent}
 use Rattle.tcap_model.specs.Words.Answer.{Answer, is_accepted}
 use Rattle.tcap_model.specs.Histories.Birth.{births, born_of, is_birth_of, next_dialogue, was_born}
 use Rattle.tcap_model.specs.Procedures.ComponentHandling.{Handled}
-use Rattle.tcap_model.specs.Statements.ComponentLaws.{portion_of}
 use Rattle.tcap_model.specs.Words.Event.{Event}
 use Rattle.tcap_model.specs.Histories.History.{History, Start}
 use Rattle.tcap_model.specs.Words.InRange.{is_in_range, is_request, is_short}
@@ -31,6 +30,7 @@ use Rattle.tcap_laws.proofs.Isolation.SeenDecisions.{unborn_refused}
 use Rattle.tcap_laws.proofs.Submission.SubmittedParts.{octets-counted, written_all, each-fitting, IsGood, fitting-good, rejects-written}
 use Rattle.tcap_laws.proofs.Submission.SubmittedReceptions.{received-agrees}
 use Rattle.tcap_laws.proofs.Submission.SubmittedRequests.{Waits, waits-now, step, stays, more, request-waits}
+use Rattle.tcap_model.specs.Statements.ComponentPortion.{portion_of}
 
 -- ---- before its birth nothing waits for a dialogue
 

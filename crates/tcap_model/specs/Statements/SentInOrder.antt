@@ -5,7 +5,6 @@ use Rattle.tcap_component.specs.Component.{ComponentParts}
 use Rattle.tcap_component.specs.ComponentList.{FirstFault}
 use Rattle.tcap_component.specs.Written.{written_component}
 use Rattle.tcap_model.specs.Words.Answer.{Answer}
-use Rattle.tcap_model.specs.Statements.ComponentLaws.{portion_of}
 use Rattle.tcap_model.specs.Words.Event.{Event}
 use Rattle.tcap_model.specs.Histories.History.{History}
 use Rattle.tcap_model.specs.Replies.Legal.{IsLegal}
@@ -15,6 +14,7 @@ use Rattle.tcap_model.specs.Replies.Queue.{queue}
 use Rattle.tcap_model.specs.Procedures.QueueRules.{Queued}
 use Rattle.tcap_model.specs.Statements.Places.{StandsIn, Tells}
 use Rattle.tcap_model.specs.Statements.Submitted.{Submitted, is_sending, unsent, submitted}
+use Rattle.tcap_model.specs.Statements.ComponentPortion.{portion_of}
 
 -- ---- the octets that are sent
 

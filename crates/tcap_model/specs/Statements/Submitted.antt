@@ -8,7 +8,6 @@ use Rattle.tcap_component.specs.Component.{ComponentParts}
 use Rattle.tcap_component.specs.Written.{written_component}
 use Rattle.tcap_model.specs.Words.Answer.{Answer, is_accepted}
 use Rattle.tcap_model.specs.Procedures.ComponentHandling.{Handled}
-use Rattle.tcap_model.specs.Statements.ComponentLaws.{portion_of}
 use Rattle.tcap_model.specs.Procedures.ComponentRequest.{component_of}
 use Rattle.tcap_model.specs.Words.Event.{Event}
 use Rattle.tcap_model.specs.Invocations.Numbers.{number_of}
@@ -17,6 +16,7 @@ use Rattle.tcap_model.specs.Histories.Pair.{Pair, Past}
 use Rattle.tcap_model.specs.Replies.Queue.{handled_in}
 use Rattle.tcap_model.specs.Procedures.QueueRules.{queue_limit}
 use Rattle.tcap_model.specs.Words.Request.{Request, Ending, DialogueRequest}
+use Rattle.tcap_model.specs.Statements.ComponentPortion.{portion_of}
 
 -- A component that is submitted for the next message of a dialogue and, of an Invoke, the number of its
 -- invocation (own).
