@@ -11,10 +11,8 @@ use Rattle.tcap_examples.specs.Computing.{computing}
 use Rattle.tcap_model.specs.Replies.Legal.{IsLegal}
 use Rattle.tcap_model.specs.Statements.Net.{Engine, IsNet, side, history_in}
 use Rattle.tcap_model.specs.Words.Output.{Output, ComponentIndication, DialogueIndication}
-use Rattle.tcap_model.specs.Statements.Places.{StandsIn}
-use Rattle.tcap_model.specs.Invocations.Invocation.{Invocation}
-use Rattle.tcap_model.specs.Histories.Pair.{Pair}
-use Rattle.tcap_model.specs.Statements.TwoEnds.{IsAnswer, UsesOnce, AnswersInvoke, AnswersWhatItWasTold, WasOpened}
+use Rattle.tcap_model.specs.Statements.TwoEnds.{AcceptedAnswer, AcceptedInvoke, UsesOnce, AnswersInvoke, AnswersWhatItWasTold, WasOpened}
+use Rattle.tcap_model.specs.Statements.FarAnswer.{IsAnswer}
 use Rattle.tcap_examples.specs.Nets.PlayedNets.{invoked, answer, result_continue, used_again, IsAnsweredAhead, second_invoke, answered_ahead, heard_as_one}
 use Rattle.tcap_examples.specs.Values.HistoryWords.{dialogue_born, invoke_pair, request_pair, received_pair, continued, empty_result}
 use Rattle.tcap_examples.specs.Values.Hex.{hex}
@@ -44,7 +42,7 @@ ahead-fails = record {
   before = drop 1 answered_ahead.trace;
   id = pos 1;
   output = closes 1;
-  request_pair = answer;
+  request = answer;
   asked = request_pair 1 answer Answer.done;
   earlier = drop 5 answered_ahead.trace;
   happens = record { later = []; is_trace = refl };
@@ -58,10 +56,18 @@ ahead-fails = record {
 pub ahead-untold : AnswersWhatItWasTold Engine.b answered_ahead.trace → ⊥
 ahead-untold told =
     let past = side Engine.b answered_ahead.trace in
-    let asked = request_pair 1 answer Answer.done in
-    let stands : StandsIn asked (drop 2 past) past = record { later = take 1 past; is_past = refl } in
-    let invoked = told asked (drop 2 past) 1 (pos 1) answer stands refl refl (AnswersInvoke.a_result_last None) in
-    not_told 1 (pos 1) (drop 2 past) (refl, (refl, tt)) invoked
+    let ahead : AcceptedAnswer past = record {
+      pair = request_pair 1 answer Answer.done;
+      before = drop 2 past;
+      dialogue = 1;
+      id = pos 1;
+      request = answer;
+      stands = record { later = take 1 past; is_past = refl };
+      is_event = refl;
+      accepted = refl;
+      answers = AnswersInvoke.a_result_last None;
+    } in
+    not_told 1 (pos 1) (drop 2 past) (refl, (refl, tt)) (told ahead)
 
 -- ---- two dialogues heard as one
 
@@ -104,7 +110,7 @@ heard-fails = record {
   before = drop 1 heard_as_one.trace;
   id = pos 1;
   output = closes 2;
-  request_pair = answer;
+  request = answer;
   asked = request_pair 1 answer Answer.done;
   earlier = drop 5 heard_as_one.trace;
   happens = record { later = []; is_trace = refl };
@@ -168,7 +174,7 @@ again-fails = record {
   before = drop 1 used_again.trace;
   id = pos 1;
   output = closes 2;
-  request_pair = answer;
+  request = answer;
   asked = request_pair 1 answer Answer.done;
   earlier = drop 7 used_again.trace;
   happens = record { later = []; is_trace = refl };
@@ -183,13 +189,21 @@ again-fails = record {
 pub again-used_twice : UsesOnce Engine.a 1 used_again.trace → ⊥
 again-used_twice once =
     let past = side Engine.a used_again.trace in
-    let asked : ℕ → Pair = λ number. invoke_pair 1 (pos 1) One (pos 10) 5000 (Answer.number number) in
-    let made : ℕ → Invocation =
-    λ number. record { number = number; dialogue = 1; id = pos 1; class = One; timeout = 5000 } in
-    let stands : StandsIn (asked 1) (drop 7 past) past = record { later = take 6 past; is_past = refl } in
-    let stood : StandsIn (asked 2) (drop 3 past) past = record { later = take 2 past; is_past = refl } in
-    let same : 1 ≡ 2 = once (asked 1) (asked 2) (drop 7 past) (drop 3 past) (made 1) (made 2) stands stood
-    refl refl refl refl refl in
+    let one : AcceptedInvoke past = record {
+      pair = invoke_pair 1 (pos 1) One (pos 10) 5000 (Answer.number 1);
+      before = drop 7 past;
+      invocation = record { number = 1; dialogue = 1; id = pos 1; class = One; timeout = 5000 };
+      stands = record { later = take 6 past; is_past = refl };
+      makes = refl;
+    } in
+    let other : AcceptedInvoke past = record {
+      pair = invoke_pair 1 (pos 1) One (pos 10) 5000 (Answer.number 2);
+      before = drop 3 past;
+      invocation = record { number = 2; dialogue = 1; id = pos 1; class = One; timeout = 5000 };
+      stands = record { later = take 2 past; is_past = refl };
+      makes = refl;
+    } in
+    let same : 1 ≡ 2 = once one other refl refl refl in
     omega (arith, same)
 
 -- What the tests state.

@@ -12,7 +12,7 @@ use Rattle.tcap_examples.proofs.ComponentPremises.{first_fault_at, sent_from, to
 use Rattle.tcap_examples.proofs.PlaceLemmas.{at_place}
 use Rattle.tcap_model.specs.Words.Answer.{Answer}
 use Rattle.tcap_model.specs.Statements.ToldFrom.{StandsFor, IsOfComponent, ToldFromOne, ToldFrom}
-use Rattle.tcap_model.specs.Statements.SentFrom.{WasRequested, WasFormed, ComesFrom, SentFromOne, SentFrom}
+use Rattle.tcap_model.specs.Statements.SentFrom.{SentPortion, WasRequested, WasFormed, ComesFrom, SentFromOne, SentFrom}
 use Rattle.tcap_model.specs.Statements.ComponentPortion.{portion_of}
 use Rattle.tcap_examples.specs.Computing.{computing}
 use Rattle.tcap_model.specs.Words.Event.{Event}
@@ -233,9 +233,20 @@ not_from dialogue is from = elim (subst (λ (d : ℕ). ComesFrom d crossed_queue
 
 pub crossed-not-sent-from : SentFrom (whole crossed_queues) → ⊥
 unfolding computing
-crossed-not-sent-from from = elim (from crossed_queues.last crossed_queues.before crossed_sent crossed_message (crossed_invoke ∷ []) None
-    (record { later = []; is_past = refl }) (record { earlier = []; later = []; is_answer = refl })
-    (frame_takes crossed_sent crossed_message refl) (first_fault_at (portion_of crossed_message) (crossed_invoke ∷ []) None refl)) [
+crossed-not-sent-from from =
+    let sent : SentPortion (whole crossed_queues) = record {
+      pair = crossed_queues.last;
+      before = crossed_queues.before;
+      bytes = crossed_sent;
+      message = crossed_message;
+      components = crossed_invoke ∷ [];
+      fault = None;
+      stands = record { later = []; is_past = refl };
+      tells = record { earlier = []; later = []; is_answer = refl };
+      spelled = frame_takes crossed_sent crossed_message refl;
+      read = first_fault_at (portion_of crossed_message) (crossed_invoke ∷ []) None refl;
+    } in
+    elim (from sent) [
       | inl empty ↦ apart length empty refl
       | inr one ↦ not_from one.dialogue (ap asked one.is_event) one.each.0
     ]

@@ -11,7 +11,7 @@ use Rattle.tcap_model.specs.Statements.Net.{Engine, Trace, side, is_engine}
 use Rattle.tcap_model.specs.Words.Output.{Output, ComponentIndication}
 use Rattle.tcap_model.specs.Histories.Pair.{Pair, Past}
 use Rattle.tcap_model.specs.Words.Request.{Request, ComponentRequest}
-use Rattle.tcap_model.specs.Statements.TwoEnds.{UsesOnce, AnswersInvoke, WasInvoked, AnswersWhatItWasTold, WasOpened}
+use Rattle.tcap_model.specs.Statements.TwoEnds.{AcceptedInvoke, UsesOnce, AnswersInvoke, WasInvoked, AnswersWhatItWasTold, WasOpened}
 
 pub not_both : Engine.a ≡ Engine.b → ⊥
 not_both same = false≢true (sym (ap (is_engine Engine.a) same))
@@ -24,11 +24,12 @@ IsOnly dialogue number None = Unit {0}
 IsOnly dialogue number (Some i) = i.dialogue ≡ dialogue → i.number ≡ number
 
 pub uses_once : (engine : Engine) (dialogue number : ℕ) (trace : Trace) → Everywhere (λ (pair : Pair) before. IsOnly dialogue number (invoked_by pair)) (side engine trace) → UsesOnce engine dialogue trace
-uses_once engine dialogue number trace all one other before later i j stands stood is_i is_j in_i in_j same =
-    let P : Pair → Past → Type 0 = λ pair before. IsOnly dialogue number (invoked_by pair) in
-    let first : IsOnly dialogue number (Some i) = subst (IsOnly dialogue number) is_i (at_place P (side engine trace) all one before stands) in
-    let second : IsOnly dialogue number (Some j) = subst (IsOnly dialogue number) is_j (at_place P (side engine trace) all other later stood) in
-    first in_i ∙ sym (second in_j)
+uses_once engine dialogue number trace all one other in_one in_other same = numbered one in_one ∙ sym (numbered other in_other)
+  where
+    numbered : (made : AcceptedInvoke (side engine trace)) → made.invocation.dialogue ≡ dialogue → made.invocation.number ≡ number
+    numbered made =
+        let P : Pair → Past → Type 0 = λ pair before. IsOnly dialogue number (invoked_by pair) in
+        subst (IsOnly dialogue number) made.makes (at_place P (side engine trace) all made.pair made.before made.stands)
 
 -- ---- answers
 
@@ -70,9 +71,11 @@ ToldBefore (Event.received bytes) before = Unit {0}
 ToldBefore (Event.moment now) before = Unit {0}
 
 pub answers_what_it_was_told : (engine : Engine) (trace : Trace) → Everywhere (λ (pair : Pair) before. ToldBefore pair.event before) (side engine trace) → AnswersWhatItWasTold engine trace
-answers_what_it_was_told engine trace all pair before dialogue id request stands is accepted answers =
-    let told : ToldBefore (Event.on_dialogue dialogue request) before = subst (λ (e : Event). ToldBefore e before) is (at_place (λ (pair : Pair) before. ToldBefore pair.event before) (side engine trace) all pair before stands) in
-    subst (ToldFor dialogue before) (answers_is id request answers) told
+answers_what_it_was_told engine trace all answer =
+    let P : Pair → Past → Type 0 = λ pair before. ToldBefore pair.event before in
+    let here = at_place P (side engine trace) all answer.pair answer.before answer.stands in
+    let told : ToldBefore (Event.on_dialogue answer.dialogue answer.request) answer.before = subst (λ (e : Event). ToldBefore e answer.before) answer.is_event here in
+    subst (ToldFor answer.dialogue answer.before) (answers_is answer.id answer.request answer.answers) told
 
 -- Whether an output tells an Invoke.
 abbrev pub is_invoke : Output → Bool

@@ -10,13 +10,24 @@ use Rattle.tcap_model.specs.Replies.Legal.{IsLegal}
 use Rattle.tcap_model.specs.Statements.Net.{Engine, Marked, Trace, IsCarried, side, history_in}
 use Rattle.tcap_model.specs.Words.Output.{Output, ComponentIndication, DialogueIndication}
 use Rattle.tcap_model.specs.Histories.Pair.{Pair, Past}
-use Rattle.tcap_model.specs.Statements.TwoEnds.{IsAnswer, ComesFromFar, WasAsked, Origin, Operations}
+use Rattle.tcap_model.specs.Statements.TwoEnds.{WasAsked, Origin, Operations}
+use Rattle.tcap_model.specs.Statements.FarAnswer.{IsAnswer, ComesFromFar}
 use Rattle.tcap_examples.specs.Nets.PlayedNets.{answer, result_continue, forged}
 use Rattle.tcap_examples.specs.Values.HistoryWords.{request_pair, received_pair, continued, empty_result}
 use Rattle.std.proofs.lemmas.Bool.{false≢true}
 use Rattle.tcap_model.specs.Words.Event.{Event}
 use Rattle.tcap_examples.specs.Values.Hex.{hex}
 use Rattle.tcap_model.specs.Words.Request.{Request, ComponentRequest}
+
+-- The result that closes the invocation, and what is told of the Begin.
+abbrev closes : Output
+closes = Output.component (ComponentIndication.closed 1 1 (pos 1) empty_result)
+
+abbrev begun : Output
+begun = Output.dialogue (DialogueIndication.begin 1 None [])
+
+abbrev invoked : Output
+invoked = Output.component (ComponentIndication.invoked (Some 1) (pos 1) None (code 11) None)
 
 pub forged-legal : (engine : Engine) → IsLegal (history_in forged engine forged.trace)
 unfolding computing
@@ -32,9 +43,19 @@ not_from_far dialogue asked from =
     not_both (sym (at_happening All (drop 2 forged.trace) (refl, (refl, (refl, (refl, (refl, tt))))) Engine.b from.pair from.before from.happens))
 
 pub forged-no_origin : Origin forged.trace → ⊥
-forged-no_origin origin = not_from_far 1 answer (origin Engine.a
-    (received_pair result_continue (continued 1 ∷ Output.component (ComponentIndication.closed 1 1 (pos 1) empty_result) ∷ [])) (drop 2 forged.trace) 1 1 (pos 1) (Output.component (ComponentIndication.closed 1 1 (pos 1) empty_result)) answer
-    (record { later = take 1 forged.trace; is_trace = refl }) (record { earlier = continued 1 ∷ []; later = []; is_answer = refl }) (IsAnswer.a_result_last None))
+forged-no_origin origin = not_from_far 1 answer (origin (record {
+  engine = Engine.a;
+  pair = received_pair result_continue (continued 1 ∷ closes ∷ []);
+  before = drop 2 forged.trace;
+  dialogue = 1;
+  number = 1;
+  id = pos 1;
+  output = closes;
+  request = answer;
+  happens = record { later = take 1 forged.trace; is_trace = refl };
+  tells = record { earlier = continued 1 ∷ []; later = []; is_answer = refl };
+  is_answer = IsAnswer.a_result_last None;
+}))
 
 -- A local operation code.
 abbrev local_code : CodeParts → ℕ
@@ -55,7 +76,7 @@ operation (Request.dialogue asked) = 0
 -- The operation that an event asks for.
 abbrev asked_for : Event → ℕ
 asked_for Event.new_dialogue = 0
-asked_for (Event.on_dialogue dialogue request_pair) = operation request_pair
+asked_for (Event.on_dialogue dialogue request) = operation request
 asked_for (Event.received bytes) = 0
 asked_for (Event.moment now) = 0
 
@@ -66,7 +87,13 @@ not_asked asked =
     false≢true (sym other ∙ ap (λ (event : Event). asked_for event == 11) asked.is_event)
 
 pub forged-no_operation : Operations forged.trace → ⊥
-forged-no_operation operations = not_asked (operations Engine.b
-    (received_pair (hex 18 0x6210_480400000001_6C08_A106_020101_02010B) (Output.dialogue (DialogueIndication.begin 1 None []) ∷ Output.component (ComponentIndication.invoked (Some 1) (pos 1) None (code 11) None) ∷ []))
-    (drop 1 forged.trace) (Some 1) (pos 1) None (code 11) None
-    (record { later = []; is_trace = refl }) (record { earlier = Output.dialogue (DialogueIndication.begin 1 None []) ∷ []; later = []; is_answer = refl }))
+forged-no_operation operations = not_asked (operations Engine.b (Some 1) (record {
+  pair = received_pair (hex 18 0x6210_480400000001_6C08_A106_020101_02010B) (begun ∷ invoked ∷ []);
+  before = drop 1 forged.trace;
+  id = pos 1;
+  linked = None;
+  code = code 11;
+  parameter = None;
+  happens = record { later = []; is_trace = refl };
+  tells = record { earlier = begun ∷ []; later = []; is_answer = refl };
+}))

@@ -10,7 +10,8 @@ use Rattle.tcap_model.specs.Invocations.Invocation.{Invocation}
 use Rattle.tcap_model.specs.Statements.Net.{Engine, side}
 use Rattle.tcap_model.specs.Words.Output.{Output, ComponentIndication, DialogueIndication}
 use Rattle.tcap_model.specs.Statements.Places.{Tells}
-use Rattle.tcap_model.specs.Statements.TwoEnds.{Happens, WasSent, WasAsked}
+use Rattle.tcap_model.specs.Statements.TwoEnds.{WasSent, WasAsked}
+use Rattle.tcap_model.specs.Statements.FarAnswer.{Happens}
 use Rattle.tcap_examples.specs.Nets.PlayedNets.{invoked, alone_told, in_a_unidirectional, end_told, in_an_end}
 use Rattle.tcap_examples.specs.Histories.Readings.{given_up_before_it_was_sent}
 use Rattle.tcap_examples.specs.Statements.HeadlineExamples.{first}

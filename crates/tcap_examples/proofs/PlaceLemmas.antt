@@ -11,7 +11,8 @@ use Rattle.tcap_model.specs.Words.Output.{Output}
 use Rattle.tcap_model.specs.Histories.Pair.{Pair, Past}
 use Rattle.tcap_model.specs.Statements.Places.{StandsIn, Tells}
 use Rattle.tcap_model.specs.Invocations.Span.{span}
-use Rattle.tcap_model.specs.Statements.TwoEnds.{Happens, WasSent}
+use Rattle.tcap_model.specs.Statements.TwoEnds.{WasSent}
+use Rattle.tcap_model.specs.Statements.FarAnswer.{Happens}
 
 -- A fact of each entry and of what stands before it.
 abbrev pub Everywhere : {X : Type 0} → (X → List X → Type 0) → List X → Type 0

@@ -9,9 +9,9 @@ use Rattle.tcap_model.specs.Words.Answer.{Answer}
 use Rattle.tcap_examples.specs.Computing.{computing}
 use Rattle.tcap_model.specs.Statements.Net.{Engine, Marked, Trace, side}
 use Rattle.tcap_model.specs.Words.Output.{Output, DialogueIndication}
-use Rattle.tcap_model.specs.Histories.Pair.{Pair}
 use Rattle.tcap_model.specs.Statements.Places.{Tells}
-use Rattle.tcap_model.specs.Statements.TwoEnds.{Happens, IsAnswer, IsFarRequest, ComesFromFar, UsesOnce, AnswersWhatItWasTold, WasOpened, WasSent, WasAsked}
+use Rattle.tcap_model.specs.Statements.TwoEnds.{UsesOnce, AnswersWhatItWasTold, WasOpened, WasSent, WasAsked}
+use Rattle.tcap_model.specs.Statements.FarAnswer.{Happens, IsAnswer, ComesFromFar}
 use Rattle.tcap_examples.specs.Nets.PlayedNets.{invoked, repeated_begin, before_the_answer, answer_told, answer_closes, second_body, second_request, before_the_repeat, repeat_told}
 use Rattle.tcap_examples.specs.Nets.Play as play
 use Rattle.tcap_examples.specs.Statements.HeadlineExamples.{first}
@@ -88,14 +88,14 @@ sent : WasSent 1 (side Engine.a (drop 10 repeated_begin.trace))
 unfolding computing
 sent = record { invocation = first; is_invocation = refl; is_sent = refl }
 
-pub repeat-after : (asked : Pair) (earlier : Trace) → Happens Engine.b asked earlier before_the_answer
-    → IsFarRequest Engine.a 1 second_request asked earlier → WasSent 1 (side Engine.a earlier)
-repeat-after asked earlier happens is =
+pub repeat-after : (source : ComesFromFar Engine.a 1 second_request before_the_answer)
+    → WasSent 1 (side Engine.a source.before)
+repeat-after source =
     let After : Marked → Trace → Type 0 = λ m earlier. m.engine ≡ Engine.b → WasSent 1 (side Engine.a earlier) in
     let b : Engine.b ≡ Engine.b → WasSent 1 (side Engine.a (drop 10 repeated_begin.trace)) = λ own. sent in
     at_happening After before_the_answer
     (b, (b, (b, (b, (b, (b, ((λ a. absurd (not_both a)), ((λ a. absurd (not_both a)), ((λ a. absurd (not_both a)), tt)))))))))
-    Engine.b asked earlier happens refl
+    Engine.b source.pair source.before source.happens refl
 
 pub repeat-invoked-happens : Happens Engine.b repeat_told before_the_repeat repeated_begin.trace
 repeat-invoked-happens = record { later = take 8 repeated_begin.trace; is_trace = refl }

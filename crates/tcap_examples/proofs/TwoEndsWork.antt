@@ -7,10 +7,9 @@ use Rattle.tcap_examples.proofs.RepeatedBegin.{repeat-origin, repeat-after, repe
 use Rattle.tcap_examples.proofs.PlaceLemmas.{Everywhere, at_happening, outputs_of, told_there}
 use Rattle.tcap_model.specs.Statements.Net.{Engine, far, Marked, Trace, side}
 use Rattle.tcap_model.specs.Words.Output.{Output, Closing, Rejector, ComponentIndication}
-use Rattle.tcap_model.specs.Histories.Pair.{Pair}
-use Rattle.tcap_model.specs.Statements.Places.{Tells}
 use Rattle.tcap_model.specs.Words.Request.{Request, ComponentRequest}
-use Rattle.tcap_model.specs.Statements.TwoEnds.{Happens, IsAnswer, IsFarRequest, ComesFromFar, Origin, WasSent, AfterInvoke, Once, WasAsked, Operations, TwoEnds}
+use Rattle.tcap_model.specs.Statements.TwoEnds.{Origin, WasSent, AfterInvoke, Once, WasAsked, Operations, TwoEnds}
+use Rattle.tcap_model.specs.Statements.FarAnswer.{FarAnswer, IsAnswer, ComesFromFar}
 use Rattle.tcap_examples.specs.Nets.PlayedNets.{repeated_begin}
 
 -- An answer that is told: its dialogue and number, and the request that the far user makes for it.
@@ -56,10 +55,12 @@ IfAnswer P (Some answer) = P answer
 abbrev OfAnswers : (Engine → Trace → Answered → Type 0) → Marked → Trace → Type 0
 OfAnswers P m before = AllByRecursion (λ output. IfAnswer (P m.engine before) (answer_in output)) (outputs_of m.pair.answer)
 
-at_answer : (P : Engine → Trace → Answered → Type 0) (trace : Trace) → Everywhere (OfAnswers P) trace → (engine : Engine) (pair : Pair) (before : Trace) (dialogue number : ℕ) (id : ℤ) (output : Output) (request : Request) → Happens engine pair before trace → Tells pair.answer output → IsAnswer dialogue number id output request → P engine before (record { dialogue = dialogue; number = number; request = request })
-at_answer P trace all engine pair before dialogue number id output request happens tells is =
-    let here = at_happening (OfAnswers P) trace all engine pair before happens in
-    subst (IfAnswer (P engine before)) (is_in dialogue number id output request is) (told_there (λ output. IfAnswer (P engine before) (answer_in output)) pair.answer output tells here)
+at_answer : (P : Engine → Trace → Answered → Type 0) (trace : Trace) → Everywhere (OfAnswers P) trace → (answer : FarAnswer trace) →
+    P answer.engine answer.before (record { dialogue = answer.dialogue; number = answer.number; request = answer.request })
+at_answer P trace all answer =
+    let here = at_happening (OfAnswers P) trace all answer.engine answer.pair answer.before answer.happens in
+    subst (IfAnswer (P answer.engine answer.before)) (is_in answer.dialogue answer.number answer.id answer.output answer.request answer.is_answer)
+    (told_there (λ output. IfAnswer (P answer.engine answer.before) (answer_in output)) answer.pair.answer answer.output answer.tells here)
 
 -- ---- origin
 
@@ -73,13 +74,13 @@ origin = at_answer IsFromFar repeated_begin.trace
 -- ---- after the Invoke
 
 abbrev IsAfter : Engine → Trace → Answered → Type 0
-IsAfter engine before answer = (asked : Pair) (earlier : Trace) → Happens (far engine) asked earlier before → IsFarRequest engine answer.dialogue answer.request asked earlier → WasSent answer.number (side engine earlier)
+IsAfter engine before answer = (source : ComesFromFar engine answer.dialogue answer.request before) → WasSent answer.number (side engine source.before)
 
 after_invoke : AfterInvoke repeated_begin.trace
-after_invoke engine pair before dialogue number id output request once told opened =
+after_invoke answer orderly =
     at_answer IsAfter repeated_begin.trace
     (tt, (tt, ((tt, (tt, tt)), ((tt, (repeat-after, tt)), ((tt, tt), (tt, ((tt, tt), (tt, ((tt, (tt, tt)), ((tt, (tt, tt)), ((tt, tt), (tt, (tt, tt)))))))))))))
-    engine pair before dialogue number id output request
+    answer
 
 -- ---- once
 
@@ -104,12 +105,13 @@ AskedFor engine before (Output.component (ComponentIndication.closed dialogue nu
 AskedFor engine before (Output.dropped why) = Unit {0}
 
 operations : Operations repeated_begin.trace
-operations engine pair before dialogue id linked code parameter happens tells =
+operations engine dialogue told =
     let Asked : Marked → Trace → Type 0 = λ m before. AllByRecursion (AskedFor m.engine before) (outputs_of m.pair.answer) in
     let here = at_happening Asked repeated_begin.trace
     (tt, (tt, ((tt, (tt, tt)), ((tt, (tt, tt)), ((tt, tt), (tt, ((tt, tt), (tt, ((tt, (repeat-asked, tt)), ((tt, (repeat-asked, tt)), ((tt, tt), (tt, (tt, tt)))))))))))))
-    engine pair before happens in
-    told_there (AskedFor engine before) pair.answer (Output.component (ComponentIndication.invoked dialogue id linked code parameter)) tells here
+    engine told.pair told.before told.happens in
+    told_there (AskedFor engine told.before) told.pair.answer
+    (Output.component (ComponentIndication.invoked dialogue told.id told.linked told.code told.parameter)) told.tells here
 
 pub repeated_begin_is_two_ended : TwoEnds repeated_begin.trace
 repeated_begin_is_two_ended = record { origin = origin; after_invoke = after_invoke; once = once; operations = operations }

@@ -12,7 +12,8 @@ use Rattle.tcap_model.specs.Words.Output.{Output, Closing}
 use Rattle.tcap_model.specs.Histories.Pair.{Pair}
 use Rattle.tcap_model.specs.Statements.Places.{Tells}
 use Rattle.tcap_model.specs.Words.Request.{Request, Ending}
-use Rattle.tcap_model.specs.Statements.TwoEnds.{Happens, IsAnswer, IsFarRequest, WasSent}
+use Rattle.tcap_model.specs.Statements.TwoEnds.{WasSent}
+use Rattle.tcap_model.specs.Statements.FarAnswer.{Happens, IsAnswer, IsFarRequest}
 use Rattle.tcap_examples.specs.Nets.Play as play
 use Rattle.tcap_examples.specs.Values.HistoryWords.{dialogue_born, invoke_pair, request_pair, received_pair, moment_pair, begin_request, continue_request, continued, empty_result}
 use Rattle.tcap_examples.specs.Values.Asked as asks
@@ -61,14 +62,14 @@ pub record IsAnsweredAhead (engine : Engine) (dialogue number : ℕ) (trace : Tr
   pub before : Trace
   pub id : ℤ
   pub output : Output
-  pub request_pair : Request
+  pub request : Request
   pub asked : Pair
   pub earlier : Trace
   pub happens : Happens engine pair before trace
   pub tells : Tells pair.answer output
-  pub is_answer : IsAnswer dialogue number id output request_pair
+  pub is_answer : IsAnswer dialogue number id output request
   pub was_asked : Happens (far engine) asked earlier before
-  pub is_far_request : IsFarRequest engine dialogue request_pair asked earlier
+  pub is_far_request : IsFarRequest engine dialogue request asked earlier
   pub not_sent : WasSent number (side engine earlier) → ⊥
 
 -- ---- a repeated Begin

@@ -10,7 +10,8 @@ ghost use Rattle.tcap_model.specs.Replies.Legal.{IsLegal};
 ghost use Rattle.tcap_model.specs.Statements.Net.{Engine, Trace, IsNet, IsCarried, history_in, side};
 ghost use Rattle.tcap_model.specs.Histories.Pair.{Pair};
 ghost use Rattle.tcap_model.specs.Statements.Places.{Tells};
-ghost use Rattle.tcap_model.specs.Statements.TwoEnds.{Happens, IsAnswer, IsFarRequest, ComesFromFar, UsesOnce, AnswersWhatItWasTold, WasOpened, WasSent, WasAsked, Origin, Operations, TwoEnds};
+ghost use Rattle.tcap_model.specs.Statements.TwoEnds.{UsesOnce, AnswersWhatItWasTold, WasOpened, WasSent, WasAsked, Origin, Operations, TwoEnds};
+ghost use Rattle.tcap_model.specs.Statements.FarAnswer.{Happens, IsAnswer, IsFarRequest, ComesFromFar};
 ghost use Rattle.tcap_examples.specs.Nets.PlayedNets.{repeated_begin, before_the_answer, answer_told, answer_closes, second_request, before_the_repeat, repeat_told, invoked, answered_ahead, heard_as_one, used_again, forged, alone_told, in_a_unidirectional, end_told, in_an_end, IsAnsweredAhead};
 ghost use Rattle.tcap_examples.specs.Histories.Readings.{given_up_before_it_was_sent};
 ghost use Rattle.tcap_examples.specs.Values.Told as told;
@@ -32,7 +33,7 @@ pub fn an_answer_comes_after_its_invoke()
     ensures uses_once { UsesOnce Engine.a 1 repeated_begin.trace }
     ensures answers_what_it_was_told { AnswersWhatItWasTold Engine.b repeated_begin.trace }
     ensures opened { WasOpened Engine.a 1 repeated_begin.trace }
-    ensures after { (asked : Pair) (earlier : Trace) → Happens Engine.b asked earlier before_the_answer → IsFarRequest Engine.a 1 second_request asked earlier → WasSent 1 (side Engine.a earlier) }
+    ensures after { (source : ComesFromFar Engine.a 1 second_request before_the_answer) → WasSent 1 (side Engine.a source.before) }
 {}
 
 /// The Invoke that the second delivery tells was asked for and sent before.

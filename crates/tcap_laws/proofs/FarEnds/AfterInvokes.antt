@@ -13,17 +13,18 @@ use Rattle.tcap_model.specs.Invocations.Invocation.{Invocation, invocation_of, i
 use Rattle.tcap_model.specs.Replies.Legal.{AreReplies}
 use Rattle.tcap_model.specs.Histories.Life.{Life, life}
 use Rattle.tcap_model.specs.Words.LocalId.{local_id}
-use Rattle.tcap_model.specs.Statements.Net.{Engine, Trace, far, side, history_in, Net, IsNet}
+use Rattle.tcap_model.specs.Statements.Net.{Engine, far, side, history_in, Net, IsNet}
 use Rattle.tcap_model.specs.Words.Output.{Output, ComponentIndication}
 use Rattle.tcap_model.specs.Histories.Pair.{Pair, Past}
 use Rattle.tcap_model.specs.Statements.Places.{StandsIn, Tells}
 use Rattle.tcap_model.specs.Replies.Reply.{reply}
 use Rattle.tcap_model.specs.Words.Request.{Request, ComponentRequest}
-use Rattle.tcap_model.specs.Statements.TwoEnds.{Happens, peer_in, IsAnswer, IsFarRequest, UsesOnce, AnswersInvoke, AnswersWhatItWasTold, WasInvoked, WasOpened, WasSent, AfterInvoke, EachIsTwoEnded}
+use Rattle.tcap_model.specs.Statements.TwoEnds.{AcceptedInvoke, IsOrderly, ToldInvoke, AnswersInvoke, WasInvoked, WasSent, AfterInvoke, EachIsTwoEnded}
+use Rattle.tcap_model.specs.Statements.FarAnswer.{FarAnswer, Source, peer_in, IsAnswer}
 use Rattle.tcap_laws.proofs.Peers.CarriedComponents.{Carried, stands-before}
 use Rattle.tcap_laws.proofs.Spans.DrawnInvocations.{invocation_step}
 use Rattle.tcap_laws.proofs.FarEnds.ClosedOnce.{once}
-use Rattle.tcap_laws.proofs.FarEnds.FarInvokes.{IsIn, in-in, invoke-told, invoke-from}
+use Rattle.tcap_laws.proofs.FarEnds.FarInvokes.{Facing, IsIn, in-in, invoke-told, invoke-from}
 use Rattle.tcap_laws.proofs.FarEnds.FarOrigins.{answer-indicates, origin}
 use Rattle.tcap_laws.proofs.Peers.HeardPeers.{IsPeered}
 use Rattle.tcap_laws.proofs.Peers.NetPlaces.{happens-rest, happens-stands, IsAt, stands-happens}
@@ -65,11 +66,12 @@ made n i (last ∷ past) e = made-here n i last past (invocation_of n past) (inv
 
 -- ---- what is told of an answer
 
-answer-of : (past : Past) (bytes : List ℕ) (born : Option ℕ) (dialogue number : ℕ) (id : ℤ) (output : Output) (request : Request) → IsAnswer dialogue number id output request → Placed past bytes born output → IsOf past dialogue number id × AnswersInvoke id request
-answer-of past bytes born dialogue number id _ _ (IsAnswer.a_result_last body) placed = (placed, AnswersInvoke.a_result_last body)
-answer-of past bytes born dialogue number id _ _ (IsAnswer.a_result_more body) placed = (placed, AnswersInvoke.a_result_more body)
-answer-of past bytes born dialogue number id _ _ (IsAnswer.an_error code parameter) placed = (placed, AnswersInvoke.an_error code parameter)
-answer-of past bytes born dialogue number id _ _ (IsAnswer.a_reject problem) placed = (placed.0, rejects problem.kind placed.1)
+answer-of : (past : Past) (bytes : List ℕ) (born : Option ℕ) {dialogue number : ℕ} {id : ℤ} {output : Output} {request : Request}
+    → IsAnswer dialogue number id output request → Placed past bytes born output → IsOf past dialogue number id × AnswersInvoke id request
+answer-of past bytes born (IsAnswer.a_result_last body) placed = (placed, AnswersInvoke.a_result_last body)
+answer-of past bytes born (IsAnswer.a_result_more body) placed = (placed, AnswersInvoke.a_result_more body)
+answer-of past bytes born (IsAnswer.an_error code parameter) placed = (placed, AnswersInvoke.an_error code parameter)
+answer-of past bytes born {id = id} (IsAnswer.a_reject problem) placed = (placed.0, rejects problem.kind placed.1)
   where
     rejects : (k : Kind) → RejectsInvoke k → AnswersInvoke id (Request.component (ComponentRequest.u_reject (Some id) (record { kind = k; code = problem.code })))
     rejects kind.General is = AnswersInvoke.a_general_reject problem.code
@@ -94,101 +96,146 @@ stands-within pair before past whole stands part = record {
   is_past = part.1 ∙ (ap (λ (w : Past). part.0 ++ w) stands.is_past ∙ sym (append_assoc part.0 stands.later (pair ∷ before)));
 }
 
-module _ (net : Net) (is : IsNet net) (engine : Engine) (pair : Pair) (before : Trace) (dialogue number : ℕ) (id : ℤ) (output : Output) (request : Request) (uses : UsesOnce engine dialogue net.trace) (only : AnswersWhatItWasTold (far engine) net.trace) (opened : WasOpened engine dialogue net.trace) (happens : Happens engine pair before net.trace) (tells : Tells pair.answer output) (answers : IsAnswer dialogue number id output request) (asked : Pair) (earlier : Trace) (there : Happens (far engine) asked earlier before) (far_request : IsFarRequest engine dialogue request asked earlier) where
+module _ (net : Net) (is : IsNet net) (answer : FarAnswer net.trace) (orderly : IsOrderly answer.engine answer.dialogue net.trace) (asking : Source answer) where
   abbrev other : Engine
-  other = far engine
+  other = far answer.engine
 
   abbrev f : ℕ
-  f = far_request.far_dialogue
+  f = asking.is_request.far_dialogue
 
   -- the invocation and the request
-  answer : IsOf (side engine before) dialogue number id × AnswersInvoke id request
-  answer =
-      let stands = happens-stands engine pair before net.trace happens in
-      let legal = legal-before (net.start engine) stands.later (pair ∷ side engine before) (subst (AreReplies (net.start engine)) stands.is_past (is.is_legal engine).1) in
-      let h : History = record { start = net.start engine; pairs = side engine before } in
-      let told : ToldFromOne pair.event output = told-from (history_in net engine net.trace) (is.is_legal engine) (record {
-        pair = pair;
-        before = side engine before;
-        output = output;
+  answered : IsOf (side answer.engine answer.before) answer.dialogue answer.number answer.id × AnswersInvoke answer.id answer.request
+  answered =
+      let stands = happens-stands answer.engine answer.pair answer.before net.trace answer.happens in
+      let legal = legal-before (net.start answer.engine) stands.later (answer.pair ∷ side answer.engine answer.before) (subst (AreReplies (net.start answer.engine)) stands.is_past (is.is_legal answer.engine).1) in
+      let h : History = record { start = net.start answer.engine; pairs = side answer.engine answer.before } in
+      let told : ToldFromOne answer.pair.event answer.output = told-from (history_in net answer.engine net.trace) (is.is_legal answer.engine) (record {
+        pair = answer.pair;
+        before = side answer.engine answer.before;
+        output = answer.output;
         stands = stands;
-        tells = tells;
-        is_of_component = answer-indicates dialogue number id output request answers;
+        tells = answer.tells;
+        is_of_component = answer-indicates answer.is_answer;
       }) in
-      let placed = reply-placed h legal.2 told.bytes output (subst (λ (e : Event). Tells (reply h e) output) told.is_event (subst (λ (a : Answer). Tells a output) legal.1 tells)) in
-      answer-of (side engine before) told.bytes (born_on_message (reply h (Event.received told.bytes))) dialogue number id output request answers placed
+      let placed = reply-placed h legal.2 told.bytes answer.output (subst (λ (e : Event). Tells (reply h e) answer.output) told.is_event (subst (λ (a : Answer). Tells a answer.output) legal.1 answer.tells)) in
+      answer-of (side answer.engine answer.before) told.bytes (born_on_message (reply h (Event.received told.bytes))) answer.is_answer placed
 
-  here-in : (e : Engine) → IsIn (side e before) (side e net.trace)
-  here-in e = happens-rest e engine pair before net.trace happens
+  here-in : (e : Engine) → IsIn (side e answer.before) (side e net.trace)
+  here-in e = happens-rest e answer.engine answer.pair answer.before net.trace answer.happens
 
-  earlier-in : (e : Engine) → IsIn (side e earlier) (side e before)
-  earlier-in e = happens-rest e other asked earlier before there
+  earlier-in : (e : Engine) → IsIn (side e asking.before) (side e answer.before)
+  earlier-in e = happens-rest e other asking.pair asking.before answer.before asking.happens
 
   -- the Invoke that the far user was told
-  was : WasInvoked f id (side other earlier)
+  was : WasInvoked f answer.id (side other asking.before)
   was =
-      let stands = stands-within asked (side other earlier) (side other before) (side other net.trace) (happens-stands other asked earlier before there) (here-in other) in
-      only asked (side other earlier) f id request stands far_request.is_event far_request.accepted answer.1
+      let stands = stands-within asking.pair (side other asking.before) (side other answer.before) (side other net.trace) (happens-stands other asking.pair asking.before answer.before asking.happens) (here-in other) in
+      orderly.answers_told (record {
+        pair = asking.pair;
+        before = side other asking.before;
+        dialogue = f;
+        id = answer.id;
+        request = answer.request;
+        stands = stands;
+        is_event = asking.is_request.is_event;
+        accepted = asking.is_request.accepted;
+        answers = answered.1;
+      })
 
-  at : IsAt other was.pair was.before earlier
-  at = stands-happens other was.pair was.before earlier was.stands
+  at : IsAt other was.pair was.before asking.before
+  at = stands-happens other was.pair was.before asking.before was.stands
 
   abbrev then : Net
-  then = record { start = net.start; trace = earlier }
+  then = record { start = net.start; trace = asking.before }
 
   then-is : IsNet then
-  then-is = net-before (record { start = net.start; trace = before }) (net-before net is engine pair before happens) other asked earlier there
+  then-is = net-before (record { start = net.start; trace = answer.before }) (net-before net is answer.engine answer.pair answer.before answer.happens) other asking.pair asking.before asking.happens
 
-  never : NeverBegun dialogue (side engine earlier)
-  never = never-before dialogue engine other asked earlier before there (never-before dialogue engine engine pair before net.trace happens (opened-never net is engine dialogue opened))
+  never : NeverBegun answer.dialogue (side answer.engine asking.before)
+  never = never-before answer.dialogue answer.engine other asking.pair asking.before answer.before asking.happens (never-before answer.dialogue answer.engine answer.engine answer.pair answer.before net.trace answer.happens (opened-never net is answer.engine answer.dialogue orderly.opened))
 
-  peered : IsPeered (local_id dialogue) (life f (side other earlier))
-  peered = is-peered (local_id dialogue) (life f (side other earlier)) far_request.is_peer
+  peered : IsPeered (local_id answer.dialogue) (life f (side other asking.before))
+  peered = is-peered (local_id answer.dialogue) (life f (side other asking.before)) asking.is_request.is_peer
+
+  abbrev facing : Facing then
+  facing = record {
+    engine = answer.engine;
+    other = other;
+    is_far = refl;
+    is_near = far-far answer.engine;
+    dialogue = answer.dialogue;
+    far_dialogue = f;
+    is_short = opened-short net is answer.engine answer.dialogue orderly.opened;
+    never_begun = never;
+    is_peered = peered;
+  }
+
+  abbrev told_invoke : ToldInvoke other (Some f) asking.before
+  told_invoke = record {
+    pair = was.pair;
+    before = at.before;
+    id = answer.id;
+    linked = was.linked;
+    code = was.code;
+    parameter = was.parameter;
+    happens = at.happens;
+    tells = was.tells;
+  }
 
   abbrev told : Output
-  told = Output.component (ComponentIndication.invoked (Some f) id was.linked was.code was.parameter)
+  told = Output.component (ComponentIndication.invoked (Some f) answer.id was.linked was.code was.parameter)
 
   it : Carried then other at.before was.pair.event told
-  it = invoke-told then then-is engine other refl (far-far engine) dialogue f (opened-short net is engine dialogue opened) never peered was.pair at.before at.happens id was.linked was.code was.parameter was.tells
+  it = invoke-told then then-is facing told_invoke
 
-  from-here : it.sent.dialogue ≡ dialogue
+  from-here : it.sent.dialogue ≡ answer.dialogue
   unfolding it
-  from-here = invoke-from then then-is engine other refl (far-far engine) dialogue f (opened-short net is engine dialogue opened) never peered was.pair at.before at.happens id was.linked was.code was.parameter was.tells
+  from-here = invoke-from then then-is facing told_invoke
 
-  from : HasSource it.sent.dialogue it.past id was.linked was.code was.parameter
-  from = source then then-is other was.pair at.before at.happens told it id was.linked was.code was.parameter (stands-for-invoke told it.told.component it.told.stands_for (Some f) id was.linked was.code was.parameter refl)
+  from : HasSource it.sent.dialogue it.past answer.id was.linked was.code was.parameter
+  from = source then then-is other was.pair at.before at.happens told it answer.id was.linked was.code was.parameter (stands-for-invoke told it.told.component it.told.stands_for (Some f) answer.id was.linked was.code was.parameter refl)
 
-  at-in : IsIn (side engine at.before) (side engine earlier)
-  at-in = happens-rest engine other was.pair at.before earlier at.happens
+  at-in : IsIn (side answer.engine at.before) (side answer.engine asking.before)
+  at-in = happens-rest answer.engine other was.pair at.before asking.before at.happens
 
-  was-sent : WasSent from.number (side engine earlier)
+  was-sent : WasSent from.number (side answer.engine asking.before)
   was-sent =
-      let sent : WasSent from.number (side (far other) at.before) = invoke-sent then then-is other was.pair at.before at.happens told it id was.linked was.code was.parameter from in
-      subst (WasSent from.number) (sym at-in.1) (sent-later from.number at-in.0 (side engine at.before) (subst (λ (e : Engine). WasSent from.number (side e at.before)) (far-far engine) sent))
+      let sent : WasSent from.number (side (far other) at.before) = invoke-sent then then-is other was.pair at.before at.happens told it answer.id was.linked was.code was.parameter from in
+      subst (WasSent from.number) (sym at-in.1) (sent-later from.number at-in.0 (side answer.engine at.before) (subst (λ (e : Engine). WasSent from.number (side e at.before)) (far-far answer.engine) sent))
 
   -- it is the Invoke of the invocation that is answered
-  same : from.number ≡ number
+  same : from.number ≡ answer.number
   same =
       let a = from.asked in
       let i : Invocation = invocation_as from.number it.sent.dialogue a.id a.class a.timeout in
       let makes : invoked_by a.pair ≡ Some i =
       ap (λ (e : Event). invoked_of e a.pair.answer) a.is_event
       ∙ ap (invoked_of (Event.on_dialogue it.sent.dialogue (Request.component (ComponentRequest.invoke a.id a.class a.code a.parameter a.linked a.timeout)))) a.is_answer in
-      let stands-at : StandsIn a.pair a.before (side engine at.before) = subst (λ (e : Engine). StandsIn a.pair a.before (side e at.before)) (far-far engine) (stands-before a.pair it.sender a.before it.past (side (far other) at.before) a.stands it.stands) in
-      let within = in-in (side engine at.before) (side engine earlier) (side engine net.trace) at-in (in-in (side engine earlier) (side engine before) (side engine net.trace) (earlier-in engine) (here-in engine)) in
-      let of = answer.0 in
-      let m : IsMade of.invocation (side engine before) = made of.invocation.number of.invocation (side engine before) of.is_found in
-      uses a.pair m.pair a.before m.before i of.invocation
-      (stands-within a.pair a.before (side engine at.before) (side engine net.trace) stands-at within)
-      (stands-within m.pair m.before (side engine before) (side engine net.trace) m.stands (here-in engine))
-      makes m.makes from-here of.dialogue_is (from.is_id ∙ sym of.id_is) ∙ of.number_is
+      let stands-at : StandsIn a.pair a.before (side answer.engine at.before) = subst (λ (e : Engine). StandsIn a.pair a.before (side e at.before)) (far-far answer.engine) (stands-before a.pair it.sender a.before it.past (side (far other) at.before) a.stands it.stands) in
+      let within = in-in (side answer.engine at.before) (side answer.engine asking.before) (side answer.engine net.trace) at-in (in-in (side answer.engine asking.before) (side answer.engine answer.before) (side answer.engine net.trace) (earlier-in answer.engine) (here-in answer.engine)) in
+      let of = answered.0 in
+      let m : IsMade of.invocation (side answer.engine answer.before) = made of.invocation.number of.invocation (side answer.engine answer.before) of.is_found in
+      let new : AcceptedInvoke (side answer.engine net.trace) = record {
+        pair = a.pair;
+        before = a.before;
+        invocation = i;
+        stands = stands-within a.pair a.before (side answer.engine at.before) (side answer.engine net.trace) stands-at within;
+        makes = makes;
+      } in
+      let old : AcceptedInvoke (side answer.engine net.trace) = record {
+        pair = m.pair;
+        before = m.before;
+        invocation = of.invocation;
+        stands = stands-within m.pair m.before (side answer.engine answer.before) (side answer.engine net.trace) m.stands (here-in answer.engine);
+        makes = m.makes;
+      } in
+      orderly.uses_once new old from-here of.dialogue_is (from.is_id ∙ sym of.id_is) ∙ of.number_is
 
-  pub sent-before : WasSent number (side engine earlier)
-  sent-before = subst (λ (n : ℕ). WasSent n (side engine earlier)) same was-sent
+  pub sent-before : WasSent answer.number (side answer.engine asking.before)
+  sent-before = subst (λ (n : ℕ). WasSent n (side answer.engine asking.before)) same was-sent
 
 pub after-invoke : (net : Net) → IsNet net → AfterInvoke net.trace
-after-invoke net is engine pair before dialogue number id output request uses only opened happens tells answers asked earlier there far_request =
-    sent-before net is engine pair before dialogue number id output request uses only opened happens tells answers asked earlier there far_request
+after-invoke net is answer orderly asking = sent-before net is answer orderly asking
 
 -- ---- the whole
 

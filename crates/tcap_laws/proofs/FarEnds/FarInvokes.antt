@@ -1,10 +1,9 @@
 -- Each Invoke that the far user is told in a dialogue whose peer is a dialogue which was opened here,
 -- was sent by that.
-use Rattle.std.proofs.Common.{◌≡◌, ◌⊎◌, ℕ, ℤ, ◌<◌, ◌^◌, true, List, [], ◌∷◌, ◌++◌, length, Option, Some, None, Ok, refl, sym, ap, subst, ◌∙◌, inl, inr, arith, append_assoc}
+use Rattle.std.proofs.Common.{◌≡◌, ◌⊎◌, ℕ, ◌<◌, ◌^◌, true, List, [], ◌∷◌, ◌++◌, length, Option, Some, None, Ok, refl, sym, ap, subst, ◌∙◌, inl, inr, arith, append_assoc}
 use Rattle.tcap_pdu.specs.FrameReading.{frame_at}
 use Rattle.tcap_pdu.specs.FrameSpelling.{Message}
 use Rattle.tcap_pdu.proofs.CallerLemmas.{frame_takes}
-use Rattle.tcap_component.specs.Component.{CodeParts}
 use Rattle.tcap_model.specs.Words.Answer.{Answer, is_accepted}
 use Rattle.tcap_model.specs.Histories.Birth.{born_of, born_on_message, is_birth_of}
 use Rattle.tcap_model.specs.Statements.ToldFrom.{IsOfComponent}
@@ -15,7 +14,7 @@ use Rattle.tcap_model.specs.Histories.History.{History}
 use Rattle.tcap_model.specs.Replies.Legal.{AreReplies}
 use Rattle.tcap_model.specs.Histories.Life.{Life, life}
 use Rattle.tcap_model.specs.Words.LocalId.{dialogue_named, local_id, is_that}
-use Rattle.tcap_model.specs.Statements.Net.{Engine, Trace, far, side, Net, IsNet}
+use Rattle.tcap_model.specs.Statements.Net.{Engine, far, side, Net, IsNet}
 use Rattle.tcap_model.specs.Words.Output.{Output, ComponentIndication}
 use Rattle.tcap_model.specs.Histories.Pair.{Pair, Past}
 use Rattle.tcap_model.specs.Statements.Places.{StandsIn, Tells}
@@ -24,10 +23,10 @@ use Rattle.tcap_model.specs.Words.Request.{Request, Ending, AbortReason, Dialogu
 use Rattle.tcap_model.specs.Procedures.RequestMessage.{continue_message, end_message, abort_message, refusing_message, message_of, answer_portion, user_abort, refusing_abort}
 use Rattle.tcap_model.specs.Procedures.Standing.{Standing}
 use Rattle.tcap_model.specs.Words.State.{State, peer_of}
-use Rattle.tcap_model.specs.Statements.TwoEnds.{Happens}
 use Rattle.tcap_laws.proofs.Peers.CarriedComponents.{Carried, carried, stands-before}
 use Rattle.tcap_laws.proofs.FarEnds.FairTellings.{IsNamedBy}
 use Rattle.tcap_laws.proofs.FarEnds.PlacedTellings.{reply-placed}
+use Rattle.tcap_model.specs.Statements.TwoEnds.{ToldInvoke}
 use Rattle.tcap_laws.proofs.FarEnds.FarOrigins.{named-destined, destined-octets}
 use Rattle.tcap_laws.proofs.Peers.FarPeers.{HasPeer, peer-stays, no-begin}
 use Rattle.tcap_laws.proofs.Peers.FarSenders.{IsNoAbort, SentAs, sent-as, FarSender, far-sender, same-id, born-short}
@@ -106,7 +105,31 @@ begin-request d (Request.dialogue (DialogueRequest.u_abort AbortReason.not_suppo
 
 -- ---- the far dialogue
 
-module _ (net : Net) (is : IsNet net) (engine other : Engine) (forth : far engine ≡ other) (back : far other ≡ engine) (d f : ℕ) (short : d < 2 ^ 32) (never : NeverBegun d (side engine net.trace)) (peered : IsPeered (local_id d) (life f (side other net.trace))) where
+-- a dialogue of one engine that no Begin gave birth to, and one of the other whose peer it is
+pub record Facing (net : Net) : Type 0 where
+  pub engine : Engine
+  pub other : Engine
+  pub is_far : far engine ≡ other
+  pub is_near : far other ≡ engine
+  pub dialogue : ℕ
+  pub far_dialogue : ℕ
+  pub is_short : dialogue < 2 ^ 32
+  pub never_begun : NeverBegun dialogue (side engine net.trace)
+  pub is_peered : IsPeered (local_id dialogue) (life far_dialogue (side other net.trace))
+
+module _ (net : Net) (is : IsNet net) (facing : Facing net) where
+  abbrev engine : Engine
+  engine = facing.engine
+
+  abbrev other : Engine
+  other = facing.other
+
+  abbrev d : ℕ
+  d = facing.dialogue
+
+  abbrev f : ℕ
+  f = facing.far_dialogue
+
   legal-far : AreReplies (net.start other) (side other net.trace)
   legal-far = (is.is_legal other).1
 
@@ -114,12 +137,12 @@ module _ (net : Net) (is : IsNet net) (engine other : Engine) (forth : far engin
   f-known : (past : Past) (state : State) (context : Option (List ℕ)) → IsIn past (side other net.trace) → life f past ≡ Life.standing state context → peer_of state ≡ None → ⊥
   f-known past state context part lives unknown =
       let never-f : NeverBegun f (side other net.trace) = subst (NeverBegun f) (sym part.1) (never-begun (net.start other) f part.0 past state context (subst (AreReplies (net.start other)) part.1 legal-far) lives unknown) in
-      never-peers (length net.trace) net is engine other forth back d f (local_id d) (omega arith) (own-name d short) never never-f peered
+      never-peers (length net.trace) net is engine other facing.is_far facing.is_near d f (local_id d) (omega arith) (own-name d facing.is_short) facing.never_begun never-f facing.is_peered
 
   -- and stays
   f-peer : (past : Past) (peer : List ℕ) → IsIn past (side other net.trace) → HasPeer peer (life f past) → peer ≡ local_id d
   f-peer past peer part has =
-      same-peer (local_id d) peer (life f (side other net.trace)) peered
+      same-peer (local_id d) peer (life f (side other net.trace)) facing.is_peered
       (subst (λ (w : Past). HasPeer peer (life f w)) (sym part.1) (peer-stays (net.start other) f peer part.0 past (subst (AreReplies (net.start other)) part.1 legal-far) has))
 
   -- it began none
@@ -142,63 +165,63 @@ module _ (net : Net) (is : IsNet net) (engine other : Engine) (forth : far engin
   -- ---- an Invoke that is told in it
 
   twice : far (far other) ≡ other
-  twice = ap far back ∙ forth
+  twice = ap far facing.is_near ∙ facing.is_far
 
-  module _ (pair : Pair) (before : Trace) (happens : Happens other pair before net.trace) (id : ℤ) (linked : Option ℤ) (code : CodeParts) (parameter : Option (List ℕ)) (tells : Tells pair.answer (Output.component (ComponentIndication.invoked (Some f) id linked code parameter))) where
+  module _ (told_invoke : ToldInvoke other (Some f) net.trace) where
     abbrev told : Output
-    told = Output.component (ComponentIndication.invoked (Some f) id linked code parameter)
+    told = Output.component (ComponentIndication.invoked (Some f) told_invoke.id told_invoke.linked told_invoke.code told_invoke.parameter)
 
-    pub invoke-told : Carried net other before pair.event told
-    invoke-told = carried net is other pair before happens told tells (IsOfComponent.invoke (Some f) id linked code parameter)
+    pub invoke-told : Carried net other told_invoke.before told_invoke.pair.event told
+    invoke-told = carried net is other told_invoke.pair told_invoke.before told_invoke.happens told told_invoke.tells (IsOfComponent.invoke (Some f) told_invoke.id told_invoke.linked told_invoke.code told_invoke.parameter)
 
     abbrev x : ℕ
     x = invoke-told.sent.dialogue
 
     abbrev h : History
-    h = record { start = net.start other; pairs = side other before }
+    h = record { start = net.start other; pairs = side other told_invoke.before }
 
-    stands : StandsIn pair (side other before) (side other net.trace)
-    stands = happens-stands other pair before net.trace happens
+    stands : StandsIn told_invoke.pair (side other told_invoke.before) (side other net.trace)
+    stands = happens-stands other told_invoke.pair told_invoke.before net.trace told_invoke.happens
 
-    legal-here : AreReplies (net.start other) (pair ∷ side other before)
-    legal-here = legal-before (net.start other) stands.later (pair ∷ side other before) (subst (AreReplies (net.start other)) stands.is_past legal-far)
+    legal-here : AreReplies (net.start other) (told_invoke.pair ∷ side other told_invoke.before)
+    legal-here = legal-before (net.start other) stands.later (told_invoke.pair ∷ side other told_invoke.before) (subst (AreReplies (net.start other)) stands.is_past legal-far)
 
     placed : IsNamedBy invoke-told.told.bytes f ⊎ (is_that f (born_on_message (reply h (Event.received invoke-told.told.bytes))) ≡ true)
-    placed = reply-placed h legal-here.2 invoke-told.told.bytes told (subst (λ (e : Event). Tells (reply h e) told) invoke-told.told.is_event (subst (λ (a : Answer). Tells a told) legal-here.1 tells))
+    placed = reply-placed h legal-here.2 invoke-told.told.bytes told (subst (λ (e : Event). Tells (reply h e) told) invoke-told.told.is_event (subst (λ (a : Answer). Tells a told) legal-here.1 told_invoke.tells))
 
     -- it gives birth to the dialogue
     by-birth : is_that f (born_on_message (reply h (Event.received invoke-told.told.bytes))) ≡ true → x ≡ d
     by-birth birth =
-        let born : is_birth_of f pair ≡ true =
-        ap (λ (e : Event). is_that f (born_of e pair.answer)) invoke-told.told.is_event
+        let born : is_birth_of f told_invoke.pair ≡ true =
+        ap (λ (e : Event). is_that f (born_of e told_invoke.pair.answer)) invoke-told.told.is_event
         ∙ (ap (λ (a : Answer). is_that f (born_on_message a)) (legal-here.1 ∙ ap (reply h) invoke-told.told.is_event) ∙ birth) in
-        let begun : IsBegun f invoke-told.told.bytes pair (side other before) = birth-begun (net.start other) f pair (side other before) legal-here born invoke-told.told.bytes invoke-told.told.is_event in
-        let from-d : begun.origin ≡ local_id d = f-peer (pair ∷ side other before) begun.origin (stands.later, stands.is_past) begun.has_peer in
+        let begun : IsBegun f invoke-told.told.bytes told_invoke.pair (side other told_invoke.before) = birth-begun (net.start other) f told_invoke.pair (side other told_invoke.before) legal-here born invoke-told.told.bytes invoke-told.told.is_event in
+        let from-d : begun.origin ≡ local_id d = f-peer (told_invoke.pair ∷ side other told_invoke.before) begun.origin (stands.later, stands.is_past) begun.has_peer in
         let m : Message = Message.begin begun.origin begun.portion begun.components in
         let there : History = record { start = net.start (far other); pairs = invoke-told.past } in
         let sent : SentAs invoke-told.past invoke-told.sender.event m = sent-as there invoke-told.told.bytes m (frame_takes invoke-told.told.bytes m begun.is_begin) tt invoke-told.sender.event (subst (λ (a : Answer). Tells a (Output.send invoke-told.told.bytes)) invoke-told.is_legal.1 invoke-told.tells) in
         let events : Event.on_dialogue x invoke-told.sent.request ≡ Event.on_dialogue sent.dialogue sent.request = sym invoke-told.sent.is_event ∙ sent.is_event in
         let same : x ≡ sent.dialogue = cc in
         let sent_short = born-short (net.start (far other)) invoke-told.past sent.dialogue (is.is_legal (far other)).0 invoke-told.is_legal.2 (λ unborn. let not : Life.standing sent.state sent.context ≡ Life.unborn = sym sent.is_life ∙ unborn in absurd cc) in
-        same ∙ same-id sent.dialogue d sent_short short (sym sent.source ∙ from-d)
+        same ∙ same-id sent.dialogue d sent_short facing.is_short (sym sent.source ∙ from-d)
 
     -- it names the dialogue: what the sender heard of that it heard by a Continue
     module _ (octets : List ℕ) (names-f : dialogue_named octets ≡ Some f) (heard : HeardOf x octets invoke-told.past) where
-      at : IsAt (far other) heard.pair heard.before before
-      at = stands-happens (far other) heard.pair heard.before before (stands-before heard.pair invoke-told.sender heard.before invoke-told.past (side (far other) before) heard.stands invoke-told.stands)
+      at : IsAt (far other) heard.pair heard.before told_invoke.before
+      at = stands-happens (far other) heard.pair heard.before told_invoke.before (stands-before heard.pair invoke-told.sender heard.before invoke-told.past (side (far other) told_invoke.before) heard.stands invoke-told.stands)
 
       abbrev first : Net
-      first = record { start = net.start; trace = before }
+      first = record { start = net.start; trace = told_invoke.before }
 
       from : (m : Message) → frame_at heard.hears.bytes ≡ Ok m → IsNoAbort m → FarSender first (far other) at.before m
-      from m e no_abort = far-sender first (net-before net is other pair before happens) (far other) heard.pair at.before at.happens heard.hears.bytes m heard.hears.is_event (frame_takes heard.hears.bytes m e) no_abort
+      from m e no_abort = far-sender first (net-before net is other told_invoke.pair told_invoke.before told_invoke.happens) (far other) heard.pair at.before at.happens heard.hears.bytes m heard.hears.is_event (frame_takes heard.hears.bytes m e) no_abort
 
       module _ (m : Message) (s : FarSender first (far other) at.before m) where
         part : IsIn s.past (side other net.trace)
         part =
             in-in s.past (side other at.before) (side other net.trace)
             (stands-in s.sender s.past (side other at.before) (subst (λ (e : Engine). StandsIn s.sender s.past (side e at.before)) twice s.stands))
-            (in-in (side other at.before) (side other before) (side other net.trace) (happens-rest other (far other) heard.pair at.before before at.happens) (happens-rest other other pair before net.trace happens))
+            (in-in (side other at.before) (side other told_invoke.before) (side other net.trace) (happens-rest other (far other) heard.pair at.before told_invoke.before at.happens) (happens-rest other other told_invoke.pair told_invoke.before net.trace told_invoke.happens))
 
         legal-there : AreReplies (net.start other) (s.sender ∷ s.past)
         legal-there = subst (λ (e : Engine). AreReplies (net.start e) (s.sender ∷ s.past)) twice s.is_legal
@@ -223,7 +246,7 @@ module _ (net : Net) (is : IsNet net) (engine other : Engine) (forth : far engin
             let has : HasPeer c.0 (life f s.past) = subst (λ (y : ℕ). HasPeer c.0 (life y s.past)) (is-f m s s.sent.source.0) (subst (HasPeer c.0) (sym s.sent.is_life) s.sent.source.1) in
             let to-d : c.0 ≡ local_id d = f-peer s.past c.0 (part m s) has in
             let to-x : dialogue_named c.0 ≡ Some x = continue-names x heard.hears.bytes octets c.0 c.2 c.1 continued.2 c.3 in
-            let some : Some x ≡ Some d = sym to-x ∙ (ap dialogue_named to-d ∙ own-name d short) in
+            let some : Some x ≡ Some d = sym to-x ∙ (ap dialogue_named to-d ∙ own-name d facing.is_short) in
             cc
       ]
 

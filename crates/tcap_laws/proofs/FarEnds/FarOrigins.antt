@@ -20,7 +20,7 @@ use Rattle.tcap_model.specs.Replies.Legal.{AreReplies, IsLegal}
 use Rattle.tcap_model.specs.Histories.Life.{Life, life}
 use Rattle.tcap_model.specs.Words.LocalId.{dialogue_named, local_id}
 use Rattle.tcap_model.specs.Histories.Names.{is_destined, named_within}
-use Rattle.tcap_model.specs.Statements.Net.{Engine, Trace, far, side, Net, IsNet}
+use Rattle.tcap_model.specs.Statements.Net.{far, side, Net, IsNet}
 use Rattle.tcap_model.specs.Words.Output.{Output, Closing, ComponentIndication}
 use Rattle.tcap_model.specs.Histories.Pair.{Pair, Past}
 use Rattle.tcap_model.specs.Statements.Places.{StandsIn, Tells}
@@ -28,7 +28,8 @@ use Rattle.tcap_model.specs.Replies.Reply.{reply}
 use Rattle.tcap_model.specs.Words.Request.{Request, ComponentRequest}
 use Rattle.tcap_model.specs.Words.State.{State, peer_of}
 use Rattle.tcap_model.specs.Procedures.States.{has_peer}
-use Rattle.tcap_model.specs.Statements.TwoEnds.{Happens, IsAnswer, ComesFromFar, Origin, peer_in}
+use Rattle.tcap_model.specs.Statements.TwoEnds.{Origin}
+use Rattle.tcap_model.specs.Statements.FarAnswer.{FarAnswer, Source, IsAnswer, peer_in}
 use Rattle.tcap_laws.proofs.Peers.CarriedComponents.{Carried, carried, some_components, stands-before}
 use Rattle.tcap_laws.proofs.FarEnds.FairTellings.{Fair, IsNamedBy, reply-fair}
 use Rattle.tcap_laws.proofs.Peers.FarPeers.{HasPeer, peer-stays, none-due, destination-octets, octets-of}
@@ -65,40 +66,42 @@ stands-told _ _ (StandsFor.a_result_last dialogue number id body) = refl
 stands-told _ _ (StandsFor.an_error dialogue number id code parameter) = refl
 stands-told _ _ (StandsFor.a_reject dialogue number id problem) = refl
 
-answer-told : (dialogue number : ℕ) (id : ℤ) (output : Output) (request : Request) → IsAnswer dialogue number id output request → component_told output ≡ component_of request
-answer-told dialogue number id _ _ (IsAnswer.a_result_last body) = refl
-answer-told dialogue number id _ _ (IsAnswer.a_result_more body) = refl
-answer-told dialogue number id _ _ (IsAnswer.an_error code parameter) = refl
-answer-told dialogue number id _ _ (IsAnswer.a_reject problem) = refl
+answer-told : {dialogue number : ℕ} {id : ℤ} {output : Output} {request : Request} → IsAnswer dialogue number id output request → component_told output ≡ component_of request
+answer-told (IsAnswer.a_result_last body) = refl
+answer-told (IsAnswer.a_result_more body) = refl
+answer-told (IsAnswer.an_error code parameter) = refl
+answer-told (IsAnswer.a_reject problem) = refl
 
-pub answer-indicates : (dialogue number : ℕ) (id : ℤ) (output : Output) (request : Request) → IsAnswer dialogue number id output request → IsOfComponent output
-answer-indicates dialogue number id _ _ (IsAnswer.a_result_last body) = IsOfComponent.result_last dialogue number id body
-answer-indicates dialogue number id _ _ (IsAnswer.a_result_more body) = IsOfComponent.result_more dialogue number id body
-answer-indicates dialogue number id _ _ (IsAnswer.an_error code parameter) = IsOfComponent.error_back dialogue number id code parameter
-answer-indicates dialogue number id _ _ (IsAnswer.a_reject problem) = IsOfComponent.rejected dialogue number id problem
+pub answer-indicates : {dialogue number : ℕ} {id : ℤ} {output : Output} {request : Request} → IsAnswer dialogue number id output request → IsOfComponent output
+answer-indicates (IsAnswer.a_result_last body) = IsOfComponent.result_last _ _ _ body
+answer-indicates (IsAnswer.a_result_more body) = IsOfComponent.result_more _ _ _ body
+answer-indicates (IsAnswer.an_error code parameter) = IsOfComponent.error_back _ _ _ code parameter
+answer-indicates (IsAnswer.a_reject problem) = IsOfComponent.rejected _ _ _ problem
 
-answer-named : (bytes : List ℕ) (dialogue number : ℕ) (id : ℤ) (output : Output) (request : Request) → IsAnswer dialogue number id output request → Fair bytes output → IsNamedBy bytes dialogue
-answer-named bytes dialogue number id _ _ (IsAnswer.a_result_last body) fair = fair
-answer-named bytes dialogue number id _ _ (IsAnswer.a_result_more body) fair = fair
-answer-named bytes dialogue number id _ _ (IsAnswer.an_error code parameter) fair = fair
-answer-named bytes dialogue number id _ _ (IsAnswer.a_reject problem) fair = fair.0
+answer-named : (bytes : List ℕ) {dialogue number : ℕ} {id : ℤ} {output : Output} {request : Request} → IsAnswer dialogue number id output request → Fair bytes output → IsNamedBy bytes dialogue
+answer-named bytes (IsAnswer.a_result_last body) fair = fair
+answer-named bytes (IsAnswer.a_result_more body) fair = fair
+answer-named bytes (IsAnswer.an_error code parameter) fair = fair
+answer-named bytes (IsAnswer.a_reject problem) fair = fair.0
 
 -- a Reject that is told as the far user's has no problem of the component sublayer
-answer-by-user : (bytes : List ℕ) (dialogue number : ℕ) (id : ℤ) (output : Output) (request : Request) → IsAnswer dialogue number id output request → Fair bytes output → (named : Option ℤ) (problem : ProblemParts) → component_of request ≡ Some (reject_back named problem) → is_by_provider problem ≡ false
-answer-by-user bytes dialogue number id _ _ (IsAnswer.a_result_last body) fair named problem e = absurd cc
-answer-by-user bytes dialogue number id _ _ (IsAnswer.a_result_more body) fair named problem e = absurd cc
-answer-by-user bytes dialogue number id _ _ (IsAnswer.an_error code parameter) fair named problem e = absurd cc
-answer-by-user bytes dialogue number id _ _ (IsAnswer.a_reject told) fair named problem e =
+answer-by-user : (bytes : List ℕ) {dialogue number : ℕ} {id : ℤ} {output : Output} {request : Request} → IsAnswer dialogue number id output request → Fair bytes output
+    → (named : Option ℤ) (problem : ProblemParts) → component_of request ≡ Some (reject_back named problem) → is_by_provider problem ≡ false
+answer-by-user bytes (IsAnswer.a_result_last body) fair named problem e = absurd cc
+answer-by-user bytes (IsAnswer.a_result_more body) fair named problem e = absurd cc
+answer-by-user bytes (IsAnswer.an_error code parameter) fair named problem e = absurd cc
+answer-by-user bytes (IsAnswer.a_reject told) fair named problem e =
     let same : told ≡ problem = cc in
     ap is_by_provider (sym same) ∙ fair.1
 
 -- it needs a peer
-answer-needs : (h : History) (far_dialogue : ℕ) (s : State) (c : Option (List ℕ)) → life far_dialogue h.pairs ≡ Life.standing s c → (dialogue number : ℕ) (id : ℤ) (output : Output) (request : Request) → IsAnswer dialogue number id output request →
-    is_accepted (reply h (Event.on_dialogue far_dialogue request)) ≡ true → not (has_peer s) ≡ false
-answer-needs h d s c lives dialogue number id _ _ (IsAnswer.a_result_last body) accepted = (none-due h d (Request.component (ComponentRequest.result_last id body)) s c lives accepted).1.0
-answer-needs h d s c lives dialogue number id _ _ (IsAnswer.a_result_more body) accepted = (none-due h d (Request.component (ComponentRequest.result_more id body)) s c lives accepted).1.0
-answer-needs h d s c lives dialogue number id _ _ (IsAnswer.an_error code parameter) accepted = (none-due h d (Request.component (ComponentRequest.error_back id code parameter)) s c lives accepted).1.0
-answer-needs h d s c lives dialogue number id _ _ (IsAnswer.a_reject problem) accepted = (none-due h d (Request.component (ComponentRequest.u_reject (Some id) problem)) s c lives accepted).1.0
+answer-needs : (h : History) (far_dialogue : ℕ) (s : State) (c : Option (List ℕ)) → life far_dialogue h.pairs ≡ Life.standing s c
+    → {dialogue number : ℕ} {id : ℤ} {output : Output} {request : Request} → IsAnswer dialogue number id output request
+    → is_accepted (reply h (Event.on_dialogue far_dialogue request)) ≡ true → not (has_peer s) ≡ false
+answer-needs h d s c lives {request = request} (IsAnswer.a_result_last body) accepted = (none-due h d request s c lives accepted).1.0
+answer-needs h d s c lives {request = request} (IsAnswer.a_result_more body) accepted = (none-due h d request s c lives accepted).1.0
+answer-needs h d s c lives {request = request} (IsAnswer.an_error code parameter) accepted = (none-due h d request s c lives accepted).1.0
+answer-needs h d s c lives {request = request} (IsAnswer.a_reject problem) accepted = (none-due h d request s c lives accepted).1.0
 
 some-peer : (s : State) → not (has_peer s) ≡ false → (peer : List ℕ) × (peer_of s ≡ Some peer)
 some-peer State.fresh e = absurd cc
@@ -126,11 +129,11 @@ request-as (Request.component (ComponentRequest.u_reject id problem)) c none e =
 request-as (Request.component (ComponentRequest.u_cancel id)) c none e = absurd cc
 request-as (Request.dialogue asked) c none e = absurd cc
 
-answer-no-invoke : (dialogue number : ℕ) (id : ℤ) (output : Output) (request : Request) → IsAnswer dialogue number id output request → (c : ComponentParts) → component_of request ≡ Some c → IsNoInvoke c
-answer-no-invoke dialogue number id _ _ (IsAnswer.a_result_last body) c e = let same : result_last id body ≡ c = cc in subst IsNoInvoke same tt
-answer-no-invoke dialogue number id _ _ (IsAnswer.a_result_more body) c e = let same : result_more id body ≡ c = cc in subst IsNoInvoke same tt
-answer-no-invoke dialogue number id _ _ (IsAnswer.an_error code parameter) c e = let same : error_back id code parameter ≡ c = cc in subst IsNoInvoke same tt
-answer-no-invoke dialogue number id _ _ (IsAnswer.a_reject problem) c e = let same : reject_back (Some id) problem ≡ c = cc in subst IsNoInvoke same tt
+answer-no-invoke : {dialogue number : ℕ} {id : ℤ} {output : Output} {request : Request} → IsAnswer dialogue number id output request → (c : ComponentParts) → component_of request ≡ Some c → IsNoInvoke c
+answer-no-invoke {id = id} (IsAnswer.a_result_last body) c e = let same : result_last id body ≡ c = cc in subst IsNoInvoke same tt
+answer-no-invoke {id = id} (IsAnswer.a_result_more body) c e = let same : result_more id body ≡ c = cc in subst IsNoInvoke same tt
+answer-no-invoke {id = id} (IsAnswer.an_error code parameter) c e = let same : error_back id code parameter ≡ c = cc in subst IsNoInvoke same tt
+answer-no-invoke {id = id} (IsAnswer.a_reject problem) c e = let same : reject_back (Some id) problem ≡ c = cc in subst IsNoInvoke same tt
 
 -- ---- the destination of bytes that name a dialogue
 
@@ -164,41 +167,41 @@ module _ (start : Start) (past : Past) (legal : AreReplies start past) (d : ℕ)
       let then : peer_of state ≡ Some some.0 = subst (HasPeer some.0) lives kept in
       ap peer_in parts.2 ∙ (some.1 ∙ (sym then ∙ is_peer))
 
-module _ (net : Net) (is : IsNet net) (engine : Engine) (pair : Pair) (before : Trace) (happens : Happens engine pair before net.trace) (dialogue number : ℕ) (id : ℤ) (output : Output) (request : Request) (tells : Tells pair.answer output) (answers : IsAnswer dialogue number id output request) where
-  it : Carried net engine before pair.event output
-  it = carried net is engine pair before happens output tells (answer-indicates dialogue number id output request answers)
+module _ (net : Net) (is : IsNet net) (answer : FarAnswer net.trace) where
+  it : Carried net answer.engine answer.before answer.pair.event answer.output
+  it = carried net is answer.engine answer.pair answer.before answer.happens answer.output answer.tells (answer-indicates answer.is_answer)
 
   abbrev d : ℕ
   d = it.sent.dialogue
 
-  is_component : component_of request ≡ Some it.told.component
-  is_component = sym (answer-told dialogue number id output request answers) ∙ stands-told output it.told.component it.told.stands_for
+  is_component : component_of answer.request ≡ Some it.told.component
+  is_component = sym (answer-told answer.is_answer) ∙ stands-told answer.output it.told.component it.told.stands_for
 
   -- the pair is a legal one
-  legal-here : AreReplies (net.start engine) (pair ∷ side engine before)
+  legal-here : AreReplies (net.start answer.engine) (answer.pair ∷ side answer.engine answer.before)
   legal-here =
-      let stands = happens-stands engine pair before net.trace happens in
-      legal-before (net.start engine) stands.later (pair ∷ side engine before) (subst (AreReplies (net.start engine)) stands.is_past (is.is_legal engine).1)
+      let stands = happens-stands answer.engine answer.pair answer.before net.trace answer.happens in
+      legal-before (net.start answer.engine) stands.later (answer.pair ∷ side answer.engine answer.before) (subst (AreReplies (net.start answer.engine)) stands.is_past (is.is_legal answer.engine).1)
 
-  fair : Fair it.told.bytes output
-  fair = reply-fair (record { start = net.start engine; pairs = side engine before }) legal-here.2 it.told.bytes output
-      (subst (λ (e : Event). Tells (reply (record { start = net.start engine; pairs = side engine before }) e) output) it.told.is_event (subst (λ (a : Answer). Tells a output) legal-here.1 tells))
+  fair : Fair it.told.bytes answer.output
+  fair = reply-fair (record { start = net.start answer.engine; pairs = side answer.engine answer.before }) legal-here.2 it.told.bytes answer.output
+      (subst (λ (e : Event). Tells (reply (record { start = net.start answer.engine; pairs = side answer.engine answer.before }) e) answer.output) it.told.is_event (subst (λ (a : Answer). Tells a answer.output) legal-here.1 answer.tells))
 
   octets-here : are_octets it.told.bytes ≡ true
   octets-here = subst (λ (e : Event). is_in_range e ≡ true) it.told.is_event legal-here.0
 
   -- the sender's peer is this dialogue
-  far-peer : peer_of it.sent.state ≡ Some (local_id dialogue)
+  far-peer : peer_of it.sent.state ≡ Some (local_id answer.dialogue)
   far-peer =
       let m : Message = it.told.message in
-      let to = destined-octets dialogue (destination m) (named-destined dialogue it.told.bytes m it.told.spelled (answer-named it.told.bytes dialogue number id output request answers fair)) in
+      let to = destined-octets answer.dialogue (destination m) (named-destined answer.dialogue it.told.bytes m it.told.spelled (answer-named it.told.bytes answer.is_answer fair)) in
       let range = destination-octets m to.0 (subst (λ (w : List ℕ). are_octets w ≡ true) it.sent.is_written octets-here) to.1 in
-      it.sent.takes.to_peer to.0 to.1 ∙ ap (λ (w : List ℕ). Some w) (octets-of dialogue to.0 range to.2)
+      it.sent.takes.to_peer to.0 to.1 ∙ ap (λ (w : List ℕ). Some w) (octets-of answer.dialogue to.0 range to.2)
 
   source : ComesFrom d it.past it.told.component
   source =
-      let h : History = record { start = net.start (far engine); pairs = it.sender ∷ it.past } in
-      let legal : IsLegal h = ((is.is_legal (far engine)).0, it.is_legal) in
+      let h : History = record { start = net.start (far answer.engine); pairs = it.sender ∷ it.past } in
+      let legal : IsLegal h = ((is.is_legal (far answer.engine)).0, it.is_legal) in
       let sent : SentPortion h.pairs = record {
         pair = it.sender;
         before = it.past;
@@ -219,14 +222,14 @@ module _ (net : Net) (is : IsNet net) (engine : Engine) (pair : Pair) (before : 
             subst (λ (x : ℕ). ComesFrom x it.past it.told.component) same (one-of (ComesFrom one.dialogue it.past) it.told.earlier it.told.later it.told.component one.each)
       ]
 
-  from-request : WasRequested d it.told.component it.past → ComesFromFar engine dialogue request before
+  from-request : WasRequested d it.told.component it.past → Source answer
   from-request was =
-      let none = answer-no-invoke dialogue number id output request answers it.told.component is_component in
-      let same : was.request ≡ request = request-as was.request it.told.component none was.is_component ∙ sym (request-as request it.told.component none is_component) in
-      let is_event : was.pair.event ≡ Event.on_dialogue d request = was.is_event ∙ ap (λ (r : Request). Event.on_dialogue d r) same in
-      let at = stands-happens (far engine) was.pair was.before before (stands-before was.pair it.sender was.before it.past (side (far engine) before) was.stands it.stands) in
-      let peer = peer-then (net.start (far engine)) it.past it.is_legal.2 d request (local_id dialogue) it.sent.state it.sent.context it.sent.is_life far-peer was.pair was.before was.stands is_event was.accepted
-      (λ s c lives accepted. answer-needs (record { start = net.start (far engine); pairs = was.before }) d s c lives dialogue number id output request answers accepted) in
+      let none = answer-no-invoke answer.is_answer it.told.component is_component in
+      let same : was.request ≡ answer.request = request-as was.request it.told.component none was.is_component ∙ sym (request-as answer.request it.told.component none is_component) in
+      let is_event : was.pair.event ≡ Event.on_dialogue d answer.request = was.is_event ∙ ap (λ (r : Request). Event.on_dialogue d r) same in
+      let at = stands-happens (far answer.engine) was.pair was.before answer.before (stands-before was.pair it.sender was.before it.past (side (far answer.engine) answer.before) was.stands it.stands) in
+      let peer = peer-then (net.start (far answer.engine)) it.past it.is_legal.2 d answer.request (local_id answer.dialogue) it.sent.state it.sent.context it.sent.is_life far-peer was.pair was.before was.stands is_event was.accepted
+      (λ s c lives accepted. answer-needs (record { start = net.start (far answer.engine); pairs = was.before }) d s c lives answer.is_answer accepted) in
       record {
         pair = was.pair;
         before = at.before;
@@ -237,19 +240,18 @@ module _ (net : Net) (is : IsNet net) (engine : Engine) (pair : Pair) (before : 
   -- a Reject that was formed by the far component sublayer has a problem of that
   not-formed : WasFormed d it.told.component it.past → ⊥
   not-formed was =
-      let there = legal-before (net.start (far engine)) was.stands.later (was.pair ∷ was.before) (subst (AreReplies (net.start (far engine))) was.stands.is_past it.is_legal.2) in
-      let h : History = record { start = net.start (far engine); pairs = was.before } in
+      let there = legal-before (net.start (far answer.engine)) was.stands.later (was.pair ∷ was.before) (subst (AreReplies (net.start (far answer.engine))) was.stands.is_past it.is_legal.2) in
+      let h : History = record { start = net.start (far answer.engine); pairs = was.before } in
       let told = reply-fair h there.2 was.bytes was.output (subst (λ (e : Event). Tells (reply h e) was.output) was.is_event (subst (λ (a : Answer). Tells a was.output) there.1 was.tells)) in
-      let by_user = answer-by-user it.told.bytes dialogue number id output request answers fair was.id was.problem (is_component ∙ ap (λ (c : ComponentParts). Some c) was.is_component) in
+      let by_user = answer-by-user it.told.bytes answer.is_answer fair was.id was.problem (is_component ∙ ap (λ (c : ComponentParts). Some c) was.is_component) in
       true≢false (sym (by-provider was.bytes was.output was.id was.problem was.is_told told) ∙ by_user)
     where
       by-provider : (bytes : List ℕ) (told : Output) (named : Option ℤ) (problem : ProblemParts) → IsLocalReject d named problem told → Fair bytes told → is_by_provider problem ≡ true
       by-provider bytes told named problem (inl local) told-fair = subst (Fair bytes) local told-fair
       by-provider bytes told named problem (inr closed) told-fair = subst (Fair bytes) closed.3 told-fair
 
-  pub comes-from-far : ComesFromFar engine dialogue request before
+  pub comes-from-far : Source answer
   comes-from-far = elim source [ inl was ↦ from-request was | inr was ↦ absurd (not-formed was) ]
 
 pub origin : (net : Net) → IsNet net → Origin net.trace
-origin net is engine pair before dialogue number id output request happens tells answers =
-    comes-from-far net is engine pair before happens dialogue number id output request tells answers
+origin net is answer = comes-from-far net is answer

@@ -29,7 +29,8 @@ use Rattle.tcap_model.specs.Procedures.QueueRules.{Invoking, Queued, joined}
 use Rattle.tcap_model.specs.Words.Request.{Request, ComponentRequest}
 use Rattle.tcap_model.specs.Invocations.Reuse.{is_reused}
 use Rattle.tcap_model.specs.Invocations.Span.{is_invoked, span}
-use Rattle.tcap_model.specs.Statements.TwoEnds.{Happens, WasSent, WasAsked, Operations}
+use Rattle.tcap_model.specs.Statements.TwoEnds.{WasSent, WasAsked, Operations}
+use Rattle.tcap_model.specs.Statements.FarAnswer.{Happens}
 use Rattle.tcap_laws.proofs.Spans.MarksAfterBirth.{noted_at_clock}
 use Rattle.tcap_laws.proofs.Peers.CarriedComponents.{Carried, carried, stands-before}
 use Rattle.tcap_laws.proofs.Spans.DecisionSteps.{made_found, invocation_stays}
@@ -218,8 +219,10 @@ module _ (net : Net) (is : IsNet net) (engine : Engine) (pair : Pair) (before : 
       }
 
 pub operations : (net : Net) → IsNet net → Operations net.trace
-operations net is engine pair before dialogue id linked code parameter happens tells =
-    let output : Output = Output.component (ComponentIndication.invoked dialogue id linked code parameter) in
-    let it = carried net is engine pair before happens output tells (IsOfComponent.invoke dialogue id linked code parameter) in
-    was-asked net is engine pair before happens output it id linked code parameter
-    (source net is engine pair before happens output it id linked code parameter (stands-for-invoke output it.told.component it.told.stands_for dialogue id linked code parameter refl))
+operations net is engine dialogue told =
+    let output : Output = Output.component (ComponentIndication.invoked dialogue told.id told.linked told.code told.parameter) in
+    let of : IsOfComponent output = IsOfComponent.invoke dialogue told.id told.linked told.code told.parameter in
+    let it = carried net is engine told.pair told.before told.happens output told.tells of in
+    let is_invoke = stands-for-invoke output it.told.component it.told.stands_for dialogue told.id told.linked told.code told.parameter refl in
+    was-asked net is engine told.pair told.before told.happens output it told.id told.linked told.code told.parameter
+    (source net is engine told.pair told.before told.happens output it told.id told.linked told.code told.parameter is_invoke)

@@ -30,7 +30,7 @@ use Rattle.tcap_model.specs.Procedures.RequestMessage.{answer_portion, user_abor
 use Rattle.tcap_model.specs.Procedures.Standing.{Standing}
 use Rattle.tcap_model.specs.Words.State.{State, peer_of}
 use Rattle.tcap_model.specs.Words.Time.{moment_fault}
-use Rattle.tcap_model.specs.Statements.TwoEnds.{Happens}
+use Rattle.tcap_model.specs.Statements.FarAnswer.{Happens}
 use Rattle.tcap_laws.proofs.Peers.NetPlaces.{happens-stands, happens-rest, carried-there, SentBy, bytes_sent}
 use Rattle.tcap_laws.proofs.Receptions.SentMessages.{Nothing, tells-sends, birth-sends, moment-sends, sent_for_bytes, sent_for_request}
 use Rattle.tcap_laws.proofs.Receptions.ToldFromOctets.{legal-before, told-from}

@@ -23,7 +23,7 @@ use Rattle.tcap_model.specs.Procedures.RequestMessage.{answer_portion, user_abor
 use Rattle.tcap_model.specs.Procedures.Standing.{Standing}
 use Rattle.tcap_model.specs.Words.State.{State, peer_of}
 use Rattle.tcap_model.specs.Words.Time.{moment_fault}
-use Rattle.tcap_model.specs.Statements.TwoEnds.{Happens}
+use Rattle.tcap_model.specs.Statements.FarAnswer.{Happens}
 use Rattle.tcap_laws.proofs.Births.DrawnDialogues.{beyond-unborn, unborn-life, dialogues-below}
 use Rattle.tcap_laws.proofs.Peers.CarriedComponents.{legal-there}
 use Rattle.tcap_laws.proofs.Peers.NetPlaces.{carried-there, SentBy, bytes_sent}

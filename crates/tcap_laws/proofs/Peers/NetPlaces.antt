@@ -8,7 +8,7 @@ use Rattle.tcap_model.specs.Statements.Net.{Engine, Marked, Trace, is_engine, si
 use Rattle.tcap_model.specs.Words.Output.{Output}
 use Rattle.tcap_model.specs.Histories.Pair.{Pair, Past}
 use Rattle.tcap_model.specs.Statements.Places.{StandsIn, Tells}
-use Rattle.tcap_model.specs.Statements.TwoEnds.{Happens}
+use Rattle.tcap_model.specs.Statements.FarAnswer.{Happens}
 
 own : (engine : Engine) → is_engine engine engine ≡ true
 own Engine.a = refl

@@ -14,7 +14,7 @@ use Rattle.tcap_model.specs.Histories.Names.{is_destined, named_within, names}
 use Rattle.tcap_model.specs.Statements.Net.{Engine, Marked, Trace, far, side, Net, IsNet, IsCarried}
 use Rattle.tcap_model.specs.Histories.Pair.{Pair, Past}
 use Rattle.tcap_model.specs.Statements.Places.{StandsIn}
-use Rattle.tcap_model.specs.Statements.TwoEnds.{Happens}
+use Rattle.tcap_model.specs.Statements.FarAnswer.{Happens}
 use Rattle.tcap_laws.proofs.Peers.CarriedComponents.{legal-there}
 use Rattle.tcap_laws.proofs.Peers.FarSenders.{FarSender, far-sender, born-short}
 use Rattle.tcap_laws.proofs.Peers.HeardPeers.{IsPeered, peer-heard}

@@ -1,74 +1,43 @@
 -- What is to be proved of two engines that hear one another and nobody else.
-use Rattle.std.specs.Prelude.{◌≡◌, ℕ, ℤ, ◌≤◌, true, List, ◌∷◌, ◌++◌, length, Option, Some, None}
+use Rattle.std.specs.Prelude.{◌≡◌, ℕ, ℤ, ◌≤◌, true, List, length, Option, Some}
 use Rattle.tcap_component.specs.declared.problem.Kind.TheVariants as kind
-use Rattle.tcap_component.specs.Problem.{ProblemParts}
 use Rattle.tcap_component.specs.Component.{CodeParts, BodyParts}
 use Rattle.tcap_invocation.specs.declared.class.Class.{Class}
 use Rattle.tcap_model.specs.Words.Answer.{Answer, is_accepted}
 use Rattle.tcap_model.specs.Invocations.Closings.{closings}
 use Rattle.tcap_model.specs.Words.Event.{Event}
 use Rattle.tcap_model.specs.Invocations.Invocation.{Invocation, invocation_of, invoked_by}
-use Rattle.tcap_model.specs.Histories.Life.{Life, life}
-use Rattle.tcap_model.specs.Words.LocalId.{local_id}
+use Rattle.tcap_model.specs.Statements.FarAnswer.{Happens, FarAnswer, Source}
 use Rattle.tcap_model.specs.Statements.Net.{Engine, far, Trace, side, Net, IsNet}
 use Rattle.tcap_model.specs.Invocations.Outcome.{was_sent_in}
-use Rattle.tcap_model.specs.Words.Output.{Output, Closing, Rejector, ComponentIndication}
+use Rattle.tcap_model.specs.Words.Output.{Output, ComponentIndication}
 use Rattle.tcap_model.specs.Histories.Pair.{Pair, Past}
 use Rattle.tcap_model.specs.Statements.Places.{StandsIn, Tells}
 use Rattle.tcap_model.specs.Words.Request.{Request, ComponentRequest}
 use Rattle.tcap_model.specs.Invocations.Span.{span}
-use Rattle.tcap_model.specs.Words.State.{peer_of}
 
--- A pair of an engine stands in the list of both, with this before it (own).
-pub record Happens (engine : Engine) (pair : Pair) (before trace : Trace) : Type 0 where
-  pub later : Trace
-  pub is_trace : trace ≡ later ++ record { engine = engine; pair = pair } ∷ before
-
--- The peer's transaction identifier of a dialogue, once it is known (Q.774, Transaction state machine).
-abbrev pub peer_in : Life → Option (List ℕ)
-peer_in Life.unborn = None
-peer_in (Life.standing state context) = peer_of state
-peer_in Life.over = None
-
--- ---- which request an answer comes from
-
--- An indication of an answer to the invocation of this number in this dialogue, and the request that
--- the far user makes for it (Q.771, Component handling).
-pub data IsAnswer (dialogue number : ℕ) (id : ℤ) : Output → Request → Type 0 where
-  a_result_last : (body : Option BodyParts) → IsAnswer dialogue number id (Output.component (ComponentIndication.closed dialogue number id (Closing.result_last body))) (Request.component (ComponentRequest.result_last id body))
-  a_result_more : (body : Option BodyParts) → IsAnswer dialogue number id (Output.component (ComponentIndication.result_more dialogue number id body)) (Request.component (ComponentRequest.result_more id body))
-  an_error : (code : CodeParts) (parameter : Option (List ℕ)) → IsAnswer dialogue number id (Output.component (ComponentIndication.closed dialogue number id (Closing.error_back code parameter))) (Request.component (ComponentRequest.error_back id code parameter))
-  a_reject : (problem : ProblemParts) → IsAnswer dialogue number id (Output.component (ComponentIndication.closed dialogue number id (Closing.rejected problem Rejector.remote_user))) (Request.component (ComponentRequest.u_reject (Some id) problem))
-
--- A request was accepted by the far engine, in a dialogue whose peer's identifier is the four octets of
--- this dialogue (own).
-pub record IsFarRequest (engine : Engine) (dialogue : ℕ) (request : Request) (pair : Pair) (before : Trace) : Type 0 where
-  pub far_dialogue : ℕ
-  pub is_event : pair.event ≡ Event.on_dialogue far_dialogue request
-  pub accepted : is_accepted pair.answer ≡ true
-  pub is_peer : peer_in (life far_dialogue (side (far engine) before)) ≡ Some (local_id dialogue)
-
--- Such a request stands before (own).
-pub record ComesFromFar (engine : Engine) (dialogue : ℕ) (request : Request) (trace : Trace) : Type 0 where
-  pub pair : Pair
-  pub before : Trace
-  pub happens : Happens (far engine) pair before trace
-  pub is_request : IsFarRequest engine dialogue request pair before
+-- ---- origin
 
 -- Origin: each answer that is told of an invocation comes from an earlier accepted request of the far
 -- user, for its identifier and with its contents, in a far dialogue whose peer is this one (own).
 abbrev pub Origin : Trace → Type 0
-Origin trace =
-    (engine : Engine) (pair : Pair) (before : Trace) (dialogue number : ℕ) (id : ℤ) (output : Output) (request : Request) →
-    Happens engine pair before trace → Tells pair.answer output → IsAnswer dialogue number id output request → ComesFromFar engine dialogue request before
+Origin trace = (answer : FarAnswer trace) → Source answer
 
 -- ---- after the Invoke
+
+-- An accepted invoke request stands in a history (own).
+pub record AcceptedInvoke (past : Past) : Type 0 where
+  pub pair : Pair
+  pub before : Past
+  pub invocation : Invocation
+  pub stands : StandsIn pair before past
+  pub makes : invoked_by pair ≡ Some invocation
 
 -- Premise 1: no two accepted invoke requests in the dialogue use one identifier (own).
 abbrev pub UsesOnce : Engine → ℕ → Trace → Type 0
 UsesOnce engine dialogue trace =
-    (one other : Pair) (before later : Past) (i j : Invocation) → StandsIn one before (side engine trace) → StandsIn other later (side engine trace) →
-    invoked_by one ≡ Some i → invoked_by other ≡ Some j → i.dialogue ≡ dialogue → j.dialogue ≡ dialogue → i.id ≡ j.id → i.number ≡ j.number
+    (one other : AcceptedInvoke (side engine trace)) → one.invocation.dialogue ≡ dialogue → other.invocation.dialogue ≡ dialogue →
+    one.invocation.id ≡ other.invocation.id → one.invocation.number ≡ other.invocation.number
 
 -- The requests that answer an Invoke: results, errors, and Rejects of the Invoke
 -- (Q.771, Component handling).
@@ -89,11 +58,21 @@ pub record WasInvoked (dialogue : ℕ) (id : ℤ) (past : Past) : Type 0 where
   pub stands : StandsIn pair before past
   pub tells : Tells pair.answer (Output.component (ComponentIndication.invoked (Some dialogue) id linked code parameter))
 
+-- An accepted request that answers an Invoke stands in a history (own).
+pub record AcceptedAnswer (past : Past) : Type 0 where
+  pub pair : Pair
+  pub before : Past
+  pub dialogue : ℕ
+  pub id : ℤ
+  pub request : Request
+  pub stands : StandsIn pair before past
+  pub is_event : pair.event ≡ Event.on_dialogue dialogue request
+  pub accepted : is_accepted pair.answer ≡ true
+  pub answers : AnswersInvoke id request
+
 -- Premise 2: the user of an engine answers only what it was told (own).
 abbrev pub AnswersWhatItWasTold : Engine → Trace → Type 0
-AnswersWhatItWasTold engine trace =
-    (pair : Pair) (before : Past) (dialogue : ℕ) (id : ℤ) (request : Request) → StandsIn pair before (side engine trace) →
-    pair.event ≡ Event.on_dialogue dialogue request → is_accepted pair.answer ≡ true → AnswersInvoke id request → WasInvoked dialogue id before
+AnswersWhatItWasTold engine trace = (answer : AcceptedAnswer (side engine trace)) → WasInvoked answer.dialogue answer.id answer.before
 
 -- Premise 3: the dialogue was opened here, by a request for a new one (own).
 pub record WasOpened (engine : Engine) (dialogue : ℕ) (trace : Trace) : Type 0 where
@@ -110,15 +89,18 @@ pub record WasSent (number : ℕ) (past : Past) : Type 0 where
   pub is_invocation : invocation_of number past ≡ Some invocation
   pub is_sent : was_sent_in invocation.class invocation.timeout (span invocation past) ≡ true
 
+-- The three premises, of the dialogue of an engine (own).
+pub record IsOrderly (engine : Engine) (dialogue : ℕ) (trace : Trace) : Type 0 where
+  pub uses_once : UsesOnce engine dialogue trace
+  pub answers_told : AnswersWhatItWasTold (far engine) trace
+  pub opened : WasOpened engine dialogue trace
+
 -- After the Invoke: every far request that an answer to an invocation may come from was made after the
 -- invocation's Invoke was sent (own).
 abbrev pub AfterInvoke : Trace → Type 0
 AfterInvoke trace =
-    (engine : Engine) (pair : Pair) (before : Trace) (dialogue number : ℕ) (id : ℤ) (output : Output) (request : Request) →
-    UsesOnce engine dialogue trace → AnswersWhatItWasTold (far engine) trace → WasOpened engine dialogue trace →
-    Happens engine pair before trace → Tells pair.answer output → IsAnswer dialogue number id output request →
-    (asked : Pair) (earlier : Trace) → Happens (far engine) asked earlier before → IsFarRequest engine dialogue request asked earlier →
-    WasSent number (side engine earlier)
+    (answer : FarAnswer trace) → IsOrderly answer.engine answer.dialogue trace → (source : Source answer) →
+    WasSent answer.number (side answer.engine source.before)
 
 -- ---- once, and operations
 
@@ -140,13 +122,23 @@ pub record WasAsked (id : ℤ) (linked : Option ℤ) (code : CodeParts) (paramet
   pub is_answer : pair.answer ≡ Answer.number number
   pub was_sent : WasSent number past
 
+-- An engine tells an Invoke (own).
+pub record ToldInvoke (engine : Engine) (dialogue : Option ℕ) (trace : Trace) : Type 0 where
+  pub pair : Pair
+  pub before : Trace
+  pub id : ℤ
+  pub linked : Option ℤ
+  pub code : CodeParts
+  pub parameter : Option (List ℕ)
+  pub happens : Happens engine pair before trace
+  pub tells : Tells pair.answer (Output.component (ComponentIndication.invoked dialogue id linked code parameter))
+
 -- Operations: each Invoke that one user is told was asked for by the other's, accepted and sent before
 -- (own).
 abbrev pub Operations : Trace → Type 0
 Operations trace =
-    (engine : Engine) (pair : Pair) (before : Trace) (dialogue : Option ℕ) (id : ℤ) (linked : Option ℤ) (code : CodeParts) (parameter : Option (List ℕ)) →
-    Happens engine pair before trace → Tells pair.answer (Output.component (ComponentIndication.invoked dialogue id linked code parameter)) →
-    WasAsked id linked code parameter (side (far engine) before)
+    (engine : Engine) (dialogue : Option ℕ) (told : ToldInvoke engine dialogue trace) →
+    WasAsked told.id told.linked told.code told.parameter (side (far engine) told.before)
 
 -- ---- the statement
 
