@@ -159,7 +159,7 @@ SparesAt id (Request.component (ComponentRequest.u_cancel named)) = int_eq named
 SparesAt id (Request.dialogue (DialogueRequest.uni context info)) = Unit {0}
 SparesAt id (Request.dialogue (DialogueRequest.begin context info)) = ⊥
 SparesAt id (Request.dialogue (DialogueRequest.go_on context info)) = ⊥
-SparesAt id (Request.dialogue (DialogueRequest.finish end_if_over context info)) = Unit {0}
+SparesAt id (Request.dialogue (DialogueRequest.finish ending context info)) = Unit {0}
 SparesAt id (Request.dialogue (DialogueRequest.u_abort why info)) = Unit {0}
 
 request-leaves : (id : ℤ) (s : State) (c : Option (List ℕ)) (r : Request) → IsStanding (life_by_request s c r) → SparesAt id r → AllLeave (unwrap_or (marks_of_request id r) (end_if_over (Life.standing s c) (life_by_request s c r)))
@@ -172,7 +172,7 @@ request-leaves id s c (Request.component (ComponentRequest.u_cancel named)) stan
 request-leaves id s c (Request.dialogue (DialogueRequest.uni context info)) stands spares = absurd stands
 request-leaves id s c (Request.dialogue (DialogueRequest.begin context info)) stands spares = absurd spares
 request-leaves id s c (Request.dialogue (DialogueRequest.go_on context info)) stands spares = absurd spares
-request-leaves id s c (Request.dialogue (DialogueRequest.finish end_if_over context info)) stands spares = absurd stands
+request-leaves id s c (Request.dialogue (DialogueRequest.finish ending context info)) stands spares = absurd stands
 request-leaves id s c (Request.dialogue (DialogueRequest.u_abort why info)) stands spares = absurd stands
 
 -- all events
