@@ -1,4 +1,4 @@
--- The problems that are told and sent here, and who told those that are received.
+-- The problems that are told and sent here; of those received, what they reject and who told them.
 use Rattle.std.specs.Prelude.{Bool, true, false, if◌then◌else◌}
 use Rattle.tcap_component.specs.declared.problem.Kind.{Kind}
 use Rattle.tcap_component.specs.declared.problem.Kind.TheVariants as kind
