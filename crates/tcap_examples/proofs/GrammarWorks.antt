@@ -8,7 +8,8 @@ use Rattle.tcap_pdu.specs.DialogueSpelling.{PduValue}
 use Rattle.tcap_pdu.specs.FrameFaults.{IsFrameFault}
 use Rattle.tcap_pdu.specs.FrameReading.{frame_at}
 use Rattle.tcap_pdu.specs.Front.{Front}
-use Rattle.tcap_pdu.proofs.CallerLemmas.{dialogue_takes, dialogue_again, frame_takes, frame_again, frame_fails, front_read, front_again}
+use Rattle.tcap_pdu.proofs.CallerLemmas.{dialogue_takes, dialogue_again, frame_takes, frame_again, frame_fails}
+use Rattle.tcap_pdu.proofs.CallerLemmas.{front_read, front_again}
 use Rattle.tcap_examples.proofs.Apart.{apart}
 use Rattle.tcap_examples.specs.Computing.{computing}
 use Rattle.tcap_examples.specs.Statements.GrammarExamples as example
@@ -35,7 +36,9 @@ must_sent _ _ (asked asked_for) = refl
 
 pub accepted : IsNormal State.sent (Some context) (Some example.accepting_portion)
 unfolding computing
-accepted = accepting example.accepting_portion example.acceptance (asked context) (dialogue_takes example.accepting_portion example.acceptance refl) (accepts _ _ _ _)
+accepted =
+    accepting example.accepting_portion example.acceptance (asked context)
+    (dialogue_takes example.accepting_portion example.acceptance refl) (accepts _ _ _ _)
 
 pub not_asked_for : IsNormal State.sent None None
 not_asked_for = absent not_asked
@@ -48,15 +51,21 @@ lacking = missing (asked context)
 
 pub refused : IsAbnormal State.sent (Some context) (Some example.refusing_portion)
 unfolding computing
-refused = another example.refusing_portion example.refusal (asked context) (dialogue_takes example.refusing_portion example.refusal refl) (no_acceptance example.refusal refl)
+refused =
+    another example.refusing_portion example.refusal (asked context)
+    (dialogue_takes example.refusing_portion example.refusal refl) (no_acceptance example.refusal refl)
 
 pub asked_back : IsAbnormal State.sent (Some context) (Some example.asking_portion)
 unfolding computing
-asked_back = another example.asking_portion example.request (asked context) (dialogue_takes example.asking_portion example.request refl) (no_acceptance example.request refl)
+asked_back =
+    another example.asking_portion example.request (asked context)
+    (dialogue_takes example.asking_portion example.request refl) (no_acceptance example.request refl)
 
 pub empty : IsAbnormal State.sent (Some context) (Some [])
 unfolding computing
-empty = unspelled [] (asked context) (λ pdu spelled. let read : dialogue_at [] ≡ Ok pdu = dialogue_again [] pdu spelled in absurd cc)
+empty =
+    unspelled [] (asked context) (λ pdu spelled.
+    let read : dialogue_at [] ≡ Ok pdu = dialogue_again [] pdu spelled in absurd cc)
 
 pub told_unasked : IsAbnormal State.sent None (Some example.accepting_portion)
 told_unasked = not_allowed example.accepting_portion not_asked
@@ -66,7 +75,8 @@ told_twice = not_allowed example.accepting_portion (answered example.peer (Some 
 
 -- ---- and what they aren't
 
-no_normal : (portion : List ℕ) (pdu : PduValue) → dialogue_at portion ≡ Ok pdu → (IsAcceptance pdu → ⊥) → IsNormal State.sent (Some context) (Some portion) → ⊥
+no_normal : (portion : List ℕ) (pdu : PduValue) → dialogue_at portion ≡ Ok pdu → (IsAcceptance pdu → ⊥) →
+    IsNormal State.sent (Some context) (Some portion) → ⊥
 no_normal portion pdu e other (accepting _ named must spelled is) =
     let read : dialogue_at portion ≡ Ok named = dialogue_again portion named spelled in
     let same : named ≡ pdu = cc in
@@ -78,7 +88,8 @@ refusal_not_normal = no_normal example.refusing_portion example.refusal refl (no
 
 pub again_not_normal : IsNormal (State.active example.peer) (Some context) (Some example.accepting_portion) → ⊥
 again_not_normal (accepting _ pdu must spelled is) =
-    let never : State.active example.peer ≡ State.sent = must_sent (State.active example.peer) (Some context) must in absurd cc
+    let never : State.active example.peer ≡ State.sent = must_sent (State.active example.peer) (Some context) must in
+    absurd cc
 
 -- ---- names
 
@@ -87,7 +98,8 @@ unfolding computing
 spelled_named = record {
   to = example.first_octets;
   within = omega arith;
-  is_destination = of_message example.result_message example.first_octets (frame_takes result_of_first example.result_message refl) refl;
+  is_destination =
+      of_message example.result_message example.first_octets (frame_takes result_of_first example.result_message refl) refl;
   is_dialogue = refl;
 }
 
@@ -117,7 +129,8 @@ origin_unnamed it = by it.to it.is_destination it.is_dialogue
     by to (of_message m _ spelled is) named =
         let read : frame_at example.faulty_continue ≡ Ok m = frame_again m example.faulty_continue spelled in absurd cc
     by to (at_front fault origin _ is begins front) named =
-        let at = ap (λ (p : Option (List ℕ) × Option (List ℕ)). p.1) (front_again example.faulty_continue origin (Some to) front) in
+        let at = ap (λ (p : Option (List ℕ) × Option (List ℕ)). p.1)
+            (front_again example.faulty_continue origin (Some to) front) in
         let same : example.first_octets ≡ to = some_is example.first_octets to at in
         let one : Some 1 ≡ Some 5 = ap dialogue_named same ∙ named in
         apart (λ (n : ℕ). n) (some_is 1 5 one) refl
@@ -133,4 +146,5 @@ begin_unnamed it = by it.to it.is_destination
     by to (at_front fault origin _ is begins front) = true≢false (sym begins)
 
 -- What the tests state.
-pub ruleset grammar_works = (accepted, not_asked_for, in_active, lacking, refused, asked_back, empty, told_unasked, told_twice, refusal_not_normal, again_not_normal, spelled_named, continue_front, continue_faulty, faulty_named, origin_unnamed, begin_unnamed)
+pub ruleset grammar_works =
+    (accepted, not_asked_for, in_active, lacking, refused, asked_back, empty, told_unasked, told_twice, refusal_not_normal, again_not_normal, spelled_named, continue_front, continue_faulty, faulty_named, origin_unnamed, begin_unnamed)

@@ -4,7 +4,8 @@ use Rattle.std.specs.Prelude.{pos, drop, take, length}
 use Rattle.ber_core.proofs.CallerLemmas.{some_is, not_some}
 use Rattle.tcap_examples.proofs.Apart.{apart}
 use Rattle.tcap_examples.specs.Computing.{computing}
-use Rattle.tcap_examples.specs.Statements.HeadlineExamples.{repeated_aare_history, late_result_history, faulty_second_history, usual_history}
+use Rattle.tcap_examples.specs.Statements.HeadlineExamples.{repeated_aare_history, late_result_history}
+use Rattle.tcap_examples.specs.Statements.HeadlineExamples.{faulty_second_history, usual_history}
 use Rattle.tcap_examples.specs.Values.HistoryWords.{empty_result}
 use Rattle.tcap_examples.specs.Wrong.WrongEnds as ends
 use Rattle.tcap_examples.specs.Wrong.WrongHistories.{whole}
@@ -22,8 +23,10 @@ told_here place id closing = record { place = place; dialogue = 1; id = pos id; 
 -- ---- where it holds
 
 module _ (h : History) (n : ℕ) where
-  by_one : (told : Told) (pair : Pair) (before newer : Past) → closings n h.pairs ≡ told ∷ [] → outcome n h.pairs ≡ Some told.closing →
-      told.place ≡ pair ∷ before → h.pairs ≡ newer ++ pair ∷ before → outcome n (pair ∷ before) ≡ Some told.closing → outcome n before ≡ None → PlainlyDecided h n
+  by_one : (told : Told) (pair : Pair) (before newer : Past) → closings n h.pairs ≡ told ∷ [] →
+      outcome n h.pairs ≡ Some told.closing →
+      told.place ≡ pair ∷ before → h.pairs ≡ newer ++ pair ∷ before →
+      outcome n (pair ∷ before) ≡ Some told.closing → outcome n before ≡ None → PlainlyDecided h n
   by_one told pair before newer all is place whole there none = record {
     none = λ never. absurd (not_some told.closing (sym never ∙ is));
     one = λ closing so. subst (λ c. IsToldOnce n c h.pairs) (some_is told.closing closing (sym is ∙ so)) (record {
@@ -44,7 +47,8 @@ module _ (h : History) (n : ℕ) where
 pub answered : PlainlyDecided repeated_aare_history 1
 unfolding computing
 answered = let past = repeated_aare_history.pairs in
-    by_one repeated_aare_history 1 (told_here (drop 1 past) 1 empty_result) _ (drop 2 past) (take 1 past) refl refl refl refl refl refl
+    by_one repeated_aare_history 1 (told_here (drop 1 past) 1 empty_result) _ (drop 2 past) (take 1 past)
+    refl refl refl refl refl refl
 
 pub ended : PlainlyDecided repeated_aare_history 2
 unfolding computing
@@ -54,7 +58,8 @@ ended = let past = repeated_aare_history.pairs in
 pub lapsed : PlainlyDecided late_result_history 1
 unfolding computing
 lapsed = let past = late_result_history.pairs in
-    by_one late_result_history 1 (told_here (drop 3 past) 1 Closing.lapsed) _ (drop 4 past) (take 3 past) refl refl refl refl refl refl
+    by_one late_result_history 1 (told_here (drop 3 past) 1 Closing.lapsed) _ (drop 4 past) (take 3 past)
+    refl refl refl refl refl refl
 
 pub not_closed : PlainlyDecided faulty_second_history 2
 unfolding computing
@@ -64,10 +69,12 @@ not_closed = by_none faulty_second_history 2 refl refl
 
 pub told_twice : PlainlyDecided (usual_history (whole ends.double_result)) 1 → ⊥
 unfolding computing
-told_twice plainly = let once = plainly.one empty_result refl in apart (λ (all : List Told). length all) once.is_all refl
+told_twice plainly =
+    let once = plainly.one empty_result refl in apart (λ (all : List Told). length all) once.is_all refl
 
 -- It is told at a place where it was decided before.
-late : (n : ℕ) (past : Past) (closing : Closing) (told : Told) → closings n past ≡ told ∷ [] → outcome n (drop 1 told.place) ≡ Some closing → IsToldOnce n closing past → ⊥
+late : (n : ℕ) (past : Past) (closing : Closing) (told : Told) → closings n past ≡ told ∷ [] →
+    outcome n (drop 1 told.place) ≡ Some closing → IsToldOnce n closing past → ⊥
 late n past closing told all before once =
     let same : told ≡ once.told = let both : told ∷ [] ≡ once.told ∷ [] = sym all ∙ once.is_all in cc in
     let place : drop 1 told.place ≡ once.before = ap (λ (t : Told). drop 1 t.place) same ∙ ap (drop 1) once.is_place in
@@ -75,7 +82,9 @@ late n past closing told all before once =
 
 pub told_late : PlainlyDecided (usual_history ends.lapse_told_late) 1 → ⊥
 unfolding computing
-told_late plainly = late 1 ends.lapse_told_late Closing.lapsed (told_here ends.lapse_told_late 1 Closing.lapsed) refl refl (plainly.one Closing.lapsed refl)
+told_late plainly =
+    late 1 ends.lapse_told_late Closing.lapsed (told_here ends.lapse_told_late 1 Closing.lapsed)
+    refl refl (plainly.one Closing.lapsed refl)
 
 -- What the tests state.
 pub ruleset plainly_decided = (answered, ended, lapsed, not_closed, told_twice, told_late)

@@ -54,8 +54,10 @@ pub fn bytes_reach_their_dialogue()
         reply h (Event.received bytes) ≡ Answer.outputs (taken_outputs dialogue h.pairs (life dialogue h.pairs) m) }
     // A faulty Continue with an origin at its front is answered there, and nothing else is.
     ensures broken { (h : History) (dialogue : ℕ) (bytes : List ℕ) → IsTrue (names (Event.received bytes) dialogue) →
-        IsTrue (live_in (life dialogue h.pairs)) → (f : FrameFault) (origin destination : Option (List ℕ)) → IsFrameFault bytes f → Front bytes origin destination →
-        reply h (Event.received bytes) ≡ Answer.outputs (option_to_list (fault_answer bytes f origin) ++ Output.dialogue (DialogueIndication.p_abort dialogue (AbortCause.cause (fault_cause f))) ∷ ended_in dialogue h.pairs []) }
+        IsTrue (live_in (life dialogue h.pairs)) → (f : FrameFault) (origin destination : Option (List ℕ)) →
+        IsFrameFault bytes f → Front bytes origin destination →
+        reply h (Event.received bytes) ≡ Answer.outputs (option_to_list (fault_answer bytes f origin)
+        ++ Output.dialogue (DialogueIndication.p_abort dialogue (AbortCause.cause (fault_cause f))) ∷ ended_in dialogue h.pairs []) }
 {}
 
 /// What is sent is a message in the canonical form, which the octets spell; for a request it is the
@@ -80,7 +82,8 @@ pub fn marks_are_of_the_grammar()
     ensures named { (dialogue : ℕ) (m : Message) (bytes : List ℕ) → SpellsFrame m bytes → length bytes ≤ message_limit →
         names (Event.received bytes) dialogue ≡ is_destined dialogue (destination m) }
     // The dialogue that bytes name is the one of the grammar.
-    ensures by_grammar { (dialogue : ℕ) (bytes : List ℕ) → IsTrue (names (Event.received bytes) dialogue) ↔ NamesDialogue dialogue bytes }
+    ensures by_grammar { (dialogue : ℕ) (bytes : List ℕ) →
+        IsTrue (names (Event.received bytes) dialogue) ↔ NamesDialogue dialogue bytes }
     // A dialogue portion is normal or abnormal by what it spells, as its verdict says.
     ensures normal { (state : State) (context portion : Option (List ℕ)) → IsNormal state context portion →
         (told : Option (List ℕ)) × (info : List ℕ) × (portion_verdict state context portion ≡ PortionVerdict.normal told info) }

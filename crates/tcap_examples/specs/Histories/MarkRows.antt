@@ -10,7 +10,8 @@ use Rattle.tcap_model.specs.Invocations.Marks.{Mark, Noted, marks}
 use Rattle.tcap_examples.specs.Histories.Closing.{accepting}
 use Rattle.tcap_examples.specs.Values.DialogueValues.{aare, of_invoke, result_of_first, shown_begin}
 use Rattle.tcap_examples.specs.Values.Hex.{hex}
-use Rattle.tcap_examples.specs.Values.HistoryWords.{dialogue_born, invoke_pair, request_pair, received_pair, moment_pair}
+use Rattle.tcap_examples.specs.Values.HistoryWords.{dialogue_born, invoke_pair, request_pair, received_pair}
+use Rattle.tcap_examples.specs.Values.HistoryWords.{moment_pair}
 use Rattle.tcap_examples.specs.Values.HistoryWords.{moment_refused, begin_request, continue_request}
 
 -- A pair, what stands before it, and what it means for identifier 1 of dialogue 1, as it is stated (own).
@@ -83,7 +84,8 @@ moments =
 -- A part of a result, a Reject of the Invoke and one of a result, behind them what can't be read and a
 -- result, and a result for another identifier before all (own).
 abbrev pub many_components : List ℕ
-many_components = hex 52 0x6532_480400000005_490400000001_6C24_A203020102_A703020101_A406020101810100_A406020101820100_A503020107_A203020101
+many_components =
+    hex 52 0x6532_480400000005_490400000001_6C24_A203020102_A703020101_A406020101810100_A406020101820100_A503020107_A203020101
 
 -- Normal messages to a live dialogue: a Continue by its components, an End by its components and the end
 -- (own).

@@ -14,7 +14,9 @@ use Rattle.tcap_model.specs.Words.Output.{Closing}
 use Rattle.tcap_model.specs.Histories.Pair.{Past}
 
 module _ (past : Past) (n : ℕ) (i : Invocation) (found : invocation_of n past ≡ Some i) where
-  ending_decided : (d : Option Told) → decision n past ≡ d → option_map (λ (t : Told). t.closing) d ≡ outcome_of (Some i) past → map told_closing (as_list d) ≡ closing_due i (outcome_of (Some i) past)
+  ending_decided : (d : Option Told) → decision n past ≡ d →
+      option_map (λ (t : Told). t.closing) d ≡ outcome_of (Some i) past →
+      map told_closing (as_list d) ≡ closing_due i (outcome_of (Some i) past)
   ending_decided None q e = ap (closing_due i) e
   ending_decided (Some t) q e =
       let d = decision_place n past t q in
@@ -26,8 +28,10 @@ module _ (past : Past) (n : ℕ) (i : Invocation) (found : invocation_of n past 
   pub ending_is : map told_closing (as_list (decision n past)) ≡ closing_due i (outcome_of (Some i) past)
   ending_is = ending_decided (decision n past) refl (closing_of_decision n past ∙ ap (λ o. outcome_of o past) found)
 
-pub outcome_told : (start : Start) (past : Past) (n : ℕ) (i : Invocation) → AreReplies start past → invocation_of n past ≡ Some i → map told_closing (closings n past) ≡ closing_due i (outcome_of (Some i) past)
-outcome_told start past n i legal found = ap (map told_closing) (closings_are start past n legal) ∙ ending_is past n i found
+pub outcome_told : (start : Start) (past : Past) (n : ℕ) (i : Invocation) → AreReplies start past →
+    invocation_of n past ≡ Some i → map told_closing (closings n past) ≡ closing_due i (outcome_of (Some i) past)
+outcome_told start past n i legal found =
+    ap (map told_closing) (closings_are start past n legal) ∙ ending_is past n i found
 
 -- ---- the plain form
 

@@ -137,7 +137,12 @@ module _ (net : Net) (is : IsNet net) (facing : Facing net) where
   f-known : (past : Past) (state : State) (context : Option (List ℕ)) → IsIn past (side other net.trace) → life f past ≡ Life.standing state context → peer_of state ≡ None → ⊥
   f-known past state context part lives unknown =
       let never-f : NeverBegun f (side other net.trace) = subst (NeverBegun f) (sym part.1) (never-begun (net.start other) f part.0 past state context (subst (AreReplies (net.start other)) part.1 legal-far) lives unknown) in
-      never-peers (length net.trace) net is engine other facing.is_far facing.is_near d f (local_id d) (omega arith) (own-name d facing.is_short) facing.never_begun never-f facing.is_peered
+      never-peers (length net.trace) net is engine other facing.is_far facing.is_near d f (local_id d) (omega arith) (record {
+        is_named = own-name d facing.is_short;
+        never_here = facing.never_begun;
+        never_there = never-f;
+        is_peered = facing.is_peered;
+      })
 
   -- and stays
   f-peer : (past : Past) (peer : List ℕ) → IsIn past (side other net.trace) → HasPeer peer (life f past) → peer ≡ local_id d

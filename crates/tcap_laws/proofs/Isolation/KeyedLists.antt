@@ -86,7 +86,8 @@ module _ {X : Type 0} (key : X → List ℕ) where
   put-ordered x [] ordered = (tt, tt)
   put-ordered x (y ∷ ys) ordered = go (is_before y x) refl (put-ordered x ys ordered.1)
     where
-      go : (b : Bool) → is_before y x ≡ b → AreInOrder (put key x ys) → AreInOrder (cond b (y ∷ put key x ys) (x ∷ y ∷ ys))
+      go : (b : Bool) → is_before y x ≡ b → AreInOrder (put key x ys) →
+          AreInOrder (cond b (y ∷ put key x ys) (x ∷ y ∷ ys))
       go true e ih = (put-none y x ys (asym (key x) (key y) e) ordered.0, ih)
       go false e ih = ((e, none-trans x y ys e ordered.0), ordered)
 
@@ -109,13 +110,15 @@ module _ {X : Type 0} (key : X → List ℕ) where
         go true ih = (none.0, ih)
         go false ih = ih
 
-    put-kept : (x : X) (ys : List X) → own x ≡ true → AreInOrder ys → filter own (put key x ys) ≡ put key x (filter own ys)
+    put-kept : (x : X) (ys : List X) → own x ≡ true → AreInOrder ys →
+        filter own (put key x ys) ≡ put key x (filter own ys)
     put-kept x [] e ordered = ap (λ b. cond b (x ∷ []) []) e
     put-kept x (y ∷ ys) e ordered = go (is_before y x) refl (put-kept x ys e ordered.1)
       where
         kept : (b : Bool) → is_before y x ≡ true → filter own (put key x ys) ≡ put key x (filter own ys)
             → cond b (y ∷ filter own (put key x ys)) (filter own (put key x ys)) ≡ put key x (cond b (y ∷ filter own ys) (filter own ys))
-        kept true q ih = ap (λ (l : List X). y ∷ l) ih ∙ sym (ap (λ b. cond b (y ∷ put key x (filter own ys)) (x ∷ y ∷ filter own ys)) q)
+        kept true q ih =
+            ap (λ (l : List X). y ∷ l) ih ∙ sym (ap (λ b. cond b (y ∷ put key x (filter own ys)) (x ∷ y ∷ filter own ys)) q)
         kept false q ih = ih
 
         go : (b : Bool) → is_before y x ≡ b → filter own (put key x ys) ≡ put key x (filter own ys)

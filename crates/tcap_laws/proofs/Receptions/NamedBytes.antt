@@ -1,5 +1,6 @@
 -- Bytes name the dialogue that the grammar says.
-use Rattle.std.proofs.Common.{◌≡◌, ℕ, Bool, true, false, List, length, nat_le, Option, Some, None, Result, Ok, Err, refl, sym, ap, subst, ◌∙◌}
+use Rattle.std.proofs.Common.{◌≡◌, ℕ, Bool, true, false, List, length, nat_le, Option, Some, None, Result, Ok, Err}
+use Rattle.std.proofs.Common.{refl, sym, ap, subst, ◌∙◌}
 use Rattle.std.proofs.lemmas.Bool.{eq-eqb, leb-true, le-leb, true≢false}
 use Rattle.std.specs.Prelude.{if◌then◌else◌}
 use Rattle.tcap_pdu.specs.declared.fault.FrameFault.{FrameFault}
@@ -28,37 +29,52 @@ destination-read bytes to (at_front fault origin _ is begins front) =
     ∙ (ap (λ (b : Bool). if b then (front_at bytes).1 else None) begins
     ∙ ap (λ (p : Option (List ℕ) × Option (List ℕ)). p.1) (front_again bytes origin (Some to) front))
 
-pub named-by_grammar : (dialogue : ℕ) (bytes : List ℕ) → NamesDialogue dialogue bytes → names (Event.received bytes) dialogue ≡ true
+pub named-by_grammar : (dialogue : ℕ) (bytes : List ℕ) → NamesDialogue dialogue bytes →
+    names (Event.received bytes) dialogue ≡ true
 named-by_grammar dialogue bytes it =
     rw (le-leb (length bytes) message_limit it.within)
-    (ap (is_destined dialogue) (destination-read bytes it.to it.is_destination) ∙ is-destined dialogue it.to it.is_dialogue)
+    (ap (is_destined dialogue) (destination-read bytes it.to it.is_destination)
+    ∙ is-destined dialogue it.to it.is_dialogue)
 
 -- ---- and back
 
 abbrev Addressed : ℕ → List ℕ → Type 0
 Addressed dialogue bytes = (to : List ℕ) × IsDestination bytes to × (dialogue_named to ≡ Some dialogue)
 
-addressed-by : (dialogue : ℕ) (bytes : List ℕ) (o : Option (List ℕ)) → ((to : List ℕ) → o ≡ Some to → IsDestination bytes to) → is_destined dialogue o ≡ true → Addressed dialogue bytes
+addressed-by : (dialogue : ℕ) (bytes : List ℕ) (o : Option (List ℕ)) →
+    ((to : List ℕ) → o ≡ Some to → IsDestination bytes to) → is_destined dialogue o ≡ true → Addressed dialogue bytes
 addressed-by dialogue bytes None is e = absurd (true≢false (sym e))
 addressed-by dialogue bytes (Some to) is e = (to, is to refl, that-is dialogue (dialogue_named to) e)
 
-faulty-addressed : (dialogue : ℕ) (bytes : List ℕ) (fault : FrameFault) → frame_at bytes ≡ Err fault → (b : Bool) → begins_addressed bytes ≡ b →
+faulty-addressed : (dialogue : ℕ) (bytes : List ℕ) (fault : FrameFault) → frame_at bytes ≡ Err fault → (b : Bool) →
+    begins_addressed bytes ≡ b →
     is_destined dialogue (if b then (front_at bytes).1 else None) ≡ true → Addressed dialogue bytes
 faulty-addressed dialogue bytes fault e false begins is = absurd (true≢false (sym is))
 faulty-addressed dialogue bytes fault e true begins is =
     addressed-by dialogue bytes (front_at bytes).1
-    (λ to same. at_front fault (front_at bytes).0 to (frame_fails bytes fault e) begins (subst (Front bytes (front_at bytes).0) same (front_read bytes)))
+    (λ to same. at_front fault (front_at bytes).0 to (frame_fails bytes fault e) begins
+    (subst (Front bytes (front_at bytes).0) same (front_read bytes)))
     is
 
-read-addressed : (dialogue : ℕ) (bytes : List ℕ) (read : Result Message FrameFault) → frame_at bytes ≡ read → is_destined dialogue (destination_by bytes read) ≡ true → Addressed dialogue bytes
-read-addressed dialogue bytes (Ok m) e is = addressed-by dialogue bytes (destination m) (λ to same. of_message m to (frame_takes bytes m e) same) is
-read-addressed dialogue bytes (Err fault) e is = faulty-addressed dialogue bytes fault e (begins_addressed bytes) refl is
+read-addressed : (dialogue : ℕ) (bytes : List ℕ) (read : Result Message FrameFault) → frame_at bytes ≡ read →
+    is_destined dialogue (destination_by bytes read) ≡ true → Addressed dialogue bytes
+read-addressed dialogue bytes (Ok m) e is =
+    addressed-by dialogue bytes (destination m) (λ to same. of_message m to (frame_takes bytes m e) same) is
+read-addressed dialogue bytes (Err fault) e is =
+    faulty-addressed dialogue bytes fault e (begins_addressed bytes) refl is
 
-pub grammar-by_name : (dialogue : ℕ) (bytes : List ℕ) → names (Event.received bytes) dialogue ≡ true → NamesDialogue dialogue bytes
+pub grammar-by_name : (dialogue : ℕ) (bytes : List ℕ) → names (Event.received bytes) dialogue ≡ true →
+    NamesDialogue dialogue bytes
 grammar-by_name dialogue bytes named = by (nat_le (length bytes) message_limit) refl named
   where
-    by : (within : Bool) → nat_le (length bytes) message_limit ≡ within → named_within within dialogue bytes ≡ true → NamesDialogue dialogue bytes
+    by : (within : Bool) → nat_le (length bytes) message_limit ≡ within → named_within within dialogue bytes ≡ true →
+        NamesDialogue dialogue bytes
     by false short e = absurd (true≢false (sym e))
     by true short e =
         let it = read-addressed dialogue bytes (frame_at bytes) refl e in
-        record { to = it.0; within = leb-true (length bytes) message_limit short; is_destination = it.1; is_dialogue = it.2 }
+        record {
+          to = it.0;
+          within = leb-true (length bytes) message_limit short;
+          is_destination = it.1;
+          is_dialogue = it.2;
+        }

@@ -1,5 +1,6 @@
 -- What one event means for one invoke identifier of a dialogue.
-use Rattle.std.specs.Prelude.{ℕ, ℤ, List, [], ◌∷◌, ◌++◌, Bool, true, false, Option, Some, None, Result, Ok, Err, map, unwrap_or, if◌then◌else◌}
+use Rattle.std.specs.Prelude.{ℕ, ℤ, List, [], ◌∷◌, ◌++◌, map, Bool, true, false, if◌then◌else◌}
+use Rattle.std.specs.Prelude.{Option, Some, None, unwrap_or, Result, Ok, Err}
 use Rattle.std.specs.Ordering.{int_eq}
 use Rattle.tcap_pdu.specs.declared.fault.FrameFault.{FrameFault}
 use Rattle.tcap_pdu.specs.FrameSpelling.{Message}
@@ -75,7 +76,8 @@ abbrev pub marks_of_request : ℤ → Request → Option (List Mark)
 marks_of_request id (Request.dialogue (DialogueRequest.begin context info)) = Some (Mark.sent ∷ [])
 marks_of_request id (Request.dialogue (DialogueRequest.go_on context info)) = Some (Mark.sent ∷ [])
 marks_of_request id (Request.dialogue (DialogueRequest.uni context info)) = Some (Mark.sent ∷ Mark.end ∷ [])
-marks_of_request id (Request.dialogue (DialogueRequest.finish Ending.basic context info)) = Some (Mark.sent ∷ Mark.end ∷ [])
+marks_of_request id (Request.dialogue (DialogueRequest.finish Ending.basic context info)) =
+    Some (Mark.sent ∷ Mark.end ∷ [])
 marks_of_request id (Request.dialogue (DialogueRequest.finish Ending.prearranged context info)) = None
 marks_of_request id (Request.dialogue (DialogueRequest.u_abort why info)) = None
 marks_of_request id (Request.component (ComponentRequest.u_cancel named)) = Some (marked id named Mark.given_up)
@@ -134,7 +136,8 @@ end_if_over before after = if is_over before then [] else (if is_over after then
 -- accepted: its special meaning, or else the end if it ended the dialogue
 -- (Q.774, Invocation state machine).
 abbrev pub marks_by_event : ℤ → Life → Life → Event → Bool → List Mark
-marks_by_event id before after event accepted = unwrap_or (special_marks id before event accepted) (end_if_over before after)
+marks_by_event id before after event accepted =
+    unwrap_or (special_marks id before event accepted) (end_if_over before after)
 
 -- An event that doesn't name the dialogue means nothing (own).
 abbrev pub marks_if_named : Bool → ℕ → ℤ → Life → Pair → List Mark

@@ -29,10 +29,18 @@ peer_in Life.over = None
 -- An indication of an answer to the invocation of this number in this dialogue, and the request that
 -- the far user makes for it (Q.771, Component handling).
 pub data IsAnswer (dialogue number : ℕ) (id : ℤ) : Output → Request → Type 0 where
-  a_result_last : (body : Option BodyParts) → IsAnswer dialogue number id (Output.component (ComponentIndication.closed dialogue number id (Closing.result_last body))) (Request.component (ComponentRequest.result_last id body))
-  a_result_more : (body : Option BodyParts) → IsAnswer dialogue number id (Output.component (ComponentIndication.result_more dialogue number id body)) (Request.component (ComponentRequest.result_more id body))
-  an_error : (code : CodeParts) (parameter : Option (List ℕ)) → IsAnswer dialogue number id (Output.component (ComponentIndication.closed dialogue number id (Closing.error_back code parameter))) (Request.component (ComponentRequest.error_back id code parameter))
-  a_reject : (problem : ProblemParts) → IsAnswer dialogue number id (Output.component (ComponentIndication.closed dialogue number id (Closing.rejected problem Rejector.remote_user))) (Request.component (ComponentRequest.u_reject (Some id) problem))
+  a_result_last : (body : Option BodyParts) → IsAnswer dialogue number id
+      (Output.component (ComponentIndication.closed dialogue number id (Closing.result_last body)))
+      (Request.component (ComponentRequest.result_last id body))
+  a_result_more : (body : Option BodyParts) → IsAnswer dialogue number id
+      (Output.component (ComponentIndication.result_more dialogue number id body))
+      (Request.component (ComponentRequest.result_more id body))
+  an_error : (code : CodeParts) (parameter : Option (List ℕ)) → IsAnswer dialogue number id
+      (Output.component (ComponentIndication.closed dialogue number id (Closing.error_back code parameter)))
+      (Request.component (ComponentRequest.error_back id code parameter))
+  a_reject : (problem : ProblemParts) → IsAnswer dialogue number id
+      (Output.component (ComponentIndication.closed dialogue number id (Closing.rejected problem Rejector.remote_user)))
+      (Request.component (ComponentRequest.u_reject (Some id) problem))
 
 -- A request was accepted by the far engine, in a dialogue whose peer's identifier is the four octets of
 -- this dialogue (own).

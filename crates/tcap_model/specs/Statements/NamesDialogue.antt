@@ -12,8 +12,10 @@ use Rattle.tcap_model.specs.Words.LocalId.{dialogue_named}
 -- faulty ones whose first octet is that of an End, a Continue or an Abort, the one at their front
 -- (Q.773, Structure of TC messages; that of a faulty message is own).
 pub data IsDestination (bytes : List ℕ) : List ℕ → Type 0 where
-  of_message : (message : Message) (to : List ℕ) → SpellsFrame message bytes → destination message ≡ Some to → IsDestination bytes to
-  at_front : (fault : FrameFault) (origin : Option (List ℕ)) (to : List ℕ) → IsFrameFault bytes fault → IsTrue (begins_addressed bytes) → Front bytes origin (Some to) → IsDestination bytes to
+  of_message : (message : Message) (to : List ℕ) → SpellsFrame message bytes → destination message ≡ Some to →
+      IsDestination bytes to
+  at_front : (fault : FrameFault) (origin : Option (List ℕ)) (to : List ℕ) → IsFrameFault bytes fault →
+      IsTrue (begins_addressed bytes) → Front bytes origin (Some to) → IsDestination bytes to
 
 -- Bytes that are no longer than a message may be name the dialogue whose four octets are their
 -- destination (own).

@@ -31,11 +31,22 @@ marks_of_components id components = flat_map (marks_of_component id) components
 -- normal Continue its components up to the first fault, a normal End the same and then the end, any
 -- other message and a faulty one the end (Q.774, Invocation state machine).
 pub data Means (state : State) (context : Option (List ℕ)) (id : ℤ) (bytes : List ℕ) : List Mark → Type 0 where
-  continued : (origin to : List ℕ) (portion : Option (List ℕ)) (content : List ℕ) (components : List ComponentParts) (fault : Option FaultParts) → SpellsFrame (Message.go_on origin to portion content) bytes → IsNormal state context portion → FirstFault components fault content → Means state context id bytes (marks_of_components id components)
-  ended : (to : List ℕ) (portion : Option (List ℕ)) (content : List ℕ) (components : List ComponentParts) (fault : Option FaultParts) → SpellsFrame (Message.end to portion content) bytes → IsNormal state context portion → FirstFault components fault content → Means state context id bytes (marks_of_components id components ++ Mark.end ∷ [])
-  continued_abnormally : (origin to : List ℕ) (portion : Option (List ℕ)) (content : List ℕ) → SpellsFrame (Message.go_on origin to portion content) bytes → IsAbnormal state context portion → Means state context id bytes (Mark.end ∷ [])
-  ended_abnormally : (to : List ℕ) (portion : Option (List ℕ)) (content : List ℕ) → SpellsFrame (Message.end to portion content) bytes → IsAbnormal state context portion → Means state context id bytes (Mark.end ∷ [])
-  aborted : (to : List ℕ) (reason : Reason) → SpellsFrame (Message.abort to reason) bytes → Means state context id bytes (Mark.end ∷ [])
+  continued : (origin to : List ℕ) (portion : Option (List ℕ)) (content : List ℕ) (components : List ComponentParts)
+      (fault : Option FaultParts) → SpellsFrame (Message.go_on origin to portion content) bytes →
+      IsNormal state context portion → FirstFault components fault content →
+      Means state context id bytes (marks_of_components id components)
+  ended : (to : List ℕ) (portion : Option (List ℕ)) (content : List ℕ) (components : List ComponentParts)
+      (fault : Option FaultParts) → SpellsFrame (Message.end to portion content) bytes →
+      IsNormal state context portion → FirstFault components fault content →
+      Means state context id bytes (marks_of_components id components ++ Mark.end ∷ [])
+  continued_abnormally : (origin to : List ℕ) (portion : Option (List ℕ)) (content : List ℕ) →
+      SpellsFrame (Message.go_on origin to portion content) bytes → IsAbnormal state context portion →
+      Means state context id bytes (Mark.end ∷ [])
+  ended_abnormally : (to : List ℕ) (portion : Option (List ℕ)) (content : List ℕ) →
+      SpellsFrame (Message.end to portion content) bytes → IsAbnormal state context portion →
+      Means state context id bytes (Mark.end ∷ [])
+  aborted : (to : List ℕ) (reason : Reason) → SpellsFrame (Message.abort to reason) bytes →
+      Means state context id bytes (Mark.end ∷ [])
   faulty : (fault : FrameFault) → IsFrameFault bytes fault → Means state context id bytes (Mark.end ∷ [])
 
 -- Marks that are all made at one place (own).

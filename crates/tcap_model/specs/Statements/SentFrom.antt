@@ -32,7 +32,9 @@ pub record WasRequested (dialogue : ℕ) (component : ComponentParts) (past : Pa
 -- (own).
 abbrev pub IsLocalReject : ℕ → Option ℤ → ProblemParts → Output → Type 0
 IsLocalReject dialogue id problem output =
-    (output ≡ Output.component (ComponentIndication.local_reject (Some dialogue) id problem)) ⊎ ((number : ℕ) × (named : ℤ) × (id ≡ Some named) × (output ≡ Output.component (ComponentIndication.closed dialogue number named (Closing.rejected problem Rejector.local))))
+    (output ≡ Output.component (ComponentIndication.local_reject (Some dialogue) id problem))
+    ⊎ ((number : ℕ) × (named : ℤ) × (id ≡ Some named)
+    × (output ≡ Output.component (ComponentIndication.closed dialogue number named (Closing.rejected problem Rejector.local))))
 
 -- A Reject was formed here: its problem was told before, in the answer to received bytes (own).
 pub record WasFormed (dialogue : ℕ) (component : ComponentParts) (past : Past) : Type 0 where
@@ -79,7 +81,8 @@ pub record SentPortion (past : Past) : Type 0 where
 -- that sends them; an Abort has none (own).
 abbrev pub SentFrom : Past → Type 0
 SentFrom past =
-    (sent : SentPortion past) → (portion_of sent.message ≡ []) ⊎ SentFromOne sent.pair.event sent.before sent.components sent.fault
+    (sent : SentPortion past) →
+    (portion_of sent.message ≡ []) ⊎ SentFromOne sent.pair.event sent.before sent.components sent.fault
 
 -- Whatever is sent comes from its dialogue, at every legal history (own).
 abbrev pub EachIsSentFrom : Type 0

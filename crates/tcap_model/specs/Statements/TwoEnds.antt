@@ -36,7 +36,8 @@ pub record AcceptedInvoke (past : Past) : Type 0 where
 -- Premise 1: no two accepted invoke requests in the dialogue use one identifier (own).
 abbrev pub UsesOnce : Engine → ℕ → Trace → Type 0
 UsesOnce engine dialogue trace =
-    (one other : AcceptedInvoke (side engine trace)) → one.invocation.dialogue ≡ dialogue → other.invocation.dialogue ≡ dialogue →
+    (one other : AcceptedInvoke (side engine trace)) → one.invocation.dialogue ≡ dialogue →
+    other.invocation.dialogue ≡ dialogue →
     one.invocation.id ≡ other.invocation.id → one.invocation.number ≡ other.invocation.number
 
 -- The requests that answer an Invoke: results, errors, and Rejects of the Invoke
@@ -72,7 +73,8 @@ pub record AcceptedAnswer (past : Past) : Type 0 where
 
 -- Premise 2: the user of an engine answers only what it was told (own).
 abbrev pub AnswersWhatItWasTold : Engine → Trace → Type 0
-AnswersWhatItWasTold engine trace = (answer : AcceptedAnswer (side engine trace)) → WasInvoked answer.dialogue answer.id answer.before
+AnswersWhatItWasTold engine trace =
+    (answer : AcceptedAnswer (side engine trace)) → WasInvoked answer.dialogue answer.id answer.before
 
 -- Premise 3: the dialogue was opened here, by a request for a new one (own).
 pub record WasOpened (engine : Engine) (dialogue : ℕ) (trace : Trace) : Type 0 where

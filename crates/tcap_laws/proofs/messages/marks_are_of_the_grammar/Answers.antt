@@ -24,4 +24,5 @@ pub returns-clause-made : goal.returns-clause-made
 returns-clause-made c = means-marks
 
 pub returns-clause-some : goal.returns-clause-some
-returns-clause-some c = λ dialogue id state context bytes pair past reaches. reached-means dialogue id state context bytes pair past reaches (frame_at bytes) refl
+returns-clause-some c =
+    λ dialogue id state context bytes pair past reaches. reached-means dialogue id state context bytes pair past reaches (frame_at bytes) refl
