@@ -20,7 +20,7 @@ use Rattle.tcap_model.specs.Statements.Places.{StandsIn, Tells}
 use Rattle.tcap_model.specs.Replies.Reply.{reply}
 use Rattle.tcap_model.specs.Words.Request.{Request, ComponentRequest}
 use Rattle.tcap_model.specs.Statements.TwoEnds.{AcceptedInvoke, IsOrderly, ToldInvoke, AnswersInvoke, WasInvoked, WasSent, AfterInvoke, EachIsTwoEnded}
-use Rattle.tcap_model.specs.Statements.FarAnswer.{FarAnswer, Source, peer_in, IsAnswer}
+use Rattle.tcap_model.specs.Statements.FarAnswer.{FarAnswer, FarSource, peer_in, IsAnswer}
 use Rattle.tcap_laws.proofs.Peers.CarriedComponents.{Carried, stands-before}
 use Rattle.tcap_laws.proofs.Spans.DrawnInvocations.{invocation_step}
 use Rattle.tcap_laws.proofs.FarEnds.ClosedOnce.{once}
@@ -96,7 +96,7 @@ stands-within pair before past whole stands part = record {
   is_past = part.1 ∙ (ap (λ (w : Past). part.0 ++ w) stands.is_past ∙ sym (append_assoc part.0 stands.later (pair ∷ before)));
 }
 
-module _ (net : Net) (is : IsNet net) (answer : FarAnswer net.trace) (orderly : IsOrderly answer.engine answer.dialogue net.trace) (asking : Source answer) where
+module _ (net : Net) (is : IsNet net) (answer : FarAnswer net.trace) (orderly : IsOrderly answer.engine answer.dialogue net.trace) (asking : FarSource answer) where
   abbrev other : Engine
   other = far answer.engine
 

@@ -29,7 +29,7 @@ use Rattle.tcap_model.specs.Words.Request.{Request, ComponentRequest}
 use Rattle.tcap_model.specs.Words.State.{State, peer_of}
 use Rattle.tcap_model.specs.Procedures.States.{has_peer}
 use Rattle.tcap_model.specs.Statements.TwoEnds.{Origin}
-use Rattle.tcap_model.specs.Statements.FarAnswer.{FarAnswer, Source, IsAnswer, peer_in}
+use Rattle.tcap_model.specs.Statements.FarAnswer.{FarAnswer, FarSource, IsAnswer, peer_in}
 use Rattle.tcap_laws.proofs.Peers.CarriedComponents.{Carried, carried, some_components, stands-before}
 use Rattle.tcap_laws.proofs.FarEnds.FairTellings.{Fair, IsNamedBy, reply-fair}
 use Rattle.tcap_laws.proofs.Peers.FarPeers.{HasPeer, peer-stays, none-due, destination-octets, octets-of}
@@ -215,14 +215,14 @@ module _ (net : Net) (is : IsNet net) (answer : FarAnswer net.trace) where
         read = it.told.read;
       } in
       elim (sent-from h legal sent) [
-        | inl none ↦ absurd (some_components h it.told.bytes it.told.message it.told.spelled it.told.earlier it.told.later it.told.component it.told.fault it.told.read none)
+        | inl none ↦ absurd (some_components it.told none)
         | inr one ↦
             let events : Event.on_dialogue one.dialogue one.request ≡ Event.on_dialogue d it.sent.request = sym one.is_event ∙ it.sent.is_event in
             let same : one.dialogue ≡ d = cc in
             subst (λ (x : ℕ). ComesFrom x it.past it.told.component) same (one-of (ComesFrom one.dialogue it.past) it.told.earlier it.told.later it.told.component one.each)
       ]
 
-  from-request : WasRequested d it.told.component it.past → Source answer
+  from-request : WasRequested d it.told.component it.past → FarSource answer
   from-request was =
       let none = answer-no-invoke answer.is_answer it.told.component is_component in
       let same : was.request ≡ answer.request = request-as was.request it.told.component none was.is_component ∙ sym (request-as answer.request it.told.component none is_component) in
@@ -250,7 +250,7 @@ module _ (net : Net) (is : IsNet net) (answer : FarAnswer net.trace) where
       by-provider bytes told named problem (inl local) told-fair = subst (Fair bytes) local told-fair
       by-provider bytes told named problem (inr closed) told-fair = subst (Fair bytes) closed.3 told-fair
 
-  pub comes-from-far : Source answer
+  pub comes-from-far : FarSource answer
   comes-from-far = elim source [ inl was ↦ from-request was | inr was ↦ absurd (not-formed was) ]
 
 pub origin : (net : Net) → IsNet net → Origin net.trace

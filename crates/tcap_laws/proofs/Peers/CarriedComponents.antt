@@ -1,12 +1,12 @@
 -- A component that is told of was in a message that a far dialogue sent for a request.
 use Rattle.std.proofs.Common.{◌≡◌, ℕ, ℤ, ◌⊎◌, List, [], ◌∷◌, ◌++◌, Option, Some, None, refl, sym, ap, subst, ◌∙◌, inl, inr, append_assoc}
 use Rattle.std.specs.Prelude.{unwrap_or}
-use Rattle.tcap_pdu.specs.FrameSpelling.{Message, Reason, SpellsFrame}
+use Rattle.tcap_pdu.specs.FrameSpelling.{Message, Reason}
 use Rattle.tcap_pdu.specs.FrameWritten.{written_frame}
 use Rattle.tcap_pdu.proofs.CallerLemmas.{one_frame}
 use Rattle.tcap_component.specs.Component.{ComponentParts}
 use Rattle.tcap_component.specs.ComponentFault.{FaultParts}
-use Rattle.tcap_component.specs.ComponentList.{FirstFault, items}
+use Rattle.tcap_component.specs.ComponentList.{items}
 use Rattle.tcap_component.specs.ComponentReading.{components_of}
 use Rattle.tcap_component.proofs.CallerLemmas.{first_fault_again, components_of-empty}
 use Rattle.tcap_model.specs.Statements.ToldFrom.{IsOfComponent, ToldFromOne}
@@ -108,20 +108,24 @@ no_items : (earlier later : List ComponentParts) (c : ComponentParts) (fault : O
 no_items [] later c fault e = absurd cc
 no_items (d ∷ earlier) later c fault e = absurd cc
 
-module _ (h : History) (bytes : List ℕ) (m : Message) (spelled : SpellsFrame m bytes) (earlier later : List ComponentParts) (c : ComponentParts) (fault : Option FaultParts) (read : FirstFault (earlier ++ c ∷ later) fault (portion_of m)) where
-  pub some_components : portion_of m ≡ [] → ⊥
-  some_components none = no_items earlier later c fault (sym (first_fault_again (earlier ++ c ∷ later) fault (portion_of m) read) ∙ (ap components_of none ∙ components_of-empty))
+module _ {told_by : Event} {output : Output} (told : ToldFromOne told_by output) where
+  abbrev m : Message
+  m = told.message
 
-  pub sent-on : (event : Event) → Tells (reply h event) (Output.send bytes) → SentOn h.pairs event bytes m
-  sent-on Event.new_dialogue tells = absurd (tells-sends Nothing (reply h Event.new_dialogue) bytes (birth-sends h (birth_due h)) tells)
-  sent-on (Event.moment now) tells = absurd (tells-sends Nothing (reply h (Event.moment now)) bytes (moment-sends h.pairs now (moment_fault now)) tells)
-  sent-on (Event.received octets) tells =
-      let sent = sent_for_bytes h octets bytes tells in
-      absurd (some_components (ap portion_of (one_frame m (Message.abort sent.peer sent.reason) bytes spelled sent.is_message.spelled)))
-  sent-on (Event.on_dialogue dialogue request) tells =
-      let sent = sent_for_request h dialogue request bytes tells in
+  pub some_components : portion_of m ≡ [] → ⊥
+  some_components none = no_items told.earlier told.later told.component told.fault
+      (sym (first_fault_again (told.earlier ++ told.component ∷ told.later) told.fault (portion_of m) told.read) ∙ (ap components_of none ∙ components_of-empty))
+
+  pub sent-on : (h : History) (event : Event) → Tells (reply h event) (Output.send told.bytes) → SentOn h.pairs event told.bytes m
+  sent-on h Event.new_dialogue tells = absurd (tells-sends Nothing (reply h Event.new_dialogue) told.bytes (birth-sends h (birth_due h)) tells)
+  sent-on h (Event.moment now) tells = absurd (tells-sends Nothing (reply h (Event.moment now)) told.bytes (moment-sends h.pairs now (moment_fault now)) tells)
+  sent-on h (Event.received octets) tells =
+      let sent = sent_for_bytes h octets told.bytes tells in
+      absurd (some_components (ap portion_of (one_frame m (Message.abort sent.peer sent.reason) told.bytes told.spelled sent.is_message.spelled)))
+  sent-on h (Event.on_dialogue dialogue request) tells =
+      let sent = sent_for_request h dialogue request told.bytes tells in
       let d : Standing = standing_of dialogue h.pairs sent.state sent.context in
-      let same : sent.message ≡ m = sym (one_frame m sent.message bytes spelled sent.is_message.spelled) in
+      let same : sent.message ≡ m = sym (one_frame m sent.message told.bytes told.spelled sent.is_message.spelled) in
       elim (subst (IfTakes d request) (sent.is_asked ∙ ap (λ (x : Message). Some x) same) (message-takes d request)) [
         | inl none ↦ absurd (some_components none)
         | inr takes ↦ record { dialogue = dialogue; request = request; state = sent.state; context = sent.context; is_event = refl; is_written = sent.is_message.is_written ∙ ap written_frame same; is_life = sent.is_life; takes = takes }
@@ -165,7 +169,7 @@ module _ (net : Net) (is : IsNet net) (engine : Engine) (pair : Pair) (before : 
         stands = by.stands;
         tells = by.tells;
         is_legal = legal;
-        sent = sent-on (record { start = net.start (far engine); pairs = by.before }) told.bytes told.message told.spelled told.earlier told.later told.component told.fault told.read by.pair.event
+        sent = sent-on told (record { start = net.start (far engine); pairs = by.before }) by.pair.event
             (subst (λ a. Tells a (Output.send told.bytes)) legal.1 by.tells);
       }
 

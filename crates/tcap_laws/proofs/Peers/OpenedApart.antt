@@ -64,7 +64,7 @@ never-before dialogue other engine pair before trace happens never asked past by
 
 -- a dialogue of each engine that no Begin gave birth to, and the other's has this one's identifier as its
 -- peer's: it never is so
-pub record Strangers (net : Net) (engine other : Engine) (c d : ℕ) (peer : List ℕ) : Type 0 where
+pub record BothOpened (net : Net) (engine other : Engine) (c d : ℕ) (peer : List ℕ) : Type 0 where
   pub is_named : dialogue_named peer ≡ Some c
   pub never_here : NeverBegun c (side engine net.trace)
   pub never_there : NeverBegun d (side other net.trace)
@@ -74,21 +74,21 @@ pub record Strangers (net : Net) (engine other : Engine) (c d : ℕ) (peer : Lis
 module _ (n : ℕ) (net : Net) (is : IsNet net) (engine other : Engine) (back : far other ≡ engine) (c d : ℕ) (within : length net.trace ≤ n) where
   step-peers : (peer : List ℕ) →
       ((trace : Trace) (to : List ℕ) → IsNet (record { start = net.start; trace = trace }) → length trace < n →
-      Strangers (record { start = net.start; trace = trace }) other engine d c to → ⊥) →
-      Strangers net engine other c d peer → ⊥
-  step-peers peer again strangers =
-      let heard = peer-heard d peer (side other net.trace) strangers.is_peered in
+      BothOpened (record { start = net.start; trace = trace }) other engine d c to → ⊥) →
+      BothOpened net engine other c d peer → ⊥
+  step-peers peer again opened =
+      let heard = peer-heard d peer (side other net.trace) opened.is_peered in
       let hears = heard.hears in
       let at = stands-happens other heard.pair heard.before net.trace heard.stands in
       elim hears.how [
-        | inl begun ↦ strangers.never_there heard.pair heard.before hears.bytes heard.stands hears.is_event begun.1
+        | inl begun ↦ opened.never_there heard.pair heard.before hears.bytes heard.stands hears.is_event begun.1
         | inr continued ↦
             let hears_it = continued.3 in
             let m : Message = Message.go_on peer hears_it.0 hears_it.1 hears_it.2 in
             let from : FarSender net other at.before m = far-sender net is other heard.pair at.before at.happens hears.bytes m hears.is_event (frame_takes hears.bytes m hears_it.3) tt in
             let sent = from.sent in
             let short = born-short (net.start (far other)) from.past sent.dialogue (is.is_legal (far other)).0 from.is_legal.2 (λ unborn. let never : Life.standing sent.state sent.context ≡ Life.unborn = sym sent.is_life ∙ unborn in absurd cc) in
-            let same_name : Some sent.dialogue ≡ Some c = sym (own-name sent.dialogue short) ∙ (ap dialogue_named (sym sent.source.0) ∙ strangers.is_named) in
+            let same_name : Some sent.dialogue ≡ Some c = sym (own-name sent.dialogue short) ∙ (ap dialogue_named (sym sent.source.0) ∙ opened.is_named) in
             let same : sent.dialogue ≡ c = cc in
             let to_d = continue-names d hears.bytes peer hears_it.0 hears_it.2 hears_it.1 continued.2 hears_it.3 in
             let before-it = stands-happens (far other) from.sender from.past at.before from.stands in
@@ -104,15 +104,15 @@ module _ (n : ℕ) (net : Net) (is : IsNet net) (engine other : Engine) (back : 
             again before-it.before hears_it.0 second_is (omega (arith, within, less, lesser)) (record {
               is_named = to_d;
               never_here = never-before d other (far other) from.sender before-it.before at.before before-it.happens
-                  (never-before d other other heard.pair at.before net.trace at.happens strangers.never_there);
+                  (never-before d other other heard.pair at.before net.trace at.happens opened.never_there);
               never_there = never-before c engine (far other) from.sender before-it.before at.before before-it.happens
-                  (never-before c engine other heard.pair at.before net.trace at.happens strangers.never_here);
+                  (never-before c engine other heard.pair at.before net.trace at.happens opened.never_here);
               is_peered = peered_c;
             })
       ]
 
 pub never-peers : (n : ℕ) (net : Net) → IsNet net → (engine other : Engine) → far engine ≡ other → far other ≡ engine →
-    (c d : ℕ) (peer : List ℕ) → length net.trace ≤ n → Strangers net engine other c d peer → ⊥
+    (c d : ℕ) (peer : List ℕ) → length net.trace ≤ n → BothOpened net engine other c d peer → ⊥
 never-peers zero net is engine other forth back c d peer within = step-peers zero net is engine other back c d within peer (λ trace to net_is less. absurd (omega (arith, less)))
 never-peers (suc n) net is engine other forth back c d peer within =
     step-peers (suc n) net is engine other back c d within peer

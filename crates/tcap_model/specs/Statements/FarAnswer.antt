@@ -72,5 +72,5 @@ pub record FarAnswer (trace : Trace) : Type 0 where
   pub is_answer : IsAnswer dialogue number id output request
 
 -- An earlier request of the far user that an answer may come from (own).
-abbrev pub Source : {trace : Trace} → FarAnswer trace → Type 0
-Source answer = ComesFromFar answer.engine answer.dialogue answer.request answer.before
+abbrev pub FarSource : {trace : Trace} → FarAnswer trace → Type 0
+FarSource answer = ComesFromFar answer.engine answer.dialogue answer.request answer.before

@@ -7,7 +7,7 @@ use Rattle.tcap_model.specs.Words.Answer.{Answer, is_accepted}
 use Rattle.tcap_model.specs.Invocations.Closings.{closings}
 use Rattle.tcap_model.specs.Words.Event.{Event}
 use Rattle.tcap_model.specs.Invocations.Invocation.{Invocation, invocation_of, invoked_by}
-use Rattle.tcap_model.specs.Statements.FarAnswer.{Happens, FarAnswer, Source}
+use Rattle.tcap_model.specs.Statements.FarAnswer.{Happens, FarAnswer, FarSource}
 use Rattle.tcap_model.specs.Statements.Net.{Engine, far, Trace, side, Net, IsNet}
 use Rattle.tcap_model.specs.Invocations.Outcome.{was_sent_in}
 use Rattle.tcap_model.specs.Words.Output.{Output, ComponentIndication}
@@ -21,7 +21,7 @@ use Rattle.tcap_model.specs.Invocations.Span.{span}
 -- Origin: each answer that is told of an invocation comes from an earlier accepted request of the far
 -- user, for its identifier and with its contents, in a far dialogue whose peer is this one (own).
 abbrev pub Origin : Trace → Type 0
-Origin trace = (answer : FarAnswer trace) → Source answer
+Origin trace = (answer : FarAnswer trace) → FarSource answer
 
 -- ---- after the Invoke
 
@@ -101,7 +101,7 @@ pub record IsOrderly (engine : Engine) (dialogue : ℕ) (trace : Trace) : Type 0
 -- invocation's Invoke was sent (own).
 abbrev pub AfterInvoke : Trace → Type 0
 AfterInvoke trace =
-    (answer : FarAnswer trace) → IsOrderly answer.engine answer.dialogue trace → (source : Source answer) →
+    (answer : FarAnswer trace) → IsOrderly answer.engine answer.dialogue trace → (source : FarSource answer) →
     WasSent answer.number (side answer.engine source.before)
 
 -- ---- once, and operations
