@@ -36,11 +36,11 @@ spent-seen same = apart answer_number same refl
 
 pub first-throughout : IsAloneThroughout 1 two_left two_dialogues.pairs
 unfolding computing
-first-throughout = (refl, (refl, (tt, (refl, (tt, (tt, (tt, (tt, tt))))))))
+first-throughout = (refl, (refl, (tt, (refl, (tt, (tt, (tt, (refl, tt))))))))
 
 pub second-throughout : IsAloneThroughout 2 two_left two_dialogues.pairs
 unfolding computing
-second-throughout = (refl, (tt, (refl, (tt, (refl, (tt, (tt, (tt, tt))))))))
+second-throughout = (refl, (tt, (refl, (tt, (refl, (tt, (tt, (refl, tt))))))))
 
 pub first-of_one_begin : IsAloneThroughout 1 play_start of_one_begin
 unfolding computing

@@ -1,5 +1,6 @@
 pub mod Closing
 pub mod Ends
+pub mod LapseRows
 pub mod MarkRows
 pub mod NamedDialogues
 pub mod Readings

@@ -3,6 +3,7 @@
 
 pub mod closing;
 pub mod ends;
+pub mod lapses;
 pub mod marks;
 pub mod names;
 pub mod play;

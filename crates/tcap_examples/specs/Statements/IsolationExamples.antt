@@ -1,8 +1,7 @@
 -- The history on which isolation is instantiated: two dialogues, and two invocation numbers.
-use Rattle.std.specs.Prelude.{ℕ, pos, ◌-◌, ◌^◌, List, [], ◌∷◌, reverse, drop, None, Bool, true, false, ◌&&◌}
+use Rattle.std.specs.Prelude.{ℕ, pos, ◌-◌, ◌^◌, List, [], ◌∷◌, reverse, drop, None, Bool, true, false}
 use Rattle.tcap_invocation.specs.declared.class.Class.TheVariants.{One}
 use Rattle.tcap_model.specs.Words.Answer.{Answer}
-use Rattle.tcap_model.specs.Histories.Birth.{was_born}
 use Rattle.tcap_model.specs.Words.Event.{Event}
 use Rattle.tcap_examples.specs.Values.DialogueValues.{code, result_of_first}
 use Rattle.tcap_examples.specs.Values.Hex.{hex}
@@ -115,11 +114,11 @@ abbrev pub where_so : Bool → Type 0 → Type 0
 where_so false fact = Unit {0}
 where_so true fact = fact
 
--- The dialogue is alone for each event of a history that names it after its birth (own).
+-- The dialogue is alone for each event of a history that names it (own).
 abbrev pub IsAloneThroughout : ℕ → Start → Past → Type 0
 IsAloneThroughout dialogue start [] = Unit {0}
 IsAloneThroughout dialogue start (pair ∷ past) =
-    where_so (was_born dialogue past && names pair.event dialogue) (IsAlone (record { start = start; pairs = past }) dialogue pair.event) × IsAloneThroughout dialogue start past
+    where_so (names pair.event dialogue) (IsAlone (record { start = start; pairs = past }) dialogue pair.event) × IsAloneThroughout dialogue start past
 
 -- The second engine of "Repeated Begin": two dialogues that are born of one Begin (own).
 abbrev pub of_one_begin : Past
