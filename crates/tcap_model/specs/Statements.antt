@@ -1,5 +1,6 @@
 pub mod ClassTable
 pub mod ComponentPortion
+pub mod EngineMoves
 pub mod FarAnswer
 pub mod FaultAnswer
 pub mod Headline
