@@ -2,6 +2,7 @@ mod Births
 mod BoolLemmas
 pub mod CallerLemmas
 mod Decisions
+mod Engine
 mod FarEnds
 mod Isolation
 mod ListLemmas

@@ -11,7 +11,7 @@ and_parts : (a b : Bool) → (a && b) ≡ true → (a ≡ true) × (b ≡ true)
 and_parts true b e = (refl, e)
 and_parts false b e = absurd (true≢false (sym e))
 
-and_not : (a b : Bool) → (a && b) ≡ false → a ≡ true → b ≡ false
+pub and_not : (a b : Bool) → (a && b) ≡ false → a ≡ true → b ≡ false
 and_not true b e q = e
 and_not false b e q = absurd (true≢false (sym q))
 
@@ -22,7 +22,7 @@ not_and false b h = refl
 neither : (a b : Bool) → a ≡ false → b ≡ false → (a || b) ≡ false
 neither a b p q = rw (p, q) refl
 
-asym : (a b : List ℕ) → comes_before b a ≡ true → comes_before a b ≡ false
+pub asym : (a b : List ℕ) → comes_before b a ≡ true → comes_before a b ≡ false
 asym [] [] e = refl
 asym [] (n ∷ ns) e = absurd (true≢false (sym e))
 asym (m ∷ ms) [] e = refl
@@ -39,7 +39,7 @@ asym (m ∷ ms) (n ∷ ns) e = elim (or_cases (nat_lt n m) ((n == m) && comes_be
 ]
 
 -- what isn't before, and the first number of it
-trans : (a b c : List ℕ) → comes_before b a ≡ false → comes_before c b ≡ false → comes_before c a ≡ false
+pub trans : (a b c : List ℕ) → comes_before b a ≡ false → comes_before c b ≡ false → comes_before c a ≡ false
 trans [] b [] p q = refl
 trans [] b (l ∷ ls) p q = refl
 trans (m ∷ ms) [] c p q = absurd (true≢false p)
