@@ -1,1 +1,3 @@
+pub mod DueRows
 pub mod GroupedOrder
+pub mod LapsesAlike
