@@ -1,3 +1,4 @@
 pub mod DueRows
 pub mod GroupedOrder
 pub mod LapsesAlike
+pub mod StayingDialogues

@@ -164,7 +164,7 @@ module _ (past : Past) (now : ℕ) (answer : Answer) (accepted : is_accepted ans
           let ended : list_any (pair_ends_wait until dialogue id) newer ≡ true = reached newer place until now dialogue id low at (rw whole at early) in
           rw (accepted, q, ended) refl
 
-  waiting_still : (n reject_ms dialogue : ℕ) (id : ℤ) (t : Told) → decision n past ≡ Some t → is_waiting reject_ms dialogue id (at_moment now answer ∷ past) t ≡ is_waiting reject_ms dialogue id past t
+  pub waiting_still : (n reject_ms dialogue : ℕ) (id : ℤ) (t : Told) → decision n past ≡ Some t → is_waiting reject_ms dialogue id (at_moment now answer ∷ past) t ≡ is_waiting reject_ms dialogue id past t
   waiting_still n reject_ms dialogue id t e =
       let d = decision_place n past t e in
       let whole : past ≡ d.newer ++ t.place = d.whole ∙ ap (λ z. d.newer ++ z) (sym d.place) in
