@@ -1,4 +1,7 @@
+pub mod DialoguesFound
 pub mod DueRows
 pub mod GroupedOrder
 pub mod LapsesAlike
 pub mod StayingDialogues
+pub mod TableLookup
+pub mod WorldAfter

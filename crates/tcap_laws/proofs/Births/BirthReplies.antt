@@ -37,17 +37,17 @@ begun-told (Output.dialogue (DialogueIndication.p_abort dialogue why)) told = re
 begun-told (Output.component indication) told = refl
 begun-told (Output.dropped why) told = refl
 
-none-begun : (output : Output) (outputs : List Output) → dialogue_begun output ≡ None → first_begun outputs ≡ None → first_begun (output ∷ outputs) ≡ None
+pub none-begun : (output : Output) (outputs : List Output) → dialogue_begun output ≡ None → first_begun outputs ≡ None → first_begun (output ∷ outputs) ≡ None
 none-begun output outputs first others = rw (first, others) refl
 
-told-begun : (outputs : List Output) → AreTold outputs → first_begun outputs ≡ None
+pub told-begun : (outputs : List Output) → AreTold outputs → first_begun outputs ≡ None
 told-begun [] told = refl
 told-begun (output ∷ outputs) told = none-begun output outputs (begun-told output told.0) (told-begun outputs told.1)
 
-sends-begun : (output : Output) → Sends output → dialogue_begun output ≡ None
+pub sends-begun : (output : Output) → Sends output → dialogue_begun output ≡ None
 sends-begun output sends = ap dialogue_begun sends.2
 
-if_sends-begun : (abort : Option Output) (outputs : List Output) → IfSends abort → first_begun outputs ≡ None → first_begun (option_to_list abort ++ outputs) ≡ None
+pub if_sends-begun : (abort : Option Output) (outputs : List Output) → IfSends abort → first_begun outputs ≡ None → first_begun (option_to_list abort ++ outputs) ≡ None
 if_sends-begun None outputs sends others = others
 if_sends-begun (Some abort) outputs sends others = none-begun abort outputs (sends-begun abort sends) others
 
@@ -71,7 +71,7 @@ message-begun dialogue past state context (Message.abort to reason) = told-begun
 message-begun dialogue past state context (Message.unidirectional portion components) = refl
 message-begun dialogue past state context (Message.begin origin portion components) = refl
 
-taken-begun : (dialogue : ℕ) (past : Past) (before : Life) (message : Message) → first_begun (taken_outputs dialogue past before message) ≡ None
+pub taken-begun : (dialogue : ℕ) (past : Past) (before : Life) (message : Message) → first_begun (taken_outputs dialogue past before message) ≡ None
 taken-begun dialogue past Life.unborn message = refl
 taken-begun dialogue past (Life.standing state context) message = message-begun dialogue past state context message
 taken-begun dialogue past Life.over message = refl
