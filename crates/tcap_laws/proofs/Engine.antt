@@ -1,7 +1,9 @@
+pub mod BirthsMove
 pub mod DialoguesFound
 pub mod DueRows
 pub mod GroupedOrder
 pub mod LapsesAlike
+pub mod MomentsMove
 pub mod StayingDialogues
 pub mod TableLookup
 pub mod WorldAfter
