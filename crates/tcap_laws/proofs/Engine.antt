@@ -4,6 +4,8 @@ pub mod DueRows
 pub mod GroupedOrder
 pub mod LapsesAlike
 pub mod MomentsMove
+pub mod ReceptionsAlike
+pub mod RequestsMove
 pub mod StayingDialogues
 pub mod TableLookup
 pub mod WorldAfter
