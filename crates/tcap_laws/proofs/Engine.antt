@@ -1,6 +1,8 @@
 pub mod BirthsMove
+pub mod BytesMove
 pub mod DialoguesFound
 pub mod DueRows
+pub mod EngineMoves
 pub mod GroupedOrder
 pub mod LapsesAlike
 pub mod MomentsMove

@@ -15,5 +15,6 @@ pub mod drawing;
 pub mod ends;
 pub mod invoking;
 pub mod messages;
+pub mod moving;
 pub mod sending;
 pub mod standing;
