@@ -1,5 +1,7 @@
 pub mod Closing
 pub mod Ends
+pub mod EngineSteps
+pub mod EngineWalks
 pub mod LapseRows
 pub mod MarkRows
 pub mod NamedDialogues

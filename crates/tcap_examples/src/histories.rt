@@ -5,6 +5,7 @@ pub mod closing;
 pub mod ends;
 pub mod lapses;
 pub mod marks;
+pub mod moves;
 pub mod names;
 pub mod play;
 pub mod readings;
