@@ -4,7 +4,7 @@ use Rattle.tcap_examples.specs.Histories.Steps.{Step, Walk}
 use Rattle.tcap_examples.specs.Histories.SteppedHistories.{invoke_1, peer}
 use Rattle.tcap_examples.specs.Values.Asked as asks
 use Rattle.tcap_examples.specs.Values.Hex.{hex}
-use Rattle.tcap_examples.specs.Values.StepWords.{steps_start, empty_engine, engine_with, dialogue_1, invoke_queued, class_one_row, walk, new_dialogue_1, request_step, receive_step, moment_step, invoke_request}
+use Rattle.tcap_examples.specs.Histories.StepWords.{steps_start, empty_engine, engine_with, dialogue_1, invoke_queued, class_one_row, walk, new_dialogue_1, request_step, receive_step, moment_step, invoke_request}
 use Rattle.tcap_examples.specs.Values.Told as told
 use Rattle.tcap_invocation.specs.Invocations.{Row}
 use Rattle.tcap_invocation.specs.declared.stage.Stage.TheVariants.{Queued, Sent, Waiting}

@@ -93,7 +93,7 @@ module _ (h : History) (legal : IsLegal h) where
       where
         go : (read : Result Message FrameFault) → frame_at bytes ≡ read → reaches (reception live full bytes) ≡ Some i
         go (Ok m) e = ap reaches (named-taken live full i bytes named lives m e)
-        go (Err f) e = ap reaches (named-broken live full i bytes named lives f e).1
+        go (Err f) e = ap reaches (named-broken live full i bytes named lives f e)
 
     module _ (r : Reception) (e : reception live full bytes ≡ r) where
       answered : reply h event ≡ Answer.outputs (reception_outputs h r)

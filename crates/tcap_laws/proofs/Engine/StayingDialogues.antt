@@ -1,7 +1,7 @@
 -- Which dialogues stay as they are, though an event names them: those that aren't live where bytes are
 -- received, and all where a moment is refused or below the clock.
 use Rattle.std.proofs.Common.{◌≡◌, ◌<◌, ℕ, ℤ, ◌==◌, ◌&&◌, Bool, true, false, cond, nat_le, nat_lt, List, [], ◌∷◌, Option, Some, None, refl, sym, ap, ◌∙◌}
-use Rattle.std.specs.Prelude.{◌+◌, filter_map}
+use Rattle.std.specs.Prelude.{◌+◌, filter_map, unwrap_or}
 use Rattle.tcap_invocation.specs.declared.stage.Stage.{Stage}
 use Rattle.tcap_invocation.specs.declared.stage.Stage.TheVariants.{Waiting}
 use Rattle.tcap_laws.proofs.BoolLemmas.{and_false}
@@ -79,7 +79,8 @@ module _ (h : History) (dialogue : ℕ) (legal : IsLegal h) (state : State) (con
       ∙ ap (λ b. cond b (queue_by_message dialogue h.pairs (Life.standing state context) (queue dialogue h.pairs) (frame_at bytes)) (queue dialogue h.pairs)) deaf)
       (rows_kept h.start.reject_ms h.start (due_pair h (Event.received bytes)) h.pairs legal.1 refl dialogue
       (λ k. standing_marks dialogue k (Event.received bytes) (reply h (Event.received bytes)) h.pairs state context stands named
-      ∙ ap (λ b. noted_at_clock (clock h.pairs) (marks_if_live b k state context (end_if_over (Life.standing state context) (life_if_live b state context bytes)) bytes)) deaf)
+      ∙ ap (λ b. noted_at_clock (clock h.pairs) (unwrap_or (marks_if_live b k state context bytes)
+      (end_if_over (Life.standing state context) (life_if_live b state context bytes)))) deaf)
       (λ k u. and_false (is_accepted (reply h (Event.received bytes)))))
 
   -- ---- moments
