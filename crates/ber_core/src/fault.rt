@@ -18,6 +18,17 @@ pub enum BerFault {
     TooDeep = 5,
 }
 
+// The numbers of the faults.
+const _: () = prove!(BerFault::Short as u8 == 1);
+
+const _: () = prove!(BerFault::BadTag as u8 == 2);
+
+const _: () = prove!(BerFault::BadLength as u8 == 3);
+
+const _: () = prove!(BerFault::IndefinitePrimitive as u8 == 4);
+
+const _: () = prove!(BerFault::TooDeep as u8 == 5);
+
 impl fmt::Display for BerFault {
     ghost use Rattle.std.specs.Prelude.{Some};
     ghost use Rattle.ber_core.specs.FaultText.{fault_text};

@@ -5,6 +5,7 @@ pub mod DialogueReading
 pub mod DialogueSpelling
 pub mod DialogueViews
 pub mod DialogueWritten
+pub mod FaultText
 pub mod FrameFaults
 pub mod FrameLength
 pub mod FramePlace

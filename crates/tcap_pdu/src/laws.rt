@@ -2,6 +2,8 @@
 
 ghost use Rattle.std.specs.Prelude.{◌≡◌, ◌≢◌, ◌≤◌, ℕ, List, [], Some, length, option_map, Ok};
 ghost use Rattle.tcap_pdu.specs.declared.fault.FrameFault.{FrameFault};
+ghost use Rattle.tcap_pdu.specs.declared.tag.TheConstants.{UNRECOGNIZED_MESSAGE_TYPE, UNRECOGNIZED_TRANSACTION_ID, BADLY_FORMATTED_TRANSACTION_PORTION, INCORRECT_TRANSACTION_PORTION, RESOURCE_LIMITATION};
+ghost use Rattle.tcap_pdu.specs.declared.dialogue_tag.TheConstants.{NULL, NO_REASON_GIVEN, CONTEXT_NAME_NOT_SUPPORTED, NO_COMMON_DIALOGUE_PORTION};
 ghost use Rattle.tcap_pdu.specs.FrameSpelling.{Message, HasIds, HasCause, SpellsFrame};
 ghost use Rattle.tcap_pdu.specs.FrameFaults.{IsFrameFault};
 ghost use Rattle.tcap_pdu.specs.FrameReading.{frame_at};
@@ -44,4 +46,17 @@ pub fn one_dialogue()
 pub fn written_dialogue()
     ensures spelled { (p : PduValue) → IsWritable p → HasDiagnostic p → SpellsDialogue p (written_dialogue p) }
     ensures read { (p : PduValue) → IsWritable p → HasDiagnostic p → dialogue_at (written_dialogue p) ≡ Ok p }
+{}
+
+/// The named P-Abort causes and diagnostics have the numbers of their tables (Q.773, P-Abort cause;
+/// Q.773, Dialogue portion).
+pub fn named_numbers()
+    // Unrecognized message type, unrecognized transaction identifier, badly formatted transaction
+    // portion, incorrect transaction portion, resource limitation.
+    ensures causes { (UNRECOGNIZED_MESSAGE_TYPE ≡ 0) × (UNRECOGNIZED_TRANSACTION_ID ≡ 1)
+        × (BADLY_FORMATTED_TRANSACTION_PORTION ≡ 2) × (INCORRECT_TRANSACTION_PORTION ≡ 3) × (RESOURCE_LIMITATION ≡ 4) }
+    // Of the user: null, no reason given, application context name not supported.
+    ensures user { (NULL ≡ 0) × (NO_REASON_GIVEN ≡ 1) × (CONTEXT_NAME_NOT_SUPPORTED ≡ 2) }
+    // Of the provider: null, no reason given, no common dialogue portion.
+    ensures provider { (NULL ≡ 0) × (NO_REASON_GIVEN ≡ 1) × (NO_COMMON_DIALOGUE_PORTION ≡ 2) }
 {}

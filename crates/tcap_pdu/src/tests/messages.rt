@@ -1,7 +1,7 @@
 use crate::{
     AbortPart, Frame, FrameFault, PduFault, TransId, frame_fits, front_ids, read_frame, write_frame,
 };
-use std::alloc::Global;
+use std::alloc::{AllocError, Global};
 use std::test::Fail;
 
 #[test]
@@ -80,6 +80,7 @@ fn parts_of_messages(rt: HostRuntime) -> Result<(), Fail> {
         reason: AbortPart::Cause(2),
     };
     let bytes: &[u8] = &[0x67, 0x09, 0x49, 0x04, 0, 0, 0, 1, 0x4a, 0x01, 0x02];
+    assert_eq!(rt; write_frame(rt.alloc(), &abort).as_deref(), Ok(bytes));
     assert!(rt; read_frame(bytes) == Ok(abort));
     let go_on = Frame::Continue {
         otid: TransId::of(5),
@@ -99,7 +100,7 @@ fn parts_of_messages(rt: HostRuntime) -> Result<(), Fail> {
 #[test]
 fn faults_and_causes(rt: HostRuntime) -> Result<(), Fail> {
     // The bytes, the fault and the P-Abort cause.
-    let rows: [(&[u8], FrameFault, u8); 14] = [
+    let rows: [(&[u8], FrameFault, u8); 15] = [
         // One element and nothing after it is judged first, then the tag.
         (&[0x65, 0x01], FrameFault::BadlyFormatted, 2),
         (&[0x65, 0x00], FrameFault::Incorrect, 3),
@@ -140,6 +141,11 @@ fn faults_and_causes(rt: HostRuntime) -> Result<(), Fail> {
             3,
         ),
         (
+            &[0x65, 0x0a, 0x48, 0x05, 0, 0, 0, 0, 1, 0x49, 0x01, 7],
+            FrameFault::Incorrect,
+            3,
+        ),
+        (
             &[0x62, 0x05, 0x48, 0x01, 0x07, 0x6d, 0x00],
             FrameFault::Incorrect,
             3,
@@ -160,6 +166,45 @@ fn faults_and_causes(rt: HostRuntime) -> Result<(), Fail> {
         assert_eq!(rt; read_frame(bytes).err(), Some(fault), "{bytes:?}");
         assert_eq!(rt; fault.cause(), cause);
     }
+    Ok(())
+}
+
+/// A Begin of indefinite length, its dialogue portion too, and in it so many indefinite elements, one
+/// in another.
+fn nested(alloc: Global, open: usize) -> Result<Vec<u8>, AllocError> {
+    let mut bytes = Vec::new(alloc);
+    bytes.extend_from_slice(&[0x62, 0x80, 0x48, 0x01, 0x07, 0x6b, 0x80])?;
+    for _ in 0..open {
+        bytes.extend_from_slice(&[0x30, 0x80])?;
+    }
+    for _ in 0..open {
+        bytes.extend_from_slice(&[0x00, 0x00])?;
+    }
+    bytes.extend_from_slice(&[0x00, 0x00, 0x00, 0x00])?;
+    Ok(bytes)
+}
+
+#[test]
+fn depth_of_a_portion(rt: HostRuntime) -> Result<(), Fail> {
+    // The message and its portion are two of the 32 that may be open.
+    let deepest = nested(rt.alloc(), 30)?;
+    let portion = read_frame(&deepest)?.dialogue();
+    assert_eq!(rt; portion.map(|content| content.len()), Some(120));
+    let too_deep = nested(rt.alloc(), 31)?;
+    assert_eq!(rt;
+        read_frame(&too_deep).err(),
+        Some(FrameFault::BadlyFormatted)
+    );
+    Ok(())
+}
+
+#[test]
+fn other_portions(rt: HostRuntime) -> Result<(), Fail> {
+    let bytes = [0x62, 0x07, 0x48, 0x01, 0x07, 0x6c, 0x02, 0xa5, 0x00];
+    let frame = read_frame(&bytes)?.with_portions(Some(&[0x28, 0x00]), &[]);
+    assert_eq!(rt; frame.components().len(), 0);
+    let wanted: &[u8] = &[0x62, 0x07, 0x48, 0x01, 0x07, 0x6b, 0x02, 0x28, 0x00];
+    assert_eq!(rt; write_frame(rt.alloc(), &frame).as_deref(), Ok(wanted));
     Ok(())
 }
 
