@@ -96,10 +96,10 @@ fn skip_first(bytes: &[u8]) -> Result<&[u8], BerFault>
                 let (_, rest) = body.split_at(*length as usize);
                 Ok(rest)
             }
-        _ => match read_element(bytes) {
-            Ok((_, rest)) => Ok(rest),
-            Err(fault) => Err(fault),
-        },
+        _ => {
+            let (_, rest) = read_element(bytes)?;
+            Ok(rest)
+        }
     }
 }
 

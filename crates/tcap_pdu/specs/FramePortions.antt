@@ -37,14 +37,14 @@ reason_slice (part.Dialogue d) = Some d
 abbrev pub dialogue_slice : Frame → Option Slice
 dialogue_slice (frame.Uni d c) = d
 dialogue_slice (frame.Begin o d c) = d
-dialogue_slice (frame.Continue o t d c) = d
 dialogue_slice (frame.End t d c) = d
+dialogue_slice (frame.Continue o t d c) = d
 dialogue_slice (frame.Abort t r) = reason_slice r
 
 -- The slice of the component portion that a frame holds; an Abort holds none (own).
 abbrev pub components_slice : Frame → Option Slice
 components_slice (frame.Uni d c) = Some c
 components_slice (frame.Begin o d c) = Some c
-components_slice (frame.Continue o t d c) = Some c
 components_slice (frame.End t d c) = Some c
+components_slice (frame.Continue o t d c) = Some c
 components_slice (frame.Abort t r) = None

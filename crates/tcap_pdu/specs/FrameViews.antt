@@ -18,6 +18,6 @@ reason_of (part.Dialogue d) = portion d.now
 abbrev pub message : Frame → Message
 message (frame.Uni d c) = unidirectional (option_copied d) c.now
 message (frame.Begin o d c) = begin o (option_copied d) c.now
-message (frame.Continue o t d c) = go_on o t (option_copied d) c.now
 message (frame.End t d c) = end t (option_copied d) c.now
+message (frame.Continue o t d c) = go_on o t (option_copied d) c.now
 message (frame.Abort t r) = abort t (reason_of r)

@@ -1,2 +1,3 @@
 mod dialogues;
 mod messages;
+mod portions;

@@ -11,10 +11,7 @@ use crate::dialogue_pdu::parts::is_user_information;
 use crate::dialogue_pdu::read::read_pdu;
 use crate::dialogue_tag::{STRUCTURED, VERSION_1};
 use crate::fault::PduFault;
-use ber_core::{element_len, is_oid};
-
-/// The greatest length of the contents of a dialogue portion that is written: 65,535 octets (our own).
-const MAX_PORTION: usize = 65_535;
+use ber_core::{MAX_LENGTH, element_len, is_oid};
 
 /// Whether the application context name, where there is one, is an object identifier.
 #[inline(always)]
@@ -138,7 +135,7 @@ pub fn checked_len(pdu: &DialoguePdu<'_>) -> Result<usize, PduFault>
         return Err(fault);
     }
     let len = portion_len(pdu);
-    if len > MAX_PORTION {
+    if len > MAX_LENGTH {
         return Err(PduFault::TooLong);
     }
     Ok(len)

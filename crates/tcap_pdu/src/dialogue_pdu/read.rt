@@ -181,10 +181,7 @@ fn read_portion<'a>(bytes: &'a [u8]) -> Result<DialoguePdu<'a>, DialogueFault>
     ensures value { Gives pdu_value result (dialogue_at bytes.now) }
     ensures place { IfOk result (λ pdu. PduOnWay (0x28 ∷ 0xa0 ∷ []) pdu bytes.entry bytes.entry) }
 {
-    match read_pdu(bytes) {
-        Some(pdu) => Ok(pdu),
-        None => Err(DialogueFault::Faulty),
-    }
+    read_pdu(bytes).ok_or(DialogueFault::Faulty)
 }
 
 /// Reads the contents of a dialogue portion: one EXTERNAL and nothing after it, and the PDU in it.

@@ -92,8 +92,5 @@ pub fn write_dialogue<A: Allocator + Copy>(
     ensures due { IfSome (due_fault (pdu_value pdu.now)) (λ f. IsErrOf result f) }
 {
     let len = checked_len(pdu)?;
-    match spell_portion(alloc, len, pdu) {
-        Ok(out) => Ok(out),
-        Err(OutOfMemory) => Err(PduFault::OutOfMemory),
-    }
+    Ok(spell_portion(alloc, len, pdu)?)
 }

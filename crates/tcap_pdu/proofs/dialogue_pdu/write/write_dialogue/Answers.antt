@@ -17,13 +17,15 @@ spell_portion-requires-clause-context g c = context_within (pdu_value c.args.pdu
 pub spell_portion-requires-clause-short : goal.spell_portion-requires-clause-short
 spell_portion-requires-clause-short g c = short_within (pdu_value c.args.pdu.now) (length_told (pdu_value c.args.pdu.now) c.in_ok-len.len c.in_ok-len.ensures).0
 
-pub returns-in-Ok-clause-ok : goal.returns-in-Ok-clause-ok
-returns-in-Ok-clause-ok g c = ((length_told (pdu_value c.args.pdu.now) c.in_ok-len.len c.in_ok-len.ensures).0, c.in-Ok.ensures)
+pub returns-clause-ok : goal.returns-clause-ok
+returns-clause-ok g c = ((length_told (pdu_value c.args.pdu.now) c.in_ok-len.len c.in_ok-len.ensures).0, c.in_ok-spell_portion.ensures)
 
-pub returns-in-Ok-clause-spelled : goal.returns-in-Ok-clause-spelled
-returns-in-Ok-clause-spelled g c =
+pub returns-clause-spelled : goal.returns-clause-spelled
+returns-clause-spelled g c =
     let p = pdu_value c.args.pdu.now in
-    subst (SpellsDialogue p) (sym c.in-Ok.ensures) (written_spells p (length_told p c.in_ok-len.len c.in_ok-len.ensures).0 c.requires)
+    subst (SpellsDialogue p) (sym c.in_ok-spell_portion.ensures) (written_spells p (length_told p c.in_ok-len.len c.in_ok-len.ensures).0 c.requires)
 
-pub returns-in-Err-clause-err : goal.returns-in-Err-clause-err
-returns-in-Err-clause-err g c = (length_told (pdu_value c.args.pdu.now) c.in_ok-len.len c.in_ok-len.ensures).0
+pub returns-in_err-spell_portion-clause-err : goal.returns-in_err-spell_portion-clause-err
+returns-in_err-spell_portion-clause-err g c =
+    let p = err_from_is_err_and c.from_residual-in_err-spell_portion.result c.from_residual-in_err-spell_portion.ensures.1 in
+    rw (p.1, p.2) (length_told (pdu_value c.args.pdu.now) c.in_ok-len.len c.in_ok-len.ensures).0
