@@ -1,6 +1,6 @@
 -- Lists in the order of a test: the sort by insertion puts in order, keeps what is in the list, and is
 -- the only list in order with the same elements.
-use Rattle.std.proofs.Common.{◌≡◌, ℕ, ◌+◌, Bool, true, false, cond, List, [], ◌∷◌, ◌++◌, length, Option, Some, None, refl, ap, sym, ◌∙◌, arith}
+use Rattle.std.proofs.Common.{◌≡◌, ℕ, ◌+◌, Bool, true, false, cond, List, [], ◌∷◌, length, Option, Some, None, refl, ap, sym, ◌∙◌, arith}
 use Rattle.std.specs.List.{AllByRecursion}
 use Rattle.tcap_invocation.specs.Order.{put_by, in_order_by, first_of}
 

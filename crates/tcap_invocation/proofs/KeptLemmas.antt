@@ -1,22 +1,21 @@
 -- What each call keeps: the numbers stay below a number, and one component adds nothing to what is told
 -- at the end of the dialogue.
-use Rattle.std.proofs.Common.{◌≡◌, ℕ, ℤ, ◌+◌, ◌<◌, ◌≤◌, Bool, true, false, cond, List, [], ◌∷◌, ◌++◌, length, filter, Option, Some, None, refl, ap, sym, ◌∙◌, arith, unwrap_or}
-use Rattle.std.specs.Prelude.{is_some, filter_map}
+use Rattle.std.proofs.Common.{◌≡◌, ℕ, ℤ, ◌+◌, ◌<◌, ◌≤◌, Bool, true, false, cond, List, [], ◌∷◌, ◌++◌, length, filter, Option, Some, None, refl, ap, arith, unwrap_or}
+use Rattle.std.specs.Prelude.{is_some}
 use Rattle.std.specs.List.{cons_option}
 use Rattle.std.specs.Map.{lookup, remove_entry, set_value}
 use Rattle.std.specs.Ordering.{int_eq}
 use Rattle.tcap_component.specs.declared.problem.Kind.{Kind}
 use Rattle.tcap_invocation.specs.declared.class.Class.{Class}
 use Rattle.tcap_invocation.specs.declared.invocations.Invocation.{Invocation}
-use Rattle.tcap_invocation.specs.declared.stage.Stage.{Stage}
 use Rattle.tcap_invocation.specs.declared.stage.Stage.TheVariants.{Waiting}
 use Rattle.tcap_invocation.specs.Class.{Received, Consequence, class_rule}
 use Rattle.tcap_invocation.specs.Class.Consequence.{result_last, result_more, error_back, rejected_result, rejected_error, rejected, not_of_the_invoke}
 use Rattle.tcap_invocation.specs.Stage.{is_pending}
-use Rattle.tcap_invocation.specs.Invocations.{Row, InvocationList, AllBelow, entry_at, passing, sent_at, without, at_stage, freed, added, sent_rows, after_sent}
+use Rattle.tcap_invocation.specs.Invocations.{Row, InvocationList, AllBelow, sent_at, at_stage, freed, added, sent_rows, after_sent}
 use Rattle.tcap_invocation.specs.Answers.{after_consequence, rows_after, after_received, rejected_at, after_reject}
 use Rattle.tcap_invocation.specs.Lapses.{after_lapse_one, after_free_due, after_lapse}
-use Rattle.tcap_invocation.specs.Closing.{ended_of, ended_at, first_ended_at, without_ended, after_give_up, after_free_wait, after_close_one, after_close}
+use Rattle.tcap_invocation.specs.Closing.{ended_of, ended_at, first_ended_at, without_ended, after_give_up, after_free_wait, after_close_one}
 use Rattle.tcap_invocation.proofs.OrderLemmas.{entry_at-sent}
 use Rattle.tcap_invocation.proofs.RemovalLemmas.{length-removed}
 

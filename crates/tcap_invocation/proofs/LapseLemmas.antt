@@ -1,5 +1,5 @@
 -- Lapses in their order: a sorted list of all that is due is the one that is told.
-use Rattle.std.proofs.Common.{◌≡◌, ℕ, ℤ, suc, ◌+◌, ◌<◌, Bool, true, false, cond, List, [], ◌∷◌, ◌++◌, length, get_or, Option, Some, None, refl, ap, sym, ◌∙◌, arith, tests, sum_by, ◌==◌, nat_lt, ◌||◌, ◌&&◌, unwrap_or, if◌then◌else◌}
+use Rattle.std.proofs.Common.{◌≡◌, ℕ, ℤ, suc, ◌+◌, ◌<◌, Bool, true, false, cond, List, [], ◌∷◌, ◌++◌, length, get_or, Option, Some, None, refl, ap, sym, ◌∙◌, arith, tests, sum_by, ◌==◌, nat_lt, ◌||◌, ◌&&◌, unwrap_or, if◌then◌else◌, append_assoc, append-nil}
 use Rattle.std.specs.List.{AllByRecursion, cons_option}
 use Rattle.std.specs.List.Sorted.{IsSorted, IsPermutation}
 use Rattle.std.specs.declared.cmp.Ordering.{Ordering}
@@ -12,7 +12,7 @@ use Rattle.tcap_invocation.specs.declared.invocations.lapse.Lapse.{Lapse}
 use Rattle.tcap_invocation.specs.Order.{first_of}
 use Rattle.tcap_invocation.specs.Invocations.{Row, AllAbove, AreInOrder}
 use Rattle.tcap_invocation.specs.Lapses.{lapse_with, lapse_of, due_deadline, due_at, is_before, derived_cmp, in_order, told_at, earlier_of}
-use Rattle.tcap_invocation.proofs.InsertionLemmas.{Ahead, Ordered, total, total_in_order, length-in_order, all_in_order, ahead_later, ordered_in_order, one_order, front, first_of-put}
+use Rattle.tcap_invocation.proofs.InsertionLemmas.{Ordered, total, total_in_order, length-in_order, all_in_order, ahead_later, ordered_in_order, one_order, front, first_of-put}
 
 -- ---- the order
 
@@ -143,3 +143,18 @@ first_of-push [] x = refl
 first_of-push (y ∷ ys) x =
     first_of-put is_before y (in_order (ys ++ x ∷ [])) ∙ ap (λ o. Some (front is_before y o)) (first_of-push ys x) ∙ ap Some (front_earlier x y (first_of (in_order ys)))
     ∙ ap (λ o. Some (earlier_of o x)) (sym (first_of-put is_before y (in_order ys)))
+
+-- the first of some lapses, and of one that was found before
+abbrev pub earliest : Option Lapse → List Lapse → Option Lapse
+earliest best [] = best
+earliest best (l ∷ ls) = earliest (Some (earlier_of best l)) ls
+
+earliest-from : (xs ys : List Lapse) → earliest (first_of (in_order xs)) ys ≡ first_of (in_order (xs ++ ys))
+earliest-from xs [] = ap (λ (zs : List Lapse). first_of (in_order zs)) (sym (append-nil xs))
+earliest-from xs (y ∷ ys) =
+    ap (λ (o : Option Lapse). earliest o ys) (sym (first_of-push xs y)) ∙ earliest-from (xs ++ y ∷ []) ys ∙ ap (λ (zs : List Lapse). first_of (in_order zs)) (append_assoc xs (y ∷ []) ys)
+
+pub earliest-due : (clock : ℕ) (rows : List Row) → earliest None (due_at clock rows) ≡ first_of (in_order (due_at clock rows))
+earliest-due clock rows = earliest-from [] (due_at clock rows)
+
+pub ruleset earliest_rules = (earliest-due)

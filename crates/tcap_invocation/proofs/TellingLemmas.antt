@@ -1,10 +1,9 @@
 -- What a list tells next: the first that is due, the first at the end of the dialogue, and the rest.
-use Rattle.std.proofs.Common.{◌≡◌, ℕ, ℤ, ◌+◌, ◌≤◌, Bool, true, false, cond, List, [], ◌∷◌, length, Option, Some, None, filter, refl, ap, sym, subst, ◌∙◌, arith, tests, nat_lt, nat_le, if◌then◌else◌}
-use Rattle.std.specs.Prelude.{is_some, filter_map, IfSome}
+use Rattle.std.proofs.Common.{◌≡◌, ℕ, ℤ, ◌+◌, Bool, true, false, cond, List, [], ◌∷◌, Option, Some, None, filter, refl, ap, sym, subst, ◌∙◌, arith, tests, nat_lt, nat_le}
+use Rattle.std.specs.Prelude.{is_some, IfSome}
 use Rattle.std.specs.List.{AllByRecursion, IsDistinct, cons_option}
-use Rattle.std.specs.Map.{keys_of, lookup, remove_entry}
+use Rattle.std.specs.Map.{keys_of, lookup}
 use Rattle.std.specs.Ordering.{int_eq}
-use Rattle.std.proofs.lemmas.Bool.Decides.{Decides-int_eq}
 use Rattle.tcap_invocation.specs.declared.invocations.Invocation.{Invocation}
 use Rattle.tcap_invocation.specs.declared.invocations.lapse.Lapse.{Lapse}
 use Rattle.tcap_invocation.specs.declared.stage.Stage.{Stage}

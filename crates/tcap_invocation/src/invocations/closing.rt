@@ -90,8 +90,7 @@ impl<A: Allocator + Copy> Invocations<A> {
 fn first_ended<A: Allocator + Copy>(entries: &Entries<A>) -> Option<(u64, i8)>
     ensures { result ≡ first_ended_at entries.now.entries }
 {
-    for i in 0..entries.len() {
-        let (id, entry) = entries.get_index(i).unwrap();
+    for (id, entry) in entries.iter() {
         if let Some(one) = ended_of(id, entry) {
             return Some(one);
         }
@@ -108,8 +107,7 @@ fn ended_at<A: Allocator + Copy>(
     ensures memory { OnErr result (0 < length (ended_at entries.now.entries)) }
 {
     let mut ended = Vec::with_capacity(alloc, ended_count(entries))?;
-    for i in 0..entries.len() {
-        let (id, entry) = entries.get_index(i).unwrap();
+    for (id, entry) in entries.iter() {
         if let Some(one) = ended_of(id, entry) {
             ended.push_reserved(one);
         }

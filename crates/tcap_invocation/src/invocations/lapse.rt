@@ -110,12 +110,12 @@ fn due_count<A: Allocator + Copy>(entries: &Entries<A>, clock: u64) -> usize
 }
 
 /// What is due first.
+#[tactic(auto, using(crate::proofs::LapseLemmas::earliest_rules))]
 fn first_due<A: Allocator + Copy>(entries: &Entries<A>, clock: u64) -> Option<Lapse>
     ensures { result ≡ first_due_at clock entries.now.entries }
 {
     let mut first = None;
-    for i in 0..entries.len() {
-        let (id, entry) = entries.get_index(i).unwrap();
+    for (id, entry) in entries.iter() {
         if let Some(lapse) = lapse_of(id, entry, clock) {
             first = Some(earlier(first, lapse));
         }
@@ -150,8 +150,7 @@ fn due_lapses<A: Allocator + Copy>(
     ensures memory { OnErr result (0 < length (due_at clock entries.now.entries)) }
 {
     let mut lapses = Vec::with_capacity(alloc, due_count(entries, clock))?;
-    for i in 0..entries.len() {
-        let (id, entry) = entries.get_index(i).unwrap();
+    for (id, entry) in entries.iter() {
         if let Some(lapse) = lapse_of(id, entry, clock) {
             lapses.push_reserved(lapse);
         }

@@ -1,6 +1,7 @@
-use Rattle.std.proofs.Common.{◌≡◌, take}
-use Rattle.tcap_invocation.specs.Lapses.{first_due_at}
+use Rattle.std.proofs.Common.{◌≡◌}
+use Rattle.tcap_invocation.specs.Lapses.{due_at, first_due_at}
+use Rattle.tcap_invocation.proofs.LapseLemmas.{earliest}
 use Rattle.tcap_invocation.proofs.invocations.lapse.first_due.Given as goal
 
-abbrev pub invariant-loop-i : goal.invariant-loop-i
-invariant-loop-i g l = l.first ≡ first_due_at l.clock (take l.i l.entries.entries)
+abbrev pub invariant-loop-id : goal.invariant-loop-id
+invariant-loop-id g l = earliest l.first (due_at l.clock l.id-iterator) ≡ first_due_at l.clock l.entries.entries
