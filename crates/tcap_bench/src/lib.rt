@@ -1,5 +1,5 @@
-//! What the benchmark calls: functions for C that read and write messages, and answer so that nothing
-//! of the work is left out.
+//! What the benchmark calls: functions for C that read and write messages, and answer a checksum of
+//! what was read or the octets that were written.
 //!
 //! Begin at `tcap_bench_read`. What it answers stands in specs/Checksum.antt.
 #![tactic(auto)]
@@ -11,7 +11,6 @@ ghost use Rattle.tcap_bench.specs.Rewritten.{rewritten};
 
 mod component_sum;
 mod message_sum;
-mod portions;
 mod rewritten;
 mod sum;
 #[cfg(test)]

@@ -1,14 +1,14 @@
 //! A message read and written again in the canonical form, part by part.
 
 ghost use Rattle.std.specs.Prelude.{◌≡◌, ◌++◌, IfSome, option_copied, option_map};
+ghost use Rattle.tcap_pdu.specs.FramePortions.{with_portions};
 ghost use Rattle.tcap_pdu.specs.FrameSpelling.{HasCause};
 ghost use Rattle.tcap_pdu.specs.FrameViews.{message};
 ghost use Rattle.tcap_pdu.specs.FrameWritten.{written_frame};
 ghost use Rattle.tcap_component.specs.Views.{item_view};
 ghost use Rattle.tcap_bench.specs.Messages.{IsPut};
-ghost use Rattle.tcap_bench.specs.Rewritten.{rewritten_item, rewritten_components, rewritten_dialogue, rewritten_message, rewritten, with_portions};
+ghost use Rattle.tcap_bench.specs.Rewritten.{rewritten_item, rewritten_components, rewritten_dialogue, rewritten_message, rewritten};
 
-use crate::portions::{components_of, dialogue_in, with_portions};
 use crate::written::put;
 use std::alloc::Global;
 use tcap_component::{Component, ComponentFault, Components, write_component};
@@ -72,7 +72,7 @@ fn spell(
     requires { HasCause (message frame) }
     ensures { IfSome result (λ octets. octets.items ≡ written_frame (with_portions (option_copied dialogue.entry) components.now (message frame.entry))) }
 {
-    write_frame(alloc, &with_portions(frame, dialogue, components)).ok()
+    write_frame(alloc, &frame.with_portions(dialogue, components)).ok()
 }
 
 /// A message.
@@ -80,8 +80,8 @@ fn rewrite_frame(alloc: Global, frame: Frame<'_>) -> Option<Vec<u8>>
     requires { HasCause (message frame) }
     ensures { IfSome result (λ octets. octets.items ≡ rewritten_message (message frame.entry)) }
 {
-    let portion = rewrite_portion(alloc, dialogue_in(&frame))?;
-    let components = rewrite_components(alloc, components_of(&frame))?;
+    let portion = rewrite_portion(alloc, frame.dialogue())?;
+    let components = rewrite_components(alloc, frame.components())?;
     match portion {
         Some(dialogue) => spell(
             alloc,

@@ -5,12 +5,13 @@ use Rattle.tcap_pdu.specs.FrameSpelling.{Reason, Message, IsReason, HasIds, HasC
 use Rattle.tcap_pdu.specs.FrameSpelling.Reason.{nothing, cause, portion}
 use Rattle.tcap_pdu.specs.FrameSpelling.Message.{unidirectional, begin, end, go_on, abort}
 use Rattle.tcap_pdu.specs.FrameLength.{reason_with, dialogue_of}
+use Rattle.tcap_pdu.specs.FramePortions.{components_in, with_portions}
 use Rattle.tcap_pdu.specs.FrameWritten.{written_frame}
 use Rattle.tcap_pdu.proofs.CallerLemmas.{content-fits, contents_within, filled_least, dialogue_within}
 use Rattle.tcap_component.proofs.CallerLemmas.{components_of-empty}
 use Rattle.tcap_cmd.specs.declared.canon.CanonFault.{CanonFault}
 use Rattle.tcap_cmd.specs.declared.canon.CanonFault.TheVariants as canon
-use Rattle.tcap_cmd.specs.Canonical.{canonical_item, canonical_components, canonical_dialogue, components_in, with_portions, canonical_message, canonical_frame, IsCanonFault}
+use Rattle.tcap_cmd.specs.Canonical.{canonical_item, canonical_components, canonical_dialogue, canonical_message, canonical_frame, IsCanonFault}
 
 -- ---- what stays
 

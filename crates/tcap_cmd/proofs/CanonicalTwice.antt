@@ -8,6 +8,7 @@ use Rattle.tcap_pdu.specs.FrameSpelling.{Message}
 use Rattle.tcap_pdu.specs.FrameSpelling.Reason.{nothing, cause, portion}
 use Rattle.tcap_pdu.specs.FrameSpelling.Message.{unidirectional, begin, end, go_on, abort}
 use Rattle.tcap_pdu.specs.FrameLength.{dialogue_of}
+use Rattle.tcap_pdu.specs.FramePortions.{components_in}
 use Rattle.tcap_pdu.specs.FrameWritten.{written_frame}
 use Rattle.tcap_pdu.specs.DialogueSpelling.{PduValue}
 use Rattle.tcap_pdu.specs.DialogueReading.{dialogue_at}
@@ -19,7 +20,7 @@ use Rattle.tcap_component.specs.ComponentReading.{components_of}
 use Rattle.tcap_cmd.specs.declared.verdict.Verdict.{Verdict}
 use Rattle.tcap_cmd.specs.declared.verdict.Verdict.TheVariants.{Dialogue, Good}
 use Rattle.tcap_cmd.specs.Verdict.{is_known, is_read, is_good_portion, is_good, verdict_by_place, components_verdict, portions_verdict, message_of, message_verdict, verdict_by, verdict_of}
-use Rattle.tcap_cmd.specs.Canonical.{canonical_item, canonical_components, canonical_pdu, canonical_dialogue, components_in, canonical_message, canonical_frame, canonical_of, canon_line, canon_text_of}
+use Rattle.tcap_cmd.specs.Canonical.{canonical_item, canonical_components, canonical_pdu, canonical_dialogue, canonical_message, canonical_frame, canonical_of, canon_line, canon_text_of}
 use Rattle.tcap_cmd.proofs.CanonicalComponents.{components-again}
 use Rattle.tcap_cmd.proofs.CanonicalFrame.{cause_kept, ids_kept, portion-within, canonical-within}
 use Rattle.tcap_cmd.proofs.MessageSteps.{message-again, message-bad, read-cause, read-ids, canonical_of-read}

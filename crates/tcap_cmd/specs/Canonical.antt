@@ -1,10 +1,10 @@
 -- The canonical form of a message, and the text of `canon`.
-use Rattle.std.specs.Prelude.{◌≡◌, ℕ, ◌<◌, Bool, List, [], length, Option, Result, Ok, Err, option_map, nat_lt, if◌then◌else◌}
+use Rattle.std.specs.Prelude.{◌≡◌, ℕ, ◌<◌, Bool, List, [], length, Result, Ok, Err, option_map, nat_lt, if◌then◌else◌}
 use Rattle.std.specs.List.{flat_map}
 use Rattle.hex.specs.Hex.{encode_lower, decode_of}
 use Rattle.tcap_pdu.specs.FrameSpelling.{Message}
-use Rattle.tcap_pdu.specs.FrameSpelling.Message.{unidirectional, begin, end, go_on, abort}
-use Rattle.tcap_pdu.specs.FrameLength.{reason_with, dialogue_of}
+use Rattle.tcap_pdu.specs.FrameLength.{dialogue_of}
+use Rattle.tcap_pdu.specs.FramePortions.{components_in, with_portions}
 use Rattle.tcap_pdu.specs.FrameWritten.{written_frame}
 use Rattle.tcap_pdu.specs.DialogueSpelling.{PduValue}
 use Rattle.tcap_pdu.specs.DialogueReading.{dialogue_at}
@@ -44,24 +44,6 @@ canonical_pdu (Err f) = []
 -- (Q.773, Dialogue portion; the canonical form is own).
 abbrev pub canonical_dialogue : List ℕ → List ℕ
 canonical_dialogue content = canonical_pdu (dialogue_at content)
-
--- The contents of the component portion of a message, empty where it has none
--- (Q.773, Structure of TC messages).
-abbrev pub components_in : Message → List ℕ
-components_in (unidirectional d c) = c
-components_in (begin o d c) = c
-components_in (end t d c) = c
-components_in (go_on o t d c) = c
-components_in (abort t r) = []
-
--- The message with these contents of its portions in place of its own; its identifiers and a P-Abort
--- cause stay (own).
-abbrev pub with_portions : Option (List ℕ) → List ℕ → Message → Message
-with_portions d c (unidirectional own mine) = unidirectional d c
-with_portions d c (begin o own mine) = begin o d c
-with_portions d c (end t own mine) = end t d c
-with_portions d c (go_on o t own mine) = go_on o t d c
-with_portions d c (abort t r) = abort t (reason_with d r)
 
 -- The message with its portions in the canonical form
 -- (Q.773, Structure of TC messages; the canonical form is own).

@@ -4,6 +4,7 @@ ghost use Rattle.std.specs.Prelude.{◌≡◌, ◌≤◌, ◌++◌, length, OnOk
 ghost use Rattle.hex.specs.Hex.{encode_lower};
 ghost use Rattle.tcap_pdu.specs.FrameSpelling.{HasCause};
 ghost use Rattle.tcap_pdu.specs.FrameLength.{dialogue_of, reason_with};
+ghost use Rattle.tcap_pdu.specs.FramePortions.{with_portions};
 ghost use Rattle.tcap_pdu.specs.FrameWritten.{written_frame};
 ghost use Rattle.tcap_pdu.specs.FrameViews.{message, reason_of};
 ghost use Rattle.tcap_component.specs.Views.{component_parts, item_view};
@@ -12,10 +13,9 @@ ghost use Rattle.tcap_cmd.specs.Text.{line};
 ghost use Rattle.tcap_cmd.specs.Verdict.{message_limit, is_good, verdict_words};
 ghost use Rattle.tcap_cmd.specs.declared.verdict.Verdict.TheVariants as verdict;
 ghost use Rattle.tcap_cmd.specs.declared.canon.CanonFault.TheVariants as canon;
-ghost use Rattle.tcap_cmd.specs.Canonical.{canonical_item, canonical_components, canonical_dialogue, components_in, with_portions, canonical_frame, IsCanonFault, IsWritableItem, canon_verdict, canon_line, canonical_of, canon_text_of, canon_is_good, IsHexLine};
+ghost use Rattle.tcap_cmd.specs.Canonical.{canonical_item, canonical_components, canonical_dialogue, canonical_frame, IsCanonFault, IsWritableItem, canon_verdict, canon_line, canonical_of, canon_text_of, canon_is_good, IsHexLine};
 
 use crate::judge::{judge_message, read_message, verdict_text};
-use crate::portions::{components_of, dialogue_in, with_portions};
 use crate::shown::Shown;
 use crate::verdict::Verdict;
 use ber_core::OutOfMemory;
@@ -149,7 +149,7 @@ fn assemble<A: Allocator + Copy>(
     ensures short { OnOk result (length (written_frame (with_portions (option_copied dialogue.entry) components.now (message frame.entry))) ≤ message_limit) }
     ensures err { IfErr result (λ fault. IsCanonFault (written_frame (with_portions (option_copied dialogue.entry) components.now (message frame.entry))) fault) }
 {
-    let canonical = with_portions(frame, dialogue, components);
+    let canonical = frame.with_portions(dialogue, components);
     spell_frame(alloc, &canonical)
 }
 
@@ -160,8 +160,8 @@ fn rewrite_frame<A: Allocator + Copy>(alloc: A, frame: Frame<'_>) -> Result<Vec<
     ensures short { OnOk result (length (canonical_frame (message frame.entry)) ≤ message_limit) }
     ensures err { IfErr result (λ fault. IsCanonFault (canonical_frame (message frame.entry)) fault) }
 {
-    let portion = rewrite_portion(alloc, dialogue_in(&frame))?;
-    let components = rewrite_components(alloc, components_of(&frame))?;
+    let portion = rewrite_portion(alloc, frame.dialogue())?;
+    let components = rewrite_components(alloc, frame.components())?;
     match portion {
         Some(dialogue) => assemble(
             alloc,
@@ -200,6 +200,11 @@ fn frame_text<A: Allocator + Copy>(alloc: A, frame: Frame<'_>) -> Result<Shown<A
 
 /// The text of `canon`: the message in the canonical form, in lower case hexadecimal, where the
 /// verdict on the bytes is good and the form has at most 65,535 bytes; else the verdict.
+///
+/// ```rust
+/// let rewritten = tcap_cmd::canon_text(rt.alloc(), &[0x62, 0x81, 0x03, 0x48, 0x01, 0x07])?;
+/// assert_eq!(rt; rewritten.text.as_slice(), b"6203480107\n".as_slice());
+/// ```
 pub fn canon_text<A: Allocator + Copy>(alloc: A, bytes: &[u8]) -> Result<Shown<A>, OutOfMemory>
     ensures text { IfOk result (λ shown. shown.text.items ≡ canon_text_of bytes.now) }
     ensures good { IfOk result (λ shown. shown.good ≡ canon_is_good bytes.now) }

@@ -136,6 +136,12 @@ pub fn report<E: Write>(err: &mut E, refusal: Refusal) -> u8
 /// status, 0 where the verdict is good, 1 where it isn't, 2 where there is none; why there is none is
 /// told on `err`. `clap` takes its memory from `alloc`, all else from `heap`. Nothing is read from
 /// `reader`.
+///
+/// ```rust
+/// let status = run_command(alloc, alloc, &["check", "6203480107"], &mut input, &mut out, &mut err);
+/// assert_eq!(rt; status, 0);
+/// assert_eq!(rt; out.as_slice(), b"good\n".as_slice());
+/// ```
 pub fn run_command<A: Allocator + Copy, R: Read, W: Write, E: Write>(
     alloc: Global,
     heap: A,

@@ -14,10 +14,7 @@ use crate::verdict::Verdict;
 use ber_core::OutOfMemory;
 use std::alloc::Allocator;
 use tcap_component::Components;
-use tcap_pdu::{AbortPart, DialoguePdu, Frame, FrameFault, read_dialogue, read_frame};
-
-/// The greatest message, in bytes: 65,535 (our own).
-const MAX_MESSAGE: usize = 65_535;
+use tcap_pdu::{AbortPart, DialoguePdu, Frame, FrameFault, MAX_MESSAGE, read_dialogue, read_frame};
 
 /// The verdict on bytes that are no message.
 fn verdict_on_fault(fault: FrameFault) -> Verdict

@@ -9,7 +9,6 @@ mod component_text;
 mod dialogue_text;
 mod judge;
 pub mod laws;
-mod portions;
 mod refusal;
 mod request;
 mod show;

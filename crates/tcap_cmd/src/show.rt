@@ -182,6 +182,11 @@ fn add_message<A: Allocator + Copy>(
 }
 
 /// The text of `show`: the message that the bytes are, line by line, or the verdict on them alone.
+///
+/// ```rust
+/// let shown = tcap_cmd::show_text(rt.alloc(), &[0x62, 0x81, 0x03, 0x48, 0x01, 0x07])?;
+/// assert_eq!(rt; shown.text.as_slice(), b"begin\n  otid 07\n".as_slice());
+/// ```
 pub fn show_text<A: Allocator + Copy>(alloc: A, bytes: &[u8]) -> Result<Shown<A>, OutOfMemory>
     ensures text { IfOk result (λ shown. shown.text.items ≡ show_text_of bytes.now) }
     ensures good { IfOk result (λ shown. shown.good ≡ show_is_good bytes.now) }
@@ -201,6 +206,11 @@ pub fn show_text<A: Allocator + Copy>(alloc: A, bytes: &[u8]) -> Result<Shown<A>
 }
 
 /// The text of `check`: the verdict on the bytes.
+///
+/// ```rust
+/// let checked = tcap_cmd::check_text(rt.alloc(), &[0x62, 0x81, 0x03, 0x48, 0x01, 0x07])?;
+/// assert!(rt; checked.good);
+/// ```
 pub fn check_text<A: Allocator + Copy>(alloc: A, bytes: &[u8]) -> Result<Shown<A>, OutOfMemory>
     ensures text { IfOk result (λ shown. shown.text.items ≡ check_text_of bytes.now) }
     ensures good { IfOk result (λ shown. shown.good ≡ show_is_good bytes.now) }
