@@ -14,5 +14,6 @@ mod PlainlyDecided
 mod RepeatedBegin
 mod SendingBroken
 mod SendingWorks
+mod TurnedMovesApart
 mod TwoEndsWork
 mod WrongHistoriesTold

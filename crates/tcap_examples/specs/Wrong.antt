@@ -1,3 +1,4 @@
+pub mod TurnedMoves
 pub mod WrongAnswers
 pub mod WrongEnds
 pub mod WrongHistories

@@ -12,6 +12,7 @@ pub mod readings;
 pub mod reception;
 pub mod refusals;
 pub mod requests;
+pub mod turned_moves;
 pub mod worlds;
 pub mod wrong_answers;
 pub mod wrong_ends;
