@@ -1,6 +1,6 @@
 -- Moves with one rule turned aren't the engine's.
-use Rattle.std.specs.Prelude.{ℕ, ◌+◌, ◌*◌, List, [], ◌∷◌, length, refl}
-use Rattle.tcap_examples.proofs.Apart.{apart, answer_number}
+use Rattle.std.specs.Prelude.{ℕ, List, [], ◌∷◌, length, refl}
+use Rattle.tcap_examples.proofs.Apart.{apart}
 use Rattle.tcap_examples.specs.Computing.{computing}
 use Rattle.tcap_examples.specs.Wrong.TurnedMoves.{ByDialogueShows, FreedFirstShows, DrawingEarlyShows, HearingEarlyShows}
 use Rattle.tcap_model.specs.Table.EngineMove.{EngineMoved, engine_move}

@@ -1,5 +1,5 @@
 -- Histories of the whole engine, step by step: several dialogues, and none.
-use Rattle.std.specs.Prelude.{ℕ, pos, List, [], ◌∷◌, Option, Some, None}
+use Rattle.std.specs.Prelude.{ℕ, pos, List, [], ◌∷◌, None}
 use Rattle.tcap_examples.specs.Histories.Steps.{Step, Walk}
 use Rattle.tcap_examples.specs.Histories.SteppedHistories.{invoke_1, peer}
 use Rattle.tcap_examples.specs.Values.Asked as asks
@@ -7,7 +7,7 @@ use Rattle.tcap_examples.specs.Values.Hex.{hex}
 use Rattle.tcap_examples.specs.Histories.StepWords.{steps_start, empty_engine, engine_with, dialogue_1, invoke_queued, class_one_row, walk, new_dialogue_1, request_step, receive_step, moment_step, invoke_request}
 use Rattle.tcap_examples.specs.Values.Told as told
 use Rattle.tcap_invocation.specs.Invocations.{Row}
-use Rattle.tcap_invocation.specs.declared.stage.Stage.TheVariants.{Queued, Sent, Waiting}
+use Rattle.tcap_invocation.specs.declared.stage.Stage.TheVariants.{Queued, Sent}
 use Rattle.tcap_model.specs.Procedures.QueueRules.{Queued as Waits}
 use Rattle.tcap_model.specs.Table.Dialogue.{Dialogue}
 use Rattle.tcap_model.specs.Table.World.{World}

@@ -1,8 +1,6 @@
 -- Moves of an engine with one rule turned, and where each of them shows.
-use Rattle.std.specs.Prelude.{◌≡◌, ℕ, ◌+◌, pos, Bool, true, false, List, [], ◌∷◌, flat_map, is_some, map, None, Option, Some}
-use Rattle.tcap_examples.specs.Histories.EngineWalks.{begun_engine, both_lapsed, both_sent, dialogue_2, end_to_1, engine_of_two, full_abort, full_engine, none_left, peer_begins}
-use Rattle.tcap_examples.specs.Values.StepWords.{engine_with}
-use Rattle.tcap_examples.specs.Values.Told as told
+use Rattle.std.specs.Prelude.{◌≡◌, ◌+◌, Bool, true, false, [], ◌∷◌, flat_map, is_some, map, None, Option, Some}
+use Rattle.tcap_examples.specs.Histories.EngineWalks.{begun_engine, both_lapsed, both_sent, end_to_1, full_abort, full_engine, none_left, peer_begins}
 use Rattle.tcap_model.specs.Procedures.Reception.{Reception, reception}
 use Rattle.tcap_model.specs.Table.Dialogue.{Dialogue}
 use Rattle.tcap_model.specs.Table.DueLapses.{all_told, at_moment, due_in, due_key, due_told}
@@ -11,7 +9,7 @@ use Rattle.tcap_model.specs.Table.World.{World}
 use Rattle.tcap_model.specs.Words.Answer.{Answer}
 use Rattle.tcap_model.specs.Words.Event.{Event}
 use Rattle.tcap_model.specs.Words.KeyOrder.{in_order}
-use Rattle.tcap_model.specs.Words.Output.{Closing, DropCause, Output}
+use Rattle.tcap_model.specs.Words.Output.{DropCause, Output}
 use Rattle.tcap_model.specs.Words.State.{State}
 
 -- What an engine does to an event (own).

@@ -1,5 +1,5 @@
 -- The request for a new dialogue moves the engine as the history says.
-use Rattle.std.proofs.Common.{◌≡◌, ℕ, ◌+◌, List, [], ◌∷◌, ◌++◌, Option, Some, None, filter_map, refl, sym, ap, ◌∙◌}
+use Rattle.std.proofs.Common.{◌≡◌, Option, Some, None, refl, sym, ap, ◌∙◌}
 use Rattle.tcap_laws.proofs.Engine.DialoguesFound.{births-alike}
 use Rattle.tcap_laws.proofs.Engine.WorldAfter.{moved-made, world-stays, world-born}
 use Rattle.tcap_laws.proofs.Rows.NoRowsAtBirth.{fresh-born}
@@ -8,7 +8,7 @@ use Rattle.tcap_model.specs.Histories.Birth.{born_of, next_dialogue}
 use Rattle.tcap_model.specs.Histories.History.{History}
 use Rattle.tcap_model.specs.Replies.Due.{birth_due}
 use Rattle.tcap_model.specs.Replies.Legal.{IsLegal}
-use Rattle.tcap_model.specs.Replies.Reply.{birth_answer, reply}
+use Rattle.tcap_model.specs.Replies.Reply.{birth_answer}
 use Rattle.tcap_model.specs.Statements.EngineMoves.{moved_at}
 use Rattle.tcap_model.specs.Table.Dialogue.{fresh_dialogue}
 use Rattle.tcap_model.specs.Table.EngineMove.{asked_in, birth_fault_in}

@@ -1,5 +1,5 @@
 -- Received bytes move the engine as the history says.
-use Rattle.std.proofs.Common.{◌≡◌, ℕ, Bool, true, false, nat_eq, List, [], ◌∷◌, ◌++◌, is_some, option_to_list, Option, Some, None, Result, Ok, Err, refl, sym, ap, subst, ◌∙◌}
+use Rattle.std.proofs.Common.{◌≡◌, ℕ, Bool, true, false, nat_eq, List, [], ◌∷◌, is_some, option_to_list, Option, Some, None, Result, Ok, Err, refl, sym, ap, subst, ◌∙◌}
 use Rattle.std.proofs.lemmas.Bool.{eq-eqb, true≢false}
 use Rattle.tcap_component.specs.ComponentReading.{components_of}
 use Rattle.tcap_laws.proofs.Births.BirthReplies.{none-begun, told-begun, sends-begun, if_sends-begun, taken-begun}
@@ -29,7 +29,7 @@ use Rattle.tcap_model.specs.Replies.Reply.{ended_in, reception_outputs, reply, t
 use Rattle.tcap_model.specs.Statements.EngineMoves.{moved_at}
 use Rattle.tcap_model.specs.Table.Agreement.{setting_at}
 use Rattle.tcap_model.specs.Table.Dialogue.{Dialogue}
-use Rattle.tcap_model.specs.Table.EngineMove.{aborting, birth_fault_in, dialogue_in, is_live_in, reached_in, received_in, told_first}
+use Rattle.tcap_model.specs.Table.EngineMove.{aborting, birth_fault_in, is_live_in, reached_in, received_in, told_first}
 use Rattle.tcap_model.specs.Table.TableMove.{DialogueEvent, Moved, born, table_move}
 use Rattle.tcap_model.specs.Table.World.{dialogue_by, world_of}
 use Rattle.tcap_model.specs.Words.Answer.{Answer}

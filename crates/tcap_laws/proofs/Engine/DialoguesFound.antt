@@ -1,5 +1,5 @@
 -- The engine at a history finds each dialogue that stands, and no other.
-use Rattle.std.proofs.Common.{◌≡◌, ◌≢◌, ℕ, zero, suc, ◌<◌, ◌||◌, ◌==◌, Bool, true, false, cond, nat_eq, nat_le, List, [], ◌∷◌, length, get_or}
+use Rattle.std.proofs.Common.{◌≡◌, ◌≢◌, ℕ, zero, suc, ◌<◌, ◌||◌, Bool, true, false, cond, nat_eq, List, [], ◌∷◌, length, get_or}
 use Rattle.std.proofs.Common.{Option, Some, None, filter_map, refl, sym, ap, ◌∙◌, arith}
 use Rattle.std.proofs.lemmas.Bool.{eq-eqb}
 use Rattle.std.specs.Prelude.{filter}
@@ -8,7 +8,7 @@ use Rattle.tcap_laws.proofs.Births.DrawnDialogues.{was_born-listed, was_born-liv
 use Rattle.tcap_laws.proofs.Engine.TableLookup.{IsOwn, found-at, absent-at}
 use Rattle.tcap_model.specs.Histories.Birth.{dialogues, next_dialogue}
 use Rattle.tcap_model.specs.Histories.History.{History}
-use Rattle.tcap_model.specs.Histories.Life.{Life, is_standing, life, live_in, standing_dialogues}
+use Rattle.tcap_model.specs.Histories.Life.{Life, is_standing, life, live_in}
 use Rattle.tcap_model.specs.Histories.Pair.{Past}
 use Rattle.tcap_model.specs.Replies.Due.{birth_due}
 use Rattle.tcap_model.specs.Replies.Legal.{IsLegal}

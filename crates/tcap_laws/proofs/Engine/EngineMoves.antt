@@ -1,6 +1,6 @@
 -- Each event moves the engine as the history says, and the clock stays within its limit.
-use Rattle.std.proofs.Common.{◌≡◌, ◌≤◌, ℕ, Bool, true, false, cond, nat_lt, [], ◌∷◌, Option, Some, None, refl, ap, sym, ◌∙◌, arith}
-use Rattle.std.proofs.lemmas.Bool.{ltb-false, true≢false}
+use Rattle.std.proofs.Common.{◌≡◌, ◌≤◌, ℕ, Bool, true, false, cond, nat_lt, [], ◌∷◌, Option, Some, None, refl, ap, ◌∙◌, arith}
+use Rattle.std.proofs.lemmas.Bool.{ltb-false}
 use Rattle.tcap_invocation.specs.Stage.{moment_limit}
 use Rattle.tcap_laws.proofs.Engine.BirthsMove.{births-move}
 use Rattle.tcap_laws.proofs.Engine.BytesMove.{bytes-move}
@@ -9,15 +9,14 @@ use Rattle.tcap_laws.proofs.Engine.RequestsMove.{requests-move}
 use Rattle.tcap_model.specs.Histories.Clock.{clock, clock_after}
 use Rattle.tcap_model.specs.Histories.History.{History, Start}
 use Rattle.tcap_model.specs.Histories.Pair.{Past}
-use Rattle.tcap_model.specs.Replies.Legal.{AreReplies, IsLegal}
+use Rattle.tcap_model.specs.Replies.Legal.{AreReplies}
 use Rattle.tcap_model.specs.Replies.Reply.{moment_answer, reply}
 use Rattle.tcap_model.specs.Statements.EngineMoves.{EachMoveIsSaid, EachMovesAlike, moved_at}
 use Rattle.tcap_model.specs.Table.EngineMove.{EngineMoved, engine_move}
-use Rattle.tcap_model.specs.Table.World.{World, world_of}
-use Rattle.tcap_model.specs.Words.Answer.{Answer, is_accepted}
+use Rattle.tcap_model.specs.Table.World.{World}
+use Rattle.tcap_model.specs.Words.Answer.{is_accepted}
 use Rattle.tcap_model.specs.Words.Event.{Event}
 use Rattle.tcap_model.specs.Words.Fault.{Fault}
-use Rattle.tcap_model.specs.Words.InRange.{InRange}
 use Rattle.tcap_model.specs.Words.Time.{moment_fault}
 
 -- ---- each event

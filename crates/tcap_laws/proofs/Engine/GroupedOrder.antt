@@ -1,7 +1,7 @@
 -- Values in the order of their keys, group by group: joined groups have the order of all.
 use Rattle.std.proofs.Common.{◌≡◌, ◌≤◌, ◌<◌, ◌+◌, ◌==◌, ◌&&◌, ℕ, zero, suc, Bool, true, false, cond, nat_lt}
 use Rattle.std.proofs.Common.{List, [], ◌∷◌, ◌++◌, refl, sym, ap, ◌∙◌, arith}
-use Rattle.std.proofs.lemmas.Bool.{or_parts, eq-eqb, eqb-true, ltb-false, true≢false}
+use Rattle.std.proofs.lemmas.Bool.{or_parts, eq-eqb, ltb-false, true≢false}
 use Rattle.std.proofs.lemmas.Bool.Decides.{nat_tests}
 use Rattle.std.specs.Prelude.{filter}
 use Rattle.std.specs.List.{flat_map, range_with_len, AllByRecursion}

@@ -3,7 +3,7 @@ use Rattle.std.proofs.Common.{◌≡◌, ◌≢◌, ◌≤◌, ◌<◌, ℕ, ◌
 use Rattle.std.proofs.Common.{Option, Some, None}
 use Rattle.std.proofs.lemmas.Bool.{eqb-true, true≢false}
 use Rattle.std.proofs.lemmas.List.FromFn.{length-range_with_len, get_or-range_with_len}
-use Rattle.std.specs.Prelude.{filter, filter_map, is_some, option_map}
+use Rattle.std.specs.Prelude.{filter, filter_map, option_map}
 use Rattle.std.specs.List.{AllByRecursion, cons_option, flat_map, range_with_len}
 use Rattle.tcap_laws.proofs.Births.DrawnDialogues.{dialogues-drawn, was_born-listed, was_born-lives}
 use Rattle.tcap_laws.proofs.Decisions.OpenReplies.{found_alive}

@@ -1,11 +1,11 @@
 -- A moment moves the engine as the history says.
-use Rattle.std.proofs.Common.{◌≡◌, ◌<◌, ◌≤◌, ℕ, max, Bool, true, false, cond, nat_lt, List, [], ◌∷◌, map, Option, Some, None, filter_map, refl, sym, ap, ◌∙◌, arith}
+use Rattle.std.proofs.Common.{◌≡◌, ℕ, max, Bool, true, false, cond, nat_lt, List, [], ◌∷◌, map, Option, Some, None, filter_map, refl, sym, ap, ◌∙◌, arith}
 use Rattle.std.proofs.lemmas.Bool.{ltb-true, ltb-false}
 use Rattle.std.specs.Prelude.{option_map}
 use Rattle.std.specs.List.{cons_option}
 use Rattle.tcap_laws.proofs.Engine.LapsesAlike.{lapses-alike}
 use Rattle.tcap_laws.proofs.Engine.StayingDialogues.{refused-stays, early-stays}
-use Rattle.tcap_laws.proofs.Engine.WorldAfter.{same-map, here, before, later, each-stays, world-made, moved-made, number-kept, none-born, next-kept, dialogues-kept, world-stays}
+use Rattle.tcap_laws.proofs.Engine.WorldAfter.{here, before, later, each-stays, world-made, moved-made, number-kept, next-kept, dialogues-kept, world-stays}
 use Rattle.tcap_laws.proofs.Table.MessagesMovedAlike.{lapsed-moves}
 use Rattle.tcap_model.specs.Histories.Birth.{dialogues, next_dialogue}
 use Rattle.tcap_model.specs.Histories.Clock.{clock, clock_after}
@@ -17,9 +17,9 @@ use Rattle.tcap_model.specs.Statements.EngineMoves.{moved_at}
 use Rattle.tcap_model.specs.Table.Agreement.{setting_at, left_standing}
 use Rattle.tcap_model.specs.Table.Dialogue.{Dialogue}
 use Rattle.tcap_model.specs.Table.DueLapses.{all_told, at_moment}
-use Rattle.tcap_model.specs.Table.EngineMove.{EngineMoved, advanced, moment_in, unmoved}
+use Rattle.tcap_model.specs.Table.EngineMove.{advanced, moment_in, unmoved}
 use Rattle.tcap_model.specs.Table.TableMove.{DialogueEvent, table_move}
-use Rattle.tcap_model.specs.Table.World.{dialogue_at, world_of}
+use Rattle.tcap_model.specs.Table.World.{world_of}
 use Rattle.tcap_model.specs.Words.Answer.{Answer, is_accepted}
 use Rattle.tcap_model.specs.Words.Event.{Event}
 use Rattle.tcap_model.specs.Words.Fault.{Fault}

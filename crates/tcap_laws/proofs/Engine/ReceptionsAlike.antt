@@ -1,5 +1,5 @@
 -- What becomes of received bytes depends on which dialogues are live, and not on how that is found.
-use Rattle.std.proofs.Common.{◌≡◌, ℕ, ◌==◌, Bool, true, false, cond, nat_lt, List, [], ◌∷◌, length, Option, Some, None, Result, Ok, Err, refl, ap, ◌∙◌}
+use Rattle.std.proofs.Common.{◌≡◌, ℕ, Bool, cond, nat_lt, List, [], ◌∷◌, length, Option, Some, None, Result, Ok, Err, refl, ap}
 use Rattle.tcap_model.specs.Procedures.Reception.{addressed_if_any, continue_by, last_by, message_by, fault_abort, fault_by, faulty, live_named, reading_by, reception, Reception}
 use Rattle.tcap_model.specs.Words.LocalId.{dialogue_named}
 use Rattle.tcap_model.specs.Words.Output.{DropCause}

@@ -1,11 +1,11 @@
 -- A request on a dialogue moves the engine as the history says.
-use Rattle.std.proofs.Common.{◌≡◌, ℕ, ◌+◌, Bool, true, false, cond, nat_eq, List, [], ◌∷◌, is_some, Option, Some, None, filter_map, refl, sym, ap, ◌∙◌, arith}
+use Rattle.std.proofs.Common.{◌≡◌, ℕ, ◌+◌, Bool, true, false, cond, nat_eq, is_some, Option, Some, None, filter_map, refl, sym, ap, ◌∙◌, arith}
 use Rattle.std.proofs.lemmas.Bool.{eqb-true}
 use Rattle.std.specs.Prelude.{option_map}
 use Rattle.tcap_laws.proofs.Births.DrawnNumbers.{reply-numbered}
 use Rattle.tcap_laws.proofs.Engine.DialoguesFound.{own-at, looked-up}
 use Rattle.tcap_laws.proofs.Engine.TableLookup.{one-changes}
-use Rattle.tcap_laws.proofs.Engine.WorldAfter.{before, later, each-stays, made, world-made, moved-made, next-kept, dialogues-kept, world-stays}
+use Rattle.tcap_laws.proofs.Engine.WorldAfter.{before, later, each-stays, world-made, moved-made, next-kept, dialogues-kept, world-stays}
 use Rattle.tcap_laws.proofs.Table.LastAnswersAlike.{request-agrees}
 use Rattle.tcap_laws.proofs.Table.OtherDialogues.{unnamed-stays}
 use Rattle.tcap_laws.proofs.Table.RequestsMovedAlike.{request-moves}
@@ -23,7 +23,7 @@ use Rattle.tcap_model.specs.Table.Agreement.{setting_at, left_standing}
 use Rattle.tcap_model.specs.Table.Dialogue.{Dialogue}
 use Rattle.tcap_model.specs.Table.EngineMove.{dialogue_in, moved_in, number_after, requested_in, with_dialogue}
 use Rattle.tcap_model.specs.Table.TableMove.{DialogueEvent, Moved, table_move}
-use Rattle.tcap_model.specs.Table.World.{World, dialogue_by, world_of}
+use Rattle.tcap_model.specs.Table.World.{dialogue_by, world_of}
 use Rattle.tcap_model.specs.Words.Answer.{Answer}
 use Rattle.tcap_model.specs.Words.Event.{Event}
 use Rattle.tcap_model.specs.Words.Fault.{Fault}
