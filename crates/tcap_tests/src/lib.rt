@@ -5,7 +5,7 @@
 
 mod operation;
 
-pub use operation::first_operation;
+pub use operation::{first_operation, local_number};
 
 #[cfg(test)]
 mod tests;
