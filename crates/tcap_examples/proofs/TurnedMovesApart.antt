@@ -2,7 +2,8 @@
 use Rattle.std.specs.Prelude.{ℕ, List, [], ◌∷◌, length, refl}
 use Rattle.tcap_examples.proofs.Apart.{apart}
 use Rattle.tcap_examples.specs.Computing.{computing}
-use Rattle.tcap_examples.specs.Wrong.TurnedMoves.{ByDialogueShows, FreedFirstShows, DrawingEarlyShows, HearingEarlyShows}
+use Rattle.tcap_examples.specs.Wrong.TurnedMoves.{ByDialogueShows, FreedFirstShows, DrawingEarlyShows}
+use Rattle.tcap_examples.specs.Wrong.TurnedMoves.{HearingEarlyShows}
 use Rattle.tcap_model.specs.Table.EngineMove.{EngineMoved, engine_move}
 use Rattle.tcap_model.specs.Words.Answer.{Answer}
 use Rattle.tcap_model.specs.Words.Output.{ComponentIndication, Output}

@@ -13,6 +13,7 @@ pub mod reception;
 pub mod refusals;
 pub mod requests;
 pub mod turned_moves;
+pub mod worked_moves;
 pub mod worlds;
 pub mod wrong_answers;
 pub mod wrong_ends;

@@ -46,3 +46,7 @@ pub use Rattle.tcap_laws.proofs.Spans.SpanSteps.{span_new, span_grows, span_stay
 pub use Rattle.tcap_laws.proofs.Births.StartCounters.{start_dialogue-within, start_number-within}
 pub use Rattle.tcap_laws.proofs.Spans.SupersededInvocations.{reused_of_number, decided_if_superseded, decided_if_reused, latest_if_open}
 pub use Rattle.tcap_laws.proofs.Receptions.ToldFromOctets.{told-from}
+pub use Rattle.tcap_laws.proofs.Engine.EngineMoves.{moves-alike, move-is-said, clock-within}
+pub use Rattle.tcap_laws.proofs.Engine.DialoguesFound.{looked-up, live-alike, births-alike}
+pub use Rattle.tcap_laws.proofs.Engine.GroupedOrder.{grouped-in_order}
+pub use Rattle.tcap_laws.proofs.Engine.LapsesAlike.{lapses-alike}

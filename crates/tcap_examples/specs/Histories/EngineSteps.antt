@@ -29,16 +29,19 @@ pub record RunsThrough (w : Walk) : Type 0 where
   pub begins : world_of (nothing_happened w.start) ≡ w.before
   pub goes : AreMoves (nothing_happened w.start) w.before w.steps
 
+-- The engine at a history (own).
+abbrev pub engine_at : Start → Past → World
+engine_at start past = world_of (record { start = start; pairs = past })
+
 -- The step that a pair of a history makes (own).
 abbrev pub step_at : Start → Pair → Past → Step
-step_at start pair past =
-    record { event = pair.event; answer = pair.answer; after = world_of (record { start = start; pairs = pair ∷ past }) }
+step_at start pair past = record { event = pair.event; answer = pair.answer; after = engine_at start (pair ∷ past) }
 
 -- At each pair of a worked history the engine there moves to the engine with that pair (own).
 abbrev pub RunsAlong : Start → Past → Type 0
 RunsAlong start [] = Unit {0}
 RunsAlong start (pair ∷ past) =
-    (engine_move (world_of (record { start = start; pairs = past })) pair.event ≡ stated (step_at start pair past)) × RunsAlong start past
+    (engine_move (engine_at start past) pair.event ≡ stated (step_at start pair past)) × RunsAlong start past
 
 -- The engine runs along a worked history (own).
 abbrev pub Runs : Worked → Type 0

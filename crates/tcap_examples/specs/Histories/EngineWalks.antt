@@ -4,7 +4,9 @@ use Rattle.tcap_examples.specs.Histories.Steps.{Step, Walk}
 use Rattle.tcap_examples.specs.Histories.SteppedHistories.{invoke_1, peer}
 use Rattle.tcap_examples.specs.Values.Asked as asks
 use Rattle.tcap_examples.specs.Values.Hex.{hex}
-use Rattle.tcap_examples.specs.Histories.StepWords.{steps_start, empty_engine, engine_with, dialogue_1, invoke_queued, class_one_row, walk, new_dialogue_1, request_step, receive_step, moment_step, invoke_request}
+use Rattle.tcap_examples.specs.Histories.StepWords.{steps_start, empty_engine, engine_with, dialogue_1, invoke_queued}
+use Rattle.tcap_examples.specs.Histories.StepWords.{class_one_row, walk, new_dialogue_1, request_step, receive_step}
+use Rattle.tcap_examples.specs.Histories.StepWords.{moment_step, invoke_request}
 use Rattle.tcap_examples.specs.Values.Told as told
 use Rattle.tcap_invocation.specs.Invocations.{Row}
 use Rattle.tcap_invocation.specs.declared.stage.Stage.TheVariants.{Queued, Sent}
@@ -59,24 +61,49 @@ none_left = engine_of_two 20 3 (dialogue_1 State.sent None [] [] ∷ dialogue_2 
 abbrev pub first_begun : List ℕ
 first_begun = hex 18 0x6210_480400000001_6C08_A10602010102010A
 
--- The same of dialogue 2 (own).
+-- The same Begin of dialogue 2 (own).
 abbrev pub second_begun : List ℕ
 second_begun = hex 18 0x6210_480400000002_6C08_A10602010102010A
+
+-- Dialogue 1 before its Invoke (own).
+abbrev pub first_fresh : Dialogue
+first_fresh = dialogue_1 State.fresh None [] []
+
+-- The same with its Invoke in the queue (own).
+abbrev pub first_queued : Dialogue
+first_queued = dialogue_1 State.fresh None (invoke_queued invoke_1 1 ∷ []) (class_one_row (pos 1) 1 (Queued 20) ∷ [])
+
+-- Dialogue 2 before its Invoke (own).
+abbrev pub second_fresh : Dialogue
+second_fresh = dialogue_2 State.fresh [] []
+
+-- The same with its Invoke in the queue (own).
+abbrev pub second_queued : Dialogue
+second_queued = dialogue_2 State.fresh (invoke_queued invoke_1 2 ∷ []) (class_one_row (pos 1) 2 (Queued 10) ∷ [])
+
+-- A dialogue is asked for, and number 2 is born (own).
+abbrev pub new_dialogue_2 : World → Step
+new_dialogue_2 after = record { event = Event.new_dialogue; answer = Answer.new_dialogue 2; after = after }
+
+-- A moment one past the limit is refused (own).
+abbrev pub late_moment : World → Step
+late_moment after =
+    record { event = Event.moment 4611686018427387905; answer = Answer.refused Fault.moment_too_late; after = after }
 
 -- Two dialogues with an Invoke each, whose deadlines pass at one moment; a moment above the limit is
 -- refused, and one below the clock does nothing (Q.774, Invocation timer; the limit is own).
 abbrev pub two_dialogues : Walk
 two_dialogues = walk (
-    new_dialogue_1 (engine_with 0 1 (dialogue_1 State.fresh None [] [] ∷ []))
-    ∷ record { event = Event.new_dialogue; answer = Answer.new_dialogue 2; after = engine_of_two 0 1 (dialogue_1 State.fresh None [] [] ∷ dialogue_2 State.fresh [] [] ∷ []) }
+    new_dialogue_1 (engine_with 0 1 (first_fresh ∷ []))
+    ∷ new_dialogue_2 (engine_of_two 0 1 (first_fresh ∷ second_fresh ∷ []))
     ∷ request_step (invoke_request (pos 1) 10 20) (Answer.number 1)
-    (engine_of_two 0 2 (dialogue_1 State.fresh None (invoke_queued invoke_1 1 ∷ []) (class_one_row (pos 1) 1 (Queued 20) ∷ []) ∷ dialogue_2 State.fresh [] [] ∷ []))
+    (engine_of_two 0 2 (first_queued ∷ second_fresh ∷ []))
     ∷ request_step (asks.begin None []) (Answer.outputs (Output.send first_begun ∷ []))
-    (engine_of_two 0 2 (first_sent ∷ dialogue_2 State.fresh [] [] ∷ []))
+    (engine_of_two 0 2 (first_sent ∷ second_fresh ∷ []))
     ∷ request_on_2 (invoke_request (pos 1) 10 10) (Answer.number 2)
-    (engine_of_two 0 3 (first_sent ∷ dialogue_2 State.fresh (invoke_queued invoke_1 2 ∷ []) (class_one_row (pos 1) 2 (Queued 10) ∷ []) ∷ []))
+    (engine_of_two 0 3 (first_sent ∷ second_queued ∷ []))
     ∷ request_on_2 (asks.begin None []) (Answer.outputs (Output.send second_begun ∷ [])) both_sent
-    ∷ record { event = Event.moment 4611686018427387905; answer = Answer.refused Fault.moment_too_late; after = both_sent }
+    ∷ late_moment both_sent
     ∷ moment_step 20 both_lapsed none_left
     ∷ moment_step 5 [] none_left
     ∷ [])

@@ -1,10 +1,12 @@
 -- Moves of an engine with one rule turned, and where each of them shows.
 use Rattle.std.specs.Prelude.{◌≡◌, ◌+◌, Bool, true, false, [], ◌∷◌, flat_map, is_some, map, None, Option, Some}
-use Rattle.tcap_examples.specs.Histories.EngineWalks.{begun_engine, both_lapsed, both_sent, end_to_1, full_abort, full_engine, none_left, peer_begins}
+use Rattle.tcap_examples.specs.Histories.EngineWalks.{begun_engine, both_lapsed, both_sent, end_to_1, full_abort}
+use Rattle.tcap_examples.specs.Histories.EngineWalks.{full_engine, none_left, peer_begins}
 use Rattle.tcap_model.specs.Procedures.Reception.{Reception, reception}
 use Rattle.tcap_model.specs.Table.Dialogue.{Dialogue}
 use Rattle.tcap_model.specs.Table.DueLapses.{all_told, at_moment, due_in, due_key, due_told}
-use Rattle.tcap_model.specs.Table.EngineMove.{EngineMoved, advanced, birth_fault_in, dialogue_in, engine_move, is_live_in, received_in}
+use Rattle.tcap_model.specs.Table.EngineMove.{EngineMoved, advanced, birth_fault_in, dialogue_in, engine_move}
+use Rattle.tcap_model.specs.Table.EngineMove.{is_live_in, received_in}
 use Rattle.tcap_model.specs.Table.World.{World}
 use Rattle.tcap_model.specs.Words.Answer.{Answer}
 use Rattle.tcap_model.specs.Words.Event.{Event}
@@ -43,24 +45,29 @@ abbrev pub freed_first : Move
 freed_first w Event.new_dialogue = engine_move w Event.new_dialogue
 freed_first w (Event.on_dialogue identifier request) = engine_move w (Event.on_dialogue identifier request)
 freed_first w (Event.received bytes) = engine_move w (Event.received bytes)
-freed_first w (Event.moment now) = record (advanced w now) { answer = Answer.outputs (all_told now (map (at_moment now) w.dialogues)) }
+freed_first w (Event.moment now) =
+    record (advanced w now) { answer = Answer.outputs (all_told now (map (at_moment now) w.dialogues)) }
 
 -- ---- an identifier that is drawn at the limit
 
--- Whether a Begin is aborted, an identifier is drawn (own).
+-- Bytes that are aborted draw an identifier, as an accepted Begin does (own).
 abbrev pub drawn_for : World → Reception → EngineMoved
-drawn_for w (Reception.aborted abort) = received_in (record w { next_dialogue = w.next_dialogue + 1 }) (Reception.aborted abort)
+drawn_for w (Reception.aborted abort) =
+    received_in (record w { next_dialogue = w.next_dialogue + 1 }) (Reception.aborted abort)
 drawn_for w (Reception.dropped why) = received_in w (Reception.dropped why)
-drawn_for w (Reception.unidirectional context info components) = received_in w (Reception.unidirectional context info components)
-drawn_for w (Reception.begun origin context info components) = received_in w (Reception.begun origin context info components)
+drawn_for w (Reception.unidirectional context info components) =
+    received_in w (Reception.unidirectional context info components)
+drawn_for w (Reception.begun origin context info components) =
+    received_in w (Reception.begun origin context info components)
 drawn_for w (Reception.taken identifier message) = received_in w (Reception.taken identifier message)
 drawn_for w (Reception.broken identifier abort cause) = received_in w (Reception.broken identifier abort cause)
 
--- An engine that draws one for each Begin, accepted or aborted (own).
+-- An engine that draws one for each Begin, be it accepted or aborted (own).
 abbrev pub drawing_early : Move
 drawing_early w Event.new_dialogue = engine_move w Event.new_dialogue
 drawing_early w (Event.on_dialogue identifier request) = engine_move w (Event.on_dialogue identifier request)
-drawing_early w (Event.received bytes) = drawn_for w (reception (is_live_in w.dialogues) (is_some (birth_fault_in w)) bytes)
+drawing_early w (Event.received bytes) =
+    drawn_for w (reception (is_live_in w.dialogues) (is_some (birth_fault_in w)) bytes)
 drawing_early w (Event.moment now) = engine_move w (Event.moment now)
 
 -- A Begin at the limit is aborted, and the engine is as it was (own).
@@ -86,7 +93,8 @@ abbrev pub hearing_early : Move
 hearing_early w Event.new_dialogue = engine_move w Event.new_dialogue
 hearing_early w (Event.on_dialogue identifier request) = engine_move w (Event.on_dialogue identifier request)
 hearing_early w (Event.received bytes) =
-    received_in w (reception (λ identifier. has_peer_if_any (dialogue_in identifier w.dialogues)) (is_some (birth_fault_in w)) bytes)
+    received_in w (reception (λ identifier. has_peer_if_any (dialogue_in identifier w.dialogues))
+    (is_some (birth_fault_in w)) bytes)
 hearing_early w (Event.moment now) = engine_move w (Event.moment now)
 
 -- An End to a dialogue in Initiation Received is dropped, and the dialogue stands (own).

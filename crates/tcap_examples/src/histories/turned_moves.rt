@@ -1,7 +1,8 @@
 //! Moves with one rule turned: each shows at an event where the engine's move is the stated one.
 #![tactic(auto, using(crate::proofs::TurnedMovesApart::turned_moves_shown))]
 
-ghost use Rattle.tcap_examples.specs.Wrong.TurnedMoves.{ByDialogueShows, FreedFirstShows, DrawingEarlyShows, HearingEarlyShows};
+ghost use Rattle.tcap_examples.specs.Wrong.TurnedMoves.{ByDialogueShows, FreedFirstShows, DrawingEarlyShows};
+ghost use Rattle.tcap_examples.specs.Wrong.TurnedMoves.{HearingEarlyShows};
 
 /// Lapses that are told dialogue by dialogue.
 pub fn lapses_by_dialogue()

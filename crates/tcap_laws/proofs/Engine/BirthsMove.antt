@@ -22,11 +22,14 @@ module _ (h : History) (legal : IsLegal h) where
   asked_by (Some fault) e =
       let answered : birth_answer h (birth_due h) ≡ Answer.refused fault = ap (birth_answer h) e in
       moved-made h Event.new_dialogue (Answer.refused fault) (world_of h) (sym answered)
-      (world-stays h Event.new_dialogue (ap (born_of Event.new_dialogue) answered) refl refl (λ i d there. unnamed-stays h i d Event.new_dialogue legal there refl))
+      (world-stays h Event.new_dialogue (ap (born_of Event.new_dialogue) answered) refl refl
+      (λ i d there. unnamed-stays h i d Event.new_dialogue legal there refl))
   asked_by None e =
       let answered : birth_answer h (birth_due h) ≡ Answer.new_dialogue (next_dialogue h) = ap (birth_answer h) e in
-      moved-made h Event.new_dialogue (Answer.new_dialogue (next_dialogue h)) (asked_in (world_of h) None).after (sym answered)
-      (world-born h Event.new_dialogue legal (ap (born_of Event.new_dialogue) answered) (fresh_dialogue (next_dialogue h) h.start.reject_ms) refl refl
+      moved-made h Event.new_dialogue (Answer.new_dialogue (next_dialogue h)) (asked_in (world_of h) None).after
+      (sym answered)
+      (world-born h Event.new_dialogue legal (ap (born_of Event.new_dialogue) answered)
+      (fresh_dialogue (next_dialogue h) h.start.reject_ms) refl refl
       (fresh-born h legal e) (λ i d there. unnamed-stays h i d Event.new_dialogue legal there refl))
 
   pub births-move : asked_in (world_of h) (birth_fault_in (world_of h)) ≡ moved_at h Event.new_dialogue

@@ -1,5 +1,6 @@
 -- Received bytes move the engine as the history says.
-use Rattle.std.proofs.Common.{◌≡◌, ℕ, Bool, true, false, nat_eq, List, [], ◌∷◌, is_some, option_to_list, Option, Some, None, Result, Ok, Err, refl, sym, ap, subst, ◌∙◌}
+use Rattle.std.proofs.Common.{◌≡◌, ℕ, Bool, true, false, nat_eq, List, [], ◌∷◌, is_some, option_to_list, Option, Some}
+use Rattle.std.proofs.Common.{None, Result, Ok, Err, refl, sym, ap, subst, ◌∙◌}
 use Rattle.std.proofs.lemmas.Bool.{eq-eqb, true≢false}
 use Rattle.tcap_component.specs.ComponentReading.{components_of}
 use Rattle.tcap_laws.proofs.Births.BirthReplies.{none-begun, told-begun, sends-begun, if_sends-begun, taken-begun}
@@ -7,7 +8,8 @@ use Rattle.tcap_laws.proofs.Engine.DialoguesFound.{looked-up, live-alike, births
 use Rattle.tcap_laws.proofs.Engine.ReceptionsAlike.{reception-alike}
 use Rattle.tcap_laws.proofs.Engine.RequestsMove.{dialogue-moves}
 use Rattle.tcap_laws.proofs.Engine.StayingDialogues.{deaf-stays}
-use Rattle.tcap_laws.proofs.Engine.WorldAfter.{here, before, later, each-stays, moved-made, none-born, next-kept, dialogues-kept, world-stays, world-born}
+use Rattle.tcap_laws.proofs.Engine.WorldAfter.{here, before, later, each-stays, moved-made, none-born, next-kept}
+use Rattle.tcap_laws.proofs.Engine.WorldAfter.{dialogues-kept, world-stays, world-born}
 use Rattle.tcap_laws.proofs.Receptions.NamedReceptions.{IsNamed, named-taken, named-broken, reception-named}
 use Rattle.tcap_laws.proofs.Receptions.SoundReceptions.{IsSound, reception-sound}
 use Rattle.tcap_laws.proofs.Receptions.ToldOutputKinds.{uni-told, ended-told}
@@ -52,28 +54,37 @@ reaches (Reception.broken dialogue abort cause) = Some dialogue
 module _ (h : History) (legal : IsLegal h) where
   -- ---- what a dialogue that takes a message answers
 
-  nothing_taken : (dialogue : ℕ) (l : Life) (portion : Option (List ℕ)) (components : List ℕ) → taken_outputs dialogue h.pairs l (Message.unidirectional portion components) ≡ []
+  nothing_taken : (dialogue : ℕ) (l : Life) (portion : Option (List ℕ)) (components : List ℕ)
+      → taken_outputs dialogue h.pairs l (Message.unidirectional portion components) ≡ []
   nothing_taken dialogue Life.unborn portion components = refl
   nothing_taken dialogue (Life.standing state context) portion components = refl
   nothing_taken dialogue Life.over portion components = refl
 
-  nothing_begun : (dialogue : ℕ) (l : Life) (origin : List ℕ) (portion : Option (List ℕ)) (components : List ℕ) → taken_outputs dialogue h.pairs l (Message.begin origin portion components) ≡ []
+  nothing_begun : (dialogue : ℕ) (l : Life) (origin : List ℕ) (portion : Option (List ℕ)) (components : List ℕ)
+      → taken_outputs dialogue h.pairs l (Message.begin origin portion components) ≡ []
   nothing_begun dialogue Life.unborn origin portion components = refl
   nothing_begun dialogue (Life.standing state context) origin portion components = refl
   nothing_begun dialogue Life.over origin portion components = refl
 
-  message_answers : (dialogue : ℕ) (d : Dialogue) (m : Message) → dialogue_by h.start.reject_ms dialogue h.pairs (life dialogue h.pairs) ≡ Some d
-      → (table_move (setting_at h) d (DialogueEvent.frame m)).answer ≡ Answer.outputs (taken_outputs dialogue h.pairs (life dialogue h.pairs) m)
+  message_answers : (dialogue : ℕ) (d : Dialogue) (m : Message)
+      → dialogue_by h.start.reject_ms dialogue h.pairs (life dialogue h.pairs) ≡ Some d
+      → (table_move (setting_at h) d (DialogueEvent.frame m)).answer ≡ Answer.outputs
+      (taken_outputs dialogue h.pairs (life dialogue h.pairs) m)
   unfolding table_move
-  message_answers dialogue d (Message.unidirectional portion components) e = ap Answer.outputs (sym (nothing_taken dialogue (life dialogue h.pairs) portion components))
-  message_answers dialogue d (Message.begin origin portion components) e = ap Answer.outputs (sym (nothing_begun dialogue (life dialogue h.pairs) origin portion components))
-  message_answers dialogue d (Message.go_on origin to portion components) e = continue-agrees h dialogue legal d origin to portion components e
-  message_answers dialogue d (Message.end to portion components) e = end-answered h dialogue legal d to portion components e
+  message_answers dialogue d (Message.unidirectional portion components) e =
+      ap Answer.outputs (sym (nothing_taken dialogue (life dialogue h.pairs) portion components))
+  message_answers dialogue d (Message.begin origin portion components) e =
+      ap Answer.outputs (sym (nothing_begun dialogue (life dialogue h.pairs) origin portion components))
+  message_answers dialogue d (Message.go_on origin to portion components) e =
+      continue-agrees h dialogue legal d origin to portion components e
+  message_answers dialogue d (Message.end to portion components) e =
+      end-answered h dialogue legal d to portion components e
   message_answers dialogue d (Message.abort to reason) e = abort-agrees h dialogue legal d to reason e
 
   -- ---- the dialogues that are live
 
-  stands : (i : ℕ) (l : Life) → live_in l ≡ true → (d : Dialogue) × (dialogue_by h.start.reject_ms i h.pairs l ≡ Some d) × (is_live d.standing.state ≡ true)
+  stands : (i : ℕ) (l : Life) → live_in l ≡ true → (d : Dialogue)
+      × (dialogue_by h.start.reject_ms i h.pairs l ≡ Some d) × (is_live d.standing.state ≡ true)
   stands i Life.unborn e = absurd (true≢false (sym e))
   stands i (Life.standing state context) e = (standing_dialogue h i state context, refl, e)
   stands i Life.over e = absurd (true≢false (sym e))
@@ -111,11 +122,15 @@ module _ (h : History) (legal : IsLegal h) where
           go true p false q = deaf-stays h i d bytes legal there p q
           go true p true q = absurd (apart (sym (ap reaches e) ∙ reached i p (alive ∙ q)))
 
-      others : born_by (here h event) ≡ None → (dialogue : ℕ) → reaches r ≡ Some dialogue → (i : ℕ) → nat_eq dialogue i ≡ false → later h event i ≡ before h event i
-      others none dialogue reach i other = each-stays h event i (none-born h event none i) (λ x there. stays i x there apart)
+      others : born_by (here h event) ≡ None → (dialogue : ℕ) → reaches r ≡ Some dialogue → (i : ℕ)
+          → nat_eq dialogue i ≡ false → later h event i ≡ before h event i
+      others none dialogue reach i other =
+          each-stays h event i (none-born h event none i) (λ x there. stays i x there apart)
         where
           apart : reaches r ≡ Some i → ⊥
-          apart same = let is : dialogue ≡ i = inside dialogue i (sym reach ∙ same) in true≢false (sym (eq-eqb dialogue i is) ∙ other)
+          apart same =
+              let is : dialogue ≡ i = inside dialogue i (sym reach ∙ same) in true≢false
+              (sym (eq-eqb dialogue i is) ∙ other)
             where
               inside : (x y : ℕ) → Some x ≡ Some y → x ≡ y
               inside x y q = cc
@@ -129,61 +144,81 @@ module _ (h : History) (legal : IsLegal h) where
           (λ i d there. stays i d there (λ some. let never : None ≡ Some i = sym none ∙ some in absurd cc)))
 
     -- a message that a dialogue takes
-    taken_moves : (dialogue : ℕ) (m : Message) → reception live full bytes ≡ Reception.taken dialogue m → received_in (world_of h) (Reception.taken dialogue m) ≡ moved_at h event
+    taken_moves : (dialogue : ℕ) (m : Message) → reception live full bytes ≡ Reception.taken dialogue m
+        → received_in (world_of h) (Reception.taken dialogue m) ≡ moved_at h event
     taken_moves dialogue m e =
-        let reached_it : IsNamed live bytes (Reception.taken dialogue m) = subst (λ (z : Reception). IsNamed live bytes z) e (reception-named live full bytes) in
+        let reached_it : IsNamed live bytes (Reception.taken dialogue m) =
+        subst (λ (z : Reception). IsNamed live bytes z) e (reception-named live full bytes) in
         let it = stands dialogue (life dialogue h.pairs) reached_it.1 in
-        let none : born_by (here h event) ≡ None = ap (born_of event) (answered (Reception.taken dialogue m) e) ∙ taken-begun dialogue h.pairs (life dialogue h.pairs) m in
+        let none : born_by (here h event) ≡ None =
+        ap (born_of event) (answered (Reception.taken dialogue m) e)
+        ∙ taken-begun dialogue h.pairs (life dialogue h.pairs) m in
         ap (reached_in (world_of h) dialogue None (DialogueEvent.frame m)) (looked-up h legal dialogue (Some it.0) it.1)
-        ∙ dialogue-moves h event dialogue it.0 it.1 (aborting None (table_move (setting_at h) it.0 (DialogueEvent.frame m)))
+        ∙ dialogue-moves h event dialogue it.0 it.1
+        (aborting None (table_move (setting_at h) it.0 (DialogueEvent.frame m)))
         (ap (told_first []) (message_answers dialogue it.0 m it.1) ∙ sym (answered (Reception.taken dialogue m) e))
         (next-kept h event none) refl (dialogues-kept h event none)
         (taken-moves h dialogue it.0 bytes m legal it.1 reached_it.0 it.2 reached_it.2)
         (others (Reception.taken dialogue m) e none dialogue refl)
 
     -- a faulty message that ends a dialogue
-    broken_moves : (dialogue : ℕ) (abort : Option Output) (cause : ℕ) → reception live full bytes ≡ Reception.broken dialogue abort cause
+    broken_moves : (dialogue : ℕ) (abort : Option Output) (cause : ℕ)
+        → reception live full bytes ≡ Reception.broken dialogue abort cause
         → received_in (world_of h) (Reception.broken dialogue abort cause) ≡ moved_at h event
     broken_moves dialogue abort cause e =
-        let reached_it : IsNamed live bytes (Reception.broken dialogue abort cause) = subst (λ (z : Reception). IsNamed live bytes z) e (reception-named live full bytes) in
-        let sound : IsSound full bytes (Reception.broken dialogue abort cause) = subst (λ (z : Reception). IsSound full bytes z) e (reception-sound live full bytes) in
+        let reached_it : IsNamed live bytes (Reception.broken dialogue abort cause) =
+        subst (λ (z : Reception). IsNamed live bytes z) e (reception-named live full bytes) in
+        let sound : IsSound full bytes (Reception.broken dialogue abort cause) =
+        subst (λ (z : Reception). IsSound full bytes z) e (reception-sound live full bytes) in
         let it = stands dialogue (life dialogue h.pairs) reached_it.1 in
         let none : born_by (here h event) ≡ None =
         ap (born_of event) (answered (Reception.broken dialogue abort cause) e)
-        ∙ if_sends-begun abort (Output.dialogue (DialogueIndication.p_abort dialogue (AbortCause.cause cause)) ∷ ended_in dialogue h.pairs []) sound (told-begun (ended_in dialogue h.pairs []) (ended-told dialogue h.pairs [])) in
-        ap (reached_in (world_of h) dialogue abort (DialogueEvent.fault cause)) (looked-up h legal dialogue (Some it.0) it.1)
-        ∙ dialogue-moves h event dialogue it.0 it.1 (aborting abort (table_move (setting_at h) it.0 (DialogueEvent.fault cause)))
-        (ap (told_first (option_to_list abort)) (fault-agrees h dialogue legal it.0 cause it.1) ∙ sym (answered (Reception.broken dialogue abort cause) e))
+        ∙ if_sends-begun abort (Output.dialogue (DialogueIndication.p_abort dialogue (AbortCause.cause cause))
+        ∷ ended_in dialogue h.pairs []) sound
+        (told-begun (ended_in dialogue h.pairs []) (ended-told dialogue h.pairs [])) in
+        ap (reached_in (world_of h) dialogue abort (DialogueEvent.fault cause))
+        (looked-up h legal dialogue (Some it.0) it.1)
+        ∙ dialogue-moves h event dialogue it.0 it.1
+        (aborting abort (table_move (setting_at h) it.0 (DialogueEvent.fault cause)))
+        (ap (told_first (option_to_list abort)) (fault-agrees h dialogue legal it.0 cause it.1)
+        ∙ sym (answered (Reception.broken dialogue abort cause) e))
         (next-kept h event none) refl (dialogues-kept h event none)
         (broken-moves h dialogue it.0 bytes reached_it.2 cause legal it.1 reached_it.0 it.2 reached_it.3)
         (others (Reception.broken dialogue abort cause) e none dialogue refl)
 
     -- a Begin that is accepted
-    begun_moves : (origin : List ℕ) (context : Option (List ℕ)) (info components : List ℕ) → reception live full bytes ≡ Reception.begun origin context info components
+    begun_moves : (origin : List ℕ) (context : Option (List ℕ)) (info components : List ℕ)
+        → reception live full bytes ≡ Reception.begun origin context info components
         → received_in (world_of h) (Reception.begun origin context info components) ≡ moved_at h event
     begun_moves origin context info components e =
-        let sound : IsSound full bytes (Reception.begun origin context info components) = subst (λ (z : Reception). IsSound full bytes z) e (reception-sound live full bytes) in
+        let sound : IsSound full bytes (Reception.begun origin context info components) =
+        subst (λ (z : Reception). IsSound full bytes z) e (reception-sound live full bytes) in
         let m : Moved = born (setting_at h) (next_dialogue h) h.start.reject_ms origin context info components in
         moved-made h event m.answer (received_in (world_of h) (Reception.begun origin context info components)).after
         (begun-answered h legal bytes origin context info components e)
-        (world-born h event legal (ap (born_of event) (answered (Reception.begun origin context info components) e)) m.after refl refl
+        (world-born h event legal (ap (born_of event)
+        (answered (Reception.begun origin context info components) e)) m.after refl refl
         (begun-born h legal bytes origin context info components e sound.0 sound.1)
         (λ i d there. stays (Reception.begun origin context info components) e i d there (λ some. absurd cc)))
 
     by_reception : (r : Reception) → reception live full bytes ≡ r → received_in (world_of h) r ≡ moved_at h event
     by_reception (Reception.dropped why) e = none_moves (Reception.dropped why) e refl refl
     by_reception (Reception.aborted abort) e =
-        let sound : IsSound full bytes (Reception.aborted abort) = subst (λ (z : Reception). IsSound full bytes z) e (reception-sound live full bytes) in
+        let sound : IsSound full bytes (Reception.aborted abort) =
+        subst (λ (z : Reception). IsSound full bytes z) e (reception-sound live full bytes) in
         none_moves (Reception.aborted abort) e refl (none-begun abort [] (sends-begun abort sound) refl)
     by_reception (Reception.unidirectional context info components) e =
-        none_moves (Reception.unidirectional context info components) e refl (told-begun (uni_told (components_of components)) (uni-told (components_of components)))
+        none_moves (Reception.unidirectional context info components) e refl
+        (told-begun (uni_told (components_of components)) (uni-told (components_of components)))
     by_reception (Reception.begun origin context info components) e = begun_moves origin context info components e
     by_reception (Reception.taken dialogue m) e = taken_moves dialogue m e
     by_reception (Reception.broken dialogue abort cause) e = broken_moves dialogue abort cause e
 
-    pub bytes-move : received_in (world_of h) (reception (is_live_in (world_of h).dialogues) (is_some (birth_fault_in (world_of h))) bytes) ≡ moved_at h event
+    pub bytes-move : received_in (world_of h)
+        (reception (is_live_in (world_of h).dialogues) (is_some (birth_fault_in (world_of h))) bytes) ≡ moved_at h event
     bytes-move =
         ap (received_in (world_of h))
-        (reception-alike (is_live_in (world_of h).dialogues) live (live-alike h legal) (is_some (birth_fault_in (world_of h))) bytes
+        (reception-alike (is_live_in (world_of h).dialogues) live (live-alike h legal)
+        (is_some (birth_fault_in (world_of h))) bytes
         ∙ ap (λ f. reception live (is_some f) bytes) (births-alike h))
         ∙ by_reception (reception live full bytes) refl

@@ -1,5 +1,6 @@
 -- Each event moves the engine as the history says, and the clock stays within its limit.
-use Rattle.std.proofs.Common.{◌≡◌, ◌≤◌, ℕ, Bool, true, false, cond, nat_lt, [], ◌∷◌, Option, Some, None, refl, ap, ◌∙◌, arith}
+use Rattle.std.proofs.Common.{◌≡◌, ◌≤◌, ℕ, Bool, true, false, cond, nat_lt, [], ◌∷◌, Option, Some, None, refl, ap, ◌∙◌}
+use Rattle.std.proofs.Common.{arith}
 use Rattle.std.proofs.lemmas.Bool.{ltb-false}
 use Rattle.tcap_invocation.specs.Stage.{moment_limit}
 use Rattle.tcap_laws.proofs.Engine.BirthsMove.{births-move}
@@ -30,10 +31,15 @@ move-is-said h (Event.moment now) legal within = moments-move h legal now
 
 pub moves-alike : EachMovesAlike
 moves-alike h engine event at within =
-    let same : engine_move engine event ≡ moved_at h event = ap (λ (w : World). engine_move w event) at.is_world ∙ move-is-said h event at.is_legal within in
+    let same : engine_move engine event ≡ moved_at h event =
+    ap (λ (w : World). engine_move w event) at.is_world ∙ move-is-said h event at.is_legal within in
     record {
       answers = ap (λ (m : EngineMoved). m.answer) same;
-      stands = record { is_legal = (at.is_legal.0, (within, refl, at.is_legal.1)); is_world = ap (λ (m : EngineMoved). m.after) same };
+      stands =
+          record {
+            is_legal = (at.is_legal.0, (within, refl, at.is_legal.1));
+            is_world = ap (λ (m : EngineMoved). m.after) same;
+          };
     }
 
 -- ---- the clock
@@ -45,7 +51,8 @@ timely now e = go (nat_lt moment_limit now) refl e
     go true q e = absurd cc
     go false q e = ltb-false moment_limit now q
 
-clock_step : (h : History) (event : Event) → clock h.pairs ≤ moment_limit → clock_after (clock h.pairs) event (is_accepted (reply h event)) ≤ moment_limit
+clock_step : (h : History) (event : Event) → clock h.pairs ≤ moment_limit
+    → clock_after (clock h.pairs) event (is_accepted (reply h event)) ≤ moment_limit
 clock_step h Event.new_dialogue within = within
 clock_step h (Event.on_dialogue dialogue request) within = within
 clock_step h (Event.received bytes) within = within
@@ -55,7 +62,8 @@ clock_step h (Event.moment now) within = go (moment_fault now) refl
     accepted low true = omega (arith, low, within)
     accepted low false = within
 
-    go : (f : Option Fault) → moment_fault now ≡ f → clock_after (clock h.pairs) (Event.moment now) (is_accepted (moment_answer h.pairs now f)) ≤ moment_limit
+    go : (f : Option Fault) → moment_fault now ≡ f
+        → clock_after (clock h.pairs) (Event.moment now) (is_accepted (moment_answer h.pairs now f)) ≤ moment_limit
     go (Some fault) e = within
     go None e = accepted (timely now e) (is_accepted (moment_answer h.pairs now None))
 

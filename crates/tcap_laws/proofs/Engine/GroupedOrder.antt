@@ -31,10 +31,12 @@ module _ {X : Type 0} (key : X → List ℕ) where
 
   module _ (x y : X) (apart : key x ≡ key y → ⊥) where
     -- of two with different keys one comes first
-    one_first : (zs : List X) → cond (is_before y x) (y ∷ x ∷ zs) (x ∷ y ∷ zs) ≡ cond (is_before x y) (x ∷ y ∷ zs) (y ∷ x ∷ zs)
+    one_first : (zs : List X) → cond (is_before y x) (y ∷ x ∷ zs) (x ∷ y ∷ zs) ≡ cond (is_before x y) (x ∷ y ∷ zs)
+        (y ∷ x ∷ zs)
     one_first zs = go (is_before y x) (is_before x y) refl refl
       where
-        go : (a b : Bool) → is_before y x ≡ a → is_before x y ≡ b → cond a (y ∷ x ∷ zs) (x ∷ y ∷ zs) ≡ cond b (x ∷ y ∷ zs) (y ∷ x ∷ zs)
+        go : (a b : Bool) → is_before y x ≡ a → is_before x y ≡ b
+            → cond a (y ∷ x ∷ zs) (x ∷ y ∷ zs) ≡ cond b (x ∷ y ∷ zs) (y ∷ x ∷ zs)
         go true true p q = absurd (true≢false (sym q ∙ asym (key x) (key y) p))
         go true false p q = refl
         go false true p q = refl
@@ -77,7 +79,8 @@ module _ {X : Type 0} (key : X → List ℕ) where
     group d xs = filter (λ x. owner x == d) xs
 
     -- one of another group is put past a group
-    past_group : (x : X) (d : ℕ) → (owner x == d) ≡ false → (ys more rest : List X) → in_order key more ≡ put key x (in_order key rest)
+    past_group : (x : X) (d : ℕ) → (owner x == d) ≡ false → (ys more rest : List X)
+        → in_order key more ≡ put key x (in_order key rest)
         → in_order key (group d ys ++ more) ≡ put key x (in_order key (group d ys ++ rest))
     past_group x d e [] more rest ih = ih
     past_group x d e (y ∷ ys) more rest ih = go (owner y == d) refl (past_group x d e ys more rest ih)
@@ -85,8 +88,10 @@ module _ {X : Type 0} (key : X → List ℕ) where
         other : (owner y == d) ≡ true → owner y ≡ owner x → ⊥
         other q same = true≢false (sym q ∙ (ap (λ n. n == d) same ∙ e))
 
-        go : (b : Bool) → (owner y == d) ≡ b → in_order key (group d ys ++ more) ≡ put key x (in_order key (group d ys ++ rest))
-            → in_order key (cond b (y ∷ group d ys) (group d ys) ++ more) ≡ put key x (in_order key (cond b (y ∷ group d ys) (group d ys) ++ rest))
+        go : (b : Bool) → (owner y == d) ≡ b
+            → in_order key (group d ys ++ more) ≡ put key x (in_order key (group d ys ++ rest))
+            → in_order key (cond b (y ∷ group d ys) (group d ys) ++ more) ≡ put key x
+            (in_order key (cond b (y ∷ group d ys) (group d ys) ++ rest))
         go true q h = ap (put key y) h ∙ put-commute y x (apart y x (other q)) (in_order key (group d ys ++ rest))
         go false q h = h
 
@@ -96,14 +101,18 @@ module _ {X : Type 0} (key : X → List ℕ) where
 
     below_all : (x : X) (xs : List X) (a n : ℕ) → owner x < a → grouped a n (x ∷ xs) ≡ grouped a n xs
     below_all x xs a zero lt = refl
-    below_all x xs a (suc n) lt = ap (λ b. cond b (x ∷ group a xs) (group a xs) ++ grouped (a + 1) n (x ∷ xs)) not_here ∙ ap (λ z. group a xs ++ z) (below_all x xs (a + 1) n (omega (arith, lt)))
+    below_all x xs a (suc n) lt =
+        ap (λ b. cond b (x ∷ group a xs) (group a xs) ++ grouped (a + 1) n (x ∷ xs)) not_here
+        ∙ ap (λ z. group a xs ++ z) (below_all x xs (a + 1) n (omega (arith, lt)))
       where
         not_here : (owner x == a) ≡ false
         not_here = grind (arith, nat_tests)
 
-    put_grouped : (x : X) (xs : List X) (a n : ℕ) → a ≤ owner x → owner x < a + n → in_order key (grouped a n (x ∷ xs)) ≡ put key x (in_order key (grouped a n xs))
+    put_grouped : (x : X) (xs : List X) (a n : ℕ) → a ≤ owner x → owner x < a + n
+        → in_order key (grouped a n (x ∷ xs)) ≡ put key x (in_order key (grouped a n xs))
     put_grouped x xs a zero low high = absurd (omega (arith, low, high))
-    put_grouped x xs a (suc n) low high = go (owner x == a) refl (λ above. put_grouped x xs (a + 1) n above (omega (arith, high)))
+    put_grouped x xs a (suc n) low high =
+        go (owner x == a) refl (λ above. put_grouped x xs (a + 1) n above (omega (arith, high)))
       where
         here : (owner x == a) ≡ true → owner x < a + 1
         here q = grind (arith, nat_tests)
@@ -111,8 +120,11 @@ module _ {X : Type 0} (key : X → List ℕ) where
         later : (owner x == a) ≡ false → a + 1 ≤ owner x
         later q = grind (arith, nat_tests)
 
-        go : (b : Bool) → (owner x == a) ≡ b → (a + 1 ≤ owner x → in_order key (grouped (a + 1) n (x ∷ xs)) ≡ put key x (in_order key (grouped (a + 1) n xs)))
-            → in_order key (cond b (x ∷ group a xs) (group a xs) ++ grouped (a + 1) n (x ∷ xs)) ≡ put key x (in_order key (group a xs ++ grouped (a + 1) n xs))
+        go : (b : Bool) → (owner x == a) ≡ b
+            → (a + 1 ≤ owner x → in_order key (grouped (a + 1) n (x ∷ xs)) ≡ put key x
+            (in_order key (grouped (a + 1) n xs)))
+            → in_order key (cond b (x ∷ group a xs) (group a xs) ++ grouped (a + 1) n (x ∷ xs)) ≡ put key x
+            (in_order key (group a xs ++ grouped (a + 1) n xs))
         go true q ih = ap (λ z. put key x (in_order key (group a xs ++ z))) (below_all x xs (a + 1) n (here q))
         go false q ih = past_group x a q xs (grouped (a + 1) n (x ∷ xs)) (grouped (a + 1) n xs) (ih (later q))
 
@@ -121,6 +133,8 @@ module _ {X : Type 0} (key : X → List ℕ) where
     none_grouped a (suc n) = none_grouped (a + 1) n
 
     -- the order of the joined groups is that of all
-    pub grouped-in_order : (xs : List X) (a n : ℕ) → AllByRecursion (λ x. (a ≤ owner x) × (owner x < a + n)) xs → in_order key (grouped a n xs) ≡ in_order key xs
+    pub grouped-in_order : (xs : List X) (a n : ℕ) → AllByRecursion (λ x. (a ≤ owner x) × (owner x < a + n)) xs
+        → in_order key (grouped a n xs) ≡ in_order key xs
     grouped-in_order [] a n all = ap (in_order key) (none_grouped a n)
-    grouped-in_order (x ∷ xs) a n all = put_grouped x xs a n all.0.0 all.0.1 ∙ ap (put key x) (grouped-in_order xs a n all.1)
+    grouped-in_order (x ∷ xs) a n all =
+        put_grouped x xs a n all.0.0 all.0.1 ∙ ap (put key x) (grouped-in_order xs a n all.1)

@@ -1,5 +1,6 @@
 -- What the dialogues tell at a moment, in order, are the lapses of the history.
-use Rattle.std.proofs.Common.{◌≡◌, ◌≢◌, ◌≤◌, ◌<◌, ℕ, ◌+◌, ◌==◌, ◌&&◌, Bool, true, false, cond, nat_le, List, [], ◌∷◌, ◌++◌, map, get_or, Contains, refl, sym, ap, ◌∙◌, arith}
+use Rattle.std.proofs.Common.{◌≡◌, ◌≢◌, ◌≤◌, ◌<◌, ℕ, ◌+◌, ◌==◌, ◌&&◌, Bool, true, false, cond, nat_le, List, [], ◌∷◌}
+use Rattle.std.proofs.Common.{◌++◌, map, get_or, Contains, refl, sym, ap, ◌∙◌, arith}
 use Rattle.std.proofs.Common.{Option, Some, None}
 use Rattle.std.proofs.lemmas.Bool.{eqb-true, true≢false}
 use Rattle.std.proofs.lemmas.List.FromFn.{length-range_with_len, get_or-range_with_len}
@@ -28,12 +29,14 @@ use Rattle.tcap_model.specs.Words.KeyOrder.{comes_before, put, in_order}
 
 -- ---- lists
 
-each_made : {X Y : Type 0} (P : X → Type 0) (Q : Y → Type 0) (f : X → Option Y) → ((x : X) (y : Y) → P x → f x ≡ Some y → Q y)
+each_made : {X Y : Type 0} (P : X → Type 0) (Q : Y → Type 0) (f : X → Option Y)
+    → ((x : X) (y : Y) → P x → f x ≡ Some y → Q y)
     → (xs : List X) → AllByRecursion P xs → AllByRecursion Q (filter_map f xs)
 each_made P Q f step [] all = tt
 each_made {Y = Y} P Q f step (x ∷ xs) all = go (f x) refl (each_made P Q f step xs all.1)
   where
-    go : (o : Option Y) → f x ≡ o → AllByRecursion Q (filter_map f xs) → AllByRecursion Q (cons_option o (filter_map f xs))
+    go : (o : Option Y) → f x ≡ o → AllByRecursion Q (filter_map f xs)
+        → AllByRecursion Q (cons_option o (filter_map f xs))
     go None e rest = rest
     go (Some y) e rest = (step x y all.0 e, rest)
 
@@ -51,7 +54,8 @@ put_made x [] = refl
 put_made x (y ∷ ys) = go (comes_before (lapse_key y) (lapse_key x)) (put_made x ys)
   where
     go : (b : Bool) → put due_key (due_of x) (map due_of ys) ≡ map due_of (put lapse_key x ys)
-        → cond b (due_of y ∷ put due_key (due_of x) (map due_of ys)) (due_of x ∷ due_of y ∷ map due_of ys) ≡ map due_of (cond b (y ∷ put lapse_key x ys) (x ∷ y ∷ ys))
+        → cond b (due_of y ∷ put due_key (due_of x) (map due_of ys)) (due_of x ∷ due_of y ∷ map due_of ys)
+        ≡ map due_of (cond b (y ∷ put lapse_key x ys) (x ∷ y ∷ ys))
     go true ih = ap (λ z. due_of y ∷ z) ih
     go false ih = refl
 
@@ -74,12 +78,15 @@ module _ (start : Start) (past : Past) (legal : AreReplies start past) (now : �
   abbrev of_dialogue : ℕ → List DueLapse
   of_dialogue d = filter (λ x. x.dialogue == d) dues
 
-  dues_are : (is : List Invocation) → filter_map (due_by_marks past now) is ≡ map due_of (filter_map (lapsing_at past now) is)
+  dues_are : (is : List Invocation) → filter_map (due_by_marks past now) is ≡ map due_of
+      (filter_map (lapsing_at past now) is)
   dues_are [] = refl
   dues_are (i ∷ is) = go (lapsing_at past now i) (dues_are is)
     where
-      go : (o : Option Lapsing) → filter_map (due_by_marks past now) is ≡ map due_of (filter_map (lapsing_at past now) is)
-          → cons_option (option_map due_of o) (filter_map (due_by_marks past now) is) ≡ map due_of (cons_option o (filter_map (lapsing_at past now) is))
+      go : (o : Option Lapsing) → filter_map (due_by_marks past now) is ≡ map due_of
+          (filter_map (lapsing_at past now) is)
+          → cons_option (option_map due_of o) (filter_map (due_by_marks past now) is) ≡ map due_of
+          (cons_option o (filter_map (lapsing_at past now) is))
       go None e = e
       go (Some l) e = ap (λ z. due_of l ∷ z) e
 
@@ -91,7 +98,8 @@ module _ (start : Start) (past : Past) (legal : AreReplies start past) (now : �
 
   -- ---- one dialogue
 
-  there_are : (d : ℕ) (is : List Invocation) → filter_map (due_there past now d) is ≡ filter (λ x. x.dialogue == d) (filter_map (due_by_marks past now) is)
+  there_are : (d : ℕ) (is : List Invocation)
+      → filter_map (due_there past now d) is ≡ filter (λ x. x.dialogue == d) (filter_map (due_by_marks past now) is)
   there_are d [] = refl
   there_are d (i ∷ is) = go (is_sent_in i.class i.timeout (span i past)) (deadline i past) (there_are d is)
     where
@@ -101,18 +109,22 @@ module _ (start : Start) (past : Past) (legal : AreReplies start past) (now : �
       all : List DueLapse
       all = filter_map (due_by_marks past now) is
 
-      none : (b : Bool) → some ≡ filter (λ x. x.dialogue == d) all → cons_option (cond b None None) some ≡ filter (λ x. x.dialogue == d) all
+      none : (b : Bool) → some ≡ filter (λ x. x.dialogue == d) all
+          → cons_option (cond b None None) some ≡ filter (λ x. x.dialogue == d) all
       none true e = e
       none false e = e
 
       here : (l : DueLapse) (b : Bool) → some ≡ filter (λ x. x.dialogue == d) all
-          → cons_option (cond b (Some l) None) some ≡ cond b (l ∷ filter (λ x. x.dialogue == d) all) (filter (λ x. x.dialogue == d) all)
+          → cons_option (cond b (Some l) None) some ≡ cond b (l ∷ filter (λ x. x.dialogue == d) all)
+          (filter (λ x. x.dialogue == d) all)
       here l true e = ap (λ z. l ∷ z) e
       here l false e = e
 
       one : (t : ℕ) (c : Bool) → some ≡ filter (λ x. x.dialogue == d) all
-          → cons_option (cond (i.dialogue == d) (option_map due_of (cond c (Some (record { deadline = t; invocation = i })) None)) None) some
-          ≡ filter (λ x. x.dialogue == d) (cons_option (option_map due_of (cond c (Some (record { deadline = t; invocation = i })) None)) all)
+          → cons_option (cond (i.dialogue == d)
+          (option_map due_of (cond c (Some (record { deadline = t; invocation = i })) None)) None) some
+          ≡ filter (λ x. x.dialogue == d)
+          (cons_option (option_map due_of (cond c (Some (record { deadline = t; invocation = i })) None)) all)
       one t true e = here (due_of (record { deadline = t; invocation = i })) (i.dialogue == d) e
       one t false e = none (i.dialogue == d) e
 
@@ -125,11 +137,15 @@ module _ (start : Start) (past : Past) (legal : AreReplies start past) (now : �
   none_there : (d : ℕ) → is_standing (life d past) ≡ false → of_dialogue d ≡ []
   none_there d fallen =
       sym (there_are d (invocations past))
-      ∙ (same_kept (IsFound past) (due_there past now d) no_due (λ i found. one i found (i.dialogue == d) refl) (invocations past) (each_found start past legal)
+      ∙ (same_kept (IsFound past) (due_there past now d) no_due (λ i found. one i found (i.dialogue == d) refl)
+      (invocations past) (each_found start past legal)
       ∙ none_made (invocations past))
     where
-      one : (i : Invocation) → IsFound past i → (b : Bool) → (i.dialogue == d) ≡ b → cond b (due_by_marks past now i) None ≡ no_due i
-      one i found true e = fallen_stays start past legal now i found (ap (λ k. is_standing (life k past)) (eqb-true i.dialogue d e) ∙ fallen)
+      one : (i : Invocation) → IsFound past i → (b : Bool) → (i.dialogue == d) ≡ b
+          → cond b (due_by_marks past now i) None ≡ no_due i
+      one i found true e =
+          fallen_stays start past legal now i found
+          (ap (λ k. is_standing (life k past)) (eqb-true i.dialogue d e) ∙ fallen)
       one i found false e = refl
 
   -- ---- all dialogues
@@ -143,31 +159,45 @@ module _ (start : Start) (past : Past) (legal : AreReplies start past) (now : �
         rest = flat_map of_dialogue ids
 
         go : (l : Life) → life d past ≡ l → all_due now (filter_map (dialogue_at reject_ms past) ids) ≡ rest
-            → all_due now (cons_option (dialogue_by reject_ms d past l) (filter_map (dialogue_at reject_ms past) ids)) ≡ of_dialogue d ++ rest
+            → all_due now (cons_option (dialogue_by reject_ms d past l) (filter_map (dialogue_at reject_ms past) ids))
+            ≡ of_dialogue d ++ rest
         go Life.unborn e ih = ih ∙ sym (ap (λ z. z ++ rest) (none_there d (ap is_standing e)))
         go (Life.standing state context) e ih =
-            ap (λ z. z ++ all_due now (filter_map (dialogue_at reject_ms past) ids)) (due-by_rows start past legal now reject_ms d ∙ there_are d (invocations past))
+            ap (λ z. z ++ all_due now (filter_map (dialogue_at reject_ms past) ids))
+            (due-by_rows start past legal now reject_ms d ∙ there_are d (invocations past))
             ∙ ap (λ z. of_dialogue d ++ z) ih
         go Life.over e ih = ih ∙ sym (ap (λ z. z ++ rest) (none_there d (ap is_standing e)))
 
-    within : (i : Invocation) → IsFound past i → (start.next_dialogue ≤ i.dialogue) × (i.dialogue < start.next_dialogue + births past)
+    within : (i : Invocation) → IsFound past i → (start.next_dialogue ≤ i.dialogue)
+        × (i.dialogue < start.next_dialogue + births past)
     within i found =
-        let lives : life i.dialogue past ≢ Life.unborn = λ unborn. true≢false (sym (found_alive start past i.number i legal found) ∙ ap was_alive unborn) in
-        let there : Contains (dialogues past) i.dialogue = was_born-listed i.dialogue past ((was_born-lives start past legal i.dialogue).1 lives) in
-        let drawn : Contains (range_with_len start.next_dialogue (births past)) i.dialogue = rw (dialogues-drawn start past legal) at there in
+        let lives : life i.dialogue past ≢ Life.unborn =
+        λ unborn. true≢false (sym (found_alive start past i.number i legal found) ∙ ap was_alive unborn) in
+        let there : Contains (dialogues past) i.dialogue =
+        was_born-listed i.dialogue past ((was_born-lives start past legal i.dialogue).1 lives) in
+        let drawn : Contains (range_with_len start.next_dialogue (births past)) i.dialogue =
+        rw (dialogues-drawn start past legal) at there in
         let long = length-range_with_len start.next_dialogue (births past) in
         let few = drawn.1 in
         let same = drawn.2 in
-        let is = get_or-range_with_len start.next_dialogue (births past) drawn.0 i.dialogue (omega (arith, long, few)) in
+        let is = get_or-range_with_len start.next_dialogue (births past) drawn.0 i.dialogue
+        (omega (arith, long, few)) in
         (omega (arith, is, same), omega (arith, is, same, long, few))
 
-    each_within : AllByRecursion (λ x. (start.next_dialogue ≤ x.dialogue) × (x.dialogue < start.next_dialogue + births past)) dues
-    each_within = each_made (IsFound past) (λ x. (start.next_dialogue ≤ x.dialogue) × (x.dialogue < start.next_dialogue + births past)) (due_by_marks past now) step (invocations past) (each_found start past legal)
+    each_within : AllByRecursion (λ x. (start.next_dialogue ≤ x.dialogue)
+        × (x.dialogue < start.next_dialogue + births past)) dues
+    each_within =
+        each_made (IsFound past) (λ x. (start.next_dialogue ≤ x.dialogue)
+        × (x.dialogue < start.next_dialogue + births past)) (due_by_marks past now) step (invocations past)
+        (each_found start past legal)
       where
-        step : (i : Invocation) (x : DueLapse) → IsFound past i → due_by_marks past now i ≡ Some x → (start.next_dialogue ≤ x.dialogue) × (x.dialogue < start.next_dialogue + births past)
+        step : (i : Invocation) (x : DueLapse) → IsFound past i → due_by_marks past now i ≡ Some x
+            → (start.next_dialogue ≤ x.dialogue) × (x.dialogue < start.next_dialogue + births past)
         step i x found e = go (is_sent_in i.class i.timeout (span i past)) (deadline i past) e
           where
-            one : (t : ℕ) (c : Bool) → option_map due_of (cond c (Some (record { deadline = t; invocation = i })) None) ≡ Some x → (start.next_dialogue ≤ x.dialogue) × (x.dialogue < start.next_dialogue + births past)
+            one : (t : ℕ) (c : Bool) → option_map due_of
+                (cond c (Some (record { deadline = t; invocation = i })) None) ≡ Some x
+                → (start.next_dialogue ≤ x.dialogue) × (x.dialogue < start.next_dialogue + births past)
             one t true e =
                 let same : due_of (record { deadline = t; invocation = i }) ≡ x = cc in
                 let owner : i.dialogue ≡ x.dialogue = ap (λ (l : DueLapse). l.dialogue) same in
@@ -177,12 +207,15 @@ module _ (start : Start) (past : Past) (legal : AreReplies start past) (now : �
                 (omega (arith, owner, low), omega (arith, owner, high))
             one t false e = absurd cc
 
-            go : (sent : Bool) (o : Option ℕ) → option_map due_of (lapsing_by now sent i o) ≡ Some x → (start.next_dialogue ≤ x.dialogue) × (x.dialogue < start.next_dialogue + births past)
+            go : (sent : Bool) (o : Option ℕ) → option_map due_of (lapsing_by now sent i o) ≡ Some x
+                → (start.next_dialogue ≤ x.dialogue) × (x.dialogue < start.next_dialogue + births past)
             go sent None e = absurd cc
             go sent (Some t) e = one t (sent && nat_le t now) e
 
     pub lapses-alike : all_told now (filter_map (dialogue_at reject_ms past) (dialogues past)) ≡ lapses past now
     lapses-alike =
-        ap (λ z. map due_told (in_order due_key z)) (all_are (dialogues past) ∙ ap (flat_map of_dialogue) (dialogues-drawn start past legal))
-        ∙ (ap (map due_told) (grouped-in_order due_key (λ (x : DueLapse). x.dialogue) apart dues start.next_dialogue (births past) each_within)
+        ap (λ z. map due_told (in_order due_key z))
+        (all_are (dialogues past) ∙ ap (flat_map of_dialogue) (dialogues-drawn start past legal))
+        ∙ (ap (map due_told) (grouped-in_order due_key (λ (x : DueLapse). x.dialogue) apart dues start.next_dialogue
+        (births past) each_within)
         ∙ dues_told)

@@ -1,11 +1,13 @@
 -- A moment moves the engine as the history says.
-use Rattle.std.proofs.Common.{◌≡◌, ℕ, max, Bool, true, false, cond, nat_lt, List, [], ◌∷◌, map, Option, Some, None, filter_map, refl, sym, ap, ◌∙◌, arith}
+use Rattle.std.proofs.Common.{◌≡◌, ℕ, max, Bool, true, false, cond, nat_lt, List, [], ◌∷◌, map, Option, Some, None}
+use Rattle.std.proofs.Common.{filter_map, refl, sym, ap, ◌∙◌, arith}
 use Rattle.std.proofs.lemmas.Bool.{ltb-true, ltb-false}
 use Rattle.std.specs.Prelude.{option_map}
 use Rattle.std.specs.List.{cons_option}
 use Rattle.tcap_laws.proofs.Engine.LapsesAlike.{lapses-alike}
 use Rattle.tcap_laws.proofs.Engine.StayingDialogues.{refused-stays, early-stays}
-use Rattle.tcap_laws.proofs.Engine.WorldAfter.{here, before, later, each-stays, world-made, moved-made, number-kept, next-kept, dialogues-kept, world-stays}
+use Rattle.tcap_laws.proofs.Engine.WorldAfter.{here, before, later, each-stays, world-made, moved-made, number-kept}
+use Rattle.tcap_laws.proofs.Engine.WorldAfter.{next-kept, dialogues-kept, world-stays}
 use Rattle.tcap_laws.proofs.Table.MessagesMovedAlike.{lapsed-moves}
 use Rattle.tcap_model.specs.Histories.Birth.{dialogues, next_dialogue}
 use Rattle.tcap_model.specs.Histories.Clock.{clock, clock_after}
@@ -25,16 +27,20 @@ use Rattle.tcap_model.specs.Words.Event.{Event}
 use Rattle.tcap_model.specs.Words.Fault.{Fault}
 use Rattle.tcap_model.specs.Words.Time.{moment_fault}
 
-each_after : (at after : ℕ → Option Dialogue) (f : Dialogue → Dialogue) → ((i : ℕ) → after i ≡ option_map f (at i)) → (ids : List ℕ) → map f (filter_map at ids) ≡ filter_map after ids
+each_after : (at after : ℕ → Option Dialogue) (f : Dialogue → Dialogue) → ((i : ℕ) → after i ≡ option_map f (at i))
+    → (ids : List ℕ) → map f (filter_map at ids) ≡ filter_map after ids
 each_after at after f same [] = refl
-each_after at after f same (i ∷ ids) = go (at i) (each_after at after f same ids) ∙ sym (ap (λ o. cons_option o (filter_map after ids)) (same i))
+each_after at after f same (i ∷ ids) =
+    go (at i) (each_after at after f same ids) ∙ sym (ap (λ o. cons_option o (filter_map after ids)) (same i))
   where
-    go : (o : Option Dialogue) → map f (filter_map at ids) ≡ filter_map after ids → map f (cons_option o (filter_map at ids)) ≡ cons_option (option_map f o) (filter_map after ids)
+    go : (o : Option Dialogue) → map f (filter_map at ids) ≡ filter_map after ids
+        → map f (cons_option o (filter_map at ids)) ≡ cons_option (option_map f o) (filter_map after ids)
     go None e = e
     go (Some d) e = ap (λ z. f d ∷ z) e
 
 -- what a dialogue does at a moment leaves it so
-lapsed_is : (h : History) (d : Dialogue) (now : ℕ) → left_standing (table_move (setting_at h) d (DialogueEvent.moment now)) ≡ Some (at_moment now d)
+lapsed_is : (h : History) (d : Dialogue) (now : ℕ)
+    → left_standing (table_move (setting_at h) d (DialogueEvent.moment now)) ≡ Some (at_moment now d)
 unfolding table_move
 lapsed_is h d now = refl
 
@@ -43,17 +49,24 @@ module _ (h : History) (legal : IsLegal h) (now : ℕ) where
   event = Event.moment now
 
   -- one above the limit
-  refused_moves : (fault : Fault) → moment_fault now ≡ Some fault → unmoved (world_of h) (Answer.refused fault) ≡ moved_at h event
+  refused_moves : (fault : Fault) → moment_fault now ≡ Some fault
+      → unmoved (world_of h) (Answer.refused fault) ≡ moved_at h event
   refused_moves fault e =
-      let answered : moment_answer h.pairs now (moment_fault now) ≡ Answer.refused fault = ap (moment_answer h.pairs now) e in
+      let answered : moment_answer h.pairs now (moment_fault now) ≡ Answer.refused fault =
+      ap (moment_answer h.pairs now) e in
       moved-made h event (Answer.refused fault) (world_of h) (sym answered)
-      (world-stays h event refl refl (ap (λ a. clock_after (clock h.pairs) event (is_accepted a)) answered) (λ i d there. refused-stays h i d now fault legal there e))
+      (world-stays h event refl refl (ap (λ a. clock_after (clock h.pairs) event (is_accepted a)) answered)
+      (λ i d there. refused-stays h i d now fault legal there e))
 
   module _ (timely : moment_fault now ≡ None) where
-    answer_is : (early : Bool) → nat_lt now (clock h.pairs) ≡ early → reply h event ≡ cond early (Answer.outputs []) (Answer.outputs (lapses h.pairs now))
-    answer_is early e = ap (moment_answer h.pairs now) timely ∙ ap (λ b. cond b (Answer.outputs []) (Answer.outputs (lapses h.pairs now))) e
+    answer_is : (early : Bool) → nat_lt now (clock h.pairs) ≡ early
+        → reply h event ≡ cond early (Answer.outputs []) (Answer.outputs (lapses h.pairs now))
+    answer_is early e =
+        ap (moment_answer h.pairs now) timely
+        ∙ ap (λ b. cond b (Answer.outputs []) (Answer.outputs (lapses h.pairs now))) e
 
-    clock_is : (early : Bool) → nat_lt now (clock h.pairs) ≡ early → clock (here h event ∷ h.pairs) ≡ max (clock h.pairs) now
+    clock_is : (early : Bool) → nat_lt now (clock h.pairs) ≡ early
+        → clock (here h event ∷ h.pairs) ≡ max (clock h.pairs) now
     clock_is true e = ap (λ a. clock_after (clock h.pairs) event (is_accepted a)) (answer_is true e)
     clock_is false e = ap (λ a. clock_after (clock h.pairs) event (is_accepted a)) (answer_is false e)
 
@@ -63,7 +76,8 @@ module _ (h : History) (legal : IsLegal h) (now : ℕ) where
         let early = ltb-true now (clock h.pairs) e in
         let still : max (clock h.pairs) now ≡ clock h.pairs = omega (arith, early) in
         moved-made h event (Answer.outputs []) (world_of h) (sym (answer_is true e))
-        (world-stays h event refl refl (clock_is true e ∙ still) (λ i d there. early-stays h i d now legal there timely early))
+        (world-stays h event refl refl (clock_is true e ∙ still)
+        (λ i d there. early-stays h i d now legal there timely early))
 
     -- any other
     later_is : (i : ℕ) → later h event i ≡ option_map (at_moment now) (before h event i)
@@ -84,7 +98,8 @@ module _ (h : History) (legal : IsLegal h) (now : ℕ) where
         (ap Answer.outputs (lapses-alike h.start h.pairs legal.1 now h.start.reject_ms) ∙ sym (answer_is false e))
         (world-made h event (next_dialogue h) (next_number h) now (map (at_moment now) (world_of h).dialogues)
         (next-kept h event refl) (number-kept h event refl) (clock_is false e ∙ on)
-        (ap (filter_map (later h event)) (dialogues-kept h event refl) ∙ sym (each_after (before h event) (later h event) (at_moment now) later_is (dialogues h.pairs))))
+        (ap (filter_map (later h event)) (dialogues-kept h event refl)
+        ∙ sym (each_after (before h event) (later h event) (at_moment now) later_is (dialogues h.pairs))))
 
   pub moments-move : moment_in (world_of h) now (moment_fault now) ≡ moved_at h event
   moments-move = go (moment_fault now) refl
@@ -93,6 +108,7 @@ module _ (h : History) (legal : IsLegal h) (now : ℕ) where
       go (Some fault) e = refused_moves fault e
       go None e = at (nat_lt now (clock h.pairs)) refl
         where
-          at : (early : Bool) → nat_lt now (clock h.pairs) ≡ early → cond early (unmoved (world_of h) (Answer.outputs [])) (advanced (world_of h) now) ≡ moved_at h event
+          at : (early : Bool) → nat_lt now (clock h.pairs) ≡ early
+              → cond early (unmoved (world_of h) (Answer.outputs [])) (advanced (world_of h) now) ≡ moved_at h event
           at true q = early_moves e q
           at false q = moment_moves e q

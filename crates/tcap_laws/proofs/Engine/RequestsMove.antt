@@ -1,11 +1,13 @@
 -- A request on a dialogue moves the engine as the history says.
-use Rattle.std.proofs.Common.{◌≡◌, ℕ, ◌+◌, Bool, true, false, cond, nat_eq, is_some, Option, Some, None, filter_map, refl, sym, ap, ◌∙◌, arith}
+use Rattle.std.proofs.Common.{◌≡◌, ℕ, ◌+◌, Bool, true, false, cond, nat_eq, is_some, Option, Some, None, filter_map}
+use Rattle.std.proofs.Common.{refl, sym, ap, ◌∙◌, arith}
 use Rattle.std.proofs.lemmas.Bool.{eqb-true}
 use Rattle.std.specs.Prelude.{option_map}
 use Rattle.tcap_laws.proofs.Births.DrawnNumbers.{reply-numbered}
 use Rattle.tcap_laws.proofs.Engine.DialoguesFound.{own-at, looked-up}
 use Rattle.tcap_laws.proofs.Engine.TableLookup.{one-changes}
-use Rattle.tcap_laws.proofs.Engine.WorldAfter.{before, later, each-stays, world-made, moved-made, next-kept, dialogues-kept, world-stays}
+use Rattle.tcap_laws.proofs.Engine.WorldAfter.{before, later, each-stays, world-made, moved-made, next-kept}
+use Rattle.tcap_laws.proofs.Engine.WorldAfter.{dialogues-kept, world-stays}
 use Rattle.tcap_laws.proofs.Table.LastAnswersAlike.{request-agrees}
 use Rattle.tcap_laws.proofs.Table.OtherDialogues.{unnamed-stays}
 use Rattle.tcap_laws.proofs.Table.RequestsMovedAlike.{request-moves}
@@ -32,7 +34,8 @@ use Rattle.tcap_model.specs.Words.Request.{Request}
 
 -- ---- the counter of invocations
 
-counted : (start invoked : ℕ) (a : Answer) → number_after a (start + invoked) ≡ start + cond (is_some (number_of a)) (invoked + 1) invoked
+counted : (start invoked : ℕ) (a : Answer)
+    → number_after a (start + invoked) ≡ start + cond (is_some (number_of a)) (invoked + 1) invoked
 counted start invoked (Answer.number n) = omega arith
 counted start invoked (Answer.new_dialogue d) = refl
 counted start invoked Answer.done = refl
@@ -44,33 +47,42 @@ same_some : {X Y : Type 0} (f : X → Y) (o : Option X) → is_some (option_map 
 same_some f None = refl
 same_some f (Some x) = refl
 
-pub number-follows : (h : History) (event : Event) → number_after (reply h event) (next_number h) ≡ next_number (with_pair h event)
+pub number-follows : (h : History) (event : Event)
+    → number_after (reply h event) (next_number h) ≡ next_number (with_pair h event)
 number-follows h event =
     counted h.start.next_number (invokes h.pairs) (reply h event)
     ∙ ap (λ b. h.start.next_number + cond b (invokes h.pairs + 1) (invokes h.pairs))
-    (ap is_some (reply-numbered h event).0 ∙ same_some (λ (i : Invocation). i.number) (invoked_of event (reply h event)))
+    (ap is_some (reply-numbered h event).0
+    ∙ same_some (λ (i : Invocation). i.number) (invoked_of event (reply h event)))
 
 -- ---- one dialogue moves
 
-module _ (h : History) (event : Event) (dialogue : ℕ) (d : Dialogue) (there : before h event dialogue ≡ Some d) (m : Moved) where
+module _ (h : History) (event : Event) (dialogue : ℕ) (d : Dialogue) (there : before h event dialogue ≡ Some d)
+    (m : Moved) where
   -- the answer, the dialogue itself and all others make the engine
-  pub dialogue-moves : m.answer ≡ reply h event → next_dialogue (with_pair h event) ≡ next_dialogue h → clock (with_pair h event).pairs ≡ clock h.pairs
-      → dialogues (with_pair h event).pairs ≡ dialogues h.pairs → later h event dialogue ≡ left_standing m → ((i : ℕ) → nat_eq dialogue i ≡ false → later h event i ≡ before h event i)
+  pub dialogue-moves : m.answer ≡ reply h event → next_dialogue (with_pair h event) ≡ next_dialogue h
+      → clock (with_pair h event).pairs ≡ clock h.pairs
+      → dialogues (with_pair h event).pairs ≡ dialogues h.pairs → later h event dialogue ≡ left_standing m
+      → ((i : ℕ) → nat_eq dialogue i ≡ false → later h event i ≡ before h event i)
       → moved_in (world_of h) dialogue m ≡ moved_at h event
   dialogue-moves answered next still listed itself others =
       moved-made h event m.answer (moved_in (world_of h) dialogue m).after answered
-      (world-made h event (next_dialogue h) (number_after m.answer (next_number h)) (clock h.pairs) (with_dialogue dialogue (left_standing m) (world_of h).dialogues)
+      (world-made h event (next_dialogue h) (number_after m.answer (next_number h)) (clock h.pairs)
+      (with_dialogue dialogue (left_standing m) (world_of h).dialogues)
       next (sym (ap (λ (a : Answer). number_after a (next_number h)) answered ∙ number-follows h event)) still
       (ap (filter_map (later h event)) listed
-      ∙ sym (one-changes (before h event) (own-at h.start.reject_ms h.pairs) dialogue (later h event) (left_standing m) d there itself others (dialogues h.pairs))))
+      ∙ sym (one-changes (before h event) (own-at h.start.reject_ms h.pairs) dialogue (later h event)
+      (left_standing m) d there itself others (dialogues h.pairs))))
 
 -- ---- requests
 
-module _ (h : History) (legal : IsLegal h) (dialogue : ℕ) (request : Request) (within : InRange (Event.on_dialogue dialogue request)) where
+module _ (h : History) (legal : IsLegal h) (dialogue : ℕ) (request : Request)
+    (within : InRange (Event.on_dialogue dialogue request)) where
   abbrev event : Event
   event = Event.on_dialogue dialogue request
 
-  known : (d : Dialogue) → before h event dialogue ≡ Some d → requested_in (world_of h) dialogue request (Some d) ≡ moved_at h event
+  known : (d : Dialogue) → before h event dialogue ≡ Some d
+      → requested_in (world_of h) dialogue request (Some d) ≡ moved_at h event
   known d there =
       dialogue-moves h event dialogue d there (table_move (setting_at h) d (DialogueEvent.request request))
       (request-agrees h dialogue legal d request there) (next-kept h event refl) refl (dialogues-kept h event refl)
@@ -80,9 +92,11 @@ module _ (h : History) (legal : IsLegal h) (dialogue : ℕ) (request : Request) 
   unknown : before h event dialogue ≡ None → requested_in (world_of h) dialogue request None ≡ moved_at h event
   unknown nowhere =
       moved-made h event (Answer.refused Fault.unknown_dialogue) (world_of h) (sym answered)
-      (world-stays h event refl (ap (invoked_of event) answered) refl (λ i d there. stays i d there (nat_eq dialogue i) refl))
+      (world-stays h event refl (ap (invoked_of event) answered) refl
+      (λ i d there. stays i d there (nat_eq dialogue i) refl))
     where
-      by_life : (l : Life) → dialogue_by h.start.reject_ms dialogue h.pairs l ≡ None → request_answer h dialogue request l (due_by h dialogue request l) ≡ Answer.refused Fault.unknown_dialogue
+      by_life : (l : Life) → dialogue_by h.start.reject_ms dialogue h.pairs l ≡ None
+          → request_answer h dialogue request l (due_by h dialogue request l) ≡ Answer.refused Fault.unknown_dialogue
       by_life Life.unborn e = refl
       by_life (Life.standing state context) e = absurd cc
       by_life Life.over e = refl
@@ -90,13 +104,18 @@ module _ (h : History) (legal : IsLegal h) (dialogue : ℕ) (request : Request) 
       answered : reply h event ≡ Answer.refused Fault.unknown_dialogue
       answered = by_life (life dialogue h.pairs) nowhere
 
-      stays : (i : ℕ) (d : Dialogue) → before h event i ≡ Some d → (b : Bool) → nat_eq dialogue i ≡ b → later h event i ≡ Some d
-      stays i d there true e = let never : None ≡ Some d = sym nowhere ∙ (ap (before h event) (eqb-true dialogue i e) ∙ there) in absurd cc
+      stays : (i : ℕ) (d : Dialogue) → before h event i ≡ Some d → (b : Bool) → nat_eq dialogue i ≡ b
+          → later h event i ≡ Some d
+      stays i d there true e =
+          let never : None ≡ Some d = sym nowhere ∙ (ap (before h event) (eqb-true dialogue i e) ∙ there) in absurd cc
       stays i d there false e = unnamed-stays h i d event legal there e
 
-  pub requests-move : requested_in (world_of h) dialogue request (dialogue_in dialogue (world_of h).dialogues) ≡ moved_at h event
+  pub requests-move : requested_in (world_of h) dialogue request (dialogue_in dialogue (world_of h).dialogues)
+      ≡ moved_at h event
   requests-move = go (before h event dialogue) refl
     where
-      go : (o : Option Dialogue) → before h event dialogue ≡ o → requested_in (world_of h) dialogue request (dialogue_in dialogue (world_of h).dialogues) ≡ moved_at h event
+      go : (o : Option Dialogue) → before h event dialogue ≡ o
+          → requested_in (world_of h) dialogue request (dialogue_in dialogue (world_of h).dialogues) ≡ moved_at h event
       go None e = ap (requested_in (world_of h) dialogue request) (looked-up h legal dialogue None e) ∙ unknown e
-      go (Some d) e = ap (requested_in (world_of h) dialogue request) (looked-up h legal dialogue (Some d) e) ∙ known d e
+      go (Some d) e =
+          ap (requested_in (world_of h) dialogue request) (looked-up h legal dialogue (Some d) e) ∙ known d e

@@ -1,8 +1,8 @@
 -- Which dialogues stay as they are, though an event names them: those that aren't live where bytes are
 -- received, and all where a moment is refused or below the clock.
-use Rattle.std.proofs.Common.{◌≡◌, ◌<◌, ℕ, ℤ, ◌==◌, ◌&&◌, Bool, true, false, cond, nat_le, nat_lt, List, [], ◌∷◌, Option, Some, None, refl, sym, ap, ◌∙◌}
+use Rattle.std.proofs.Common.{◌≡◌, ◌<◌, ℕ, ◌==◌, ◌&&◌, Bool, true, false, cond, nat_le, nat_lt, List, [], ◌∷◌, Option}
+use Rattle.std.proofs.Common.{Some, None, refl, ap, ◌∙◌}
 use Rattle.std.specs.Prelude.{◌+◌, filter_map, unwrap_or}
-use Rattle.tcap_invocation.specs.declared.stage.Stage.{Stage}
 use Rattle.tcap_invocation.specs.declared.stage.Stage.TheVariants.{Waiting}
 use Rattle.tcap_laws.proofs.BoolLemmas.{and_false}
 use Rattle.tcap_laws.proofs.Decisions.ToldInvocations.{IsFound, each_found}
@@ -40,45 +40,64 @@ use Rattle.tcap_pdu.specs.FrameReading.{frame_at}
 
 -- ---- the rows, where a moment is below the clock
 
-module _ (start : Start) (past : Past) (legal : AreReplies start past) (now : ℕ) (answer : Answer) (accepted : is_accepted answer ≡ true) (early : now < clock past) (reject_ms : ℕ) where
+module _ (start : Start) (past : Past) (legal : AreReplies start past) (now : ℕ) (answer : Answer)
+    (accepted : is_accepted answer ≡ true) (early : now < clock past) (reject_ms : ℕ) where
   stage_still : (i : Invocation) → IsFound past i → (d : Option Told) → decision i.number past ≡ d
       → stage_by reject_ms (at_moment now answer ∷ past) i d ≡ stage_by reject_ms past i d
-  stage_still i found None e = ap (λ t. Some (pending_stage i t)) (deadline_still past now answer accepted early i (made_found i.number past i found))
-  stage_still i found (Some t) e = ap (λ b. cond b (Some (Waiting (clock t.place + reject_ms))) None) (waiting_still past now answer accepted early i.number reject_ms i.dialogue i.id t e)
+  stage_still i found None e =
+      ap (λ t. Some (pending_stage i t))
+      (deadline_still past now answer accepted early i (made_found i.number past i found))
+  stage_still i found (Some t) e =
+      ap (λ b. cond b (Some (Waiting (clock t.place + reject_ms))) None)
+      (waiting_still past now answer accepted early i.number reject_ms i.dialogue i.id t e)
 
-  row_still : (dialogue : ℕ) (i : Invocation) → IsFound past i → row_of reject_ms dialogue (at_moment now answer ∷ past) i ≡ row_of reject_ms dialogue past i
+  row_still : (dialogue : ℕ) (i : Invocation) → IsFound past i
+      → row_of reject_ms dialogue (at_moment now answer ∷ past) i ≡ row_of reject_ms dialogue past i
   row_still dialogue i found =
       ap (λ s. cond ((i.dialogue == dialogue) && is_number i.number (latest i.dialogue i.id past)) (row_by i s) None)
-      (ap (stage_by reject_ms (at_moment now answer ∷ past) i) (decision_still past now answer accepted early i.number) ∙ stage_still i found (decision i.number past) refl)
+      (ap (stage_by reject_ms (at_moment now answer ∷ past) i)
+      (decision_still past now answer accepted early i.number) ∙ stage_still i found (decision i.number past) refl)
 
-  rows_still : (dialogue : ℕ) → rows_of reject_ms dialogue (at_moment now answer ∷ past) ≡ rows_of reject_ms dialogue past
+  rows_still : (dialogue : ℕ) → rows_of reject_ms dialogue (at_moment now answer ∷ past)
+      ≡ rows_of reject_ms dialogue past
   rows_still dialogue =
-      ap (filter_map (row_of reject_ms dialogue (at_moment now answer ∷ past))) (invocations_still past now answer accepted early)
-      ∙ same_kept (IsFound past) (row_of reject_ms dialogue (at_moment now answer ∷ past)) (row_of reject_ms dialogue past) (row_still dialogue) (invocations past) (each_found start past legal)
+      ap (filter_map (row_of reject_ms dialogue (at_moment now answer ∷ past)))
+      (invocations_still past now answer accepted early)
+      ∙ same_kept (IsFound past) (row_of reject_ms dialogue (at_moment now answer ∷ past))
+      (row_of reject_ms dialogue past) (row_still dialogue) (invocations past) (each_found start past legal)
 
 -- ---- a dialogue that stands
 
-module _ (h : History) (dialogue : ℕ) (legal : IsLegal h) (state : State) (context : Option (List ℕ)) (stands : life dialogue h.pairs ≡ Life.standing state context) where
+module _ (h : History) (dialogue : ℕ) (legal : IsLegal h) (state : State) (context : Option (List ℕ))
+    (stands : life dialogue h.pairs ≡ Life.standing state context) where
   abbrev Stays : Event → Type 0
-  Stays event = dialogue_at h.start.reject_ms (due_pair h event ∷ h.pairs) dialogue ≡ Some (standing_dialogue h dialogue state context)
+  Stays event =
+      dialogue_at h.start.reject_ms (due_pair h event ∷ h.pairs) dialogue ≡ Some
+      (standing_dialogue h dialogue state context)
 
-  stays_named : (event : Event) → names event dialogue ≡ true → life_by_event state context event (is_accepted (reply h event)) ≡ Life.standing state context
+  stays_named : (event : Event) → names event dialogue ≡ true
+      → life_by_event state context event (is_accepted (reply h event)) ≡ Life.standing state context
       → queue_by_event dialogue h.pairs (queue dialogue h.pairs) event (reply h event) ≡ queue dialogue h.pairs
-      → rows_of h.start.reject_ms dialogue (due_pair h event ∷ h.pairs) ≡ rows_of h.start.reject_ms dialogue h.pairs → Stays event
+      → rows_of h.start.reject_ms dialogue (due_pair h event ∷ h.pairs) ≡ rows_of h.start.reject_ms dialogue h.pairs
+      → Stays event
   stays_named event named same queued rows =
       life_named h dialogue legal state context stands event named (Life.standing state context) same
-      ∙ assembled h dialogue legal state context stands event state context (queue dialogue h.pairs) (rows_of h.start.reject_ms dialogue h.pairs)
+      ∙ assembled h dialogue legal state context stands event state context (queue dialogue h.pairs)
+      (rows_of h.start.reject_ms dialogue h.pairs)
       (queue_named h dialogue legal state context stands event named ∙ queued) rows
 
   -- ---- bytes to a dialogue that isn't live
 
-  deaf_stays : (bytes : List ℕ) → names (Event.received bytes) dialogue ≡ true → is_live state ≡ false → Stays (Event.received bytes)
+  deaf_stays : (bytes : List ℕ) → names (Event.received bytes) dialogue ≡ true → is_live state ≡ false
+      → Stays (Event.received bytes)
   deaf_stays bytes named deaf =
       stays_named (Event.received bytes) named (ap (λ b. life_if_live b state context bytes) deaf)
       (ap (λ l. queue_by_bytes dialogue h.pairs l (queue dialogue h.pairs) bytes) stands
-      ∙ ap (λ b. cond b (queue_by_message dialogue h.pairs (Life.standing state context) (queue dialogue h.pairs) (frame_at bytes)) (queue dialogue h.pairs)) deaf)
+      ∙ ap (λ b. cond b (queue_by_message dialogue h.pairs (Life.standing state context) (queue dialogue h.pairs)
+      (frame_at bytes)) (queue dialogue h.pairs)) deaf)
       (rows_kept h.start.reject_ms h.start (due_pair h (Event.received bytes)) h.pairs legal.1 refl dialogue
-      (λ k. standing_marks dialogue k (Event.received bytes) (reply h (Event.received bytes)) h.pairs state context stands named
+      (λ k. standing_marks dialogue k (Event.received bytes)
+      (reply h (Event.received bytes)) h.pairs state context stands named
       ∙ ap (λ b. noted_at_clock (clock h.pairs) (unwrap_or (marks_if_live b k state context bytes)
       (end_if_over (Life.standing state context) (life_if_live b state context bytes)))) deaf)
       (λ k u. and_false (is_accepted (reply h (Event.received bytes)))))
@@ -87,11 +106,13 @@ module _ (h : History) (dialogue : ℕ) (legal : IsLegal h) (state : State) (con
 
   refused_stays : (now : ℕ) (fault : Fault) → moment_fault now ≡ Some fault → Stays (Event.moment now)
   refused_stays now fault e =
-      let refused : is_accepted (reply h (Event.moment now)) ≡ false = ap (λ f. is_accepted (moment_answer h.pairs now f)) e in
+      let refused : is_accepted (reply h (Event.moment now)) ≡ false =
+      ap (λ f. is_accepted (moment_answer h.pairs now f)) e in
       stays_named (Event.moment now) refl refl refl
       (rows_kept h.start.reject_ms h.start (due_pair h (Event.moment now)) h.pairs legal.1 refl dialogue
       (λ k. standing_marks dialogue k (Event.moment now) (reply h (Event.moment now)) h.pairs state context stands refl
-      ∙ ap (λ b. noted_at_clock (clock h.pairs) (marks_by_event k (Life.standing state context) (Life.standing state context) (Event.moment now) b)) refused)
+      ∙ ap (λ b. noted_at_clock (clock h.pairs)
+      (marks_by_event k (Life.standing state context) (Life.standing state context) (Event.moment now) b)) refused)
       (λ k u. ap (λ b. b && nat_le u now) refused))
 
   early_stays : (now : ℕ) → moment_fault now ≡ None → now < clock h.pairs → Stays (Event.moment now)
@@ -108,21 +129,27 @@ module _ (h : History) (dialogue : ℕ) (legal : IsLegal h) (state : State) (con
 
 -- ---- a dialogue that is found
 
-pub deaf-stays : (h : History) (dialogue : ℕ) (d : Dialogue) (bytes : List ℕ) → IsLegal h → dialogue_at h.start.reject_ms h.pairs dialogue ≡ Some d
+pub deaf-stays : (h : History) (dialogue : ℕ) (d : Dialogue) (bytes : List ℕ) → IsLegal h
+    → dialogue_at h.start.reject_ms h.pairs dialogue ≡ Some d
     → names (Event.received bytes) dialogue ≡ true → is_live d.standing.state ≡ false
     → dialogue_at h.start.reject_ms (due_pair h (Event.received bytes) ∷ h.pairs) dialogue ≡ Some d
 deaf-stays h dialogue d bytes legal e named =
-    by_life (λ d. is_live d.standing.state ≡ false → dialogue_at h.start.reject_ms (due_pair h (Event.received bytes) ∷ h.pairs) dialogue ≡ Some d) h dialogue d
+    by_life (λ d. is_live d.standing.state ≡ false
+    → dialogue_at h.start.reject_ms (due_pair h (Event.received bytes) ∷ h.pairs) dialogue ≡ Some d) h dialogue d
     (λ state context q deaf. deaf_stays h dialogue legal state context q bytes named deaf) e
 
-pub refused-stays : (h : History) (dialogue : ℕ) (d : Dialogue) (now : ℕ) (fault : Fault) → IsLegal h → dialogue_at h.start.reject_ms h.pairs dialogue ≡ Some d → moment_fault now ≡ Some fault
+pub refused-stays : (h : History) (dialogue : ℕ) (d : Dialogue) (now : ℕ) (fault : Fault) → IsLegal h
+    → dialogue_at h.start.reject_ms h.pairs dialogue ≡ Some d → moment_fault now ≡ Some fault
     → dialogue_at h.start.reject_ms (due_pair h (Event.moment now) ∷ h.pairs) dialogue ≡ Some d
 refused-stays h dialogue d now fault legal e f =
-    by_life (λ d. dialogue_at h.start.reject_ms (due_pair h (Event.moment now) ∷ h.pairs) dialogue ≡ Some d) h dialogue d
+    by_life (λ d. dialogue_at h.start.reject_ms (due_pair h (Event.moment now) ∷ h.pairs) dialogue
+    ≡ Some d) h dialogue d
     (λ state context q. refused_stays h dialogue legal state context q now fault f) e
 
-pub early-stays : (h : History) (dialogue : ℕ) (d : Dialogue) (now : ℕ) → IsLegal h → dialogue_at h.start.reject_ms h.pairs dialogue ≡ Some d → moment_fault now ≡ None → now < clock h.pairs
+pub early-stays : (h : History) (dialogue : ℕ) (d : Dialogue) (now : ℕ) → IsLegal h
+    → dialogue_at h.start.reject_ms h.pairs dialogue ≡ Some d → moment_fault now ≡ None → now < clock h.pairs
     → dialogue_at h.start.reject_ms (due_pair h (Event.moment now) ∷ h.pairs) dialogue ≡ Some d
 early-stays h dialogue d now legal e f early =
-    by_life (λ d. dialogue_at h.start.reject_ms (due_pair h (Event.moment now) ∷ h.pairs) dialogue ≡ Some d) h dialogue d
+    by_life (λ d. dialogue_at h.start.reject_ms (due_pair h (Event.moment now) ∷ h.pairs) dialogue
+    ≡ Some d) h dialogue d
     (λ state context q. early_stays h dialogue legal state context q now f early) e

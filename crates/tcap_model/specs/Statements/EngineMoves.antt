@@ -26,8 +26,11 @@ moved_at h event = record { answer = reply h event; after = world_of (with_pair 
 -- An engine that stands at a history answers each event as the history says, and stands at the history
 -- with its pair then (own).
 abbrev pub EachMovesAlike : Type 0
-EachMovesAlike = (h : History) (engine : World) (event : Event) → StandsAt h engine → InRange event → MovesAlike h event (engine_move engine event)
+EachMovesAlike =
+    (h : History) (engine : World) (event : Event) → StandsAt h engine → InRange event
+    → MovesAlike h event (engine_move engine event)
 
 -- The same as one equation, at the engine that a legal history gives (own).
 abbrev pub EachMoveIsSaid : Type 0
-EachMoveIsSaid = (h : History) (event : Event) → IsLegal h → InRange event → engine_move (world_of h) event ≡ moved_at h event
+EachMoveIsSaid =
+    (h : History) (event : Event) → IsLegal h → InRange event → engine_move (world_of h) event ≡ moved_at h event

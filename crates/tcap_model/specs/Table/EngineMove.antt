@@ -1,5 +1,6 @@
 -- What the engine does: to each event its answer, and the engine after it.
-use Rattle.std.specs.Prelude.{ℕ, ◌+◌, Bool, false, nat_eq, nat_lt, List, [], ◌∷◌, ◌++◌, length, map, filter_map, option_to_list, is_some, Option, Some, None, if◌then◌else◌}
+use Rattle.std.specs.Prelude.{ℕ, ◌+◌, Bool, false, nat_eq, nat_lt, List, [], ◌∷◌, ◌++◌, length, map, filter_map}
+use Rattle.std.specs.Prelude.{option_to_list, is_some, Option, Some, None, if◌then◌else◌}
 use Rattle.tcap_component.specs.ComponentReading.{components_of}
 use Rattle.tcap_model.specs.Procedures.ComponentHandling.{uni_told}
 use Rattle.tcap_model.specs.Procedures.QueueRules.{queue_limit}
@@ -74,7 +75,11 @@ unmoved w answer = record { answer = answer; after = w }
 abbrev pub moved_in : World → ℕ → Moved → EngineMoved
 moved_in w identifier m = record {
   answer = m.answer;
-  after = record w { next_number = number_after m.answer w.next_number; dialogues = with_dialogue identifier (left_standing m) w.dialogues };
+  after =
+      record w {
+        next_number = number_after m.answer w.next_number;
+        dialogues = with_dialogue identifier (left_standing m) w.dialogues;
+      };
 }
 
 -- A dialogue is born under the next identifier (own).
@@ -98,7 +103,8 @@ asked_in w None = born_in w (Answer.new_dialogue w.next_dialogue) (fresh_dialogu
 -- A request on the dialogue of an identifier; where none stands it is unknown (Q.774, Dialogue control).
 abbrev pub requested_in : World → ℕ → Request → Option Dialogue → EngineMoved
 requested_in w identifier request None = unmoved w (Answer.refused Fault.unknown_dialogue)
-requested_in w identifier request (Some d) = moved_in w identifier (table_move (setting_in w) d (DialogueEvent.request request))
+requested_in w identifier request (Some d) =
+    moved_in w identifier (table_move (setting_in w) d (DialogueEvent.request request))
 
 -- ---- received bytes
 
@@ -119,7 +125,8 @@ aborting abort m = record m { answer = told_first (option_to_list abort) m.answe
 -- stands nothing happens (Q.774, Transaction sublayer procedures).
 abbrev pub reached_in : World → ℕ → Option Output → DialogueEvent → Option Dialogue → EngineMoved
 reached_in w identifier abort event None = unmoved w (Answer.outputs [])
-reached_in w identifier abort event (Some d) = moved_in w identifier (aborting abort (table_move (setting_in w) d event))
+reached_in w identifier abort event (Some d) =
+    moved_in w identifier (aborting abort (table_move (setting_in w) d event))
 
 -- A dialogue that a Begin gives birth to (Q.774, Dialogue begin).
 abbrev pub begun_in : World → Moved → EngineMoved
@@ -131,7 +138,8 @@ abbrev pub received_in : World → Reception → EngineMoved
 received_in w (Reception.dropped why) = unmoved w (Answer.outputs (Output.dropped why ∷ []))
 received_in w (Reception.aborted abort) = unmoved w (Answer.outputs (abort ∷ []))
 received_in w (Reception.unidirectional context info components) =
-    unmoved w (Answer.outputs (Output.dialogue (DialogueIndication.uni context info) ∷ uni_told (components_of components)))
+    unmoved w
+    (Answer.outputs (Output.dialogue (DialogueIndication.uni context info) ∷ uni_told (components_of components)))
 received_in w (Reception.begun origin context info components) =
     begun_in w (born (setting_in w) w.next_dialogue w.reject_ms origin context info components)
 received_in w (Reception.taken identifier message) =
@@ -159,6 +167,8 @@ moment_in w now None = if nat_lt now w.clock then unmoved w (Answer.outputs []) 
 -- What the engine does (Q.774, Transaction sublayer procedures; Q.774, Component handling).
 unfoldable pub engine_move : World → Event → EngineMoved
 engine_move w Event.new_dialogue = asked_in w (birth_fault_in w)
-engine_move w (Event.on_dialogue identifier request) = requested_in w identifier request (dialogue_in identifier w.dialogues)
-engine_move w (Event.received bytes) = received_in w (reception (is_live_in w.dialogues) (is_some (birth_fault_in w)) bytes)
+engine_move w (Event.on_dialogue identifier request) =
+    requested_in w identifier request (dialogue_in identifier w.dialogues)
+engine_move w (Event.received bytes) =
+    received_in w (reception (is_live_in w.dialogues) (is_some (birth_fault_in w)) bytes)
 engine_move w (Event.moment now) = moment_in w now (moment_fault now)
