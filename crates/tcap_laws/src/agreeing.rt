@@ -1,7 +1,7 @@
 //! How a dialogue that is moved by its table follows the history.
 
 ghost use Rattle.std.specs.Prelude.{is_some, ◌≡◌, ℕ, List, Option, Some, None, ◌∷◌, true, false, Ok, Err};
-ghost use Rattle.tcap_model.specs.Table.Agreement.{setting_at, due_pair, left_standing};
+ghost use Rattle.tcap_model.specs.Table.Agreement.{setting_at, due_pair};
 ghost use Rattle.tcap_model.specs.Words.Answer.{Answer};
 ghost use Rattle.tcap_model.specs.Histories.Birth.{next_dialogue};
 ghost use Rattle.tcap_model.specs.Table.Dialogue.{Dialogue, fresh_dialogue};
@@ -16,7 +16,7 @@ ghost use Rattle.tcap_model.specs.Procedures.Reception.{Reception, reception};
 ghost use Rattle.tcap_model.specs.Replies.Reply.{taken_outputs, reply};
 ghost use Rattle.tcap_model.specs.Words.Request.{Request};
 ghost use Rattle.tcap_model.specs.Words.State.{is_live};
-ghost use Rattle.tcap_model.specs.Table.TableMove.{DialogueEvent, born, table_move};
+ghost use Rattle.tcap_model.specs.Table.TableMove.{DialogueEvent, born, table_move, left_standing};
 ghost use Rattle.tcap_model.specs.Words.Time.{moment_fault};
 ghost use Rattle.tcap_model.specs.Table.World.{dialogue_at};
 ghost use Rattle.tcap_pdu.specs.declared.fault.FrameFault.{FrameFault};

@@ -9,6 +9,7 @@ use Rattle.tcap_model.specs.Procedures.QueueRules.{queue_limit}
 use Rattle.tcap_model.specs.Replies.Reply.{reply}
 use Rattle.tcap_model.specs.Table.TableMove.{Setting, DialogueEvent, table_move}
 use Rattle.tcap_model.specs.Table.World.{World, world_of}
+use Rattle.tcap_model.specs.Table.EngineMove.{setting_in}
 
 -- ---- what is written
 
@@ -42,10 +43,6 @@ dialogue_event clock Event.new_dialogue = None
 dialogue_event clock (Event.on_dialogue dialogue request) = Some (DialogueEvent.request request)
 dialogue_event clock (Event.received bytes) = Some (heard bytes)
 dialogue_event clock (Event.moment now) = if nat_lt now clock then None else Some (DialogueEvent.moment now)
-
--- What is around a dialogue of this engine (own).
-abbrev pub setting_in : World → Setting
-setting_in w = record { clock = w.clock; number = w.next_number; limit = queue_limit }
 
 -- The dialogue answers so, goes on, and is the second one then (own).
 pub record GoesOn (s : Setting) (before : Dialogue) (event : DialogueEvent) (answer : Answer) (after : Dialogue) : Type 0 where

@@ -28,9 +28,9 @@ use Rattle.tcap_laws.proofs.ListLemmas.{each-append}
 
 -- ---- each invocation is found under its number
 
-each-map : {X : Type 0} (P Q : X → Type 0) (f : (x : X) → P x → Q x) (xs : List X) → AllByRecursion P xs → AllByRecursion Q xs
-each-map P Q f [] p = tt
-each-map P Q f (x ∷ xs) p = (f x p.0, each-map P Q f xs p.1)
+each-implied : {X : Type 0} (P Q : X → Type 0) (f : (x : X) → P x → Q x) (xs : List X) → AllByRecursion P xs → AllByRecursion Q xs
+each-implied P Q f [] p = tt
+each-implied P Q f (x ∷ xs) p = (f x p.0, each-implied P Q f xs p.1)
 
 abbrev pub IsFound : Past → Invocation → Type 0
 IsFound past i = invocation_of i.number past ≡ Some i
@@ -43,7 +43,7 @@ pub each_found : (start : Start) (past : Past) → AreReplies start past → All
 each_found start [] legal = tt
 each_found start (pair ∷ past) legal =
     each-append (IsFound (pair ∷ past)) (invocations past) (option_to_list (invoked_by pair))
-    (each-map (IsFound past) (IsFound (pair ∷ past)) (λ i e. invocation_stays i.number pair past i e) (invocations past) (each_found start past legal.2))
+    (each-implied (IsFound past) (IsFound (pair ∷ past)) (λ i e. invocation_stays i.number pair past i e) (invocations past) (each_found start past legal.2))
     (each_new start pair past (invoked_by pair) legal refl)
 
 -- ---- gathering over the invocations

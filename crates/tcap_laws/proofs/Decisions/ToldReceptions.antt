@@ -17,7 +17,7 @@ use Rattle.tcap_model.specs.Histories.Names.{names, named_within, is_destined}
 use Rattle.tcap_model.specs.Words.Output.{Output, AbortCause, DropCause, DialogueIndication}
 use Rattle.tcap_model.specs.Histories.Pair.{Past}
 use Rattle.tcap_model.specs.Procedures.PortionRules.{BeginVerdict, begin_verdict, PortionVerdict, uni_verdict}
-use Rattle.tcap_model.specs.Procedures.Reception.{Reception, reception, reading_by, message_by, uni_by, begin_by, continue_by, last_by, live_named, addressed, addressed_if_any, faulty, fault_abort, faulty_last, faulty_continue, aborted_or_dropped}
+use Rattle.tcap_model.specs.Procedures.Reception.{Reception, reception, reading_by, message_by, uni_by, begin_by, continue_by, final_message_by, live_named, addressed, addressed_if_any, faulty, fault_abort, faulty_last, faulty_continue, aborted_or_dropped}
 use Rattle.tcap_model.specs.Replies.Reply.{reception_outputs, taken_outputs, ended_in}
 use Rattle.tcap_pdu.specs.declared.fault.FrameFault.{FrameFault}
 use Rattle.tcap_pdu.specs.FrameReading.{frame_at}
@@ -92,10 +92,10 @@ module _ (n : ℕ) (place : Past) (h : History) (dialogue : ℕ) (bytes : List �
       addressed_tells to (λ o. continue_by o origin m) (named_is short (Ok m) q) (λ none. sym none) (λ d quiet none. taken_quiet n place h.pairs d quiet (life d h.pairs) m ∙ sym none) (λ e live. w.taken m e live q)
   message_tells short is_full (Message.end to portion components) q =
       let m : Message = Message.end to portion components in
-      addressed_tells to (λ o. last_by o m) (named_is short (Ok m) q) (λ none. sym none) (λ d quiet none. taken_quiet n place h.pairs d quiet (life d h.pairs) m ∙ sym none) (λ e live. w.taken m e live q)
+      addressed_tells to (λ o. final_message_by o m) (named_is short (Ok m) q) (λ none. sym none) (λ d quiet none. taken_quiet n place h.pairs d quiet (life d h.pairs) m ∙ sym none) (λ e live. w.taken m e live q)
   message_tells short is_full (Message.abort to reason) q =
       let m : Message = Message.abort to reason in
-      addressed_tells to (λ o. last_by o m) (named_is short (Ok m) q) (λ none. sym none) (λ d quiet none. taken_quiet n place h.pairs d quiet (life d h.pairs) m ∙ sym none) (λ e live. w.taken m e live q)
+      addressed_tells to (λ o. final_message_by o m) (named_is short (Ok m) q) (λ none. sym none) (λ d quiet none. taken_quiet n place h.pairs d quiet (life d h.pairs) m ∙ sym none) (λ e live. w.taken m e live q)
 
   -- ---- faulty messages
 

@@ -44,8 +44,8 @@ moves-alike h engine event at within =
 
 -- ---- the clock
 
-timely : (now : ℕ) → moment_fault now ≡ None → now ≤ moment_limit
-timely now e = go (nat_lt moment_limit now) refl e
+clock-timely : (now : ℕ) → moment_fault now ≡ None → now ≤ moment_limit
+clock-timely now e = go (nat_lt moment_limit now) refl e
   where
     go : (b : Bool) → nat_lt moment_limit now ≡ b → cond b (Some Fault.moment_too_late) None ≡ None → now ≤ moment_limit
     go true q e = absurd cc
@@ -65,7 +65,7 @@ clock_step h (Event.moment now) within = go (moment_fault now) refl
     go : (f : Option Fault) → moment_fault now ≡ f
         → clock_after (clock h.pairs) (Event.moment now) (is_accepted (moment_answer h.pairs now f)) ≤ moment_limit
     go (Some fault) e = within
-    go None e = accepted (timely now e) (is_accepted (moment_answer h.pairs now None))
+    go None e = accepted (clock-timely now e) (is_accepted (moment_answer h.pairs now None))
 
 pub clock-within : (start : Start) (past : Past) → AreReplies start past → clock past ≤ moment_limit
 clock-within start [] legal = omega arith

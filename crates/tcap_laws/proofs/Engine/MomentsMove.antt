@@ -16,11 +16,11 @@ use Rattle.tcap_model.specs.Invocations.Invocation.{next_number}
 use Rattle.tcap_model.specs.Replies.Legal.{IsLegal}
 use Rattle.tcap_model.specs.Replies.Reply.{lapses, moment_answer, reply}
 use Rattle.tcap_model.specs.Statements.EngineMoves.{moved_at}
-use Rattle.tcap_model.specs.Table.Agreement.{setting_at, left_standing}
+use Rattle.tcap_model.specs.Table.Agreement.{setting_at}
 use Rattle.tcap_model.specs.Table.Dialogue.{Dialogue}
 use Rattle.tcap_model.specs.Table.DueLapses.{all_told, at_moment}
 use Rattle.tcap_model.specs.Table.EngineMove.{advanced, moment_in, unmoved}
-use Rattle.tcap_model.specs.Table.TableMove.{DialogueEvent, table_move}
+use Rattle.tcap_model.specs.Table.TableMove.{DialogueEvent, table_move, left_standing}
 use Rattle.tcap_model.specs.Table.World.{world_of}
 use Rattle.tcap_model.specs.Words.Answer.{Answer, is_accepted}
 use Rattle.tcap_model.specs.Words.Event.{Event}

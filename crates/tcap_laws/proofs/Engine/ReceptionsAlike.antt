@@ -1,7 +1,7 @@
 -- What becomes of received bytes depends on which dialogues are live, and not on how that is found.
 use Rattle.std.proofs.Common.{◌≡◌, ℕ, Bool, cond, nat_lt, List, [], ◌∷◌, length, Option, Some, None, Result, Ok, Err}
 use Rattle.std.proofs.Common.{refl, ap}
-use Rattle.tcap_model.specs.Procedures.Reception.{addressed_if_any, continue_by, last_by, message_by, fault_abort}
+use Rattle.tcap_model.specs.Procedures.Reception.{addressed_if_any, continue_by, final_message_by, message_by, fault_abort}
 use Rattle.tcap_model.specs.Procedures.Reception.{fault_by, faulty, live_named, reading_by, reception, Reception}
 use Rattle.tcap_model.specs.Words.LocalId.{dialogue_named}
 use Rattle.tcap_model.specs.Words.Output.{DropCause}
@@ -26,9 +26,9 @@ module _ (f g : ℕ → Bool) (same : (d : ℕ) → f d ≡ g d) where
   message_alike full (Message.go_on origin to portion components) =
       ap (λ d. continue_by d origin (Message.go_on origin to portion components)) (addressed_alike (Some to))
   message_alike full (Message.end to portion components) =
-      ap (λ d. last_by d (Message.end to portion components)) (addressed_alike (Some to))
+      ap (λ d. final_message_by d (Message.end to portion components)) (addressed_alike (Some to))
   message_alike full (Message.abort to reason) =
-      ap (λ d. last_by d (Message.abort to reason)) (addressed_alike (Some to))
+      ap (λ d. final_message_by d (Message.abort to reason)) (addressed_alike (Some to))
 
   faulty_alike : (bytes : List ℕ) (fault : FrameFault) → faulty f bytes fault ≡ faulty g bytes fault
   faulty_alike [] fault = refl

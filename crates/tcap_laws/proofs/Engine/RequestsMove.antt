@@ -21,10 +21,10 @@ use Rattle.tcap_model.specs.Replies.Due.{due_by}
 use Rattle.tcap_model.specs.Replies.Legal.{IsLegal}
 use Rattle.tcap_model.specs.Replies.Reply.{request_answer, reply}
 use Rattle.tcap_model.specs.Statements.EngineMoves.{with_pair, moved_at}
-use Rattle.tcap_model.specs.Table.Agreement.{setting_at, left_standing}
+use Rattle.tcap_model.specs.Table.Agreement.{setting_at}
 use Rattle.tcap_model.specs.Table.Dialogue.{Dialogue}
 use Rattle.tcap_model.specs.Table.EngineMove.{dialogue_in, moved_in, number_after, requested_in, with_dialogue}
-use Rattle.tcap_model.specs.Table.TableMove.{DialogueEvent, Moved, table_move}
+use Rattle.tcap_model.specs.Table.TableMove.{DialogueEvent, Moved, table_move, left_standing}
 use Rattle.tcap_model.specs.Table.World.{dialogue_by, world_of}
 use Rattle.tcap_model.specs.Words.Answer.{Answer}
 use Rattle.tcap_model.specs.Words.Event.{Event}
@@ -34,14 +34,14 @@ use Rattle.tcap_model.specs.Words.Request.{Request}
 
 -- ---- the counter of invocations
 
-counted : (start invoked : ℕ) (a : Answer)
+number-counted : (start invoked : ℕ) (a : Answer)
     → number_after a (start + invoked) ≡ start + cond (is_some (number_of a)) (invoked + 1) invoked
-counted start invoked (Answer.number n) = omega arith
-counted start invoked (Answer.new_dialogue d) = refl
-counted start invoked Answer.done = refl
-counted start invoked (Answer.given_up n) = refl
-counted start invoked (Answer.outputs os) = refl
-counted start invoked (Answer.refused f) = refl
+number-counted start invoked (Answer.number n) = omega arith
+number-counted start invoked (Answer.new_dialogue d) = refl
+number-counted start invoked Answer.done = refl
+number-counted start invoked (Answer.given_up n) = refl
+number-counted start invoked (Answer.outputs os) = refl
+number-counted start invoked (Answer.refused f) = refl
 
 same_some : {X Y : Type 0} (f : X → Y) (o : Option X) → is_some (option_map f o) ≡ is_some o
 same_some f None = refl
@@ -50,7 +50,7 @@ same_some f (Some x) = refl
 pub number-follows : (h : History) (event : Event)
     → number_after (reply h event) (next_number h) ≡ next_number (with_pair h event)
 number-follows h event =
-    counted h.start.next_number (invokes h.pairs) (reply h event)
+    number-counted h.start.next_number (invokes h.pairs) (reply h event)
     ∙ ap (λ b. h.start.next_number + cond b (invokes h.pairs + 1) (invokes h.pairs))
     (ap is_some (reply-numbered h event).0
     ∙ same_some (λ (i : Invocation). i.number) (invoked_of event (reply h event)))

@@ -27,7 +27,7 @@ use Rattle.tcap_model.specs.Statements.Only.{only}
 use Rattle.tcap_model.specs.Words.Output.{Output, AbortCause, DropCause, DialogueIndication}
 use Rattle.tcap_model.specs.Procedures.PortionRules.{PortionVerdict, portion_verdict}
 use Rattle.tcap_model.specs.Replies.Queue.{handled_in}
-use Rattle.tcap_model.specs.Procedures.Reception.{Reception, live_named, addressed_if_any, continue_by, last_by, message_by, fault_abort, aborted_or_dropped, faulty_continue, faulty_last, fault_by, faulty, reading_by, reception}
+use Rattle.tcap_model.specs.Procedures.Reception.{Reception, live_named, addressed_if_any, continue_by, final_message_by, message_by, fault_abort, aborted_or_dropped, faulty_continue, faulty_last, fault_by, faulty, reading_by, reception}
 use Rattle.tcap_model.specs.Replies.Reply.{continue_outputs, end_outputs, message_outputs, taken_outputs, reception_outputs, ended_in}
 use Rattle.tcap_model.specs.Words.State.{State, peer_by}
 
@@ -52,7 +52,7 @@ module _ (dialogue : ℕ) where
   continue-of None origin m is = tt
   continue-of (Some named) origin m is = is
 
-  last-of : (named : Option ℕ) (m : Message) → IsItsName named → IsOf (last_by named m)
+  last-of : (named : Option ℕ) (m : Message) → IsItsName named → IsOf (final_message_by named m)
   last-of None m is = tt
   last-of (Some named) m is = is
 
@@ -103,10 +103,10 @@ module _ (dialogue : ℕ) where
         (ap (λ o. continue_by o origin (Message.go_on origin to portion components)) n.0, continue-of (addressed_if_any live (Some to)) origin (Message.go_on origin to portion components) n.1)
     message-same (Message.end to portion components) is =
         let n = named-same (Some to) is in
-        (ap (λ o. last_by o (Message.end to portion components)) n.0, last-of (addressed_if_any live (Some to)) (Message.end to portion components) n.1)
+        (ap (λ o. final_message_by o (Message.end to portion components)) n.0, last-of (addressed_if_any live (Some to)) (Message.end to portion components) n.1)
     message-same (Message.abort to reason) is =
         let n = named-same (Some to) is in
-        (ap (λ o. last_by o (Message.abort to reason)) n.0, last-of (addressed_if_any live (Some to)) (Message.abort to reason) n.1)
+        (ap (λ o. final_message_by o (Message.abort to reason)) n.0, last-of (addressed_if_any live (Some to)) (Message.abort to reason) n.1)
 
     faulty-same : (bytes : List ℕ) (f : FrameFault) → is_destined dialogue (destination_by bytes (Err f)) ≡ true → AreSame (faulty live bytes f) (faulty others bytes f)
     faulty-same [] f is = absurd (true≢false (sym is))

@@ -14,7 +14,7 @@ use Rattle.tcap_model.specs.Histories.Names.{is_destined, named_within, names}
 use Rattle.tcap_model.specs.Words.Output.{Output}
 use Rattle.tcap_model.specs.Procedures.PortionRules.{BeginVerdict, begin_verdict, PortionVerdict, uni_verdict}
 use Rattle.tcap_model.specs.Statements.FaultAnswer.{fault_answer}
-use Rattle.tcap_model.specs.Procedures.Reception.{Reception, live_named, addressed, addressed_if_any, uni_by, begin_by, continue_by, last_by, message_by, fault_abort, aborted_or_dropped, faulty_continue, faulty_last, fault_by, faulty, reading_by, reception}
+use Rattle.tcap_model.specs.Procedures.Reception.{Reception, live_named, addressed, addressed_if_any, uni_by, begin_by, continue_by, final_message_by, message_by, fault_abort, aborted_or_dropped, faulty_continue, faulty_last, fault_by, faulty, reading_by, reception}
 
 -- ---- the dialogue that is named
 
@@ -123,7 +123,7 @@ module _ (live : ℕ → Bool) (bytes : List ℕ) (short : nat_le (length bytes)
       let to = live-destined live dialogue (destination m) is in
       (names-by dialogue (Ok m) e to.0, to.1, e)
 
-  last-named : (m : Message) → frame_at bytes ≡ Ok m → (named : Option ℕ) → addressed_if_any live (destination m) ≡ named → IsNamed live bytes (last_by named m)
+  last-named : (m : Message) → frame_at bytes ≡ Ok m → (named : Option ℕ) → addressed_if_any live (destination m) ≡ named → IsNamed live bytes (final_message_by named m)
   last-named m e (Some d) is = taken-named d m e is
   last-named m e None is = tt
 

@@ -18,10 +18,10 @@ use Rattle.tcap_model.specs.Words.State.{State, is_live}
 
 -- ---- the verdict that a relation has
 
-abbrev IsAccepted : PortionVerdict → Type 0
-IsAccepted verdict = (told : Option (List ℕ)) × (info : List ℕ) × (verdict ≡ PortionVerdict.normal told info)
+abbrev IsAcceptingPdu : PortionVerdict → Type 0
+IsAcceptingPdu verdict = (told : Option (List ℕ)) × (info : List ℕ) × (verdict ≡ PortionVerdict.normal told info)
 
-acceptance-verdict : (pdu : PduValue) → IsAcceptance pdu → IsAccepted (response_verdict (Ok pdu))
+acceptance-verdict : (pdu : PduValue) → IsAcceptance pdu → IsAcceptingPdu (response_verdict (Ok pdu))
 acceptance-verdict _ (accepts version1 context diagnostic info) = (Some context, info, refl)
 
 another-verdict : (pdu : PduValue) → (IsAcceptance pdu → ⊥) → response_verdict (Ok pdu) ≡ PortionVerdict.abnormal
@@ -43,7 +43,7 @@ asked-verdict : (context : List ℕ) (portion : List ℕ) (pdu : PduValue) → S
 asked-verdict context portion pdu spelled = ap response_verdict (dialogue_again portion pdu spelled)
 
 pub normal-verdict : (state : State) (context portion : Option (List ℕ)) → IsNormal state context portion →
-    IsAccepted (portion_verdict state context portion)
+    IsAcceptingPdu (portion_verdict state context portion)
 normal-verdict _ _ _ (absent not_asked) = (None, _, refl)
 normal-verdict _ _ _ (absent (answered peer context)) = (None, _, refl)
 normal-verdict _ _ _ (accepting portion pdu (asked context) spelled is) =

@@ -18,7 +18,7 @@ use Rattle.tcap_model.specs.Procedures.AbortRules.{fault_cause, unrecognized_id,
 use Rattle.tcap_model.specs.Histories.Life.{begin_context}
 use Rattle.tcap_model.specs.Words.Output.{Output}
 use Rattle.tcap_model.specs.Procedures.PortionRules.{BeginVerdict, begin_verdict, begin_verdict_by, PortionVerdict, uni_verdict}
-use Rattle.tcap_model.specs.Procedures.Reception.{Reception, addressed, addressed_if_any, uni_by, begin_by, continue_by, last_by, message_by, fault_abort, aborted_or_dropped, faulty_continue, faulty_last, fault_by, faulty, reading_by, reception}
+use Rattle.tcap_model.specs.Procedures.Reception.{Reception, addressed, addressed_if_any, uni_by, begin_by, continue_by, final_message_by, message_by, fault_abort, aborted_or_dropped, faulty_continue, faulty_last, fault_by, faulty, reading_by, reception}
 use Rattle.tcap_laws.proofs.Receptions.ProviderAborts.{Sends, cause-sends, abnormal-sends, version-sends}
 
 -- an Abort that goes out, if one does, can be sent
@@ -74,7 +74,7 @@ continue-sound : (full : Bool) (bytes origin : List ℕ) (m : Message) (named : 
 continue-sound full bytes origin m (Some d) e id = e
 continue-sound full bytes origin m None e id = cause-sends unrecognized_id origin (omega arith) id
 
-last-sound : (full : Bool) (bytes : List ℕ) (m : Message) (named : Option ℕ) → frame_at bytes ≡ Ok m → IsSound full bytes (last_by named m)
+last-sound : (full : Bool) (bytes : List ℕ) (m : Message) (named : Option ℕ) → frame_at bytes ≡ Ok m → IsSound full bytes (final_message_by named m)
 last-sound full bytes m (Some d) e = e
 last-sound full bytes m None e = tt
 

@@ -29,9 +29,9 @@ told-first (Output.component (ComponentIndication.remote_reject dialogue id prob
 told-first (Output.component (ComponentIndication.closed dialogue number id closing)) outputs told e = e
 told-first (Output.dropped why) outputs told e = e
 
-pub none-begun : (outputs : List Output) → AreTold outputs → first_begun outputs ≡ None
-none-begun [] told = refl
-none-begun (output ∷ outputs) told = told-first output outputs told.0 (none-begun outputs told.1)
+pub no-begin_first : (outputs : List Output) → AreTold outputs → first_begun outputs ≡ None
+no-begin_first [] told = refl
+no-begin_first (output ∷ outputs) told = told-first output outputs told.0 (no-begin_first outputs told.1)
 
 -- ---- a received Abort is told as no Begin and no Continue
 

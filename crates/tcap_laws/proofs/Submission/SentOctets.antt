@@ -32,7 +32,7 @@ use Rattle.tcap_laws.proofs.Receptions.SentRequests.{IfGoes, request-goes}
 use Rattle.tcap_laws.proofs.Receptions.ProviderAborts.{goes-spelled}
 use Rattle.tcap_laws.proofs.Queues.SentComponents.{all-first, same-items}
 use Rattle.tcap_laws.proofs.Submission.SubmittedParts.{components, joined-spelled}
-use Rattle.tcap_laws.proofs.Submission.SubmittedRequests.{Waits, waits-now}
+use Rattle.tcap_laws.proofs.Submission.SubmittedRequests.{WaitsUnsent, waits-now}
 use Rattle.tcap_laws.proofs.Receptions.ToldOutputKinds.{IsTold, AreTold, ended-told}
 use Rattle.tcap_model.specs.Statements.ComponentPortion.{portion_of}
 
@@ -67,19 +67,19 @@ pub record TakesAll (d : Standing) (asked : Option Message) : Type 0 where
   pub is_asked : asked ≡ Some message
   pub is_portion : portion_of message ≡ joined d.queue
 
-continue-takes : (d : Standing) (state : State) (portion : Option (List ℕ)) → has_peer state ≡ true →
+continue-sent_takes : (d : Standing) (state : State) (portion : Option (List ℕ)) → has_peer state ≡ true →
     TakesAll d (continue_message d state portion)
-continue-takes d State.fresh portion peer = absurd (true≢false (sym peer))
-continue-takes d State.sent portion peer = absurd (true≢false (sym peer))
-continue-takes d (State.received id) portion peer = record { message = _; is_asked = refl; is_portion = refl }
-continue-takes d (State.active id) portion peer = record { message = _; is_asked = refl; is_portion = refl }
+continue-sent_takes d State.fresh portion peer = absurd (true≢false (sym peer))
+continue-sent_takes d State.sent portion peer = absurd (true≢false (sym peer))
+continue-sent_takes d (State.received id) portion peer = record { message = _; is_asked = refl; is_portion = refl }
+continue-sent_takes d (State.active id) portion peer = record { message = _; is_asked = refl; is_portion = refl }
 
-end-takes : (d : Standing) (state : State) (portion : Option (List ℕ)) → has_peer state ≡ true →
+end-sent_takes : (d : Standing) (state : State) (portion : Option (List ℕ)) → has_peer state ≡ true →
     TakesAll d (end_message d state portion)
-end-takes d State.fresh portion peer = absurd (true≢false (sym peer))
-end-takes d State.sent portion peer = absurd (true≢false (sym peer))
-end-takes d (State.received id) portion peer = record { message = _; is_asked = refl; is_portion = refl }
-end-takes d (State.active id) portion peer = record { message = _; is_asked = refl; is_portion = refl }
+end-sent_takes d State.fresh portion peer = absurd (true≢false (sym peer))
+end-sent_takes d State.sent portion peer = absurd (true≢false (sym peer))
+end-sent_takes d (State.received id) portion peer = record { message = _; is_asked = refl; is_portion = refl }
+end-sent_takes d (State.active id) portion peer = record { message = _; is_asked = refl; is_portion = refl }
 
 -- a message, if there is one, has no components
 abbrev pub IsBare : Option Message → Type 0
@@ -165,7 +165,7 @@ flip true e = refl
 flip false e = absurd (true≢false e)
 
 module _ (h : History) (dialogue : ℕ) (state : State) (context : Option (List ℕ))
-    (lives : life dialogue h.pairs ≡ Life.standing state context) (waits : Waits dialogue h.pairs) where
+    (lives : life dialogue h.pairs ≡ Life.standing state context) (waits : WaitsUnsent dialogue h.pairs) where
   abbrev d : Standing
   d = standing_of dialogue h.pairs state context
 
@@ -250,13 +250,13 @@ module _ (h : History) (dialogue : ℕ) (state : State) (context : Option (List 
   accepted-sends (Request.dialogue (DialogueRequest.go_on asked info)) due =
       let r : Request = Request.dialogue (DialogueRequest.go_on asked info) in
       let none = first_that-none (holds (situation r) r) (faults_of r) due in
-      let takes = continue-takes d state (answer_portion state context asked info) (right r none.1.0) in
+      let takes = continue-sent_takes d state (answer_portion state context asked info) (right r none.1.0) in
       subst (λ (os : List Output). Sends os waiting) (append-nil (sent_if_any (message_of d r)))
       (all-sent (message_of d r) [] (goes r due) takes tt)
   accepted-sends (Request.dialogue (DialogueRequest.finish Ending.basic asked info)) due =
       let r : Request = Request.dialogue (DialogueRequest.finish Ending.basic asked info) in
       let none = first_that-none (holds (situation r) r) (faults_of r) due in
-      let takes = end-takes d state (answer_portion state context asked info) (right r none.1.0) in
+      let takes = end-sent_takes d state (answer_portion state context asked info) (right r none.1.0) in
       all-sent (message_of d r) ended (goes r due) takes all-told
   accepted-sends (Request.dialogue (DialogueRequest.finish Ending.prearranged asked info)) due =
       none-have (flat_map octets_of ended) (none-sent ended all-told)

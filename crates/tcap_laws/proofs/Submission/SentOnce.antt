@@ -26,8 +26,9 @@ use Rattle.tcap_laws.proofs.Receptions.SentMessages.{Nothing, tells-sends, birth
 use Rattle.tcap_laws.proofs.Submission.SentOctets.{IsBare, others-bare, none-bare, none-have, have-append, accepted-sends}
 use Rattle.tcap_laws.proofs.Submission.SubmittedParts.{components, octets-same}
 use Rattle.tcap_laws.proofs.Submission.SubmittedQueues.{queue-unsent}
-use Rattle.tcap_laws.proofs.Submission.SubmittedRequests.{Waits, waits-now}
+use Rattle.tcap_laws.proofs.Submission.SubmittedRequests.{WaitsUnsent, waits-now}
 use Rattle.tcap_laws.proofs.Receptions.ToldFromOctets.{legal-before}
+use Rattle.tcap_laws.proofs.BoolLemmas.{and_false, and_true}
 
 -- ---- what is submitted is sent, or it isn't sent yet
 
@@ -90,14 +91,6 @@ split d given (pair ∷ past) =
 
 -- ---- one pair
 
-and-false : (b : Bool) → (b && false) ≡ false
-and-false true = refl
-and-false false = refl
-
-and-true : (b : Bool) → (b && true) ≡ b
-and-true true = refl
-and-true false = refl
-
 refused-octets : (answer : Answer) → is_accepted answer ≡ false → octets_in answer ≡ []
 refused-octets (Answer.new_dialogue dialogue) e = absurd (true≢false e)
 refused-octets (Answer.number number) e = absurd (true≢false e)
@@ -106,7 +99,7 @@ refused-octets (Answer.given_up number) e = absurd (true≢false e)
 refused-octets (Answer.outputs outputs) e = absurd (true≢false e)
 refused-octets (Answer.refused fault) e = refl
 
-module _ (h : History) (d : ℕ) (waits : Waits d h.pairs) where
+module _ (h : History) (d : ℕ) (waits : WaitsUnsent d h.pairs) where
   -- what is sent has all that waits, or nothing
   abbrev Sends : List (List ℕ) → Bool → Type 0
   Sends messages all = HaveComponents messages (if all then components (unsent d [] h.pairs) else [])
@@ -115,14 +108,14 @@ module _ (h : History) (d : ℕ) (waits : Waits d h.pairs) where
       (accepted : Bool) → is_accepted answer ≡ accepted →
       Sends (octets_in answer) (sends_components request && is_accepted answer)
   accepted-or-not request answer sends true e =
-      let same = ap (λ (b : Bool). sends_components request && b) e ∙ and-true (sends_components request) in
+      let same = ap (λ (b : Bool). sends_components request && b) e ∙ and_true (sends_components request) in
       subst (Sends (octets_in answer)) (sym same) sends
   accepted-or-not request answer sends false e =
-      let none = ap (λ (b : Bool). sends_components request && b) e ∙ and-false (sends_components request) in
+      let none = ap (λ (b : Bool). sends_components request && b) e ∙ and_false (sends_components request) in
       subst (Sends (octets_in answer)) (sym none) (none-have (octets_in answer) (refused-octets answer e))
 
   refused-sends : (request : Request) → Sends [] (sends_components request && false)
-  refused-sends request = subst (Sends []) (sym (and-false (sends_components request))) refl
+  refused-sends request = subst (Sends []) (sym (and_false (sends_components request))) refl
 
   -- a request on the dialogue
   request-sends : (request : Request) (before : Life) (fault : Option Fault) →
@@ -219,7 +212,7 @@ module _ (h : History) (bytes : List ℕ) where
       let accepted : is_accepted answer ≡ true = ap is_accepted tells.is_answer in
       let here : (sends && is_accepted answer) ≡ false =
       sym (ap (λ (b : Bool). (b && sends) && is_accepted answer) (eq-eqb named named refl)) ∙ none named in
-      let other : sends ≡ false = sym (and-true sends) ∙ (ap (λ (b : Bool). sends && b) (sym accepted) ∙ here) in
+      let other : sends ≡ false = sym (and_true sends) ∙ (ap (λ (b : Bool). sends && b) (sym accepted) ∙ here) in
       let sent = sent_for_request h named request bytes tells in
       let bare = others-bare (standing_of named h.pairs sent.state sent.context) request other in
       none-bare bytes sent.message sent.is_message.spelled (subst IsBare sent.is_asked bare)

@@ -18,7 +18,7 @@ number_waiting None = None
 number_waiting (Some invoking) = Some invoking.number
 
 -- what waits is the octets of what was submitted, which can be read back
-pub record IsWritten (s : Submitted) (q : Queued) : Type 0 where
+pub record IsWrittenAs (s : Submitted) (q : Queued) : Type 0 where
   pub is_octets : q.octets ≡ written_component s.component
   pub is_number : number_waiting q.invoking ≡ s.number
   pub in_range : InRange s.component
@@ -28,7 +28,7 @@ abbrev pub AreWritten : List Submitted → List Queued → Type 0
 AreWritten [] [] = Unit {0}
 AreWritten [] (q ∷ qs) = ⊥
 AreWritten (s ∷ ss) [] = ⊥
-AreWritten (s ∷ ss) (q ∷ qs) = IsWritten s q × AreWritten ss qs
+AreWritten (s ∷ ss) (q ∷ qs) = IsWrittenAs s q × AreWritten ss qs
 
 pub written-append : (ss ts : List Submitted) (qs rs : List Queued) → AreWritten ss qs → AreWritten ts rs →
     AreWritten (ss ++ ts) (qs ++ rs)
@@ -40,46 +40,46 @@ written-append (s ∷ ss) ts (q ∷ qs) rs are others = (are.0, written-append s
 -- ---- without the Invokes that were given up
 
 -- what waits, without the Invokes of the invocations with these numbers
-abbrev pub left : List ℕ → List Queued → List Queued
-left given waits = filter (λ (q : Queued). not (is_given_up given (number_waiting q.invoking))) waits
+abbrev pub left_submitted : List ℕ → List Queued → List Queued
+left_submitted given waits = filter (λ (q : Queued). not (is_given_up given (number_waiting q.invoking))) waits
 
-pub left-append : (given : List ℕ) (qs rs : List Queued) → left given (qs ++ rs) ≡ left given qs ++ left given rs
+pub left-append : (given : List ℕ) (qs rs : List Queued) → left_submitted given (qs ++ rs) ≡ left_submitted given qs ++ left_submitted given rs
 left-append given qs rs = filter-append (λ (q : Queued). not (is_given_up given (number_waiting q.invoking))) qs rs
 
 kept-alike : (s : Submitted) (q : Queued) (ss : List Submitted) (qs : List Queued) (a b : Bool) → b ≡ a →
-    IsWritten s q → AreWritten ss qs → AreWritten (cond a (s ∷ ss) ss) (cond b (q ∷ qs) qs)
+    IsWrittenAs s q → AreWritten ss qs → AreWritten (cond a (s ∷ ss) ss) (cond b (q ∷ qs) qs)
 kept-alike s q ss qs true true same is are = (is, are)
 kept-alike s q ss qs true false same is are = absurd (true≢false (sym same))
 kept-alike s q ss qs false true same is are = absurd (true≢false same)
 kept-alike s q ss qs false false same is are = are
 
 pub written-without : (given : List ℕ) (ss : List Submitted) (qs : List Queued) → AreWritten ss qs →
-    AreWritten (without_given_up given ss) (left given qs)
+    AreWritten (without_given_up given ss) (left_submitted given qs)
 written-without given [] [] are = tt
 written-without given [] (q ∷ qs) are = absurd are
 written-without given (s ∷ ss) [] are = absurd are
 written-without given (s ∷ ss) (q ∷ qs) are =
-    let first : IsWritten s q = are.0 in
+    let first : IsWrittenAs s q = are.0 in
     let mine : Bool = not (is_given_up given s.number) in
     let its : Bool = not (is_given_up given (number_waiting q.invoking)) in
-    kept-alike s q (without_given_up given ss) (left given qs) mine its
+    kept-alike s q (without_given_up given ss) (left_submitted given qs) mine its
     (ap (λ (n : Option ℕ). not (is_given_up given n)) first.is_number) first (written-without given ss qs are.1)
 
 none-given : (n : Option ℕ) → is_given_up [] n ≡ false
 none-given None = refl
 none-given (Some n) = refl
 
-pub left-all : (qs : List Queued) → left [] qs ≡ qs
+pub left-all : (qs : List Queued) → left_submitted [] qs ≡ qs
 left-all [] = refl
 left-all (q ∷ qs) =
-    ap (λ (b : Bool). cond (not b) (q ∷ left [] qs) (left [] qs)) (none-given (number_waiting q.invoking))
+    ap (λ (b : Bool). cond (not b) (q ∷ left_submitted [] qs) (left_submitted [] qs)) (none-given (number_waiting q.invoking))
     ∙ ap (λ (l : List Queued). q ∷ l) (left-all qs)
 
 module _ (n : ℕ) (given : List ℕ) where
   invoke-cancelled : (octets : List ℕ) (invoking : Option Invoking) (qs : List Queued) →
-      left (n ∷ given) qs ≡ left given (without_invoke n qs) →
-      left (n ∷ given) (record { octets = octets; invoking = invoking } ∷ qs)
-      ≡ left given (without_invoke n (record { octets = octets; invoking = invoking } ∷ qs))
+      left_submitted (n ∷ given) qs ≡ left_submitted given (without_invoke n qs) →
+      left_submitted (n ∷ given) (record { octets = octets; invoking = invoking } ∷ qs)
+      ≡ left_submitted given (without_invoke n (record { octets = octets; invoking = invoking } ∷ qs))
   invoke-cancelled octets None qs same = ap (λ (l : List Queued). record { octets = octets; invoking = None } ∷ l) same
   invoke-cancelled octets (Some v) qs same =
       let q : Queued = record { octets = octets; invoking = Some v } in
@@ -88,7 +88,7 @@ module _ (n : ℕ) (given : List ℕ) where
         | inr other ↦ rw other (ap (λ l. cond (not (list_any (λ m. v.number == m) given)) (q ∷ l) l) same)
       ]
 
-  pub left-cancelled : (qs : List Queued) → left (n ∷ given) qs ≡ left given (without_invoke n qs)
+  pub left-cancelled : (qs : List Queued) → left_submitted (n ∷ given) qs ≡ left_submitted given (without_invoke n qs)
   left-cancelled [] = refl
   left-cancelled (q ∷ qs) = invoke-cancelled q.octets q.invoking qs (left-cancelled qs)
 
@@ -99,7 +99,7 @@ octets-counted [] [] are = refl
 octets-counted [] (q ∷ qs) are = absurd are
 octets-counted (s ∷ ss) [] are = absurd are
 octets-counted (s ∷ ss) (q ∷ qs) are =
-    let first : IsWritten s q = are.0 in
+    let first : IsWrittenAs s q = are.0 in
     let here : length q.octets ≡ length (written_component s.component) = ap length first.is_octets in
     let others = octets-counted ss qs are.1 in
     let whole = length-append q.octets (joined qs) in
@@ -111,7 +111,7 @@ octets-same [] [] are = refl
 octets-same [] (q ∷ qs) are = absurd are
 octets-same (s ∷ ss) [] are = absurd are
 octets-same (s ∷ ss) (q ∷ qs) are =
-    let first : IsWritten s q = are.0 in
+    let first : IsWrittenAs s q = are.0 in
     let written : List (List ℕ) = map (λ (x : Submitted). written_component x.component) ss in
     ap (λ (octets : List (List ℕ)). q.octets ∷ octets) (octets-same ss qs are.1)
     ∙ ap (λ (octets : List ℕ). octets ∷ written) first.is_octets
@@ -125,7 +125,7 @@ joined-spelled [] [] are = refl
 joined-spelled [] (q ∷ qs) are = absurd are
 joined-spelled (s ∷ ss) [] are = absurd are
 joined-spelled (s ∷ ss) (q ∷ qs) are =
-    let first : IsWritten s q = are.0 in
+    let first : IsWrittenAs s q = are.0 in
     let spelled : SpellsComponent s.component q.octets =
     subst (SpellsComponent s.component) (sym first.is_octets)
     (component_spelled s.component first.in_range first.can) in

@@ -29,7 +29,7 @@ use Rattle.tcap_laws.proofs.Receptions.NamedReceptions.{that-is}
 use Rattle.tcap_laws.proofs.Isolation.SeenDecisions.{unborn_refused}
 use Rattle.tcap_laws.proofs.Submission.SubmittedParts.{octets-counted, written_all, each-fitting, IsGood, fitting-good, rejects-written}
 use Rattle.tcap_laws.proofs.Submission.SubmittedReceptions.{received-agrees}
-use Rattle.tcap_laws.proofs.Submission.SubmittedRequests.{Waits, waits-now, step, stays, more, request-waits}
+use Rattle.tcap_laws.proofs.Submission.SubmittedRequests.{WaitsUnsent, waits-now, step, stays, more, request-waits}
 use Rattle.tcap_model.specs.Statements.ComponentPortion.{portion_of}
 
 -- ---- before its birth nothing waits for a dialogue
@@ -101,7 +101,7 @@ module _ (d : ℕ) (past : Past) where
 
 -- ---- one pair
 
-module _ (h : History) (d : ℕ) (legal : AreReplies h.start h.pairs) (waits : Waits d h.pairs) where
+module _ (h : History) (d : ℕ) (legal : AreReplies h.start h.pairs) (waits : WaitsUnsent d h.pairs) where
   abbrev waiting : List Queued
   waiting = queue d h.pairs
 
@@ -152,10 +152,10 @@ module _ (h : History) (d : ℕ) (legal : AreReplies h.start h.pairs) (waits : W
     abbrev made : ℕ → Bool → List Submitted
     made count taken = if taken then map submitted_reject (fitting count rejects) else []
 
-    received-waits : Waits d (here ∷ h.pairs)
+    received-waits : WaitsUnsent d (here ∷ h.pairs)
     received-waits = by (is_taken d here.answer) refl
       where
-        by : (b : Bool) → is_taken d here.answer ≡ b → Waits d (here ∷ h.pairs)
+        by : (b : Bool) → is_taken d here.answer ≡ b → WaitsUnsent d (here ∷ h.pairs)
         by false e =
             step d here h.pairs waits false [] [] waiting refl refl
             (ap (made (octet_count (unsent d [] h.pairs))) e) (kept e) (stays d here h.pairs waits)
@@ -170,14 +170,14 @@ module _ (h : History) (d : ℕ) (legal : AreReplies h.start h.pairs) (waits : W
             (more d here h.pairs waits (map submitted_reject fit) (written_all fit) (rejects-written fit good))
 
   pair-waits : (event : Event) (answer : Answer) → IsTrue (is_in_range event) → answer ≡ reply h event →
-      Waits d (with_answer event answer ∷ h.pairs)
+      WaitsUnsent d (with_answer event answer ∷ h.pairs)
   pair-waits Event.new_dialogue answer range is_reply =
       let here : Pair = with_answer Event.new_dialogue answer in
       step d here h.pairs waits false [] [] waiting refl refl refl (new-queue answer is_reply)
       (stays d here h.pairs waits)
   pair-waits (Event.on_dialogue named request) answer range is_reply = by (named == d) refl
     where
-      by : (b : Bool) → (named == d) ≡ b → Waits d (with_answer (Event.on_dialogue named request) answer ∷ h.pairs)
+      by : (b : Bool) → (named == d) ≡ b → WaitsUnsent d (with_answer (Event.on_dialogue named request) answer ∷ h.pairs)
       by true e =
           request-waits h d named e waits request answer
           (and_parts (is_short named) (is_request request) range).1 is_reply (is_accepted answer) refl
@@ -190,13 +190,13 @@ module _ (h : History) (d : ℕ) (legal : AreReplies h.start h.pairs) (waits : W
           (ap (λ b. if b then queue_if_accepted (is_accepted answer) waiting request answer else waiting) e)
           (stays d here h.pairs waits)
   pair-waits (Event.received bytes) answer range is_reply =
-      subst (λ (a : Answer). Waits d (with_answer (Event.received bytes) a ∷ h.pairs)) (sym is_reply)
+      subst (λ (a : Answer). WaitsUnsent d (with_answer (Event.received bytes) a ∷ h.pairs)) (sym is_reply)
       (received-waits bytes)
   pair-waits (Event.moment now) answer range is_reply =
       let here : Pair = with_answer (Event.moment now) answer in
       step d here h.pairs waits false [] [] waiting refl refl refl refl (stays d here h.pairs waits)
 
-pub queue-unsent : (start : Start) (d : ℕ) (past : Past) → AreReplies start past → Waits d past
+pub queue-unsent : (start : Start) (d : ℕ) (past : Past) → AreReplies start past → WaitsUnsent d past
 queue-unsent start d [] legal = λ given. tt
 queue-unsent start d (pair ∷ past) legal =
     pair-waits (record { start = start; pairs = past }) d legal.2 (queue-unsent start d past legal.2)

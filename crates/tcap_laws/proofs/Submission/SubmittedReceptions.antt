@@ -23,7 +23,7 @@ use Rattle.tcap_model.specs.Procedures.Reception.{Reception, reception}
 use Rattle.tcap_model.specs.Replies.Reply.{ended_in, continue_outputs, end_outputs, message_outputs, taken_outputs, reception_outputs}
 use Rattle.tcap_model.specs.Words.State.{State, is_live}
 use Rattle.tcap_model.specs.Statements.Submitted.{begins_or_continues, is_taken, rejects_formed}
-use Rattle.tcap_laws.proofs.Submission.FirstOutputs.{told-first, none-begun, abort-aborts}
+use Rattle.tcap_laws.proofs.Submission.FirstOutputs.{told-first, no-begin_first, abort-aborts}
 use Rattle.tcap_laws.proofs.Receptions.NamedReceptions.{named-taken, named-broken, IsNamed, reception-named}
 use Rattle.tcap_laws.proofs.Receptions.ReceivedMarks.{unaddressed}
 use Rattle.tcap_laws.proofs.Receptions.ProviderAborts.{Sends}
@@ -168,10 +168,10 @@ module _ (h : History) (d : ℕ) (bytes : List ℕ) (q : List Queued) where
 
   broken-none : (named cause : ℕ) (abort : Option Output) → IfSends abort →
       first_begun (option_to_list abort ++ broken_told named cause) ≡ None
-  broken-none named cause None sends = none-begun (ended_in named h.pairs []) (ended-told named h.pairs [])
+  broken-none named cause None sends = no-begin_first (ended_in named h.pairs []) (ended-told named h.pairs [])
   broken-none named cause (Some output) sends =
       subst (λ (o : Output). first_begun (o ∷ broken_told named cause) ≡ None) (sym sends.2)
-      (none-begun (ended_in named h.pairs []) (ended-told named h.pairs []))
+      (no-begin_first (ended_in named h.pairs []) (ended-told named h.pairs []))
 
   broken-untaken : (named cause : ℕ) (abort : Option Output) → IfSends abort →
       is_taken d (Answer.outputs (option_to_list abort ++ broken_told named cause)) ≡ false
@@ -214,7 +214,7 @@ module _ (h : History) (d : ℕ) (bytes : List ℕ) (q : List Queued) where
         AgreesWith (continue_outputs named h.pairs state origin components verdict)
     continue-agrees origin to portion components read is (PortionVerdict.normal given info) judged =
         ap (λ (o : Option ℕ). queue_by (is_that d o))
-        (none-begun (told_of (handled_in named h.pairs components)) (components-told named h.pairs components))
+        (no-begin_first (told_of (handled_in named h.pairs components)) (components-told named h.pairs components))
         ∙ by (named == d) refl
       where
         by : (b : Bool) → (named == d) ≡ b → named_queue ≡ (if b then grown else q)
@@ -225,7 +225,7 @@ module _ (h : History) (d : ℕ) (bytes : List ℕ) (q : List Queued) where
         by false e = another (Reception.taken named (Message.go_on origin to portion components)) is e
     continue-agrees origin to portion components read is PortionVerdict.abnormal judged =
         quiet (continue_outputs named h.pairs state origin components PortionVerdict.abnormal)
-        (none-begun (ended_in named h.pairs []) (ended-told named h.pairs [])) refl (by (named == d) refl)
+        (no-begin_first (ended_in named h.pairs []) (ended-told named h.pairs [])) refl (by (named == d) refl)
       where
         by : (b : Bool) → (named == d) ≡ b → named_queue ≡ q
         by true e =
@@ -241,9 +241,9 @@ module _ (h : History) (d : ℕ) (bytes : List ℕ) (q : List Queued) where
         let ended = ended_in named h.pairs (components_of components) in
         let all = each-append IsTold told ended (components-told named h.pairs components)
         (ended-told named h.pairs (components_of components)) in
-        (none-begun (told ++ ended) all, refl)
+        (no-begin_first (told ++ ended) all, refl)
     end-first components PortionVerdict.abnormal =
-        (none-begun (ended_in named h.pairs []) (ended-told named h.pairs []), refl)
+        (no-begin_first (ended_in named h.pairs []) (ended-told named h.pairs []), refl)
 
     message-agrees : (m : Message) → frame_at bytes ≡ Ok m → received ≡ Reception.taken named m →
         AgreesWith (message_outputs named h.pairs state context m)
@@ -257,7 +257,7 @@ module _ (h : History) (d : ℕ) (bytes : List ℕ) (q : List Queued) where
         let ended = ended_in named h.pairs [] in
         quiet (abort_told named reason ∷ ended)
         (told-first (abort_told named reason) ended (abort-told named reason)
-        (none-begun ended (ended-told named h.pairs [])))
+        (no-begin_first ended (ended-told named h.pairs [])))
         (abort-aborts d named reason) (spared (Message.abort to reason) read (λ s c. refl))
     message-agrees (Message.unidirectional portion components) read is =
         absurd (unaddressed named bytes named_it (Message.unidirectional portion components) read refl)
@@ -279,7 +279,7 @@ module _ (h : History) (d : ℕ) (bytes : List ℕ) (q : List Queued) where
   agrees empty (Reception.aborted abort) is named sound = aborted-agrees abort sound is
   agrees empty (Reception.unidirectional context info components) is named sound =
       let told = uni_told (components_of components) in
-      quiet (Output.dialogue (DialogueIndication.uni context info) ∷ told) (none-begun told (uni-told (components_of components))) refl
+      quiet (Output.dialogue (DialogueIndication.uni context info) ∷ told) (no-begin_first told (uni-told (components_of components))) refl
       (unreached (Reception.unidirectional context info components) is refl)
   agrees empty (Reception.begun origin context info components) is named sound =
       begun-agrees origin context info components sound.0 empty sound.1 is

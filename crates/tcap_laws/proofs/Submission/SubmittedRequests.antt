@@ -22,13 +22,14 @@ use Rattle.tcap_model.specs.Words.State.{State}
 use Rattle.tcap_model.specs.Statements.Submitted.{Submitted, sends_components, is_sending, given_up_in, given_up_on, without_given_up, asked_for, submitted_at, unsent}
 use Rattle.tcap_laws.proofs.Queues.QueuedComponents.{accepted-parts, accepted-good}
 use Rattle.tcap_laws.proofs.Queues.RequestedComponents.{IfGood}
-use Rattle.tcap_laws.proofs.Submission.SubmittedParts.{AreWritten, IsWritten, written-append, left, left-append, left-all, left-cancelled, written-without}
+use Rattle.tcap_laws.proofs.Submission.SubmittedParts.{AreWritten, IsWrittenAs, written-append, left_submitted, left-append, left-all, left-cancelled, written-without}
+use Rattle.tcap_laws.proofs.BoolLemmas.{and_false}
 
 -- what waits beside what is unsent, whatever is given up later
-abbrev pub Waits : ℕ → Past → Type 0
-Waits d past = (given : List ℕ) → AreWritten (unsent d given past) (left given (queue d past))
+abbrev pub WaitsUnsent : ℕ → Past → Type 0
+WaitsUnsent d past = (given : List ℕ) → AreWritten (unsent d given past) (left_submitted given (queue d past))
 
-pub waits-now : (d : ℕ) (past : Past) → Waits d past → AreWritten (unsent d [] past) (queue d past)
+pub waits-now : (d : ℕ) (past : Past) → WaitsUnsent d past → AreWritten (unsent d [] past) (queue d past)
 waits-now d past waits = subst (AreWritten (unsent d [] past)) (left-all (queue d past)) (waits [])
 
 -- ---- what one pair does
@@ -38,10 +39,10 @@ abbrev unsent_after : ℕ → Past → List ℕ → Bool → List ℕ → List S
 unsent_after d past given sending now made =
     if sending then [] else unsent d (now ++ given) past ++ without_given_up given made
 
-module _ (d : ℕ) (pair : Pair) (past : Past) (waits : Waits d past) where
+module _ (d : ℕ) (pair : Pair) (past : Past) (waits : WaitsUnsent d past) where
   abbrev pub Follows : Bool → List ℕ → List Submitted → List Queued → Type 0
   Follows sending now made after =
-      (given : List ℕ) → AreWritten (unsent_after d past given sending now made) (left given after)
+      (given : List ℕ) → AreWritten (unsent_after d past given sending now made) (left_submitted given after)
 
   unsent-is : (given : List ℕ) (sending : Bool) (now : List ℕ) (made : List Submitted) → is_sending d pair ≡ sending →
       given_up_on d pair.event pair.answer ≡ now → submitted_at d pair past ≡ made →
@@ -53,16 +54,16 @@ module _ (d : ℕ) (pair : Pair) (past : Past) (waits : Waits d past) where
 
   pub step : (sending : Bool) (now : List ℕ) (made : List Submitted) (after : List Queued) →
       is_sending d pair ≡ sending → given_up_on d pair.event pair.answer ≡ now → submitted_at d pair past ≡ made →
-      queue d (pair ∷ past) ≡ after → Follows sending now made after → Waits d (pair ∷ past)
+      queue d (pair ∷ past) ≡ after → Follows sending now made after → WaitsUnsent d (pair ∷ past)
   step sending now made after is_it is_now is_made is_after follows given =
-      subst (λ (qs : List Queued). AreWritten (unsent d given (pair ∷ past)) (left given qs)) (sym is_after)
-      (subst (λ (ss : List Submitted). AreWritten ss (left given after))
+      subst (λ (qs : List Queued). AreWritten (unsent d given (pair ∷ past)) (left_submitted given qs)) (sym is_after)
+      (subst (λ (ss : List Submitted). AreWritten ss (left_submitted given after))
       (sym (unsent-is given sending now made is_it is_now is_made)) (follows given))
 
   -- nothing
   pub stays : Follows false [] [] (queue d past)
   stays given =
-      subst (λ (ss : List Submitted). AreWritten ss (left given (queue d past)))
+      subst (λ (ss : List Submitted). AreWritten ss (left_submitted given (queue d past)))
       (sym (append-nil (unsent d given past))) (waits given)
 
   -- something more waits
@@ -71,28 +72,24 @@ module _ (d : ℕ) (pair : Pair) (past : Past) (waits : Waits d past) where
   more made added are given =
       subst (AreWritten (unsent d given past ++ without_given_up given made))
       (sym (left-append given (queue d past) added))
-      (written-append (unsent d given past) (without_given_up given made) (left given (queue d past))
-      (left given added) (waits given) (written-without given made added are))
+      (written-append (unsent d given past) (without_given_up given made) (left_submitted given (queue d past))
+      (left_submitted given added) (waits given) (written-without given made added are))
 
   -- an Invoke is taken out
   fewer : (n : ℕ) → Follows false (n ∷ []) [] (without_invoke n (queue d past))
   fewer n given =
-      subst (λ (ss : List Submitted). AreWritten ss (left given (without_invoke n (queue d past))))
+      subst (λ (ss : List Submitted). AreWritten ss (left_submitted given (without_invoke n (queue d past))))
       (sym (append-nil (unsent d (n ∷ given) past)))
       (subst (AreWritten (unsent d (n ∷ given) past)) (left-cancelled n given (queue d past)) (waits (n ∷ given)))
 
 -- ---- requests
 
-and-false : (b : Bool) → (b && false) ≡ false
-and-false true = refl
-and-false false = refl
-
-module _ (h : History) (d named : ℕ) (same : (named == d) ≡ true) (waits : Waits d h.pairs) where
+module _ (h : History) (d named : ℕ) (same : (named == d) ≡ true) (waits : WaitsUnsent d h.pairs) where
   abbrev with_answer : Request → Answer → Pair
   with_answer request answer = record { event = Event.on_dialogue named request; answer = answer }
 
   abbrev After : Request → Answer → Type 0
-  After request answer = Waits d (with_answer request answer ∷ h.pairs)
+  After request answer = WaitsUnsent d (with_answer request answer ∷ h.pairs)
 
   abbrev waiting : List Queued
   waiting = queue d h.pairs
@@ -116,7 +113,7 @@ module _ (h : History) (d named : ℕ) (same : (named == d) ≡ true) (waits : W
       (c : ComponentParts) → sends_components request ≡ false → is_accepted answer ≡ true → given_up_in answer ≡ [] →
       asked_for request answer ≡ made ∷ [] →
       queue_by_request waiting request answer ≡ waiting ++ queued invoking c ∷ [] →
-      IsWritten made (queued invoking c) → After request answer
+      IsWrittenAs made (queued invoking c) → After request answer
   component request answer made invoking c none accepted kept is_made is_after is =
       asked request answer false [] (made ∷ []) (waiting ++ queued invoking c ∷ [])
       (ap (λ (b : Bool). b && is_accepted answer) none) kept
@@ -191,7 +188,7 @@ module _ (h : History) (d named : ℕ) (same : (named == d) ≡ true) (waits : W
   refused-waits request (Answer.given_up number) e = absurd (true≢false e)
   refused-waits request (Answer.outputs outputs) e = absurd (true≢false e)
   refused-waits request (Answer.refused fault) e =
-      asked request (Answer.refused fault) false [] [] waiting (and-false (sends_components request)) refl refl refl
+      asked request (Answer.refused fault) false [] [] waiting (and_false (sends_components request)) refl refl refl
       (stays d (with_answer request (Answer.refused fault)) h.pairs waits)
 
   pub request-waits : (request : Request) (answer : Answer) → IsTrue (is_request request) →

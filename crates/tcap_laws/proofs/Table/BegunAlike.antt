@@ -9,7 +9,7 @@ use Rattle.tcap_laws.proofs.Rows.DistinctRows.{rows_distinct}
 use Rattle.tcap_laws.proofs.Rows.SentInRows.{sent-rows}
 use Rattle.tcap_laws.proofs.Rows.ComponentsAlike.{IsLike, fault_last, walk_tells, walk_rejects}
 use Rattle.tcap_laws.proofs.Rows.RowsAfterComponents.{walk_at, stage_up}
-use Rattle.tcap_model.specs.Table.Agreement.{setting_at, due_pair, left_standing}
+use Rattle.tcap_model.specs.Table.Agreement.{setting_at, due_pair}
 use Rattle.tcap_model.specs.Words.Answer.{Answer}
 use Rattle.tcap_model.specs.Histories.Birth.{is_birth_of, born_of, next_dialogue}
 use Rattle.tcap_model.specs.Histories.Clock.{clock}
@@ -33,7 +33,7 @@ use Rattle.tcap_model.specs.Histories.Names.{names}
 use Rattle.tcap_model.specs.Procedures.Reception.{Reception, begin_by, message_by, reading_by, reception}
 use Rattle.tcap_model.specs.Replies.Reply.{reply, reception_outputs}
 use Rattle.tcap_model.specs.Words.State.{State}
-use Rattle.tcap_model.specs.Table.TableMove.{Walked, walked, walked_in, born}
+use Rattle.tcap_model.specs.Table.TableMove.{Walked, walked, walked_in, born, left_standing}
 use Rattle.tcap_model.specs.Table.World.{row_by, stage_by, is_number, rows_of, dialogue_at, dialogue_by}
 use Rattle.tcap_pdu.specs.FrameReading.{frame_at}
 use Rattle.tcap_pdu.specs.FrameSpelling.{Message}

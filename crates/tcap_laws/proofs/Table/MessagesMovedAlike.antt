@@ -13,7 +13,7 @@ use Rattle.tcap_laws.proofs.Rows.Restaged.{passing_rows}
 use Rattle.tcap_laws.proofs.Table.StandingPairs.{here, life_named, queue_named, assembled}
 use Rattle.tcap_laws.proofs.Rows.ComponentsAlike.{fault_last}
 use Rattle.tcap_laws.proofs.Rows.RowsAfterComponents.{walk_at, rows_up, rows_message}
-use Rattle.tcap_model.specs.Table.Agreement.{setting_at, due_pair, left_standing}
+use Rattle.tcap_model.specs.Table.Agreement.{setting_at, due_pair}
 use Rattle.tcap_model.specs.Words.Answer.{Answer, is_accepted}
 use Rattle.tcap_model.specs.Histories.Clock.{clock}
 use Rattle.tcap_model.specs.Table.Dialogue.{Dialogue}
@@ -30,7 +30,7 @@ use Rattle.tcap_model.specs.Replies.Queue.{queue, handled_in, queue_by_verdict, 
 use Rattle.tcap_model.specs.Procedures.QueueRules.{queue_limit, queue_each}
 use Rattle.tcap_model.specs.Replies.Reply.{reply, moment_answer, lapses}
 use Rattle.tcap_model.specs.Words.State.{State, is_live, peer_by}
-use Rattle.tcap_model.specs.Table.TableMove.{DialogueEvent, Walked, walked_in, continued_by, ended_by, table_move}
+use Rattle.tcap_model.specs.Table.TableMove.{DialogueEvent, Walked, walked_in, continued_by, ended_by, table_move, left_standing}
 use Rattle.tcap_model.specs.Words.Time.{moment_fault}
 use Rattle.tcap_model.specs.Table.World.{dialogue_at, dialogue_by, rows_of}
 use Rattle.tcap_pdu.specs.declared.fault.FrameFault.{FrameFault}

@@ -19,7 +19,7 @@ use Rattle.tcap_laws.proofs.Table.RequestsJudgedAlike.{standing_dialogue, due-ag
 use Rattle.tcap_laws.proofs.Rows.Restaged.{on_id, restaged}
 use Rattle.tcap_laws.proofs.Rows.IdentifiersInRows.{pending-rows}
 use Rattle.tcap_laws.proofs.Rows.StagesByMarks.{open_stage}
-use Rattle.tcap_model.specs.Table.Agreement.{setting_at, due_pair, left_standing}
+use Rattle.tcap_model.specs.Table.Agreement.{setting_at, due_pair}
 use Rattle.tcap_model.specs.Words.Answer.{Answer}
 use Rattle.tcap_model.specs.Histories.Clock.{clock}
 use Rattle.tcap_model.specs.Table.Dialogue.{Dialogue}
@@ -40,7 +40,7 @@ use Rattle.tcap_model.specs.Procedures.Refusals.{due_on, holds, faults_of}
 use Rattle.tcap_model.specs.Replies.Reply.{reply, accepted_answer, given_up_answer}
 use Rattle.tcap_model.specs.Words.Request.{Request, ComponentRequest, DialogueRequest}
 use Rattle.tcap_model.specs.Words.State.{State, activated}
-use Rattle.tcap_model.specs.Table.TableMove.{DialogueEvent, accepted, requested_by, giving_up, freed_by, table_move}
+use Rattle.tcap_model.specs.Table.TableMove.{DialogueEvent, accepted, requested_by, giving_up, freed_by, table_move, left_standing}
 use Rattle.tcap_model.specs.Table.World.{dialogue_at, dialogue_by, rows_of}
 use Rattle.std.proofs.lemmas.List.{append-nil}
 use Rattle.std.specs.Prelude.{option_to_list}

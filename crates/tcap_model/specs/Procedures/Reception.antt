@@ -60,9 +60,9 @@ continue_by (Some d) origin m = Reception.taken d m
 continue_by None origin m = Reception.aborted (abort_with unrecognized_id origin)
 
 -- An End or an Abort to no live dialogue is dropped (Q.774, Abnormal procedures).
-abbrev pub last_by : Option ℕ → Message → Reception
-last_by (Some d) m = Reception.taken d m
-last_by None m = Reception.dropped DropCause.no_dialogue
+abbrev pub final_message_by : Option ℕ → Message → Reception
+final_message_by (Some d) m = Reception.taken d m
+final_message_by None m = Reception.dropped DropCause.no_dialogue
 
 -- What becomes of a message, where `is_full` says that no dialogue can be born: a Begin is then
 -- aborted with cause 4, resource limitation, whatever its dialogue portion is
@@ -72,8 +72,8 @@ message_by is_live is_full (Message.unidirectional portion components) = uni_by 
 message_by is_live is_full (Message.begin origin portion components) =
     if is_full then Reception.aborted (abort_with resource_limitation origin) else begin_by (begin_verdict portion) origin components
 message_by is_live is_full (Message.go_on origin to portion components) = continue_by (addressed is_live to) origin (Message.go_on origin to portion components)
-message_by is_live is_full (Message.end to portion components) = last_by (addressed is_live to) (Message.end to portion components)
-message_by is_live is_full (Message.abort to reason) = last_by (addressed is_live to) (Message.abort to reason)
+message_by is_live is_full (Message.end to portion components) = final_message_by (addressed is_live to) (Message.end to portion components)
+message_by is_live is_full (Message.abort to reason) = final_message_by (addressed is_live to) (Message.abort to reason)
 
 -- ---- faulty messages
 

@@ -28,7 +28,3 @@ leaves_standing (Request.dialogue (DialogueRequest.u_abort why info)) = false
 -- An event with the answer that is due to it (own).
 abbrev pub due_pair : History → Event → Pair
 due_pair h event = record { event = event; answer = reply h event }
-
--- The dialogue after it moved, if it isn't over (own).
-abbrev pub left_standing : Moved → Option Dialogue
-left_standing m = if m.is_over then None else Some m.after

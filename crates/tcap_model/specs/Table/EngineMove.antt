@@ -5,10 +5,9 @@ use Rattle.tcap_component.specs.ComponentReading.{components_of}
 use Rattle.tcap_model.specs.Procedures.ComponentHandling.{uni_told}
 use Rattle.tcap_model.specs.Procedures.QueueRules.{queue_limit}
 use Rattle.tcap_model.specs.Procedures.Reception.{Reception, reception}
-use Rattle.tcap_model.specs.Table.Agreement.{left_standing}
 use Rattle.tcap_model.specs.Table.Dialogue.{Dialogue, fresh_dialogue}
 use Rattle.tcap_model.specs.Table.DueLapses.{all_told, at_moment}
-use Rattle.tcap_model.specs.Table.TableMove.{Setting, Moved, DialogueEvent, table_move, born}
+use Rattle.tcap_model.specs.Table.TableMove.{Setting, Moved, DialogueEvent, table_move, born, left_standing}
 use Rattle.tcap_model.specs.Table.World.{World}
 use Rattle.tcap_model.specs.Words.Answer.{Answer}
 use Rattle.tcap_model.specs.Words.Event.{Event}

@@ -1,5 +1,5 @@
 -- What one dialogue does: to each event on it the answer, the dialogue after it, and whether it is over.
-use Rattle.std.specs.Prelude.{ℕ, ℤ, Bool, true, false, List, [], ◌∷◌, ◌++◌, map, is_some, Option, Some, None, Ok, Err}
+use Rattle.std.specs.Prelude.{ℕ, ℤ, Bool, true, false, List, [], ◌∷◌, ◌++◌, map, is_some, Option, Some, None, Ok, Err, if◌then◌else◌}
 use Rattle.tcap_pdu.specs.FrameSpelling.{Message}
 use Rattle.tcap_component.specs.declared.problem.Kind.{Kind}
 use Rattle.tcap_component.specs.declared.problem.Kind.TheVariants as kind
@@ -236,3 +236,7 @@ table_move s d (DialogueEvent.request r) = requested_by s d r (due_on (situation
 table_move s d (DialogueEvent.frame m) = framed s d m
 table_move s d (DialogueEvent.fault cause) = over_with d (Output.dialogue (DialogueIndication.p_abort d.standing.identifier (AbortCause.cause cause)) ∷ []) d.invocations
 table_move s d (DialogueEvent.moment now) = lapsed d now
+
+-- The dialogue after it moved, if it isn't over (own).
+abbrev pub left_standing : Moved → Option Dialogue
+left_standing m = if m.is_over then None else Some m.after
