@@ -130,7 +130,7 @@ origin_unnamed it = by it.to it.is_destination it.is_dialogue
         let read : frame_at example.faulty_continue ≡ Ok m = frame_again m example.faulty_continue spelled in absurd cc
     by to (at_front fault origin _ is begins front) named =
         let at = ap (λ (p : Option (List ℕ) × Option (List ℕ)). p.1)
-            (front_again example.faulty_continue origin (Some to) front) in
+        (front_again example.faulty_continue origin (Some to) front) in
         let same : example.first_octets ≡ to = some_is example.first_octets to at in
         let one : Some 1 ≡ Some 5 = ap dialogue_named same ∙ named in
         apart (λ (n : ℕ). n) (some_is 1 5 one) refl
