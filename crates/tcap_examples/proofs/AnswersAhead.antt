@@ -73,7 +73,22 @@ ahead-untold told =
 
 heard-legal : (engine : Engine) → IsLegal (history_in heard_as_one engine heard_as_one.trace)
 unfolding computing
-heard-legal Engine.a = (refl, (refl, refl, (refl, refl, (refl, refl, (refl, refl, (refl, refl, (refl, refl, (refl, refl, (refl, refl, tt)))))))))
+heard-legal Engine.a = (
+  refl,
+  (
+    refl,
+    refl,
+    (
+      refl,
+      refl,
+      (
+        refl,
+        refl,
+        (refl, refl, (refl, refl, (refl, refl, (refl, refl, (refl, refl, tt))))),
+      ),
+    ),
+  ),
+)
 heard-legal Engine.b = (refl, (refl, refl, (refl, refl, (refl, refl, (refl, refl, (refl, refl, (refl, refl, tt)))))))
 
 pub heard-net : IsNet heard_as_one
@@ -132,7 +147,22 @@ begun = Output.dialogue (DialogueIndication.begin 1 None [])
 
 again-legal : (engine : Engine) → IsLegal (history_in used_again engine used_again.trace)
 unfolding computing
-again-legal Engine.a = (refl, (refl, refl, (refl, refl, (refl, refl, (refl, refl, (refl, refl, (refl, refl, (refl, refl, (refl, refl, tt)))))))))
+again-legal Engine.a = (
+  refl,
+  (
+    refl,
+    refl,
+    (
+      refl,
+      refl,
+      (
+        refl,
+        refl,
+        (refl, refl, (refl, refl, (refl, refl, (refl, refl, (refl, refl, tt))))),
+      ),
+    ),
+  ),
+)
 again-legal Engine.b = (refl, (refl, refl, (refl, refl, (refl, refl, tt))))
 
 pub again-net : IsNet used_again

@@ -42,7 +42,8 @@ tells_three (Output.component (ComponentIndication.remote_reject dialogue id pro
 tells_three (Output.component (ComponentIndication.closed dialogue number id closing)) = false
 tells_three (Output.dropped why) = false
 
-stands_for_three : (output : Output) (component : ComponentParts) → StandsFor output component → tells_three output ≡ asks_for_three component
+stands_for_three : (output : Output) (component : ComponentParts) → StandsFor output component
+    → tells_three output ≡ asks_for_three component
 stands_for_three output component (StandsFor.an_invoke dialogue id linked code parameter) = refl
 stands_for_three output component (StandsFor.a_result_more dialogue number id body) = refl
 stands_for_three output component (StandsFor.a_result_last dialogue number id body) = refl
@@ -60,8 +61,12 @@ not_received : ToldFromOne (Event.received begin_with_aarq) misread_told → ⊥
 unfolding computing
 not_received told =
     let same : begin_with_aarq ≡ told.bytes = ap bytes_of told.is_event in
-    let read = spelled_read told.bytes told.message begun_message (told.earlier ++ told.component ∷ told.later) (invoke_read ∷ []) told.fault None (subst (λ (bytes : List ℕ). frame_at bytes ≡ Ok begun_message) same refl) refl told.spelled told.read in
-    let three : list_any asks_for_three (told.earlier ++ told.component ∷ told.later) ≡ true = any_there asks_for_three told.earlier told.later told.component (sym (stands_for_three misread_told told.component told.stands_for)) in
+    let read = spelled_read told.bytes told.message begun_message (told.earlier ++ told.component ∷ told.later)
+    (invoke_read ∷ []) told.fault None (subst (λ (bytes : List ℕ). frame_at bytes ≡ Ok begun_message) same refl)
+    refl told.spelled told.read in
+    let three : list_any asks_for_three (told.earlier ++ told.component ∷ told.later) ≡ true =
+    any_there asks_for_three told.earlier told.later told.component
+    (sym (stands_for_three misread_told told.component told.stands_for)) in
     false≢true (sym (ap (list_any asks_for_three) read) ∙ three)
 
 pub misread-not_told_from : ToldFrom (whole misread) → ⊥
@@ -70,13 +75,22 @@ misread-not_told_from from = not_received (from (record {
   before = [];
   output = misread_told;
   stands = record { later = []; is_past = refl };
-  tells = record { earlier = Output.dialogue (DialogueIndication.begin 1 (Some context_name) []) ∷ []; later = []; is_answer = refl };
+  tells = record {
+    earlier = Output.dialogue (DialogueIndication.begin 1 (Some context_name) []) ∷ [];
+    later =
+        [];
+    is_answer = refl;
+  };
   is_of_component = IsOfComponent.invoke (Some 1) (pos 1) None (code 3) (Some (hex 5 0x3003_0401AA));
 }))
 
 pub misread-wrong : GoesWrong misread
 unfolding computing
-misread-wrong = record { legal_before = (refl, tt); not_legal = λ legal. false≢true (sym (ap (λ (answer : Answer). list_any tells_three (outputs_of answer)) legal.1.1)) }
+misread-wrong = record {
+  legal_before = (refl, tt);
+  not_legal =
+      λ legal. false≢true (sym (ap (λ (answer : Answer). list_any tells_three (outputs_of answer)) legal.1.1));
+}
 
 -- What the tests state.
 pub ruleset components_broken = (misread-wrong)

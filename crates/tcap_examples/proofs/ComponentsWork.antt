@@ -65,7 +65,14 @@ second-requested = record {
 }
 
 pub begin-sent-from : SentFromOne begin_pair.event before_the_begin two_invokes None
-begin-sent-from = record { dialogue = 1; request = begin_request; is_event = refl; each = (inl first-requested, (inl second-requested, tt)); no_fault = refl }
+begin-sent-from = record {
+  dialogue = 1;
+  request = begin_request;
+  is_event = refl;
+  each =
+      (inl first-requested, (inl second-requested, tt));
+  no_fault = refl;
+}
 
 -- ---- the Reject that is sent
 
@@ -99,13 +106,26 @@ formed = record {
 }
 
 pub reject-sent-from : SentFromOne reject_pair.event before_the_reject reject None
-reject-sent-from = record { dialogue = 1; request = continue_request; is_event = refl; each = (inr formed, tt); no_fault = refl }
+reject-sent-from = record {
+  dialogue = 1;
+  request = continue_request;
+  is_event = refl;
+  each =
+      (inr formed, tt);
+  no_fault = refl;
+}
 
 pub past-sent-from : SentFrom past
 unfolding computing
 past-sent-from = sent_from past (
   ((reject_message, reject, None, refl, refl, inr reject-sent-from), tt),
-  ((tt, (tt, (tt, tt))), (((begin_message, two_invokes, None, refl, refl, inr begin-sent-from), tt), (tt, (tt, (tt, tt))))),
+  (
+    (tt, (tt, (tt, tt))),
+    (
+      ((begin_message, two_invokes, None, refl, refl, inr begin-sent-from), tt),
+      (tt, (tt, (tt, tt))),
+    ),
+  ),
 )
 
 -- ---- a late result
@@ -123,7 +143,8 @@ late-requested = record {
 
 late-formed : WasFormed 1 late_reject (drop 2 late)
 late-formed = record {
-  pair = received_pair result_of_first (continued 1 ∷ Output.component (ComponentIndication.local_reject (Some 1) (Some (pos 1)) (of_result 0)) ∷ []);
+  pair = received_pair result_of_first (continued 1
+      ∷ Output.component (ComponentIndication.local_reject (Some 1) (Some (pos 1)) (of_result 0)) ∷ []);
   before = drop 3 late;
   bytes = result_of_first;
   id = Some (pos 1);
@@ -141,8 +162,54 @@ unfolding computing
 late-sent-from = sent_from late (
   tt,
   (
-    ((late_message, late_reject ∷ [], None, refl, refl, inr (record { dialogue = 1; request = continue_request; is_event = refl; each = (inr late-formed, tt); no_fault = refl })), tt),
-    ((tt, (tt, tt)), ((tt, tt), (tt, (((first_message, first_invoke ∷ [], None, refl, refl, inr (record { dialogue = 1; request = begin_request; is_event = refl; each = (inl late-requested, tt); no_fault = refl })), tt), (tt, (tt, tt)))))),
+    (
+      (
+        late_message,
+        late_reject ∷ [],
+        None,
+        refl,
+        refl,
+        inr (record {
+          dialogue = 1;
+          request = continue_request;
+          is_event = refl;
+          each =
+              (inr late-formed, tt);
+          no_fault = refl;
+        }),
+      ),
+      tt,
+    ),
+    (
+      (tt, (tt, tt)),
+      (
+        (tt, tt),
+        (
+          tt,
+          (
+            (
+              (
+                first_message,
+                first_invoke ∷ [],
+                None,
+                refl,
+                refl,
+                inr (record {
+                  dialogue = 1;
+                  request = begin_request;
+                  is_event = refl;
+                  each =
+                      (inl late-requested, tt);
+                  no_fault = refl;
+                }),
+              ),
+              tt,
+            ),
+            (tt, (tt, tt)),
+          ),
+        ),
+      ),
+    ),
   ),
 )
 
@@ -152,7 +219,12 @@ pub result-stands : StandsIn result_pair before_the_result past
 result-stands = record { later = take 1 past; is_past = refl }
 
 pub result-tells : Tells result_pair.answer result_told
-result-tells = record { earlier = continued 1 ∷ []; later = Output.component (ComponentIndication.local_reject (Some 1) (Some (pos 7)) (general 0)) ∷ []; is_answer = refl }
+result-tells = record {
+  earlier = continued 1 ∷ [];
+  later =
+      Output.component (ComponentIndication.local_reject (Some 1) (Some (pos 7)) (general 0)) ∷ [];
+  is_answer = refl;
+}
 
 pub result-is : IsOfComponent result_told
 result-is = IsOfComponent.result_last 1 1 (negsuc 127) None
@@ -181,7 +253,12 @@ pub begun-stands : StandsIn begun_pair [] begin_received
 begun-stands = record { later = take 1 begin_received; is_past = refl }
 
 pub begun-tells : Tells begun_pair.answer invoke_told
-begun-tells = record { earlier = Output.dialogue (DialogueIndication.begin 1 (Some context) []) ∷ []; later = []; is_answer = refl }
+begun-tells = record {
+  earlier = Output.dialogue (DialogueIndication.begin 1 (Some context) []) ∷ [];
+  later =
+      [];
+  is_answer = refl;
+}
 
 pub begun-is : IsOfComponent invoke_told
 begun-is = IsOfComponent.invoke (Some 1) (pos 1) None (code 2) (Some (hex 5 0x3003_0401AA))
@@ -208,7 +285,11 @@ begin-told = told_from begin_received ((tt, tt), ((tt, (begun-told-from, tt)), t
 
 pub crossed-wrong : GoesWrong crossed_queues
 unfolding computing
-crossed-wrong = record { legal_before = (refl, (refl, refl, (refl, refl, (refl, refl, tt)))); not_legal = λ legal. apart answer_number legal.1.1 refl }
+crossed-wrong = record {
+  legal_before = (refl, (refl, refl, (refl, refl, (refl, refl, tt))));
+  not_legal =
+      λ legal. apart answer_number legal.1.1 refl;
+}
 
 -- The dialogue of a request; 0 of any other event.
 abbrev asked : Event → ℕ
@@ -219,10 +300,12 @@ asked (Event.moment now) = 0
 
 not_requested : (component : ComponentParts) → WasRequested 2 component crossed_queues.before → ⊥
 not_requested component requested =
-    let other = at_place (λ (pair : Pair) before. (asked pair.event == 2) ≡ false) crossed_queues.before (refl, (refl, (refl, tt))) requested.pair requested.before requested.stands in
+    let other = at_place (λ (pair : Pair) before. (asked pair.event == 2) ≡ false) crossed_queues.before
+    (refl, (refl, (refl, tt))) requested.pair requested.before requested.stands in
     false≢true (sym other ∙ ap (λ (event : Event). asked event == 2) requested.is_event)
 
-not_formed : (id : ℤ) (linked : Option ℤ) (code : CodeParts) (parameter : Option (List ℕ)) (dialogue : ℕ) (before : Past) → WasFormed dialogue (ComponentParts.invoke id linked code parameter) before → ⊥
+not_formed : (id : ℤ) (linked : Option ℤ) (code : CodeParts) (parameter : Option (List ℕ)) (dialogue : ℕ)
+    (before : Past) → WasFormed dialogue (ComponentParts.invoke id linked code parameter) before → ⊥
 not_formed id linked code parameter dialogue before formed = apart component_tag formed.is_component refl
 
 not_from : (dialogue : ℕ) → 2 ≡ dialogue → ComesFrom dialogue crossed_queues.before crossed_invoke → ⊥

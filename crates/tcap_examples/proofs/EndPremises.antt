@@ -24,9 +24,11 @@ IsOnly dialogue number None = Unit {0}
 IsOnly dialogue number (Some i) = i.dialogue ≡ dialogue → i.number ≡ number
 
 pub uses_once : (engine : Engine) (dialogue number : ℕ) (trace : Trace) → Everywhere (λ (pair : Pair) before. IsOnly dialogue number (invoked_by pair)) (side engine trace) → UsesOnce engine dialogue trace
-uses_once engine dialogue number trace all one other in_one in_other same = numbered one in_one ∙ sym (numbered other in_other)
+uses_once engine dialogue number trace all one other in_one in_other same =
+    numbered one in_one ∙ sym (numbered other in_other)
   where
-    numbered : (made : AcceptedInvoke (side engine trace)) → made.invocation.dialogue ≡ dialogue → made.invocation.number ≡ number
+    numbered : (made : AcceptedInvoke (side engine trace)) → made.invocation.dialogue ≡ dialogue
+        → made.invocation.number ≡ number
     numbered made =
         let P : Pair → Past → Type 0 = λ pair before. IsOnly dialogue number (invoked_by pair) in
         subst (IsOnly dialogue number) made.makes (at_place P (side engine trace) all made.pair made.before made.stands)
@@ -70,11 +72,14 @@ ToldBefore (Event.on_dialogue dialogue request) before = ToldFor dialogue before
 ToldBefore (Event.received bytes) before = Unit {0}
 ToldBefore (Event.moment now) before = Unit {0}
 
-pub answers_what_it_was_told : (engine : Engine) (trace : Trace) → Everywhere (λ (pair : Pair) before. ToldBefore pair.event before) (side engine trace) → AnswersWhatItWasTold engine trace
+pub answers_what_it_was_told : (engine : Engine) (trace : Trace)
+    → Everywhere (λ (pair : Pair) before. ToldBefore pair.event before) (side engine trace)
+    → AnswersWhatItWasTold engine trace
 answers_what_it_was_told engine trace all answer =
     let P : Pair → Past → Type 0 = λ pair before. ToldBefore pair.event before in
     let here = at_place P (side engine trace) all answer.pair answer.before answer.stands in
-    let told : ToldBefore (Event.on_dialogue answer.dialogue answer.request) answer.before = subst (λ (e : Event). ToldBefore e answer.before) answer.is_event here in
+    let told : ToldBefore (Event.on_dialogue answer.dialogue answer.request) answer.before =
+    subst (λ (e : Event). ToldBefore e answer.before) answer.is_event here in
     subst (ToldFor answer.dialogue answer.before) (answers_is answer.id answer.request answer.answers) told
 
 -- Whether an output tells an Invoke.
@@ -89,9 +94,14 @@ is_invoke (Output.component (ComponentIndication.closed dialogue number id closi
 is_invoke (Output.dropped why) = false
 
 -- No Invoke was told, so none with the identifier.
-pub not_told : (dialogue : ℕ) (id : ℤ) (past : Past) → Everywhere (λ (pair : Pair) before. list_any is_invoke (outputs_of pair.answer) ≡ false) past → WasInvoked dialogue id past → ⊥
+pub not_told : (dialogue : ℕ) (id : ℤ) (past : Past)
+    → Everywhere (λ (pair : Pair) before. list_any is_invoke (outputs_of pair.answer) ≡ false) past
+    → WasInvoked dialogue id past → ⊥
 not_told dialogue id past none told =
-    false≢true (sym (at_place (λ (pair : Pair) before. list_any is_invoke (outputs_of pair.answer) ≡ false) past none told.pair told.before told.stands) ∙ told_any is_invoke told.pair.answer (Output.component (ComponentIndication.invoked (Some dialogue) id told.linked told.code told.parameter)) told.tells refl)
+    false≢true (sym (at_place (λ (pair : Pair) before. list_any is_invoke (outputs_of pair.answer) ≡ false) past none
+    told.pair told.before told.stands) ∙ told_any is_invoke told.pair.answer
+    (Output.component (ComponentIndication.invoked (Some dialogue) id told.linked told.code told.parameter))
+    told.tells refl)
 
 -- ---- who opened a dialogue
 
@@ -102,6 +112,9 @@ far_asks (Event.on_dialogue dialogue request) = false
 far_asks (Event.received bytes) = false
 far_asks (Event.moment now) = false
 
-pub not_opened : (engine : Engine) (dialogue : ℕ) (trace : Trace) → Everywhere (λ (pair : Pair) before. far_asks pair.event ≡ false) (side engine trace) → WasOpened engine dialogue trace → ⊥
+pub not_opened : (engine : Engine) (dialogue : ℕ) (trace : Trace)
+    → Everywhere (λ (pair : Pair) before. far_asks pair.event ≡ false) (side engine trace)
+    → WasOpened engine dialogue trace → ⊥
 not_opened engine dialogue trace none opened =
-    false≢true (sym (at_place (λ (pair : Pair) before. far_asks pair.event ≡ false) (side engine trace) none opened.pair opened.before opened.stands) ∙ ap far_asks opened.is_event)
+    false≢true (sym (at_place (λ (pair : Pair) before. far_asks pair.event ≡ false) (side engine trace) none opened.pair
+    opened.before opened.stands) ∙ ap far_asks opened.is_event)

@@ -40,7 +40,8 @@ forged-not_carried carried = false≢true carried.0
 not_from_far : (dialogue : ℕ) (asked : Request) → ComesFromFar Engine.a dialogue asked (drop 2 forged.trace) → ⊥
 not_from_far dialogue asked from =
     let All : Marked → Trace → Type 0 = λ m before. m.engine ≡ Engine.a in
-    not_both (sym (at_happening All (drop 2 forged.trace) (refl, (refl, (refl, (refl, (refl, tt))))) Engine.b from.pair from.before from.happens))
+    not_both (sym (at_happening All (drop 2 forged.trace) (refl, (refl, (refl, (refl, (refl, tt))))) Engine.b from.pair
+    from.before from.happens))
 
 pub forged-no_origin : Origin forged.trace → ⊥
 forged-no_origin origin = not_from_far 1 answer (origin (record {
@@ -83,7 +84,8 @@ asked_for (Event.moment now) = 0
 not_asked : WasAsked (pos 1) None (code 11) None (side Engine.a (drop 1 forged.trace)) → ⊥
 not_asked asked =
     let Other : Pair → Past → Type 0 = λ pair before. (asked_for pair.event == 11) ≡ false in
-    let other = at_place Other (side Engine.a (drop 1 forged.trace)) (refl, (refl, (refl, (refl, (refl, (refl, tt)))))) asked.pair asked.before asked.stands in
+    let other = at_place Other (side Engine.a (drop 1 forged.trace)) (refl, (refl, (refl, (refl, (refl, (refl, tt))))))
+    asked.pair asked.before asked.stands in
     false≢true (sym other ∙ ap (λ (event : Event). asked_for event == 11) asked.is_event)
 
 pub forged-no_operation : Operations forged.trace → ⊥

@@ -99,7 +99,8 @@ spelled_named = record {
   to = example.first_octets;
   within = omega arith;
   is_destination =
-      of_message example.result_message example.first_octets (frame_takes result_of_first example.result_message refl) refl;
+      of_message example.result_message example.first_octets (frame_takes result_of_first example.result_message refl)
+      refl;
   is_dialogue = refl;
 }
 
@@ -146,5 +147,22 @@ begin_unnamed it = by it.to it.is_destination
     by to (at_front fault origin _ is begins front) = true≢false (sym begins)
 
 -- What the tests state.
-pub ruleset grammar_works =
-    (accepted, not_asked_for, in_active, lacking, refused, asked_back, empty, told_unasked, told_twice, refusal_not_normal, again_not_normal, spelled_named, continue_front, continue_faulty, faulty_named, origin_unnamed, begin_unnamed)
+pub ruleset grammar_works = (
+  accepted,
+  not_asked_for,
+  in_active,
+  lacking,
+  refused,
+  asked_back,
+  empty,
+  told_unasked,
+  told_twice,
+  refusal_not_normal,
+  again_not_normal,
+  spelled_named,
+  continue_front,
+  continue_faulty,
+  faulty_named,
+  origin_unnamed,
+  begin_unnamed,
+)

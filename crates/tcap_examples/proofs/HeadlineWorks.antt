@@ -23,7 +23,8 @@ use Rattle.tcap_examples.specs.Statements.HeadlineExamples.{repeated_aare_histor
 -- ---- outcome
 
 -- What holds of the invocation of a number holds of each that is found for the number.
-for_found : (n : ℕ) (past : Past) (k : Invocation) (P : Invocation → Type 0) → invocation_of n past ≡ Some k → P k → (i : Invocation) → invocation_of n past ≡ Some i → P i
+for_found : (n : ℕ) (past : Past) (k : Invocation) (P : Invocation → Type 0) → invocation_of n past ≡ Some k → P k
+    → (i : Invocation) → invocation_of n past ≡ Some i → P i
 for_found n past k P found holds i is = subst P (some_is k i (sym found ∙ is)) holds
 
 -- What is stated of the outcome of an invocation.
@@ -63,9 +64,11 @@ filter_map-most f (x ∷ xs) = let most = filter_map-most f xs in elim (by_optio
 
 -- A pair that neither gives birth to a dialogue nor names it, unless it is a moment.
 abbrev IsQuiet : ℕ → Pair → Type 0
-IsQuiet dialogue pair = (is_birth_of dialogue pair ≡ false) × ((names pair.event dialogue ≡ false) ⊎ (is_moment pair.event ≡ true))
+IsQuiet dialogue pair =
+    (is_birth_of dialogue pair ≡ false) × ((names pair.event dialogue ≡ false) ⊎ (is_moment pair.event ≡ true))
 
-moment_keeps : (dialogue : ℕ) (past : Past) (q : List Queued) (event : Event) (answer : Answer) → is_moment event ≡ true → queue_by_event dialogue past q event answer ≡ q
+moment_keeps : (dialogue : ℕ) (past : Past) (q : List Queued) (event : Event) (answer : Answer) → is_moment event ≡ true
+    → queue_by_event dialogue past q event answer ≡ q
 moment_keeps dialogue past q Event.new_dialogue answer is = absurd (false≢true is)
 moment_keeps dialogue past q (Event.on_dialogue named request) answer is = absurd (false≢true is)
 moment_keeps dialogue past q (Event.received bytes) answer is = absurd (false≢true is)
@@ -76,7 +79,8 @@ quiet_queue dialogue [] quiet = refl
 quiet_queue dialogue (pair ∷ past) quiet = let others = quiet_queue dialogue past quiet.1 in elim quiet.0.1 [
   | inl unnamed ↦ rw (quiet.0.0, unnamed) others
   | inr moment ↦ elim (cases_Bool (names pair.event dialogue)) [
-    | inl named ↦ rw (quiet.0.0, named, moment_keeps dialogue past (queue dialogue past) pair.event pair.answer moment) others
+    | inl named ↦ rw (quiet.0.0, named, moment_keeps dialogue past (queue dialogue past) pair.event pair.answer moment)
+        others
     | inr unnamed ↦ rw (quiet.0.0, unnamed) others
   ]
 ]
@@ -88,15 +92,21 @@ late-queue = refl
 other_queue : (dialogue : ℕ) → (1 == dialogue) ≡ false → queue dialogue late_result.pairs ≡ []
 unfolding computing
 other_queue dialogue other =
-    quiet_queue dialogue late_result.pairs ((refl, inl other), ((refl, inr refl), ((refl, inr refl), ((refl, inl other), ((refl, inl other), ((other, inl refl), tt))))))
+    quiet_queue dialogue late_result.pairs (
+      (refl, inl other),
+      ((refl, inr refl), ((refl, inr refl), ((refl, inl other), ((refl, inl other), ((other, inl refl), tt))))),
+    )
 
 pub late-bounded : Bounded late_result
 unfolding computing
 late-bounded = record {
   dialogues = omega arith;
-  identifiers = λ dialogue. let most = filter_map-most (row_of 1000 dialogue late_result.pairs) (invocations late_result.pairs) in omega (arith, most);
+  identifiers = λ dialogue. let most =
+      filter_map-most (row_of 1000 dialogue late_result.pairs) (invocations late_result.pairs) in omega (arith, most);
   queues = λ dialogue. elim (cases_Bool (1 == dialogue)) [
-    | inl own ↦ let is = eqb-true 1 dialogue own in subst (λ (d : ℕ). length (joined (queue d late_result.pairs)) ≤ queue_limit) is (omega (arith, late-queue))
+    | inl own ↦ let is =
+        eqb-true 1 dialogue own in subst (λ (d : ℕ). length (joined (queue d late_result.pairs)) ≤ queue_limit) is
+        (omega (arith, late-queue))
     | inr other ↦ rw (other_queue dialogue other) (omega arith)
   ];
 }

@@ -12,7 +12,18 @@ use Rattle.tcap_examples.specs.Statements.IsolationExamples.{two_left, of_one_be
 
 pub two-legal : IsLegal two_dialogues
 unfolding computing
-two-legal = (refl, (refl, refl, (refl, refl, (refl, refl, (refl, refl, (refl, refl, (refl, refl, (refl, refl, (refl, refl, tt)))))))))
+two-legal = (
+  refl,
+  (
+    refl,
+    refl,
+    (
+      refl,
+      refl,
+      (refl, refl, (refl, refl, (refl, refl, (refl, refl, (refl, refl, (refl, refl, tt)))))),
+    ),
+  ),
+)
 
 pub invoke-left : reply before_the_invoke first_invokes ≢ Answer.refused Fault.numbers_spent
 unfolding computing

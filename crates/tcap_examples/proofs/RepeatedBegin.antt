@@ -93,8 +93,28 @@ pub repeat-after : (source : ComesFromFar Engine.a 1 second_request before_the_a
 repeat-after source =
     let After : Marked → Trace → Type 0 = λ m earlier. m.engine ≡ Engine.b → WasSent 1 (side Engine.a earlier) in
     let b : Engine.b ≡ Engine.b → WasSent 1 (side Engine.a (drop 10 repeated_begin.trace)) = λ own. sent in
-    at_happening After before_the_answer
-    (b, (b, (b, (b, (b, (b, ((λ a. absurd (not_both a)), ((λ a. absurd (not_both a)), ((λ a. absurd (not_both a)), tt)))))))))
+    at_happening After before_the_answer (
+      b,
+      (
+        b,
+        (
+          b,
+          (
+            b,
+            (
+              b,
+              (
+                b,
+                (
+                  (λ a. absurd (not_both a)),
+                  ((λ a. absurd (not_both a)), ((λ a. absurd (not_both a)), tt)),
+                ),
+              ),
+            ),
+          ),
+        ),
+      ),
+    )
     Engine.b source.pair source.before source.happens refl
 
 pub repeat-invoked-happens : Happens Engine.b repeat_told before_the_repeat repeated_begin.trace

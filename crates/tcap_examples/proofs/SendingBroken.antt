@@ -145,7 +145,8 @@ missing-not_in_order =
 pub twice-sent_from : SentFrom (whole sent_twice)
 unfolding computing
 twice-sent_from =
-    let first = from_one begin_request (drop 2 sent_twice.before) (invoke_of 1 ∷ []) (invoked 1 1 [] (dialogue_born 1 ∷ []), tt) in
+    let first = from_one begin_request (drop 2 sent_twice.before) (invoke_of 1 ∷ [])
+    (invoked 1 1 [] (dialogue_born 1 ∷ []), tt) in
     let again = from_one continue_request sent_twice.before (invoke_of 1 ∷ [])
     (invoked 1 1 (take 2 sent_twice.before) (dialogue_born 1 ∷ []), tt) in
     sent_from (whole sent_twice) (

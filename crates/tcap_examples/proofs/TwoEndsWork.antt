@@ -20,9 +20,27 @@ record Answered : Type 0 where
 
 -- The answer that a closing indication is.
 abbrev closing_answer : ℕ → ℕ → ℤ → Closing → Option Answered
-closing_answer dialogue number id (Closing.result_last body) = Some (record { dialogue = dialogue; number = number; request = Request.component (ComponentRequest.result_last id body) })
-closing_answer dialogue number id (Closing.error_back code parameter) = Some (record { dialogue = dialogue; number = number; request = Request.component (ComponentRequest.error_back id code parameter) })
-closing_answer dialogue number id (Closing.rejected problem Rejector.remote_user) = Some (record { dialogue = dialogue; number = number; request = Request.component (ComponentRequest.u_reject (Some id) problem) })
+closing_answer dialogue number id (Closing.result_last body) =
+    Some (record {
+      dialogue = dialogue;
+      number = number;
+      request =
+          Request.component (ComponentRequest.result_last id body);
+    })
+closing_answer dialogue number id (Closing.error_back code parameter) =
+    Some (record {
+      dialogue = dialogue;
+      number = number;
+      request =
+          Request.component (ComponentRequest.error_back id code parameter);
+    })
+closing_answer dialogue number id (Closing.rejected problem Rejector.remote_user) =
+    Some (record {
+      dialogue = dialogue;
+      number = number;
+      request =
+          Request.component (ComponentRequest.u_reject (Some id) problem);
+    })
 closing_answer dialogue number id (Closing.rejected problem Rejector.local) = None
 closing_answer dialogue number id (Closing.rejected problem Rejector.remote_provider) = None
 closing_answer dialogue number id Closing.lapsed = None
@@ -34,13 +52,22 @@ abbrev answer_in : Output → Option Answered
 answer_in (Output.send bytes) = None
 answer_in (Output.dialogue indication) = None
 answer_in (Output.component (ComponentIndication.invoked dialogue id linked code parameter)) = None
-answer_in (Output.component (ComponentIndication.result_more dialogue number id body)) = Some (record { dialogue = dialogue; number = number; request = Request.component (ComponentRequest.result_more id body) })
+answer_in (Output.component (ComponentIndication.result_more dialogue number id body)) =
+    Some (record {
+      dialogue = dialogue;
+      number = number;
+      request =
+          Request.component (ComponentRequest.result_more id body);
+    })
 answer_in (Output.component (ComponentIndication.local_reject dialogue id problem)) = None
 answer_in (Output.component (ComponentIndication.remote_reject dialogue id problem by)) = None
-answer_in (Output.component (ComponentIndication.closed dialogue number id closing)) = closing_answer dialogue number id closing
+answer_in (Output.component (ComponentIndication.closed dialogue number id closing)) =
+    closing_answer dialogue number id closing
 answer_in (Output.dropped why) = None
 
-is_in : (dialogue number : ℕ) (id : ℤ) (output : Output) (request : Request) → IsAnswer dialogue number id output request → answer_in output ≡ Some (record { dialogue = dialogue; number = number; request = request })
+is_in : (dialogue number : ℕ) (id : ℤ) (output : Output) (request : Request)
+    → IsAnswer dialogue number id output request
+    → answer_in output ≡ Some (record { dialogue = dialogue; number = number; request = request })
 is_in dialogue number id output request (IsAnswer.a_result_last body) = refl
 is_in dialogue number id output request (IsAnswer.a_result_more body) = refl
 is_in dialogue number id output request (IsAnswer.an_error code parameter) = refl
@@ -53,14 +80,23 @@ IfAnswer P (Some answer) = P answer
 
 -- A fact of each answer that is told.
 abbrev OfAnswers : (Engine → Trace → Answered → Type 0) → Marked → Trace → Type 0
-OfAnswers P m before = AllByRecursion (λ output. IfAnswer (P m.engine before) (answer_in output)) (outputs_of m.pair.answer)
+OfAnswers P m before =
+    AllByRecursion (λ output. IfAnswer (P m.engine before) (answer_in output)) (outputs_of m.pair.answer)
 
-at_answer : (P : Engine → Trace → Answered → Type 0) (trace : Trace) → Everywhere (OfAnswers P) trace → (answer : FarAnswer trace) →
-    P answer.engine answer.before (record { dialogue = answer.dialogue; number = answer.number; request = answer.request })
+at_answer : (P : Engine → Trace → Answered → Type 0) (trace : Trace) → Everywhere (OfAnswers P) trace
+    → (answer : FarAnswer trace) →
+    P answer.engine answer.before (record {
+      dialogue = answer.dialogue;
+      number = answer.number;
+      request =
+          answer.request;
+    })
 at_answer P trace all answer =
     let here = at_happening (OfAnswers P) trace all answer.engine answer.pair answer.before answer.happens in
-    subst (IfAnswer (P answer.engine answer.before)) (is_in answer.dialogue answer.number answer.id answer.output answer.request answer.is_answer)
-    (told_there (λ output. IfAnswer (P answer.engine answer.before) (answer_in output)) answer.pair.answer answer.output answer.tells here)
+    subst (IfAnswer (P answer.engine answer.before))
+    (is_in answer.dialogue answer.number answer.id answer.output answer.request answer.is_answer)
+    (told_there (λ output. IfAnswer (P answer.engine answer.before) (answer_in output)) answer.pair.answer answer.output
+    answer.tells here)
 
 -- ---- origin
 
@@ -68,18 +104,42 @@ abbrev IsFromFar : Engine → Trace → Answered → Type 0
 IsFromFar engine before answer = ComesFromFar engine answer.dialogue answer.request before
 
 origin : Origin repeated_begin.trace
-origin = at_answer IsFromFar repeated_begin.trace
-    (tt, (tt, ((tt, (tt, tt)), ((tt, (repeat-origin, tt)), ((tt, tt), (tt, ((tt, tt), (tt, ((tt, (tt, tt)), ((tt, (tt, tt)), ((tt, tt), (tt, (tt, tt)))))))))))))
+origin = at_answer IsFromFar repeated_begin.trace (
+  tt,
+  (
+    tt,
+    (
+      (tt, (tt, tt)),
+      (
+        (tt, (repeat-origin, tt)),
+        ((tt, tt), (tt, ((tt, tt), (tt, ((tt, (tt, tt)), ((tt, (tt, tt)), ((tt, tt), (tt, (tt, tt))))))))),
+      ),
+    ),
+  ),
+)
 
 -- ---- after the Invoke
 
 abbrev IsAfter : Engine → Trace → Answered → Type 0
-IsAfter engine before answer = (source : ComesFromFar engine answer.dialogue answer.request before) → WasSent answer.number (side engine source.before)
+IsAfter engine before answer =
+    (source : ComesFromFar engine answer.dialogue answer.request before)
+    → WasSent answer.number (side engine source.before)
 
 after_invoke : AfterInvoke repeated_begin.trace
 after_invoke answer orderly =
-    at_answer IsAfter repeated_begin.trace
-    (tt, (tt, ((tt, (tt, tt)), ((tt, (repeat-after, tt)), ((tt, tt), (tt, ((tt, tt), (tt, ((tt, (tt, tt)), ((tt, (tt, tt)), ((tt, tt), (tt, (tt, tt)))))))))))))
+    at_answer IsAfter repeated_begin.trace (
+      tt,
+      (
+        tt,
+        (
+          (tt, (tt, tt)),
+          (
+            (tt, (repeat-after, tt)),
+            ((tt, tt), (tt, ((tt, tt), (tt, ((tt, (tt, tt)), ((tt, (tt, tt)), ((tt, tt), (tt, (tt, tt))))))))),
+          ),
+        ),
+      ),
+    )
     answer
 
 -- ---- once
@@ -97,7 +157,8 @@ once Engine.b number = omega arith
 abbrev AskedFor : Engine → Trace → Output → Type 0
 AskedFor engine before (Output.send bytes) = Unit {0}
 AskedFor engine before (Output.dialogue indication) = Unit {0}
-AskedFor engine before (Output.component (ComponentIndication.invoked dialogue id linked code parameter)) = WasAsked id linked code parameter (side (far engine) before)
+AskedFor engine before (Output.component (ComponentIndication.invoked dialogue id linked code parameter)) =
+    WasAsked id linked code parameter (side (far engine) before)
 AskedFor engine before (Output.component (ComponentIndication.result_more dialogue number id body)) = Unit {0}
 AskedFor engine before (Output.component (ComponentIndication.local_reject dialogue id problem)) = Unit {0}
 AskedFor engine before (Output.component (ComponentIndication.remote_reject dialogue id problem by)) = Unit {0}
@@ -106,12 +167,29 @@ AskedFor engine before (Output.dropped why) = Unit {0}
 
 operations : Operations repeated_begin.trace
 operations engine dialogue told =
-    let Asked : Marked → Trace → Type 0 = λ m before. AllByRecursion (AskedFor m.engine before) (outputs_of m.pair.answer) in
-    let here = at_happening Asked repeated_begin.trace
-    (tt, (tt, ((tt, (tt, tt)), ((tt, (tt, tt)), ((tt, tt), (tt, ((tt, tt), (tt, ((tt, (repeat-asked, tt)), ((tt, (repeat-asked, tt)), ((tt, tt), (tt, (tt, tt)))))))))))))
+    let Asked : Marked → Trace → Type 0 =
+    λ m before. AllByRecursion (AskedFor m.engine before) (outputs_of m.pair.answer) in
+    let here = at_happening Asked repeated_begin.trace (
+      tt,
+      (
+        tt,
+        (
+          (tt, (tt, tt)),
+          (
+            (tt, (tt, tt)),
+            (
+              (tt, tt),
+              (tt, ((tt, tt), (tt, ((tt, (repeat-asked, tt)), ((tt, (repeat-asked, tt)), ((tt, tt), (tt, (tt, tt)))))))),
+            ),
+          ),
+        ),
+      ),
+    )
     engine told.pair told.before told.happens in
     told_there (AskedFor engine told.before) told.pair.answer
-    (Output.component (ComponentIndication.invoked dialogue told.id told.linked told.code told.parameter)) told.tells here
+    (Output.component (ComponentIndication.invoked dialogue told.id told.linked told.code told.parameter)) told.tells
+    here
 
 pub repeated_begin_is_two_ended : TwoEnds repeated_begin.trace
-repeated_begin_is_two_ended = record { origin = origin; after_invoke = after_invoke; once = once; operations = operations }
+repeated_begin_is_two_ended =
+    record { origin = origin; after_invoke = after_invoke; once = once; operations = operations }

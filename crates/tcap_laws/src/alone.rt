@@ -36,7 +36,8 @@ pub fn only_tells_life()
     ensures unseen { (dialogue : ℕ) (id : ℤ) (pair : Pair) (past : Past) → is_seen_by dialogue pair past ≡ false →
         marks dialogue id pair past ≡ [] }
     ensures seen { (dialogue : ℕ) (id : ℤ) (pair : Pair) (past : Past) →
-        marks dialogue id (pair_within dialogue pair.event pair.answer) (only dialogue past) ≡ marks dialogue id pair past }
+        marks dialogue id (pair_within dialogue pair.event pair.answer) (only dialogue past)
+        ≡ marks dialogue id pair past }
 {}
 
 /// What a dialogue sees of a legal history has its invocations and no others, with their spans,
@@ -44,32 +45,46 @@ pub fn only_tells_life()
 pub fn only_tells_invocations()
     ensures all { (h : History) (dialogue : ℕ) → IsLegal h →
         invocations (only dialogue h.pairs) ≡ filter (λ (i : Invocation). i.dialogue == dialogue) (invocations h.pairs) }
-    ensures latest { (h : History) (dialogue : ℕ) (id : ℤ) → IsLegal h → latest dialogue id (only dialogue h.pairs) ≡ latest dialogue id h.pairs }
-    ensures found { (h : History) (dialogue n : ℕ) (i : Invocation) → IsLegal h → invocation_of n h.pairs ≡ Some i → i.dialogue ≡ dialogue →
+    ensures latest { (h : History) (dialogue : ℕ) (id : ℤ) → IsLegal h
+        → latest dialogue id (only dialogue h.pairs) ≡ latest dialogue id h.pairs }
+    ensures found { (h : History) (dialogue n : ℕ) (i : Invocation) → IsLegal h → invocation_of n h.pairs ≡ Some i
+        → i.dialogue ≡ dialogue →
         invocation_of n (only dialogue h.pairs) ≡ Some i }
-    ensures span { (h : History) (dialogue n : ℕ) (i : Invocation) → IsLegal h → invocation_of n h.pairs ≡ Some i → i.dialogue ≡ dialogue →
+    ensures span { (h : History) (dialogue n : ℕ) (i : Invocation) → IsLegal h → invocation_of n h.pairs ≡ Some i
+        → i.dialogue ≡ dialogue →
         span i (only dialogue h.pairs) ≡ span i h.pairs }
-    ensures deadline { (h : History) (dialogue n : ℕ) (i : Invocation) → IsLegal h → invocation_of n h.pairs ≡ Some i → i.dialogue ≡ dialogue →
+    ensures deadline { (h : History) (dialogue n : ℕ) (i : Invocation) → IsLegal h → invocation_of n h.pairs ≡ Some i
+        → i.dialogue ≡ dialogue →
         deadline i (only dialogue h.pairs) ≡ deadline i h.pairs }
-    ensures outcome { (h : History) (dialogue n : ℕ) (i : Invocation) → IsLegal h → invocation_of n h.pairs ≡ Some i → i.dialogue ≡ dialogue →
+    ensures outcome { (h : History) (dialogue n : ℕ) (i : Invocation) → IsLegal h → invocation_of n h.pairs ≡ Some i
+        → i.dialogue ≡ dialogue →
         outcome n (only dialogue h.pairs) ≡ outcome n h.pairs }
 {}
 
 /// What a dialogue sees of a legal history decides its invocations as the history does, each at the place
 /// that it sees; so the same identifiers are in use, and the same invocations are pending (our own).
 pub fn only_tells_decisions()
-    ensures decision { (h : History) (dialogue n : ℕ) (i : Invocation) → IsLegal h → invocation_of n h.pairs ≡ Some i → i.dialogue ≡ dialogue →
+    ensures decision { (h : History) (dialogue n : ℕ) (i : Invocation) → IsLegal h → invocation_of n h.pairs ≡ Some i
+        → i.dialogue ≡ dialogue →
         decision n (only dialogue h.pairs) ≡
-        option_map (λ (t : Told). record { place = only dialogue t.place; dialogue = t.dialogue; id = t.id; closing = t.closing }) (decision n h.pairs) }
+        option_map (λ (t : Told). record {
+          place = only dialogue t.place;
+          dialogue = t.dialogue;
+          id = t.id;
+          closing =
+              t.closing;
+        }) (decision n h.pairs) }
     ensures held { (h : History) (reject_ms dialogue : ℕ) (id : ℤ) → IsLegal h →
         held reject_ms dialogue id (only dialogue h.pairs) ≡ held reject_ms dialogue id h.pairs }
-    ensures pending { (h : History) (dialogue : ℕ) (id : ℤ) → IsLegal h → pending dialogue id (only dialogue h.pairs) ≡ pending dialogue id h.pairs }
+    ensures pending { (h : History) (dialogue : ℕ) (id : ℤ) → IsLegal h
+        → pending dialogue id (only dialogue h.pairs) ≡ pending dialogue id h.pairs }
 {}
 
 /// What a dialogue sees of a legal history has its queue, and what its components tell and the Rejects
 /// that answer them (our own).
 pub fn only_tells_queue()
-    ensures queue { (h : History) (dialogue : ℕ) → IsLegal h → queue dialogue (only dialogue h.pairs) ≡ queue dialogue h.pairs }
+    ensures queue { (h : History) (dialogue : ℕ) → IsLegal h
+        → queue dialogue (only dialogue h.pairs) ≡ queue dialogue h.pairs }
     ensures handled { (h : History) (dialogue : ℕ) (components : List ℕ) → IsLegal h →
         handled_in dialogue (only dialogue h.pairs) components ≡ handled_in dialogue h.pairs components }
 {}
@@ -79,7 +94,8 @@ pub fn only_tells_queue()
 pub fn only_tells_requests()
     ensures ended { (h : History) (dialogue : ℕ) (items : List Item) → IsLegal h →
         ended_in dialogue (only dialogue h.pairs) items ≡ ended_in dialogue h.pairs items }
-    ensures due { (h : History) (dialogue : ℕ) (request : Request) → IsLegal h → due h dialogue request ≢ Some Fault.numbers_spent →
+    ensures due { (h : History) (dialogue : ℕ) (request : Request) → IsLegal h
+        → due h dialogue request ≢ Some Fault.numbers_spent →
         due (history_of dialogue h) dialogue request ≡ due h dialogue request }
     ensures answer { (h : History) (dialogue : ℕ) (request : Request) → IsLegal h →
         reply h (Event.on_dialogue dialogue request) ≢ Answer.refused Fault.numbers_spent →
@@ -89,7 +105,8 @@ pub fn only_tells_requests()
 /// Received bytes that name a dialogue are answered by what the dialogue sees of a legal history (our
 /// own).
 pub fn only_tells_bytes()
-    ensures { (h : History) (dialogue : ℕ) (bytes : List ℕ) → IsLegal h → IsTrue (names (Event.received bytes) dialogue) →
+    ensures { (h : History) (dialogue : ℕ) (bytes : List ℕ) → IsLegal h
+        → IsTrue (names (Event.received bytes) dialogue) →
         IsAlone h dialogue (Event.received bytes) }
 {}
 

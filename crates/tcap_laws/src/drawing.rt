@@ -45,7 +45,8 @@ pub fn number_is_drawn_once()
         number ≡ next_number h }
     ensures drawn { (h : History) → IsLegal h → numbers h.pairs ≡ range_with_len h.start.next_number (invokes h.pairs) }
     ensures rising { (h : History) → IsLegal h → AllPairs (λ m n. m < n) (numbers h.pairs) }
-    ensures of_invocations { (h : History) → IsLegal h → numbers h.pairs ≡ map (λ (i : Invocation). i.number) (invocations h.pairs) }
+    ensures of_invocations { (h : History) → IsLegal h
+        → numbers h.pairs ≡ map (λ (i : Invocation). i.number) (invocations h.pairs) }
     ensures found { (h : History) → IsLegal h → (i : Invocation) → Contains (invocations h.pairs) i →
         invocation_of i.number h.pairs ≡ Some i }
     ensures within { (h : History) → IsLegal h → next_number h ≤ last_number }
@@ -58,10 +59,12 @@ pub fn number_is_drawn_once()
 pub fn dialogue_is_born_once()
     ensures next { (h : History) (event : Event) (dialogue : ℕ) → born_of event (reply h event) ≡ Some dialogue →
         dialogue ≡ next_dialogue h }
-    ensures drawn { (h : History) → IsLegal h → dialogues h.pairs ≡ range_with_len h.start.next_dialogue (births h.pairs) }
+    ensures drawn { (h : History) → IsLegal h → dialogues h.pairs
+        ≡ range_with_len h.start.next_dialogue (births h.pairs) }
     ensures rising { (h : History) → IsLegal h → AllPairs (λ c d. c < d) (dialogues h.pairs) }
     ensures within { (h : History) → IsLegal h → next_dialogue h ≤ last_dialogue }
-    ensures listed { (dialogue : ℕ) (past : Past) → (was_born dialogue past ≡ true) ↔ Contains (dialogues past) dialogue }
+    ensures listed { (dialogue : ℕ) (past : Past)
+        → (was_born dialogue past ≡ true) ↔ Contains (dialogues past) dialogue }
     ensures lives { (h : History) → IsLegal h → (dialogue : ℕ) →
         (was_born dialogue h.pairs ≡ true) ↔ (life dialogue h.pairs ≢ Life.unborn) }
     ensures beyond { (h : History) → IsLegal h → (dialogue : ℕ) → next_dialogue h ≤ dialogue →

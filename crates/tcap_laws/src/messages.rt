@@ -35,7 +35,8 @@ ghost use Rattle.tcap_model.specs.Words.State.{State};
 /// Received bytes are never refused and never lost in silence: something is always sent or told of
 /// them, if only that they are dropped (our own).
 pub fn bytes_are_never_refused()
-    ensures never { (h : History) (bytes : List ℕ) (fault : Fault) → reply h (Event.received bytes) ≢ Answer.refused fault }
+    ensures never { (h : History) (bytes : List ℕ) (fault : Fault)
+        → reply h (Event.received bytes) ≢ Answer.refused fault }
     ensures told { (h : History) (bytes : List ℕ) →
         (first : Output) × (others : List Output) × (reply h (Event.received bytes) ≡ Answer.outputs (first ∷ others)) }
 {}
@@ -57,7 +58,8 @@ pub fn bytes_reach_their_dialogue()
         IsTrue (live_in (life dialogue h.pairs)) → (f : FrameFault) (origin destination : Option (List ℕ)) →
         IsFrameFault bytes f → Front bytes origin destination →
         reply h (Event.received bytes) ≡ Answer.outputs (option_to_list (fault_answer bytes f origin)
-        ++ Output.dialogue (DialogueIndication.p_abort dialogue (AbortCause.cause (fault_cause f))) ∷ ended_in dialogue h.pairs []) }
+        ++ Output.dialogue (DialogueIndication.p_abort dialogue (AbortCause.cause (fault_cause f)))
+        ∷ ended_in dialogue h.pairs []) }
 {}
 
 /// What is sent is a message in the canonical form, which the octets spell; for a request it is the
@@ -86,12 +88,15 @@ pub fn marks_are_of_the_grammar()
         IsTrue (names (Event.received bytes) dialogue) ↔ NamesDialogue dialogue bytes }
     // A dialogue portion is normal or abnormal by what it spells, as its verdict says.
     ensures normal { (state : State) (context portion : Option (List ℕ)) → IsNormal state context portion →
-        (told : Option (List ℕ)) × (info : List ℕ) × (portion_verdict state context portion ≡ PortionVerdict.normal told info) }
+        (told : Option (List ℕ)) × (info : List ℕ) × (portion_verdict state context portion
+        ≡ PortionVerdict.normal told info) }
     ensures abnormal { (state : State) (context portion : Option (List ℕ)) → IsAbnormal state context portion →
         portion_verdict state context portion ≡ PortionVerdict.abnormal }
-    ensures made { (dialogue : ℕ) (id : ℤ) (state : State) (context : Option (List ℕ)) (bytes : List ℕ) (pair : Pair) (past : Past) →
+    ensures made { (dialogue : ℕ) (id : ℤ) (state : State) (context : Option (List ℕ)) (bytes : List ℕ) (pair : Pair)
+        (past : Past) →
         Reaches dialogue state context bytes pair past → (made : List Mark) →
         Means state context id bytes made → marks dialogue id pair past ≡ noted_at past made }
-    ensures some { (dialogue : ℕ) (id : ℤ) (state : State) (context : Option (List ℕ)) (bytes : List ℕ) (pair : Pair) (past : Past) →
+    ensures some { (dialogue : ℕ) (id : ℤ) (state : State) (context : Option (List ℕ)) (bytes : List ℕ) (pair : Pair)
+        (past : Past) →
         Reaches dialogue state context bytes pair past → (made : List Mark) × Means state context id bytes made }
 {}

@@ -50,7 +50,8 @@ first_setting = record { clock = 0; number = 1; limit = queue_limit }
 
 -- A new dialogue of identifier 1, where identifiers wait so long for a Reject, in milliseconds (own).
 abbrev pub opened_with : ℕ → Played
-opened_with reject_ms = record { setting = first_setting; dialogue = fresh_dialogue 1 reject_ms; answers = []; is_over = false }
+opened_with reject_ms =
+    record { setting = first_setting; dialogue = fresh_dialogue 1 reject_ms; answers = []; is_over = false }
 
 -- A new dialogue where identifiers wait 1000 milliseconds for a Reject (own).
 abbrev pub opened : Played
@@ -59,7 +60,12 @@ opened = opened_with 1000
 -- After one event more, and what the dialogue did; it stays over once it is (own).
 abbrev pub after_move : Played → DialogueEvent → Moved → Played
 after_move p event m = record {
-  setting = record { clock = clock_played p.setting.clock event; number = number_after p.setting.number m.answer; limit = p.setting.limit };
+  setting = record {
+    clock = clock_played p.setting.clock event;
+    number =
+        number_after p.setting.number m.answer;
+    limit = p.setting.limit;
+  };
   dialogue = m.after;
   answers = p.answers ++ m.answer ∷ [];
   is_over = p.is_over || m.is_over;
@@ -83,7 +89,8 @@ abbrev pub begun_by : Reception → Played
 begun_by (Reception.dropped why) = unborn
 begun_by (Reception.aborted abort) = unborn
 begun_by (Reception.unidirectional context info components) = unborn
-begun_by (Reception.begun origin context info components) = after_birth (born first_setting 1 1000 origin context info components)
+begun_by (Reception.begun origin context info components) =
+    after_birth (born first_setting 1 1000 origin context info components)
 begun_by (Reception.taken dialogue message) = unborn
 begun_by (Reception.broken dialogue abort cause) = unborn
 

@@ -22,13 +22,16 @@ request_move p request = table_move p.setting p.dialogue (DialogueEvent.request 
 
 -- The request is refused with this fault, and nothing changes (own).
 abbrev pub Refused : Played → Request → Fault → Type 0
-Refused p request fault = request_move p request ≡ record { answer = Answer.refused fault; after = p.dialogue; is_over = false }
+Refused p request fault =
+    request_move p request ≡ record { answer = Answer.refused fault; after = p.dialogue; is_over = false }
 
 -- One fault comes right after another in a row of faults (own).
 abbrev pub comes_after : Fault → Fault → List Fault → Bool
 comes_after first second [] = false
 comes_after first second (f ∷ []) = false
-comes_after first second (f ∷ g ∷ fs) = ((fault_number f == fault_number first) && (fault_number g == fault_number second)) || comes_after first second (g ∷ fs)
+comes_after first second (f ∷ g ∷ fs) =
+    ((fault_number f == fault_number first) && (fault_number g == fault_number second))
+    || comes_after first second (g ∷ fs)
 
 -- Two faults that are neighbours in a request's row, both of which hold, and what is answered (own).
 pub record Judged : Type 0 where
@@ -49,4 +52,10 @@ judged p request first second = record {
 -- Two neighbours in the request's row of faults hold together, and the first is answered (own).
 abbrev pub FirstOf : Played → Request → Fault → Fault → Type 0
 FirstOf p request first second =
-    judged p request first second ≡ record { are_neighbours = true; first_holds = true; second_holds = true; answer = Answer.refused first }
+    judged p request first second ≡ record {
+      are_neighbours = true;
+      first_holds = true;
+      second_holds = true;
+      answer =
+          Answer.refused first;
+    }

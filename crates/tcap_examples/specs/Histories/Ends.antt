@@ -18,7 +18,8 @@ no_common_portion = hex 8 0x6732_490400000001 ++ aare_result 0xA203020101_A305A2
 -- By an Abort with a P-Abort cause (own).
 abbrev pub closed_by_a_cause : Worked
 closed_by_a_cause = worked usual_start (opened_with_invoke (
-    received_pair (hex 11 0x6709_490400000001_4A0104) (told.p_abort 1 (AbortCause.cause 4) ∷ told.closed 1 1 (pos 1) Closing.ended ∷ [])
+    received_pair (hex 11 0x6709_490400000001_4A0104)
+    (told.p_abort 1 (AbortCause.cause 4) ∷ told.closed 1 1 (pos 1) Closing.ended ∷ [])
     ∷ []))
     (closed_at 1 4 1 (pos 1) Closing.ended ∷ [])
 
@@ -32,14 +33,16 @@ closed_by_an_abort = worked usual_start (opened_with_invoke (
 -- By an error in an End (own).
 abbrev pub closed_by_an_error : Worked
 closed_by_an_error = worked usual_start (opened_with_invoke (
-    received_pair (hex 18 0x6410_490400000001_6C08_A306_020101_02010D) (ended 1 ∷ told.closed 1 1 (pos 1) (Closing.error_back (code 13) None) ∷ [])
+    received_pair (hex 18 0x6410_490400000001_6C08_A306_020101_02010D)
+    (ended 1 ∷ told.closed 1 1 (pos 1) (Closing.error_back (code 13) None) ∷ [])
     ∷ []))
     (closed_at 1 4 1 (pos 1) (Closing.error_back (code 13) None) ∷ [])
 
 -- By a prearranged end (own).
 abbrev pub closed_by_a_prearranged_end : Worked
 closed_by_a_prearranged_end = worked usual_start (opened_with_invoke (
-    request_pair 1 (asks.finish Ending.prearranged None []) (Answer.outputs (told.closed 1 1 (pos 1) Closing.ended ∷ []))
+    request_pair 1 (asks.finish Ending.prearranged None [])
+    (Answer.outputs (told.closed 1 1 (pos 1) Closing.ended ∷ []))
     ∷ []))
     (closed_at 1 4 1 (pos 1) Closing.ended ∷ [])
 
@@ -97,7 +100,8 @@ a_faulty_continue = worked usual_start (opened_with_invoke (
 -- A faulty End ends its dialogue, and names none after that (own).
 abbrev pub a_faulty_end : Worked
 a_faulty_end = worked usual_start (opened_with_invoke (
-    received_pair (hex 9 0x6407_490400000001_6C) (told.p_abort 1 (AbortCause.cause 2) ∷ told.closed 1 1 (pos 1) Closing.ended ∷ [])
+    received_pair (hex 9 0x6407_490400000001_6C)
+    (told.p_abort 1 (AbortCause.cause 2) ∷ told.closed 1 1 (pos 1) Closing.ended ∷ [])
     ∷ received_pair (hex 9 0x6407_490400000001_6C) (Output.dropped DropCause.bad_message ∷ [])
     ∷ []))
     (closed_at 1 4 1 (pos 1) Closing.ended ∷ [])

@@ -7,7 +7,11 @@ use Rattle.tcap_model.specs.Words.KeyOrder.{comes_before}
 -- A lapse of this deadline, dialogue and number (own).
 abbrev pub lapsing : ℕ → ℕ → ℕ → Lapsing
 lapsing deadline dialogue number =
-    record { deadline = deadline; invocation = record { number = number; dialogue = dialogue; id = pos 1; class = One; timeout = 10 } }
+    record {
+      deadline = deadline;
+      invocation =
+          record { number = number; dialogue = dialogue; id = pos 1; class = One; timeout = 10 };
+    }
 
 -- Lapses that differ in one part of the key or in all, in no order (own).
 abbrev pub unordered : List Lapsing

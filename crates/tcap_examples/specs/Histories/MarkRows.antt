@@ -27,7 +27,8 @@ meaning before pair made = record { before = before; pair = pair; made = made }
 -- Each pair means what is stated (own).
 abbrev pub MeanAsStated : List Meaning → Type 0
 MeanAsStated rows =
-    map (λ (r : Meaning). map (λ (noted : Noted). noted.mark) (marks 1 (pos 1) r.pair r.before)) rows ≡ map (λ (r : Meaning). r.made) rows
+    map (λ (r : Meaning). map (λ (noted : Noted). noted.mark) (marks 1 (pos 1) r.pair r.before)) rows
+    ≡ map (λ (r : Meaning). r.made) rows
 
 -- ---- what stands before
 
@@ -68,7 +69,8 @@ requests =
     ∷ meaning active (accepted continue_request) (Mark.sent ∷ [])
     ∷ meaning idle (accepted (Request.dialogue (DialogueRequest.uni None []))) (Mark.sent ∷ Mark.end ∷ [])
     ∷ meaning active (accepted (ends_with Ending.basic)) (Mark.sent ∷ Mark.end ∷ [])
-    ∷ meaning active (request_pair 1 (Request.component (ComponentRequest.u_cancel (pos 1))) (Answer.given_up 1)) (Mark.given_up ∷ [])
+    ∷ meaning active (request_pair 1 (Request.component (ComponentRequest.u_cancel (pos 1))) (Answer.given_up 1))
+    (Mark.given_up ∷ [])
     ∷ meaning active (request_pair 1 (Request.component (ComponentRequest.u_cancel (pos 2))) (Answer.given_up 2)) []
     ∷ []
 

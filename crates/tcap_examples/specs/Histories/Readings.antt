@@ -53,7 +53,8 @@ an_unknown_type = worked usual_start (opened_with_invoke (
 -- A faulty Continue that tells no origin isn't answered, and ends its dialogue (own).
 abbrev pub a_faulty_continue_without_origin : Worked
 a_faulty_continue_without_origin = worked usual_start (opened_with_invoke (
-    received_pair (hex 15 0x650D_48050000000005_490400000001) (told.p_abort 1 (AbortCause.cause 3) ∷ told.closed 1 1 (pos 1) Closing.ended ∷ [])
+    received_pair (hex 15 0x650D_48050000000005_490400000001)
+    (told.p_abort 1 (AbortCause.cause 3) ∷ told.closed 1 1 (pos 1) Closing.ended ∷ [])
     ∷ []))
     (closed_at 1 4 1 (pos 1) Closing.ended ∷ [])
 
@@ -83,8 +84,10 @@ unknown_for_good = worked usual_start (
 -- The components of a Begin meet no invocation, and their Rejects go out with the first answer (own).
 abbrev pub a_result_in_a_begin : Worked
 a_result_in_a_begin = worked usual_start (
-    received_pair (hex 12 0x620A_480107_6C05_A203_020101) (told.begin 1 None [] ∷ told.local_reject (Some 1) (Some (pos 1)) (of_result 0) ∷ [])
-    ∷ request_pair 1 continue_request (Answer.outputs (Output.send (hex 21 0x6513_480400000001_490107_6C08_A406_020101_820100) ∷ []))
+    received_pair (hex 12 0x620A_480107_6C05_A203_020101)
+    (told.begin 1 None [] ∷ told.local_reject (Some 1) (Some (pos 1)) (of_result 0) ∷ [])
+    ∷ request_pair 1 continue_request (Answer.outputs
+    (Output.send (hex 21 0x6513_480400000001_490107_6C08_A406_020101_820100) ∷ []))
     ∷ [])
     []
 
@@ -92,7 +95,8 @@ a_result_in_a_begin = worked usual_start (
 abbrev pub an_answer_to_a_queued_invoke : Worked
 an_answer_to_a_queued_invoke = worked usual_start (opened_with_invoke (
     invoke_pair 1 (pos 2) One (pos 10) 1000 (Answer.number 2)
-    ∷ received_pair (hex 21 0x6513_480400000005_490400000001_6C05_A203_020102) (continued 1 ∷ told.local_reject (Some 1) (Some (pos 2)) (of_result 0) ∷ [])
+    ∷ received_pair (hex 21 0x6513_480400000005_490400000001_6C05_A203_020102)
+    (continued 1 ∷ told.local_reject (Some 1) (Some (pos 2)) (of_result 0) ∷ [])
     ∷ []))
     (not_closed 1 ∷ not_closed 2 ∷ [])
 
@@ -150,7 +154,8 @@ no_timer_outlives_its_dialogue = worked usual_start (opened_with_invoke (
     request_pair 1 (asks.u_abort AbortReason.by_user []) (Answer.outputs (told.closed 1 1 (pos 1) Closing.ended ∷ []))
     ∷ dialogue_born 2
     ∷ invoke_pair 2 (pos 1) One (pos 10) 5000 (Answer.number 2)
-    ∷ request_pair 2 begin_request (Answer.outputs (Output.send (hex 18 0x6210_480400000002_6C08_A106_020101_02010A) ∷ []))
+    ∷ request_pair 2 begin_request (Answer.outputs
+    (Output.send (hex 18 0x6210_480400000002_6C08_A106_020101_02010A) ∷ []))
     ∷ moment_pair 1000 []
     ∷ moment_pair 5000 (told.closed 2 2 (pos 1) Closing.lapsed ∷ [])
     ∷ []))
@@ -165,8 +170,10 @@ lapses_in_order = worked usual_start (
     ∷ invoke_pair 2 (pos 6) One (pos 10) 10 (Answer.number 2)
     ∷ invoke_pair 1 (pos 7) One (pos 10) 20 (Answer.number 3)
     ∷ invoke_pair 1 (pos 8) One (pos 10) 20 (Answer.number 4)
-    ∷ request_pair 2 begin_request (Answer.outputs (Output.send (hex 26 0x6218_480400000002_6C10_A106_020105_02010A_A106_020106_02010A) ∷ []))
-    ∷ request_pair 1 begin_request (Answer.outputs (Output.send (hex 26 0x6218_480400000001_6C10_A106_020107_02010A_A106_020108_02010A) ∷ []))
+    ∷ request_pair 2 begin_request (Answer.outputs
+    (Output.send (hex 26 0x6218_480400000002_6C10_A106_020105_02010A_A106_020106_02010A) ∷ []))
+    ∷ request_pair 1 begin_request (Answer.outputs
+    (Output.send (hex 26 0x6218_480400000001_6C10_A106_020107_02010A_A106_020108_02010A) ∷ []))
     ∷ moment_pair 20 (
     told.closed 2 2 (pos 6) Closing.lapsed
     ∷ told.closed 1 3 (pos 7) Closing.lapsed

@@ -24,7 +24,8 @@ opened_by_the_peer pairs =
 -- It is answered by a Continue with an AARE (own).
 abbrev pub a_begin_with_aarq : Worked
 a_begin_with_aarq = worked usual_start (opened_by_the_peer (
-    request_pair 1 continue_request (Answer.outputs (Output.send (hex 14 0x6538_480400000001_490400000001 ++ aare) ∷ []))
+    request_pair 1 continue_request (Answer.outputs
+    (Output.send (hex 14 0x6538_480400000001_490400000001 ++ aare) ∷ []))
     ∷ []))
     []
 

@@ -59,7 +59,8 @@ refusals = worked usual_start (
     dialogue_born 1
     ∷ invoke_pair 1 (pos 1) One (pos 10) 0 (Answer.refused Fault.bad_timeout)
     ∷ invoke_pair 9 (pos 1) One (pos 10) 0 (Answer.refused Fault.unknown_dialogue)
-    ∷ request_pair 1 (asks.invoke (pos 1) One (CodeParts.global (0x80 ∷ [])) None None 1000) (Answer.refused Fault.bad_oid)
+    ∷ request_pair 1 (asks.invoke (pos 1) One (CodeParts.global (0x80 ∷ [])) None None 1000)
+    (Answer.refused Fault.bad_oid)
     ∷ request_pair 1 (invoke_with (code 10) (hex 3 0x0405AA)) (Answer.refused Fault.bad_parameter)
     ∷ request_pair 1 (invoke_with (code 10) longest_parameter) (Answer.refused Fault.too_long)
     ∷ request_pair 1 (asks.begin None (hex 2 0x2800)) (Answer.refused Fault.no_context)

@@ -17,14 +17,16 @@ abbrev pub unidirectional_sent : Worked
 unidirectional_sent = worked usual_start (
     dialogue_born 1
     ∷ invoke_pair 1 (pos 1) Four (pos 7) 1000 (Answer.number 1)
-    ∷ request_pair 1 (asks.uni None []) (Answer.outputs (Output.send (hex 12 0x610A_6C08_A106_020101_020107) ∷ told.closed 1 1 (pos 1) Closing.ended ∷ []))
+    ∷ request_pair 1 (asks.uni None []) (Answer.outputs
+    (Output.send (hex 12 0x610A_6C08_A106_020101_020107) ∷ told.closed 1 1 (pos 1) Closing.ended ∷ []))
     ∷ [])
     (closed_at 1 3 1 (pos 1) Closing.ended ∷ [])
 
 -- Another engine receives it (own).
 abbrev pub unidirectional_received : Worked
 unidirectional_received = worked usual_start (
-    received_pair (hex 12 0x610A_6C08_A106_020101_020107) (told.uni None [] ∷ told.invoked None (pos 1) None (code 7) None ∷ [])
+    received_pair (hex 12 0x610A_6C08_A106_020101_020107)
+    (told.uni None [] ∷ told.invoked None (pos 1) None (code 7) None ∷ [])
     ∷ [])
     []
 
@@ -42,7 +44,8 @@ abbrev pub answers_in_a_continue : Worked
 answers_in_a_continue = worked usual_start (opened_by_a_begin (
     request_pair 1 (asks.result_more (pos 1) None) Answer.done
     ∷ request_pair 1 (asks.error_back (pos 1) (code 13) None) Answer.done
-    ∷ request_pair 1 continue_request (Answer.outputs (Output.send (hex 29 0x651B_480400000001_490400000001_6C0D_A703_020101_A306_020101_02010D) ∷ []))
+    ∷ request_pair 1 continue_request (Answer.outputs
+    (Output.send (hex 29 0x651B_480400000001_490400000001_6C0D_A703_020101_A306_020101_02010D) ∷ []))
     ∷ []))
     []
 
@@ -50,6 +53,7 @@ answers_in_a_continue = worked usual_start (opened_by_a_begin (
 abbrev pub answer_in_an_end : Worked
 answer_in_an_end = worked usual_start (opened_by_a_begin (
     request_pair 1 (asks.result_last (pos 1) None) Answer.done
-    ∷ request_pair 1 (asks.finish Ending.basic None []) (Answer.outputs (Output.send (hex 15 0x640D_490400000001_6C05_A203_020101) ∷ []))
+    ∷ request_pair 1 (asks.finish Ending.basic None [])
+    (Answer.outputs (Output.send (hex 15 0x640D_490400000001_6C05_A203_020101) ∷ []))
     ∷ []))
     []

@@ -24,13 +24,29 @@ steps_start = record { max_dialogues = 4; reject_ms = 1000; next_dialogue = 1; n
 
 -- The engine before its first dialogue (own).
 abbrev pub empty_engine : World
-empty_engine = record { max_dialogues = 4; reject_ms = 1000; next_dialogue = 1; next_number = 1; clock = 0; dialogues = [] }
+empty_engine = record {
+  max_dialogues = 4;
+  reject_ms = 1000;
+  next_dialogue = 1;
+  next_number = 1;
+  clock = 0;
+  dialogues =
+      [];
+}
 
 -- The engine once dialogue 1 was born, at this clock, with the number of the next invocation and the
 -- dialogues that stand (own).
 abbrev pub engine_with : ℕ → ℕ → List Dialogue → World
 engine_with clock next_number dialogues =
-    record { max_dialogues = 4; reject_ms = 1000; next_dialogue = 2; next_number = next_number; clock = clock; dialogues = dialogues }
+    record {
+      max_dialogues = 4;
+      reject_ms = 1000;
+      next_dialogue = 2;
+      next_number = next_number;
+      clock =
+          clock;
+      dialogues = dialogues;
+    }
 
 -- The engine where dialogue 1 stands: the clock, the number of the next invocation, and the dialogue
 -- (own).
@@ -76,7 +92,8 @@ request_step asked answer after = record { event = Event.on_dialogue 1 asked; an
 
 -- Bytes are received (own).
 abbrev pub receive_step : List ℕ → List Output → World → Step
-receive_step bytes outputs after = record { event = Event.received bytes; answer = Answer.outputs outputs; after = after }
+receive_step bytes outputs after =
+    record { event = Event.received bytes; answer = Answer.outputs outputs; after = after }
 
 -- A moment is handed in (own).
 abbrev pub moment_step : ℕ → List Output → World → Step

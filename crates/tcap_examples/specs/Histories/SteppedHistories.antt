@@ -56,14 +56,20 @@ abbrev pub repeated_aare_steps : Walk
 repeated_aare_steps = walk (
     new_dialogue_1 (engine_of_one 0 1 (dialogue_1 State.fresh None [] []))
     ∷ request_step (invoke_request (pos 1) 10 1000) (Answer.number 1)
-    (engine_of_one 0 2 (dialogue_1 State.fresh None (invoke_queued invoke_1 1 ∷ []) (class_one_row (pos 1) 1 (Queued 1000) ∷ [])))
+    (engine_of_one 0 2 (dialogue_1 State.fresh None (invoke_queued invoke_1 1 ∷ [])
+    (class_one_row (pos 1) 1 (Queued 1000) ∷ [])))
     ∷ request_step (invoke_request (pos 2) 11 1000) (Answer.number 2)
-    (engine_of_one 0 3 (dialogue_1 State.fresh None (invoke_queued invoke_1 1 ∷ invoke_queued invoke_2 2 ∷ []) (class_one_row (pos 1) 1 (Queued 1000) ∷ class_one_row (pos 2) 2 (Queued 1000) ∷ [])))
+    (engine_of_one 0 3 (dialogue_1 State.fresh None (invoke_queued invoke_1 1 ∷ invoke_queued invoke_2 2 ∷ [])
+    (class_one_row (pos 1) 1 (Queued 1000) ∷ class_one_row (pos 2) 2 (Queued 1000) ∷ [])))
     ∷ request_step (asks.begin (Some context) []) (Answer.outputs (Output.send two_begun ∷ []))
-    (engine_of_one 0 3 (dialogue_1 State.sent (Some context) [] (class_one_row (pos 1) 1 (Sent 1000) ∷ class_one_row (pos 2) 2 (Sent 1000) ∷ [])))
-    ∷ receive_step accepting_continue (told.go_on 1 (Some context) [] ∷ told.closed 1 1 (pos 1) (Closing.result_last None) ∷ [])
-    (engine_of_one 0 3 (dialogue_1 (State.active peer) (Some context) [] (class_one_row (pos 1) 1 (Waiting 1000) ∷ class_one_row (pos 2) 2 (Sent 1000) ∷ [])))
-    ∷ receive_step accepting_continue (Output.send abnormal_abort_sent ∷ told.p_abort 1 AbortCause.abnormal ∷ told.closed 1 2 (pos 2) Closing.ended ∷ [])
+    (engine_of_one 0 3 (dialogue_1 State.sent (Some context) []
+    (class_one_row (pos 1) 1 (Sent 1000) ∷ class_one_row (pos 2) 2 (Sent 1000) ∷ [])))
+    ∷ receive_step accepting_continue (told.go_on 1 (Some context) []
+    ∷ told.closed 1 1 (pos 1) (Closing.result_last None) ∷ [])
+    (engine_of_one 0 3 (dialogue_1 (State.active peer) (Some context) []
+    (class_one_row (pos 1) 1 (Waiting 1000) ∷ class_one_row (pos 2) 2 (Sent 1000) ∷ [])))
+    ∷ receive_step accepting_continue (Output.send abnormal_abort_sent ∷ told.p_abort 1 AbortCause.abnormal
+    ∷ told.closed 1 2 (pos 2) Closing.ended ∷ [])
     (engine_after 0 3)
     ∷ [])
 
@@ -80,7 +86,8 @@ abbrev pub identifier_freed_steps : Walk
 identifier_freed_steps = walk (
     new_dialogue_1 (engine_of_one 0 1 (dialogue_1 State.fresh None [] []))
     ∷ request_step (invoke_request (pos 1) 10 10000) (Answer.number 1)
-    (engine_of_one 0 2 (dialogue_1 State.fresh None (invoke_queued invoke_1 1 ∷ []) (class_one_row (pos 1) 1 (Queued 10000) ∷ [])))
+    (engine_of_one 0 2 (dialogue_1 State.fresh None (invoke_queued invoke_1 1 ∷ [])
+    (class_one_row (pos 1) 1 (Queued 10000) ∷ [])))
     ∷ request_step (asks.begin None []) (Answer.outputs (Output.send one_begun ∷ []))
     (engine_of_one 0 2 (dialogue_1 State.sent None [] (class_one_row (pos 1) 1 (Sent 10000) ∷ [])))
     ∷ receive_step result_of_first (told.go_on 1 None [] ∷ told.closed 1 1 (pos 1) (Closing.result_last None) ∷ [])
@@ -88,7 +95,8 @@ identifier_freed_steps = walk (
     ∷ request_step (asks.u_reject (Some (pos 1)) (of_result 2)) Answer.done
     (engine_of_one 0 2 (dialogue_1 (State.active peer) None (queued_reject (reject_1 2) ∷ []) []))
     ∷ request_step (invoke_request (pos 1) 10 10000) (Answer.number 2)
-    (engine_of_one 0 3 (dialogue_1 (State.active peer) None (queued_reject (reject_1 2) ∷ invoke_queued invoke_1 2 ∷ []) (class_one_row (pos 1) 2 (Queued 10000) ∷ [])))
+    (engine_of_one 0 3 (dialogue_1 (State.active peer) None (queued_reject (reject_1 2) ∷ invoke_queued invoke_1 2 ∷ [])
+    (class_one_row (pos 1) 2 (Queued 10000) ∷ [])))
     ∷ request_step (asks.go_on None []) (Answer.outputs (Output.send both_sent ∷ []))
     (engine_of_one 0 3 (dialogue_1 (State.active peer) None [] (class_one_row (pos 1) 2 (Sent 10000) ∷ [])))
     ∷ receive_step result_of_first (told.go_on 1 None [] ∷ told.closed 1 2 (pos 1) (Closing.result_last None) ∷ [])
@@ -109,7 +117,8 @@ abbrev pub late_result_steps : Walk
 late_result_steps = walk (
     new_dialogue_1 (engine_of_one 0 1 (dialogue_1 State.fresh None [] []))
     ∷ request_step (invoke_request (pos 1) 10 1000) (Answer.number 1)
-    (engine_of_one 0 2 (dialogue_1 State.fresh None (invoke_queued invoke_1 1 ∷ []) (class_one_row (pos 1) 1 (Queued 1000) ∷ [])))
+    (engine_of_one 0 2 (dialogue_1 State.fresh None (invoke_queued invoke_1 1 ∷ [])
+    (class_one_row (pos 1) 1 (Queued 1000) ∷ [])))
     ∷ request_step (asks.begin None []) (Answer.outputs (Output.send one_begun ∷ []))
     (engine_of_one 0 2 (dialogue_1 State.sent None [] (class_one_row (pos 1) 1 (Sent 1000) ∷ [])))
     ∷ moment_step 999 []

@@ -45,7 +45,8 @@ dialogue_event clock (Event.received bytes) = Some (heard bytes)
 dialogue_event clock (Event.moment now) = if nat_lt now clock then None else Some (DialogueEvent.moment now)
 
 -- The dialogue answers so, goes on, and is the second one then (own).
-pub record GoesOn (s : Setting) (before : Dialogue) (event : DialogueEvent) (answer : Answer) (after : Dialogue) : Type 0 where
+pub record GoesOn (s : Setting) (before : Dialogue) (event : DialogueEvent) (answer : Answer) (after : Dialogue) : Type
+    0 where
   pub answers : (table_move s before event).answer ≡ answer
   pub becomes : (table_move s before event).after ≡ after
   pub stands : (table_move s before event).is_over ≡ false
@@ -76,7 +77,8 @@ first_dialogues reject_ms (Answer.refused fault) = []
 -- From the dialogues before an event, at most one, to those after it (own).
 abbrev pub LeadsTo : World → List Dialogue → Step → Type 0
 LeadsTo w [] step = step.after.dialogues ≡ first_dialogues w.reject_ms step.answer
-LeadsTo w (before ∷ []) step = Moves (setting_in w) before (dialogue_event w.clock step.event) step.answer step.after.dialogues
+LeadsTo w (before ∷ []) step =
+    Moves (setting_in w) before (dialogue_event w.clock step.event) step.answer step.after.dialogues
 LeadsTo w (before ∷ another ∷ others) step = ⊥
 
 -- ---- the steps

@@ -26,7 +26,11 @@ pub record Stated : Type 0 where
 -- identifier, and so (own).
 abbrev pub closed_at : ℕ → ℕ → ℕ → ℤ → Closing → Stated
 closed_at number event dialogue id closing =
-    record { number = number; indication = Some (record { event = event; dialogue = dialogue; id = id; closing = closing }) }
+    record {
+      number = number;
+      indication =
+          Some (record { event = event; dialogue = dialogue; id = id; closing = closing });
+    }
 
 -- The invocation of this number isn't closed (own).
 abbrev pub not_closed : ℕ → Stated

@@ -36,7 +36,8 @@ second_of_the_loss =
     ∷ request_pair 1 (asks.result_more (pos 1) (Some (result_body (hex 3 0x0401AA)))) Answer.done
     ∷ request_pair 1 continue_request (Answer.outputs (Output.send part_of_the_result ∷ []))
     ∷ request_pair 1 (asks.result_last (pos 1) (Some (result_body (hex 3 0x0401BB)))) Answer.done
-    ∷ request_pair 1 (asks.finish Ending.basic None []) (Answer.outputs (Output.send (hex 23 0x6415_490400000001_6C0D_A20B_020101_3006_02010A_0401BB) ∷ []))
+    ∷ request_pair 1 (asks.finish Ending.basic None [])
+    (Answer.outputs (Output.send (hex 23 0x6415_490400000001_6C0D_A20B_020101_3006_02010A_0401BB) ∷ []))
     ∷ moment_pair 5000 []
     ∷ []
 

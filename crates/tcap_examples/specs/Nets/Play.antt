@@ -32,7 +32,8 @@ second_answer = hex 29 0x651B_480400000002_490400000001_6C0D_A20B_020101_3006_02
 -- before the first (own).
 abbrev pub at_the_first : List Pair
 at_the_first = opened_with_invoke (
-    received_pair second_answer (continued 1 ∷ told.closed 1 1 (pos 1) (Closing.result_last (Some (result_body (hex 3 0x0401BB)))) ∷ [])
+    received_pair second_answer (continued 1 ∷ told.closed 1 1 (pos 1)
+    (Closing.result_last (Some (result_body (hex 3 0x0401BB)))) ∷ [])
     ∷ received_pair first_answer (continued 1 ∷ told.local_reject (Some 1) (Some (pos 1)) (of_result 0) ∷ [])
     ∷ moment_pair 1000 []
     ∷ [])

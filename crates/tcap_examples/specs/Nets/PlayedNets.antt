@@ -120,7 +120,8 @@ answered_ahead = played (
     ∷ at_b (request_pair 1 answer Answer.done)
     ∷ at_b (request_pair 1 continue_request (send_answer result_continue))
     ∷ at_a (invoke_pair 1 (pos 1) One (pos 10) 1000 (Answer.number 1))
-    ∷ at_a (request_pair 1 continue_request (send_answer (hex 24 0x6516_480400000001_490400000001_6C08_A106_020101_02010A)))
+    ∷ at_a (request_pair 1 continue_request (send_answer
+    (hex 24 0x6516_480400000001_490400000001_6C08_A106_020101_02010A)))
     ∷ at_a (received_pair result_continue (continued 1 ∷ told.closed 1 1 (pos 1) empty_result ∷ []))
     ∷ [])
 
@@ -139,7 +140,8 @@ used_again = played (
     ∷ at_a (received_pair result_continue (continued 1 ∷ told.closed 1 1 (pos 1) empty_result ∷ []))
     ∷ at_a (moment_pair 1000 [])
     ∷ at_a (invoke_pair 1 (pos 1) One (pos 10) 5000 (Answer.number 2))
-    ∷ at_a (request_pair 1 continue_request (send_answer (hex 24 0x6516_480400000001_490400000001_6C08_A106_020101_02010A)))
+    ∷ at_a (request_pair 1 continue_request (send_answer
+    (hex 24 0x6516_480400000001_490400000001_6C08_A106_020101_02010A)))
     ∷ at_a (received_pair result_continue (continued 1 ∷ told.closed 1 2 (pos 1) empty_result ∷ []))
     ∷ [])
 
@@ -162,7 +164,8 @@ heard_as_one = played (
     ∷ at_b (request_pair 1 answer Answer.done)
     ∷ at_b (request_pair 1 continue_request (send_answer result_continue))
     ∷ at_a (invoke_pair 1 (pos 1) One (pos 10) 1000 (Answer.number 2))
-    ∷ at_a (request_pair 1 continue_request (send_answer (hex 24 0x6516_480400000001_490400000001_6C08_A106_020101_02010A)))
+    ∷ at_a (request_pair 1 continue_request (send_answer
+    (hex 24 0x6516_480400000001_490400000001_6C08_A106_020101_02010A)))
     ∷ at_a (received_pair result_continue (continued 1 ∷ told.closed 1 2 (pos 1) empty_result ∷ []))
     ∷ [])
 
@@ -181,7 +184,8 @@ abbrev pub in_a_unidirectional : Net
 in_a_unidirectional = played (
     at_a (dialogue_born 1)
     ∷ at_a (invoke_pair 1 (pos 1) Four (pos 7) 1000 (Answer.number 1))
-    ∷ at_a (request_pair 1 (asks.uni None []) (Answer.outputs (Output.send alone_sent ∷ told.closed 1 1 (pos 1) Closing.ended ∷ [])))
+    ∷ at_a (request_pair 1 (asks.uni None []) (Answer.outputs
+    (Output.send alone_sent ∷ told.closed 1 1 (pos 1) Closing.ended ∷ [])))
     ∷ at_b alone_told
     ∷ [])
 
@@ -200,7 +204,8 @@ in_an_end = played (
     ∷ at_a (request_pair 1 begin_request (send_answer (hex 8 0x6206_480400000001)))
     ∷ at_b (received_pair (hex 8 0x6206_480400000001) (told.begin 1 None [] ∷ []))
     ∷ at_b (invoke_pair 1 (pos 1) One (pos 10) 1000 (Answer.number 1))
-    ∷ at_b (request_pair 1 (asks.finish Ending.basic None []) (Answer.outputs (Output.send end_sent ∷ told.closed 1 1 (pos 1) Closing.ended ∷ [])))
+    ∷ at_b (request_pair 1 (asks.finish Ending.basic None [])
+    (Answer.outputs (Output.send end_sent ∷ told.closed 1 1 (pos 1) Closing.ended ∷ [])))
     ∷ at_a end_told
     ∷ [])
 
@@ -214,7 +219,9 @@ forged = played (
     ∷ at_a (request_pair 1 begin_request (send_answer (hex 8 0x6206_480400000001)))
     ∷ at_a (invoke_pair 1 (pos 1) One (pos 10) 1000 (Answer.number 1))
     ∷ at_a (received_pair (hex 14 0x650C_480400000001_490400000001) (continued 1 ∷ []))
-    ∷ at_a (request_pair 1 continue_request (send_answer (hex 24 0x6516_480400000001_490400000001_6C08_A106_020101_02010A)))
+    ∷ at_a (request_pair 1 continue_request (send_answer
+    (hex 24 0x6516_480400000001_490400000001_6C08_A106_020101_02010A)))
     ∷ at_a (received_pair result_continue (continued 1 ∷ told.closed 1 1 (pos 1) empty_result ∷ []))
-    ∷ at_b (received_pair (hex 18 0x6210_480400000001_6C08_A106_020101_02010B) (told.begin 1 None [] ∷ told.invoked (Some 1) (pos 1) None (code 11) None ∷ []))
+    ∷ at_b (received_pair (hex 18 0x6210_480400000001_6C08_A106_020101_02010B)
+    (told.begin 1 None [] ∷ told.invoked (Some 1) (pos 1) None (code 11) None ∷ []))
     ∷ [])

@@ -36,7 +36,8 @@ begin_message = Message.begin (hex 4 0x00000001) None (hex 16 0xA106_020180_0201
 
 -- Its components (own).
 abbrev pub two_invokes : List ComponentParts
-two_invokes = ComponentParts.invoke (negsuc 127) None (code 10) None ∷ ComponentParts.invoke (pos 127) None (code 10) None ∷ []
+two_invokes = ComponentParts.invoke (negsuc 127) None (code 10) None
+    ∷ ComponentParts.invoke (pos 127) None (code 10) None ∷ []
 
 -- What stands before it (own).
 abbrev pub before_the_begin : Past
@@ -96,11 +97,13 @@ result_told = told.closed 1 1 (negsuc 127) empty_result
 
 -- What is told of it (own).
 abbrev pub result_pair : Pair
-result_pair = received_pair result_received (continued 1 ∷ result_told ∷ told.local_reject (Some 1) (Some (pos 7)) (general 0) ∷ [])
+result_pair = received_pair result_received (continued 1 ∷ result_told
+    ∷ told.local_reject (Some 1) (Some (pos 7)) (general 0) ∷ [])
 
 -- The message (own).
 abbrev pub result_message : Message
-result_message = Message.go_on (hex 4 0x00000005) (hex 4 0x00000001) None (hex 23 0xA203_020180_A503_020107_A203_02017F_A306_02017F_020101)
+result_message = Message.go_on (hex 4 0x00000005) (hex 4 0x00000001) None
+    (hex 23 0xA203_020180_A503_020107_A203_02017F_A306_02017F_020101)
 
 -- Its first component (own).
 abbrev pub received_result : ComponentParts

@@ -118,7 +118,8 @@ where_so true fact = fact
 abbrev pub IsAloneThroughout : ℕ → Start → Past → Type 0
 IsAloneThroughout dialogue start [] = Unit {0}
 IsAloneThroughout dialogue start (pair ∷ past) =
-    where_so (names pair.event dialogue) (IsAlone (record { start = start; pairs = past }) dialogue pair.event) × IsAloneThroughout dialogue start past
+    where_so (names pair.event dialogue) (IsAlone (record { start = start; pairs = past }) dialogue pair.event)
+    × IsAloneThroughout dialogue start past
 
 -- The second engine of "Repeated Begin": two dialogues that are born of one Begin (own).
 abbrev pub of_one_begin : Past

@@ -143,7 +143,8 @@ again_message = Message.go_on (hex 4 0x00000001) (hex 4 0x00000005) None (hex 8 
 
 -- The Invoke that the Begin had is sent once more, in a Continue (own).
 abbrev pub sent_twice : Wrong
-sent_twice = wrong usual_start (opened_with_invoke (received_pair (hex 14 0x650C_480400000005_490400000001) (continued 1 ∷ []) ∷ []))
+sent_twice = wrong usual_start (opened_with_invoke
+    (received_pair (hex 14 0x650C_480400000005_490400000001) (continued 1 ∷ []) ∷ []))
     (request_pair 1 continue_request (Answer.outputs (Output.send again_sent ∷ [])))
 
 -- The Begin with two Invokes, the second one first (own).

@@ -7,7 +7,8 @@ use Rattle.tcap_model.specs.Words.Request.{Request, Ending, AbortReason, Compone
 
 -- TC-INVOKE (Q.771, Component handling).
 abbrev pub invoke : ℤ → Class → CodeParts → Option (List ℕ) → Option ℤ → ℕ → Request
-invoke id class code parameter linked timeout = Request.component (ComponentRequest.invoke id class code parameter linked timeout)
+invoke id class code parameter linked timeout =
+    Request.component (ComponentRequest.invoke id class code parameter linked timeout)
 
 -- TC-RESULT-L (Q.771, Component handling).
 abbrev pub result_last : ℤ → Option BodyParts → Request

@@ -19,7 +19,8 @@ context = hex 7 0x04000001000103
 
 -- The dialogue portion of a Begin: an AARQ with the context, whose version has these four octets (own).
 abbrev pub aarq_version : ℕ → List ℕ
-aarq_version version = hex 17 0x6B1E281C_0607_00118605010101_A011_600F ++ hex 4 version ++ hex 11 0xA109_0607_04000001000103
+aarq_version version =
+    hex 17 0x6B1E281C_0607_00118605010101_A011_600F ++ hex 4 version ++ hex 11 0xA109_0607_04000001000103
 
 -- An AARQ with the context, version 1 (own).
 abbrev pub aarq : List ℕ
@@ -41,7 +42,8 @@ code number = CodeParts.local (pos number)
 -- TC-INVOKE of this identifier, class and operation, without parameter and linked identifier, with this
 -- timeout in milliseconds (own).
 abbrev pub invoke_within : ℕ → ℤ → Class → ℕ → DialogueEvent
-invoke_within timeout id class operation = DialogueEvent.request (asks.invoke id class (code operation) None None timeout)
+invoke_within timeout id class operation =
+    DialogueEvent.request (asks.invoke id class (code operation) None None timeout)
 
 -- The same with a timeout of 1000 milliseconds (own).
 abbrev pub invoke : ℤ → Class → ℕ → DialogueEvent
@@ -61,7 +63,8 @@ one_invoke = invoke (pos 1) One 10 ∷ plain_begin ∷ []
 
 -- What is answered to that: number 1, and the Begin with the Invoke (own).
 abbrev pub one_invoke_told : List Answer
-one_invoke_told = Answer.number 1 ∷ Answer.outputs (Output.send (hex 18 0x6210_480400000001_6C08_A106020101_02010A) ∷ []) ∷ []
+one_invoke_told = Answer.number 1 ∷ Answer.outputs
+    (Output.send (hex 18 0x6210_480400000001_6C08_A106020101_02010A) ∷ []) ∷ []
 
 -- The same Invoke with a timeout of 10000 milliseconds (own).
 abbrev pub one_long_invoke : List DialogueEvent
@@ -85,7 +88,8 @@ shown_begin = hex 23 0x6215_480400000001_6C0D_A10B020101_020102_30030401AA
 
 -- What is told of it (own).
 abbrev pub shown_begin_told : Answer
-shown_begin_told = Answer.outputs (told.begin 1 None [] ∷ told.invoked (Some 1) (pos 1) None (code 2) (Some (hex 5 0x30030401AA)) ∷ [])
+shown_begin_told = Answer.outputs (told.begin 1 None []
+    ∷ told.invoked (Some 1) (pos 1) None (code 2) (Some (hex 5 0x30030401AA)) ∷ [])
 
 -- A Begin with an AARQ and the same Invoke (own).
 abbrev pub begin_with_aarq : List ℕ
@@ -93,7 +97,9 @@ begin_with_aarq = hex 8 0x6235_480400000001 ++ aarq ++ hex 15 0x6C0D_A10B020101_
 
 -- What is told of it (own).
 abbrev pub begin_with_aarq_told : Answer
-begin_with_aarq_told = Answer.outputs (told.begin 1 (Some context) [] ∷ told.invoked (Some 1) (pos 1) None (code 2) (Some (hex 5 0x30030401AA)) ∷ [])
+begin_with_aarq_told =
+    Answer.outputs (told.begin 1 (Some context) []
+    ∷ told.invoked (Some 1) (pos 1) None (code 2) (Some (hex 5 0x30030401AA)) ∷ [])
 
 -- A general problem (own).
 abbrev pub general : ℕ → ProblemParts
@@ -141,7 +147,8 @@ one_queued = play opened (invoke (pos 1) One 10 ∷ [])
 
 -- A dialogue with one Invoke in its queue, of exactly 60,000 octets (own).
 abbrev pub full_queue : Played
-full_queue = play opened (DialogueEvent.request (asks.invoke (pos 1) One (code 10) (Some (hex 4 0x0482EA52 ++ replicate 59986 0)) None 1000) ∷ [])
+full_queue = play opened (DialogueEvent.request
+    (asks.invoke (pos 1) One (code 10) (Some (hex 4 0x0482EA52 ++ replicate 59986 0)) None 1000) ∷ [])
 
 -- One dialogue is live, that of identifier 1 (own).
 abbrev pub is_first_live : ℕ → Bool
@@ -149,4 +156,5 @@ is_first_live dialogue = dialogue == 1
 
 -- With the one Invoke sent, these bytes end its dialogue and tell this and that it is ended (own).
 abbrev pub EndsTold : List ℕ → Output → Type 0
-EndsTold bytes told = Ends opened (one_invoke ++ heard bytes ∷ []) (one_invoke_told ++ Answer.outputs (told ∷ first_ended ∷ []) ∷ [])
+EndsTold bytes told =
+    Ends opened (one_invoke ++ heard bytes ∷ []) (one_invoke_told ++ Answer.outputs (told ∷ first_ended ∷ []) ∷ [])

@@ -28,7 +28,10 @@ birth_refused fault = record { event = Event.new_dialogue; answer = Answer.refus
 -- parameter and linked identifier (own).
 abbrev pub invoke_pair : ℕ → ℤ → Class → ℤ → ℕ → Answer → Pair
 invoke_pair dialogue id class code timeout answer =
-    record { event = Event.on_dialogue dialogue (asks.invoke id class (CodeParts.local code) None None timeout); answer = answer }
+    record {
+      event = Event.on_dialogue dialogue (asks.invoke id class (CodeParts.local code) None None timeout);
+      answer = answer;
+    }
 
 -- A request on a dialogue (own).
 abbrev pub request_pair : ℕ → Request → Answer → Pair
@@ -82,7 +85,8 @@ abbrev pub opened_for : ℕ → List Pair → List Pair
 opened_for timeout pairs =
     dialogue_born 1
     ∷ invoke_pair 1 (pos 1) One (pos 10) timeout (Answer.number 1)
-    ∷ request_pair 1 begin_request (Answer.outputs (Output.send (hex 18 0x6210_480400000001_6C08_A106_020101_02010A) ∷ []))
+    ∷ request_pair 1 begin_request (Answer.outputs
+    (Output.send (hex 18 0x6210_480400000001_6C08_A106_020101_02010A) ∷ []))
     ∷ pairs
 
 -- The same, with a timeout of a second (own).

@@ -31,7 +31,8 @@ p_abort dialogue why = Output.dialogue (DialogueIndication.p_abort dialogue why)
 
 -- TC-INVOKE (Q.771, Component handling).
 abbrev pub invoked : Option ℕ → ℤ → Option ℤ → CodeParts → Option (List ℕ) → Output
-invoked dialogue id linked code parameter = Output.component (ComponentIndication.invoked dialogue id linked code parameter)
+invoked dialogue id linked code parameter =
+    Output.component (ComponentIndication.invoked dialogue id linked code parameter)
 
 -- TC-RESULT-NL (Q.771, Component handling).
 abbrev pub result_more : ℕ → ℕ → ℤ → Option BodyParts → Output

@@ -19,9 +19,11 @@ components_after_a_fault = wrong usual_start (
     dialogue_born 1
     ∷ invoke_pair 1 (negsuc 127) One (pos 10) 1000 (Answer.number 1)
     ∷ invoke_pair 1 (pos 127) One (pos 10) 1000 (Answer.number 2)
-    ∷ request_pair 1 begin_request (Answer.outputs (Output.send (hex 26 0x6218_480400000001_6C10_A106_020180_02010A_A106_02017F_02010A) ∷ []))
+    ∷ request_pair 1 begin_request (Answer.outputs
+    (Output.send (hex 26 0x6218_480400000001_6C10_A106_020180_02010A_A106_02017F_02010A) ∷ []))
     ∷ [])
-    (received_pair (hex 39 0x6525_480400000005_490400000001_6C17_A203_020180_A503_020107_A203_02017F_A306_02017F_020101) (
+    (received_pair (hex 39 0x6525_480400000005_490400000001_6C17_A203_020180_A503_020107_A203_02017F_A306_02017F_020101)
+    (
     continued 1
     ∷ told.closed 1 1 (negsuc 127) empty_result
     ∷ told.local_reject (Some 1) (Some (pos 7)) (general 0)
@@ -40,16 +42,19 @@ clock_set_back = wrong usual_start (
     ∷ moment_pair 1000 []
     ∷ moment_pair 5 []
     ∷ invoke_pair 1 (pos 1) One (pos 10) 1000 (Answer.number 1)
-    ∷ request_pair 1 begin_request (Answer.outputs (Output.send (hex 18 0x6210_480400000001_6C08_A106_020101_02010A) ∷ []))
+    ∷ request_pair 1 begin_request (Answer.outputs
+    (Output.send (hex 18 0x6210_480400000001_6C08_A106_020101_02010A) ∷ []))
     ∷ [])
     (moment_pair 1005 (told.closed 1 1 (pos 1) Closing.lapsed ∷ []))
 
 -- The origin of a later Continue becomes the peer's identifier (own).
 abbrev pub moving_peer : Wrong
 moving_peer = wrong usual_start (answered_once (
-    received_pair (hex 21 0x6513_480400000006_490400000001_6C05_A203_020101) (continued 1 ∷ told.local_reject (Some 1) (Some (pos 1)) (of_result 0) ∷ [])
+    received_pair (hex 21 0x6513_480400000006_490400000001_6C05_A203_020101)
+    (continued 1 ∷ told.local_reject (Some 1) (Some (pos 1)) (of_result 0) ∷ [])
     ∷ []))
-    (request_pair 1 continue_request (Answer.outputs (Output.send (hex 24 0x6516_480400000001_490400000006_6C08_A406_020101_820100) ∷ [])))
+    (request_pair 1 continue_request (Answer.outputs
+    (Output.send (hex 24 0x6516_480400000001_490400000006_6C08_A406_020101_820100) ∷ [])))
 
 -- A repeated Begin makes no second dialogue (own).
 abbrev pub recognised_begin : Wrong

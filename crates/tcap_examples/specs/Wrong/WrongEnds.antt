@@ -13,7 +13,8 @@ use Rattle.tcap_examples.specs.Values.Told as told
 
 -- A result is received and told (own).
 abbrev pub answered_once : List Pair → List Pair
-answered_once pairs = opened_with_invoke (received_pair result_of_first (continued 1 ∷ told.closed 1 1 (pos 1) empty_result ∷ []) ∷ pairs)
+answered_once pairs =
+    opened_with_invoke (received_pair result_of_first (continued 1 ∷ told.closed 1 1 (pos 1) empty_result ∷ []) ∷ pairs)
 
 -- A repeated result is told twice (own).
 abbrev pub double_result : Wrong
@@ -43,7 +44,8 @@ abbrev pub lapse_by_identifier : Wrong
 lapse_by_identifier = wrong usual_start (opened_with_invoke (
     dialogue_born 2
     ∷ invoke_pair 2 (pos 1) One (pos 10) 5000 (Answer.number 2)
-    ∷ request_pair 2 begin_request (Answer.outputs (Output.send (hex 18 0x6210_480400000002_6C08_A106_020101_02010A) ∷ []))
+    ∷ request_pair 2 begin_request (Answer.outputs
+    (Output.send (hex 18 0x6210_480400000002_6C08_A106_020101_02010A) ∷ []))
     ∷ []))
     (moment_pair 1000 (told.closed 1 1 (pos 1) Closing.lapsed ∷ told.closed 2 2 (pos 1) Closing.lapsed ∷ []))
 

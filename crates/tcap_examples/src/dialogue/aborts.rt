@@ -31,7 +31,8 @@ pub fn ways_an_invocation_closes()
         (one_invoke_told ++ Answer.outputs (told.u_abort 1 None ∷ first_ended ∷ []) ∷ []) }
     ensures error { Ends opened
         (one_invoke ++ heard (hex 18 0x6410_490400000001_6C08_A306020101_02010D) ∷ [])
-        (one_invoke_told ++ Answer.outputs (told.end 1 None [] ∷ told.closed 1 1 (pos 1) (Closing.error_back (code 13) None) ∷ []) ∷ []) }
+        (one_invoke_told ++ Answer.outputs (told.end 1 None []
+        ∷ told.closed 1 1 (pos 1) (Closing.error_back (code 13) None) ∷ []) ∷ []) }
     ensures prearranged_end { Ends opened
         (one_invoke ++ request (asks.finish Ending.prearranged None []) ∷ [])
         (one_invoke_told ++ Answer.outputs (first_ended ∷ []) ∷ []) }
@@ -47,32 +48,41 @@ pub fn ways_an_invocation_closes()
 pub fn dialogue_refused_and_aborted()
     ensures refused { Ends (begun_from begin_with_aarq)
         (request (asks.u_abort AbortReason.not_supported []) ∷ [])
-        (begin_with_aarq_told ∷ Answer.outputs (Output.send (hex 8 0x6732_490400000001 ++ aare_result 0xA203020101_A305A103020102) ∷ []) ∷ []) }
+        (begin_with_aarq_told ∷ Answer.outputs (Output.send
+        (hex 8 0x6732_490400000001 ++ aare_result 0xA203020101_A305A103020102) ∷ []) ∷ []) }
     ensures aborted { Ends (begun_from begin_with_aarq)
         (request (asks.u_abort AbortReason.by_user []) ∷ [])
-        (begin_with_aarq_told ∷ Answer.outputs (Output.send (hex 28 0x671A_490400000001_6B12_2810_0607_00118605010101_A005_6403_800100) ∷ []) ∷ []) }
+        (begin_with_aarq_told ∷ Answer.outputs (Output.send
+        (hex 28 0x671A_490400000001_6B12_2810_0607_00118605010101_A005_6403_800100) ∷ []) ∷ []) }
 {}
 
 /// What a received Abort tells, by its dialogue portion: the user's ABRT, a foreign portion and an AARE
 /// that refuses are the user's; "no common dialogue portion" is the provider's; all else is abnormal,
 /// also what can't be read.
 pub fn what_an_abort_tells()
-    ensures user_abrt { EndsTold (hex 28 0x671A_490400000001_6B12_2810_0607_00118605010101_A005_6403_800100) (told.u_abort 1 (Some (PduValue.abrt false []))) }
-    ensures foreign { EndsTold (hex 17 0x670F_490400000001_6B07_2805_06012A_A000) (told.u_abort 1 (Some (PduValue.foreign (hex 7 0x2805_06012A_A000)))) }
-    ensures refused { EndsTold (hex 8 0x6732_490400000001 ++ aare_result 0xA203020101_A305A103020102) (told.u_abort 1 (Some (PduValue.aare true context false (Source.user 2) []))) }
-    ensures no_common { EndsTold (hex 8 0x6732_490400000001 ++ aare_result 0xA203020101_A305A203020102) (told.p_abort 1 AbortCause.no_common) }
+    ensures user_abrt { EndsTold (hex 28 0x671A_490400000001_6B12_2810_0607_00118605010101_A005_6403_800100)
+        (told.u_abort 1 (Some (PduValue.abrt false []))) }
+    ensures foreign { EndsTold (hex 17 0x670F_490400000001_6B07_2805_06012A_A000)
+        (told.u_abort 1 (Some (PduValue.foreign (hex 7 0x2805_06012A_A000)))) }
+    ensures refused { EndsTold (hex 8 0x6732_490400000001 ++ aare_result 0xA203020101_A305A103020102)
+        (told.u_abort 1 (Some (PduValue.aare true context false (Source.user 2) []))) }
+    ensures no_common { EndsTold (hex 8 0x6732_490400000001 ++ aare_result 0xA203020101_A305A203020102)
+        (told.p_abort 1 AbortCause.no_common) }
     ensures accepted { EndsTold (hex 8 0x6732_490400000001 ++ aare) (told.p_abort 1 AbortCause.abnormal) }
     ensures aarq { EndsTold (hex 8 0x6726_490400000001 ++ aarq) (told.p_abort 1 AbortCause.abnormal) }
-    ensures provider_abrt { EndsTold (hex 28 0x671A_490400000001_6B12_2810_0607_00118605010101_A005_6403_800101) (told.p_abort 1 AbortCause.abnormal) }
+    ensures provider_abrt { EndsTold (hex 28 0x671A_490400000001_6B12_2810_0607_00118605010101_A005_6403_800101)
+        (told.p_abort 1 AbortCause.abnormal) }
     ensures empty { EndsTold (hex 10 0x6708_490400000001_6B00) (told.p_abort 1 AbortCause.abnormal) }
 {}
 
 /// The user's Abort of an active dialogue has an ABRT at the side too that asked for the context.
 pub fn an_abort_by_the_opener()
     ensures { Ends opened
-        (request (asks.begin (Some context) []) ∷ heard (hex 14 0x6538_480400000005_490400000001 ++ aare) ∷ request (asks.u_abort AbortReason.by_user (hex 2 0x2800)) ∷ [])
+        (request (asks.begin (Some context) []) ∷ heard (hex 14 0x6538_480400000005_490400000001 ++ aare)
+        ∷ request (asks.u_abort AbortReason.by_user (hex 2 0x2800)) ∷ [])
         (Answer.outputs (Output.send (hex 8 0x6226_480400000001 ++ aarq) ∷ [])
         ∷ Answer.outputs (told.go_on 1 (Some context) [] ∷ [])
-        ∷ Answer.outputs (Output.send (hex 32 0x671E_490400000005_6B16_2814_0607_00118605010101_A009_6407_800100_BE02_2800) ∷ [])
+        ∷ Answer.outputs (Output.send (hex 32
+        0x671E_490400000005_6B16_2814_0607_00118605010101_A009_6407_800100_BE02_2800) ∷ [])
         ∷ []) }
 {}

@@ -25,8 +25,10 @@ pub fn remote_rejects()
         ∷ heard (hex 8 0x6732_490400000001 ++ aare_result 0xA203020101_A305A203020102)
         ∷ [])
         (one_invoke_told
-        ++ Answer.outputs (told.go_on 1 None [] ∷ told.remote_reject (Some 1) (Some (pos 1)) (of_result 0) Rejector.remote_provider ∷ [])
-        ∷ Answer.outputs (told.go_on 1 None [] ∷ told.closed 1 1 (pos 1) (Closing.rejected (of_invoke 1) Rejector.remote_user) ∷ [])
+        ++ Answer.outputs (told.go_on 1 None [] ∷ told.remote_reject (Some 1) (Some (pos 1)) (of_result 0)
+        Rejector.remote_provider ∷ [])
+        ∷ Answer.outputs (told.go_on 1 None [] ∷ told.closed 1 1 (pos 1)
+        (Closing.rejected (of_invoke 1) Rejector.remote_user) ∷ [])
         ∷ Answer.outputs (told.p_abort 1 AbortCause.no_common ∷ [])
         ∷ []) }
 {}
@@ -63,13 +65,15 @@ pub fn answers_the_class_forbids()
         (Answer.number 1
         ∷ Answer.number 2
         ∷ Answer.number 3
-        ∷ Answer.outputs (Output.send (hex 34 0x6220_480400000001_6C18_A106020101_02010A_A106020102_02010A_A106020103_02010A) ∷ [])
+        ∷ Answer.outputs (Output.send (hex 34
+        0x6220_480400000001_6C18_A106020101_02010A_A106020102_02010A_A106020103_02010A) ∷ [])
         ∷ Answer.outputs (told.go_on 1 None []
         ∷ told.closed 1 1 (pos 1) (Closing.rejected (of_result 1) Rejector.local)
         ∷ told.closed 1 2 (pos 2) (Closing.rejected (of_error 1) Rejector.local)
         ∷ told.closed 1 3 (pos 3) (Closing.rejected (of_result 1) Rejector.local)
         ∷ [])
-        ∷ Answer.outputs (Output.send (hex 40 0x6526_480400000001_490400000005_6C18_A406020101_820101_A406020102_830101_A406020103_820101) ∷ [])
+        ∷ Answer.outputs (Output.send (hex 40
+        0x6526_480400000001_490400000005_6C18_A406020101_820101_A406020102_830101_A406020103_820101) ∷ [])
         ∷ []) }
 {}
 
@@ -86,7 +90,8 @@ pub fn faulty_second_component()
         (Answer.number 1
         ∷ Answer.number 2
         ∷ Answer.outputs (Output.send (hex 26 0x6218_480400000001_6C10_A106020180_02010A_A10602017F_02010A) ∷ [])
-        ∷ Answer.outputs (told.go_on 1 None [] ∷ told.closed 1 1 (negsuc 127) (Closing.result_last None) ∷ told.local_reject (Some 1) (Some (pos 7)) (general 0) ∷ [])
+        ∷ Answer.outputs (told.go_on 1 None [] ∷ told.closed 1 1 (negsuc 127) (Closing.result_last None)
+        ∷ told.local_reject (Some 1) (Some (pos 7)) (general 0) ∷ [])
         ∷ Answer.outputs (Output.send (hex 24 0x6516_480400000001_490400000005_6C08_A406020107_800100) ∷ [])
         ∷ Answer.given_up 2
         ∷ []) }
@@ -131,7 +136,8 @@ pub fn repeated_begin_played()
         ∷ moment 1000
         ∷ [])
         (one_invoke_told
-        ++ Answer.outputs (told.go_on 1 None [] ∷ told.closed 1 1 (pos 1) (Closing.result_last (body (code 10) (Some (hex 3 0x0401BB)))) ∷ [])
+        ++ Answer.outputs (told.go_on 1 None [] ∷ told.closed 1 1 (pos 1)
+        (Closing.result_last (body (code 10) (Some (hex 3 0x0401BB)))) ∷ [])
         ∷ Answer.outputs (told.go_on 1 None [] ∷ told.local_reject (Some 1) (Some (pos 1)) (of_result 0) ∷ [])
         ∷ Answer.outputs []
         ∷ []) }
@@ -164,17 +170,20 @@ pub fn linked_identifiers()
         ∷ [])
         (one_invoke_told
         ++ Answer.outputs (told.go_on 1 None [] ∷ told.invoked (Some 1) (pos 2) (Some (pos 1)) (code 5) None ∷ [])
-        ∷ Answer.outputs (told.go_on 1 None [] ∷ first_result ∷ told.local_reject (Some 1) (Some (pos 3)) (of_invoke 5) ∷ [])
+        ∷ Answer.outputs (told.go_on 1 None [] ∷ first_result ∷ told.local_reject (Some 1) (Some (pos 3)) (of_invoke 5)
+        ∷ [])
         ∷ []) }
     ensures queued { Answers opened
-        (one_invoke ++ invoke (pos 2) One 11 ∷ heard (hex 27 0x6519_480400000005_490400000001_6C0B_A109020103_800102_020105) ∷ [])
+        (one_invoke ++ invoke (pos 2) One 11 ∷ heard
+        (hex 27 0x6519_480400000005_490400000001_6C0B_A109020103_800102_020105) ∷ [])
         (one_invoke_told
         ++ Answer.number 2
         ∷ Answer.outputs (told.go_on 1 None [] ∷ told.local_reject (Some 1) (Some (pos 3)) (of_invoke 5) ∷ [])
         ∷ []) }
     ensures requested { Answers opened
         (request (asks.invoke (pos 1) One (code 10) None (Some (pos 99)) 1000) ∷ plain_begin ∷ [])
-        (Answer.number 1 ∷ Answer.outputs (Output.send (hex 21 0x6213_480400000001_6C0B_A109020101_800163_02010A) ∷ []) ∷ []) }
+        (Answer.number 1 ∷ Answer.outputs (Output.send (hex 21 0x6213_480400000001_6C0B_A109020101_800163_02010A) ∷ [])
+        ∷ []) }
 {}
 
 /// Rejects are queued one by one, each where it fits: with room for 7 octets the first, of 8, isn't
@@ -183,7 +192,8 @@ pub fn rejects_at_the_queues_limit()
     ensures small_limit { Answers (with_room 7 opened)
         (plain_begin ∷ heard (hex 23 0x6515_480400000005_490400000001_6C07_A203020109_A500) ∷ go_on ∷ [])
         (Answer.outputs (Output.send (hex 8 0x6206_480400000001) ∷ [])
-        ∷ Answer.outputs (told.go_on 1 None [] ∷ told.local_reject (Some 1) (Some (pos 9)) (of_result 0) ∷ told.local_reject (Some 1) None (general 0) ∷ [])
+        ∷ Answer.outputs (told.go_on 1 None [] ∷ told.local_reject (Some 1) (Some (pos 9)) (of_result 0)
+        ∷ told.local_reject (Some 1) None (general 0) ∷ [])
         ∷ Answer.outputs (Output.send (hex 23 0x6515_480400000001_490400000005_6C07_A4050500_800100) ∷ [])
         ∷ []) }
     ensures usual_limit { Answers opened
@@ -194,8 +204,11 @@ pub fn rejects_at_the_queues_limit()
         ∷ [])
         (Answer.outputs (Output.send (hex 8 0x6206_480400000001) ∷ [])
         ∷ Answer.number 1
-        ∷ Answer.outputs (told.go_on 1 None [] ∷ told.local_reject (Some 1) (Some (pos 9)) (of_result 0) ∷ told.local_reject (Some 1) None (general 0) ∷ [])
-        ∷ Answer.outputs (Output.send (hex 34 0x6582EA70_480400000001_490400000005_6C82EA60_A182EA55_020101_02010A_0482EA4B ++ replicate 59979 0 ++ hex 7 0xA4050500_800100) ∷ [])
+        ∷ Answer.outputs (told.go_on 1 None [] ∷ told.local_reject (Some 1) (Some (pos 9)) (of_result 0)
+        ∷ told.local_reject (Some 1) None (general 0) ∷ [])
+        ∷ Answer.outputs (Output.send (hex 34
+        0x6582EA70_480400000001_490400000005_6C82EA60_A182EA55_020101_02010A_0482EA4B ++ replicate 59979 0
+        ++ hex 7 0xA4050500_800100) ∷ [])
         ∷ []) }
 {}
 
@@ -203,13 +216,15 @@ pub fn rejects_at_the_queues_limit()
 pub fn a_reject_without_identifier()
     ensures { Answers opened
         (one_invoke ++ heard (hex 23 0x6515_480400000005_490400000001_6C07_A4050500_800102) ∷ [])
-        (one_invoke_told ++ Answer.outputs (told.go_on 1 None [] ∷ told.remote_reject (Some 1) None (general 2) Rejector.remote_provider ∷ []) ∷ []) }
+        (one_invoke_told ++ Answer.outputs (told.go_on 1 None []
+        ∷ told.remote_reject (Some 1) None (general 2) Rejector.remote_provider ∷ []) ∷ []) }
 {}
 
 /// A result for an invocation that is Queued is rejected, and closes nothing.
 pub fn an_answer_to_a_queued_identifier()
     ensures { Answers opened
-        (one_invoke ++ invoke (pos 2) One 11 ∷ heard (hex 21 0x6513_480400000005_490400000001_6C05_A203020102) ∷ request (asks.u_cancel (pos 2)) ∷ [])
+        (one_invoke ++ invoke (pos 2) One 11 ∷ heard (hex 21 0x6513_480400000005_490400000001_6C05_A203020102)
+        ∷ request (asks.u_cancel (pos 2)) ∷ [])
         (one_invoke_told
         ++ Answer.number 2
         ∷ Answer.outputs (told.go_on 1 None [] ∷ told.local_reject (Some 1) (Some (pos 2)) (of_result 0) ∷ [])

@@ -23,7 +23,8 @@ ghost use Rattle.tcap_examples.specs.Values.Told as told;
 pub fn a_begin_judged()
     ensures plain { begin_verdict None ≡ BeginVerdict.plain }
     ensures with_context { begin_verdict (Some (drop 2 aarq)) ≡ BeginVerdict.with_context context [] }
-    ensures wrong_version { begin_verdict (Some (drop 2 (aarq_version 0x80020700))) ≡ BeginVerdict.wrong_version context }
+    ensures wrong_version { begin_verdict (Some (drop 2 (aarq_version 0x80020700)))
+        ≡ BeginVerdict.wrong_version context }
     ensures abnormal { begin_verdict (Some (hex 2 0x2800)) ≡ BeginVerdict.abnormal }
     ensures invoke { let bad = asks.invoke (pos 1) One (CodeParts.global (hex 1 0x80)) None None 0 in
         invoke_fault (situation opened.setting opened.dialogue bad) bad ≡ Some Fault.bad_timeout }
@@ -33,21 +34,27 @@ pub fn a_begin_judged()
 pub fn a_begin_with_aarq()
     ensures answers { Answers (begun_from begin_with_aarq)
         (go_on ∷ [])
-        (begin_with_aarq_told ∷ Answer.outputs (Output.send (hex 14 0x6538_480400000001_490400000001 ++ aare) ∷ []) ∷ []) }
+        (begin_with_aarq_told ∷ Answer.outputs (Output.send (hex 14 0x6538_480400000001_490400000001 ++ aare) ∷ [])
+        ∷ []) }
     ensures received { (begun_from begin_with_aarq).dialogue.standing.state ≡ State.received (hex 4 0x00000001) }
-    ensures active { (play (begun_from begin_with_aarq) (go_on ∷ [])).dialogue.standing.state ≡ State.active (hex 4 0x00000001) }
+    ensures active { (play (begun_from begin_with_aarq) (go_on ∷ [])).dialogue.standing.state
+        ≡ State.active (hex 4 0x00000001) }
 {}
 
 /// An AARE accepts once: the second one is abnormal.
 pub fn repeated_aare()
-    ensures { let continue_with_aare = heard (hex 14 0x653F_480400000005_490400000001 ++ aare ++ hex 7 0x6C05_A203020101) in
+    ensures { let continue_with_aare =
+        heard (hex 14 0x653F_480400000005_490400000001 ++ aare ++ hex 7 0x6C05_A203020101) in
         Ends opened
-        (invoke (pos 1) One 10 ∷ invoke (pos 2) One 11 ∷ request (asks.begin (Some context) []) ∷ continue_with_aare ∷ continue_with_aare ∷ [])
+        (invoke (pos 1) One 10 ∷ invoke (pos 2) One 11 ∷ request (asks.begin (Some context) []) ∷ continue_with_aare
+        ∷ continue_with_aare ∷ [])
         (Answer.number 1
         ∷ Answer.number 2
-        ∷ Answer.outputs (Output.send (hex 8 0x6238_480400000001 ++ aarq ++ hex 18 0x6C10_A106020101_02010A_A106020102_02010B) ∷ [])
+        ∷ Answer.outputs (Output.send (hex 8 0x6238_480400000001 ++ aarq
+        ++ hex 18 0x6C10_A106020101_02010A_A106020102_02010B) ∷ [])
         ∷ Answer.outputs (told.go_on 1 (Some context) [] ∷ told.closed 1 1 (pos 1) (Closing.result_last None) ∷ [])
-        ∷ Answer.outputs (Output.send (hex 28 0x671A_490400000005_6B12_2810_0607_00118605010101_A005_6403_800101) ∷ told.p_abort 1 AbortCause.abnormal ∷ told.closed 1 2 (pos 2) Closing.ended ∷ [])
+        ∷ Answer.outputs (Output.send (hex 28 0x671A_490400000005_6B12_2810_0607_00118605010101_A005_6403_800101)
+        ∷ told.p_abort 1 AbortCause.abnormal ∷ told.closed 1 2 (pos 2) Closing.ended ∷ [])
         ∷ []) }
 {}
 
@@ -55,23 +62,29 @@ pub fn repeated_aare()
 /// context, version and diagnostic aren't compared.
 pub fn what_an_aare_is_judged_by()
     ensures accepting { Answers opened
-        (request (asks.begin (Some context) []) ∷ heard (hex 49 0x652F_480105_490400000001_6B24_2822_0607_00118605010101_A017_6115_80020700_A103_06012A_A203020100_A305A203020102) ∷ [])
+        (request (asks.begin (Some context) []) ∷ heard
+        (hex 49 0x652F_480105_490400000001_6B24_2822_0607_00118605010101_A017_6115_80020700_A103_06012A_A203020100_A305A203020102) ∷ [])
         (Answer.outputs (Output.send (hex 8 0x6226_480400000001 ++ aarq) ∷ [])
         ∷ Answer.outputs (told.go_on 1 (Some (hex 1 0x2A)) [] ∷ [])
         ∷ []) }
     ensures refusing { Ends opened
-        (request (asks.begin (Some context) []) ∷ heard (hex 49 0x652F_480105_490400000001_6B24_2822_0607_00118605010101_A017_6115_80020700_A103_06012A_A203020101_A305A203020102) ∷ [])
+        (request (asks.begin (Some context) []) ∷ heard
+        (hex 49 0x652F_480105_490400000001_6B24_2822_0607_00118605010101_A017_6115_80020700_A103_06012A_A203020101_A305A203020102) ∷ [])
         (Answer.outputs (Output.send (hex 8 0x6226_480400000001 ++ aarq) ∷ [])
-        ∷ Answer.outputs (Output.send (hex 25 0x6717_490105_6B12_2810_0607_00118605010101_A005_6403_800101) ∷ told.p_abort 1 AbortCause.abnormal ∷ [])
+        ∷ Answer.outputs (Output.send (hex 25 0x6717_490105_6B12_2810_0607_00118605010101_A005_6403_800101)
+        ∷ told.p_abort 1 AbortCause.abnormal ∷ [])
         ∷ []) }
     ensures missing { Ends opened
         (request (asks.begin (Some context) []) ∷ heard (hex 14 0x650C_480400000005_490400000001) ∷ [])
         (Answer.outputs (Output.send (hex 8 0x6226_480400000001 ++ aarq) ∷ [])
-        ∷ Answer.outputs (Output.send (hex 28 0x671A_490400000005_6B12_2810_0607_00118605010101_A005_6403_800101) ∷ told.p_abort 1 AbortCause.abnormal ∷ [])
+        ∷ Answer.outputs (Output.send (hex 28 0x671A_490400000005_6B12_2810_0607_00118605010101_A005_6403_800101)
+        ∷ told.p_abort 1 AbortCause.abnormal ∷ [])
         ∷ []) }
     ensures not_asked { Ends opened
         (one_invoke ++ heard (hex 14 0x6538_480400000005_490400000001 ++ aare) ∷ [])
-        (one_invoke_told ++ Answer.outputs (Output.send (hex 28 0x671A_490400000005_6B12_2810_0607_00118605010101_A005_6403_800101) ∷ told.p_abort 1 AbortCause.abnormal ∷ first_ended ∷ []) ∷ []) }
+        (one_invoke_told ++ Answer.outputs (Output.send
+        (hex 28 0x671A_490400000005_6B12_2810_0607_00118605010101_A005_6403_800101)
+        ∷ told.p_abort 1 AbortCause.abnormal ∷ first_ended ∷ []) ∷ []) }
 {}
 
 /// The context of TC-CONTINUE goes into the AARE alone: the dialogue keeps that of the AARQ, and its
@@ -80,7 +93,8 @@ pub fn the_context_of_a_continue()
     ensures { Ends (begun_from begin_with_aarq)
         (request (asks.go_on (Some (hex 1 0x2A)) []) ∷ request (asks.u_abort AbortReason.by_user []) ∷ [])
         (begin_with_aarq_told
-        ∷ Answer.outputs (Output.send (hex 52 0x6532_480400000001_490400000001_6B24_2822_0607_00118605010101_A017_6115_80020780_A103_06012A_A203020100_A305A103020100) ∷ [])
+        ∷ Answer.outputs (Output.send (hex 52
+        0x6532_480400000001_490400000001_6B24_2822_0607_00118605010101_A017_6115_80020780_A103_06012A_A203020100_A305A103020100) ∷ [])
         ∷ Answer.outputs (Output.send (hex 28 0x671A_490400000001_6B12_2810_0607_00118605010101_A005_6403_800100) ∷ [])
         ∷ []) }
 {}
@@ -90,6 +104,7 @@ pub fn information_with_the_context_asked_for()
     ensures { Answers (begun_from begin_with_aarq)
         (request (asks.go_on None (hex 2 0x2800)) ∷ [])
         (begin_with_aarq_told
-        ∷ Answer.outputs (Output.send (hex 62 0x653C_480400000001_490400000001_6B2E_282C_0607_00118605010101_A021_611F_80020780_A109_0607_04000001000103_A203020100_A305A103020100_BE02_2800) ∷ [])
+        ∷ Answer.outputs (Output.send (hex 62
+        0x653C_480400000001_490400000001_6B2E_282C_0607_00118605010101_A021_611F_80020780_A109_0607_04000001000103_A203020100_A305A103020100_BE02_2800) ∷ [])
         ∷ []) }
 {}

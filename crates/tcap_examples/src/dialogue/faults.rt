@@ -21,31 +21,41 @@ ghost use Rattle.tcap_examples.specs.Values.Asked as asks;
 /// TC-INVOKE: the timeout, the code, the parameter, the identifier, the number, the queue's limit.
 pub fn faults_of_an_invoke()
     ensures timeout { FirstOf opened (asks.invoke (pos 1) One bad_code None None 0) Fault.bad_timeout Fault.bad_oid }
-    ensures code { FirstOf opened (asks.invoke (pos 1) One bad_code bad_parameter None 1000) Fault.bad_oid Fault.bad_parameter }
-    ensures parameter { FirstOf one_queued (asks.invoke (pos 1) One (code 10) bad_parameter None 1000) Fault.bad_parameter Fault.invoke_id_in_use }
-    ensures identifier { FirstOf (with_numbers_spent one_queued) (asks.invoke (pos 1) One (code 10) None None 1000) Fault.invoke_id_in_use Fault.numbers_spent }
-    ensures number { FirstOf (with_numbers_spent opened) (asks.invoke (pos 1) One (code 10) long_parameter None 1000) Fault.numbers_spent Fault.too_long }
+    ensures code { FirstOf opened (asks.invoke (pos 1) One bad_code bad_parameter None 1000) Fault.bad_oid
+        Fault.bad_parameter }
+    ensures parameter { FirstOf one_queued (asks.invoke (pos 1) One (code 10) bad_parameter None 1000)
+        Fault.bad_parameter Fault.invoke_id_in_use }
+    ensures identifier { FirstOf (with_numbers_spent one_queued) (asks.invoke (pos 1) One (code 10) None None 1000)
+        Fault.invoke_id_in_use Fault.numbers_spent }
+    ensures number { FirstOf (with_numbers_spent opened) (asks.invoke (pos 1) One (code 10) long_parameter None 1000)
+        Fault.numbers_spent Fault.too_long }
 {}
 
 /// TC-RESULT-L: the state, the code, the parameter, the queue's limit.
 pub fn faults_of_a_last_result()
     ensures state { FirstOf opened (asks.result_last (pos 1) (body bad_code None)) Fault.wrong_state Fault.bad_oid }
-    ensures code { FirstOf (begun_from shown_begin) (asks.result_last (pos 1) (body bad_code bad_parameter)) Fault.bad_oid Fault.bad_parameter }
-    ensures parameter { FirstOf (begun_from shown_begin) (asks.result_last (pos 1) (body (code 10) long_bad_parameter)) Fault.bad_parameter Fault.too_long }
+    ensures code { FirstOf (begun_from shown_begin) (asks.result_last (pos 1) (body bad_code bad_parameter))
+        Fault.bad_oid Fault.bad_parameter }
+    ensures parameter { FirstOf (begun_from shown_begin) (asks.result_last (pos 1) (body (code 10) long_bad_parameter))
+        Fault.bad_parameter Fault.too_long }
 {}
 
 /// TC-RESULT-NL: the same.
 pub fn faults_of_a_result()
     ensures state { FirstOf opened (asks.result_more (pos 1) (body bad_code None)) Fault.wrong_state Fault.bad_oid }
-    ensures code { FirstOf (begun_from shown_begin) (asks.result_more (pos 1) (body bad_code bad_parameter)) Fault.bad_oid Fault.bad_parameter }
-    ensures parameter { FirstOf (begun_from shown_begin) (asks.result_more (pos 1) (body (code 10) long_bad_parameter)) Fault.bad_parameter Fault.too_long }
+    ensures code { FirstOf (begun_from shown_begin) (asks.result_more (pos 1) (body bad_code bad_parameter))
+        Fault.bad_oid Fault.bad_parameter }
+    ensures parameter { FirstOf (begun_from shown_begin) (asks.result_more (pos 1) (body (code 10) long_bad_parameter))
+        Fault.bad_parameter Fault.too_long }
 {}
 
 /// TC-U-ERROR: the same.
 pub fn faults_of_an_error()
     ensures state { FirstOf opened (asks.error_back (pos 1) bad_code None) Fault.wrong_state Fault.bad_oid }
-    ensures code { FirstOf (begun_from shown_begin) (asks.error_back (pos 1) bad_code bad_parameter) Fault.bad_oid Fault.bad_parameter }
-    ensures parameter { FirstOf (begun_from shown_begin) (asks.error_back (pos 1) (code 13) long_bad_parameter) Fault.bad_parameter Fault.too_long }
+    ensures code { FirstOf (begun_from shown_begin) (asks.error_back (pos 1) bad_code bad_parameter) Fault.bad_oid
+        Fault.bad_parameter }
+    ensures parameter { FirstOf (begun_from shown_begin) (asks.error_back (pos 1) (code 13) long_bad_parameter)
+        Fault.bad_parameter Fault.too_long }
 {}
 
 /// TC-U-REJECT: the state, the queue's limit. TC-U-CANCEL has one fault on a dialogue.
@@ -59,7 +69,8 @@ pub fn faults_of_a_unidirectional()
     ensures context { FirstOf opened (asks.uni (Some (hex 1 0x80)) (hex 2 0x0400)) Fault.bad_oid Fault.bad_parameter }
     ensures information { FirstOf opened (asks.uni None (hex 2 0x0400)) Fault.bad_parameter Fault.no_context }
     ensures carried { FirstOf opened (asks.uni None (hex 2 0x2800)) Fault.no_context Fault.not_class_four }
-    ensures queue { FirstOf opened (asks.uni (Some context) (hex 4 0x2882FFFB ++ replicate 65531 0)) Fault.not_class_four Fault.too_long }
+    ensures queue { FirstOf opened (asks.uni (Some context) (hex 4 0x2882FFFB ++ replicate 65531 0))
+        Fault.not_class_four Fault.too_long }
 {}
 
 /// TC-BEGIN: the state, the context, the user information, what carries it.
@@ -72,21 +83,28 @@ pub fn faults_of_a_begin()
 /// TC-CONTINUE: the same.
 pub fn faults_of_a_continue()
     ensures state { FirstOf opened (asks.go_on (Some (hex 1 0x80)) []) Fault.wrong_state Fault.bad_oid }
-    ensures context { FirstOf (begun_from begin_with_aarq) (asks.go_on (Some (hex 1 0x80)) (hex 2 0x0400)) Fault.bad_oid Fault.bad_parameter }
+    ensures context { FirstOf (begun_from begin_with_aarq) (asks.go_on (Some (hex 1 0x80)) (hex 2 0x0400)) Fault.bad_oid
+        Fault.bad_parameter }
     ensures information { FirstOf active (asks.go_on None (hex 2 0x0400)) Fault.bad_parameter Fault.no_context }
 {}
 
 /// TC-END: the same. A prearranged end works in every state.
 pub fn faults_of_an_end()
     ensures state { FirstOf opened (asks.finish Ending.basic (Some (hex 1 0x80)) []) Fault.wrong_state Fault.bad_oid }
-    ensures context { FirstOf (begun_from begin_with_aarq) (asks.finish Ending.basic (Some (hex 1 0x80)) (hex 2 0x0400)) Fault.bad_oid Fault.bad_parameter }
-    ensures information { FirstOf active (asks.finish Ending.basic None (hex 2 0x0400)) Fault.bad_parameter Fault.no_context }
-    ensures prearranged_context { FirstOf opened (asks.finish Ending.prearranged (Some (hex 1 0x80)) (hex 2 0x0400)) Fault.bad_oid Fault.bad_parameter }
-    ensures prearranged_information { FirstOf opened (asks.finish Ending.prearranged (Some (hex 1 0x2A)) (hex 1 0x04)) Fault.bad_parameter Fault.no_context }
+    ensures context { FirstOf (begun_from begin_with_aarq) (asks.finish Ending.basic (Some (hex 1 0x80)) (hex 2 0x0400))
+        Fault.bad_oid Fault.bad_parameter }
+    ensures information { FirstOf active (asks.finish Ending.basic None (hex 2 0x0400)) Fault.bad_parameter
+        Fault.no_context }
+    ensures prearranged_context { FirstOf opened (asks.finish Ending.prearranged (Some (hex 1 0x80)) (hex 2 0x0400))
+        Fault.bad_oid Fault.bad_parameter }
+    ensures prearranged_information { FirstOf opened (asks.finish Ending.prearranged (Some (hex 1 0x2A)) (hex 1 0x04))
+        Fault.bad_parameter Fault.no_context }
 {}
 
 /// TC-U-ABORT: the state, the user information, what carries it.
 pub fn faults_of_an_abort()
-    ensures state { FirstOf opened (asks.u_abort AbortReason.not_supported (hex 2 0x0400)) Fault.wrong_state Fault.bad_parameter }
-    ensures information { FirstOf opened (asks.u_abort AbortReason.by_user (hex 2 0x0400)) Fault.bad_parameter Fault.no_context }
+    ensures state { FirstOf opened (asks.u_abort AbortReason.not_supported (hex 2 0x0400)) Fault.wrong_state
+        Fault.bad_parameter }
+    ensures information { FirstOf opened (asks.u_abort AbortReason.by_user (hex 2 0x0400)) Fault.bad_parameter
+        Fault.no_context }
 {}

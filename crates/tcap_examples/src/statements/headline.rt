@@ -49,7 +49,8 @@ pub fn closings_are_the_outcome()
     ensures aare_legal { IsLegal repeated_aare_history }
     ensures first_found { invocation_of 1 repeated_aare_history.pairs ≡ Some first }
     ensures first_outcome { HasOutcome repeated_aare_history 1 }
-    ensures first_told { map told_closing (closings 1 repeated_aare_history.pairs) ≡ first_ending (Closing.result_last None) ∷ [] }
+    ensures first_told { map told_closing (closings 1 repeated_aare_history.pairs)
+        ≡ first_ending (Closing.result_last None) ∷ [] }
     ensures lapse_legal { IsLegal late_result_history }
     ensures lapsed_found { invocation_of 1 late_result_history.pairs ≡ Some first }
     ensures lapsed_outcome { HasOutcome late_result_history 1 }

@@ -12,9 +12,9 @@ ghost use Rattle.tcap_model.specs.Statements.Submitted.{Submitted, is_sending, f
 ghost use Rattle.tcap_examples.specs.Histories.Receptions.{unknown_linked_identifier};
 ghost use Rattle.tcap_examples.specs.Statements.SendingExamples.{sent_in_parts, begin_sent, continue_sent, continue_pair, abort_sent, before_the_continue, up_to_the_continue, waits_for_the_continue, all_parts, reject_of_second, reject_of_none, reject_of_invoke, answer_sent, answer_pair, begun_by_the_peer, sent_twice, sent_swapped, sent_though_given_up, not_sent};
 ghost use Rattle.tcap_examples.specs.Wrong.WrongHistories.{GoesWrong, whole};
+ghost use Rattle.tcap_model.specs.Statements.SentFrom.{SentFrom};
 
 use tcap_laws::sending::{queue_is_unsent, sent_once_in_order};
-ghost use Rattle.tcap_model.specs.Statements.SentFrom.{SentFrom};
 
 /// An Invoke that was given up unsent is missing; one that was given up later, a Reject and a third Invoke are
 /// sent, in this order; a fourth is queued and never sent.

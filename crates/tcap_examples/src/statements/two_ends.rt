@@ -33,7 +33,8 @@ pub fn an_answer_comes_after_its_invoke()
     ensures uses_once { UsesOnce Engine.a 1 repeated_begin.trace }
     ensures answers_what_it_was_told { AnswersWhatItWasTold Engine.b repeated_begin.trace }
     ensures opened { WasOpened Engine.a 1 repeated_begin.trace }
-    ensures after { (source : ComesFromFar Engine.a 1 second_request before_the_answer) → WasSent 1 (side Engine.a source.before) }
+    ensures after { (source : ComesFromFar Engine.a 1 second_request before_the_answer)
+        → WasSent 1 (side Engine.a source.before) }
 {}
 
 /// The Invoke that the second delivery tells was asked for and sent before.

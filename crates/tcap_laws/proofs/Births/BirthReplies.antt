@@ -37,7 +37,8 @@ begun-told (Output.dialogue (DialogueIndication.p_abort dialogue why)) told = re
 begun-told (Output.component indication) told = refl
 begun-told (Output.dropped why) told = refl
 
-pub none-begun : (output : Output) (outputs : List Output) → dialogue_begun output ≡ None → first_begun outputs ≡ None → first_begun (output ∷ outputs) ≡ None
+pub none-begun : (output : Output) (outputs : List Output) → dialogue_begun output ≡ None → first_begun outputs ≡ None
+    → first_begun (output ∷ outputs) ≡ None
 none-begun output outputs first others = rw (first, others) refl
 
 pub told-begun : (outputs : List Output) → AreTold outputs → first_begun outputs ≡ None
@@ -47,31 +48,44 @@ told-begun (output ∷ outputs) told = none-begun output outputs (begun-told out
 pub sends-begun : (output : Output) → Sends output → dialogue_begun output ≡ None
 sends-begun output sends = ap dialogue_begun sends.2
 
-pub if_sends-begun : (abort : Option Output) (outputs : List Output) → IfSends abort → first_begun outputs ≡ None → first_begun (option_to_list abort ++ outputs) ≡ None
+pub if_sends-begun : (abort : Option Output) (outputs : List Output) → IfSends abort → first_begun outputs ≡ None
+    → first_begun (option_to_list abort ++ outputs) ≡ None
 if_sends-begun None outputs sends others = others
 if_sends-begun (Some abort) outputs sends others = none-begun abort outputs (sends-begun abort sends) others
 
 -- ---- messages to a dialogue
 
-continue-begun : (dialogue : ℕ) (past : Past) (state : State) (origin components : List ℕ) (verdict : PortionVerdict) → first_begun (continue_outputs dialogue past state origin components verdict) ≡ None
-continue-begun dialogue past state origin components (PortionVerdict.normal context info) = told-begun (told_of (handled_in dialogue past components)) (components-told dialogue past components)
-continue-begun dialogue past state origin components PortionVerdict.abnormal = told-begun (ended_in dialogue past []) (ended-told dialogue past [])
+continue-begun : (dialogue : ℕ) (past : Past) (state : State) (origin components : List ℕ) (verdict : PortionVerdict)
+    → first_begun (continue_outputs dialogue past state origin components verdict) ≡ None
+continue-begun dialogue past state origin components (PortionVerdict.normal context info) =
+    told-begun (told_of (handled_in dialogue past components)) (components-told dialogue past components)
+continue-begun dialogue past state origin components PortionVerdict.abnormal =
+    told-begun (ended_in dialogue past []) (ended-told dialogue past [])
 
-end-begun : (dialogue : ℕ) (past : Past) (components : List ℕ) (verdict : PortionVerdict) → first_begun (end_outputs dialogue past components verdict) ≡ None
+end-begun : (dialogue : ℕ) (past : Past) (components : List ℕ) (verdict : PortionVerdict)
+    → first_begun (end_outputs dialogue past components verdict) ≡ None
 end-begun dialogue past components (PortionVerdict.normal context info) =
     let told = told_of (handled_in dialogue past components) in
     let ended = ended_in dialogue past (components_of components) in
-    told-begun (told ++ ended) (each-append IsTold told ended (components-told dialogue past components) (ended-told dialogue past (components_of components)))
-end-begun dialogue past components PortionVerdict.abnormal = told-begun (ended_in dialogue past []) (ended-told dialogue past [])
+    told-begun (told ++ ended) (each-append IsTold told ended (components-told dialogue past components)
+    (ended-told dialogue past (components_of components)))
+end-begun dialogue past components PortionVerdict.abnormal =
+    told-begun (ended_in dialogue past []) (ended-told dialogue past [])
 
-message-begun : (dialogue : ℕ) (past : Past) (state : State) (context : Option (List ℕ)) (message : Message) → first_begun (message_outputs dialogue past state context message) ≡ None
-message-begun dialogue past state context (Message.go_on origin to portion components) = continue-begun dialogue past state origin components (portion_verdict state context portion)
-message-begun dialogue past state context (Message.end to portion components) = end-begun dialogue past components (portion_verdict state context portion)
-message-begun dialogue past state context (Message.abort to reason) = told-begun (abort_told dialogue reason ∷ ended_in dialogue past []) (abort-told dialogue reason, ended-told dialogue past [])
+message-begun : (dialogue : ℕ) (past : Past) (state : State) (context : Option (List ℕ)) (message : Message)
+    → first_begun (message_outputs dialogue past state context message) ≡ None
+message-begun dialogue past state context (Message.go_on origin to portion components) =
+    continue-begun dialogue past state origin components (portion_verdict state context portion)
+message-begun dialogue past state context (Message.end to portion components) =
+    end-begun dialogue past components (portion_verdict state context portion)
+message-begun dialogue past state context (Message.abort to reason) =
+    told-begun (abort_told dialogue reason ∷ ended_in dialogue past [])
+    (abort-told dialogue reason, ended-told dialogue past [])
 message-begun dialogue past state context (Message.unidirectional portion components) = refl
 message-begun dialogue past state context (Message.begin origin portion components) = refl
 
-pub taken-begun : (dialogue : ℕ) (past : Past) (before : Life) (message : Message) → first_begun (taken_outputs dialogue past before message) ≡ None
+pub taken-begun : (dialogue : ℕ) (past : Past) (before : Life) (message : Message)
+    → first_begun (taken_outputs dialogue past before message) ≡ None
 taken-begun dialogue past Life.unborn message = refl
 taken-begun dialogue past (Life.standing state context) message = message-begun dialogue past state context message
 taken-begun dialogue past Life.over message = refl
@@ -94,23 +108,40 @@ no_fault : (fault : Option Fault) → is_some fault ≡ false → fault ≡ None
 no_fault None e = refl
 no_fault (Some f) e = absurd (true≢false e)
 
-reception-born : (h : History) (bytes : List ℕ) (r : Reception) → IsSound (is_some (birth_due h)) bytes r → IsBornNext (next_dialogue h) (birth_due h) (first_begun (reception_outputs h r)) (begun_life (frame_at bytes))
+reception-born : (h : History) (bytes : List ℕ) (r : Reception) → IsSound (is_some (birth_due h)) bytes r
+    → IsBornNext (next_dialogue h) (birth_due h) (first_begun (reception_outputs h r)) (begun_life (frame_at bytes))
 reception-born h bytes (Reception.dropped why) sound = inl refl
 reception-born h bytes (Reception.aborted abort) sound = inl (none-begun abort [] (sends-begun abort sound) refl)
-reception-born h bytes (Reception.unidirectional context info components) sound = inl (told-begun (uni_told (components_of components)) (uni-told (components_of components)))
-reception-born h bytes (Reception.begun origin context info components) sound = inr (record { is_next = refl; is_due = no_fault (birth_due h) sound.3; state = State.received origin; context = begin_context (begin_verdict sound.0); is_life = ap begun_life sound.1 })
-reception-born h bytes (Reception.taken dialogue message) sound = inl (taken-begun dialogue h.pairs (life dialogue h.pairs) message)
+reception-born h bytes (Reception.unidirectional context info components) sound =
+    inl (told-begun (uni_told (components_of components)) (uni-told (components_of components)))
+reception-born h bytes (Reception.begun origin context info components) sound =
+    inr (record {
+      is_next = refl;
+      is_due = no_fault (birth_due h) sound.3;
+      state = State.received origin;
+      context =
+          begin_context (begin_verdict sound.0);
+      is_life = ap begun_life sound.1;
+    })
+reception-born h bytes (Reception.taken dialogue message) sound =
+    inl (taken-begun dialogue h.pairs (life dialogue h.pairs) message)
 reception-born h bytes (Reception.broken dialogue abort cause) sound =
-    inl (if_sends-begun abort (Output.dialogue (DialogueIndication.p_abort dialogue (AbortCause.cause cause)) ∷ ended_in dialogue h.pairs []) sound (told-begun (ended_in dialogue h.pairs []) (ended-told dialogue h.pairs [])))
+    inl (if_sends-begun abort (Output.dialogue (DialogueIndication.p_abort dialogue (AbortCause.cause cause))
+    ∷ ended_in dialogue h.pairs []) sound (told-begun (ended_in dialogue h.pairs [])
+    (ended-told dialogue h.pairs [])))
 
-asked-born : (h : History) (fault : Option Fault) → IsBornNext (next_dialogue h) fault (born_of Event.new_dialogue (birth_answer h fault)) (born_life Event.new_dialogue)
+asked-born : (h : History) (fault : Option Fault)
+    → IsBornNext (next_dialogue h) fault (born_of Event.new_dialogue (birth_answer h fault))
+    (born_life Event.new_dialogue)
 asked-born h (Some f) = inl refl
 asked-born h None = inr (record { is_next = refl; is_due = refl; state = State.fresh; context = None; is_life = refl })
 
-pub reply-born : (h : History) (event : Event) → IsBornNext (next_dialogue h) (birth_due h) (born_of event (reply h event)) (born_life event)
+pub reply-born : (h : History) (event : Event)
+    → IsBornNext (next_dialogue h) (birth_due h) (born_of event (reply h event)) (born_life event)
 reply-born h Event.new_dialogue = asked-born h (birth_due h)
 reply-born h (Event.on_dialogue dialogue request) = inl refl
 reply-born h (Event.received bytes) =
     let live = λ (dialogue : ℕ). live_in (life dialogue h.pairs) in
-    reception-born h bytes (reception live (is_some (birth_due h)) bytes) (reception-sound live (is_some (birth_due h)) bytes)
+    reception-born h bytes (reception live (is_some (birth_due h)) bytes)
+    (reception-sound live (is_some (birth_due h)) bytes)
 reply-born h (Event.moment now) = inl refl

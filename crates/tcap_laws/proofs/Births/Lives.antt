@@ -14,12 +14,15 @@ use Rattle.tcap_model.specs.Words.State.{State, is_live}
 
 -- ---- over
 
-pub over-step : (dialogue : ℕ) (pair : Pair) (past : Past) → life dialogue past ≡ Life.over → life dialogue (pair ∷ past) ≡ Life.over
+pub over-step : (dialogue : ℕ) (pair : Pair) (past : Past) → life dialogue past ≡ Life.over
+    → life dialogue (pair ∷ past) ≡ Life.over
 over-step dialogue pair past over = ap (λ (before : Life). life_after dialogue before pair) over
 
-pub over-later : (dialogue : ℕ) (later past : Past) → life dialogue past ≡ Life.over → life dialogue (later ++ past) ≡ Life.over
+pub over-later : (dialogue : ℕ) (later past : Past) → life dialogue past ≡ Life.over
+    → life dialogue (later ++ past) ≡ Life.over
 over-later dialogue [] past over = over
-over-later dialogue (pair ∷ later) past over = over-step dialogue pair (later ++ past) (over-later dialogue later past over)
+over-later dialogue (pair ∷ later) past over =
+    over-step dialogue pair (later ++ past) (over-later dialogue later past over)
 
 -- ---- born
 
@@ -28,7 +31,8 @@ IsBorn Life.unborn = ⊥
 IsBorn (Life.standing state context) = Unit {0}
 IsBorn Life.over = Unit {0}
 
-request-was_born : (state : State) (context : Option (List ℕ)) (request : Request) → IsBorn (life_by_request state context request)
+request-was_born : (state : State) (context : Option (List ℕ)) (request : Request)
+    → IsBorn (life_by_request state context request)
 request-was_born state context (Request.component (ComponentRequest.invoke id class code parameter linked timeout)) = tt
 request-was_born state context (Request.component (ComponentRequest.result_last id body)) = tt
 request-was_born state context (Request.component (ComponentRequest.result_more id body)) = tt
@@ -41,33 +45,40 @@ request-was_born state context (Request.dialogue (DialogueRequest.go_on asked in
 request-was_born state context (Request.dialogue (DialogueRequest.finish ending asked info)) = tt
 request-was_born state context (Request.dialogue (DialogueRequest.u_abort why info)) = tt
 
-accepted-born : (accepted : Bool) (state : State) (context : Option (List ℕ)) (request : Request) → IsBorn (life_if_accepted accepted state context request)
+accepted-born : (accepted : Bool) (state : State) (context : Option (List ℕ)) (request : Request)
+    → IsBorn (life_if_accepted accepted state context request)
 accepted-born true state context request = request-was_born state context request
 accepted-born false state context request = tt
 
-verdict-born : (state : State) (context : Option (List ℕ)) (origin : List ℕ) (verdict : PortionVerdict) → IsBorn (life_by_verdict state context origin verdict)
+verdict-born : (state : State) (context : Option (List ℕ)) (origin : List ℕ) (verdict : PortionVerdict)
+    → IsBorn (life_by_verdict state context origin verdict)
 verdict-born state context origin (PortionVerdict.normal told info) = tt
 verdict-born state context origin PortionVerdict.abnormal = tt
 
-message-born : (state : State) (context : Option (List ℕ)) (read : Result Message FrameFault) → IsBorn (life_by_message state context read)
-message-born state context (Ok (Message.go_on origin to portion components)) = verdict-born state context origin (portion_verdict state context portion)
+message-born : (state : State) (context : Option (List ℕ)) (read : Result Message FrameFault)
+    → IsBorn (life_by_message state context read)
+message-born state context (Ok (Message.go_on origin to portion components)) =
+    verdict-born state context origin (portion_verdict state context portion)
 message-born state context (Ok (Message.end to portion components)) = tt
 message-born state context (Ok (Message.abort to reason)) = tt
 message-born state context (Ok (Message.unidirectional portion components)) = tt
 message-born state context (Ok (Message.begin origin portion components)) = tt
 message-born state context (Err fault) = tt
 
-live-born : (live : Bool) (state : State) (context : Option (List ℕ)) (bytes : List ℕ) → IsBorn (life_if_live live state context bytes)
+live-born : (live : Bool) (state : State) (context : Option (List ℕ)) (bytes : List ℕ)
+    → IsBorn (life_if_live live state context bytes)
 live-born true state context bytes = message-born state context (frame_at bytes)
 live-born false state context bytes = tt
 
-event-born : (state : State) (context : Option (List ℕ)) (event : Event) (accepted : Bool) → IsBorn (life_by_event state context event accepted)
+event-born : (state : State) (context : Option (List ℕ)) (event : Event) (accepted : Bool)
+    → IsBorn (life_by_event state context event accepted)
 event-born state context Event.new_dialogue accepted = tt
 event-born state context (Event.on_dialogue dialogue request) accepted = accepted-born accepted state context request
 event-born state context (Event.received bytes) accepted = live-born (is_live state) state context bytes
 event-born state context (Event.moment now) accepted = tt
 
-named-born : (named : Bool) (state : State) (context : Option (List ℕ)) (pair : Pair) → IsBorn (life_if_named named state context pair)
+named-born : (named : Bool) (state : State) (context : Option (List ℕ)) (pair : Pair)
+    → IsBorn (life_if_named named state context pair)
 named-born true state context pair = event-born state context pair.event (is_accepted pair.answer)
 named-born false state context pair = tt
 
@@ -78,7 +89,8 @@ after-born dialogue Life.over pair born = tt
 
 born-later : (dialogue : ℕ) (later past : Past) → IsBorn (life dialogue past) → IsBorn (life dialogue (later ++ past))
 born-later dialogue [] past born = born
-born-later dialogue (pair ∷ later) past born = after-born dialogue (life dialogue (later ++ past)) pair (born-later dialogue later past born)
+born-later dialogue (pair ∷ later) past born =
+    after-born dialogue (life dialogue (later ++ past)) pair (born-later dialogue later past born)
 
 is_born : (before : Life) → before ≢ Life.unborn → IsBorn before
 is_born Life.unborn born = born refl
@@ -88,5 +100,7 @@ is_born Life.over born = tt
 isnt_unborn : (before : Life) → IsBorn before → before ≢ Life.unborn
 isnt_unborn before born unborn = rw unborn at born
 
-pub born-stays : (dialogue : ℕ) (later past : Past) → life dialogue past ≢ Life.unborn → life dialogue (later ++ past) ≢ Life.unborn
-born-stays dialogue later past born = isnt_unborn (life dialogue (later ++ past)) (born-later dialogue later past (is_born (life dialogue past) born))
+pub born-stays : (dialogue : ℕ) (later past : Past) → life dialogue past ≢ Life.unborn
+    → life dialogue (later ++ past) ≢ Life.unborn
+born-stays dialogue later past born =
+    isnt_unborn (life dialogue (later ++ past)) (born-later dialogue later past (is_born (life dialogue past) born))

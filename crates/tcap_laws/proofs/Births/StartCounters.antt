@@ -8,9 +8,11 @@ use Rattle.tcap_model.specs.Words.InRange.{is_short, is_long}
 use Rattle.tcap_model.specs.Replies.Legal.{is_start}
 
 module _ (start : Start) (within : IsTrue (is_start start)) where
-  parts : (nat_le start.reject_ms moment_limit ≡ true) × ((is_short start.next_dialogue && is_long start.next_number) ≡ true)
+  parts : (nat_le start.reject_ms moment_limit ≡ true)
+      × ((is_short start.next_dialogue && is_long start.next_number) ≡ true)
   parts =
-      let all = and_parts (nat_le 1 start.max_dialogues && nat_le start.max_dialogues 65535) (nat_le start.reject_ms moment_limit && (is_short start.next_dialogue && is_long start.next_number)) within in
+      let all = and_parts (nat_le 1 start.max_dialogues && nat_le start.max_dialogues 65535)
+      (nat_le start.reject_ms moment_limit && (is_short start.next_dialogue && is_long start.next_number)) within in
       and_parts (nat_le start.reject_ms moment_limit) (is_short start.next_dialogue && is_long start.next_number) all.1
 
   pub start_dialogue-within : start.next_dialogue ≤ last_dialogue

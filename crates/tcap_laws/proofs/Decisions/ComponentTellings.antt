@@ -36,7 +36,8 @@ AreGood [] = Unit {0}
 AreGood (Ok c ∷ items) = AreGood items
 AreGood (Err f ∷ items) = ⊥
 
-ends_from : (others : List ℕ → List Item) (r : Result (ComponentParts × List ℕ) FaultParts) → ((bytes : List ℕ) → EndsAtFault (others bytes)) → EndsAtFault (components_from others r)
+ends_from : (others : List ℕ → List Item) (r : Result (ComponentParts × List ℕ) FaultParts)
+    → ((bytes : List ℕ) → EndsAtFault (others bytes)) → EndsAtFault (components_from others r)
 ends_from others (Ok c) e = e c.1
 ends_from others (Err f) e = refl
 
@@ -54,12 +55,16 @@ good_more [] c g = tt
 good_more (Ok d ∷ items) c g = good_more items c g
 good_more (Err f ∷ items) c g = absurd g
 
-pub marks-append : (id : ℤ) (xs ys : List Item) → AreGood xs → component_marks id (xs ++ ys) ≡ component_marks id xs ++ component_marks id ys
+pub marks-append : (id : ℤ) (xs ys : List Item) → AreGood xs
+    → component_marks id (xs ++ ys) ≡ component_marks id xs ++ component_marks id ys
 marks-append id [] ys g = refl
-marks-append id (Ok c ∷ xs) ys g = ap (λ z. marks_of_component id c ++ z) (marks-append id xs ys g) ∙ sym (append_assoc (marks_of_component id c) (component_marks id xs) (component_marks id ys))
+marks-append id (Ok c ∷ xs) ys g =
+    ap (λ z. marks_of_component id c ++ z) (marks-append id xs ys g)
+    ∙ sym (append_assoc (marks_of_component id c) (component_marks id xs) (component_marks id ys))
 marks-append id (Err f ∷ xs) ys g = absurd g
 
-pub noted-append : (c : ℕ) (xs ys : List Mark) → noted_at_clock c (xs ++ ys) ≡ noted_at_clock c xs ++ noted_at_clock c ys
+pub noted-append : (c : ℕ) (xs ys : List Mark)
+    → noted_at_clock c (xs ++ ys) ≡ noted_at_clock c xs ++ noted_at_clock c ys
 noted-append c xs ys = map-append (λ (mark : Mark). record { clock = c; mark = mark }) xs ys
 
 -- ---- nothing is told where something has closed
@@ -74,11 +79,14 @@ unless_nothing (Some c) = refl
 
 -- ---- dialogues and identifiers of other invocations
 
-pub components_other : (n : ℕ) (place past : Past) (dialogue : ℕ) → ((id : ℤ) (earlier : List Item) → IsOther n (if_sent past earlier (latest dialogue id past)))
+pub components_other : (n : ℕ) (place past : Past) (dialogue : ℕ)
+    → ((id : ℤ) (earlier : List Item) → IsOther n (if_sent past earlier (latest dialogue id past)))
     → (earlier items : List Item) → told n place (told_of (handled_after dialogue past earlier items)) ≡ []
 components_other n place past dialogue other earlier [] = refl
 components_other n place past dialogue other earlier (item ∷ items) =
-    ap (λ z. z ++ told n place (told_of (handled_after dialogue past (earlier ++ item ∷ []) items))) (handled_other n place (Some dialogue) (sent_there dialogue past earlier (subject_of item)) item (go (subject_of item)))
+    ap (λ z. z ++ told n place (told_of (handled_after dialogue past (earlier ++ item ∷ []) items)))
+    (handled_other n place (Some dialogue) (sent_there dialogue past earlier (subject_of item)) item
+    (go (subject_of item)))
     ∙ components_other n place past dialogue other (earlier ++ item ∷ []) items
   where
     go : (subject : Option ℤ) → IsOther n (sent_there dialogue past earlier subject)
@@ -92,7 +100,9 @@ module _ (n : ℕ) (place : Past) (i : Invocation) (me : (i.number == n) ≡ tru
   tells closing = as_list (decided_told place i closing)
 
   abbrev pub sent_by : Option Closing → Option ℕ → Option SentInvocation
-  sent_by closing sent = cond (is_some sent && is_none closing) (Some (record { dialogue = i.dialogue; number = i.number; class = i.class })) None
+  sent_by closing sent =
+      cond (is_some sent && is_none closing) (Some
+      (record { dialogue = i.dialogue; number = i.number; class = i.class })) None
 
   abbrev pub self : Class → SentInvocation
   self class = record { dialogue = i.dialogue; number = i.number; class = class }
@@ -137,7 +147,9 @@ module _ (n : ℕ) (place : Past) (i : Invocation) (me : (i.number == n) ≡ tru
   more_here body (Some x) None = refl
   more_here body (Some x) (Some c) = refl
 
-  pub error_here : (code : CodeParts) (parameter : Option (List ℕ)) (f : Option Closing) (s : Option ℕ) → told_by_output n place (error_handled (Some i.dialogue) (sent_by f s) i.id code parameter).told ≡ unless f (tells (option_or (closing_of i.class i.timeout s (Mark.error code parameter)) None))
+  pub error_here : (code : CodeParts) (parameter : Option (List ℕ)) (f : Option Closing) (s : Option ℕ)
+      → told_by_output n place (error_handled (Some i.dialogue) (sent_by f s) i.id code parameter).told
+      ≡ unless f (tells (option_or (closing_of i.class i.timeout s (Mark.error code parameter)) None))
   error_here code parameter None None = refl
   error_here code parameter None (Some c) = error_class code parameter i.class
   error_here code parameter (Some x) None = refl

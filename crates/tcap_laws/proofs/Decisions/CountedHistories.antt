@@ -47,7 +47,8 @@ module _ (class : Class) (timeout : ℕ) (c : ℕ) (before : List Noted) where
 
   end_last : (ms : List Mark) → Closes (ms ++ Mark.end ∷ [])
   end_last ms = ap (λ z. is_some (closing_after class timeout before z)) (noted-append c ms (Mark.end ∷ []))
-      ∙ (ap is_some (closing_after-append class timeout before (noted_at_clock c ms) (noted_at_clock c (Mark.end ∷ []))) ∙ go (closing_after class timeout before (noted_at_clock c ms)))
+      ∙ (ap is_some (closing_after-append class timeout before (noted_at_clock c ms) (noted_at_clock c (Mark.end ∷ [])))
+      ∙ go (closing_after class timeout before (noted_at_clock c ms)))
     where
       go : (o : Option Closing) → is_some (option_or o (Some Closing.ended)) ≡ true
       go None = refl
@@ -57,7 +58,8 @@ module _ (class : Class) (timeout : ℕ) (c : ℕ) (before : List Noted) where
     abbrev standing : Life
     standing = Life.standing s context
 
-    request_closes : (r : Request) → life_by_request s context r ≡ Life.over → Closes (unwrap_or (marks_of_request id r) (end_if_over standing Life.over))
+    request_closes : (r : Request) → life_by_request s context r ≡ Life.over
+        → Closes (unwrap_or (marks_of_request id r) (end_if_over standing Life.over))
     request_closes (Request.component (ComponentRequest.invoke named k code parameter linked t)) e = absurd cc
     request_closes (Request.component (ComponentRequest.result_last named body)) e = absurd cc
     request_closes (Request.component (ComponentRequest.result_more named body)) e = absurd cc
@@ -71,28 +73,35 @@ module _ (class : Class) (timeout : ℕ) (c : ℕ) (before : List Noted) where
     request_closes (Request.dialogue (DialogueRequest.finish Ending.prearranged asked info)) e = end_last []
     request_closes (Request.dialogue (DialogueRequest.u_abort why info)) e = end_last []
 
-    verdict_closes : (origin : List ℕ) (ms : List Mark) (v : PortionVerdict) → life_by_verdict s context origin v ≡ Life.over → Closes (unwrap_or (if_normal v ms) (Mark.end ∷ []))
+    verdict_closes : (origin : List ℕ) (ms : List Mark) (v : PortionVerdict)
+        → life_by_verdict s context origin v ≡ Life.over → Closes (unwrap_or (if_normal v ms) (Mark.end ∷ []))
     verdict_closes origin ms (PortionVerdict.normal told info) e = absurd cc
     verdict_closes origin ms PortionVerdict.abnormal e = end_last []
 
-    end_closes : (ms : List Mark) (v : PortionVerdict) → Closes (unwrap_or (if_normal v (ms ++ Mark.end ∷ [])) (Mark.end ∷ []))
+    end_closes : (ms : List Mark) (v : PortionVerdict)
+        → Closes (unwrap_or (if_normal v (ms ++ Mark.end ∷ [])) (Mark.end ∷ []))
     end_closes ms (PortionVerdict.normal told info) = end_last ms
     end_closes ms PortionVerdict.abnormal = end_last []
 
-    message_closes : (r : Result Message FrameFault) → life_by_message s context r ≡ Life.over → Closes (unwrap_or (marks_of_message id s context r) (Mark.end ∷ []))
-    message_closes (Ok (Message.go_on origin to portion components)) e = verdict_closes origin (component_marks id (components_of components)) (portion_verdict s context portion) e
-    message_closes (Ok (Message.end to portion components)) e = end_closes (component_marks id (components_of components)) (portion_verdict s context portion)
+    message_closes : (r : Result Message FrameFault) → life_by_message s context r ≡ Life.over
+        → Closes (unwrap_or (marks_of_message id s context r) (Mark.end ∷ []))
+    message_closes (Ok (Message.go_on origin to portion components)) e =
+        verdict_closes origin (component_marks id (components_of components)) (portion_verdict s context portion) e
+    message_closes (Ok (Message.end to portion components)) e =
+        end_closes (component_marks id (components_of components)) (portion_verdict s context portion)
     message_closes (Ok (Message.abort to reason)) e = end_last []
     message_closes (Ok (Message.unidirectional portion components)) e = absurd cc
     message_closes (Ok (Message.begin origin portion components)) e = absurd cc
     message_closes (Err f) e = end_last []
 
-    bytes_close : (live : Bool) (bytes : List ℕ) → life_if_live live s context bytes ≡ Life.over → Closes (unwrap_or (marks_if_live live id s context bytes) (Mark.end ∷ []))
+    bytes_close : (live : Bool) (bytes : List ℕ) → life_if_live live s context bytes ≡ Life.over
+        → Closes (unwrap_or (marks_if_live live id s context bytes) (Mark.end ∷ []))
     bytes_close false bytes e = absurd cc
     bytes_close true bytes e = message_closes (frame_at bytes) e
 
     -- an event by which the dialogue is over
-    pub event_closes : (event : Event) (accepted : Bool) → life_by_event s context event accepted ≡ Life.over → Closes (marks_by_event id standing Life.over event accepted)
+    pub event_closes : (event : Event) (accepted : Bool) → life_by_event s context event accepted ≡ Life.over
+        → Closes (marks_by_event id standing Life.over event accepted)
     event_closes Event.new_dialogue accepted e = absurd cc
     event_closes (Event.on_dialogue d r) true e = request_closes r e
     event_closes (Event.on_dialogue d r) false e = absurd cc
@@ -102,7 +111,8 @@ module _ (class : Class) (timeout : ℕ) (c : ℕ) (before : List Noted) where
 -- ---- an open invocation has a dialogue that stands
 
 -- an accepted invoke leaves its dialogue as it was
-invoke_leaves : (d : ℕ) (s : State) (c : Option (List ℕ)) (i : Invocation) (r : Request) (answer : Answer) (o : Option ℕ) → number_of answer ≡ o → invoked_under d r o ≡ Some i → (b : Bool)
+invoke_leaves : (d : ℕ) (s : State) (c : Option (List ℕ)) (i : Invocation) (r : Request) (answer : Answer)
+    (o : Option ℕ) → number_of answer ≡ o → invoked_under d r o ≡ Some i → (b : Bool)
     → life_if_named b s c (record { event = Event.on_dialogue d r; answer = answer }) ≡ Life.over → ⊥
 invoke_leaves d s c i r answer None q e b over = absurd cc
 invoke_leaves d s c i r answer (Some n) q e false over = absurd cc
@@ -122,32 +132,43 @@ invoke_leaves d s c i r answer (Some n) q e true over = go r (is_accepted answer
     go (Request.dialogue (DialogueRequest.finish how context info)) true e over = absurd cc
     go (Request.dialogue (DialogueRequest.u_abort why info)) true e over = absurd cc
 
-invoked_leaves : (event : Event) (answer : Answer) (i : Invocation) (s : State) (c : Option (List ℕ)) → invoked_of event answer ≡ Some i → (b : Bool) → life_if_named b s c (record { event = event; answer = answer }) ≡ Life.over → ⊥
+invoked_leaves : (event : Event) (answer : Answer) (i : Invocation) (s : State) (c : Option (List ℕ))
+    → invoked_of event answer ≡ Some i → (b : Bool)
+    → life_if_named b s c (record { event = event; answer = answer }) ≡ Life.over → ⊥
 invoked_leaves Event.new_dialogue answer i s c e b over = absurd cc
-invoked_leaves (Event.on_dialogue d r) answer i s c e b over = invoke_leaves d s c i r answer (number_of answer) refl e b over
+invoked_leaves (Event.on_dialogue d r) answer i s c e b over =
+    invoke_leaves d s c i r answer (number_of answer) refl e b over
 invoked_leaves (Event.received bytes) answer i s c e b over = absurd cc
 invoked_leaves (Event.moment now) answer i s c e b over = absurd cc
 
-module _ (start : Start) (pair : Pair) (past : Past) (n : ℕ) (i : Invocation) (legal : AreReplies start (pair ∷ past)) (none : outcome n (pair ∷ past) ≡ None) (over : life i.dialogue (pair ∷ past) ≡ Life.over) where
+module _ (start : Start) (pair : Pair) (past : Past) (n : ℕ) (i : Invocation) (legal : AreReplies start (pair ∷ past))
+    (none : outcome n (pair ∷ past) ≡ None) (over : life i.dialogue (pair ∷ past) ≡ Life.over) where
   -- it is made here
   new_stands : invoked_by pair ≡ Some i → ⊥
   new_stands q =
       let drawn : Draws (record { start = start; pairs = past }) i = draws start pair past i legal q in
-      let there : life_if_named (names pair.event i.dialogue) drawn.state drawn.context pair ≡ Life.over = ap (λ l. life_after i.dialogue l pair) (sym drawn.stands) ∙ over in
+      let there : life_if_named (names pair.event i.dialogue) drawn.state drawn.context pair ≡ Life.over =
+      ap (λ l. life_after i.dialogue l pair) (sym drawn.stands) ∙ over in
       invoked_leaves pair.event pair.answer i drawn.state drawn.context q (names pair.event i.dialogue) there
 
   -- it was made before, and its dialogue ends here
-  ends_open : invocation_of n past ≡ Some i → (s : State) (c : Option (List ℕ)) → life i.dialogue past ≡ Life.standing s c → ⊥
-  ends_open found s c stands = go (names pair.event i.dialogue) refl (ap (λ l. life_after i.dialogue l pair) (sym stands) ∙ over)
+  ends_open : invocation_of n past ≡ Some i → (s : State) (c : Option (List ℕ))
+      → life i.dialogue past ≡ Life.standing s c → ⊥
+  ends_open found s c stands =
+      go (names pair.event i.dialogue) refl (ap (λ l. life_after i.dialogue l pair) (sym stands) ∙ over)
     where
       here : invocation_of n (pair ∷ past) ≡ Some i
       here = invocation_stays n pair past i found
 
       grown : span i (pair ∷ past) ≡ span i past ++ marks i.dialogue i.id pair past
-      grown = span_grows i pair past (made_found n past i found) (unused_if_open start (pair ∷ past) n i legal here none)
+      grown = span_grows i pair past (made_found n past i found)
+          (unused_if_open start (pair ∷ past) n i legal here none)
 
-      open_here : option_or (first_closing i.class i.timeout (span i past)) (closing_after i.class i.timeout (span i past) (marks i.dialogue i.id pair past)) ≡ None
-      open_here = sym (first_closing-append i.class i.timeout (span i past) (marks i.dialogue i.id pair past)) ∙ (ap (first_closing i.class i.timeout) (sym grown) ∙ (ap (λ o. outcome_of o (pair ∷ past)) (sym here) ∙ none))
+      open_here : option_or (first_closing i.class i.timeout (span i past))
+          (closing_after i.class i.timeout (span i past) (marks i.dialogue i.id pair past)) ≡ None
+      open_here = sym (first_closing-append i.class i.timeout (span i past) (marks i.dialogue i.id pair past))
+          ∙ (ap (first_closing i.class i.timeout) (sym grown)
+          ∙ (ap (λ o. outcome_of o (pair ∷ past)) (sym here) ∙ none))
 
       second : (x y : Option Closing) → option_or x y ≡ None → y ≡ None
       second None y e = e
@@ -156,19 +177,33 @@ module _ (start : Start) (pair : Pair) (past : Past) (n : ℕ) (i : Invocation) 
       go : (b : Bool) → names pair.event i.dialogue ≡ b → life_if_named b s c pair ≡ Life.over → ⊥
       go false q e = absurd cc
       go true q e =
-          let closes : is_some (closing_after i.class i.timeout (span i past) (noted_at_clock (clock past) (marks_by_event i.id (Life.standing s c) Life.over pair.event (is_accepted pair.answer)))) ≡ true =
+          let closes : is_some (closing_after i.class i.timeout (span i past)
+          (noted_at_clock (clock past) (marks_by_event i.id (Life.standing s c) Life.over pair.event
+          (is_accepted pair.answer)))) ≡ true =
           event_closes i.class i.timeout (clock past) (span i past) i.id s c pair.event (is_accepted pair.answer) e in
-          let marks_here : marks i.dialogue i.id pair past ≡ noted_at_clock (clock past) (marks_by_event i.id (Life.standing s c) Life.over pair.event (is_accepted pair.answer)) =
-          standing_marks i.dialogue i.id pair.event pair.answer past s c stands q ∙ ap (λ l. noted_at_clock (clock past) (marks_by_event i.id (Life.standing s c) l pair.event (is_accepted pair.answer))) e in
-          let never : false ≡ true = ap is_some (sym (second (first_closing i.class i.timeout (span i past)) (closing_after i.class i.timeout (span i past) (marks i.dialogue i.id pair past)) open_here)) ∙ (ap (λ z. is_some (closing_after i.class i.timeout (span i past) z)) marks_here ∙ closes) in
+          let marks_here : marks i.dialogue i.id pair past
+          ≡ noted_at_clock (clock past) (marks_by_event i.id (Life.standing s c) Life.over pair.event
+          (is_accepted pair.answer)) =
+          standing_marks i.dialogue i.id pair.event pair.answer past s c stands q
+          ∙ ap (λ l. noted_at_clock (clock past) (marks_by_event i.id (Life.standing s c) l pair.event
+          (is_accepted pair.answer))) e in
+          let never : false ≡ true =
+          ap is_some (sym (second (first_closing i.class i.timeout (span i past))
+          (closing_after i.class i.timeout (span i past) (marks i.dialogue i.id pair past)) open_here))
+          ∙ (ap (λ z. is_some (closing_after i.class i.timeout (span i past) z)) marks_here ∙ closes) in
           cc
 
-pub over_decided : (start : Start) (past : Past) (n : ℕ) (i : Invocation) → AreReplies start past → invocation_of n past ≡ Some i → life i.dialogue past ≡ Life.over → outcome n past ≡ None → ⊥
+pub over_decided : (start : Start) (past : Past) (n : ℕ) (i : Invocation) → AreReplies start past
+    → invocation_of n past ≡ Some i → life i.dialogue past ≡ Life.over → outcome n past ≡ None → ⊥
 over_decided start [] n i legal found over none = absurd cc
-over_decided start (pair ∷ past) n i legal found over none = go (invocation_of n past) (invoked_by pair) refl refl (sym (invocation_step n pair past) ∙ found) (outcome n past) refl (λ q l e. over_decided start past n i legal.2 q l e)
+over_decided start (pair ∷ past) n i legal found over none =
+    go (invocation_of n past) (invoked_by pair) refl refl (sym (invocation_step n pair past) ∙ found) (outcome n past)
+    refl (λ q l e. over_decided start past n i legal.2 q l e)
   where
-    by_life : (l : Life) → life i.dialogue past ≡ l → invocation_of n past ≡ Some i → outcome n past ≡ None → (invocation_of n past ≡ Some i → life i.dialogue past ≡ Life.over → outcome n past ≡ None → ⊥) → ⊥
-    by_life Life.unborn q f e ih = let never : false ≡ true = ap was_alive (sym q) ∙ found_alive start past n i legal.2 f in cc
+    by_life : (l : Life) → life i.dialogue past ≡ l → invocation_of n past ≡ Some i → outcome n past ≡ None
+        → (invocation_of n past ≡ Some i → life i.dialogue past ≡ Life.over → outcome n past ≡ None → ⊥) → ⊥
+    by_life Life.unborn q f e ih = let never : false ≡ true =
+        ap was_alive (sym q) ∙ found_alive start past n i legal.2 f in cc
     by_life Life.over q f e ih = ih f q e
     by_life (Life.standing s c) q f e ih = ends_open start pair past n i legal none over f s c q
 
@@ -176,18 +211,24 @@ over_decided start (pair ∷ past) n i legal found over none = go (invocation_of
     new j false p e = absurd cc
     new j true p e = let same : j ≡ i = cc in new_stands start pair past n i legal none over (p ∙ ap Some same)
 
-    go : (o p : Option Invocation) → invocation_of n past ≡ o → invoked_by pair ≡ p → option_or o (find (λ (i : Invocation). i.number == n) (option_to_list p)) ≡ Some i
-        → (c : Option Closing) → outcome n past ≡ c → (invocation_of n past ≡ Some i → life i.dialogue past ≡ Life.over → outcome n past ≡ None → ⊥) → ⊥
+    go : (o p : Option Invocation) → invocation_of n past ≡ o → invoked_by pair ≡ p
+        → option_or o (find (λ (i : Invocation). i.number == n) (option_to_list p)) ≡ Some i
+        → (c : Option Closing) → outcome n past ≡ c → (invocation_of n past ≡ Some i → life i.dialogue past ≡ Life.over
+        → outcome n past ≡ None → ⊥) → ⊥
     go (Some j) p q w e None u ih = by_life (life i.dialogue past) refl (q ∙ e) u ih
-    go (Some j) p q w e (Some c) u ih = let never : None ≡ Some c = sym none ∙ outcome_stays n pair past c u in absurd cc
+    go (Some j) p q w e (Some c) u ih = let never : None ≡ Some c =
+        sym none ∙ outcome_stays n pair past c u in absurd cc
     go None None q w e c u ih = absurd cc
     go None (Some j) q w e c u ih = new j (j.number == n) w e
 
 -- ---- its timeout isn't 0
 
-found_timely : (start : Start) (past : Past) (n : ℕ) (i : Invocation) → AreReplies start past → invocation_of n past ≡ Some i → 0 < i.timeout
+found_timely : (start : Start) (past : Past) (n : ℕ) (i : Invocation) → AreReplies start past
+    → invocation_of n past ≡ Some i → 0 < i.timeout
 found_timely start [] n i legal e = absurd cc
-found_timely start (pair ∷ past) n i legal e = go (invocation_of n past) (invoked_by pair) refl refl (sym (invocation_step n pair past) ∙ e) (λ q. found_timely start past n i legal.2 q)
+found_timely start (pair ∷ past) n i legal e =
+    go (invocation_of n past) (invoked_by pair) refl refl (sym (invocation_step n pair past) ∙ e)
+    (λ q. found_timely start past n i legal.2 q)
   where
     new : (j : Invocation) (b : Bool) → invoked_by pair ≡ Some j → cond b (Some j) None ≡ Some i → 0 < i.timeout
     new j false p e = absurd cc
@@ -196,7 +237,9 @@ found_timely start (pair ∷ past) n i legal e = go (invocation_of n past) (invo
         let drawn : Draws (record { start = start; pairs = past }) j = draws start pair past j legal p in
         subst (λ (i : Invocation). 0 < i.timeout) same drawn.timely
 
-    go : (o p : Option Invocation) → invocation_of n past ≡ o → invoked_by pair ≡ p → option_or o (find (λ (i : Invocation). i.number == n) (option_to_list p)) ≡ Some i → (invocation_of n past ≡ Some i → 0 < i.timeout) → 0 < i.timeout
+    go : (o p : Option Invocation) → invocation_of n past ≡ o → invoked_by pair ≡ p
+        → option_or o (find (λ (i : Invocation). i.number == n) (option_to_list p)) ≡ Some i
+        → (invocation_of n past ≡ Some i → 0 < i.timeout) → 0 < i.timeout
     go (Some j) p q w e ih = ih (q ∙ e)
     go None None q w e ih = absurd cc
     go None (Some j) q w e ih = new j (j.number == n) w e
@@ -212,19 +255,27 @@ module _ (start : Start) (past : Past) (n : ℕ) (legal : AreReplies start past)
       go (Some t) = omega arith
 
   one_if_decided : (outcome n past ≡ None → ⊥) → length (closings n past) ≡ 1
-  one_if_decided decided = ap (λ (ts : List Told). length ts) (closings_are start past n legal) ∙ go (decision n past) (closing_of_decision n past)
+  one_if_decided decided =
+      ap (λ (ts : List Told). length ts) (closings_are start past n legal)
+      ∙ go (decision n past) (closing_of_decision n past)
     where
       go : (d : Option Told) → option_map (λ (t : Told). t.closing) d ≡ outcome n past → length (as_list d) ≡ 1
       go (Some t) e = refl
       go None e = absurd (decided (sym e))
 
-  pub open_before : (i : Invocation) (t : ℕ) → invocation_of n past ≡ Some i → outcome n past ≡ None → deadline i past ≡ Some t → clock past < t
-  open_before i t found none at = deadline_before n past i t found (unused_if_open start past n i legal found none) (found_timely start past n i legal found) none at
+  pub open_before : (i : Invocation) (t : ℕ) → invocation_of n past ≡ Some i → outcome n past ≡ None
+      → deadline i past ≡ Some t → clock past < t
+  open_before i t found none at =
+      deadline_before n past i t found (unused_if_open start past n i legal found none)
+      (found_timely start past n i legal found) none at
 
-  late_one : (i : Invocation) (t : ℕ) → invocation_of n past ≡ Some i → deadline i past ≡ Some t → t ≤ clock past → length (closings n past) ≡ 1
-  late_one i t found at late = one_if_decided (λ none. let early : clock past < t = open_before i t found none at in omega arith)
+  late_one : (i : Invocation) (t : ℕ) → invocation_of n past ≡ Some i → deadline i past ≡ Some t → t ≤ clock past
+      → length (closings n past) ≡ 1
+  late_one i t found at late =
+      one_if_decided (λ none. let early : clock past < t = open_before i t found none at in omega arith)
 
-  over_one : (i : Invocation) → invocation_of n past ≡ Some i → life i.dialogue past ≡ Life.over → length (closings n past) ≡ 1
+  over_one : (i : Invocation) → invocation_of n past ≡ Some i → life i.dialogue past ≡ Life.over
+      → length (closings n past) ≡ 1
   over_one i found over = one_if_decided (λ none. over_decided start past n i legal found over none)
 
 pub counted : (h : History) (n : ℕ) → AreReplies h.start h.pairs → Counted h n

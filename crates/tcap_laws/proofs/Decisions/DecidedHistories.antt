@@ -37,13 +37,16 @@ module _ (start : Start) (pair : Pair) (past : Past) (n : ℕ) (legal : AreRepli
   -- ---- nothing is told
 
   settled_silent : IsSettled n past → told_here ≡ []
-  settled_silent settled = ap (told_by_answer n place pair.event) legal.1 ∙ reply_quiet start past place n legal.2 settled pair.event
+  settled_silent settled =
+      ap (told_by_answer n place pair.event) legal.1 ∙ reply_quiet start past place n legal.2 settled pair.event
 
-  new_undecided : (o : Option Invocation) → invocation_of n past ≡ None → invocation_of n place ≡ o → decided_of place o ≡ None
+  new_undecided : (o : Option Invocation) → invocation_of n past ≡ None → invocation_of n place ≡ o
+      → decided_of place o ≡ None
   new_undecided None q w = refl
   new_undecided (Some i) q w =
       let number : i.number ≡ n = number_found n place i w in
-      let new : is_some (invocation_of i.number past) ≡ false = ap (λ m. is_some (invocation_of m past)) number ∙ ap is_some q in
+      let new : is_some (invocation_of i.number past) ≡ false =
+      ap (λ m. is_some (invocation_of m past)) number ∙ ap is_some q in
       ap (λ ms. told_outcome place i (first_closing i.class i.timeout ms)) (span_new i pair past new)
 
   none_step : invocation_of n past ≡ None → Steps
@@ -51,22 +54,30 @@ module _ (start : Start) (pair : Pair) (past : Past) (n : ℕ) (legal : AreRepli
       let settled : IsSettled n past = λ i found. absurd (cc (q, found)) in
       let none : outcome n past ≡ None = ap (λ o. outcome_of o past) q in
       let before : decision n past ≡ None = undecided n past none in
-      let after : decision n place ≡ None = decided_now n pair past none ∙ new_undecided (invocation_of n place) q refl in
+      let after : decision n place ≡ None =
+      decided_now n pair past none ∙ new_undecided (invocation_of n place) q refl in
       ap (λ d. as_list d ++ told_here) before ∙ (settled_silent settled ∙ ap as_list (sym after))
 
-  decided_step : (i : Invocation) (c : Closing) → invocation_of n past ≡ Some i → first_closing i.class i.timeout (span i past) ≡ Some c → Steps
-  decided_step i c q w = ap (λ z. as_list (decision n past) ++ z) (settled_silent settled) ∙ (append-nil (as_list (decision n past)) ∙ go (decision n past) (closing_of_decision n past))
+  decided_step : (i : Invocation) (c : Closing) → invocation_of n past ≡ Some i
+      → first_closing i.class i.timeout (span i past) ≡ Some c → Steps
+  decided_step i c q w =
+      ap (λ z. as_list (decision n past) ++ z) (settled_silent settled)
+      ∙ (append-nil (as_list (decision n past)) ∙ go (decision n past) (closing_of_decision n past))
     where
       settled : IsSettled n past
-      settled j found = let same : i ≡ j = cc in subst (λ (j : Invocation). (c : Closing) × (first_closing j.class j.timeout (span j past) ≡ Some c)) same (c, w)
+      settled j found = let same : i ≡ j =
+          cc in subst (λ (j : Invocation). (c : Closing) × (first_closing j.class j.timeout (span j past) ≡ Some c))
+          same (c, w)
 
-      go : (d : Option Told) → option_map (λ (t : Told). t.closing) d ≡ outcome n past → as_list d ≡ as_list (option_or d (decided_at n place))
+      go : (d : Option Told) → option_map (λ (t : Told). t.closing) d ≡ outcome n past
+          → as_list d ≡ as_list (option_or d (decided_at n place))
       go (Some t) e = refl
       go None e = let never : None ≡ Some c = e ∙ (ap (λ o. outcome_of o past) q ∙ w) in absurd cc
 
   -- ---- the deciding pair, or one that decides nothing
 
-  module _ (i : Invocation) (found : invocation_of n past ≡ Some i) (still_open : first_closing i.class i.timeout (span i past) ≡ None) where
+  module _ (i : Invocation) (found : invocation_of n past ≡ Some i)
+      (still_open : first_closing i.class i.timeout (span i past) ≡ None) where
     no_outcome : outcome n past ≡ None
     no_outcome = ap (λ o. outcome_of o past) found ∙ still_open
 
@@ -77,7 +88,9 @@ module _ (start : Start) (pair : Pair) (past : Past) (n : ℕ) (legal : AreRepli
     added = marks i.dialogue i.id pair past
 
     told_open : told_here ≡ wanted place past i added
-    told_open = subst (λ (answer : Answer). told_by_answer n place pair.event answer ≡ wanted place past i (marks i.dialogue i.id (record { event = pair.event; answer = answer }) past)) (sym legal.1)
+    told_open = subst (λ (answer : Answer). told_by_answer n place pair.event answer
+        ≡ wanted place past i (marks i.dialogue i.id (record { event = pair.event; answer = answer }) past))
+        (sym legal.1)
         (reply_open start past place n i legal.2 found here pair.event)
 
     -- no pair uses the identifier of an open invocation again
@@ -87,27 +100,36 @@ module _ (start : Start) (pair : Pair) (past : Past) (n : ℕ) (legal : AreRepli
         go : (b : Bool) → is_reused i place ≡ b → is_reused i place ≡ false
         go false q = q
         go true q =
-            let still : outcome n place ≡ None = ap (λ o. outcome_of o place) (invocation_stays n pair past i found) ∙ (ap (first_closing i.class i.timeout) (span_stays i pair past (made_found n past i found) q) ∙ still_open) in
-            let never : false ≡ true = ap is_some (sym still) ∙ decided_if_reused start place n i legal (invocation_stays n pair past i found) q in
+            let still : outcome n place ≡ None =
+            ap (λ o. outcome_of o place) (invocation_stays n pair past i found)
+            ∙ (ap (first_closing i.class i.timeout) (span_stays i pair past (made_found n past i found) q)
+            ∙ still_open) in
+            let never : false ≡ true =
+            ap is_some (sym still) ∙ decided_if_reused start place n i legal (invocation_stays n pair past i found)
+            q in
             absurd cc
 
     closing_now : first_closing i.class i.timeout (span i place) ≡ closing_after i.class i.timeout (span i past) added
     closing_now =
         ap (first_closing i.class i.timeout) (span_grows i pair past (made_found n past i found) unused)
-        ∙ (first_closing-append i.class i.timeout (span i past) added ∙ ap (λ o. option_or o (closing_after i.class i.timeout (span i past) added)) still_open)
+        ∙ (first_closing-append i.class i.timeout (span i past) added
+        ∙ ap (λ o. option_or o (closing_after i.class i.timeout (span i past) added)) still_open)
 
     decision_now : decision n place ≡ told_outcome place i (closing_after i.class i.timeout (span i past) added)
-    decision_now = decided_now n pair past no_outcome ∙ (ap (decided_of place) (invocation_stays n pair past i found) ∙ ap (told_outcome place i) closing_now)
+    decision_now = decided_now n pair past no_outcome
+        ∙ (ap (decided_of place) (invocation_stays n pair past i found) ∙ ap (told_outcome place i) closing_now)
 
     open_step : Steps
     open_step =
         ap (λ d. as_list d ++ told_here) (undecided n past no_outcome)
-        ∙ (told_open ∙ (ap (λ o. unless o (gain place i (closing_after i.class i.timeout (span i past) added))) still_open ∙ ap as_list (sym decision_now)))
+        ∙ (told_open ∙ (ap (λ o. unless o (gain place i (closing_after i.class i.timeout (span i past) added)))
+        still_open ∙ ap as_list (sym decision_now)))
 
   step : Steps
   step = go (invocation_of n past) refl
     where
-      one : (i : Invocation) (f : Option Closing) → invocation_of n past ≡ Some i → first_closing i.class i.timeout (span i past) ≡ f → Steps
+      one : (i : Invocation) (f : Option Closing) → invocation_of n past ≡ Some i
+          → first_closing i.class i.timeout (span i past) ≡ f → Steps
       one i None q w = open_step i q w
       one i (Some c) q w = decided_step i c q w
 
@@ -115,6 +137,9 @@ module _ (start : Start) (pair : Pair) (past : Past) (n : ℕ) (legal : AreRepli
       go None q = none_step q
       go (Some i) q = one i (first_closing i.class i.timeout (span i past)) q refl
 
-pub closings_are : (start : Start) (past : Past) (n : ℕ) → AreReplies start past → closings n past ≡ as_list (decision n past)
+pub closings_are : (start : Start) (past : Past) (n : ℕ) → AreReplies start past
+    → closings n past ≡ as_list (decision n past)
 closings_are start [] n legal = refl
-closings_are start (pair ∷ past) n legal = ap (λ z. z ++ told_by_answer n (pair ∷ past) pair.event pair.answer) (closings_are start past n legal.2) ∙ step start pair past n legal
+closings_are start (pair ∷ past) n legal =
+    ap (λ z. z ++ told_by_answer n (pair ∷ past) pair.event pair.answer) (closings_are start past n legal.2)
+    ∙ step start pair past n legal

@@ -35,12 +35,15 @@ use Rattle.tcap_pdu.specs.FrameSpelling.{Message}
 
 -- what is to be told of an invocation, where these marks are added to its span
 abbrev pub wanted : Past → Past → Invocation → List Noted → List Told
-wanted place past i added = unless (first_closing i.class i.timeout (span i past)) (gain place i (closing_after i.class i.timeout (span i past) added))
+wanted place past i added =
+    unless (first_closing i.class i.timeout (span i past))
+    (gain place i (closing_after i.class i.timeout (span i past) added))
 
 pub nothing_wanted : (place past : Past) (i : Invocation) → wanted place past i [] ≡ []
 nothing_wanted place past i = unless_nothing (first_closing i.class i.timeout (span i past))
 
-module _ (start : Start) (past place : Past) (n : ℕ) (i : Invocation) (legal : AreReplies start past) (found : invocation_of n past ≡ Some i) where
+module _ (start : Start) (past place : Past) (n : ℕ) (i : Invocation) (legal : AreReplies start past)
+    (found : invocation_of n past ≡ Some i) where
   me : (i.number == n) ≡ true
   me = own start past place n i legal found
 
@@ -49,33 +52,49 @@ module _ (start : Start) (past place : Past) (n : ℕ) (i : Invocation) (legal :
 
   -- ---- the end of a dialogue
 
-  ended_here : (items : List Item) → told n place (ended_in i.dialogue past items) ≡ unless (first_closing i.class i.timeout (marks_up_to past items i)) (gain place i (Some Closing.ended))
-  ended_here items = ended_number n place past i.dialogue items start legal ∙ (ap (told_one (ended_told n place past i.dialogue items)) found ∙ go (first_closing i.class i.timeout (marks_up_to past items i)))
+  ended_here : (items : List Item) → told n place (ended_in i.dialogue past items)
+      ≡ unless (first_closing i.class i.timeout (marks_up_to past items i)) (gain place i (Some Closing.ended))
+  ended_here items = ended_number n place past i.dialogue items start legal
+      ∙ (ap (told_one (ended_told n place past i.dialogue items)) found
+      ∙ go (first_closing i.class i.timeout (marks_up_to past items i)))
     where
-      go : (f : Option Closing) → told_if_any n place (cond ((i.dialogue == i.dialogue) && is_none f) (Some (Output.component (ComponentIndication.closed i.dialogue i.number i.id Closing.ended))) None) ≡ unless f (gain place i (Some Closing.ended))
+      go : (f : Option Closing) → told_if_any n place
+          (cond ((i.dialogue == i.dialogue) && is_none f)
+          (Some (Output.component (ComponentIndication.closed i.dialogue i.number i.id Closing.ended))) None)
+          ≡ unless f (gain place i (Some Closing.ended))
       go None = rw (own_dialogue, me) refl
       go (Some c) = rw own_dialogue refl
 
   -- with no components before it
-  pub ended_only : told n place (ended_in i.dialogue past []) ≡ wanted place past i (noted_at_clock (clock past) (Mark.end ∷ []))
-  ended_only = ended_here [] ∙ ap (λ z. unless (first_closing i.class i.timeout z) (gain place i (Some Closing.ended))) (append-nil (span i past))
+  pub ended_only : told n place (ended_in i.dialogue past [])
+      ≡ wanted place past i (noted_at_clock (clock past) (Mark.end ∷ []))
+  ended_only = ended_here [] ∙ ap (λ z. unless (first_closing i.class i.timeout z) (gain place i (Some Closing.ended)))
+      (append-nil (span i past))
 
-  ended_elsewhere : (dialogue : ℕ) (items : List Item) → (i.dialogue == dialogue) ≡ false → told n place (ended_in dialogue past items) ≡ []
-  ended_elsewhere dialogue items e = ended_number n place past dialogue items start legal ∙ (ap (told_one (ended_told n place past dialogue items)) found ∙ rw e refl)
+  ended_elsewhere : (dialogue : ℕ) (items : List Item) → (i.dialogue == dialogue) ≡ false
+      → told n place (ended_in dialogue past items) ≡ []
+  ended_elsewhere dialogue items e =
+      ended_number n place past dialogue items start legal
+      ∙ (ap (told_one (ended_told n place past dialogue items)) found ∙ rw e refl)
 
-  other_cancel : (dialogue : ℕ) (id : ℤ) → (i.dialogue ≡ dialogue → i.id ≡ id → ⊥) → (m : ℕ) → pending dialogue id past ≡ Some m → (m == n) ≡ false
+  other_cancel : (dialogue : ℕ) (id : ℤ) → (i.dialogue ≡ dialogue → i.id ≡ id → ⊥) → (m : ℕ)
+      → pending dialogue id past ≡ Some m → (m == n) ≡ false
   other_cancel dialogue id apart m e = go (latest dialogue id past) refl e
     where
-      one : (j : Invocation) (b : Bool) → latest dialogue id past ≡ Some j → cond b (Some j.number) None ≡ Some m → (m == n) ≡ false
+      one : (j : Invocation) (b : Bool) → latest dialogue id past ≡ Some j → cond b (Some j.number) None ≡ Some m
+          → (m == n) ≡ false
       one j false p e = absurd cc
-      one j true p e = let same : j.number ≡ m = cc in ap (λ k. k == n) (sym same) ∙ other_latest start past place n i legal found dialogue id apart j p
+      one j true p e = let same : j.number ≡ m =
+          cc in ap (λ k. k == n) (sym same) ∙ other_latest start past place n i legal found dialogue id apart j p
 
       go : (o : Option Invocation) → latest dialogue id past ≡ o → if_pending past o ≡ Some m → (m == n) ≡ false
       go None p e = absurd cc
       go (Some j) p e = one j (is_none (outcome j.number past)) p e
 
-  pub other_identifier : (id : ℤ) → int_eq id i.id ≡ false → (m : ℕ) → pending i.dialogue id past ≡ Some m → (m == n) ≡ false
-  other_identifier id q = other_cancel i.dialogue id (λ p r. let is : int_eq id i.id ≡ true = (Decides-int_eq id i.id).1 (sym r) in cc)
+  pub other_identifier : (id : ℤ) → int_eq id i.id ≡ false → (m : ℕ) → pending i.dialogue id past ≡ Some m
+      → (m == n) ≡ false
+  other_identifier id q =
+      other_cancel i.dialogue id (λ p r. let is : int_eq id i.id ≡ true = (Decides-int_eq id i.id).1 (sym r) in cc)
 
   -- other dialogues tell nothing of it
   pub quiet_elsewhere : (dialogue : ℕ) → (i.dialogue ≡ dialogue → ⊥) → IsQuiet n place past dialogue
@@ -92,43 +111,63 @@ module _ (start : Start) (past place : Past) (n : ℕ) (i : Invocation) (legal :
   -- ---- messages
 
   module _ (here : latest i.dialogue i.id past ≡ Some i) where
-    parts : (content : List ℕ) → told n place (told_of (handled_in i.dialogue past content)) ≡ wanted place past i (noted_at_clock (clock past) (component_marks i.id (components_of content)))
+    parts : (content : List ℕ) → told n place (told_of (handled_in i.dialogue past content))
+        ≡ wanted place past i (noted_at_clock (clock past) (component_marks i.id (components_of content)))
     parts content = message_parts start past place n i legal found here content
 
     -- the components of an End, and then what is left
-    parts_and_end : (content : List ℕ) → told n place (told_of (handled_in i.dialogue past content) ++ ended_in i.dialogue past (components_of content))
-        ≡ wanted place past i (noted_at_clock (clock past) (component_marks i.id (components_of content) ++ Mark.end ∷ []))
+    parts_and_end : (content : List ℕ) → told n place
+        (told_of (handled_in i.dialogue past content) ++ ended_in i.dialogue past (components_of content))
+        ≡ wanted place past i (noted_at_clock (clock past)
+        (component_marks i.id (components_of content) ++ Mark.end ∷ []))
     parts_and_end content =
-        told-append n place (told_of (handled_in i.dialogue past content)) (ended_in i.dialogue past (components_of content))
-        ∙ (in_turn place i (first_closing i.class i.timeout (span i past)) (closing_after i.class i.timeout (span i past) ms) (Some Closing.ended)
-        (told n place (told_of (handled_in i.dialogue past content))) (told n place (ended_in i.dialogue past (components_of content)))
+        told-append n place (told_of (handled_in i.dialogue past content))
+        (ended_in i.dialogue past (components_of content))
+        ∙ (in_turn place i (first_closing i.class i.timeout (span i past))
+        (closing_after i.class i.timeout (span i past) ms) (Some Closing.ended)
+        (told n place (told_of (handled_in i.dialogue past content)))
+        (told n place (ended_in i.dialogue past (components_of content)))
         (parts content)
-        (ended_here (components_of content) ∙ ap (λ o. unless o (gain place i (Some Closing.ended))) (first_closing-append i.class i.timeout (span i past) ms))
+        (ended_here (components_of content) ∙ ap (λ o. unless o (gain place i (Some Closing.ended)))
+        (first_closing-append i.class i.timeout (span i past) ms))
         ∙ ap (λ o. unless (first_closing i.class i.timeout (span i past)) (gain place i o))
-        (sym (ap (closing_after i.class i.timeout (span i past)) (noted-append (clock past) (component_marks i.id (components_of content)) (Mark.end ∷ []))
+        (sym (ap (closing_after i.class i.timeout (span i past))
+        (noted-append (clock past) (component_marks i.id (components_of content)) (Mark.end ∷ []))
         ∙ closing_after-append i.class i.timeout (span i past) ms (noted_at_clock (clock past) (Mark.end ∷ [])))))
       where
         ms : List Noted
         ms = noted_at_clock (clock past) (component_marks i.id (components_of content))
 
     module _ (state : State) (context : Option (List ℕ)) where
-      continue_here : (origin content : List ℕ) (v : PortionVerdict) → told n place (continue_outputs i.dialogue past state origin content v)
-          ≡ wanted place past i (noted_at_clock (clock past) (unwrap_or (if_normal v (component_marks i.id (components_of content))) (end_if_over (Life.standing state context) (life_by_verdict state context origin v))))
+      continue_here : (origin content : List ℕ) (v : PortionVerdict)
+          → told n place (continue_outputs i.dialogue past state origin content v)
+          ≡ wanted place past i (noted_at_clock (clock past)
+          (unwrap_or (if_normal v (component_marks i.id (components_of content)))
+          (end_if_over (Life.standing state context) (life_by_verdict state context origin v))))
       continue_here origin content (PortionVerdict.normal told info) = parts content
       continue_here origin content PortionVerdict.abnormal = ended_only
 
       end_here : (content : List ℕ) (v : PortionVerdict) → told n place (end_outputs i.dialogue past content v)
-          ≡ wanted place past i (noted_at_clock (clock past) (unwrap_or (if_normal v (component_marks i.id (components_of content) ++ Mark.end ∷ [])) (end_if_over (Life.standing state context) Life.over)))
+          ≡ wanted place past i (noted_at_clock (clock past)
+          (unwrap_or (if_normal v (component_marks i.id (components_of content) ++ Mark.end ∷ []))
+          (end_if_over (Life.standing state context) Life.over)))
       end_here content (PortionVerdict.normal told info) = parts_and_end content
       end_here content PortionVerdict.abnormal = ended_only
 
       pub message_here : (m : Message) → told n place (message_outputs i.dialogue past state context m)
-          ≡ wanted place past i (noted_at_clock (clock past) (unwrap_or (marks_of_message i.id state context (Ok m)) (end_if_over (Life.standing state context) (life_by_message state context (Ok m)))))
-      message_here (Message.go_on origin to portion components) = continue_here origin components (portion_verdict state context portion)
+          ≡ wanted place past i (noted_at_clock (clock past)
+          (unwrap_or (marks_of_message i.id state context (Ok m))
+          (end_if_over (Life.standing state context) (life_by_message state context (Ok m)))))
+      message_here (Message.go_on origin to portion components) =
+          continue_here origin components (portion_verdict state context portion)
       message_here (Message.end to portion components) = end_here components (portion_verdict state context portion)
-      message_here (Message.abort to reason) = ap (λ z. z ++ told n place (ended_in i.dialogue past [])) (abort_silent n place i.dialogue reason) ∙ ended_only
+      message_here (Message.abort to reason) =
+          ap (λ z. z ++ told n place (ended_in i.dialogue past [])) (abort_silent n place i.dialogue reason)
+          ∙ ended_only
       message_here (Message.unidirectional portion components) = sym (nothing_wanted place past i)
       message_here (Message.begin origin portion components) = sym (nothing_wanted place past i)
 
-  pub last_here : (message : Option Message) → told n place (sent_if_any message ++ ended_in i.dialogue past []) ≡ wanted place past i (noted_at_clock (clock past) (Mark.end ∷ []))
-  last_here message = told-append n place (sent_if_any message) (ended_in i.dialogue past []) ∙ (ap (λ z. z ++ told n place (ended_in i.dialogue past [])) (sent_silent n place message) ∙ ended_only)
+  pub last_here : (message : Option Message) → told n place (sent_if_any message ++ ended_in i.dialogue past [])
+      ≡ wanted place past i (noted_at_clock (clock past) (Mark.end ∷ []))
+  last_here message = told-append n place (sent_if_any message) (ended_in i.dialogue past [])
+      ∙ (ap (λ z. z ++ told n place (ended_in i.dialogue past [])) (sent_silent n place message) ∙ ended_only)

@@ -33,20 +33,26 @@ module _ (n : ℕ) (place past : Past) (dialogue : ℕ) (quiet : IsQuiet n place
   pub components_quiet : (content : List ℕ) → told n place (told_of (handled_in dialogue past content)) ≡ []
   components_quiet content = components_other n place past dialogue quiet.subjects [] (components_of content)
 
-  continue_quiet : (state : State) (origin content : List ℕ) (v : PortionVerdict) → told n place (continue_outputs dialogue past state origin content v) ≡ []
+  continue_quiet : (state : State) (origin content : List ℕ) (v : PortionVerdict)
+      → told n place (continue_outputs dialogue past state origin content v) ≡ []
   continue_quiet state origin content (PortionVerdict.normal context info) = components_quiet content
   continue_quiet state origin content PortionVerdict.abnormal = quiet.ends []
 
   end_quiet : (content : List ℕ) (v : PortionVerdict) → told n place (end_outputs dialogue past content v) ≡ []
   end_quiet content (PortionVerdict.normal context info) =
       told-append n place (told_of (handled_in dialogue past content)) (ended_in dialogue past (components_of content))
-      ∙ (ap (λ z. z ++ told n place (ended_in dialogue past (components_of content))) (components_quiet content) ∙ quiet.ends (components_of content))
+      ∙ (ap (λ z. z ++ told n place (ended_in dialogue past (components_of content))) (components_quiet content)
+      ∙ quiet.ends (components_of content))
   end_quiet content PortionVerdict.abnormal = quiet.ends []
 
-  message_quiet : (state : State) (context : Option (List ℕ)) (m : Message) → told n place (message_outputs dialogue past state context m) ≡ []
-  message_quiet state context (Message.go_on origin to portion components) = continue_quiet state origin components (portion_verdict state context portion)
-  message_quiet state context (Message.end to portion components) = end_quiet components (portion_verdict state context portion)
-  message_quiet state context (Message.abort to reason) = ap (λ z. z ++ told n place (ended_in dialogue past [])) (abort_silent n place dialogue reason) ∙ quiet.ends []
+  message_quiet : (state : State) (context : Option (List ℕ)) (m : Message)
+      → told n place (message_outputs dialogue past state context m) ≡ []
+  message_quiet state context (Message.go_on origin to portion components) =
+      continue_quiet state origin components (portion_verdict state context portion)
+  message_quiet state context (Message.end to portion components) =
+      end_quiet components (portion_verdict state context portion)
+  message_quiet state context (Message.abort to reason) =
+      ap (λ z. z ++ told n place (ended_in dialogue past [])) (abort_silent n place dialogue reason) ∙ quiet.ends []
   message_quiet state context (Message.unidirectional portion components) = refl
   message_quiet state context (Message.begin origin portion components) = refl
 
@@ -56,27 +62,46 @@ module _ (n : ℕ) (place past : Past) (dialogue : ℕ) (quiet : IsQuiet n place
   taken_quiet Life.over m = refl
 
   last_quiet : (message : Option Message) → told n place (sent_if_any message ++ ended_in dialogue past []) ≡ []
-  last_quiet message = told-append n place (sent_if_any message) (ended_in dialogue past []) ∙ (ap (λ z. z ++ told n place (ended_in dialogue past [])) (sent_silent n place message) ∙ quiet.ends [])
+  last_quiet message =
+      told-append n place (sent_if_any message) (ended_in dialogue past [])
+      ∙ (ap (λ z. z ++ told n place (ended_in dialogue past [])) (sent_silent n place message) ∙ quiet.ends [])
 
-  cancel_quiet : (id : ℤ) (o : Option ℕ) → pending dialogue id past ≡ o → told_by_answer n place (Event.on_dialogue dialogue (Request.component (ComponentRequest.u_cancel id))) (given_up_answer o) ≡ []
+  cancel_quiet : (id : ℤ) (o : Option ℕ) → pending dialogue id past ≡ o
+      → told_by_answer n place (Event.on_dialogue dialogue (Request.component (ComponentRequest.u_cancel id)))
+      (given_up_answer o) ≡ []
   cancel_quiet id None q = refl
   cancel_quiet id (Some m) q = let other = quiet.cancels id m q in rw other refl
 
 module _ (n : ℕ) (place : Past) (h : History) (dialogue : ℕ) (quiet : IsQuiet n place h.pairs dialogue) where
-  accepted_quiet : (state : State) (context : Option (List ℕ)) (r : Request) → told_by_answer n place (Event.on_dialogue dialogue r) (accepted_answer h (standing_of dialogue h.pairs state context) r) ≡ []
-  accepted_quiet state context (Request.component (ComponentRequest.invoke id class code parameter linked timeout)) = refl
+  accepted_quiet : (state : State) (context : Option (List ℕ)) (r : Request)
+      → told_by_answer n place (Event.on_dialogue dialogue r)
+      (accepted_answer h (standing_of dialogue h.pairs state context) r) ≡ []
+  accepted_quiet state context (Request.component (ComponentRequest.invoke id class code parameter linked timeout)) =
+      refl
   accepted_quiet state context (Request.component (ComponentRequest.result_last id body)) = refl
   accepted_quiet state context (Request.component (ComponentRequest.result_more id body)) = refl
   accepted_quiet state context (Request.component (ComponentRequest.error_back id code parameter)) = refl
   accepted_quiet state context (Request.component (ComponentRequest.u_reject id problem)) = refl
-  accepted_quiet state context (Request.component (ComponentRequest.u_cancel id)) = cancel_quiet n place h.pairs dialogue quiet id (pending dialogue id h.pairs) refl
-  accepted_quiet state context (Request.dialogue (DialogueRequest.uni asked info)) = last_quiet n place h.pairs dialogue quiet (message_of (standing_of dialogue h.pairs state context) (Request.dialogue (DialogueRequest.uni asked info)))
-  accepted_quiet state context (Request.dialogue (DialogueRequest.begin asked info)) = sent_silent n place (message_of (standing_of dialogue h.pairs state context) (Request.dialogue (DialogueRequest.begin asked info)))
-  accepted_quiet state context (Request.dialogue (DialogueRequest.go_on asked info)) = sent_silent n place (message_of (standing_of dialogue h.pairs state context) (Request.dialogue (DialogueRequest.go_on asked info)))
-  accepted_quiet state context (Request.dialogue (DialogueRequest.finish ending asked info)) = last_quiet n place h.pairs dialogue quiet (message_of (standing_of dialogue h.pairs state context) (Request.dialogue (DialogueRequest.finish ending asked info)))
-  accepted_quiet state context (Request.dialogue (DialogueRequest.u_abort why info)) = last_quiet n place h.pairs dialogue quiet (message_of (standing_of dialogue h.pairs state context) (Request.dialogue (DialogueRequest.u_abort why info)))
+  accepted_quiet state context (Request.component (ComponentRequest.u_cancel id)) =
+      cancel_quiet n place h.pairs dialogue quiet id (pending dialogue id h.pairs) refl
+  accepted_quiet state context (Request.dialogue (DialogueRequest.uni asked info)) =
+      last_quiet n place h.pairs dialogue quiet (message_of (standing_of dialogue h.pairs state context)
+      (Request.dialogue (DialogueRequest.uni asked info)))
+  accepted_quiet state context (Request.dialogue (DialogueRequest.begin asked info)) =
+      sent_silent n place (message_of (standing_of dialogue h.pairs state context)
+      (Request.dialogue (DialogueRequest.begin asked info)))
+  accepted_quiet state context (Request.dialogue (DialogueRequest.go_on asked info)) =
+      sent_silent n place (message_of (standing_of dialogue h.pairs state context)
+      (Request.dialogue (DialogueRequest.go_on asked info)))
+  accepted_quiet state context (Request.dialogue (DialogueRequest.finish ending asked info)) =
+      last_quiet n place h.pairs dialogue quiet (message_of (standing_of dialogue h.pairs state context)
+      (Request.dialogue (DialogueRequest.finish ending asked info)))
+  accepted_quiet state context (Request.dialogue (DialogueRequest.u_abort why info)) =
+      last_quiet n place h.pairs dialogue quiet (message_of (standing_of dialogue h.pairs state context)
+      (Request.dialogue (DialogueRequest.u_abort why info)))
 
-  pub request_quiet : (r : Request) (l : Life) (f : Option Fault) → told_by_answer n place (Event.on_dialogue dialogue r) (request_answer h dialogue r l f) ≡ []
+  pub request_quiet : (r : Request) (l : Life) (f : Option Fault)
+      → told_by_answer n place (Event.on_dialogue dialogue r) (request_answer h dialogue r l f) ≡ []
   request_quiet r l (Some f) = refl
   request_quiet r Life.unborn None = refl
   request_quiet r Life.over None = refl

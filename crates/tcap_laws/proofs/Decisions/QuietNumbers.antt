@@ -34,7 +34,8 @@ use Rattle.tcap_model.specs.Words.Time.{moment_fault}
 
 -- whatever invocation has the number is decided
 abbrev pub IsSettled : ℕ → Past → Type 0
-IsSettled n past = (i : Invocation) → invocation_of n past ≡ Some i → (c : Closing) × (first_closing i.class i.timeout (span i past) ≡ Some c)
+IsSettled n past = (i : Invocation) → invocation_of n past ≡ Some i
+    → (c : Closing) × (first_closing i.class i.timeout (span i past) ≡ Some c)
 
 no_and : (b : Bool) → (b && false) ≡ false
 no_and true = refl
@@ -44,37 +45,49 @@ module _ (start : Start) (past place : Past) (n : ℕ) (legal : AreReplies start
   abbrev h : History
   h = record { start = start; pairs = past }
 
-  closed_up_to : (i : Invocation) (earlier : List Item) → invocation_of n past ≡ Some i → is_none (first_closing i.class i.timeout (marks_up_to past earlier i)) ≡ false
+  closed_up_to : (i : Invocation) (earlier : List Item) → invocation_of n past ≡ Some i
+      → is_none (first_closing i.class i.timeout (marks_up_to past earlier i)) ≡ false
   closed_up_to i earlier found =
       let closed = settled i found in
-      ap is_none (first_closing-append i.class i.timeout (span i past) (noted_at_clock (clock past) (component_marks i.id earlier))
-      ∙ ap (λ o. option_or o (closing_after i.class i.timeout (span i past) (noted_at_clock (clock past) (component_marks i.id earlier)))) closed.1)
+      ap is_none (first_closing-append i.class i.timeout (span i past)
+      (noted_at_clock (clock past) (component_marks i.id earlier))
+      ∙ ap (λ o. option_or o (closing_after i.class i.timeout (span i past)
+      (noted_at_clock (clock past) (component_marks i.id earlier)))) closed.1)
 
   -- the latest invocation of an identifier, where it has the number
-  found_latest : (dialogue : ℕ) (id : ℤ) (j : Invocation) → latest dialogue id past ≡ Some j → (j.number == n) ≡ true → invocation_of n past ≡ Some j
+  found_latest : (dialogue : ℕ) (id : ℤ) (j : Invocation) → latest dialogue id past ≡ Some j → (j.number == n) ≡ true
+      → invocation_of n past ≡ Some j
   found_latest dialogue id j p q =
       let l : IsLatest dialogue id past j = latest_is start past dialogue id j legal p in
       let number : j.number ≡ n = grind (arith, nat_tests) in
       ap (λ m. invocation_of m past) (sym number) ∙ l.is_found
 
-  subjects_quiet : (dialogue : ℕ) (id : ℤ) (earlier : List Item) → IsOther n (if_sent past earlier (latest dialogue id past))
+  subjects_quiet : (dialogue : ℕ) (id : ℤ) (earlier : List Item)
+      → IsOther n (if_sent past earlier (latest dialogue id past))
   subjects_quiet dialogue id earlier s e = go (latest dialogue id past) refl e
     where
-      one : (j : Invocation) (b : Bool) → (j.number == n) ≡ b → latest dialogue id past ≡ Some j → if_sent past earlier (Some j) ≡ Some s → (s.number == n) ≡ false
+      one : (j : Invocation) (b : Bool) → (j.number == n) ≡ b → latest dialogue id past ≡ Some j
+          → if_sent past earlier (Some j) ≡ Some s → (s.number == n) ≡ false
       one j true q p e =
           let found = found_latest dialogue id j p q in
-          let not_sent : is_sent_in j.class j.timeout (marks_up_to past earlier j) ≡ false = ap (λ b. is_some (sent_clock (marks_up_to past earlier j)) && b) (closed_up_to j earlier found) ∙ no_and (is_some (sent_clock (marks_up_to past earlier j))) in
-          let never : None ≡ Some s = ap (λ b. cond b (Some (record { dialogue = j.dialogue; number = j.number; class = j.class })) None) (sym not_sent) ∙ e in
+          let not_sent : is_sent_in j.class j.timeout (marks_up_to past earlier j) ≡ false =
+          ap (λ b. is_some (sent_clock (marks_up_to past earlier j)) && b) (closed_up_to j earlier found)
+          ∙ no_and (is_some (sent_clock (marks_up_to past earlier j))) in
+          let never : None ≡ Some s =
+          ap (λ b. cond b (Some (record { dialogue = j.dialogue; number = j.number; class = j.class })) None)
+          (sym not_sent) ∙ e in
           absurd cc
       one j false q p e = sent (is_sent_in j.class j.timeout (marks_up_to past earlier j)) e
         where
-          sent : (b : Bool) → cond b (Some (record { dialogue = j.dialogue; number = j.number; class = j.class })) None ≡ Some s → (s.number == n) ≡ false
+          sent : (b : Bool) → cond b (Some (record { dialogue = j.dialogue; number = j.number; class = j.class })) None
+              ≡ Some s → (s.number == n) ≡ false
           sent false e = absurd cc
           sent true e =
               let same : record { dialogue = j.dialogue; number = j.number; class = j.class } ≡ s = cc in
               ap (λ (s : SentInvocation). s.number == n) (sym same) ∙ q
 
-      go : (o : Option Invocation) → latest dialogue id past ≡ o → if_sent past earlier o ≡ Some s → (s.number == n) ≡ false
+      go : (o : Option Invocation) → latest dialogue id past ≡ o → if_sent past earlier o ≡ Some s
+          → (s.number == n) ≡ false
       go None p e = absurd cc
       go (Some j) p e = one j (j.number == n) refl p e
 
@@ -84,20 +97,24 @@ module _ (start : Start) (past place : Past) (n : ℕ) (legal : AreReplies start
       go : (o : Option Invocation) → invocation_of n past ≡ o → told_one (ended_told n place past dialogue items) o ≡ []
       go None q = refl
       go (Some i) q =
-          let none : ((i.dialogue == dialogue) && is_none (first_closing i.class i.timeout (marks_up_to past items i))) ≡ false = ap (λ b. (i.dialogue == dialogue) && b) (closed_up_to i items q) ∙ no_and (i.dialogue == dialogue) in
+          let none : ((i.dialogue == dialogue) && is_none (first_closing i.class i.timeout (marks_up_to past items i)))
+          ≡ false = ap (λ b. (i.dialogue == dialogue) && b) (closed_up_to i items q)
+          ∙ no_and (i.dialogue == dialogue) in
           rw none refl
 
   cancels_quiet : (dialogue : ℕ) (id : ℤ) (m : ℕ) → pending dialogue id past ≡ Some m → (m == n) ≡ false
   cancels_quiet dialogue id m e = go (latest dialogue id past) refl e
     where
-      one : (j : Invocation) (b c : Bool) → (j.number == n) ≡ b → is_none (outcome j.number past) ≡ c → latest dialogue id past ≡ Some j → cond c (Some j.number) None ≡ Some m → (m == n) ≡ false
+      one : (j : Invocation) (b c : Bool) → (j.number == n) ≡ b → is_none (outcome j.number past) ≡ c
+          → latest dialogue id past ≡ Some j → cond c (Some j.number) None ≡ Some m → (m == n) ≡ false
       one j b false q w p e = absurd cc
       one j false true q w p e = let same : j.number ≡ m = cc in ap (λ k. k == n) (sym same) ∙ q
       one j true true q w p e =
           let found = found_latest dialogue id j p q in
           let closed = settled j found in
           let number : j.number ≡ n = grind (arith, nat_tests) in
-          let decided : outcome j.number past ≡ Some closed.0 = ap (λ k. outcome k past) number ∙ (ap (λ o. outcome_of o past) found ∙ closed.1) in
+          let decided : outcome j.number past ≡ Some closed.0 =
+          ap (λ k. outcome k past) number ∙ (ap (λ o. outcome_of o past) found ∙ closed.1) in
           let never : false ≡ true = ap is_none (sym decided) ∙ w in
           absurd cc
 
@@ -106,12 +123,14 @@ module _ (start : Start) (past place : Past) (n : ℕ) (legal : AreReplies start
       go (Some j) p e = one j (j.number == n) (is_none (outcome j.number past)) refl refl p e
 
   pub all_quiet : (dialogue : ℕ) → IsQuiet n place past dialogue
-  all_quiet dialogue = record { subjects = subjects_quiet dialogue; ends = ends_quiet dialogue; cancels = cancels_quiet dialogue }
+  all_quiet dialogue =
+      record { subjects = subjects_quiet dialogue; ends = ends_quiet dialogue; cancels = cancels_quiet dialogue }
 
   lapses_quiet : (now : ℕ) → told n place (lapses past now) ≡ []
   lapses_quiet now = lapses_number n place past now start legal ∙ go (invocation_of n past) refl
     where
-      one : (i : Invocation) (o : Option ℕ) → is_sent_in i.class i.timeout (span i past) ≡ false → deadline i past ≡ o → lapse_of n place past now i ≡ []
+      one : (i : Invocation) (o : Option ℕ) → is_sent_in i.class i.timeout (span i past) ≡ false → deadline i past ≡ o
+          → lapse_of n place past now i ≡ []
       one i None q w = rw w refl
       one i (Some t) q w = rw (w, q) refl
 
@@ -119,7 +138,8 @@ module _ (start : Start) (past place : Past) (n : ℕ) (legal : AreReplies start
       go None q = refl
       go (Some i) q =
           let closed = settled i q in
-          one i (deadline i past) (ap (λ o. is_some (sent_clock (span i past)) && is_none o) closed.1 ∙ no_and (is_some (sent_clock (span i past)))) refl
+          one i (deadline i past) (ap (λ o. is_some (sent_clock (span i past)) && is_none o) closed.1
+          ∙ no_and (is_some (sent_clock (span i past)))) refl
 
   -- ---- the answers
 
@@ -127,11 +147,13 @@ module _ (start : Start) (past place : Past) (n : ℕ) (legal : AreReplies start
   birth_quiet None = refl
   birth_quiet (Some f) = refl
 
-  moment_quiet : (now : ℕ) (f : Option Fault) → told_by_answer n place (Event.moment now) (moment_answer past now f) ≡ []
+  moment_quiet : (now : ℕ) (f : Option Fault) → told_by_answer n place (Event.moment now) (moment_answer past now f)
+      ≡ []
   moment_quiet now (Some f) = refl
   moment_quiet now None = go (nat_lt now (clock past)) refl
     where
-      go : (b : Bool) → nat_lt now (clock past) ≡ b → told_by_answer n place (Event.moment now) (moment_answer past now None) ≡ []
+      go : (b : Bool) → nat_lt now (clock past) ≡ b
+          → told_by_answer n place (Event.moment now) (moment_answer past now None) ≡ []
       go true q = rw q refl
       go false q = rw q (lapses_quiet now)
 

@@ -16,7 +16,8 @@ use Rattle.tcap_pdu.specs.FrameSpelling.{Message, Reason}
 abbrev pub told : ℕ → Past → List Output → List Told
 told n place outputs = flat_map (told_by_output n place) outputs
 
-pub told-append : (n : ℕ) (place : Past) (xs ys : List Output) → told n place (xs ++ ys) ≡ told n place xs ++ told n place ys
+pub told-append : (n : ℕ) (place : Past) (xs ys : List Output)
+    → told n place (xs ++ ys) ≡ told n place xs ++ told n place ys
 told-append n place xs ys = flat_map-append (told_by_output n place) xs ys
 
 -- whoever is Sent has another number
@@ -24,7 +25,9 @@ abbrev pub IsOther : ℕ → Option SentInvocation → Type 0
 IsOther n sent = (s : SentInvocation) → sent ≡ Some s → (s.number == n) ≡ false
 
 module _ (n : ℕ) (place : Past) where
-  pub invoke_silent : (dialogue : Option ℕ) (sent : Option SentInvocation) (id : ℤ) (linked : Option ℤ) (code : CodeParts) (parameter : Option (List ℕ)) → told_by_output n place (invoke_handled dialogue sent id linked code parameter).told ≡ []
+  pub invoke_silent : (dialogue : Option ℕ) (sent : Option SentInvocation) (id : ℤ) (linked : Option ℤ)
+      (code : CodeParts) (parameter : Option (List ℕ))
+      → told_by_output n place (invoke_handled dialogue sent id linked code parameter).told ≡ []
   invoke_silent dialogue sent id None code parameter = refl
   invoke_silent dialogue (Some s) id (Some linked) code parameter = refl
   invoke_silent dialogue None id (Some linked) code parameter = refl
@@ -43,12 +46,14 @@ module _ (n : ℕ) (place : Past) where
   other _ _ _ _ (ComesOf.of_fault sent f) e = refl
 
   -- a component tells of whoever is Sent alone
-  pub handled_other : (dialogue : Option ℕ) (sent : Option SentInvocation) (item : Item) → IsOther n sent → told_by_output n place (handled dialogue sent item).told ≡ []
+  pub handled_other : (dialogue : Option ℕ) (sent : Option SentInvocation) (item : Item) → IsOther n sent
+      → told_by_output n place (handled dialogue sent item).told ≡ []
   handled_other dialogue sent item = other dialogue sent item (handled dialogue sent item) (comes_of dialogue sent item)
 
   pub uni_silent : (items : List Item) → told n place (uni_told items) ≡ []
   uni_silent [] = refl
-  uni_silent (item ∷ items) = ap (λ z. z ++ told n place (uni_told items)) (handled_other None None item (λ s e. absurd cc)) ∙ uni_silent items
+  uni_silent (item ∷ items) =
+      ap (λ z. z ++ told n place (uni_told items)) (handled_other None None item (λ s e. absurd cc)) ∙ uni_silent items
 
   -- ---- outputs that are about no invocation
 

@@ -51,7 +51,9 @@ made-later i last past made = record {
   makes = made.makes;
 }
 
-made-here : (n : ℕ) (i : Invocation) (last : Pair) (past : Past) (o p : Option Invocation) → (o ≡ Some i → IsMade i past) → invoked_by last ≡ p → option_or o (find (λ (x : Invocation). x.number == n) (option_to_list p)) ≡ Some i → IsMade i (last ∷ past)
+made-here : (n : ℕ) (i : Invocation) (last : Pair) (past : Past) (o p : Option Invocation)
+    → (o ≡ Some i → IsMade i past) → invoked_by last ≡ p
+    → option_or o (find (λ (x : Invocation). x.number == n) (option_to_list p)) ≡ Some i → IsMade i (last ∷ past)
 made-here n i last past (Some j) p again q e = made-later i last past (again e)
 made-here n i last past None None again q e = absurd cc
 made-here n i last past None (Some new) again q e = go (new.number == n) e
@@ -62,18 +64,23 @@ made-here n i last past None (Some new) again q e = go (new.number == n) e
 
 made : (n : ℕ) (i : Invocation) (past : Past) → invocation_of n past ≡ Some i → IsMade i past
 made n i [] e = absurd cc
-made n i (last ∷ past) e = made-here n i last past (invocation_of n past) (invoked_by last) (λ q. made n i past q) refl (sym (invocation_step n last past) ∙ e)
+made n i (last ∷ past) e =
+    made-here n i last past (invocation_of n past) (invoked_by last) (λ q. made n i past q) refl
+    (sym (invocation_step n last past) ∙ e)
 
 -- ---- what is told of an answer
 
-answer-of : (past : Past) (bytes : List ℕ) (born : Option ℕ) {dialogue number : ℕ} {id : ℤ} {output : Output} {request : Request}
-    → IsAnswer dialogue number id output request → Placed past bytes born output → IsOf past dialogue number id × AnswersInvoke id request
+answer-of : (past : Past) (bytes : List ℕ) (born : Option ℕ) {dialogue number : ℕ} {id : ℤ} {output : Output}
+    {request : Request}
+    → IsAnswer dialogue number id output request → Placed past bytes born output
+    → IsOf past dialogue number id × AnswersInvoke id request
 answer-of past bytes born (IsAnswer.a_result_last body) placed = (placed, AnswersInvoke.a_result_last body)
 answer-of past bytes born (IsAnswer.a_result_more body) placed = (placed, AnswersInvoke.a_result_more body)
 answer-of past bytes born (IsAnswer.an_error code parameter) placed = (placed, AnswersInvoke.an_error code parameter)
 answer-of past bytes born {id = id} (IsAnswer.a_reject problem) placed = (placed.0, rejects problem.kind placed.1)
   where
-    rejects : (k : Kind) → RejectsInvoke k → AnswersInvoke id (Request.component (ComponentRequest.u_reject (Some id) (record { kind = k; code = problem.code })))
+    rejects : (k : Kind) → RejectsInvoke k → AnswersInvoke id
+        (Request.component (ComponentRequest.u_reject (Some id) (record { kind = k; code = problem.code })))
     rejects kind.General is = AnswersInvoke.a_general_reject problem.code
     rejects kind.Invoke is = AnswersInvoke.an_invoke_reject problem.code
     rejects kind.Result is = absurd is
@@ -90,13 +97,16 @@ is-peered peer Life.unborn e = absurd cc
 is-peered peer (Life.standing state context) e = e
 is-peered peer Life.over e = absurd cc
 
-stands-within : (pair : Pair) (before past whole : Past) → StandsIn pair before past → IsIn past whole → StandsIn pair before whole
+stands-within : (pair : Pair) (before past whole : Past) → StandsIn pair before past → IsIn past whole
+    → StandsIn pair before whole
 stands-within pair before past whole stands part = record {
   later = part.0 ++ stands.later;
-  is_past = part.1 ∙ (ap (λ (w : Past). part.0 ++ w) stands.is_past ∙ sym (append_assoc part.0 stands.later (pair ∷ before)));
+  is_past = part.1 ∙ (ap (λ (w : Past). part.0 ++ w) stands.is_past
+      ∙ sym (append_assoc part.0 stands.later (pair ∷ before)));
 }
 
-module _ (net : Net) (is : IsNet net) (answer : FarAnswer net.trace) (orderly : IsOrderly answer.engine answer.dialogue net.trace) (asking : FarSource answer) where
+module _ (net : Net) (is : IsNet net) (answer : FarAnswer net.trace)
+    (orderly : IsOrderly answer.engine answer.dialogue net.trace) (asking : FarSource answer) where
   abbrev other : Engine
   other = far answer.engine
 
@@ -104,12 +114,15 @@ module _ (net : Net) (is : IsNet net) (answer : FarAnswer net.trace) (orderly : 
   f = asking.is_request.far_dialogue
 
   -- the invocation and the request
-  answered : IsOf (side answer.engine answer.before) answer.dialogue answer.number answer.id × AnswersInvoke answer.id answer.request
+  answered : IsOf (side answer.engine answer.before) answer.dialogue answer.number answer.id
+      × AnswersInvoke answer.id answer.request
   answered =
       let stands = happens-stands answer.engine answer.pair answer.before net.trace answer.happens in
-      let legal = legal-before (net.start answer.engine) stands.later (answer.pair ∷ side answer.engine answer.before) (subst (AreReplies (net.start answer.engine)) stands.is_past (is.is_legal answer.engine).1) in
+      let legal = legal-before (net.start answer.engine) stands.later (answer.pair ∷ side answer.engine answer.before)
+      (subst (AreReplies (net.start answer.engine)) stands.is_past (is.is_legal answer.engine).1) in
       let h : History = record { start = net.start answer.engine; pairs = side answer.engine answer.before } in
-      let told : ToldFromOne answer.pair.event answer.output = told-from (history_in net answer.engine net.trace) (is.is_legal answer.engine) (record {
+      let told : ToldFromOne answer.pair.event answer.output =
+      told-from (history_in net answer.engine net.trace) (is.is_legal answer.engine) (record {
         pair = answer.pair;
         before = side answer.engine answer.before;
         output = answer.output;
@@ -117,8 +130,11 @@ module _ (net : Net) (is : IsNet net) (answer : FarAnswer net.trace) (orderly : 
         tells = answer.tells;
         is_of_component = answer-indicates answer.is_answer;
       }) in
-      let placed = reply-placed h legal.2 told.bytes answer.output (subst (λ (e : Event). Tells (reply h e) answer.output) told.is_event (subst (λ (a : Answer). Tells a answer.output) legal.1 answer.tells)) in
-      answer-of (side answer.engine answer.before) told.bytes (born_on_message (reply h (Event.received told.bytes))) answer.is_answer placed
+      let placed = reply-placed h legal.2 told.bytes answer.output
+      (subst (λ (e : Event). Tells (reply h e) answer.output) told.is_event
+      (subst (λ (a : Answer). Tells a answer.output) legal.1 answer.tells)) in
+      answer-of (side answer.engine answer.before) told.bytes (born_on_message (reply h (Event.received told.bytes)))
+      answer.is_answer placed
 
   here-in : (e : Engine) → IsIn (side e answer.before) (side e net.trace)
   here-in e = happens-rest e answer.engine answer.pair answer.before net.trace answer.happens
@@ -129,7 +145,9 @@ module _ (net : Net) (is : IsNet net) (answer : FarAnswer net.trace) (orderly : 
   -- the Invoke that the far user was told
   was : WasInvoked f answer.id (side other asking.before)
   was =
-      let stands = stands-within asking.pair (side other asking.before) (side other answer.before) (side other net.trace) (happens-stands other asking.pair asking.before answer.before asking.happens) (here-in other) in
+      let stands = stands-within asking.pair (side other asking.before) (side other answer.before)
+      (side other net.trace) (happens-stands other asking.pair asking.before answer.before asking.happens)
+      (here-in other) in
       orderly.answers_told (record {
         pair = asking.pair;
         before = side other asking.before;
@@ -149,10 +167,14 @@ module _ (net : Net) (is : IsNet net) (answer : FarAnswer net.trace) (orderly : 
   then = record { start = net.start; trace = asking.before }
 
   then-is : IsNet then
-  then-is = net-before (record { start = net.start; trace = answer.before }) (net-before net is answer.engine answer.pair answer.before answer.happens) other asking.pair asking.before asking.happens
+  then-is = net-before (record { start = net.start; trace = answer.before })
+      (net-before net is answer.engine answer.pair answer.before answer.happens) other asking.pair asking.before
+      asking.happens
 
   never : NeverBegun answer.dialogue (side answer.engine asking.before)
-  never = never-before answer.dialogue answer.engine other asking.pair asking.before answer.before asking.happens (never-before answer.dialogue answer.engine answer.engine answer.pair answer.before net.trace answer.happens (opened-never net is answer.engine answer.dialogue orderly.opened))
+  never = never-before answer.dialogue answer.engine other asking.pair asking.before answer.before asking.happens
+      (never-before answer.dialogue answer.engine answer.engine answer.pair answer.before net.trace answer.happens
+      (opened-never net is answer.engine answer.dialogue orderly.opened))
 
   peered : IsPeered (local_id answer.dialogue) (life f (side other asking.before))
   peered = is-peered (local_id answer.dialogue) (life f (side other asking.before)) asking.is_request.is_peer
@@ -193,15 +215,20 @@ module _ (net : Net) (is : IsNet net) (answer : FarAnswer net.trace) (orderly : 
   from-here = invoke-from then then-is facing told_invoke
 
   from : HasSource it.sent.dialogue it.past answer.id was.linked was.code was.parameter
-  from = source then then-is other was.pair at.before at.happens told it answer.id was.linked was.code was.parameter (stands-for-invoke told it.told.component it.told.stands_for (Some f) answer.id was.linked was.code was.parameter refl)
+  from = source then then-is other was.pair at.before at.happens told it answer.id was.linked was.code was.parameter
+      (stands-for-invoke told it.told.component it.told.stands_for (Some f) answer.id was.linked was.code was.parameter
+      refl)
 
   at-in : IsIn (side answer.engine at.before) (side answer.engine asking.before)
   at-in = happens-rest answer.engine other was.pair at.before asking.before at.happens
 
   was-sent : WasSent from.number (side answer.engine asking.before)
   was-sent =
-      let sent : WasSent from.number (side (far other) at.before) = invoke-sent then then-is other was.pair at.before at.happens told it answer.id was.linked was.code was.parameter from in
-      subst (WasSent from.number) (sym at-in.1) (sent-later from.number at-in.0 (side answer.engine at.before) (subst (λ (e : Engine). WasSent from.number (side e at.before)) (far-far answer.engine) sent))
+      let sent : WasSent from.number (side (far other) at.before) =
+      invoke-sent then then-is other was.pair at.before at.happens told it answer.id was.linked was.code
+      was.parameter from in
+      subst (WasSent from.number) (sym at-in.1) (sent-later from.number at-in.0 (side answer.engine at.before)
+      (subst (λ (e : Engine). WasSent from.number (side e at.before)) (far-far answer.engine) sent))
 
   -- it is the Invoke of the invocation that is answered
   same : from.number ≡ answer.number
@@ -210,23 +237,33 @@ module _ (net : Net) (is : IsNet net) (answer : FarAnswer net.trace) (orderly : 
       let i : Invocation = invocation_as from.number it.sent.dialogue a.id a.class a.timeout in
       let makes : invoked_by a.pair ≡ Some i =
       ap (λ (e : Event). invoked_of e a.pair.answer) a.is_event
-      ∙ ap (invoked_of (Event.on_dialogue it.sent.dialogue (Request.component (ComponentRequest.invoke a.id a.class a.code a.parameter a.linked a.timeout)))) a.is_answer in
-      let stands-at : StandsIn a.pair a.before (side answer.engine at.before) = subst (λ (e : Engine). StandsIn a.pair a.before (side e at.before)) (far-far answer.engine) (stands-before a.pair it.sender a.before it.past (side (far other) at.before) a.stands it.stands) in
-      let within = in-in (side answer.engine at.before) (side answer.engine asking.before) (side answer.engine net.trace) at-in (in-in (side answer.engine asking.before) (side answer.engine answer.before) (side answer.engine net.trace) (earlier-in answer.engine) (here-in answer.engine)) in
+      ∙ ap (invoked_of (Event.on_dialogue it.sent.dialogue
+      (Request.component (ComponentRequest.invoke a.id a.class a.code a.parameter a.linked a.timeout)))) a.is_answer
+      in
+      let stands-at : StandsIn a.pair a.before (side answer.engine at.before) =
+      subst (λ (e : Engine). StandsIn a.pair a.before (side e at.before)) (far-far answer.engine)
+      (stands-before a.pair it.sender a.before it.past (side (far other) at.before) a.stands it.stands) in
+      let within = in-in (side answer.engine at.before) (side answer.engine asking.before)
+      (side answer.engine net.trace) at-in (in-in (side answer.engine asking.before)
+      (side answer.engine answer.before) (side answer.engine net.trace) (earlier-in answer.engine)
+      (here-in answer.engine)) in
       let of = answered.0 in
-      let m : IsMade of.invocation (side answer.engine answer.before) = made of.invocation.number of.invocation (side answer.engine answer.before) of.is_found in
+      let m : IsMade of.invocation (side answer.engine answer.before) =
+      made of.invocation.number of.invocation (side answer.engine answer.before) of.is_found in
       let new : AcceptedInvoke (side answer.engine net.trace) = record {
         pair = a.pair;
         before = a.before;
         invocation = i;
-        stands = stands-within a.pair a.before (side answer.engine at.before) (side answer.engine net.trace) stands-at within;
+        stands = stands-within a.pair a.before (side answer.engine at.before) (side answer.engine net.trace) stands-at
+            within;
         makes = makes;
       } in
       let old : AcceptedInvoke (side answer.engine net.trace) = record {
         pair = m.pair;
         before = m.before;
         invocation = of.invocation;
-        stands = stands-within m.pair m.before (side answer.engine answer.before) (side answer.engine net.trace) m.stands (here-in answer.engine);
+        stands = stands-within m.pair m.before (side answer.engine answer.before) (side answer.engine net.trace)
+            m.stands (here-in answer.engine);
         makes = m.makes;
       } in
       orderly.uses_once new old from-here of.dialogue_is (from.is_id ∙ sym of.id_is) ∙ of.number_is
@@ -240,4 +277,10 @@ after-invoke net is answer orderly asking = sent-before net is answer orderly as
 -- ---- the whole
 
 pub two_ends : EachIsTwoEnded
-two_ends net is = record { origin = origin net is; after_invoke = after-invoke net is; once = once net is; operations = operations net is }
+two_ends net is = record {
+  origin = origin net is;
+  after_invoke = after-invoke net is;
+  once = once net is;
+  operations =
+      operations net is;
+}

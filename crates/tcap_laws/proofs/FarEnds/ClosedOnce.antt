@@ -12,4 +12,5 @@ as_list-short (Some told) = omega arith
 
 pub once : (net : Net) → IsNet net → Once net.trace
 once net is engine number =
-    subst (λ (n : ℕ). n ≤ 1) (sym (ap length (closings_are (net.start engine) (side engine net.trace) number (is.is_legal engine).1))) (as_list-short (decision number (side engine net.trace)))
+    subst (λ (n : ℕ). n ≤ 1) (sym (ap length (closings_are (net.start engine) (side engine net.trace) number
+    (is.is_legal engine).1))) (as_list-short (decision number (side engine net.trace)))

@@ -40,7 +40,8 @@ FairClosing bytes dialogue (Closing.result_last body) = IsNamedBy bytes dialogue
 FairClosing bytes dialogue (Closing.error_back code parameter) = IsNamedBy bytes dialogue
 FairClosing bytes dialogue (Closing.rejected problem Rejector.local) = is_by_provider problem ≡ true
 FairClosing bytes dialogue (Closing.rejected problem Rejector.remote_provider) = Unit {0}
-FairClosing bytes dialogue (Closing.rejected problem Rejector.remote_user) = IsNamedBy bytes dialogue × (is_by_provider problem ≡ false)
+FairClosing bytes dialogue (Closing.rejected problem Rejector.remote_user) =
+    IsNamedBy bytes dialogue × (is_by_provider problem ≡ false)
 FairClosing bytes dialogue Closing.lapsed = Unit {0}
 FairClosing bytes dialogue Closing.ended = Unit {0}
 FairClosing bytes dialogue Closing.given_up = Unit {0}
@@ -52,7 +53,8 @@ Fair bytes (Output.component (ComponentIndication.invoked dialogue id linked cod
 Fair bytes (Output.component (ComponentIndication.result_more dialogue number id body)) = IsNamedBy bytes dialogue
 Fair bytes (Output.component (ComponentIndication.local_reject dialogue id problem)) = is_by_provider problem ≡ true
 Fair bytes (Output.component (ComponentIndication.remote_reject dialogue id problem by)) = Unit {0}
-Fair bytes (Output.component (ComponentIndication.closed dialogue number id closing)) = FairClosing bytes dialogue closing
+Fair bytes (Output.component (ComponentIndication.closed dialogue number id closing)) =
+    FairClosing bytes dialogue closing
 Fair bytes (Output.dropped why) = Unit {0}
 
 -- ---- one component
@@ -90,30 +92,42 @@ handled-fair bytes content dialogue sent item =
 -- ---- the invocations that components of a message are about
 
 -- an invocation that is Sent for an identifier of a dialogue is of that dialogue
-reached-named : (bytes : List ℕ) (dialogue : ℕ) (sent : Option SentInvocation) → IsNamedBy bytes dialogue → IsSentOf dialogue sent → IsReached bytes sent
+reached-named : (bytes : List ℕ) (dialogue : ℕ) (sent : Option SentInvocation) → IsNamedBy bytes dialogue
+    → IsSentOf dialogue sent → IsReached bytes sent
 reached-named bytes dialogue None named of = tt
 reached-named bytes dialogue (Some sent) named of = subst (IsNamedBy bytes) (sym of) named
 
 reached-there : (bytes : List ℕ) (dialogue : ℕ) (past : Past) → IsNamedBy bytes dialogue
     → (earlier : List Item) (subject : Option ℤ) → IsReached bytes (sent_there dialogue past earlier subject)
-reached-there bytes dialogue past named earlier subject = reached-named bytes dialogue (sent_there dialogue past earlier subject) named (sent_there-of dialogue past earlier subject)
+reached-there bytes dialogue past named earlier subject =
+    reached-named bytes dialogue (sent_there dialogue past earlier subject) named
+    (sent_there-of dialogue past earlier subject)
 
 -- ---- a dialogue that is not born yet has no invocation
 
-latest-alive : (start : Start) (dialogue : ℕ) (id : ℤ) (past : Past) (i : Invocation) → AreReplies start past → latest dialogue id past ≡ Some i → was_alive (life dialogue past) ≡ true
+latest-alive : (start : Start) (dialogue : ℕ) (id : ℤ) (past : Past) (i : Invocation) → AreReplies start past
+    → latest dialogue id past ≡ Some i → was_alive (life dialogue past) ≡ true
 latest-alive start dialogue id [] i legal e = absurd cc
-latest-alive start dialogue id (pair ∷ past) i legal e = stays_alive dialogue (life dialogue past) pair (made (invoked_by pair) refl e (λ j q. latest-alive start dialogue id past j legal.2 q))
+latest-alive start dialogue id (pair ∷ past) i legal e =
+    stays_alive dialogue (life dialogue past) pair
+    (made (invoked_by pair) refl e (λ j q. latest-alive start dialogue id past j legal.2 q))
   where
     alive : (j : Invocation) → invoked_by pair ≡ Some j → j.dialogue ≡ dialogue → was_alive (life dialogue past) ≡ true
     alive j q same =
         let stood = draws start pair past j legal q in
         ap (λ (d : ℕ). was_alive (life d past)) (sym same) ∙ ap was_alive stood.stands
 
-    here : (j : Invocation) → invoked_by pair ≡ Some j → ((j : Invocation) → latest dialogue id past ≡ Some j → was_alive (life dialogue past) ≡ true) → (b : Bool) → has_id dialogue id j ≡ b → option_or (cond b (Some j) None) (latest dialogue id past) ≡ Some i → was_alive (life dialogue past) ≡ true
+    here : (j : Invocation) → invoked_by pair ≡ Some j
+        → ((j : Invocation) → latest dialogue id past ≡ Some j → was_alive (life dialogue past) ≡ true) → (b : Bool)
+        → has_id dialogue id j ≡ b → option_or (cond b (Some j) None) (latest dialogue id past) ≡ Some i
+        → was_alive (life dialogue past) ≡ true
     here j q before true p e = alive j q (id_of dialogue id j p).0
     here j q before false p e = before i e
 
-    made : (o : Option Invocation) → invoked_by pair ≡ o → option_or (with_id dialogue id o) (latest dialogue id past) ≡ Some i → ((j : Invocation) → latest dialogue id past ≡ Some j → was_alive (life dialogue past) ≡ true) → was_alive (life dialogue past) ≡ true
+    made : (o : Option Invocation) → invoked_by pair ≡ o
+        → option_or (with_id dialogue id o) (latest dialogue id past) ≡ Some i
+        → ((j : Invocation) → latest dialogue id past ≡ Some j → was_alive (life dialogue past) ≡ true)
+        → was_alive (life dialogue past) ≡ true
     made None q e before = before i e
     made (Some j) q e before = here j q before (has_id dialogue id j) refl e
 
@@ -125,12 +139,14 @@ no-latest h id legal = go (latest (next_dialogue h) id h.pairs) refl
 
     go : (o : Option Invocation) → latest (next_dialogue h) id h.pairs ≡ o → latest (next_dialogue h) id h.pairs ≡ None
     go None q = q
-    go (Some i) q = let never : false ≡ true = ap was_alive (sym unborn) ∙ latest-alive h.start (next_dialogue h) id h.pairs i legal q in absurd cc
+    go (Some i) q = let never : false ≡ true =
+        ap was_alive (sym unborn) ∙ latest-alive h.start (next_dialogue h) id h.pairs i legal q in absurd cc
 
 next-reached : (bytes : List ℕ) (h : History) → AreReplies h.start h.pairs → (earlier : List Item) (subject : Option ℤ)
     → IsReached bytes (sent_there (next_dialogue h) h.pairs earlier subject)
 next-reached bytes h legal earlier None = tt
-next-reached bytes h legal earlier (Some id) = subst (λ (o : Option Invocation). IsReached bytes (if_sent h.pairs earlier o)) (sym (no-latest h id legal)) tt
+next-reached bytes h legal earlier (Some id) =
+    subst (λ (o : Option Invocation). IsReached bytes (if_sent h.pairs earlier o)) (sym (no-latest h id legal)) tt
 
 -- ---- all that is told
 

@@ -43,10 +43,12 @@ abbrev pub IsIn : Past → Past → Type 0
 IsIn past whole = (later : Past) × (whole ≡ later ++ past)
 
 pub in-in : (a b c : Past) → IsIn a b → IsIn b c → IsIn a c
-in-in a b c inner outer = (outer.0 ++ inner.0, outer.1 ∙ (ap (λ (w : Past). outer.0 ++ w) inner.1 ∙ sym (append_assoc outer.0 inner.0 a)))
+in-in a b c inner outer =
+    (outer.0 ++ inner.0, outer.1 ∙ (ap (λ (w : Past). outer.0 ++ w) inner.1 ∙ sym (append_assoc outer.0 inner.0 a)))
 
 stands-in : (pair : Pair) (before past : Past) → StandsIn pair before past → IsIn before past
-stands-in pair before past stands = (stands.later ++ pair ∷ [], stands.is_past ∙ sym (append_assoc stands.later (pair ∷ []) before))
+stands-in pair before past stands =
+    (stands.later ++ pair ∷ [], stands.is_past ∙ sym (append_assoc stands.later (pair ∷ []) before))
 
 same-peer : (one other : List ℕ) (l : Life) → IsPeered one l → HasPeer other l → other ≡ one
 same-peer one other Life.unborn peered has = absurd has
@@ -68,7 +70,8 @@ abbrev IfAnyBegin : Option Message → Type 0
 IfAnyBegin None = ⊥
 IfAnyBegin (Some m) = IsAnyBegin m
 
-begins-none : (d : Standing) (state : State) (portion : Option (List ℕ)) → IfAnyBegin (continue_message d state portion) → ⊥
+begins-none : (d : Standing) (state : State) (portion : Option (List ℕ)) → IfAnyBegin (continue_message d state portion)
+    → ⊥
 begins-none d State.fresh portion is = is
 begins-none d State.sent portion is = is
 begins-none d (State.received peer) portion is = is
@@ -86,22 +89,28 @@ aborts-none State.sent reason is = is
 aborts-none (State.received peer) reason is = is
 aborts-none (State.active peer) reason is = is
 
-refuses-none : (state : State) (context : Option (List ℕ)) (info : List ℕ) → IfAnyBegin (refusing_message state context info) → ⊥
+refuses-none : (state : State) (context : Option (List ℕ)) (info : List ℕ)
+    → IfAnyBegin (refusing_message state context info) → ⊥
 refuses-none state None info is = is
 refuses-none state (Some context) info is = aborts-none state (refusing_abort context info) is
 
 abbrev IsBeginRequest : Request → Type 0
-IsBeginRequest request = (context : Option (List ℕ)) × (info : List ℕ) × (request ≡ Request.dialogue (DialogueRequest.begin context info))
+IsBeginRequest request =
+    (context : Option (List ℕ)) × (info : List ℕ) × (request ≡ Request.dialogue (DialogueRequest.begin context info))
 
 begin-request : (d : Standing) (request : Request) → IfAnyBegin (message_of d request) → IsBeginRequest request
 begin-request d (Request.component asked) is = absurd is
 begin-request d (Request.dialogue (DialogueRequest.uni context info)) is = absurd is
 begin-request d (Request.dialogue (DialogueRequest.begin context info)) is = (context, info, refl)
-begin-request d (Request.dialogue (DialogueRequest.go_on context info)) is = absurd (begins-none d d.state (answer_portion d.state d.context context info) is)
-begin-request d (Request.dialogue (DialogueRequest.finish Ending.basic context info)) is = absurd (ends-none d d.state (answer_portion d.state d.context context info) is)
+begin-request d (Request.dialogue (DialogueRequest.go_on context info)) is =
+    absurd (begins-none d d.state (answer_portion d.state d.context context info) is)
+begin-request d (Request.dialogue (DialogueRequest.finish Ending.basic context info)) is =
+    absurd (ends-none d d.state (answer_portion d.state d.context context info) is)
 begin-request d (Request.dialogue (DialogueRequest.finish Ending.prearranged context info)) is = absurd is
-begin-request d (Request.dialogue (DialogueRequest.u_abort AbortReason.by_user info)) is = absurd (aborts-none d.state (user_abort d.context info) is)
-begin-request d (Request.dialogue (DialogueRequest.u_abort AbortReason.not_supported info)) is = absurd (refuses-none d.state d.context info is)
+begin-request d (Request.dialogue (DialogueRequest.u_abort AbortReason.by_user info)) is =
+    absurd (aborts-none d.state (user_abort d.context info) is)
+begin-request d (Request.dialogue (DialogueRequest.u_abort AbortReason.not_supported info)) is =
+    absurd (refuses-none d.state d.context info is)
 
 -- ---- the far dialogue
 
@@ -134,10 +143,14 @@ module _ (net : Net) (is : IsNet net) (facing : Facing net) where
   legal-far = (is.is_legal other).1
 
   -- its peer is known from its birth on
-  f-known : (past : Past) (state : State) (context : Option (List ℕ)) → IsIn past (side other net.trace) → life f past ≡ Life.standing state context → peer_of state ≡ None → ⊥
+  f-known : (past : Past) (state : State) (context : Option (List ℕ)) → IsIn past (side other net.trace)
+      → life f past ≡ Life.standing state context → peer_of state ≡ None → ⊥
   f-known past state context part lives unknown =
-      let never-f : NeverBegun f (side other net.trace) = subst (NeverBegun f) (sym part.1) (never-begun (net.start other) f part.0 past state context (subst (AreReplies (net.start other)) part.1 legal-far) lives unknown) in
-      never-peers (length net.trace) net is engine other facing.is_far facing.is_near d f (local_id d) (omega arith) (record {
+      let never-f : NeverBegun f (side other net.trace) =
+      subst (NeverBegun f) (sym part.1) (never-begun (net.start other) f part.0 past state context
+      (subst (AreReplies (net.start other)) part.1 legal-far) lives unknown) in
+      never-peers (length net.trace) net is engine other facing.is_far facing.is_near d f (local_id d) (omega arith)
+      (record {
         is_named = own-name d facing.is_short;
         never_here = facing.never_begun;
         never_there = never-f;
@@ -145,27 +158,34 @@ module _ (net : Net) (is : IsNet net) (facing : Facing net) where
       })
 
   -- and stays
-  f-peer : (past : Past) (peer : List ℕ) → IsIn past (side other net.trace) → HasPeer peer (life f past) → peer ≡ local_id d
+  f-peer : (past : Past) (peer : List ℕ) → IsIn past (side other net.trace) → HasPeer peer (life f past)
+      → peer ≡ local_id d
   f-peer past peer part has =
       same-peer (local_id d) peer (life f (side other net.trace)) facing.is_peered
-      (subst (λ (w : Past). HasPeer peer (life f w)) (sym part.1) (peer-stays (net.start other) f peer part.0 past (subst (AreReplies (net.start other)) part.1 legal-far) has))
+      (subst (λ (w : Past). HasPeer peer (life f w)) (sym part.1)
+      (peer-stays (net.start other) f peer part.0 past (subst (AreReplies (net.start other)) part.1 legal-far) has))
 
   -- it began none
-  f-begins : (past : Past) (sender : Pair) (m : Message) → IsIn past (side other net.trace) → AreReplies (net.start other) (sender ∷ past) → is_accepted sender.answer ≡ true → IsAnyBegin m → (sent : SentAs past sender.event m) → sent.dialogue ≡ f → ⊥
+  f-begins : (past : Past) (sender : Pair) (m : Message) → IsIn past (side other net.trace)
+      → AreReplies (net.start other) (sender ∷ past) → is_accepted sender.answer ≡ true → IsAnyBegin m
+      → (sent : SentAs past sender.event m) → sent.dialogue ≡ f → ⊥
   f-begins past sender m part legal accepted begins sent same = go (peer_of sent.state) refl
     where
       h : History
       h = record { start = net.start other; pairs = past }
 
       asks : IsBeginRequest sent.request
-      asks = begin-request (standing_of sent.dialogue past sent.state sent.context) sent.request (subst IfAnyBegin (sym sent.is_asked) begins)
+      asks = begin-request (standing_of sent.dialogue past sent.state sent.context) sent.request
+          (subst IfAnyBegin (sym sent.is_asked) begins)
 
       taken : is_accepted (reply h (Event.on_dialogue sent.dialogue sent.request)) ≡ true
-      taken = ap (λ (e : Event). is_accepted (reply h e)) (sym sent.is_event) ∙ (ap is_accepted (sym legal.1) ∙ accepted)
+      taken = ap (λ (e : Event). is_accepted (reply h e)) (sym sent.is_event)
+          ∙ (ap is_accepted (sym legal.1) ∙ accepted)
 
       go : (known : Option (List ℕ)) → peer_of sent.state ≡ known → ⊥
       go None e = f-known past sent.state sent.context part (ap (λ (x : ℕ). life x past) (sym same) ∙ sent.is_life) e
-      go (Some peer) e = no-begin h sent.dialogue peer sent.state sent.context sent.is_life e sent.request taken asks.0 asks.1 asks.2
+      go (Some peer) e = no-begin h sent.dialogue peer sent.state sent.context sent.is_life e sent.request taken asks.0
+          asks.1 asks.2
 
   -- ---- an Invoke that is told in it
 
@@ -174,10 +194,12 @@ module _ (net : Net) (is : IsNet net) (facing : Facing net) where
 
   module _ (told_invoke : ToldInvoke other (Some f) net.trace) where
     abbrev told : Output
-    told = Output.component (ComponentIndication.invoked (Some f) told_invoke.id told_invoke.linked told_invoke.code told_invoke.parameter)
+    told = Output.component (ComponentIndication.invoked (Some f) told_invoke.id told_invoke.linked told_invoke.code
+        told_invoke.parameter)
 
     pub invoke-told : Carried net other told_invoke.before told_invoke.pair.event told
-    invoke-told = carried net is other told_invoke.pair told_invoke.before told_invoke.happens told told_invoke.tells (IsOfComponent.invoke (Some f) told_invoke.id told_invoke.linked told_invoke.code told_invoke.parameter)
+    invoke-told = carried net is other told_invoke.pair told_invoke.before told_invoke.happens told told_invoke.tells
+        (IsOfComponent.invoke (Some f) told_invoke.id told_invoke.linked told_invoke.code told_invoke.parameter)
 
     abbrev x : ℕ
     x = invoke-told.sent.dialogue
@@ -189,76 +211,108 @@ module _ (net : Net) (is : IsNet net) (facing : Facing net) where
     stands = happens-stands other told_invoke.pair told_invoke.before net.trace told_invoke.happens
 
     legal-here : AreReplies (net.start other) (told_invoke.pair ∷ side other told_invoke.before)
-    legal-here = legal-before (net.start other) stands.later (told_invoke.pair ∷ side other told_invoke.before) (subst (AreReplies (net.start other)) stands.is_past legal-far)
+    legal-here = legal-before (net.start other) stands.later (told_invoke.pair ∷ side other told_invoke.before)
+        (subst (AreReplies (net.start other)) stands.is_past legal-far)
 
-    placed : IsNamedBy invoke-told.told.bytes f ⊎ (is_that f (born_on_message (reply h (Event.received invoke-told.told.bytes))) ≡ true)
-    placed = reply-placed h legal-here.2 invoke-told.told.bytes told (subst (λ (e : Event). Tells (reply h e) told) invoke-told.told.is_event (subst (λ (a : Answer). Tells a told) legal-here.1 told_invoke.tells))
+    placed : IsNamedBy invoke-told.told.bytes f ⊎ (is_that f
+        (born_on_message (reply h (Event.received invoke-told.told.bytes))) ≡ true)
+    placed = reply-placed h legal-here.2 invoke-told.told.bytes told
+        (subst (λ (e : Event). Tells (reply h e) told) invoke-told.told.is_event
+        (subst (λ (a : Answer). Tells a told) legal-here.1 told_invoke.tells))
 
     -- it gives birth to the dialogue
     by-birth : is_that f (born_on_message (reply h (Event.received invoke-told.told.bytes))) ≡ true → x ≡ d
     by-birth birth =
         let born : is_birth_of f told_invoke.pair ≡ true =
         ap (λ (e : Event). is_that f (born_of e told_invoke.pair.answer)) invoke-told.told.is_event
-        ∙ (ap (λ (a : Answer). is_that f (born_on_message a)) (legal-here.1 ∙ ap (reply h) invoke-told.told.is_event) ∙ birth) in
-        let begun : IsBegun f invoke-told.told.bytes told_invoke.pair (side other told_invoke.before) = birth-begun (net.start other) f told_invoke.pair (side other told_invoke.before) legal-here born invoke-told.told.bytes invoke-told.told.is_event in
-        let from-d : begun.origin ≡ local_id d = f-peer (told_invoke.pair ∷ side other told_invoke.before) begun.origin (stands.later, stands.is_past) begun.has_peer in
+        ∙ (ap (λ (a : Answer). is_that f (born_on_message a)) (legal-here.1 ∙ ap (reply h) invoke-told.told.is_event)
+        ∙ birth) in
+        let begun : IsBegun f invoke-told.told.bytes told_invoke.pair (side other told_invoke.before) =
+        birth-begun (net.start other) f told_invoke.pair (side other told_invoke.before) legal-here born
+        invoke-told.told.bytes invoke-told.told.is_event in
+        let from-d : begun.origin ≡ local_id d =
+        f-peer (told_invoke.pair ∷ side other told_invoke.before) begun.origin (stands.later, stands.is_past)
+        begun.has_peer in
         let m : Message = Message.begin begun.origin begun.portion begun.components in
         let there : History = record { start = net.start (far other); pairs = invoke-told.past } in
-        let sent : SentAs invoke-told.past invoke-told.sender.event m = sent-as there invoke-told.told.bytes m (frame_takes invoke-told.told.bytes m begun.is_begin) tt invoke-told.sender.event (subst (λ (a : Answer). Tells a (Output.send invoke-told.told.bytes)) invoke-told.is_legal.1 invoke-told.tells) in
-        let events : Event.on_dialogue x invoke-told.sent.request ≡ Event.on_dialogue sent.dialogue sent.request = sym invoke-told.sent.is_event ∙ sent.is_event in
+        let sent : SentAs invoke-told.past invoke-told.sender.event m =
+        sent-as there invoke-told.told.bytes m (frame_takes invoke-told.told.bytes m begun.is_begin) tt
+        invoke-told.sender.event (subst (λ (a : Answer). Tells a (Output.send invoke-told.told.bytes))
+        invoke-told.is_legal.1 invoke-told.tells) in
+        let events : Event.on_dialogue x invoke-told.sent.request ≡ Event.on_dialogue sent.dialogue sent.request =
+        sym invoke-told.sent.is_event ∙ sent.is_event in
         let same : x ≡ sent.dialogue = cc in
-        let sent_short = born-short (net.start (far other)) invoke-told.past sent.dialogue (is.is_legal (far other)).0 invoke-told.is_legal.2 (λ unborn. let not : Life.standing sent.state sent.context ≡ Life.unborn = sym sent.is_life ∙ unborn in absurd cc) in
+        let sent_short = born-short (net.start (far other)) invoke-told.past sent.dialogue (is.is_legal (far other)).0
+        invoke-told.is_legal.2 (λ unborn. let not : Life.standing sent.state sent.context ≡ Life.unborn =
+        sym sent.is_life ∙ unborn in absurd cc) in
         same ∙ same-id sent.dialogue d sent_short facing.is_short (sym sent.source ∙ from-d)
 
     -- it names the dialogue: what the sender heard of that it heard by a Continue
-    module _ (octets : List ℕ) (names-f : dialogue_named octets ≡ Some f) (heard : HeardOf x octets invoke-told.past) where
-      at : IsAt (far other) heard.pair heard.before told_invoke.before
-      at = stands-happens (far other) heard.pair heard.before told_invoke.before (stands-before heard.pair invoke-told.sender heard.before invoke-told.past (side (far other) told_invoke.before) heard.stands invoke-told.stands)
+    module _ (octets : List ℕ) (names-f : dialogue_named octets ≡ Some f) (heard : HeardOf x octets invoke-told.past)
+      where
+        at : IsAt (far other) heard.pair heard.before told_invoke.before
+        at = stands-happens (far other) heard.pair heard.before told_invoke.before
+            (stands-before heard.pair invoke-told.sender heard.before invoke-told.past
+            (side (far other) told_invoke.before) heard.stands invoke-told.stands)
 
-      abbrev first : Net
-      first = record { start = net.start; trace = told_invoke.before }
+        abbrev first : Net
+        first = record { start = net.start; trace = told_invoke.before }
 
-      from : (m : Message) → frame_at heard.hears.bytes ≡ Ok m → IsNoAbort m → FarSender first (far other) at.before m
-      from m e no_abort = far-sender first (net-before net is other told_invoke.pair told_invoke.before told_invoke.happens) (far other) heard.pair at.before at.happens heard.hears.bytes m heard.hears.is_event (frame_takes heard.hears.bytes m e) no_abort
+        from : (m : Message) → frame_at heard.hears.bytes ≡ Ok m → IsNoAbort m → FarSender first (far other) at.before m
+        from m e no_abort = far-sender first (net-before net is other told_invoke.pair told_invoke.before
+            told_invoke.happens) (far other) heard.pair at.before at.happens heard.hears.bytes m heard.hears.is_event
+            (frame_takes heard.hears.bytes m e) no_abort
 
-      module _ (m : Message) (s : FarSender first (far other) at.before m) where
-        part : IsIn s.past (side other net.trace)
-        part =
-            in-in s.past (side other at.before) (side other net.trace)
-            (stands-in s.sender s.past (side other at.before) (subst (λ (e : Engine). StandsIn s.sender s.past (side e at.before)) twice s.stands))
-            (in-in (side other at.before) (side other told_invoke.before) (side other net.trace) (happens-rest other (far other) heard.pair at.before told_invoke.before at.happens) (happens-rest other other told_invoke.pair told_invoke.before net.trace told_invoke.happens))
+        module _ (m : Message) (s : FarSender first (far other) at.before m) where
+          part : IsIn s.past (side other net.trace)
+          part =
+              in-in s.past (side other at.before) (side other net.trace)
+              (stands-in s.sender s.past (side other at.before)
+              (subst (λ (e : Engine). StandsIn s.sender s.past (side e at.before)) twice s.stands))
+              (in-in (side other at.before) (side other told_invoke.before) (side other net.trace)
+              (happens-rest other (far other) heard.pair at.before told_invoke.before at.happens)
+              (happens-rest other other told_invoke.pair told_invoke.before net.trace told_invoke.happens))
 
-        legal-there : AreReplies (net.start other) (s.sender ∷ s.past)
-        legal-there = subst (λ (e : Engine). AreReplies (net.start e) (s.sender ∷ s.past)) twice s.is_legal
+          legal-there : AreReplies (net.start other) (s.sender ∷ s.past)
+          legal-there = subst (λ (e : Engine). AreReplies (net.start e) (s.sender ∷ s.past)) twice s.is_legal
 
-        is-f : octets ≡ local_id s.sent.dialogue → s.sent.dialogue ≡ f
-        is-f source =
-            let sent_short = born-short (net.start other) s.past s.sent.dialogue (is.is_legal other).0 legal-there.2 (λ unborn. let not : Life.standing s.sent.state s.sent.context ≡ Life.unborn = sym s.sent.is_life ∙ unborn in absurd cc) in
-            let some : Some s.sent.dialogue ≡ Some f = sym (own-name s.sent.dialogue sent_short) ∙ (ap dialogue_named (sym source) ∙ names-f) in
-            cc
+          is-f : octets ≡ local_id s.sent.dialogue → s.sent.dialogue ≡ f
+          is-f source =
+              let sent_short = born-short (net.start other) s.past s.sent.dialogue (is.is_legal other).0 legal-there.2
+              (λ unborn. let not : Life.standing s.sent.state s.sent.context ≡ Life.unborn =
+              sym s.sent.is_life ∙ unborn in absurd cc) in
+              let some : Some s.sent.dialogue ≡ Some f =
+              sym (own-name s.sent.dialogue sent_short) ∙ (ap dialogue_named (sym source) ∙ names-f) in
+              cc
 
-      by-heard : x ≡ d
-      by-heard = elim heard.hears.how [
-        | inl begun ↦
-            let b = begun.2 in
-            let m : Message = Message.begin octets b.0 b.1 in
-            let s : FarSender first (far other) at.before m = from m b.2 tt in
-            absurd (f-begins s.past s.sender m (part m s) (legal-there m s) s.accepted tt s.sent (is-f m s s.sent.source))
-        | inr continued ↦
-            let c = continued.3 in
-            let m : Message = Message.go_on octets c.0 c.1 c.2 in
-            let s : FarSender first (far other) at.before m = from m c.3 tt in
-            let has : HasPeer c.0 (life f s.past) = subst (λ (y : ℕ). HasPeer c.0 (life y s.past)) (is-f m s s.sent.source.0) (subst (HasPeer c.0) (sym s.sent.is_life) s.sent.source.1) in
-            let to-d : c.0 ≡ local_id d = f-peer s.past c.0 (part m s) has in
-            let to-x : dialogue_named c.0 ≡ Some x = continue-names x heard.hears.bytes octets c.0 c.2 c.1 continued.2 c.3 in
-            let some : Some x ≡ Some d = sym to-x ∙ (ap dialogue_named to-d ∙ own-name d facing.is_short) in
-            cc
-      ]
+        by-heard : x ≡ d
+        by-heard = elim heard.hears.how [
+          | inl begun ↦
+              let b = begun.2 in
+              let m : Message = Message.begin octets b.0 b.1 in
+              let s : FarSender first (far other) at.before m = from m b.2 tt in
+              absurd (f-begins s.past s.sender m (part m s) (legal-there m s) s.accepted tt s.sent
+              (is-f m s s.sent.source))
+          | inr continued ↦
+              let c = continued.3 in
+              let m : Message = Message.go_on octets c.0 c.1 c.2 in
+              let s : FarSender first (far other) at.before m = from m c.3 tt in
+              let has : HasPeer c.0 (life f s.past) =
+              subst (λ (y : ℕ). HasPeer c.0 (life y s.past)) (is-f m s s.sent.source.0)
+              (subst (HasPeer c.0) (sym s.sent.is_life) s.sent.source.1) in
+              let to-d : c.0 ≡ local_id d = f-peer s.past c.0 (part m s) has in
+              let to-x : dialogue_named c.0 ≡ Some x =
+              continue-names x heard.hears.bytes octets c.0 c.2 c.1 continued.2 c.3 in
+              let some : Some x ≡ Some d = sym to-x ∙ (ap dialogue_named to-d ∙ own-name d facing.is_short) in
+              cc
+        ]
 
     by-name : IsNamedBy invoke-told.told.bytes f → x ≡ d
     by-name named =
-        let to = destined-octets f (destination invoke-told.told.message) (named-destined f invoke-told.told.bytes invoke-told.told.message invoke-told.told.spelled named) in
-        by-heard to.0 to.2 (peer-heard x to.0 invoke-told.past (subst (IsPeered to.0) (sym invoke-told.sent.is_life) (invoke-told.sent.takes.to_peer to.0 to.1)))
+        let to = destined-octets f (destination invoke-told.told.message)
+        (named-destined f invoke-told.told.bytes invoke-told.told.message invoke-told.told.spelled named) in
+        by-heard to.0 to.2 (peer-heard x to.0 invoke-told.past
+        (subst (IsPeered to.0) (sym invoke-told.sent.is_life) (invoke-told.sent.takes.to_peer to.0 to.1)))
 
     pub invoke-from : invoke-told.sent.dialogue ≡ d
     invoke-from = elim placed [ inl named ↦ by-name named | inr birth ↦ by-birth birth ]

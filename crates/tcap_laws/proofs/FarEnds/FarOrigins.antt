@@ -47,13 +47,17 @@ use Rattle.tcap_laws.proofs.ListLemmas.{one-of}
 abbrev component_told : Output → Option ComponentParts
 component_told (Output.send bytes) = None
 component_told (Output.dialogue indication) = None
-component_told (Output.component (ComponentIndication.invoked dialogue id linked code parameter)) = Some (invoke id linked code parameter)
+component_told (Output.component (ComponentIndication.invoked dialogue id linked code parameter)) =
+    Some (invoke id linked code parameter)
 component_told (Output.component (ComponentIndication.result_more dialogue number id body)) = Some (result_more id body)
 component_told (Output.component (ComponentIndication.local_reject dialogue id problem)) = None
 component_told (Output.component (ComponentIndication.remote_reject dialogue id problem by)) = None
-component_told (Output.component (ComponentIndication.closed dialogue number id (Closing.result_last body))) = Some (result_last id body)
-component_told (Output.component (ComponentIndication.closed dialogue number id (Closing.error_back code parameter))) = Some (error_back id code parameter)
-component_told (Output.component (ComponentIndication.closed dialogue number id (Closing.rejected problem by))) = Some (reject_back (Some id) problem)
+component_told (Output.component (ComponentIndication.closed dialogue number id (Closing.result_last body))) =
+    Some (result_last id body)
+component_told (Output.component (ComponentIndication.closed dialogue number id (Closing.error_back code parameter))) =
+    Some (error_back id code parameter)
+component_told (Output.component (ComponentIndication.closed dialogue number id (Closing.rejected problem by))) =
+    Some (reject_back (Some id) problem)
 component_told (Output.component (ComponentIndication.closed dialogue number id Closing.lapsed)) = None
 component_told (Output.component (ComponentIndication.closed dialogue number id Closing.ended)) = None
 component_told (Output.component (ComponentIndication.closed dialogue number id Closing.given_up)) = None
@@ -66,27 +70,32 @@ stands-told _ _ (StandsFor.a_result_last dialogue number id body) = refl
 stands-told _ _ (StandsFor.an_error dialogue number id code parameter) = refl
 stands-told _ _ (StandsFor.a_reject dialogue number id problem) = refl
 
-answer-told : {dialogue number : ℕ} {id : ℤ} {output : Output} {request : Request} → IsAnswer dialogue number id output request → component_told output ≡ component_of request
+answer-told : {dialogue number : ℕ} {id : ℤ} {output : Output} {request : Request}
+    → IsAnswer dialogue number id output request → component_told output ≡ component_of request
 answer-told (IsAnswer.a_result_last body) = refl
 answer-told (IsAnswer.a_result_more body) = refl
 answer-told (IsAnswer.an_error code parameter) = refl
 answer-told (IsAnswer.a_reject problem) = refl
 
-pub answer-indicates : {dialogue number : ℕ} {id : ℤ} {output : Output} {request : Request} → IsAnswer dialogue number id output request → IsOfComponent output
+pub answer-indicates : {dialogue number : ℕ} {id : ℤ} {output : Output} {request : Request}
+    → IsAnswer dialogue number id output request → IsOfComponent output
 answer-indicates (IsAnswer.a_result_last body) = IsOfComponent.result_last _ _ _ body
 answer-indicates (IsAnswer.a_result_more body) = IsOfComponent.result_more _ _ _ body
 answer-indicates (IsAnswer.an_error code parameter) = IsOfComponent.error_back _ _ _ code parameter
 answer-indicates (IsAnswer.a_reject problem) = IsOfComponent.rejected _ _ _ problem
 
-answer-named : (bytes : List ℕ) {dialogue number : ℕ} {id : ℤ} {output : Output} {request : Request} → IsAnswer dialogue number id output request → Fair bytes output → IsNamedBy bytes dialogue
+answer-named : (bytes : List ℕ) {dialogue number : ℕ} {id : ℤ} {output : Output} {request : Request}
+    → IsAnswer dialogue number id output request → Fair bytes output → IsNamedBy bytes dialogue
 answer-named bytes (IsAnswer.a_result_last body) fair = fair
 answer-named bytes (IsAnswer.a_result_more body) fair = fair
 answer-named bytes (IsAnswer.an_error code parameter) fair = fair
 answer-named bytes (IsAnswer.a_reject problem) fair = fair.0
 
 -- a Reject that is told as the far user's has no problem of the component sublayer
-answer-by-user : (bytes : List ℕ) {dialogue number : ℕ} {id : ℤ} {output : Output} {request : Request} → IsAnswer dialogue number id output request → Fair bytes output
-    → (named : Option ℤ) (problem : ProblemParts) → component_of request ≡ Some (reject_back named problem) → is_by_provider problem ≡ false
+answer-by-user : (bytes : List ℕ) {dialogue number : ℕ} {id : ℤ} {output : Output} {request : Request}
+    → IsAnswer dialogue number id output request → Fair bytes output
+    → (named : Option ℤ) (problem : ProblemParts) → component_of request ≡ Some (reject_back named problem)
+    → is_by_provider problem ≡ false
 answer-by-user bytes (IsAnswer.a_result_last body) fair named problem e = absurd cc
 answer-by-user bytes (IsAnswer.a_result_more body) fair named problem e = absurd cc
 answer-by-user bytes (IsAnswer.an_error code parameter) fair named problem e = absurd cc
@@ -95,13 +104,18 @@ answer-by-user bytes (IsAnswer.a_reject told) fair named problem e =
     ap is_by_provider (sym same) ∙ fair.1
 
 -- it needs a peer
-answer-needs : (h : History) (far_dialogue : ℕ) (s : State) (c : Option (List ℕ)) → life far_dialogue h.pairs ≡ Life.standing s c
+answer-needs : (h : History) (far_dialogue : ℕ) (s : State) (c : Option (List ℕ))
+    → life far_dialogue h.pairs ≡ Life.standing s c
     → {dialogue number : ℕ} {id : ℤ} {output : Output} {request : Request} → IsAnswer dialogue number id output request
     → is_accepted (reply h (Event.on_dialogue far_dialogue request)) ≡ true → not (has_peer s) ≡ false
-answer-needs h d s c lives {request = request} (IsAnswer.a_result_last body) accepted = (none-due h d request s c lives accepted).1.0
-answer-needs h d s c lives {request = request} (IsAnswer.a_result_more body) accepted = (none-due h d request s c lives accepted).1.0
-answer-needs h d s c lives {request = request} (IsAnswer.an_error code parameter) accepted = (none-due h d request s c lives accepted).1.0
-answer-needs h d s c lives {request = request} (IsAnswer.a_reject problem) accepted = (none-due h d request s c lives accepted).1.0
+answer-needs h d s c lives {request = request} (IsAnswer.a_result_last body) accepted =
+    (none-due h d request s c lives accepted).1.0
+answer-needs h d s c lives {request = request} (IsAnswer.a_result_more body) accepted =
+    (none-due h d request s c lives accepted).1.0
+answer-needs h d s c lives {request = request} (IsAnswer.an_error code parameter) accepted =
+    (none-due h d request s c lives accepted).1.0
+answer-needs h d s c lives {request = request} (IsAnswer.a_reject problem) accepted =
+    (none-due h d request s c lives accepted).1.0
 
 some-peer : (s : State) → not (has_peer s) ≡ false → (peer : List ℕ) × (peer_of s ≡ Some peer)
 some-peer State.fresh e = absurd cc
@@ -119,57 +133,82 @@ as_request (reject_back id problem) = Request.component (ComponentRequest.u_reje
 as_request (result_more id body) = Request.component (ComponentRequest.result_more id body)
 
 -- every request of a component that is no Invoke
-request-as : (request : Request) (c : ComponentParts) → IsNoInvoke c → component_of request ≡ Some c → request ≡ as_request c
+request-as : (request : Request) (c : ComponentParts) → IsNoInvoke c → component_of request ≡ Some c
+    → request ≡ as_request c
 request-as (Request.component (ComponentRequest.invoke id class code parameter linked timeout)) c none e =
     let same : invoke id linked code parameter ≡ c = cc in absurd (subst IsNoInvoke (sym same) none)
-request-as (Request.component (ComponentRequest.result_last id body)) c none e = let same : result_last id body ≡ c = cc in ap as_request same
-request-as (Request.component (ComponentRequest.result_more id body)) c none e = let same : result_more id body ≡ c = cc in ap as_request same
-request-as (Request.component (ComponentRequest.error_back id code parameter)) c none e = let same : error_back id code parameter ≡ c = cc in ap as_request same
-request-as (Request.component (ComponentRequest.u_reject id problem)) c none e = let same : reject_back id problem ≡ c = cc in ap as_request same
+request-as (Request.component (ComponentRequest.result_last id body)) c none e = let same : result_last id body ≡ c =
+    cc in ap as_request same
+request-as (Request.component (ComponentRequest.result_more id body)) c none e = let same : result_more id body ≡ c =
+    cc in ap as_request same
+request-as (Request.component (ComponentRequest.error_back id code parameter)) c none e =
+    let same : error_back id code parameter ≡ c = cc in ap as_request same
+request-as (Request.component (ComponentRequest.u_reject id problem)) c none e = let same : reject_back id problem ≡ c =
+    cc in ap as_request same
 request-as (Request.component (ComponentRequest.u_cancel id)) c none e = absurd cc
 request-as (Request.dialogue asked) c none e = absurd cc
 
-answer-no-invoke : {dialogue number : ℕ} {id : ℤ} {output : Output} {request : Request} → IsAnswer dialogue number id output request → (c : ComponentParts) → component_of request ≡ Some c → IsNoInvoke c
-answer-no-invoke {id = id} (IsAnswer.a_result_last body) c e = let same : result_last id body ≡ c = cc in subst IsNoInvoke same tt
-answer-no-invoke {id = id} (IsAnswer.a_result_more body) c e = let same : result_more id body ≡ c = cc in subst IsNoInvoke same tt
-answer-no-invoke {id = id} (IsAnswer.an_error code parameter) c e = let same : error_back id code parameter ≡ c = cc in subst IsNoInvoke same tt
-answer-no-invoke {id = id} (IsAnswer.a_reject problem) c e = let same : reject_back (Some id) problem ≡ c = cc in subst IsNoInvoke same tt
+answer-no-invoke : {dialogue number : ℕ} {id : ℤ} {output : Output} {request : Request}
+    → IsAnswer dialogue number id output request → (c : ComponentParts) → component_of request ≡ Some c → IsNoInvoke c
+answer-no-invoke {id = id} (IsAnswer.a_result_last body) c e = let same : result_last id body ≡ c =
+    cc in subst IsNoInvoke same tt
+answer-no-invoke {id = id} (IsAnswer.a_result_more body) c e = let same : result_more id body ≡ c =
+    cc in subst IsNoInvoke same tt
+answer-no-invoke {id = id} (IsAnswer.an_error code parameter) c e = let same : error_back id code parameter ≡ c =
+    cc in subst IsNoInvoke same tt
+answer-no-invoke {id = id} (IsAnswer.a_reject problem) c e = let same : reject_back (Some id) problem ≡ c =
+    cc in subst IsNoInvoke same tt
 
 -- ---- the destination of bytes that name a dialogue
 
-pub named-destined : (dialogue : ℕ) (bytes : List ℕ) (m : Message) → SpellsFrame m bytes → IsNamedBy bytes dialogue → is_destined dialogue (destination m) ≡ true
+pub named-destined : (dialogue : ℕ) (bytes : List ℕ) (m : Message) → SpellsFrame m bytes → IsNamedBy bytes dialogue
+    → is_destined dialogue (destination m) ≡ true
 named-destined dialogue bytes m spelled named =
-    ap (λ r. is_destined dialogue (destination_by bytes r)) (sym (frame_again m bytes spelled)) ∙ within (nat_le (length bytes) message_limit) named
+    ap (λ r. is_destined dialogue (destination_by bytes r)) (sym (frame_again m bytes spelled))
+    ∙ within (nat_le (length bytes) message_limit) named
   where
-    within : (short : Bool) → named_within short dialogue bytes ≡ true → is_destined dialogue (destination_of bytes) ≡ true
+    within : (short : Bool) → named_within short dialogue bytes ≡ true
+        → is_destined dialogue (destination_of bytes) ≡ true
     within true e = e
     within false e = absurd cc
 
-pub destined-octets : (dialogue : ℕ) (to : Option (List ℕ)) → is_destined dialogue to ≡ true → (octets : List ℕ) × (to ≡ Some octets) × (dialogue_named octets ≡ Some dialogue)
+pub destined-octets : (dialogue : ℕ) (to : Option (List ℕ)) → is_destined dialogue to ≡ true
+    → (octets : List ℕ) × (to ≡ Some octets) × (dialogue_named octets ≡ Some dialogue)
 destined-octets dialogue None e = absurd cc
 destined-octets dialogue (Some octets) e = (octets, refl, that-is dialogue (dialogue_named octets) e)
 
 -- ---- the origin
 
 -- a request that was accepted on a dialogue which has a peer when the component is sent
-module _ (start : Start) (past : Past) (legal : AreReplies start past) (d : ℕ) (request : Request) (peer : List ℕ) (state : State) (context : Option (List ℕ)) (lives : life d past ≡ Life.standing state context) (is_peer : peer_of state ≡ Some peer) where
-  peer-then : (asked : Pair) (before : Past) → StandsIn asked before past → asked.event ≡ Event.on_dialogue d request → is_accepted asked.answer ≡ true →
-      ((s : State) (c : Option (List ℕ)) → life d before ≡ Life.standing s c → is_accepted (reply (record { start = start; pairs = before }) (Event.on_dialogue d request)) ≡ true → not (has_peer s) ≡ false) → peer_in (life d before) ≡ Some peer
+module _ (start : Start) (past : Past) (legal : AreReplies start past) (d : ℕ) (request : Request) (peer : List ℕ)
+    (state : State) (context : Option (List ℕ)) (lives : life d past ≡ Life.standing state context)
+    (is_peer : peer_of state ≡ Some peer) where
+  peer-then : (asked : Pair) (before : Past) → StandsIn asked before past → asked.event ≡ Event.on_dialogue d request
+      → is_accepted asked.answer ≡ true →
+      ((s : State) (c : Option (List ℕ)) → life d before ≡ Life.standing s c
+      → is_accepted (reply (record { start = start; pairs = before }) (Event.on_dialogue d request)) ≡ true
+      → not (has_peer s) ≡ false) → peer_in (life d before) ≡ Some peer
   peer-then asked before stands is accepted needs =
       let h : History = record { start = start; pairs = before } in
       let there = legal-before start stands.later (asked ∷ before) (subst (AreReplies start) stands.is_past legal) in
-      let taken : is_accepted (reply h (Event.on_dialogue d request)) ≡ true = ap (λ (e : Event). is_accepted (reply h e)) (sym is) ∙ (ap is_accepted (sym there.1) ∙ accepted) in
+      let taken : is_accepted (reply h (Event.on_dialogue d request)) ≡ true =
+      ap (λ (e : Event). is_accepted (reply h e)) (sym is) ∙ (ap is_accepted (sym there.1) ∙ accepted) in
       let parts = accepted-parts h d request (life d before) (due h d request) taken in
       let some = some-peer parts.0 (needs parts.0 parts.1 parts.2 taken) in
-      let between : past ≡ (stands.later ++ asked ∷ []) ++ before = stands.is_past ∙ sym (append_assoc stands.later (asked ∷ []) before) in
+      let between : past ≡ (stands.later ++ asked ∷ []) ++ before =
+      stands.is_past ∙ sym (append_assoc stands.later (asked ∷ []) before) in
       let has : HasPeer some.0 (life d before) = subst (HasPeer some.0) (sym parts.2) some.1 in
-      let kept : HasPeer some.0 (life d past) = subst (λ (p : Past). HasPeer some.0 (life d p)) (sym between) (peer-stays start d some.0 (stands.later ++ asked ∷ []) before (subst (AreReplies start) between legal) has) in
+      let kept : HasPeer some.0 (life d past) =
+      subst (λ (p : Past). HasPeer some.0 (life d p)) (sym between)
+      (peer-stays start d some.0 (stands.later ++ asked ∷ []) before (subst (AreReplies start) between legal) has)
+      in
       let then : peer_of state ≡ Some some.0 = subst (HasPeer some.0) lives kept in
       ap peer_in parts.2 ∙ (some.1 ∙ (sym then ∙ is_peer))
 
 module _ (net : Net) (is : IsNet net) (answer : FarAnswer net.trace) where
   it : Carried net answer.engine answer.before answer.pair.event answer.output
-  it = carried net is answer.engine answer.pair answer.before answer.happens answer.output answer.tells (answer-indicates answer.is_answer)
+  it = carried net is answer.engine answer.pair answer.before answer.happens answer.output answer.tells
+      (answer-indicates answer.is_answer)
 
   abbrev d : ℕ
   d = it.sent.dialogue
@@ -181,11 +220,18 @@ module _ (net : Net) (is : IsNet net) (answer : FarAnswer net.trace) where
   legal-here : AreReplies (net.start answer.engine) (answer.pair ∷ side answer.engine answer.before)
   legal-here =
       let stands = happens-stands answer.engine answer.pair answer.before net.trace answer.happens in
-      legal-before (net.start answer.engine) stands.later (answer.pair ∷ side answer.engine answer.before) (subst (AreReplies (net.start answer.engine)) stands.is_past (is.is_legal answer.engine).1)
+      legal-before (net.start answer.engine) stands.later (answer.pair ∷ side answer.engine answer.before)
+      (subst (AreReplies (net.start answer.engine)) stands.is_past (is.is_legal answer.engine).1)
 
   fair : Fair it.told.bytes answer.output
-  fair = reply-fair (record { start = net.start answer.engine; pairs = side answer.engine answer.before }) legal-here.2 it.told.bytes answer.output
-      (subst (λ (e : Event). Tells (reply (record { start = net.start answer.engine; pairs = side answer.engine answer.before }) e) answer.output) it.told.is_event (subst (λ (a : Answer). Tells a answer.output) legal-here.1 answer.tells))
+  fair = reply-fair (record { start = net.start answer.engine; pairs = side answer.engine answer.before }) legal-here.2
+      it.told.bytes answer.output
+      (subst (λ (e : Event). Tells (reply (record {
+        start = net.start answer.engine;
+        pairs =
+            side answer.engine answer.before;
+      }) e) answer.output) it.told.is_event
+      (subst (λ (a : Answer). Tells a answer.output) legal-here.1 answer.tells))
 
   octets-here : are_octets it.told.bytes ≡ true
   octets-here = subst (λ (e : Event). is_in_range e ≡ true) it.told.is_event legal-here.0
@@ -194,8 +240,11 @@ module _ (net : Net) (is : IsNet net) (answer : FarAnswer net.trace) where
   far-peer : peer_of it.sent.state ≡ Some (local_id answer.dialogue)
   far-peer =
       let m : Message = it.told.message in
-      let to = destined-octets answer.dialogue (destination m) (named-destined answer.dialogue it.told.bytes m it.told.spelled (answer-named it.told.bytes answer.is_answer fair)) in
-      let range = destination-octets m to.0 (subst (λ (w : List ℕ). are_octets w ≡ true) it.sent.is_written octets-here) to.1 in
+      let to = destined-octets answer.dialogue (destination m)
+      (named-destined answer.dialogue it.told.bytes m it.told.spelled
+      (answer-named it.told.bytes answer.is_answer fair)) in
+      let range = destination-octets m to.0 (subst (λ (w : List ℕ). are_octets w ≡ true) it.sent.is_written octets-here)
+      to.1 in
       it.sent.takes.to_peer to.0 to.1 ∙ ap (λ (w : List ℕ). Some w) (octets-of answer.dialogue to.0 range to.2)
 
   source : ComesFrom d it.past it.told.component
@@ -217,36 +266,57 @@ module _ (net : Net) (is : IsNet net) (answer : FarAnswer net.trace) where
       elim (sent-from h legal sent) [
         | inl none ↦ absurd (some_components it.told none)
         | inr one ↦
-            let events : Event.on_dialogue one.dialogue one.request ≡ Event.on_dialogue d it.sent.request = sym one.is_event ∙ it.sent.is_event in
+            let events : Event.on_dialogue one.dialogue one.request ≡ Event.on_dialogue d it.sent.request =
+            sym one.is_event ∙ it.sent.is_event in
             let same : one.dialogue ≡ d = cc in
-            subst (λ (x : ℕ). ComesFrom x it.past it.told.component) same (one-of (ComesFrom one.dialogue it.past) it.told.earlier it.told.later it.told.component one.each)
+            subst (λ (x : ℕ). ComesFrom x it.past it.told.component) same
+            (one-of (ComesFrom one.dialogue it.past) it.told.earlier it.told.later it.told.component one.each)
       ]
 
   from-request : WasRequested d it.told.component it.past → FarSource answer
   from-request was =
       let none = answer-no-invoke answer.is_answer it.told.component is_component in
-      let same : was.request ≡ answer.request = request-as was.request it.told.component none was.is_component ∙ sym (request-as answer.request it.told.component none is_component) in
-      let is_event : was.pair.event ≡ Event.on_dialogue d answer.request = was.is_event ∙ ap (λ (r : Request). Event.on_dialogue d r) same in
-      let at = stands-happens (far answer.engine) was.pair was.before answer.before (stands-before was.pair it.sender was.before it.past (side (far answer.engine) answer.before) was.stands it.stands) in
-      let peer = peer-then (net.start (far answer.engine)) it.past it.is_legal.2 d answer.request (local_id answer.dialogue) it.sent.state it.sent.context it.sent.is_life far-peer was.pair was.before was.stands is_event was.accepted
-      (λ s c lives accepted. answer-needs (record { start = net.start (far answer.engine); pairs = was.before }) d s c lives answer.is_answer accepted) in
+      let same : was.request ≡ answer.request =
+      request-as was.request it.told.component none was.is_component
+      ∙ sym (request-as answer.request it.told.component none is_component) in
+      let is_event : was.pair.event ≡ Event.on_dialogue d answer.request =
+      was.is_event ∙ ap (λ (r : Request). Event.on_dialogue d r) same in
+      let at = stands-happens (far answer.engine) was.pair was.before answer.before
+      (stands-before was.pair it.sender was.before it.past (side (far answer.engine) answer.before) was.stands
+      it.stands) in
+      let peer = peer-then (net.start (far answer.engine)) it.past it.is_legal.2 d answer.request
+      (local_id answer.dialogue) it.sent.state it.sent.context it.sent.is_life far-peer was.pair was.before
+      was.stands is_event was.accepted
+      (λ s c lives accepted. answer-needs (record { start = net.start (far answer.engine); pairs = was.before }) d s c
+      lives answer.is_answer accepted) in
       record {
         pair = was.pair;
         before = at.before;
         happens = at.happens;
-        is_request = record { far_dialogue = d; is_event = is_event; accepted = was.accepted; is_peer = ap (λ (p : Past). peer_in (life d p)) at.is_side ∙ peer };
+        is_request = record {
+          far_dialogue = d;
+          is_event = is_event;
+          accepted = was.accepted;
+          is_peer =
+              ap (λ (p : Past). peer_in (life d p)) at.is_side ∙ peer;
+        };
       }
 
   -- a Reject that was formed by the far component sublayer has a problem of that
   not-formed : WasFormed d it.told.component it.past → ⊥
   not-formed was =
-      let there = legal-before (net.start (far answer.engine)) was.stands.later (was.pair ∷ was.before) (subst (AreReplies (net.start (far answer.engine))) was.stands.is_past it.is_legal.2) in
+      let there = legal-before (net.start (far answer.engine)) was.stands.later (was.pair ∷ was.before)
+      (subst (AreReplies (net.start (far answer.engine))) was.stands.is_past it.is_legal.2) in
       let h : History = record { start = net.start (far answer.engine); pairs = was.before } in
-      let told = reply-fair h there.2 was.bytes was.output (subst (λ (e : Event). Tells (reply h e) was.output) was.is_event (subst (λ (a : Answer). Tells a was.output) there.1 was.tells)) in
-      let by_user = answer-by-user it.told.bytes answer.is_answer fair was.id was.problem (is_component ∙ ap (λ (c : ComponentParts). Some c) was.is_component) in
+      let told = reply-fair h there.2 was.bytes was.output
+      (subst (λ (e : Event). Tells (reply h e) was.output) was.is_event
+      (subst (λ (a : Answer). Tells a was.output) there.1 was.tells)) in
+      let by_user = answer-by-user it.told.bytes answer.is_answer fair was.id was.problem
+      (is_component ∙ ap (λ (c : ComponentParts). Some c) was.is_component) in
       true≢false (sym (by-provider was.bytes was.output was.id was.problem was.is_told told) ∙ by_user)
     where
-      by-provider : (bytes : List ℕ) (told : Output) (named : Option ℤ) (problem : ProblemParts) → IsLocalReject d named problem told → Fair bytes told → is_by_provider problem ≡ true
+      by-provider : (bytes : List ℕ) (told : Output) (named : Option ℤ) (problem : ProblemParts)
+          → IsLocalReject d named problem told → Fair bytes told → is_by_provider problem ≡ true
       by-provider bytes told named problem (inl local) told-fair = subst (Fair bytes) local told-fair
       by-provider bytes told named problem (inr closed) told-fair = subst (Fair bytes) closed.3 told-fair
 

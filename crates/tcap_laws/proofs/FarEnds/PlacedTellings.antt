@@ -51,7 +51,8 @@ PlacedClosing past dialogue number id (Closing.result_last body) = IsOf past dia
 PlacedClosing past dialogue number id (Closing.error_back code parameter) = IsOf past dialogue number id
 PlacedClosing past dialogue number id (Closing.rejected problem Rejector.local) = Unit {0}
 PlacedClosing past dialogue number id (Closing.rejected problem Rejector.remote_provider) = Unit {0}
-PlacedClosing past dialogue number id (Closing.rejected problem Rejector.remote_user) = IsOf past dialogue number id × RejectsInvoke problem.kind
+PlacedClosing past dialogue number id (Closing.rejected problem Rejector.remote_user) =
+    IsOf past dialogue number id × RejectsInvoke problem.kind
 PlacedClosing past dialogue number id Closing.lapsed = Unit {0}
 PlacedClosing past dialogue number id Closing.ended = Unit {0}
 PlacedClosing past dialogue number id Closing.given_up = Unit {0}
@@ -59,11 +60,14 @@ PlacedClosing past dialogue number id Closing.given_up = Unit {0}
 abbrev pub Placed : Past → List ℕ → Option ℕ → Output → Type 0
 Placed past bytes born (Output.send octets) = Unit {0}
 Placed past bytes born (Output.dialogue indication) = Unit {0}
-Placed past bytes born (Output.component (ComponentIndication.invoked dialogue id linked code parameter)) = IsPlaced bytes born dialogue
-Placed past bytes born (Output.component (ComponentIndication.result_more dialogue number id body)) = IsOf past dialogue number id
+Placed past bytes born (Output.component (ComponentIndication.invoked dialogue id linked code parameter)) =
+    IsPlaced bytes born dialogue
+Placed past bytes born (Output.component (ComponentIndication.result_more dialogue number id body)) =
+    IsOf past dialogue number id
 Placed past bytes born (Output.component (ComponentIndication.local_reject dialogue id problem)) = Unit {0}
 Placed past bytes born (Output.component (ComponentIndication.remote_reject dialogue id problem by)) = Unit {0}
-Placed past bytes born (Output.component (ComponentIndication.closed dialogue number id closing)) = PlacedClosing past dialogue number id closing
+Placed past bytes born (Output.component (ComponentIndication.closed dialogue number id closing)) =
+    PlacedClosing past dialogue number id closing
 Placed past bytes born (Output.dropped why) = Unit {0}
 
 -- ---- the invocation that a component is about
@@ -76,19 +80,26 @@ abbrev IsAbout : Past → Option ℤ → Option SentInvocation → Type 0
 IsAbout past None sent = Unit {0}
 IsAbout past (Some id) sent = IsHit past id sent
 
-sent-hit : (start : Start) (past : Past) → AreReplies start past → (dialogue : ℕ) (earlier : List Item) (id : ℤ) (o : Option Invocation) → latest dialogue id past ≡ o → IsHit past id (if_sent past earlier o)
+sent-hit : (start : Start) (past : Past) → AreReplies start past
+    → (dialogue : ℕ) (earlier : List Item) (id : ℤ) (o : Option Invocation) → latest dialogue id past ≡ o
+    → IsHit past id (if_sent past earlier o)
 sent-hit start past legal dialogue earlier id None e = tt
-sent-hit start past legal dialogue earlier id (Some i) e = go (is_sent_in i.class i.timeout (marks_up_to past earlier i))
+sent-hit start past legal dialogue earlier id (Some i) e =
+    go (is_sent_in i.class i.timeout (marks_up_to past earlier i))
   where
-    go : (b : Bool) → IsHit past id (cond b (Some (record { dialogue = i.dialogue; number = i.number; class = i.class })) None)
+    go : (b : Bool) → IsHit past id (cond b (Some
+        (record { dialogue = i.dialogue; number = i.number; class = i.class })) None)
     go true =
         let l : IsLatest dialogue id past i = latest_is start past dialogue id i legal e in
         record { invocation = i; dialogue_is = refl; number_is = refl; id_is = l.id_is; is_found = l.is_found }
     go false = tt
 
-sent-about : (start : Start) (past : Past) → AreReplies start past → (dialogue : ℕ) (earlier : List Item) (subject : Option ℤ) → IsAbout past subject (sent_there dialogue past earlier subject)
+sent-about : (start : Start) (past : Past) → AreReplies start past
+    → (dialogue : ℕ) (earlier : List Item) (subject : Option ℤ)
+    → IsAbout past subject (sent_there dialogue past earlier subject)
 sent-about start past legal dialogue earlier None = tt
-sent-about start past legal dialogue earlier (Some id) = sent-hit start past legal dialogue earlier id (latest dialogue id past) refl
+sent-about start past legal dialogue earlier (Some id) =
+    sent-hit start past legal dialogue earlier id (latest dialogue id past) refl
 
 none-about : (past : Past) (subject : Option ℤ) → IsAbout past subject None
 none-about past None = tt

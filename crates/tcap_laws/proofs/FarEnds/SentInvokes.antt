@@ -50,7 +50,8 @@ sent-next : (number : ℕ) (pair : Pair) (past : Past) → WasSent number past �
 sent-next number pair past was =
     let i : Invocation = was.invocation in
     let found : is_some (invocation_of i.number past) ≡ true = made_found number past i was.is_invocation in
-    let is_later : invocation_of number (pair ∷ past) ≡ Some i = invocation_stays number pair past i was.is_invocation in
+    let is_later : invocation_of number (pair ∷ past) ≡ Some i =
+    invocation_stays number pair past i was.is_invocation in
     elim (cases_Bool (is_reused i (pair ∷ past))) [
       | inl used ↦ record {
         invocation = i;
@@ -60,7 +61,8 @@ sent-next number pair past was =
       | inr unused ↦ record {
         invocation = i;
         is_invocation = is_later;
-        is_sent = ap (was_sent_in i.class i.timeout) (span_grows i pair past found unused) ∙ was_sent-more i.class i.timeout (span i past) (marks i.dialogue i.id pair past) was.is_sent;
+        is_sent = ap (was_sent_in i.class i.timeout) (span_grows i pair past found unused)
+            ∙ was_sent-more i.class i.timeout (span i past) (marks i.dialogue i.id pair past) was.is_sent;
       }
     ]
 
@@ -73,7 +75,9 @@ sent-later number (pair ∷ later) past was = sent-next number pair (later ++ pa
 answers-outputs : (answer : Answer) (output : Output) → Tells answer output → is_accepted answer ≡ true
 answers-outputs answer output tells = ap is_accepted tells.is_answer
 
-module _ (start : Start) (past : Past) (event : Event) (answer : Answer) (legal : AreReplies start past) (accepted : is_accepted answer ≡ true) (octets : List ℕ) (number dialogue : ℕ) (asked : IsAsked dialogue past octets number) where
+module _ (start : Start) (past : Past) (event : Event) (answer : Answer) (legal : AreReplies start past)
+    (accepted : is_accepted answer ≡ true) (octets : List ℕ) (number dialogue : ℕ)
+    (asked : IsAsked dialogue past octets number) where
   abbrev i : Invocation
   i = invocation_as number dialogue asked.id asked.class asked.timeout
 
@@ -89,21 +93,27 @@ module _ (start : Start) (past : Past) (event : Event) (answer : Answer) (legal 
   unused : invoked_by here ≡ None → is_reused i (here ∷ past) ≡ false
   unused none =
       reused_step i here past found
-      ∙ (ap (λ (b : Bool). b || is_invoked (has_id dialogue asked.id) (invoked_by here)) (unused_if_open start past number i legal asked.is_invocation undecided)
+      ∙ (ap (λ (b : Bool). b || is_invoked (has_id dialogue asked.id) (invoked_by here))
+      (unused_if_open start past number i legal asked.is_invocation undecided)
       ∙ ap (is_invoked (has_id dialogue asked.id)) none)
 
-  pub sent-here : (rest : List Mark) → invoked_by here ≡ None → marks dialogue asked.id here past ≡ noted_at_clock (clock past) (Mark.sent ∷ rest) → WasSent number (here ∷ past)
+  pub sent-here : (rest : List Mark) → invoked_by here ≡ None
+      → marks dialogue asked.id here past ≡ noted_at_clock (clock past) (Mark.sent ∷ rest)
+      → WasSent number (here ∷ past)
   sent-here rest none made = record {
     invocation = i;
     is_invocation = invocation_stays number here past i asked.is_invocation;
-    is_sent = ap (was_sent_in asked.class asked.timeout) (span_grows i here past found (unused none) ∙ ap (λ (w : List Noted). span i past ++ w) made)
-        ∙ was_sent-at asked.class asked.timeout (clock past) (span i past) (noted_at_clock (clock past) rest) asked.unsent.unclosed;
+    is_sent = ap (was_sent_in asked.class asked.timeout)
+        (span_grows i here past found (unused none) ∙ ap (λ (w : List Noted). span i past ++ w) made)
+        ∙ was_sent-at asked.class asked.timeout (clock past) (span i past) (noted_at_clock (clock past) rest)
+        asked.unsent.unclosed;
   }
 
 -- ---- the components of a queue
 
 -- an Invoke in a queue, with what was asked
-pub record HasSource (dialogue : ℕ) (past : Past) (id : ℤ) (linked : Option ℤ) (code : CodeParts) (parameter : Option (List ℕ)) : Type 0 where
+pub record HasSource (dialogue : ℕ) (past : Past) (id : ℤ) (linked : Option ℤ) (code : CodeParts)
+    (parameter : Option (List ℕ)) : Type 0 where
   pub octets : List ℕ
   pub number : ℕ
   pub asked : IsAsked dialogue past octets number
@@ -127,20 +137,37 @@ if-none dialogue past (reject_back id problem) none = tt
 if-none dialogue past (result_more id body) none = tt
 
 spelled-as : (octets : List ℕ) (c : ComponentParts) → IsWritten octets c → SpellsComponent c octets
-spelled-as octets c written = subst (λ (w : List ℕ). SpellsComponent c w) (sym written.is_octets) (component_spelled c written.in_range written.can)
+spelled-as octets c written =
+    subst (λ (w : List ℕ). SpellsComponent c w) (sym written.is_octets)
+    (component_spelled c written.in_range written.can)
 
 abbrev One : ℕ → Past → List ℕ → Type 0
 One dialogue past octets = (c : ComponentParts) × SpellsComponent c octets × IfInvoke dialogue past c
 
-one-waits : (dialogue : ℕ) (past : Past) (octets : List ℕ) (invoking : Option Invoking) → Waits dialogue past octets invoking → One dialogue past octets
-one-waits dialogue past octets None other = (other.component, spelled-as octets other.component other.written, if-none dialogue past other.component other.no_invoke)
+one-waits : (dialogue : ℕ) (past : Past) (octets : List ℕ) (invoking : Option Invoking)
+    → Waits dialogue past octets invoking → One dialogue past octets
+one-waits dialogue past octets None other = (
+  other.component,
+  spelled-as octets other.component other.written,
+  if-none dialogue past other.component other.no_invoke,
+)
 one-waits dialogue past octets (Some v) asked = (
   invoke asked.id asked.linked asked.code asked.parameter,
   spelled-as octets (invoke asked.id asked.linked asked.code asked.parameter) asked.written,
-  record { octets = octets; number = v.number; asked = asked; is_id = refl; is_linked = refl; is_code = refl; is_parameter = refl },
+  record {
+    octets = octets;
+    number = v.number;
+    asked = asked;
+    is_id = refl;
+    is_linked = refl;
+    is_code =
+        refl;
+    is_parameter = refl;
+  },
 )
 
-joined-waits : (dialogue : ℕ) (past : Past) (waits : List Queued) → AllWait dialogue past waits → (cs : List ComponentParts) × SpellsComponents cs (joined waits) × AllByRecursion (IfInvoke dialogue past) cs
+joined-waits : (dialogue : ℕ) (past : Past) (waits : List Queued) → AllWait dialogue past waits
+    → (cs : List ComponentParts) × SpellsComponents cs (joined waits) × AllByRecursion (IfInvoke dialogue past) cs
 joined-waits dialogue past [] all = ([], refl, tt)
 joined-waits dialogue past (q ∷ waits) all =
     let first = one-waits dialogue past q.octets q.invoking all.0 in
@@ -149,54 +176,77 @@ joined-waits dialogue past (q ∷ waits) all =
 
 -- ---- the Invoke that is told
 
-pub stands-for-invoke : (output : Output) (c : ComponentParts) → StandsFor output c → (dialogue : Option ℕ) (id : ℤ) (linked : Option ℤ) (code : CodeParts) (parameter : Option (List ℕ)) → output ≡ Output.component (ComponentIndication.invoked dialogue id linked code parameter) → c ≡ invoke id linked code parameter
+pub stands-for-invoke : (output : Output) (c : ComponentParts) → StandsFor output c
+    → (dialogue : Option ℕ) (id : ℤ) (linked : Option ℤ) (code : CodeParts) (parameter : Option (List ℕ))
+    → output ≡ Output.component (ComponentIndication.invoked dialogue id linked code parameter)
+    → c ≡ invoke id linked code parameter
 stands-for-invoke _ _ (StandsFor.an_invoke d i l k p) dialogue id linked code parameter e =
     let a : i ≡ id = cc in
     let b : l ≡ linked = cc in
     let c : k ≡ code = cc in
     let f : p ≡ parameter = cc in
-    ap (λ (x : ℤ). invoke x l k p) a ∙ (ap (λ (x : Option ℤ). invoke id x k p) b ∙ (ap (λ (x : CodeParts). invoke id linked x p) c ∙ ap (λ (x : Option (List ℕ)). invoke id linked code x) f))
+    ap (λ (x : ℤ). invoke x l k p) a ∙ (ap (λ (x : Option ℤ). invoke id x k p) b
+    ∙ (ap (λ (x : CodeParts). invoke id linked x p) c ∙ ap (λ (x : Option (List ℕ)). invoke id linked code x) f))
 stands-for-invoke _ _ (StandsFor.a_result_more d n i body) dialogue id linked code parameter e = absurd cc
 stands-for-invoke _ _ (StandsFor.a_result_last d n i body) dialogue id linked code parameter e = absurd cc
 stands-for-invoke _ _ (StandsFor.an_error d n i k p) dialogue id linked code parameter e = absurd cc
 stands-for-invoke _ _ (StandsFor.a_reject d n i problem) dialogue id linked code parameter e = absurd cc
 
-module _ (net : Net) (is : IsNet net) (engine : Engine) (pair : Pair) (before : Trace) (happens : Happens engine pair before net.trace) where
-  pub source : (output : Output) (it : Carried net engine before pair.event output) (id : ℤ) (linked : Option ℤ) (code : CodeParts) (parameter : Option (List ℕ)) → it.told.component ≡ invoke id linked code parameter →
+module _ (net : Net) (is : IsNet net) (engine : Engine) (pair : Pair) (before : Trace)
+    (happens : Happens engine pair before net.trace) where
+  pub source : (output : Output) (it : Carried net engine before pair.event output) (id : ℤ) (linked : Option ℤ)
+      (code : CodeParts) (parameter : Option (List ℕ)) → it.told.component ≡ invoke id linked code parameter →
       HasSource it.sent.dialogue it.past id linked code parameter
   source output it id linked code parameter e =
       let told = it.told in
       let sent = it.sent in
       let waits = queue sent.dialogue it.past in
-      let all = joined-waits sent.dialogue it.past waits (queue-waits (net.start (far engine)) sent.dialogue it.past it.is_legal.2 (subst IsStanding (sym sent.is_life) tt)) in
+      let all = joined-waits sent.dialogue it.past waits
+      (queue-waits (net.start (far engine)) sent.dialogue it.past it.is_legal.2
+      (subst IsStanding (sym sent.is_life) tt)) in
       let read = first_fault_again (told.earlier ++ told.component ∷ told.later) told.fault _ told.read in
       let whole = first_fault_again all.0 None (joined waits) (all-first all.0 (joined waits) all.1) in
-      let same = same-items (told.earlier ++ told.component ∷ told.later) all.0 told.fault (sym read ∙ (ap components_of sent.takes.is_portion ∙ whole)) in
-      let here = one-of (IfInvoke sent.dialogue it.past) told.earlier told.later told.component (subst (AllByRecursion (IfInvoke sent.dialogue it.past)) (sym same.0) all.2) in
+      let same = same-items (told.earlier ++ told.component ∷ told.later) all.0 told.fault
+      (sym read ∙ (ap components_of sent.takes.is_portion ∙ whole)) in
+      let here = one-of (IfInvoke sent.dialogue it.past) told.earlier told.later told.component
+      (subst (AllByRecursion (IfInvoke sent.dialogue it.past)) (sym same.0) all.2) in
       subst (IfInvoke sent.dialogue it.past) e here
 
   -- the Invoke of that was sent
-  pub invoke-sent : (output : Output) (it : Carried net engine before pair.event output) (id : ℤ) (linked : Option ℤ) (code : CodeParts) (parameter : Option (List ℕ)) → (from : HasSource it.sent.dialogue it.past id linked code parameter) →
+  pub invoke-sent : (output : Output) (it : Carried net engine before pair.event output) (id : ℤ) (linked : Option ℤ)
+      (code : CodeParts) (parameter : Option (List ℕ))
+      → (from : HasSource it.sent.dialogue it.past id linked code parameter) →
       WasSent from.number (side (far engine) before)
   invoke-sent output it id linked code parameter from =
       let asked = from.asked in
       let sent = it.sent in
       let sender : Pair = it.sender in
-      let accepted : is_accepted sender.answer ≡ true = answers-outputs sender.answer (Output.send it.told.bytes) it.tells in
-      let named : names sender.event sent.dialogue ≡ true = ap (λ (e : Event). names e sent.dialogue) sent.is_event ∙ eq-eqb sent.dialogue sent.dialogue refl in
-      let none : invoked_by sender ≡ None = ap (λ (e : Event). invoked_of e sender.answer) sent.is_event ∙ sent.takes.makes_none sent.dialogue (number_of sender.answer) in
+      let accepted : is_accepted sender.answer ≡ true =
+      answers-outputs sender.answer (Output.send it.told.bytes) it.tells in
+      let named : names sender.event sent.dialogue ≡ true =
+      ap (λ (e : Event). names e sent.dialogue) sent.is_event ∙ eq-eqb sent.dialogue sent.dialogue refl in
+      let none : invoked_by sender ≡ None =
+      ap (λ (e : Event). invoked_of e sender.answer) sent.is_event
+      ∙ sent.takes.makes_none sent.dialogue (number_of sender.answer) in
       let standing : Life = Life.standing sent.state sent.context in
-      let marked = sent.takes.is_sent asked.id standing (life_by_event sent.state sent.context sender.event (is_accepted sender.answer)) in
+      let marked = sent.takes.is_sent asked.id standing
+      (life_by_event sent.state sent.context sender.event (is_accepted sender.answer)) in
       let made : marks sent.dialogue asked.id sender it.past ≡ noted_at_clock (clock it.past) (Mark.sent ∷ marked.0) =
-      standing_marks sent.dialogue asked.id sender.event sender.answer it.past sent.state sent.context sent.is_life named
+      standing_marks sent.dialogue asked.id sender.event sender.answer it.past sent.state sent.context sent.is_life
+      named
       ∙ ap (noted_at_clock (clock it.past)) (
-      ap (λ (b : Bool). marks_by_event asked.id standing (life_by_event sent.state sent.context sender.event (is_accepted sender.answer)) sender.event b) accepted
-      ∙ (ap (λ (e : Event). marks_by_event asked.id standing (life_by_event sent.state sent.context sender.event (is_accepted sender.answer)) e true) sent.is_event
+      ap (λ (b : Bool). marks_by_event asked.id standing
+      (life_by_event sent.state sent.context sender.event (is_accepted sender.answer)) sender.event b) accepted
+      ∙ (ap (λ (e : Event). marks_by_event asked.id standing
+      (life_by_event sent.state sent.context sender.event (is_accepted sender.answer)) e true) sent.is_event
       ∙ marked.1)) in
       subst (WasSent from.number) (sym it.stands.is_past)
-      (sent-later from.number it.stands.later (sender ∷ it.past) (sent-here (net.start (far engine)) it.past sender.event sender.answer it.is_legal.2 accepted from.octets from.number sent.dialogue asked marked.0 none made))
+      (sent-later from.number it.stands.later (sender ∷ it.past)
+      (sent-here (net.start (far engine)) it.past sender.event sender.answer it.is_legal.2 accepted from.octets
+      from.number sent.dialogue asked marked.0 none made))
 
-  was-asked : (output : Output) (it : Carried net engine before pair.event output) (id : ℤ) (linked : Option ℤ) (code : CodeParts) (parameter : Option (List ℕ)) → HasSource it.sent.dialogue it.past id linked code parameter →
+  was-asked : (output : Output) (it : Carried net engine before pair.event output) (id : ℤ) (linked : Option ℤ)
+      (code : CodeParts) (parameter : Option (List ℕ)) → HasSource it.sent.dialogue it.past id linked code parameter →
       WasAsked id linked code parameter (side (far engine) before)
   was-asked output it id linked code parameter from =
       let asked = from.asked in
@@ -208,21 +258,33 @@ module _ (net : Net) (is : IsNet net) (engine : Engine) (pair : Pair) (before : 
         class = asked.class;
         timeout = asked.timeout;
         number = from.number;
-        stands = stands-before asked.pair it.sender asked.before it.past (side (far engine) before) asked.stands it.stands;
+        stands = stands-before asked.pair it.sender asked.before it.past (side (far engine) before) asked.stands
+            it.stands;
         is_event = asked.is_event
-            ∙ (ap (λ (x : ℤ). Event.on_dialogue sent.dialogue (Request.component (ComponentRequest.invoke x asked.class asked.code asked.parameter asked.linked asked.timeout))) from.is_id
-            ∙ (ap (λ (x : CodeParts). Event.on_dialogue sent.dialogue (Request.component (ComponentRequest.invoke id asked.class x asked.parameter asked.linked asked.timeout))) from.is_code
-            ∙ (ap (λ (x : Option (List ℕ)). Event.on_dialogue sent.dialogue (Request.component (ComponentRequest.invoke id asked.class code x asked.linked asked.timeout))) from.is_parameter
-            ∙ ap (λ (x : Option ℤ). Event.on_dialogue sent.dialogue (Request.component (ComponentRequest.invoke id asked.class code parameter x asked.timeout))) from.is_linked)));
+            ∙ (ap (λ (x : ℤ). Event.on_dialogue sent.dialogue
+            (Request.component (ComponentRequest.invoke x asked.class asked.code asked.parameter asked.linked
+            asked.timeout))) from.is_id
+            ∙ (ap (λ (x : CodeParts). Event.on_dialogue sent.dialogue
+            (Request.component (ComponentRequest.invoke id asked.class x asked.parameter asked.linked
+            asked.timeout))) from.is_code
+            ∙ (ap (λ (x : Option (List ℕ)). Event.on_dialogue sent.dialogue
+            (Request.component (ComponentRequest.invoke id asked.class code x asked.linked asked.timeout)))
+            from.is_parameter
+            ∙ ap (λ (x : Option ℤ). Event.on_dialogue sent.dialogue
+            (Request.component (ComponentRequest.invoke id asked.class code parameter x asked.timeout)))
+            from.is_linked)));
         is_answer = asked.is_answer;
         was_sent = invoke-sent output it id linked code parameter from;
       }
 
 pub operations : (net : Net) → IsNet net → Operations net.trace
 operations net is engine dialogue told =
-    let output : Output = Output.component (ComponentIndication.invoked dialogue told.id told.linked told.code told.parameter) in
+    let output : Output =
+    Output.component (ComponentIndication.invoked dialogue told.id told.linked told.code told.parameter) in
     let of : IsOfComponent output = IsOfComponent.invoke dialogue told.id told.linked told.code told.parameter in
     let it = carried net is engine told.pair told.before told.happens output told.tells of in
-    let is_invoke = stands-for-invoke output it.told.component it.told.stands_for dialogue told.id told.linked told.code told.parameter refl in
+    let is_invoke = stands-for-invoke output it.told.component it.told.stands_for dialogue told.id told.linked told.code
+    told.parameter refl in
     was-asked net is engine told.pair told.before told.happens output it told.id told.linked told.code told.parameter
-    (source net is engine told.pair told.before told.happens output it told.id told.linked told.code told.parameter is_invoke)
+    (source net is engine told.pair told.before told.happens output it told.id told.linked told.code told.parameter
+    is_invoke)

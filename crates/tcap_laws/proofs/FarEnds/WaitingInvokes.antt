@@ -41,7 +41,8 @@ pub record IsWritten (octets : List ℕ) (c : ComponentParts) : Type 0 where
   pub can : CanWriteComponent c
 
 abbrev pub invocation_as : ℕ → ℕ → ℤ → Class → ℕ → Invocation
-invocation_as number dialogue id class timeout = record { number = number; dialogue = dialogue; id = id; class = class; timeout = timeout }
+invocation_as number dialogue id class timeout =
+    record { number = number; dialogue = dialogue; id = id; class = class; timeout = timeout }
 
 -- octets are the Invoke of an invocation that is neither sent nor closed
 pub record IsAsked (dialogue : ℕ) (past : Past) (octets : List ℕ) (number : ℕ) : Type 0 where
@@ -54,7 +55,8 @@ pub record IsAsked (dialogue : ℕ) (past : Past) (octets : List ℕ) (number : 
   pub linked : Option ℤ
   pub timeout : ℕ
   pub stands : StandsIn pair before past
-  pub is_event : pair.event ≡ Event.on_dialogue dialogue (Request.component (ComponentRequest.invoke id class code parameter linked timeout))
+  pub is_event : pair.event ≡ Event.on_dialogue dialogue
+      (Request.component (ComponentRequest.invoke id class code parameter linked timeout))
   pub is_answer : pair.answer ≡ Answer.number number
   pub written : IsWritten octets (invoke id linked code parameter)
   pub is_invocation : invocation_of number past ≡ Some (invocation_as number dialogue id class timeout)
@@ -86,12 +88,19 @@ AllWait dialogue past waits = AllByRecursion (IsWaiting dialogue past) waits
 -- ---- Rejects
 
 module _ (dialogue : ℕ) (past : Past) where
-  reject-waits : (h : Handled) (reject : Option ComponentParts) (others : List ComponentParts) → IsFormed dialogue h.told reject → AllWait dialogue past (map (queued None) others) → AllWait dialogue past (map (queued None) (option_to_list reject ++ others))
+  reject-waits : (h : Handled) (reject : Option ComponentParts) (others : List ComponentParts)
+      → IsFormed dialogue h.told reject → AllWait dialogue past (map (queued None) others)
+      → AllWait dialogue past (map (queued None) (option_to_list reject ++ others))
   reject-waits h None others formed rest = rest
   reject-waits h (Some c) others formed rest = (
     record {
       component = reject_back formed.0 formed.1;
-      written = record { is_octets = ap written_component formed.2; in_range = (formed.4, formed.5); can = reject-can formed.0 formed.1 };
+      written = record {
+        is_octets = ap written_component formed.2;
+        in_range = (formed.4, formed.5);
+        can =
+            reject-can formed.0 formed.1;
+      };
       no_invoke = tt;
     },
     rest,
@@ -99,17 +108,25 @@ module _ (dialogue : ℕ) (past : Past) where
 
   rejects-wait : (hs : List Handled) → AllByRecursion (HasFormed dialogue) hs → AllWait dialogue past (rejects_of hs)
   rejects-wait [] formed = tt
-  rejects-wait (h ∷ hs) formed = reject-waits h h.reject (flat_map (λ (x : Handled). option_to_list x.reject) hs) formed.0 (rejects-wait hs formed.1)
+  rejects-wait (h ∷ hs) formed =
+      reject-waits h h.reject (flat_map (λ (x : Handled). option_to_list x.reject) hs) formed.0
+      (rejects-wait hs formed.1)
 
-  content-waits : (before : Past) (content : List ℕ) (waits : List Queued) → AllWait dialogue past waits → AllByRecursion (IsWaiting dialogue past) (queue_by_verdict (PortionVerdict.normal None []) waits (handled_in dialogue before content))
+  content-waits : (before : Past) (content : List ℕ) (waits : List Queued) → AllWait dialogue past waits
+      → AllByRecursion (IsWaiting dialogue past) (queue_by_verdict (PortionVerdict.normal None []) waits
+      (handled_in dialogue before content))
   content-waits before content waits all =
-      queue_each-each (IsWaiting dialogue past) queue_limit waits (rejects_of (handled_in dialogue before content)) all (rejects-wait (handled_in dialogue before content) (handled_in-formed dialogue before content))
+      queue_each-each (IsWaiting dialogue past) queue_limit waits (rejects_of (handled_in dialogue before content)) all
+      (rejects-wait (handled_in dialogue before content) (handled_in-formed dialogue before content))
 
-  verdict-waits : (before : Past) (content : List ℕ) (waits : List Queued) (verdict : PortionVerdict) → AllWait dialogue past waits → AllWait dialogue past (queue_by_verdict verdict waits (handled_in dialogue before content))
+  verdict-waits : (before : Past) (content : List ℕ) (waits : List Queued) (verdict : PortionVerdict)
+      → AllWait dialogue past waits → AllWait dialogue past
+      (queue_by_verdict verdict waits (handled_in dialogue before content))
   verdict-waits before content waits (PortionVerdict.normal told info) all = content-waits before content waits all
   verdict-waits before content waits PortionVerdict.abnormal all = all
 
-  birth-waits : (before : Past) (read : Result Message FrameFault) → AllWait dialogue past (queue_at_birth dialogue before read)
+  birth-waits : (before : Past) (read : Result Message FrameFault)
+      → AllWait dialogue past (queue_at_birth dialogue before read)
   birth-waits before (Ok (Message.begin origin portion components)) = content-waits before components [] tt
   birth-waits before (Ok (Message.unidirectional portion components)) = tt
   birth-waits before (Ok (Message.go_on origin to portion components)) = tt
@@ -123,15 +140,20 @@ module _ (dialogue : ℕ) (past : Past) where
   born-waits before (Event.received bytes) = birth-waits before (frame_at bytes)
   born-waits before (Event.moment now) = tt
 
-  message-waits : (before : Past) (state : State) (context : Option (List ℕ)) (waits : List Queued) (read : Result Message FrameFault) → AllWait dialogue past waits → AllWait dialogue past (queue_by_message dialogue before (Life.standing state context) waits read)
-  message-waits before state context waits (Ok (Message.go_on origin to portion components)) all = verdict-waits before components waits (portion_verdict state context portion) all
+  message-waits : (before : Past) (state : State) (context : Option (List ℕ)) (waits : List Queued)
+      (read : Result Message FrameFault) → AllWait dialogue past waits
+      → AllWait dialogue past (queue_by_message dialogue before (Life.standing state context) waits read)
+  message-waits before state context waits (Ok (Message.go_on origin to portion components)) all =
+      verdict-waits before components waits (portion_verdict state context portion) all
   message-waits before state context waits (Ok (Message.unidirectional portion components)) all = all
   message-waits before state context waits (Ok (Message.begin origin portion components)) all = all
   message-waits before state context waits (Ok (Message.end to portion components)) all = all
   message-waits before state context waits (Ok (Message.abort to reason)) all = all
   message-waits before state context waits (Err f) all = all
 
-  pub bytes-wait : (before : Past) (state : State) (context : Option (List ℕ)) (waits : List Queued) (bytes : List ℕ) → AllWait dialogue past waits → AllWait dialogue past (queue_by_bytes dialogue before (Life.standing state context) waits bytes)
+  pub bytes-wait : (before : Past) (state : State) (context : Option (List ℕ)) (waits : List Queued) (bytes : List ℕ)
+      → AllWait dialogue past waits → AllWait dialogue past
+      (queue_by_bytes dialogue before (Life.standing state context) waits bytes)
   bytes-wait before state context waits bytes all = elim (cases_Bool (is_live state)) [
     | inl lives ↦ rw lives (message-waits before state context waits (frame_at bytes) all)
     | inr not ↦ rw not all
@@ -146,7 +168,8 @@ pub record IsLeft (dialogue : ℕ) (id : ℤ) (pair : Pair) (past : Past) : Type
   pub leave : AllLeave made
 
 module _ (dialogue : ℕ) (pair : Pair) (past : Past) where
-  pub asked-later : (octets : List ℕ) (number : ℕ) (asked : IsAsked dialogue past octets number) → IsLeft dialogue asked.id pair past → IsAsked dialogue (pair ∷ past) octets number
+  pub asked-later : (octets : List ℕ) (number : ℕ) (asked : IsAsked dialogue past octets number)
+      → IsLeft dialogue asked.id pair past → IsAsked dialogue (pair ∷ past) octets number
   asked-later octets number asked left =
       let i : Invocation = invocation_as number dialogue asked.id asked.class asked.timeout in
       let found : is_some (invocation_of number past) ≡ true = made_found number past i asked.is_invocation in
@@ -159,22 +182,29 @@ module _ (dialogue : ℕ) (pair : Pair) (past : Past) where
         parameter = asked.parameter;
         linked = asked.linked;
         timeout = asked.timeout;
-        stands = record { later = pair ∷ asked.stands.later; is_past = ap (λ (w : Past). pair ∷ w) asked.stands.is_past };
+        stands = record {
+          later = pair ∷ asked.stands.later;
+          is_past =
+              ap (λ (w : Past). pair ∷ w) asked.stands.is_past;
+        };
         is_event = asked.is_event;
         is_answer = asked.is_answer;
         written = asked.written;
         is_invocation = invocation_stays number pair past i asked.is_invocation;
         unsent = elim (cases_Bool (is_reused i (pair ∷ past))) [
           | inl used ↦ subst (IsUnsent asked.class asked.timeout) (sym (span_stays i pair past found used)) asked.unsent
-          | inr unused ↦ subst (IsUnsent asked.class asked.timeout) (sym (span_grows i pair past found unused ∙ ap (λ w. span i past ++ w) left.is_made))
+          | inr unused ↦ subst (IsUnsent asked.class asked.timeout)
+              (sym (span_grows i pair past found unused ∙ ap (λ w. span i past ++ w) left.is_made))
               (still-unsent asked.class asked.timeout (clock past) left.made (span i past) left.leave asked.unsent)
         ];
       }
 
-  waits-later : (octets : List ℕ) (invoking : Option Invoking) → ((id : ℤ) → IsLeft dialogue id pair past) → Waits dialogue past octets invoking → Waits dialogue (pair ∷ past) octets invoking
+  waits-later : (octets : List ℕ) (invoking : Option Invoking) → ((id : ℤ) → IsLeft dialogue id pair past)
+      → Waits dialogue past octets invoking → Waits dialogue (pair ∷ past) octets invoking
   waits-later octets None left waits = waits
   waits-later octets (Some v) left waits = asked-later octets v.number waits (left waits.id)
 
-  pub all-later : (waits : List Queued) → ((id : ℤ) → IsLeft dialogue id pair past) → AllWait dialogue past waits → AllWait dialogue (pair ∷ past) waits
+  pub all-later : (waits : List Queued) → ((id : ℤ) → IsLeft dialogue id pair past) → AllWait dialogue past waits
+      → AllWait dialogue (pair ∷ past) waits
   all-later [] left all = tt
   all-later (q ∷ waits) left all = (waits-later q.octets q.invoking left all.0, all-later waits left all.1)

@@ -116,9 +116,11 @@ module _ {X : Type 0} (key : X → List ℕ) where
     put-kept x (y ∷ ys) e ordered = go (is_before y x) refl (put-kept x ys e ordered.1)
       where
         kept : (b : Bool) → is_before y x ≡ true → filter own (put key x ys) ≡ put key x (filter own ys)
-            → cond b (y ∷ filter own (put key x ys)) (filter own (put key x ys)) ≡ put key x (cond b (y ∷ filter own ys) (filter own ys))
+            → cond b (y ∷ filter own (put key x ys)) (filter own (put key x ys))
+            ≡ put key x (cond b (y ∷ filter own ys) (filter own ys))
         kept true q ih =
-            ap (λ (l : List X). y ∷ l) ih ∙ sym (ap (λ b. cond b (y ∷ put key x (filter own ys)) (x ∷ y ∷ filter own ys)) q)
+            ap (λ (l : List X). y ∷ l) ih ∙ sym (ap (λ b.
+            cond b (y ∷ put key x (filter own ys)) (x ∷ y ∷ filter own ys)) q)
         kept false q ih = ih
 
         go : (b : Bool) → is_before y x ≡ b → filter own (put key x ys) ≡ put key x (filter own ys)

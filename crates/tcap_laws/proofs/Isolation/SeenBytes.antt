@@ -60,7 +60,8 @@ module _ (dialogue : ℕ) where
   aborted-of None = tt
   aborted-of (Some abort) = tt
 
-  faulty_continue-of : (named : Option ℕ) (abort : Option Output) (f : FrameFault) → IsItsName named → IsOf (faulty_continue named abort f)
+  faulty_continue-of : (named : Option ℕ) (abort : Option Output) (f : FrameFault) → IsItsName named
+      → IsOf (faulty_continue named abort f)
   faulty_continue-of None abort f is = aborted-of abort
   faulty_continue-of (Some named) abort f is = is
 
@@ -72,7 +73,8 @@ module _ (dialogue : ℕ) where
   either-of true x y p q = p
   either-of false x y p q = q
 
-  fault-of : (first : ℕ) (named : Option ℕ) (abort : Option Output) (f : FrameFault) → IsItsName named → IsOf (fault_by first named abort f)
+  fault-of : (first : ℕ) (named : Option ℕ) (abort : Option Output) (f : FrameFault) → IsItsName named
+      → IsOf (fault_by first named abort f)
   fault-of first named abort f is =
       either-of (first == 0x61) _ _ tt
       (either-of (first == 0x64) _ _ (faulty_last-of named f is)
@@ -84,46 +86,61 @@ module _ (dialogue : ℕ) where
     its_name true = refl
     its_name false = tt
 
-    named-same : (to : Option (List ℕ)) → is_destined dialogue to ≡ true → (addressed_if_any live to ≡ addressed_if_any others to) × IsItsName (addressed_if_any live to)
+    named-same : (to : Option (List ℕ)) → is_destined dialogue to ≡ true
+        → (addressed_if_any live to ≡ addressed_if_any others to) × IsItsName (addressed_if_any live to)
     named-same None is = absurd (true≢false (sym is))
     named-same (Some octets) is =
         let named = that-is dialogue (dialogue_named octets) is in (
-          ap (live_named live) named ∙ (ap (λ b. if b then Some dialogue else None) same ∙ sym (ap (live_named others) named)),
+          ap (live_named live) named ∙ (ap (λ b. if b then Some dialogue else None) same
+              ∙ sym (ap (live_named others) named)),
           subst IsItsName (sym (ap (live_named live) named)) (its_name (live dialogue)),
         )
 
     abbrev AreSame : Reception → Reception → Type 0
     AreSame r s = (r ≡ s) × IsOf r
 
-    message-same : (m : Message) → is_destined dialogue (destination m) ≡ true → AreSame (message_by live full m) (message_by others filled m)
+    message-same : (m : Message) → is_destined dialogue (destination m) ≡ true
+        → AreSame (message_by live full m) (message_by others filled m)
     message-same (Message.unidirectional portion components) is = absurd (true≢false (sym is))
     message-same (Message.begin origin portion components) is = absurd (true≢false (sym is))
     message-same (Message.go_on origin to portion components) is =
-        let n = named-same (Some to) is in
-        (ap (λ o. continue_by o origin (Message.go_on origin to portion components)) n.0, continue-of (addressed_if_any live (Some to)) origin (Message.go_on origin to portion components) n.1)
+        let n = named-same (Some to) is in (
+          ap (λ o. continue_by o origin (Message.go_on origin to portion components)) n.0,
+          continue-of (addressed_if_any live (Some to)) origin (Message.go_on origin to portion components) n.1,
+        )
     message-same (Message.end to portion components) is =
-        let n = named-same (Some to) is in
-        (ap (λ o. final_message_by o (Message.end to portion components)) n.0, last-of (addressed_if_any live (Some to)) (Message.end to portion components) n.1)
+        let n = named-same (Some to) is in (
+          ap (λ o. final_message_by o (Message.end to portion components)) n.0,
+          last-of (addressed_if_any live (Some to)) (Message.end to portion components) n.1,
+        )
     message-same (Message.abort to reason) is =
-        let n = named-same (Some to) is in
-        (ap (λ o. final_message_by o (Message.abort to reason)) n.0, last-of (addressed_if_any live (Some to)) (Message.abort to reason) n.1)
+        let n = named-same (Some to) is in (
+          ap (λ o. final_message_by o (Message.abort to reason)) n.0,
+          last-of (addressed_if_any live (Some to)) (Message.abort to reason) n.1,
+        )
 
-    faulty-same : (bytes : List ℕ) (f : FrameFault) → is_destined dialogue (destination_by bytes (Err f)) ≡ true → AreSame (faulty live bytes f) (faulty others bytes f)
+    faulty-same : (bytes : List ℕ) (f : FrameFault) → is_destined dialogue (destination_by bytes (Err f)) ≡ true
+        → AreSame (faulty live bytes f) (faulty others bytes f)
     faulty-same [] f is = absurd (true≢false (sym is))
     faulty-same (first ∷ bytes) f is = elim (cases_Bool (begins_addressed (first ∷ bytes))) [
       | inl begins ↦ let is = is in
           let front = front_at (first ∷ bytes) in
           let to : is_destined dialogue front.1 ≡ true = rw begins at is in
-          let n = named-same front.1 to in
-          (ap (λ o. fault_by first o (fault_abort f front.0) f) n.0, fault-of first (addressed_if_any live front.1) (fault_abort f front.0) f n.1)
+          let n = named-same front.1 to in (
+            ap (λ o. fault_by first o (fault_abort f front.0) f) n.0,
+            fault-of first (addressed_if_any live front.1) (fault_abort f front.0) f n.1,
+          )
       | inr not ↦ let is = is in let none : false ≡ true = rw not at is in absurd (true≢false (sym none))
     ]
 
-    read-same : (bytes : List ℕ) (read : Result Message FrameFault) → is_destined dialogue (destination_by bytes read) ≡ true → AreSame (reading_by live full bytes read) (reading_by others filled bytes read)
+    read-same : (bytes : List ℕ) (read : Result Message FrameFault)
+        → is_destined dialogue (destination_by bytes read) ≡ true
+        → AreSame (reading_by live full bytes read) (reading_by others filled bytes read)
     read-same bytes (Ok m) is = message-same m is
     read-same bytes (Err f) is = faulty-same bytes f is
 
-    reception-same : (bytes : List ℕ) → names (Event.received bytes) dialogue ≡ true → AreSame (reception live full bytes) (reception others filled bytes)
+    reception-same : (bytes : List ℕ) → names (Event.received bytes) dialogue ≡ true
+        → AreSame (reception live full bytes) (reception others filled bytes)
     reception-same bytes named =
         let r = read-same bytes (frame_at bytes) destined in
         (whole live full ∙ (r.0 ∙ sym (whole others filled)), subst IsOf (sym (whole live full)) r.1)
@@ -139,33 +156,53 @@ module _ (dialogue : ℕ) where
         destined = sym (ap (λ b. named_within b dialogue bytes) within) ∙ named
 
         whole : (l : ℕ → Bool) (f : Bool) → reception l f bytes ≡ reading_by l f bytes (frame_at bytes)
-        whole l f = ap (λ b. if b then Reception.dropped DropCause.too_long else reading_by l f bytes (frame_at bytes)) (le-ltb message_limit (length bytes) (leb-true (length bytes) message_limit within))
+        whole l f = ap (λ b. if b then Reception.dropped DropCause.too_long else reading_by l f bytes (frame_at bytes))
+            (le-ltb message_limit (length bytes) (leb-true (length bytes) message_limit within))
 
 -- ---- what is told
 
 module _ (h : History) (dialogue : ℕ) (legal : IsLegal h) where
-  handled-same : (content : List ℕ) → handled_in dialogue h.pairs content ≡ handled_in dialogue (only dialogue h.pairs) content
+  handled-same : (content : List ℕ) → handled_in dialogue h.pairs content
+      ≡ handled_in dialogue (only dialogue h.pairs) content
   handled-same content = sym (only_handled h.start dialogue h.pairs legal.1 content)
 
-  continue-same : (state : State) (origin components : List ℕ) (verdict : PortionVerdict) → continue_outputs dialogue h.pairs state origin components verdict ≡ continue_outputs dialogue (only dialogue h.pairs) state origin components verdict
-  continue-same state origin components (PortionVerdict.normal context info) = ap (λ hs. Output.dialogue (DialogueIndication.go_on dialogue context info) ∷ told_of hs) (handled-same components)
+  continue-same : (state : State) (origin components : List ℕ) (verdict : PortionVerdict)
+      → continue_outputs dialogue h.pairs state origin components verdict
+      ≡ continue_outputs dialogue (only dialogue h.pairs) state origin components verdict
+  continue-same state origin components (PortionVerdict.normal context info) =
+      ap (λ hs. Output.dialogue (DialogueIndication.go_on dialogue context info) ∷ told_of hs) (handled-same components)
   continue-same state origin components PortionVerdict.abnormal =
-      ap (λ (os : List Output). abnormal_abort (peer_by state origin) ∷ Output.dialogue (DialogueIndication.p_abort dialogue AbortCause.abnormal) ∷ os) (sym (only_ended h.start dialogue h.pairs legal.1 []))
+      ap (λ (os : List Output). abnormal_abort (peer_by state origin)
+      ∷ Output.dialogue (DialogueIndication.p_abort dialogue AbortCause.abnormal) ∷ os)
+      (sym (only_ended h.start dialogue h.pairs legal.1 []))
 
-  end-same : (components : List ℕ) (verdict : PortionVerdict) → end_outputs dialogue h.pairs components verdict ≡ end_outputs dialogue (only dialogue h.pairs) components verdict
+  end-same : (components : List ℕ) (verdict : PortionVerdict)
+      → end_outputs dialogue h.pairs components verdict
+      ≡ end_outputs dialogue (only dialogue h.pairs) components verdict
   end-same components (PortionVerdict.normal context info) =
-      ap (λ hs. Output.dialogue (DialogueIndication.end dialogue context info) ∷ told_of hs ++ ended_in dialogue h.pairs (components_of components)) (handled-same components)
-      ∙ ap (λ os. Output.dialogue (DialogueIndication.end dialogue context info) ∷ told_of (handled_in dialogue (only dialogue h.pairs) components) ++ os) (sym (only_ended h.start dialogue h.pairs legal.1 (components_of components)))
-  end-same components PortionVerdict.abnormal = ap (λ (os : List Output). Output.dialogue (DialogueIndication.p_abort dialogue AbortCause.abnormal) ∷ os) (sym (only_ended h.start dialogue h.pairs legal.1 []))
+      ap (λ hs. Output.dialogue (DialogueIndication.end dialogue context info) ∷ told_of hs
+      ++ ended_in dialogue h.pairs (components_of components)) (handled-same components)
+      ∙ ap (λ os. Output.dialogue (DialogueIndication.end dialogue context info)
+      ∷ told_of (handled_in dialogue (only dialogue h.pairs) components) ++ os)
+      (sym (only_ended h.start dialogue h.pairs legal.1 (components_of components)))
+  end-same components PortionVerdict.abnormal =
+      ap (λ (os : List Output). Output.dialogue (DialogueIndication.p_abort dialogue AbortCause.abnormal) ∷ os)
+      (sym (only_ended h.start dialogue h.pairs legal.1 []))
 
-  outputs-same : (state : State) (context : Option (List ℕ)) (m : Message) → message_outputs dialogue h.pairs state context m ≡ message_outputs dialogue (only dialogue h.pairs) state context m
-  outputs-same state context (Message.go_on origin to portion components) = continue-same state origin components (portion_verdict state context portion)
-  outputs-same state context (Message.end to portion components) = end-same components (portion_verdict state context portion)
-  outputs-same state context (Message.abort to reason) = ap (λ (os : List Output). abort_told dialogue reason ∷ os) (sym (only_ended h.start dialogue h.pairs legal.1 []))
+  outputs-same : (state : State) (context : Option (List ℕ)) (m : Message)
+      → message_outputs dialogue h.pairs state context m
+      ≡ message_outputs dialogue (only dialogue h.pairs) state context m
+  outputs-same state context (Message.go_on origin to portion components) =
+      continue-same state origin components (portion_verdict state context portion)
+  outputs-same state context (Message.end to portion components) =
+      end-same components (portion_verdict state context portion)
+  outputs-same state context (Message.abort to reason) =
+      ap (λ (os : List Output). abort_told dialogue reason ∷ os) (sym (only_ended h.start dialogue h.pairs legal.1 []))
   outputs-same state context (Message.unidirectional portion components) = refl
   outputs-same state context (Message.begin origin portion components) = refl
 
-  taken-same : (l : Life) (m : Message) → taken_outputs dialogue h.pairs l m ≡ taken_outputs dialogue (only dialogue h.pairs) l m
+  taken-same : (l : Life) (m : Message) → taken_outputs dialogue h.pairs l m
+      ≡ taken_outputs dialogue (only dialogue h.pairs) l m
   taken-same Life.unborn m = refl
   taken-same (Life.standing state context) m = outputs-same state context m
   taken-same Life.over m = refl
@@ -176,15 +213,23 @@ module _ (h : History) (dialogue : ℕ) (legal : IsLegal h) where
   told-same (Reception.unidirectional context info components) is = absurd is
   told-same (Reception.begun origin context info components) is = absurd is
   told-same (Reception.taken named message) is =
-      subst (λ d. reception_outputs h (Reception.taken d message) ≡ reception_outputs (history_of dialogue h) (Reception.taken d message)) (sym is)
-      (taken-same (life dialogue h.pairs) message ∙ ap (λ l. taken_outputs dialogue (only dialogue h.pairs) l message) (sym (only_life dialogue h.pairs)))
+      subst (λ d. reception_outputs h (Reception.taken d message)
+      ≡ reception_outputs (history_of dialogue h) (Reception.taken d message)) (sym is)
+      (taken-same (life dialogue h.pairs) message ∙ ap (λ l. taken_outputs dialogue (only dialogue h.pairs) l message)
+      (sym (only_life dialogue h.pairs)))
   told-same (Reception.broken named abort cause) is =
-      subst (λ d. reception_outputs h (Reception.broken d abort cause) ≡ reception_outputs (history_of dialogue h) (Reception.broken d abort cause)) (sym is)
-      (ap (λ (os : List Output). option_to_list abort ++ Output.dialogue (DialogueIndication.p_abort dialogue (AbortCause.cause cause)) ∷ os) (sym (only_ended h.start dialogue h.pairs legal.1 [])))
+      subst (λ d. reception_outputs h (Reception.broken d abort cause)
+      ≡ reception_outputs (history_of dialogue h) (Reception.broken d abort cause)) (sym is)
+      (ap (λ (os : List Output). option_to_list abort
+      ++ Output.dialogue (DialogueIndication.p_abort dialogue (AbortCause.cause cause)) ∷ os)
+      (sym (only_ended h.start dialogue h.pairs legal.1 [])))
 
-  pub alone-bytes : (bytes : List ℕ) → names (Event.received bytes) dialogue ≡ true → IsAlone h dialogue (Event.received bytes)
+  pub alone-bytes : (bytes : List ℕ) → names (Event.received bytes) dialogue ≡ true
+      → IsAlone h dialogue (Event.received bytes)
   alone-bytes bytes named =
       let live : ℕ → Bool = λ d. live_in (life d h.pairs) in
       let others : ℕ → Bool = λ d. live_in (life d (only dialogue h.pairs)) in
-      let r = reception-same dialogue live others (ap live_in (sym (only_life dialogue h.pairs))) (is_some (birth_due h)) (is_some (birth_due (history_of dialogue h))) bytes named in
-      ap Answer.outputs (told-same (reception live (is_some (birth_due h)) bytes) r.1 ∙ ap (reception_outputs (history_of dialogue h)) r.0)
+      let r = reception-same dialogue live others (ap live_in (sym (only_life dialogue h.pairs)))
+      (is_some (birth_due h)) (is_some (birth_due (history_of dialogue h))) bytes named in
+      ap Answer.outputs (told-same (reception live (is_some (birth_due h)) bytes) r.1
+      ∙ ap (reception_outputs (history_of dialogue h)) r.0)

@@ -35,31 +35,38 @@ module _ (dialogue : ℕ) where
   event_within (Event.received bytes) answer = refl
   event_within (Event.moment now) answer = refl
 
-  pub accepted_within : (event : Event) (answer : Answer) → is_accepted (pair_within dialogue event answer).answer ≡ is_accepted answer
+  pub accepted_within : (event : Event) (answer : Answer)
+      → is_accepted (pair_within dialogue event answer).answer ≡ is_accepted answer
   accepted_within Event.new_dialogue answer = refl
   accepted_within (Event.on_dialogue asked request) answer = refl
   accepted_within (Event.received bytes) answer = refl
   accepted_within (Event.moment now) answer = within_accepted answer
 
-  pub born_within : (event : Event) (answer : Answer) → born_by (pair_within dialogue event answer) ≡ born_of event answer
+  pub born_within : (event : Event) (answer : Answer)
+      → born_by (pair_within dialogue event answer) ≡ born_of event answer
   born_within Event.new_dialogue answer = refl
   born_within (Event.on_dialogue asked request) answer = refl
   born_within (Event.received bytes) answer = refl
   born_within (Event.moment now) answer = refl
 
-  pub invoked_within : (event : Event) (answer : Answer) → invoked_by (pair_within dialogue event answer) ≡ invoked_of event answer
+  pub invoked_within : (event : Event) (answer : Answer)
+      → invoked_by (pair_within dialogue event answer) ≡ invoked_of event answer
   invoked_within Event.new_dialogue answer = refl
   invoked_within (Event.on_dialogue asked request) answer = refl
   invoked_within (Event.received bytes) answer = refl
   invoked_within (Event.moment now) answer = refl
 
-  clock_within : (before : ℕ) (event : Event) (answer : Answer) → clock_after before (pair_within dialogue event answer).event (is_accepted (pair_within dialogue event answer).answer) ≡ clock_after before event (is_accepted answer)
+  clock_within : (before : ℕ) (event : Event) (answer : Answer)
+      → clock_after before (pair_within dialogue event answer).event
+      (is_accepted (pair_within dialogue event answer).answer) ≡ clock_after before event (is_accepted answer)
   clock_within before Event.new_dialogue answer = refl
   clock_within before (Event.on_dialogue asked request) answer = refl
   clock_within before (Event.received bytes) answer = refl
   clock_within before (Event.moment now) answer = ap (clock_after before (Event.moment now)) (within_accepted answer)
 
-  life_within : (before : Life) (event : Event) (answer : Answer) → life_after dialogue before (pair_within dialogue event answer) ≡ life_after dialogue before (with_answer event answer)
+  life_within : (before : Life) (event : Event) (answer : Answer)
+      → life_after dialogue before (pair_within dialogue event answer)
+      ≡ life_after dialogue before (with_answer event answer)
   life_within before Event.new_dialogue answer = refl
   life_within before (Event.on_dialogue asked request) answer = refl
   life_within before (Event.received bytes) answer = refl
@@ -67,13 +74,18 @@ module _ (dialogue : ℕ) where
   life_within (Life.standing state context) (Event.moment now) answer = refl
   life_within Life.over (Event.moment now) answer = refl
 
-  marks_within : (id : ℤ) (before : Life) (event : Event) (answer : Answer) → marks_after_birth dialogue id before (pair_within dialogue event answer) ≡ marks_after_birth dialogue id before (with_answer event answer)
+  marks_within : (id : ℤ) (before : Life) (event : Event) (answer : Answer)
+      → marks_after_birth dialogue id before (pair_within dialogue event answer)
+      ≡ marks_after_birth dialogue id before (with_answer event answer)
   marks_within id before Event.new_dialogue answer = refl
   marks_within id before (Event.on_dialogue asked request) answer = refl
   marks_within id before (Event.received bytes) answer = refl
   marks_within id Life.unborn (Event.moment now) answer = refl
-  marks_within id (Life.standing state context) (Event.moment now) answer = ap (marks_by_event id (Life.standing state context) (Life.standing state context) (Event.moment now)) (within_accepted answer)
-  marks_within id Life.over (Event.moment now) answer = ap (marks_by_event id Life.over Life.over (Event.moment now)) (within_accepted answer)
+  marks_within id (Life.standing state context) (Event.moment now) answer =
+      ap (marks_by_event id (Life.standing state context) (Life.standing state context) (Event.moment now))
+      (within_accepted answer)
+  marks_within id Life.over (Event.moment now) answer =
+      ap (marks_by_event id Life.over Life.over (Event.moment now)) (within_accepted answer)
 
   -- ---- what isn't seen
 
@@ -88,18 +100,29 @@ module _ (dialogue : ℕ) where
 
   pub unseen : (pair : Pair) (past : Past) → is_seen_by dialogue pair past ≡ false → IsUnseen pair past
   unseen pair past e =
-      let both = or_parts (is_moment pair.event || is_birth_of dialogue pair) (was_born dialogue past && names pair.event dialogue) e in
+      let both = or_parts (is_moment pair.event || is_birth_of dialogue pair)
+      (was_born dialogue past && names pair.event dialogue) e in
       let first = or_parts (is_moment pair.event) (is_birth_of dialogue pair) both.0 in
-      record { no_moment = first.0; no_birth = first.1; not_named = and_not (was_born dialogue past) (names pair.event dialogue) both.1 }
+      record {
+        no_moment = first.0;
+        no_birth = first.1;
+        not_named =
+            and_not (was_born dialogue past) (names pair.event dialogue) both.1;
+      }
 
   pub born_if_alive : (past : Past) → life dialogue past ≢ Life.unborn → was_born dialogue past ≡ true
-  born_if_alive past lives = elim (cases_Bool (was_born dialogue past)) [ inl was ↦ was | inr never ↦ absurd (lives (unborn-life dialogue past never)) ]
+  born_if_alive past lives =
+      elim (cases_Bool (was_born dialogue past)) [
+        | inl was ↦ was
+        | inr never ↦ absurd (lives (unborn-life dialogue past never))
+      ]
 
   module _ (pair : Pair) (past : Past) (is : IsUnseen pair past) where
     pub unseen_clock : clock (pair ∷ past) ≡ clock past
     unseen_clock = go pair.event is.no_moment
       where
-        go : (event : Event) → is_moment event ≡ false → clock_after (clock past) event (is_accepted pair.answer) ≡ clock past
+        go : (event : Event) → is_moment event ≡ false
+            → clock_after (clock past) event (is_accepted pair.answer) ≡ clock past
         go Event.new_dialogue e = refl
         go (Event.on_dialogue asked request) e = refl
         go (Event.received bytes) e = refl
@@ -110,7 +133,8 @@ module _ (dialogue : ℕ) where
 
     unmoved : (l : Life) → life dialogue past ≡ l → life_after dialogue l pair ≡ l
     unmoved Life.unborn q = ap (λ b. life_at_birth b pair.event) is.no_birth
-    unmoved (Life.standing state context) q = ap (λ b. life_if_named b state context pair) (unnamed_if (Life.standing state context) q (λ e. cc))
+    unmoved (Life.standing state context) q =
+        ap (λ b. life_if_named b state context pair) (unnamed_if (Life.standing state context) q (λ e. cc))
     unmoved Life.over q = refl
 
     pub unseen_life : life dialogue (pair ∷ past) ≡ life dialogue past
@@ -122,7 +146,8 @@ module _ (dialogue : ℕ) where
         none : List Noted
         none = []
 
-        go : (l : Life) → life dialogue past ≡ l → noted_at_clock (clock past) (marks_after_birth dialogue id l pair) ≡ none
+        go : (l : Life) → life dialogue past ≡ l → noted_at_clock (clock past) (marks_after_birth dialogue id l pair)
+            ≡ none
         go Life.unborn q = refl
         go (Life.standing state context) q = rw (unnamed_if (Life.standing state context) q (λ e. cc)) refl
         go Life.over q = rw (unnamed_if Life.over q (λ e. cc)) refl
@@ -131,34 +156,45 @@ module _ (dialogue : ℕ) where
 
   -- the rest, and with it the pair if it is seen
   abbrev pub seen_or_not : Bool → Pair → Past → Past
-  seen_or_not b pair past = cond b (pair_within dialogue pair.event pair.answer ∷ only dialogue past) (only dialogue past)
+  seen_or_not b pair past =
+      cond b (pair_within dialogue pair.event pair.answer ∷ only dialogue past) (only dialogue past)
 
   pub only_clock : (past : Past) → clock (only dialogue past) ≡ clock past
   only_clock [] = refl
   only_clock (pair ∷ past) = go (is_seen_by dialogue pair past) refl (only_clock past)
     where
-      go : (b : Bool) → is_seen_by dialogue pair past ≡ b → clock (only dialogue past) ≡ clock past → clock (seen_or_not b pair past) ≡ clock (pair ∷ past)
-      go true e same = clock_within (clock (only dialogue past)) pair.event pair.answer ∙ ap (λ c. clock_after c pair.event (is_accepted pair.answer)) same
+      go : (b : Bool) → is_seen_by dialogue pair past ≡ b → clock (only dialogue past) ≡ clock past
+          → clock (seen_or_not b pair past) ≡ clock (pair ∷ past)
+      go true e same = clock_within (clock (only dialogue past)) pair.event pair.answer
+          ∙ ap (λ c. clock_after c pair.event (is_accepted pair.answer)) same
       go false e same = same ∙ sym (unseen_clock pair past (unseen pair past e))
 
   pub only_born : (past : Past) → was_born dialogue (only dialogue past) ≡ was_born dialogue past
   only_born [] = refl
   only_born (pair ∷ past) = go (is_seen_by dialogue pair past) refl (only_born past)
     where
-      go : (b : Bool) → is_seen_by dialogue pair past ≡ b → was_born dialogue (only dialogue past) ≡ was_born dialogue past → was_born dialogue (seen_or_not b pair past) ≡ was_born dialogue (pair ∷ past)
-      go true e same = ap (λ o. is_that dialogue o || was_born dialogue (only dialogue past)) (born_within pair.event pair.answer) ∙ ap (λ b. is_birth_of dialogue pair || b) same
+      go : (b : Bool) → is_seen_by dialogue pair past ≡ b
+          → was_born dialogue (only dialogue past) ≡ was_born dialogue past
+          → was_born dialogue (seen_or_not b pair past) ≡ was_born dialogue (pair ∷ past)
+      go true e same = ap (λ o. is_that dialogue o || was_born dialogue (only dialogue past))
+          (born_within pair.event pair.answer) ∙ ap (λ b. is_birth_of dialogue pair || b) same
       go false e same = same ∙ ap (λ b. b || was_born dialogue past) (sym (unseen pair past e).no_birth)
 
   pub only_life : (past : Past) → life dialogue (only dialogue past) ≡ life dialogue past
   only_life [] = refl
   only_life (pair ∷ past) = go (is_seen_by dialogue pair past) refl (only_life past)
     where
-      go : (b : Bool) → is_seen_by dialogue pair past ≡ b → life dialogue (only dialogue past) ≡ life dialogue past → life dialogue (seen_or_not b pair past) ≡ life dialogue (pair ∷ past)
-      go true e same = life_within (life dialogue (only dialogue past)) pair.event pair.answer ∙ ap (λ l. life_after dialogue l pair) same
+      go : (b : Bool) → is_seen_by dialogue pair past ≡ b → life dialogue (only dialogue past) ≡ life dialogue past
+          → life dialogue (seen_or_not b pair past) ≡ life dialogue (pair ∷ past)
+      go true e same = life_within (life dialogue (only dialogue past)) pair.event pair.answer
+          ∙ ap (λ l. life_after dialogue l pair) same
       go false e same = same ∙ sym (unseen_life pair past (unseen pair past e))
 
-  pub seen_marks : (id : ℤ) (pair : Pair) (past : Past) → marks dialogue id (pair_within dialogue pair.event pair.answer) (only dialogue past) ≡ marks dialogue id pair past
+  pub seen_marks : (id : ℤ) (pair : Pair) (past : Past)
+      → marks dialogue id (pair_within dialogue pair.event pair.answer) (only dialogue past)
+      ≡ marks dialogue id pair past
   seen_marks id pair past =
-      ap (λ c. noted_at_clock c (marks_after_birth dialogue id (life dialogue (only dialogue past)) (pair_within dialogue pair.event pair.answer))) (only_clock past)
+      ap (λ c. noted_at_clock c (marks_after_birth dialogue id (life dialogue (only dialogue past))
+      (pair_within dialogue pair.event pair.answer))) (only_clock past)
       ∙ (ap (noted_at_clock (clock past)) (marks_within id (life dialogue (only dialogue past)) pair.event pair.answer)
       ∙ ap (λ l. noted_at_clock (clock past) (marks_after_birth dialogue id l pair)) (only_life past))

@@ -44,25 +44,29 @@ abbrev IfSource : Standing → Option Message → Type 0
 IfSource d None = Unit {0}
 IfSource d (Some m) = IsSource d m
 
-continue-source : (d : Standing) (state : State) (portion : Option (List ℕ)) → d.state ≡ state → IfSource d (continue_message d state portion)
+continue-source : (d : Standing) (state : State) (portion : Option (List ℕ)) → d.state ≡ state
+    → IfSource d (continue_message d state portion)
 continue-source d State.fresh portion is = tt
 continue-source d State.sent portion is = tt
 continue-source d (State.received peer) portion is = (refl, ap peer_of is)
 continue-source d (State.active peer) portion is = (refl, ap peer_of is)
 
-end-source : (d : Standing) (state : State) (portion : Option (List ℕ)) → d.state ≡ state → IfSource d (end_message d state portion)
+end-source : (d : Standing) (state : State) (portion : Option (List ℕ)) → d.state ≡ state
+    → IfSource d (end_message d state portion)
 end-source d State.fresh portion is = tt
 end-source d State.sent portion is = tt
 end-source d (State.received peer) portion is = ap peer_of is
 end-source d (State.active peer) portion is = ap peer_of is
 
-abort-source : (d : Standing) (state : State) (reason : Reason) → d.state ≡ state → IfSource d (abort_message state reason)
+abort-source : (d : Standing) (state : State) (reason : Reason) → d.state ≡ state
+    → IfSource d (abort_message state reason)
 abort-source d State.fresh reason is = tt
 abort-source d State.sent reason is = tt
 abort-source d (State.received peer) reason is = ap peer_of is
 abort-source d (State.active peer) reason is = ap peer_of is
 
-refusing-source : (d : Standing) (state : State) (context : Option (List ℕ)) (info : List ℕ) → d.state ≡ state → IfSource d (refusing_message state context info)
+refusing-source : (d : Standing) (state : State) (context : Option (List ℕ)) (info : List ℕ) → d.state ≡ state
+    → IfSource d (refusing_message state context info)
 refusing-source d state None info is = tt
 refusing-source d state (Some context) info is = abort-source d state (refusing_abort context info) is
 
@@ -70,11 +74,15 @@ message-source : (d : Standing) (request : Request) → IfSource d (message_of d
 message-source d (Request.component asked) = tt
 message-source d (Request.dialogue (DialogueRequest.uni context info)) = tt
 message-source d (Request.dialogue (DialogueRequest.begin context info)) = refl
-message-source d (Request.dialogue (DialogueRequest.go_on context info)) = continue-source d d.state (answer_portion d.state d.context context info) refl
-message-source d (Request.dialogue (DialogueRequest.finish Ending.basic context info)) = end-source d d.state (answer_portion d.state d.context context info) refl
+message-source d (Request.dialogue (DialogueRequest.go_on context info)) =
+    continue-source d d.state (answer_portion d.state d.context context info) refl
+message-source d (Request.dialogue (DialogueRequest.finish Ending.basic context info)) =
+    end-source d d.state (answer_portion d.state d.context context info) refl
 message-source d (Request.dialogue (DialogueRequest.finish Ending.prearranged context info)) = tt
-message-source d (Request.dialogue (DialogueRequest.u_abort AbortReason.by_user info)) = abort-source d d.state (user_abort d.context info) refl
-message-source d (Request.dialogue (DialogueRequest.u_abort AbortReason.not_supported info)) = refusing-source d d.state d.context info refl
+message-source d (Request.dialogue (DialogueRequest.u_abort AbortReason.by_user info)) =
+    abort-source d d.state (user_abort d.context info) refl
+message-source d (Request.dialogue (DialogueRequest.u_abort AbortReason.not_supported info)) =
+    refusing-source d d.state d.context info refl
 
 -- ---- who sent what was received
 
@@ -97,15 +105,21 @@ pub record SentAs (past : Past) (event : Event) (m : Message) : Type 0 where
 
 module _ (h : History) (bytes : List ℕ) (m : Message) (spelled : SpellsFrame m bytes) (no_abort : IsNoAbort m) where
   pub sent-as : (event : Event) → Tells (reply h event) (Output.send bytes) → SentAs h.pairs event m
-  sent-as Event.new_dialogue tells = absurd (tells-sends Nothing (reply h Event.new_dialogue) bytes (birth-sends h (birth_due h)) tells)
-  sent-as (Event.moment now) tells = absurd (tells-sends Nothing (reply h (Event.moment now)) bytes (moment-sends h.pairs now (moment_fault now)) tells)
+  sent-as Event.new_dialogue tells =
+      absurd (tells-sends Nothing (reply h Event.new_dialogue) bytes (birth-sends h (birth_due h)) tells)
+  sent-as (Event.moment now) tells =
+      absurd (tells-sends Nothing (reply h (Event.moment now)) bytes (moment-sends h.pairs now (moment_fault now))
+      tells)
   sent-as (Event.received octets) tells =
       let sent = sent_for_bytes h octets bytes tells in
-      absurd (subst IsNoAbort (one_frame m (Message.abort sent.peer sent.reason) bytes spelled sent.is_message.spelled) no_abort)
+      absurd (subst IsNoAbort (one_frame m (Message.abort sent.peer sent.reason) bytes spelled sent.is_message.spelled)
+      no_abort)
   sent-as (Event.on_dialogue dialogue request) tells =
       let sent = sent_for_request h dialogue request bytes tells in
       let d : Standing = standing_of dialogue h.pairs sent.state sent.context in
-      let asked : message_of d request ≡ Some m = sent.is_asked ∙ ap (λ (x : Message). Some x) (sym (one_frame m sent.message bytes spelled sent.is_message.spelled)) in
+      let asked : message_of d request ≡ Some m =
+      sent.is_asked ∙ ap (λ (x : Message). Some x)
+      (sym (one_frame m sent.message bytes spelled sent.is_message.spelled)) in
       record {
         dialogue = dialogue;
         request = request;
@@ -126,31 +140,42 @@ pub record FarSender (net : Net) (engine : Engine) (before : Trace) (m : Message
   pub is_legal : AreReplies (net.start (far engine)) (sender ∷ past)
   pub sent : SentAs past sender.event m
 
-module _ (net : Net) (is : IsNet net) (engine : Engine) (pair : Pair) (before : Trace) (happens : Happens engine pair before net.trace) where
-  pub far-sender : (bytes : List ℕ) (m : Message) → pair.event ≡ Event.received bytes → SpellsFrame m bytes → IsNoAbort m → FarSender net engine before m
+module _ (net : Net) (is : IsNet net) (engine : Engine) (pair : Pair) (before : Trace)
+    (happens : Happens engine pair before net.trace) where
+  pub far-sender : (bytes : List ℕ) (m : Message) → pair.event ≡ Event.received bytes → SpellsFrame m bytes
+      → IsNoAbort m → FarSender net engine before m
   far-sender bytes m is_event spelled no_abort =
-      let arrives : IsCarriedTo engine (Event.received bytes) before = subst (λ (e : Event). IsCarriedTo engine e before) is_event (carried-there engine pair before net.trace happens is.is_carried) in
+      let arrives : IsCarriedTo engine (Event.received bytes) before =
+      subst (λ (e : Event). IsCarriedTo engine e before) is_event
+      (carried-there engine pair before net.trace happens is.is_carried) in
       let by : SentBy bytes (side (far engine) before) = bytes_sent bytes (side (far engine) before) arrives in
-      let legal = legal-before (net.start (far engine)) by.stands.later (by.pair ∷ by.before) (subst (AreReplies (net.start (far engine))) by.stands.is_past (legal-there net is engine pair before happens (far engine))) in
+      let legal = legal-before (net.start (far engine)) by.stands.later (by.pair ∷ by.before)
+      (subst (AreReplies (net.start (far engine))) by.stands.is_past
+      (legal-there net is engine pair before happens (far engine))) in
       record {
         sender = by.pair;
         past = by.before;
         stands = by.stands;
         accepted = ap is_accepted by.tells.is_answer;
         is_legal = legal;
-        sent = sent-as (record { start = net.start (far engine); pairs = by.before }) bytes m spelled no_abort by.pair.event (subst (λ a. Tells a (Output.send bytes)) legal.1 by.tells);
+        sent = sent-as (record { start = net.start (far engine); pairs = by.before }) bytes m spelled no_abort
+            by.pair.event (subst (λ a. Tells a (Output.send bytes)) legal.1 by.tells);
       }
 
 -- ---- the four octets of a dialogue are of no other
 
 pub same-id : (c d : ℕ) → c < 2 ^ 32 → d < 2 ^ 32 → local_id c ≡ local_id d → c ≡ d
-same-id c d c_short d_short e = sym (from_be_bytes-to_be_bytes_4 c c_short) ∙ (ap (from_be_bytes w32) e ∙ from_be_bytes-to_be_bytes_4 d d_short)
+same-id c d c_short d_short e =
+    sym (from_be_bytes-to_be_bytes_4 c c_short) ∙ (ap (from_be_bytes w32) e ∙ from_be_bytes-to_be_bytes_4 d d_short)
 
 -- a dialogue that was born has an identifier of 32 bits
-pub born-short : (start : Start) (past : Past) (dialogue : ℕ) → is_start start ≡ true → AreReplies start past → life dialogue past ≢ Life.unborn → dialogue < 2 ^ 32
+pub born-short : (start : Start) (past : Past) (dialogue : ℕ) → is_start start ≡ true → AreReplies start past
+    → life dialogue past ≢ Life.unborn → dialogue < 2 ^ 32
 born-short start past dialogue starts legal born =
     let below = dialogues-below start past legal (start_dialogue-within start starts) in
     elim (cases_Bool (nat_lt dialogue (start.next_dialogue + births past))) [
-      | inl within ↦ let less = ltb-true dialogue (start.next_dialogue + births past) within in omega (arith, below, less)
-      | inr beyond ↦ absurd (born (unborn-life dialogue past (beyond-unborn start past legal dialogue (ltb-false dialogue (start.next_dialogue + births past) beyond))))
+      | inl within ↦ let less =
+          ltb-true dialogue (start.next_dialogue + births past) within in omega (arith, below, less)
+      | inr beyond ↦ absurd (born (unborn-life dialogue past
+          (beyond-unborn start past legal dialogue (ltb-false dialogue (start.next_dialogue + births past) beyond))))
     ]

@@ -18,16 +18,21 @@ use Rattle.tcap_model.specs.Words.State.{State, peer_of, activated, is_live}
 
 -- a Begin with this origin, or a Continue with it to a dialogue in Initiation Sent
 abbrev pub HearsBegin : List ℕ → Result Message FrameFault → Type 0
-HearsBegin peer read = (portion : Option (List ℕ)) × (components : List ℕ) × (read ≡ Ok (Message.begin peer portion components))
+HearsBegin peer read =
+    (portion : Option (List ℕ)) × (components : List ℕ) × (read ≡ Ok (Message.begin peer portion components))
 
 abbrev pub HearsContinue : List ℕ → Result Message FrameFault → Type 0
-HearsContinue peer read = (to : List ℕ) × (portion : Option (List ℕ)) × (components : List ℕ) × (read ≡ Ok (Message.go_on peer to portion components))
+HearsContinue peer read =
+    (to : List ℕ) × (portion : Option (List ℕ)) × (components : List ℕ)
+    × (read ≡ Ok (Message.go_on peer to portion components))
 
 -- how a pair tells a dialogue of its peer
 pub record Hears (dialogue : ℕ) (peer : List ℕ) (before : Life) (event : Event) (birth : Bool) : Type 0 where
   pub bytes : List ℕ
   pub is_event : event ≡ Event.received bytes
-  pub how : ((before ≡ Life.unborn) × (birth ≡ true) × HearsBegin peer (frame_at bytes)) ⊎ ((context : Option (List ℕ)) × (before ≡ Life.standing State.sent context) × (names (Event.received bytes) dialogue ≡ true) × HearsContinue peer (frame_at bytes))
+  pub how : ((before ≡ Life.unborn) × (birth ≡ true) × HearsBegin peer (frame_at bytes))
+      ⊎ ((context : Option (List ℕ)) × (before ≡ Life.standing State.sent context)
+      × (names (Event.received bytes) dialogue ≡ true) × HearsContinue peer (frame_at bytes))
 
 -- a dialogue that stands with this peer
 abbrev pub IsPeered : List ℕ → Life → Type 0
@@ -42,7 +47,8 @@ same-activated peer (State.received known) e = e
 same-activated peer (State.active known) e = e
 
 module _ (peer : List ℕ) where
-  by-request : (state : State) (context : Option (List ℕ)) (request : Request) → IsPeered peer (life_by_request state context request) → peer_of state ≡ Some peer
+  by-request : (state : State) (context : Option (List ℕ)) (request : Request)
+      → IsPeered peer (life_by_request state context request) → peer_of state ≡ Some peer
   by-request state context (Request.component (ComponentRequest.invoke id class code parameter linked timeout)) is = is
   by-request state context (Request.component (ComponentRequest.result_last id body)) is = is
   by-request state context (Request.component (ComponentRequest.result_more id body)) is = is
@@ -55,12 +61,14 @@ module _ (peer : List ℕ) where
   by-request state context (Request.dialogue (DialogueRequest.finish ending asked info)) is = absurd is
   by-request state context (Request.dialogue (DialogueRequest.u_abort why info)) is = absurd is
 
-  if-accepted : (accepted : Bool) (state : State) (context : Option (List ℕ)) (request : Request) → IsPeered peer (life_if_accepted accepted state context request) → peer_of state ≡ Some peer
+  if-accepted : (accepted : Bool) (state : State) (context : Option (List ℕ)) (request : Request)
+      → IsPeered peer (life_if_accepted accepted state context request) → peer_of state ≡ Some peer
   if-accepted true state context request is = by-request state context request is
   if-accepted false state context request is = is
 
   -- a Continue keeps the peer, or tells it
-  by-answer : (state : State) (origin : List ℕ) → peer_of (state_after_continue state origin) ≡ Some peer → (peer_of state ≡ Some peer) ⊎ ((state ≡ State.sent) × (origin ≡ peer))
+  by-answer : (state : State) (origin : List ℕ) → peer_of (state_after_continue state origin) ≡ Some peer
+      → (peer_of state ≡ Some peer) ⊎ ((state ≡ State.sent) × (origin ≡ peer))
   by-answer State.fresh origin e = inl e
   by-answer State.sent origin e = let same : origin ≡ peer = cc in inr (refl, same)
   by-answer (State.received known) origin e = inl e
@@ -69,60 +77,97 @@ module _ (peer : List ℕ) where
   abbrev Tells : State → Result Message FrameFault → Type 0
   Tells state read = (peer_of state ≡ Some peer) ⊎ ((state ≡ State.sent) × HearsContinue peer read)
 
-  by-verdict : (state : State) (context : Option (List ℕ)) (origin to components : List ℕ) (portion : Option (List ℕ)) (verdict : PortionVerdict) → IsPeered peer (life_by_verdict state context origin verdict) → Tells state (Ok (Message.go_on origin to portion components))
-  by-verdict state context origin to components portion (PortionVerdict.normal told info) is = elim (by-answer state origin is) [
-    | inl known ↦ inl known
-    | inr new ↦ inr (new.0, (to, portion, components, ap (λ (w : List ℕ). Ok (Message.go_on w to portion components)) new.1))
-  ]
+  by-verdict : (state : State) (context : Option (List ℕ)) (origin to components : List ℕ) (portion : Option (List ℕ))
+      (verdict : PortionVerdict) → IsPeered peer (life_by_verdict state context origin verdict)
+      → Tells state (Ok (Message.go_on origin to portion components))
+  by-verdict state context origin to components portion (PortionVerdict.normal told info) is =
+      elim (by-answer state origin is) [
+        | inl known ↦ inl known
+        | inr new ↦ inr (
+          new.0,
+          (
+            to,
+            portion,
+            components,
+            ap (λ (w : List ℕ). Ok (Message.go_on w to portion components)) new.1,
+          ),
+        )
+      ]
   by-verdict state context origin to components portion PortionVerdict.abnormal is = absurd is
 
-  by-message : (state : State) (context : Option (List ℕ)) (read : Result Message FrameFault) → IsPeered peer (life_by_message state context read) → Tells state read
-  by-message state context (Ok (Message.go_on origin to portion components)) is = by-verdict state context origin to components portion (portion_verdict state context portion) is
+  by-message : (state : State) (context : Option (List ℕ)) (read : Result Message FrameFault)
+      → IsPeered peer (life_by_message state context read) → Tells state read
+  by-message state context (Ok (Message.go_on origin to portion components)) is =
+      by-verdict state context origin to components portion (portion_verdict state context portion) is
   by-message state context (Ok (Message.end to portion components)) is = absurd is
   by-message state context (Ok (Message.abort to reason)) is = absurd is
   by-message state context (Ok (Message.unidirectional portion components)) is = inl is
   by-message state context (Ok (Message.begin origin portion components)) is = inl is
   by-message state context (Err fault) is = absurd is
 
-  if-live : (alive : Bool) (state : State) (context : Option (List ℕ)) (bytes : List ℕ) → IsPeered peer (life_if_live alive state context bytes) → Tells state (frame_at bytes)
+  if-live : (alive : Bool) (state : State) (context : Option (List ℕ)) (bytes : List ℕ)
+      → IsPeered peer (life_if_live alive state context bytes) → Tells state (frame_at bytes)
   if-live true state context bytes is = by-message state context (frame_at bytes) is
   if-live false state context bytes is = inl is
 
   -- the Begin of a birth
   by-begin : (read : Result Message FrameFault) → IsPeered peer (begun_life read) → HearsBegin peer read
-  by-begin (Ok (Message.begin origin portion components)) is = let same : origin ≡ peer = cc in (portion, components, ap (λ (w : List ℕ). Ok (Message.begin w portion components)) same)
+  by-begin (Ok (Message.begin origin portion components)) is = let same : origin ≡ peer =
+      cc in (portion, components, ap (λ (w : List ℕ). Ok (Message.begin w portion components)) same)
   by-begin (Ok (Message.unidirectional portion components)) is = absurd is
   by-begin (Ok (Message.end to portion components)) is = absurd is
   by-begin (Ok (Message.go_on origin to portion components)) is = absurd is
   by-begin (Ok (Message.abort to reason)) is = absurd is
   by-begin (Err fault) is = absurd is
 
-  at-birth : (dialogue : ℕ) (event : Event) (birth : Bool) → IsPeered peer (life_at_birth birth event) → Hears dialogue peer Life.unborn event birth
+  at-birth : (dialogue : ℕ) (event : Event) (birth : Bool) → IsPeered peer (life_at_birth birth event)
+      → Hears dialogue peer Life.unborn event birth
   at-birth dialogue event false is = absurd is
   at-birth dialogue Event.new_dialogue true is = absurd cc
   at-birth dialogue (Event.on_dialogue named request) true is = absurd is
-  at-birth dialogue (Event.received bytes) true is = record { bytes = bytes; is_event = refl; how = inl (refl, refl, by-begin (frame_at bytes) is) }
+  at-birth dialogue (Event.received bytes) true is =
+      record { bytes = bytes; is_event = refl; how = inl (refl, refl, by-begin (frame_at bytes) is) }
   at-birth dialogue (Event.moment now) true is = absurd is
 
   abbrev IsOrHears : ℕ → State → Option (List ℕ) → Event → Bool → Type 0
-  IsOrHears dialogue state context event birth = (peer_of state ≡ Some peer) ⊎ Hears dialogue peer (Life.standing state context) event birth
+  IsOrHears dialogue state context event birth =
+      (peer_of state ≡ Some peer) ⊎ Hears dialogue peer (Life.standing state context) event birth
 
-  by-event : (dialogue : ℕ) (state : State) (context : Option (List ℕ)) (event : Event) (accepted birth : Bool) → names event dialogue ≡ true → IsPeered peer (life_by_event state context event accepted) → IsOrHears dialogue state context event birth
+  by-event : (dialogue : ℕ) (state : State) (context : Option (List ℕ)) (event : Event) (accepted birth : Bool)
+      → names event dialogue ≡ true → IsPeered peer (life_by_event state context event accepted)
+      → IsOrHears dialogue state context event birth
   by-event dialogue state context Event.new_dialogue accepted birth named is = inl is
-  by-event dialogue state context (Event.on_dialogue asked request) accepted birth named is = inl (if-accepted accepted state context request is)
-  by-event dialogue state context (Event.received bytes) accepted birth named is = elim (if-live (is_live state) state context bytes is) [
-    | inl known ↦ inl known
-    | inr new ↦ inr (record { bytes = bytes; is_event = refl; how = inr (context, ap (λ (s : State). Life.standing s context) new.0, named, new.1) })
-  ]
+  by-event dialogue state context (Event.on_dialogue asked request) accepted birth named is =
+      inl (if-accepted accepted state context request is)
+  by-event dialogue state context (Event.received bytes) accepted birth named is =
+      elim (if-live (is_live state) state context bytes is) [
+        | inl known ↦ inl known
+        | inr new ↦ inr (record {
+          bytes = bytes;
+          is_event = refl;
+          how =
+              inr (context, ap (λ (s : State). Life.standing s context) new.0, named, new.1);
+        })
+      ]
   by-event dialogue state context (Event.moment now) accepted birth named is = inl is
 
-  if-named : (dialogue : ℕ) (state : State) (context : Option (List ℕ)) (event : Event) (answer : Answer) (birth : Bool) → (named : Bool) → names event dialogue ≡ named → IsPeered peer (life_if_named named state context (record { event = event; answer = answer })) → IsOrHears dialogue state context event birth
-  if-named dialogue state context event answer birth true named is = by-event dialogue state context event (is_accepted answer) birth named is
+  if-named : (dialogue : ℕ) (state : State) (context : Option (List ℕ)) (event : Event) (answer : Answer) (birth : Bool)
+      → (named : Bool) → names event dialogue ≡ named
+      → IsPeered peer (life_if_named named state context (record { event = event; answer = answer }))
+      → IsOrHears dialogue state context event birth
+  if-named dialogue state context event answer birth true named is =
+      by-event dialogue state context event (is_accepted answer) birth named is
   if-named dialogue state context event answer birth false named is = inl is
 
-  after : (dialogue : ℕ) (event : Event) (answer : Answer) (before : Life) → IsPeered peer (life_after dialogue before (record { event = event; answer = answer })) → IsPeered peer before ⊎ Hears dialogue peer before event (is_birth_of dialogue (record { event = event; answer = answer }))
-  after dialogue event answer Life.unborn is = inr (at-birth dialogue event (is_birth_of dialogue (record { event = event; answer = answer })) is)
-  after dialogue event answer (Life.standing state context) is = if-named dialogue state context event answer (is_birth_of dialogue (record { event = event; answer = answer })) (names event dialogue) refl is
+  after : (dialogue : ℕ) (event : Event) (answer : Answer) (before : Life)
+      → IsPeered peer (life_after dialogue before (record { event = event; answer = answer }))
+      → IsPeered peer before ⊎ Hears dialogue peer before event
+      (is_birth_of dialogue (record { event = event; answer = answer }))
+  after dialogue event answer Life.unborn is =
+      inr (at-birth dialogue event (is_birth_of dialogue (record { event = event; answer = answer })) is)
+  after dialogue event answer (Life.standing state context) is =
+      if-named dialogue state context event answer (is_birth_of dialogue (record { event = event; answer = answer }))
+      (names event dialogue) refl is
   after dialogue event answer Life.over is = absurd is
 
 -- ---- the whole life
@@ -134,7 +179,8 @@ pub record HeardOf (dialogue : ℕ) (peer : List ℕ) (past : Past) : Type 0 whe
   pub stands : StandsIn pair before past
   pub hears : Hears dialogue peer (life dialogue before) pair.event (is_birth_of dialogue pair)
 
-heard-later : (dialogue : ℕ) (peer : List ℕ) (pair : Pair) (past : Past) → HeardOf dialogue peer past → HeardOf dialogue peer (pair ∷ past)
+heard-later : (dialogue : ℕ) (peer : List ℕ) (pair : Pair) (past : Past) → HeardOf dialogue peer past
+    → HeardOf dialogue peer (pair ∷ past)
 heard-later dialogue peer pair past heard = record {
   pair = heard.pair;
   before = heard.before;
@@ -142,7 +188,8 @@ heard-later dialogue peer pair past heard = record {
   hears = heard.hears;
 }
 
-pub peer-heard : (dialogue : ℕ) (peer : List ℕ) (past : Past) → IsPeered peer (life dialogue past) → HeardOf dialogue peer past
+pub peer-heard : (dialogue : ℕ) (peer : List ℕ) (past : Past) → IsPeered peer (life dialogue past)
+    → HeardOf dialogue peer past
 peer-heard dialogue peer [] is = absurd is
 peer-heard dialogue peer (pair ∷ past) is = elim (after peer dialogue pair.event pair.answer (life dialogue past) is) [
   | inl known ↦ heard-later dialogue peer pair past (peer-heard dialogue peer past known)

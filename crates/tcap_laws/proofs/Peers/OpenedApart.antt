@@ -27,13 +27,16 @@ carried-rest : (later : Trace) (m : Marked) (before : Trace) → IsCarried (late
 carried-rest [] m before all = all.1
 carried-rest (other ∷ later) m before all = carried-rest later m before all.1
 
-pub net-before : (net : Net) → IsNet net → (engine : Engine) (pair : Pair) (before : Trace) → Happens engine pair before net.trace → IsNet (record { start = net.start; trace = before })
+pub net-before : (net : Net) → IsNet net → (engine : Engine) (pair : Pair) (before : Trace)
+    → Happens engine pair before net.trace → IsNet (record { start = net.start; trace = before })
 net-before net is engine pair before happens = record {
   is_legal = λ other. ((is.is_legal other).0, legal-there net is engine pair before happens other);
-  is_carried = carried-rest happens.later (record { engine = engine; pair = pair }) before (subst IsCarried happens.is_trace is.is_carried);
+  is_carried = carried-rest happens.later (record { engine = engine; pair = pair }) before
+      (subst IsCarried happens.is_trace is.is_carried);
 }
 
-shorter : (engine : Engine) (pair : Pair) (before trace : Trace) → Happens engine pair before trace → length before < length trace
+shorter : (engine : Engine) (pair : Pair) (before trace : Trace) → Happens engine pair before trace
+    → length before < length trace
 shorter engine pair before trace happens =
     let whole = ap length happens.is_trace in
     let parts = length-append happens.later (record { engine = engine; pair = pair } ∷ before) in
@@ -44,10 +47,15 @@ shorter engine pair before trace happens =
 pub own-name : (dialogue : ℕ) → dialogue < 2 ^ 32 → dialogue_named (local_id dialogue) ≡ Some dialogue
 own-name dialogue short = ap (λ (d : ℕ). Some d) (from_be_bytes-to_be_bytes_4 dialogue short)
 
-pub continue-names : (dialogue : ℕ) (bytes origin to components : List ℕ) (portion : Option (List ℕ)) → names (Event.received bytes) dialogue ≡ true → frame_at bytes ≡ Ok (Message.go_on origin to portion components) → dialogue_named to ≡ Some dialogue
-continue-names dialogue bytes origin to components portion named read = that-is dialogue (dialogue_named to) (ap (λ r. is_destined dialogue (destination_by bytes r)) (sym read) ∙ within (nat_le (length bytes) message_limit) named)
+pub continue-names : (dialogue : ℕ) (bytes origin to components : List ℕ) (portion : Option (List ℕ))
+    → names (Event.received bytes) dialogue ≡ true → frame_at bytes ≡ Ok (Message.go_on origin to portion components)
+    → dialogue_named to ≡ Some dialogue
+continue-names dialogue bytes origin to components portion named read =
+    that-is dialogue (dialogue_named to) (ap (λ r. is_destined dialogue (destination_by bytes r)) (sym read)
+    ∙ within (nat_le (length bytes) message_limit) named)
   where
-    within : (short : Bool) → named_within short dialogue bytes ≡ true → is_destined dialogue (destination_of bytes) ≡ true
+    within : (short : Bool) → named_within short dialogue bytes ≡ true
+        → is_destined dialogue (destination_of bytes) ≡ true
     within true e = e
     within false e = absurd cc
 
@@ -55,12 +63,20 @@ continue-names dialogue bytes origin to components portion named read = that-is 
 
 -- no message of the peer gave birth to the dialogue
 abbrev pub NeverBegun : ℕ → Past → Type 0
-NeverBegun dialogue past = (pair : Pair) (before : Past) (bytes : List ℕ) → StandsIn pair before past → pair.event ≡ Event.received bytes → is_birth_of dialogue pair ≡ true → ⊥
+NeverBegun dialogue past =
+    (pair : Pair) (before : Past) (bytes : List ℕ) → StandsIn pair before past → pair.event ≡ Event.received bytes
+    → is_birth_of dialogue pair ≡ true → ⊥
 
-pub never-before : (dialogue : ℕ) (other engine : Engine) (pair : Pair) (before trace : Trace) → Happens engine pair before trace → NeverBegun dialogue (side other trace) → NeverBegun dialogue (side other before)
+pub never-before : (dialogue : ℕ) (other engine : Engine) (pair : Pair) (before trace : Trace)
+    → Happens engine pair before trace → NeverBegun dialogue (side other trace)
+    → NeverBegun dialogue (side other before)
 never-before dialogue other engine pair before trace happens never asked past bytes stands =
     let rest = happens-rest other engine pair before trace happens in
-    never asked past bytes (record { later = rest.0 ++ stands.later; is_past = rest.1 ∙ (ap (λ (p : Past). rest.0 ++ p) stands.is_past ∙ sym (append_assoc rest.0 stands.later (asked ∷ past))) })
+    never asked past bytes (record {
+      later = rest.0 ++ stands.later;
+      is_past =
+          rest.1 ∙ (ap (λ (p : Past). rest.0 ++ p) stands.is_past ∙ sym (append_assoc rest.0 stands.later (asked ∷ past)));
+    })
 
 -- a dialogue of each engine that no Begin gave birth to, and the other's has this one's identifier as its
 -- peer's: it never is so
@@ -71,7 +87,8 @@ pub record BothOpened (net : Net) (engine other : Engine) (c d : ℕ) (peer : Li
   pub is_peered : IsPeered peer (life d (side other net.trace))
 
 -- the step: where it holds of all that is shorter
-module _ (n : ℕ) (net : Net) (is : IsNet net) (engine other : Engine) (back : far other ≡ engine) (c d : ℕ) (within : length net.trace ≤ n) where
+module _ (n : ℕ) (net : Net) (is : IsNet net) (engine other : Engine) (back : far other ≡ engine) (c d : ℕ)
+    (within : length net.trace ≤ n) where
   step-peers : (peer : List ℕ) →
       ((trace : Trace) (to : List ℕ) → IsNet (record { start = net.start; trace = trace }) → length trace < n →
       BothOpened (record { start = net.start; trace = trace }) other engine d c to → ⊥) →
@@ -85,10 +102,15 @@ module _ (n : ℕ) (net : Net) (is : IsNet net) (engine other : Engine) (back : 
         | inr continued ↦
             let hears_it = continued.3 in
             let m : Message = Message.go_on peer hears_it.0 hears_it.1 hears_it.2 in
-            let from : FarSender net other at.before m = far-sender net is other heard.pair at.before at.happens hears.bytes m hears.is_event (frame_takes hears.bytes m hears_it.3) tt in
+            let from : FarSender net other at.before m =
+            far-sender net is other heard.pair at.before at.happens hears.bytes m hears.is_event
+            (frame_takes hears.bytes m hears_it.3) tt in
             let sent = from.sent in
-            let short = born-short (net.start (far other)) from.past sent.dialogue (is.is_legal (far other)).0 from.is_legal.2 (λ unborn. let never : Life.standing sent.state sent.context ≡ Life.unborn = sym sent.is_life ∙ unborn in absurd cc) in
-            let same_name : Some sent.dialogue ≡ Some c = sym (own-name sent.dialogue short) ∙ (ap dialogue_named (sym sent.source.0) ∙ opened.is_named) in
+            let short = born-short (net.start (far other)) from.past sent.dialogue (is.is_legal (far other)).0
+            from.is_legal.2 (λ unborn. let never : Life.standing sent.state sent.context ≡ Life.unborn =
+            sym sent.is_life ∙ unborn in absurd cc) in
+            let same_name : Some sent.dialogue ≡ Some c =
+            sym (own-name sent.dialogue short) ∙ (ap dialogue_named (sym sent.source.0) ∙ opened.is_named) in
             let same : sent.dialogue ≡ c = cc in
             let to_d = continue-names d hears.bytes peer hears_it.0 hears_it.2 hears_it.1 continued.2 hears_it.3 in
             let before-it = stands-happens (far other) from.sender from.past at.before from.stands in
@@ -100,7 +122,8 @@ module _ (n : ℕ) (net : Net) (is : IsNet net) (engine other : Engine) (back : 
             let peered_c : IsPeered hears_it.0 (life c (side engine before-it.before)) =
             subst (λ (e : Engine). IsPeered hears_it.0 (life c (side e before-it.before))) back
             (subst (λ (p : Past). IsPeered hears_it.0 (life c p)) (sym before-it.is_side)
-            (subst (λ (x : ℕ). IsPeered hears_it.0 (life x from.past)) same (subst (IsPeered hears_it.0) (sym sent.is_life) sent.source.1))) in
+            (subst (λ (x : ℕ). IsPeered hears_it.0 (life x from.past)) same
+            (subst (IsPeered hears_it.0) (sym sent.is_life) sent.source.1))) in
             again before-it.before hears_it.0 second_is (omega (arith, within, less, lesser)) (record {
               is_named = to_d;
               never_here = never-before d other (far other) from.sender before-it.before at.before before-it.happens
@@ -113,7 +136,9 @@ module _ (n : ℕ) (net : Net) (is : IsNet net) (engine other : Engine) (back : 
 
 pub never-peers : (n : ℕ) (net : Net) → IsNet net → (engine other : Engine) → far engine ≡ other → far other ≡ engine →
     (c d : ℕ) (peer : List ℕ) → length net.trace ≤ n → BothOpened net engine other c d peer → ⊥
-never-peers zero net is engine other forth back c d peer within = step-peers zero net is engine other back c d within peer (λ trace to net_is less. absurd (omega (arith, less)))
+never-peers zero net is engine other forth back c d peer within =
+    step-peers zero net is engine other back c d within peer (λ trace to net_is less. absurd (omega (arith, less)))
 never-peers (suc n) net is engine other forth back c d peer within =
     step-peers (suc n) net is engine other back c d within peer
-    (λ trace to net_is less. never-peers n (record { start = net.start; trace = trace }) net_is other engine back forth d c to (omega (arith, less)))
+    (λ trace to net_is less. never-peers n (record { start = net.start; trace = trace }) net_is other engine back forth
+    d c to (omega (arith, less)))

@@ -36,12 +36,16 @@ pub record IsBegun (dialogue : ℕ) (bytes : List ℕ) (pair : Pair) (past : Pas
   pub is_begin : frame_at bytes ≡ Ok (Message.begin origin portion components)
   pub has_peer : HasPeer origin (life dialogue (pair ∷ past))
 
-module _ (start : Start) (dialogue : ℕ) (pair : Pair) (past : Past) (legal : AreReplies start (pair ∷ past)) (birth : is_birth_of dialogue pair ≡ true) where
-  drawn : IsBirth (start.next_dialogue + births past) (birth_due (record { start = start; pairs = past })) (Some dialogue) (born_life pair.event)
-  drawn = elim (subst (λ (born : Option ℕ). IsBornNext (start.next_dialogue + births past) (birth_due (record { start = start; pairs = past })) born (born_life pair.event)) (that-is dialogue (born_by pair) birth) (pair-born start pair past legal)) [
-    | inl none ↦ absurd cc
-    | inr is ↦ is
-  ]
+module _ (start : Start) (dialogue : ℕ) (pair : Pair) (past : Past) (legal : AreReplies start (pair ∷ past))
+    (birth : is_birth_of dialogue pair ≡ true) where
+  drawn : IsBirth (start.next_dialogue + births past) (birth_due (record { start = start; pairs = past }))
+      (Some dialogue) (born_life pair.event)
+  drawn = elim (subst (λ (born : Option ℕ). IsBornNext (start.next_dialogue + births past)
+      (birth_due (record { start = start; pairs = past })) born (born_life pair.event))
+      (that-is dialogue (born_by pair) birth) (pair-born start pair past legal)) [
+        | inl none ↦ absurd cc
+        | inr is ↦ is
+      ]
 
   pub birth-unborn : life dialogue past ≡ Life.unborn
   birth-unborn =
@@ -50,12 +54,14 @@ module _ (start : Start) (dialogue : ℕ) (pair : Pair) (past : Past) (legal : A
       unborn-life dialogue past (beyond-unborn start past legal.2 dialogue (omega (arith, next)))
 
   pub birth-life : life dialogue (pair ∷ past) ≡ born_life pair.event
-  birth-life = ap (λ (l : Life). life_after dialogue l pair) birth-unborn ∙ ap (λ (b : Bool). life_at_birth b pair.event) birth
+  birth-life = ap (λ (l : Life). life_after dialogue l pair) birth-unborn
+      ∙ ap (λ (b : Bool). life_at_birth b pair.event) birth
 
   pub birth-begun : (bytes : List ℕ) → pair.event ≡ Event.received bytes → IsBegun dialogue bytes pair past
   birth-begun bytes is = begun (frame_at bytes) refl (sym (ap born_life is) ∙ drawn.is_life)
     where
-      begun : (read : Result Message FrameFault) → frame_at bytes ≡ read → begun_life read ≡ Life.standing drawn.state drawn.context → IsBegun dialogue bytes pair past
+      begun : (read : Result Message FrameFault) → frame_at bytes ≡ read
+          → begun_life read ≡ Life.standing drawn.state drawn.context → IsBegun dialogue bytes pair past
       begun (Ok (Message.begin origin portion components)) e made = record {
         origin = origin;
         portion = portion;
@@ -72,50 +78,69 @@ module _ (start : Start) (dialogue : ℕ) (pair : Pair) (past : Past) (legal : A
 -- ---- never begun
 
 -- not up to where its peer isn't known
-never-yet : (start : Start) (dialogue : ℕ) (past : Past) (state : State) (context : Option (List ℕ)) → AreReplies start past → life dialogue past ≡ Life.standing state context → peer_of state ≡ None → NeverBegun dialogue past
+never-yet : (start : Start) (dialogue : ℕ) (past : Past) (state : State) (context : Option (List ℕ))
+    → AreReplies start past → life dialogue past ≡ Life.standing state context → peer_of state ≡ None
+    → NeverBegun dialogue past
 never-yet start dialogue past state context legal lives unknown pair before bytes stands is birth =
     let whole = subst (AreReplies start) stands.is_past legal in
-    let begun = birth-begun start dialogue pair before (legal-before start stands.later (pair ∷ before) whole) birth bytes is in
-    let has : HasPeer begun.origin (life dialogue (stands.later ++ pair ∷ before)) = peer-stays start dialogue begun.origin stands.later (pair ∷ before) whole begun.has_peer in
-    let known : peer_of state ≡ Some begun.origin = subst (HasPeer begun.origin) (ap (life dialogue) (sym stands.is_past) ∙ lives) has in
+    let begun = birth-begun start dialogue pair before (legal-before start stands.later (pair ∷ before) whole) birth
+    bytes is in
+    let has : HasPeer begun.origin (life dialogue (stands.later ++ pair ∷ before)) =
+    peer-stays start dialogue begun.origin stands.later (pair ∷ before) whole begun.has_peer in
+    let known : peer_of state ≡ Some begun.origin =
+    subst (HasPeer begun.origin) (ap (life dialogue) (sym stands.is_past) ∙ lives) has in
     absurd cc
 
 -- a pair is the last one, or stands before it
-first-or : (last pair : Pair) (rest before l : Past) → last ∷ rest ≡ l ++ pair ∷ before → (last ≡ pair) ⊎ StandsIn pair before rest
+first-or : (last pair : Pair) (rest before l : Past) → last ∷ rest ≡ l ++ pair ∷ before
+    → (last ≡ pair) ⊎ StandsIn pair before rest
 first-or last pair rest before [] e = let first : last ≡ pair = cc in inl first
-first-or last pair rest before (p ∷ l) e = let others : rest ≡ l ++ pair ∷ before = cc in inr (record { later = l; is_past = others })
+first-or last pair rest before (p ∷ l) e = let others : rest ≡ l ++ pair ∷ before =
+    cc in inr (record { later = l; is_past = others })
 
 -- nor after that
-never-after : (start : Start) (dialogue : ℕ) (later past : Past) → AreReplies start (later ++ past) → life dialogue past ≢ Life.unborn → NeverBegun dialogue past → NeverBegun dialogue (later ++ past)
-never-after start dialogue [] past legal born never pair before bytes stands is birth = never pair before bytes stands is birth
-never-after start dialogue (last ∷ later) past legal born never pair before bytes stands is birth = elim (first-or last pair (later ++ past) before stands.later stands.is_past) [
-  | inl first ↦ born-stays dialogue later past born (birth-unborn start dialogue last (later ++ past) legal (ap (is_birth_of dialogue) first ∙ birth))
-  | inr others ↦ never-after start dialogue later past legal.2 born never pair before bytes others is birth
-]
+never-after : (start : Start) (dialogue : ℕ) (later past : Past) → AreReplies start (later ++ past)
+    → life dialogue past ≢ Life.unborn → NeverBegun dialogue past → NeverBegun dialogue (later ++ past)
+never-after start dialogue [] past legal born never pair before bytes stands is birth =
+    never pair before bytes stands is birth
+never-after start dialogue (last ∷ later) past legal born never pair before bytes stands is birth =
+    elim (first-or last pair (later ++ past) before stands.later stands.is_past) [
+      | inl first ↦ born-stays dialogue later past born
+          (birth-unborn start dialogue last (later ++ past) legal (ap (is_birth_of dialogue) first ∙ birth))
+      | inr others ↦ never-after start dialogue later past legal.2 born never pair before bytes others is birth
+    ]
 
-pub never-begun : (start : Start) (dialogue : ℕ) (later past : Past) (state : State) (context : Option (List ℕ)) → AreReplies start (later ++ past) → life dialogue past ≡ Life.standing state context → peer_of state ≡ None → NeverBegun dialogue (later ++ past)
+pub never-begun : (start : Start) (dialogue : ℕ) (later past : Past) (state : State) (context : Option (List ℕ))
+    → AreReplies start (later ++ past) → life dialogue past ≡ Life.standing state context → peer_of state ≡ None
+    → NeverBegun dialogue (later ++ past)
 never-begun start dialogue later past state context legal lives unknown =
-    never-after start dialogue later past legal (λ unborn. let never : Life.standing state context ≡ Life.unborn = sym lives ∙ unborn in absurd cc)
+    never-after start dialogue later past legal (λ unborn. let never : Life.standing state context ≡ Life.unborn =
+    sym lives ∙ unborn in absurd cc)
     (never-yet start dialogue past state context (legal-before start later past legal) lives unknown)
 
 -- ---- opened by its user
 
-module _ (net : Net) (is : IsNet net) (engine : Engine) (dialogue : ℕ) (opened : WasOpened engine dialogue net.trace) where
-  whole : AreReplies (net.start engine) (opened.stands.later ++ opened.pair ∷ opened.before)
-  whole = subst (AreReplies (net.start engine)) opened.stands.is_past (is.is_legal engine).1
+module _ (net : Net) (is : IsNet net) (engine : Engine) (dialogue : ℕ) (opened : WasOpened engine dialogue net.trace)
+  where
+    whole : AreReplies (net.start engine) (opened.stands.later ++ opened.pair ∷ opened.before)
+    whole = subst (AreReplies (net.start engine)) opened.stands.is_past (is.is_legal engine).1
 
-  here : AreReplies (net.start engine) (opened.pair ∷ opened.before)
-  here = legal-before (net.start engine) opened.stands.later (opened.pair ∷ opened.before) whole
+    here : AreReplies (net.start engine) (opened.pair ∷ opened.before)
+    here = legal-before (net.start engine) opened.stands.later (opened.pair ∷ opened.before) whole
 
-  lives-fresh : life dialogue (opened.pair ∷ opened.before) ≡ Life.standing State.fresh None
-  lives-fresh =
-      let born : is_birth_of dialogue opened.pair ≡ true =
-      ap (λ (e : Event). is_that dialogue (born_of e opened.pair.answer)) opened.is_event
-      ∙ (ap (λ (a : Answer). is_that dialogue (born_of Event.new_dialogue a)) opened.is_answer ∙ eq-eqb dialogue dialogue refl) in
-      birth-life (net.start engine) dialogue opened.pair opened.before here born ∙ ap born_life opened.is_event
+    lives-fresh : life dialogue (opened.pair ∷ opened.before) ≡ Life.standing State.fresh None
+    lives-fresh =
+        let born : is_birth_of dialogue opened.pair ≡ true =
+        ap (λ (e : Event). is_that dialogue (born_of e opened.pair.answer)) opened.is_event
+        ∙ (ap (λ (a : Answer). is_that dialogue (born_of Event.new_dialogue a)) opened.is_answer
+        ∙ eq-eqb dialogue dialogue refl) in
+        birth-life (net.start engine) dialogue opened.pair opened.before here born ∙ ap born_life opened.is_event
 
-  pub opened-never : NeverBegun dialogue (side engine net.trace)
-  opened-never = subst (NeverBegun dialogue) (sym opened.stands.is_past) (never-begun (net.start engine) dialogue opened.stands.later (opened.pair ∷ opened.before) State.fresh None whole lives-fresh refl)
+    pub opened-never : NeverBegun dialogue (side engine net.trace)
+    opened-never = subst (NeverBegun dialogue) (sym opened.stands.is_past)
+        (never-begun (net.start engine) dialogue opened.stands.later (opened.pair ∷ opened.before) State.fresh None whole
+        lives-fresh refl)
 
-  pub opened-short : dialogue < 2 ^ 32
-  opened-short = born-short (net.start engine) (opened.pair ∷ opened.before) dialogue (is.is_legal engine).0 here (λ unborn. let never : Life.standing State.fresh None ≡ Life.unborn = sym lives-fresh ∙ unborn in absurd cc)
+    pub opened-short : dialogue < 2 ^ 32
+    opened-short = born-short (net.start engine) (opened.pair ∷ opened.before) dialogue (is.is_legal engine).0 here
+        (λ unborn. let never : Life.standing State.fresh None ≡ Life.unborn = sym lives-fresh ∙ unborn in absurd cc)

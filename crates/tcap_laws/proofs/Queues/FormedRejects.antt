@@ -53,7 +53,8 @@ abbrev IsOfDialogue : ℕ → Option Invocation → Type 0
 IsOfDialogue dialogue None = Unit {0}
 IsOfDialogue dialogue (Some i) = i.dialogue ≡ dialogue
 
-first-of : (dialogue : ℕ) (a b : Option Invocation) → IsOfDialogue dialogue a → IsOfDialogue dialogue b → IsOfDialogue dialogue (option_or a b)
+first-of : (dialogue : ℕ) (a b : Option Invocation) → IsOfDialogue dialogue a → IsOfDialogue dialogue b
+    → IsOfDialogue dialogue (option_or a b)
 first-of dialogue None b p q = q
 first-of dialogue (Some i) b p q = p
 
@@ -67,29 +68,36 @@ with_id-of dialogue id (Some i) = elim (cases_Bool (has_id dialogue id i)) [
 latest-of : (dialogue : ℕ) (id : ℤ) (past : Past) → IsOfDialogue dialogue (latest dialogue id past)
 latest-of dialogue id [] = tt
 latest-of dialogue id (pair ∷ past) =
-    first-of dialogue (with_id dialogue id (invoked_by pair)) (latest dialogue id past) (with_id-of dialogue id (invoked_by pair)) (latest-of dialogue id past)
+    first-of dialogue (with_id dialogue id (invoked_by pair)) (latest dialogue id past)
+    (with_id-of dialogue id (invoked_by pair)) (latest-of dialogue id past)
 
 abbrev pub IsSentOf : ℕ → Option SentInvocation → Type 0
 IsSentOf dialogue None = Unit {0}
 IsSentOf dialogue (Some sent) = sent.dialogue ≡ dialogue
 
-if_sent-of : (dialogue : ℕ) (past : Past) (earlier : List Item) (i : Option Invocation) → IsOfDialogue dialogue i → IsSentOf dialogue (if_sent past earlier i)
+if_sent-of : (dialogue : ℕ) (past : Past) (earlier : List Item) (i : Option Invocation) → IsOfDialogue dialogue i
+    → IsSentOf dialogue (if_sent past earlier i)
 if_sent-of dialogue past earlier None of = tt
-if_sent-of dialogue past earlier (Some i) of = elim (cases_Bool (is_sent_in i.class i.timeout (marks_up_to past earlier i))) [
-  | inl is ↦ rw is of
-  | inr isnt ↦ rw isnt tt
-]
+if_sent-of dialogue past earlier (Some i) of =
+    elim (cases_Bool (is_sent_in i.class i.timeout (marks_up_to past earlier i))) [
+      | inl is ↦ rw is of
+      | inr isnt ↦ rw isnt tt
+    ]
 
-pub sent_there-of : (dialogue : ℕ) (past : Past) (earlier : List Item) (id : Option ℤ) → IsSentOf dialogue (sent_there dialogue past earlier id)
+pub sent_there-of : (dialogue : ℕ) (past : Past) (earlier : List Item) (id : Option ℤ)
+    → IsSentOf dialogue (sent_there dialogue past earlier id)
 sent_there-of dialogue past earlier None = tt
-sent_there-of dialogue past earlier (Some id) = if_sent-of dialogue past earlier (latest dialogue id past) (latest-of dialogue id past)
+sent_there-of dialogue past earlier (Some id) =
+    if_sent-of dialogue past earlier (latest dialogue id past) (latest-of dialogue id past)
 
 -- ---- the Reject of a component
 
 -- a Reject, if there is one, is told as a local Reject of the dialogue, and its numbers are in range
 abbrev pub IsFormed : ℕ → Output → Option ComponentParts → Type 0
 IsFormed dialogue told None = Unit {0}
-IsFormed dialogue told (Some c) = (id : Option ℤ) × (problem : ProblemParts) × (c ≡ reject_back id problem) × IsLocalReject dialogue id problem told × IsIdentifierIfAny id × IsProblem problem
+IsFormed dialogue told (Some c) =
+    (id : Option ℤ) × (problem : ProblemParts) × (c ≡ reject_back id problem) × IsLocalReject dialogue id problem told
+    × IsIdentifierIfAny id × IsProblem problem
 
 -- the same, of what comes of a component
 abbrev pub HasFormed : ℕ → Handled → Type 0
@@ -125,7 +133,8 @@ is-formed dialogue content _ _ _ (ComesOf.of_none sent named id problem) of read
 is-formed dialogue content _ _ _ (ComesOf.of_fault sent f) of read =
     of-fault dialogue f.was_reject f.id f.problem (fault-formed read.0 f read.1)
 
-pub handled_in-formed : (dialogue : ℕ) (past : Past) (content : List ℕ) → AllByRecursion (HasFormed dialogue) (handled_in dialogue past content)
+pub handled_in-formed : (dialogue : ℕ) (past : Past) (content : List ℕ)
+    → AllByRecursion (HasFormed dialogue) (handled_in dialogue past content)
 handled_in-formed dialogue past content = each-handled dialogue past content (HasFormed dialogue) (λ earlier item read.
     let sent = sent_there dialogue past earlier (subject_of item) in
     is-formed dialogue content sent item (handled (Some dialogue) sent item) (comes_of (Some dialogue) sent item)
@@ -133,7 +142,8 @@ handled_in-formed dialogue past content = each-handled dialogue past content (Ha
 
 -- ---- a Reject can be written
 
-pub reject-short : (id : Option ℤ) (problem : ProblemParts) → length (written_component (reject_back id problem)) ≤ 65535
+pub reject-short : (id : Option ℤ) (problem : ProblemParts)
+    → length (written_component (reject_back id problem)) ≤ 65535
 reject-short id problem =
     let contents = written_fields (rejected_field id ∷ must (problem_tag problem.kind) (problem.code ∷ []) ∷ []) in
     let all = length-element 0xa4 contents in
@@ -141,7 +151,8 @@ reject-short id problem =
     let within = short id in
     omega (arith, all, most, within)
   where
-    short : (id : Option ℤ) → length (written_fields (rejected_field id ∷ must (problem_tag problem.kind) (problem.code ∷ []) ∷ [])) ≤ 20
+    short : (id : Option ℤ) → length (written_fields
+        (rejected_field id ∷ must (problem_tag problem.kind) (problem.code ∷ []) ∷ [])) ≤ 20
     short None = omega arith
     short (Some id) = omega arith
 

@@ -30,9 +30,11 @@ AllKept dialogue past queue = AllByRecursion (IsKept dialogue past) queue
 -- ---- later
 
 stands-later : (pair at : Pair) (before past : Past) → StandsIn at before past → StandsIn at before (pair ∷ past)
-stands-later pair at before past stands = record { later = pair ∷ stands.later; is_past = ap (λ (w : Past). pair ∷ w) stands.is_past }
+stands-later pair at before past stands =
+    record { later = pair ∷ stands.later; is_past = ap (λ (w : Past). pair ∷ w) stands.is_past }
 
-comes-later : (dialogue : ℕ) (pair : Pair) (past : Past) (c : ComponentParts) → ComesFrom dialogue past c → ComesFrom dialogue (pair ∷ past) c
+comes-later : (dialogue : ℕ) (pair : Pair) (past : Past) (c : ComponentParts) → ComesFrom dialogue past c
+    → ComesFrom dialogue (pair ∷ past) c
 comes-later dialogue pair past c (inl was) = inl (record {
   pair = was.pair;
   before = was.before;
@@ -56,7 +58,8 @@ comes-later dialogue pair past c (inr was) = inr (record {
   is_told = was.is_told;
 })
 
-pub kept-later : (dialogue : ℕ) (pair : Pair) (past : Past) (queue : List Queued) → AllKept dialogue past queue → AllKept dialogue (pair ∷ past) queue
+pub kept-later : (dialogue : ℕ) (pair : Pair) (past : Past) (queue : List Queued) → AllKept dialogue past queue
+    → AllKept dialogue (pair ∷ past) queue
 kept-later dialogue pair past [] kept = tt
 kept-later dialogue pair past (q ∷ queue) kept =
     let first = kept.0 in (
@@ -73,24 +76,29 @@ kept-later dialogue pair past (q ∷ queue) kept =
 -- ---- changes of a queue
 
 module _ (P : Queued → Type 0) where
-  if_fits-each : (limit : ℕ) (queue : List Queued) (q : Queued) → AllByRecursion P queue → P q → AllByRecursion P (queue_if_fits limit queue q)
+  if_fits-each : (limit : ℕ) (queue : List Queued) (q : Queued) → AllByRecursion P queue → P q
+      → AllByRecursion P (queue_if_fits limit queue q)
   if_fits-each limit queue q all here = elim (cases_Bool (fits limit queue q)) [
     | inl yes' ↦ rw yes' (each-append P queue (q ∷ []) all (here, tt))
     | inr no' ↦ rw no' all
   ]
 
-  pub queue_each-each : (limit : ℕ) (queue more : List Queued) → AllByRecursion P queue → AllByRecursion P more → AllByRecursion P (queue_each limit queue more)
+  pub queue_each-each : (limit : ℕ) (queue more : List Queued) → AllByRecursion P queue → AllByRecursion P more
+      → AllByRecursion P (queue_each limit queue more)
   queue_each-each limit queue [] all others = all
-  queue_each-each limit queue (q ∷ more) all others = queue_each-each limit (queue_if_fits limit queue q) more (if_fits-each limit queue q all others.0) others.1
+  queue_each-each limit queue (q ∷ more) all others =
+      queue_each-each limit (queue_if_fits limit queue q) more (if_fits-each limit queue q all others.0) others.1
 
-  filtered : (test : Queued → Bool) (queue : List Queued) → AllByRecursion P queue → AllByRecursion P (filter test queue)
+  filtered : (test : Queued → Bool) (queue : List Queued) → AllByRecursion P queue
+      → AllByRecursion P (filter test queue)
   filtered test [] all = tt
   filtered test (q ∷ queue) all = elim (cases_Bool (test q)) [
     | inl yes' ↦ rw yes' (all.0, filtered test queue all.1)
     | inr no' ↦ rw no' (filtered test queue all.1)
   ]
 
-  pub without-each : (number : ℕ) (queue : List Queued) → AllByRecursion P queue → AllByRecursion P (without_invoke number queue)
+  pub without-each : (number : ℕ) (queue : List Queued) → AllByRecursion P queue
+      → AllByRecursion P (without_invoke number queue)
   without-each number queue all = filtered (λ (c : Queued). not (asks_for number c.invoking)) queue all
 
 -- ---- the Rejects of a message
@@ -99,7 +107,8 @@ module _ (dialogue : ℕ) (bytes : List ℕ) (answer : Answer) (past : Past) whe
   abbrev here : Pair
   here = record { event = Event.received bytes; answer = answer }
 
-  one-kept : (told : Output) (c : ComponentParts) → Tells answer told → IsFormed dialogue told (Some c) → IsKept dialogue (here ∷ past) (queued None c)
+  one-kept : (told : Output) (c : ComponentParts) → Tells answer told → IsFormed dialogue told (Some c)
+      → IsKept dialogue (here ∷ past) (queued None c)
   one-kept told c tells formed = record {
     component = c;
     is_octets = refl;
@@ -120,14 +129,20 @@ module _ (dialogue : ℕ) (bytes : List ℕ) (answer : Answer) (past : Past) whe
     can = subst (λ (x : ComponentParts). CanWriteComponent x) (sym formed.2) (reject-can formed.0 formed.1);
   }
 
-  first-kept : (told : Output) (reject : Option ComponentParts) (others : List ComponentParts) → Tells answer told → IsFormed dialogue told reject → AllKept dialogue (here ∷ past) (map (queued None) others) → AllKept dialogue (here ∷ past) (map (queued None) (option_to_list reject ++ others))
+  first-kept : (told : Output) (reject : Option ComponentParts) (others : List ComponentParts) → Tells answer told
+      → IsFormed dialogue told reject → AllKept dialogue (here ∷ past) (map (queued None) others)
+      → AllKept dialogue (here ∷ past) (map (queued None) (option_to_list reject ++ others))
   first-kept told None others tells formed rest = rest
   first-kept told (Some c) others tells formed rest = (one-kept told c tells formed, rest)
 
-  pub rejects-kept : (hs : List Handled) (earlier later : List Output) → answer ≡ Answer.outputs (earlier ++ (told_of hs ++ later)) → AllByRecursion (HasFormed dialogue) hs → AllKept dialogue (here ∷ past) (rejects_of hs)
+  pub rejects-kept : (hs : List Handled) (earlier later : List Output)
+      → answer ≡ Answer.outputs (earlier ++ (told_of hs ++ later)) → AllByRecursion (HasFormed dialogue) hs
+      → AllKept dialogue (here ∷ past) (rejects_of hs)
   rejects-kept [] earlier later is formed = tt
   rejects-kept (h ∷ hs) earlier later is formed =
       first-kept h.told h.reject (flat_map (λ (x : Handled). option_to_list x.reject) hs)
       (record { earlier = earlier; later = told_of hs ++ later; is_answer = is })
       formed.0
-      (rejects-kept hs (earlier ++ h.told ∷ []) later (is ∙ ap (λ (w : List Output). Answer.outputs w) (sym (append_assoc earlier (h.told ∷ []) (told_of hs ++ later)))) formed.1)
+      (rejects-kept hs (earlier ++ h.told ∷ []) later
+      (is ∙ ap (λ (w : List Output). Answer.outputs w)
+      (sym (append_assoc earlier (h.told ∷ []) (told_of hs ++ later)))) formed.1)

@@ -29,17 +29,22 @@ use Rattle.tcap_laws.proofs.ListLemmas.{each-append}
 
 -- ---- requests
 
-pub accepted-parts : (h : History) (dialogue : ℕ) (request : Request) (before : Life) (fault : Option Fault) → is_accepted (request_answer h dialogue request before fault) ≡ true → (state : State) × (context : Option (List ℕ)) × (before ≡ Life.standing state context) × (fault ≡ None)
+pub accepted-parts : (h : History) (dialogue : ℕ) (request : Request) (before : Life) (fault : Option Fault)
+    → is_accepted (request_answer h dialogue request before fault) ≡ true
+    → (state : State) × (context : Option (List ℕ)) × (before ≡ Life.standing state context) × (fault ≡ None)
 accepted-parts h dialogue request before (Some f) e = absurd cc
 accepted-parts h dialogue request Life.unborn None e = absurd cc
 accepted-parts h dialogue request Life.over None e = absurd cc
 accepted-parts h dialogue request (Life.standing state context) None e = (state, context, refl, refl)
 
-pub accepted-good : (h : History) (dialogue : ℕ) (request : Request) → IsTrue (is_request request) → is_accepted (reply h (Event.on_dialogue dialogue request)) ≡ true → IfGood (component_of request)
+pub accepted-good : (h : History) (dialogue : ℕ) (request : Request) → IsTrue (is_request request)
+    → is_accepted (reply h (Event.on_dialogue dialogue request)) ≡ true → IfGood (component_of request)
 accepted-good h dialogue request is accepted =
     let parts = accepted-parts h dialogue request (life dialogue h.pairs) (due h dialogue request) accepted in
-    let none : due_by h dialogue request (Life.standing parts.0 parts.1) ≡ None = ap (λ (l : Life). due_by h dialogue request l) (sym parts.2) ∙ parts.3 in
-    request-good (situation_of h dialogue (standing_of dialogue h.pairs parts.0 parts.1) request) request (omega arith) is none
+    let none : due_by h dialogue request (Life.standing parts.0 parts.1) ≡ None =
+    ap (λ (l : Life). due_by h dialogue request l) (sym parts.2) ∙ parts.3 in
+    request-good (situation_of h dialogue (standing_of dialogue h.pairs parts.0 parts.1) request) request (omega arith)
+    is none
 
 module _ (dialogue : ℕ) (request : Request) (answer : Answer) (past : Past) (accepted : is_accepted answer ≡ true) where
   abbrev here : Pair
@@ -48,7 +53,8 @@ module _ (dialogue : ℕ) (request : Request) (answer : Answer) (past : Past) (a
   abbrev Keeps : List Queued → Type 0
   Keeps queue = AllKept dialogue (here ∷ past) queue
 
-  appended : (queue : List Queued) (invoking : Option Invoking) (c : ComponentParts) → component_of request ≡ Some c → InRange c × CanWriteComponent c → Keeps queue → Keeps (queue ++ queued invoking c ∷ [])
+  appended : (queue : List Queued) (invoking : Option Invoking) (c : ComponentParts) → component_of request ≡ Some c
+      → InRange c × CanWriteComponent c → Keeps queue → Keeps (queue ++ queued invoking c ∷ [])
   appended queue invoking c is good kept =
       each-append (IsKept dialogue (here ∷ past)) queue (queued invoking c ∷ []) kept (
         record {
@@ -69,7 +75,8 @@ module _ (dialogue : ℕ) (request : Request) (answer : Answer) (past : Past) (a
         tt,
       )
 
-cancelled : (P : Queued → Type 0) (answer : Answer) (queue : List Queued) → AllByRecursion P queue → AllByRecursion P (queue_after_cancel answer queue)
+cancelled : (P : Queued → Type 0) (answer : Answer) (queue : List Queued) → AllByRecursion P queue
+    → AllByRecursion P (queue_after_cancel answer queue)
 cancelled P (Answer.given_up number) queue kept = without-each P number queue kept
 cancelled P (Answer.new_dialogue dialogue) queue kept = kept
 cancelled P (Answer.number number) queue kept = kept
@@ -77,42 +84,71 @@ cancelled P Answer.done queue kept = kept
 cancelled P (Answer.outputs outputs) queue kept = kept
 cancelled P (Answer.refused fault) queue kept = kept
 
-by-request : (dialogue : ℕ) (request : Request) (answer : Answer) (past : Past) (queue : List Queued) → is_accepted answer ≡ true → IfGood (component_of request) →
-    AllKept dialogue (record { event = Event.on_dialogue dialogue request; answer = answer } ∷ past) queue → AllKept dialogue (record { event = Event.on_dialogue dialogue request; answer = answer } ∷ past) (queue_by_request queue request answer)
-by-request dialogue (Request.component (ComponentRequest.invoke id class code parameter linked timeout)) answer past queue accepted good kept =
+by-request : (dialogue : ℕ) (request : Request) (answer : Answer) (past : Past) (queue : List Queued)
+    → is_accepted answer ≡ true → IfGood (component_of request) →
+    AllKept dialogue (record { event = Event.on_dialogue dialogue request; answer = answer } ∷ past) queue
+    → AllKept dialogue (record { event = Event.on_dialogue dialogue request; answer = answer } ∷ past)
+    (queue_by_request queue request answer)
+by-request dialogue (Request.component (ComponentRequest.invoke id class code parameter linked timeout)) answer past
+    queue accepted good kept =
     let r : Request = Request.component (ComponentRequest.invoke id class code parameter linked timeout) in
-    appended dialogue r answer past accepted queue (invoking_of (number_in answer) r) (invoke id linked code parameter) refl good kept
-by-request dialogue (Request.component (ComponentRequest.result_last id body)) answer past queue accepted good kept = appended dialogue (Request.component (ComponentRequest.result_last id body)) answer past accepted queue None (result_last id body) refl good kept
-by-request dialogue (Request.component (ComponentRequest.result_more id body)) answer past queue accepted good kept = appended dialogue (Request.component (ComponentRequest.result_more id body)) answer past accepted queue None (result_more id body) refl good kept
-by-request dialogue (Request.component (ComponentRequest.error_back id code parameter)) answer past queue accepted good kept = appended dialogue (Request.component (ComponentRequest.error_back id code parameter)) answer past accepted queue None (error_back id code parameter) refl good kept
-by-request dialogue (Request.component (ComponentRequest.u_reject id problem)) answer past queue accepted good kept = appended dialogue (Request.component (ComponentRequest.u_reject id problem)) answer past accepted queue None (reject_back id problem) refl good kept
-by-request dialogue (Request.component (ComponentRequest.u_cancel id)) answer past queue accepted good kept = cancelled (IsKept dialogue (record { event = Event.on_dialogue dialogue (Request.component (ComponentRequest.u_cancel id)); answer = answer } ∷ past)) answer queue kept
+    appended dialogue r answer past accepted queue (invoking_of (number_in answer) r) (invoke id linked code parameter)
+    refl good kept
+by-request dialogue (Request.component (ComponentRequest.result_last id body)) answer past queue accepted good kept =
+    appended dialogue (Request.component (ComponentRequest.result_last id body)) answer past accepted queue None
+    (result_last id body) refl good kept
+by-request dialogue (Request.component (ComponentRequest.result_more id body)) answer past queue accepted good kept =
+    appended dialogue (Request.component (ComponentRequest.result_more id body)) answer past accepted queue None
+    (result_more id body) refl good kept
+by-request dialogue (Request.component (ComponentRequest.error_back id code parameter)) answer past queue accepted good
+    kept = appended dialogue (Request.component (ComponentRequest.error_back id code parameter)) answer past accepted
+    queue None (error_back id code parameter) refl good kept
+by-request dialogue (Request.component (ComponentRequest.u_reject id problem)) answer past queue accepted good kept =
+    appended dialogue (Request.component (ComponentRequest.u_reject id problem)) answer past accepted queue None
+    (reject_back id problem) refl good kept
+by-request dialogue (Request.component (ComponentRequest.u_cancel id)) answer past queue accepted good kept =
+    cancelled (IsKept dialogue (record {
+      event =
+          Event.on_dialogue dialogue (Request.component (ComponentRequest.u_cancel id));
+      answer = answer;
+    } ∷ past)) answer
+    queue kept
 by-request dialogue (Request.dialogue (DialogueRequest.uni context info)) answer past queue accepted good kept = tt
 by-request dialogue (Request.dialogue (DialogueRequest.begin context info)) answer past queue accepted good kept = tt
 by-request dialogue (Request.dialogue (DialogueRequest.go_on context info)) answer past queue accepted good kept = tt
-by-request dialogue (Request.dialogue (DialogueRequest.finish Ending.basic context info)) answer past queue accepted good kept = tt
-by-request dialogue (Request.dialogue (DialogueRequest.finish Ending.prearranged context info)) answer past queue accepted good kept = kept
+by-request dialogue (Request.dialogue (DialogueRequest.finish Ending.basic context info)) answer past queue accepted
+    good kept = tt
+by-request dialogue (Request.dialogue (DialogueRequest.finish Ending.prearranged context info)) answer past queue
+    accepted good kept = kept
 by-request dialogue (Request.dialogue (DialogueRequest.u_abort why info)) answer past queue accepted good kept = kept
 
-if-accepted : (h : History) (dialogue : ℕ) (request : Request) (answer : Answer) (queue : List Queued) → IsTrue (is_request request) → answer ≡ reply h (Event.on_dialogue dialogue request) →
-    AllKept dialogue (record { event = Event.on_dialogue dialogue request; answer = answer } ∷ h.pairs) queue → (accepted : Bool) → is_accepted answer ≡ accepted →
-    AllKept dialogue (record { event = Event.on_dialogue dialogue request; answer = answer } ∷ h.pairs) (queue_if_accepted accepted queue request answer)
+if-accepted : (h : History) (dialogue : ℕ) (request : Request) (answer : Answer) (queue : List Queued)
+    → IsTrue (is_request request) → answer ≡ reply h (Event.on_dialogue dialogue request) →
+    AllKept dialogue (record { event = Event.on_dialogue dialogue request; answer = answer } ∷ h.pairs) queue
+    → (accepted : Bool) → is_accepted answer ≡ accepted →
+    AllKept dialogue (record { event = Event.on_dialogue dialogue request; answer = answer } ∷ h.pairs)
+    (queue_if_accepted accepted queue request answer)
 if-accepted h dialogue request answer queue is is_reply kept false e = kept
 if-accepted h dialogue request answer queue is is_reply kept true e =
-    by-request dialogue request answer h.pairs queue e (accepted-good h dialogue request is (subst (λ (a : Answer). is_accepted a ≡ true) is_reply e)) kept
+    by-request dialogue request answer h.pairs queue e
+    (accepted-good h dialogue request is (subst (λ (a : Answer). is_accepted a ≡ true) is_reply e)) kept
 
 -- ---- one pair
 
-either-kept : (P : Queued → Type 0) (test : Bool) (x y : List Queued) → (test ≡ true → AllByRecursion P x) → AllByRecursion P y → AllByRecursion P (if test then x else y)
+either-kept : (P : Queued → Type 0) (test : Bool) (x y : List Queued) → (test ≡ true → AllByRecursion P x)
+    → AllByRecursion P y → AllByRecursion P (if test then x else y)
 either-kept P true x y p q = p refl
 either-kept P false x y p q = q
 
-after-pair : (h : History) (dialogue : ℕ) (event : Event) (answer : Answer) → IsTrue (is_in_range event) → answer ≡ reply h event → AllKept dialogue h.pairs (queue dialogue h.pairs) →
-    AllKept dialogue (record { event = event; answer = answer } ∷ h.pairs) (queue_after dialogue h.pairs (queue dialogue h.pairs) (record { event = event; answer = answer }))
+after-pair : (h : History) (dialogue : ℕ) (event : Event) (answer : Answer) → IsTrue (is_in_range event)
+    → answer ≡ reply h event → AllKept dialogue h.pairs (queue dialogue h.pairs) →
+    AllKept dialogue (record { event = event; answer = answer } ∷ h.pairs)
+    (queue_after dialogue h.pairs (queue dialogue h.pairs) (record { event = event; answer = answer }))
 after-pair h dialogue Event.new_dialogue answer range is kept =
     let here : Pair = record { event = Event.new_dialogue; answer = answer } in
     let waits = queue dialogue h.pairs in
-    either-kept (IsKept dialogue (here ∷ h.pairs)) (is_birth_of dialogue here) [] waits (λ birth. tt) (kept-later dialogue here h.pairs waits kept)
+    either-kept (IsKept dialogue (here ∷ h.pairs)) (is_birth_of dialogue here) [] waits (λ birth. tt)
+    (kept-later dialogue here h.pairs waits kept)
 after-pair h dialogue (Event.moment now) answer range is kept =
     let here : Pair = record { event = Event.moment now; answer = answer } in
     kept-later dialogue here h.pairs (queue dialogue h.pairs) kept
@@ -120,20 +156,30 @@ after-pair h dialogue (Event.received bytes) answer range is kept =
     let here : Pair = record { event = Event.received bytes; answer = answer } in
     let waits = queue dialogue h.pairs in
     let before = kept-later dialogue here h.pairs waits kept in
-    either-kept (IsKept dialogue (here ∷ h.pairs)) (is_birth_of dialogue here) (queue_born dialogue h.pairs (Event.received bytes)) (if names (Event.received bytes) dialogue then queue_by_event dialogue h.pairs waits (Event.received bytes) answer else waits)
+    either-kept (IsKept dialogue (here ∷ h.pairs)) (is_birth_of dialogue here)
+    (queue_born dialogue h.pairs (Event.received bytes))
+    (if names (Event.received bytes) dialogue then queue_by_event dialogue h.pairs waits (Event.received bytes)
+    answer else waits)
     (λ birth. born-queue h dialogue bytes answer is birth)
-    (either-kept (IsKept dialogue (here ∷ h.pairs)) (names (Event.received bytes) dialogue) (queue_by_event dialogue h.pairs waits (Event.received bytes) answer) waits
+    (either-kept (IsKept dialogue (here ∷ h.pairs)) (names (Event.received bytes) dialogue)
+    (queue_by_event dialogue h.pairs waits (Event.received bytes) answer) waits
     (λ named. named-queue h dialogue bytes answer is waits named before (life dialogue h.pairs) refl) before)
 after-pair h dialogue (Event.on_dialogue asked request) answer range is kept =
     let here : Pair = record { event = Event.on_dialogue asked request; answer = answer } in
     let waits = queue dialogue h.pairs in
     let before = kept-later dialogue here h.pairs waits kept in
-    either-kept (IsKept dialogue (here ∷ h.pairs)) (asked == dialogue) (queue_if_accepted (is_accepted answer) waits request answer) waits
-    (λ same. subst (λ (d : ℕ). AllKept d (here ∷ h.pairs) waits → AllKept d (here ∷ h.pairs) (queue_if_accepted (is_accepted answer) waits request answer)) (eqb-true asked dialogue same)
-    (λ all. if-accepted h asked request answer waits (and_parts (is_short asked) (is_request request) range).1 is all (is_accepted answer) refl) before)
+    either-kept (IsKept dialogue (here ∷ h.pairs)) (asked == dialogue)
+    (queue_if_accepted (is_accepted answer) waits request answer) waits
+    (λ same. subst (λ (d : ℕ). AllKept d (here ∷ h.pairs) waits
+    → AllKept d (here ∷ h.pairs) (queue_if_accepted (is_accepted answer) waits request answer))
+    (eqb-true asked dialogue same)
+    (λ all. if-accepted h asked request answer waits (and_parts (is_short asked) (is_request request) range).1 is all
+    (is_accepted answer) refl) before)
     before
 
-pub queue-kept : (start : Start) (dialogue : ℕ) (past : Past) → AreReplies start past → AllKept dialogue past (queue dialogue past)
+pub queue-kept : (start : Start) (dialogue : ℕ) (past : Past) → AreReplies start past
+    → AllKept dialogue past (queue dialogue past)
 queue-kept start dialogue [] legal = tt
 queue-kept start dialogue (pair ∷ past) legal =
-    after-pair (record { start = start; pairs = past }) dialogue pair.event pair.answer legal.0 legal.1 (queue-kept start dialogue past legal.2)
+    after-pair (record { start = start; pairs = past }) dialogue pair.event pair.answer legal.0 legal.1
+    (queue-kept start dialogue past legal.2)

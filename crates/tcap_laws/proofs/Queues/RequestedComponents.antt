@@ -22,16 +22,24 @@ use Rattle.tcap_laws.proofs.BoolLemmas.{if_not_false}
 -- ---- the numbers
 
 identifier-is : (id : ℤ) → is_identifier id ≡ true → IsIdentifier id
-identifier-is (pos n) e = let within = leb-true n 127 (and_parts (int_le (negsuc 127) (pos n)) (int_le (pos n) (pos 127)) e).1 in record { sfits = omega (arith, within) }
-identifier-is (negsuc n) e = let within = leb-true n 127 (and_parts (int_le (negsuc 127) (negsuc n)) (int_le (negsuc n) (pos 127)) e).0 in record { sfits = omega (arith, within) }
+identifier-is (pos n) e = let within =
+    leb-true n 127 (and_parts (int_le (negsuc 127) (pos n)) (int_le (pos n) (pos 127)) e).1 in
+    record { sfits = omega (arith, within) }
+identifier-is (negsuc n) e = let within =
+    leb-true n 127 (and_parts (int_le (negsuc 127) (negsuc n)) (int_le (negsuc n) (pos 127)) e).0 in
+    record { sfits = omega (arith, within) }
 
 identifier-any : (id : Option ℤ) → is_identifier_if_any id ≡ true → IsIdentifierIfAny id
 identifier-any None e = tt
 identifier-any (Some id) e = identifier-is id e
 
 code-is : (code : CodeParts) → is_code code ≡ true → CanCode code → IsCode code
-code-is (local (pos n)) e can = let within = leb-true n 2147483647 (and_parts (int_le (negsuc 2147483647) (pos n)) (int_le (pos n) (pos 2147483647)) e).1 in record { sfits = omega (arith, within) }
-code-is (local (negsuc n)) e can = let within = leb-true n 2147483647 (and_parts (int_le (negsuc 2147483647) (negsuc n)) (int_le (negsuc n) (pos 2147483647)) e).0 in record { sfits = omega (arith, within) }
+code-is (local (pos n)) e can = let within =
+    leb-true n 2147483647 (and_parts (int_le (negsuc 2147483647) (pos n)) (int_le (pos n) (pos 2147483647)) e).1 in
+    record { sfits = omega (arith, within) }
+code-is (local (negsuc n)) e can = let within =
+    leb-true n 2147483647 (and_parts (int_le (negsuc 2147483647) (negsuc n)) (int_le (negsuc n) (pos 2147483647)) e).0
+    in record { sfits = omega (arith, within) }
 code-is (global octets) e can = can
 
 body-is : (body : Option BodyParts) → is_body body ≡ true → HasCode body → IsBody body
@@ -50,35 +58,43 @@ request-range (Request.component (ComponentRequest.invoke id class code paramete
     let held = and_parts _ _ linked-to.0 in
     let coded = and_parts _ _ held.0 in
     (identifier-is id coded.0, identifier-any linked linked-to.1, code-is code coded.1 can)
-request-range (Request.component (ComponentRequest.result_last id body)) e = λ can. let both = and_parts _ _ e in (identifier-is id both.0, body-is body both.1 can)
-request-range (Request.component (ComponentRequest.result_more id body)) e = λ can. let both = and_parts _ _ e in (identifier-is id both.0, body-is body both.1 can)
+request-range (Request.component (ComponentRequest.result_last id body)) e = λ can. let both =
+    and_parts _ _ e in (identifier-is id both.0, body-is body both.1 can)
+request-range (Request.component (ComponentRequest.result_more id body)) e = λ can. let both =
+    and_parts _ _ e in (identifier-is id both.0, body-is body both.1 can)
 request-range (Request.component (ComponentRequest.error_back id code parameter)) e = λ can.
     let held = and_parts _ _ e in
     let coded = and_parts _ _ held.0 in
     (identifier-is id coded.0, code-is code coded.1 can)
-request-range (Request.component (ComponentRequest.u_reject id problem)) e = λ can. let both = and_parts _ _ e in (identifier-any id both.0, leb-true problem.code problem_limit both.1)
+request-range (Request.component (ComponentRequest.u_reject id problem)) e = λ can. let both =
+    and_parts _ _ e in (identifier-any id both.0, leb-true problem.code problem_limit both.1)
 request-range (Request.component (ComponentRequest.u_cancel id)) e = tt
 request-range (Request.dialogue asked) e = tt
 
 -- ---- no fault is due
 
 code-can : (request : Request) → has_bad_oid request ≡ false → can_code (component_of request) ≡ true
-code-can request e = (and_parts (can_name (context_given request)) (can_code (component_of request)) (if_not_false _ e)).1
+code-can request e =
+    (and_parts (can_name (context_given request)) (can_code (component_of request)) (if_not_false _ e)).1
 
 parameter-can : (request : Request) → has_bad_parameter request ≡ false → can_hold (component_of request) ≡ true
-parameter-can request e = (and_parts (is_information (information_given request)) (can_hold (component_of request)) (if_not_false _ e)).1
+parameter-can request e =
+    (and_parts (is_information (information_given request)) (can_hold (component_of request)) (if_not_false _ e)).1
 
 -- a component that fits into a queue is short
-queued-short : (limit : ℕ) (queue : List Queued) (invoking : Option Invoking) (c : ComponentParts) → limit ≤ 65535 → passes_queue limit queue (Some (queued invoking c)) ≡ false → length (written_component c) ≤ 65535
+queued-short : (limit : ℕ) (queue : List Queued) (invoking : Option Invoking) (c : ComponentParts) → limit ≤ 65535
+    → passes_queue limit queue (Some (queued invoking c)) ≡ false → length (written_component c) ≤ 65535
 queued-short limit queue invoking c within e =
     let fit = leb-true (length (joined queue) + length (written_component c)) limit (if_not_false _ e) in
     omega (arith, within, fit)
 
-no-fault : (c : ComponentParts) → has_code (coded_part c) ≡ true → has_parameter (coded_part c) ≡ true → length (written_component c) ≤ 65535 → write_fault c ≡ None
+no-fault : (c : ComponentParts) → has_code (coded_part c) ≡ true → has_parameter (coded_part c) ≡ true
+    → length (written_component c) ≤ 65535 → write_fault c ≡ None
 unfolding write_fault
 no-fault c coded held short = rw (coded, held, le-ltb 65535 (length (written_component c)) short) refl
 
-can-be : (c : ComponentParts) → has_code (coded_part c) ≡ true → has_parameter (coded_part c) ≡ true → length (written_component c) ≤ 65535 → CanWriteComponent c
+can-be : (c : ComponentParts) → has_code (coded_part c) ≡ true → has_parameter (coded_part c) ≡ true
+    → length (written_component c) ≤ 65535 → CanWriteComponent c
 can-be c coded held short = subst (Judged c) (no-fault c coded held short) (write_fault-judged c)
 
 -- the component of a request, if it has one, can be written
@@ -87,15 +103,19 @@ IfCan None = Unit {0}
 IfCan (Some c) = CanWriteComponent c
 
 module _ (s : Situation) (within : s.limit ≤ 65535) where
-  in-queue : (request : Request) → holds s request Fault.too_long ≡ false → passes_queue s.limit s.standing.queue (queued_for s.number request) ≡ false
-  in-queue request e = (or_parts (passes_queue s.limit s.standing.queue (queued_for s.number request)) (passes_message (message_of s.standing request)) e).0
+  in-queue : (request : Request) → holds s request Fault.too_long ≡ false
+      → passes_queue s.limit s.standing.queue (queued_for s.number request) ≡ false
+  in-queue request e =
+      (or_parts (passes_queue s.limit s.standing.queue (queued_for s.number request))
+      (passes_message (message_of s.standing request)) e).0
 
   request-can : (request : Request) → due_on s request ≡ None → IfCan (component_of request)
   request-can (Request.component (ComponentRequest.invoke id class code parameter linked timeout)) due =
       let r : Request = Request.component (ComponentRequest.invoke id class code parameter linked timeout) in
       let none = first_that-none (holds s r) (faults_of r) due in
       can-be (invoke id linked code parameter) (code-can r none.1.1.0) (parameter-can r none.1.1.1.0)
-      (queued-short s.limit s.standing.queue (invoking_of s.number r) (invoke id linked code parameter) within (in-queue r none.1.1.1.1.1.1.0))
+      (queued-short s.limit s.standing.queue (invoking_of s.number r) (invoke id linked code parameter) within
+      (in-queue r none.1.1.1.1.1.1.0))
   request-can (Request.component (ComponentRequest.result_last id body)) due =
       let r : Request = Request.component (ComponentRequest.result_last id body) in
       let none = first_that-none (holds s r) (faults_of r) due in
@@ -135,5 +155,7 @@ good : (c : Option ComponentParts) → IsInRange c → IfCan c → IfGood c
 good None range can = tt
 good (Some c) range can = (range can.has_code, can)
 
-pub request-good : (s : Situation) (request : Request) → s.limit ≤ 65535 → IsTrue (is_request request) → due_on s request ≡ None → IfGood (component_of request)
-request-good s request within is due = good (component_of request) (request-range request is) (request-can s within request due)
+pub request-good : (s : Situation) (request : Request) → s.limit ≤ 65535 → IsTrue (is_request request)
+    → due_on s request ≡ None → IfGood (component_of request)
+request-good s request within is due =
+    good (component_of request) (request-range request is) (request-can s within request due)

@@ -34,15 +34,19 @@ use Rattle.tcap_laws.proofs.Receptions.ToldFromOctets.{legal-before}
 -- ---- the octets of a queue are its components
 
 abbrev AreFrom : ℕ → Past → List ℕ → Type 0
-AreFrom dialogue past bytes = (cs : List ComponentParts) × SpellsComponents cs bytes × AllByRecursion (ComesFrom dialogue past) cs
+AreFrom dialogue past bytes =
+    (cs : List ComponentParts) × SpellsComponents cs bytes × AllByRecursion (ComesFrom dialogue past) cs
 
-joined-from : (dialogue : ℕ) (past : Past) (waits : List Queued) → AllKept dialogue past waits → AreFrom dialogue past (joined waits)
+joined-from : (dialogue : ℕ) (past : Past) (waits : List Queued) → AllKept dialogue past waits
+    → AreFrom dialogue past (joined waits)
 joined-from dialogue past [] kept = ([], refl, tt)
 joined-from dialogue past (q ∷ waits) kept =
     let first = kept.0 in
     let others = joined-from dialogue past waits kept.1 in
     let c = first.component in
-    let here : SpellsComponent c q.octets = subst (λ (w : List ℕ). SpellsComponent c w) (sym first.is_octets) (component_spelled c first.in_range first.can) in
+    let here : SpellsComponent c q.octets =
+    subst (λ (w : List ℕ). SpellsComponent c w) (sym first.is_octets) (component_spelled c first.in_range first.can)
+    in
     (c ∷ others.0, (q.octets, joined waits, here, refl, others.1), (first.comes, others.2))
 
 -- components with nothing after them are all of the content
@@ -56,7 +60,8 @@ all-first cs content spelled = record {
   ends = refl;
 }
 
-pub same-items : (cs ds : List ComponentParts) (fault : Option FaultParts) → items cs fault ≡ items ds None → (cs ≡ ds) × (fault ≡ None)
+pub same-items : (cs ds : List ComponentParts) (fault : Option FaultParts) → items cs fault ≡ items ds None
+    → (cs ≡ ds) × (fault ≡ None)
 same-items [] [] None e = (refl, refl)
 same-items [] [] (Some f) e = absurd cc
 same-items [] (d ∷ ds) None e = absurd cc
@@ -74,7 +79,8 @@ abbrev IfPortion : Standing → Option Message → Type 0
 IfPortion d None = Unit {0}
 IfPortion d (Some m) = (portion_of m ≡ []) ⊎ (portion_of m ≡ joined d.queue)
 
-continue-portion : (d : Standing) (state : State) (portion : Option (List ℕ)) → IfPortion d (continue_message d state portion)
+continue-portion : (d : Standing) (state : State) (portion : Option (List ℕ))
+    → IfPortion d (continue_message d state portion)
 continue-portion d State.fresh portion = tt
 continue-portion d State.sent portion = tt
 continue-portion d (State.received peer) portion = inr refl
@@ -92,7 +98,8 @@ abort-portion d State.sent reason = tt
 abort-portion d (State.received peer) reason = inl refl
 abort-portion d (State.active peer) reason = inl refl
 
-refusing-portion : (d : Standing) (state : State) (context : Option (List ℕ)) (info : List ℕ) → IfPortion d (refusing_message state context info)
+refusing-portion : (d : Standing) (state : State) (context : Option (List ℕ)) (info : List ℕ)
+    → IfPortion d (refusing_message state context info)
 refusing-portion d state None info = tt
 refusing-portion d state (Some context) info = abort-portion d state (refusing_abort context info)
 
@@ -100,23 +107,31 @@ message-portion : (d : Standing) (request : Request) → IfPortion d (message_of
 message-portion d (Request.component asked) = tt
 message-portion d (Request.dialogue (DialogueRequest.uni context info)) = inr refl
 message-portion d (Request.dialogue (DialogueRequest.begin context info)) = inr refl
-message-portion d (Request.dialogue (DialogueRequest.go_on context info)) = continue-portion d d.state (answer_portion d.state d.context context info)
-message-portion d (Request.dialogue (DialogueRequest.finish Ending.basic context info)) = end-portion d d.state (answer_portion d.state d.context context info)
+message-portion d (Request.dialogue (DialogueRequest.go_on context info)) =
+    continue-portion d d.state (answer_portion d.state d.context context info)
+message-portion d (Request.dialogue (DialogueRequest.finish Ending.basic context info)) =
+    end-portion d d.state (answer_portion d.state d.context context info)
 message-portion d (Request.dialogue (DialogueRequest.finish Ending.prearranged context info)) = tt
-message-portion d (Request.dialogue (DialogueRequest.u_abort AbortReason.by_user info)) = abort-portion d d.state (user_abort d.context info)
-message-portion d (Request.dialogue (DialogueRequest.u_abort AbortReason.not_supported info)) = refusing-portion d d.state d.context info
+message-portion d (Request.dialogue (DialogueRequest.u_abort AbortReason.by_user info)) =
+    abort-portion d d.state (user_abort d.context info)
+message-portion d (Request.dialogue (DialogueRequest.u_abort AbortReason.not_supported info)) =
+    refusing-portion d d.state d.context info
 
 -- ---- one place
 
-module _ (h : History) (legal : AreReplies h.start h.pairs) (bytes : List ℕ) (m : Message) (components : List ComponentParts) (fault : Option FaultParts) (spelled : SpellsFrame m bytes) (first : FirstFault components fault (portion_of m)) where
+module _ (h : History) (legal : AreReplies h.start h.pairs) (bytes : List ℕ) (m : Message)
+    (components : List ComponentParts) (fault : Option FaultParts) (spelled : SpellsFrame m bytes)
+    (first : FirstFault components fault (portion_of m)) where
   abbrev Comes : Event → Type 0
   Comes event = (portion_of m ≡ []) ⊎ SentFromOne event h.pairs components fault
 
-  of-queue : (dialogue : ℕ) (request : Request) → portion_of m ≡ joined (queue dialogue h.pairs) → SentFromOne (Event.on_dialogue dialogue request) h.pairs components fault
+  of-queue : (dialogue : ℕ) (request : Request) → portion_of m ≡ joined (queue dialogue h.pairs)
+      → SentFromOne (Event.on_dialogue dialogue request) h.pairs components fault
   of-queue dialogue request is =
       let all = joined-from dialogue h.pairs (queue dialogue h.pairs) (queue-kept h.start dialogue h.pairs legal) in
       let read = first_fault_again components fault (portion_of m) first in
-      let whole = first_fault_again all.0 None (joined (queue dialogue h.pairs)) (all-first all.0 (joined (queue dialogue h.pairs)) all.1) in
+      let whole = first_fault_again all.0 None (joined (queue dialogue h.pairs))
+      (all-first all.0 (joined (queue dialogue h.pairs)) all.1) in
       let same = same-items components all.0 fault (sym read ∙ (ap components_of is ∙ whole)) in
       record {
         dialogue = dialogue;
@@ -127,8 +142,11 @@ module _ (h : History) (legal : AreReplies h.start h.pairs) (bytes : List ℕ) (
       }
 
   from-event : (event : Event) → Tells (reply h event) (Output.send bytes) → Comes event
-  from-event Event.new_dialogue tells = absurd (tells-sends Nothing (reply h Event.new_dialogue) bytes (birth-sends h (birth_due h)) tells)
-  from-event (Event.moment now) tells = absurd (tells-sends Nothing (reply h (Event.moment now)) bytes (moment-sends h.pairs now (moment_fault now)) tells)
+  from-event Event.new_dialogue tells =
+      absurd (tells-sends Nothing (reply h Event.new_dialogue) bytes (birth-sends h (birth_due h)) tells)
+  from-event (Event.moment now) tells =
+      absurd (tells-sends Nothing (reply h (Event.moment now)) bytes (moment-sends h.pairs now (moment_fault now))
+      tells)
   from-event (Event.received octets) tells =
       let sent = sent_for_bytes h octets bytes tells in
       let is = sent.is_message in
@@ -145,6 +163,8 @@ module _ (h : History) (legal : AreReplies h.start h.pairs) (bytes : List ℕ) (
 
 pub sent-from : EachIsSentFrom
 sent-from h legal sent =
-    let here = legal-before h.start sent.stands.later (sent.pair ∷ sent.before) (subst (AreReplies h.start) sent.stands.is_past legal.1) in
-    from-event (record { start = h.start; pairs = sent.before }) here.2 sent.bytes sent.message sent.components sent.fault sent.spelled sent.read sent.pair.event
+    let here = legal-before h.start sent.stands.later (sent.pair ∷ sent.before)
+    (subst (AreReplies h.start) sent.stands.is_past legal.1) in
+    from-event (record { start = h.start; pairs = sent.before }) here.2 sent.bytes sent.message sent.components
+    sent.fault sent.spelled sent.read sent.pair.event
     (subst (λ (a : Answer). Tells a (Output.send sent.bytes)) here.1 sent.tells)

@@ -30,18 +30,26 @@ pub record IsAccepted (h : History) (dialogue : ℕ) (request : Request) : Type 
   pub faultless : due_on (situation_of h dialogue (standing_of dialogue h.pairs state context) request) request ≡ None
 
 module _ (h : History) (dialogue : ℕ) (request : Request) where
-  accepted-standing : (state : State) (context : Option (List ℕ)) (fault : Option Fault) → life dialogue h.pairs ≡ Life.standing state context
+  accepted-standing : (state : State) (context : Option (List ℕ)) (fault : Option Fault)
+      → life dialogue h.pairs ≡ Life.standing state context
       → due_on (situation_of h dialogue (standing_of dialogue h.pairs state context) request) request ≡ fault
-      → is_accepted (request_answer h dialogue request (Life.standing state context) fault) ≡ true → IsAccepted h dialogue request
+      → is_accepted (request_answer h dialogue request (Life.standing state context) fault) ≡ true
+      → IsAccepted h dialogue request
   accepted-standing state context (Some fault) stands due e = absurd cc
-  accepted-standing state context None stands due e = record { state = state; context = context; stands = stands; faultless = due }
+  accepted-standing state context None stands due e =
+      record { state = state; context = context; stands = stands; faultless = due }
 
-  accepted-living : (before : Life) → life dialogue h.pairs ≡ before → is_accepted (request_answer h dialogue request before (due_by h dialogue request before)) ≡ true → IsAccepted h dialogue request
+  accepted-living : (before : Life) → life dialogue h.pairs ≡ before
+      → is_accepted (request_answer h dialogue request before (due_by h dialogue request before)) ≡ true
+      → IsAccepted h dialogue request
   accepted-living Life.unborn q e = absurd cc
-  accepted-living (Life.standing state context) q e = accepted-standing state context (due_on (situation_of h dialogue (standing_of dialogue h.pairs state context) request) request) q refl e
+  accepted-living (Life.standing state context) q e =
+      accepted-standing state context (due_on (situation_of h dialogue (standing_of dialogue h.pairs state context)
+      request) request) q refl e
   accepted-living Life.over q e = absurd cc
 
-  pub accepted-request : is_accepted (reply h (Event.on_dialogue dialogue request)) ≡ true → IsAccepted h dialogue request
+  pub accepted-request : is_accepted (reply h (Event.on_dialogue dialogue request)) ≡ true
+      → IsAccepted h dialogue request
   accepted-request e = accepted-living (life dialogue h.pairs) refl e
 
 -- ---- made
@@ -51,7 +59,8 @@ pub record IsInvoke (pair : Pair) (i : Invocation) : Type 0 where
   pub code : CodeParts
   pub parameter : Option (List ℕ)
   pub linked : Option ℤ
-  pub event : pair.event ≡ Event.on_dialogue i.dialogue (Request.component (ComponentRequest.invoke i.id i.class code parameter linked i.timeout))
+  pub event : pair.event ≡ Event.on_dialogue i.dialogue
+      (Request.component (ComponentRequest.invoke i.id i.class code parameter linked i.timeout))
   pub answer : pair.answer ≡ Answer.number i.number
 
 numbered : (answer : Answer) (n : ℕ) → number_of answer ≡ Some n → answer ≡ Answer.number n
@@ -65,22 +74,29 @@ numbered (Answer.refused fault) n e = absurd cc
 abbrev requested_pair : ℕ → Request → Answer → Pair
 requested_pair dialogue request answer = record { event = Event.on_dialogue dialogue request; answer = answer }
 
-invoked-under : (dialogue : ℕ) (request : Request) (answer : Answer) (i : Invocation) (o : Option ℕ) → number_of answer ≡ o → invoked_under dialogue request o ≡ Some i → IsInvoke (requested_pair dialogue request answer) i
+invoked-under : (dialogue : ℕ) (request : Request) (answer : Answer) (i : Invocation) (o : Option ℕ)
+    → number_of answer ≡ o → invoked_under dialogue request o ≡ Some i
+    → IsInvoke (requested_pair dialogue request answer) i
 invoked-under dialogue request answer i None q e = absurd cc
-invoked-under dialogue (Request.component (ComponentRequest.invoke id class code parameter linked timeout)) answer i (Some n) q e =
+invoked-under dialogue (Request.component (ComponentRequest.invoke id class code parameter linked timeout)) answer i
+    (Some n) q e =
     let same : record { number = n; dialogue = dialogue; id = id; class = class; timeout = timeout } ≡ i = cc in
-    subst (λ (i : Invocation). IsInvoke (requested_pair dialogue (Request.component (ComponentRequest.invoke id class code parameter linked timeout)) answer) i) same
+    subst (λ (i : Invocation). IsInvoke (requested_pair dialogue
+    (Request.component (ComponentRequest.invoke id class code parameter linked timeout)) answer) i) same
     (record { code = code; parameter = parameter; linked = linked; event = refl; answer = numbered answer n q })
 invoked-under dialogue (Request.component (ComponentRequest.result_last id body)) answer i (Some n) q e = absurd cc
 invoked-under dialogue (Request.component (ComponentRequest.result_more id body)) answer i (Some n) q e = absurd cc
-invoked-under dialogue (Request.component (ComponentRequest.error_back id code parameter)) answer i (Some n) q e = absurd cc
+invoked-under dialogue (Request.component (ComponentRequest.error_back id code parameter)) answer i (Some n) q e =
+    absurd cc
 invoked-under dialogue (Request.component (ComponentRequest.u_reject id problem)) answer i (Some n) q e = absurd cc
 invoked-under dialogue (Request.component (ComponentRequest.u_cancel id)) answer i (Some n) q e = absurd cc
 invoked-under dialogue (Request.dialogue asked) answer i (Some n) q e = absurd cc
 
-invoked-of : (event : Event) (answer : Answer) (i : Invocation) → invoked_of event answer ≡ Some i → IsInvoke (record { event = event; answer = answer }) i
+invoked-of : (event : Event) (answer : Answer) (i : Invocation) → invoked_of event answer ≡ Some i
+    → IsInvoke (record { event = event; answer = answer }) i
 invoked-of Event.new_dialogue answer i e = absurd cc
-invoked-of (Event.on_dialogue dialogue request) answer i e = invoked-under dialogue request answer i (number_of answer) refl e
+invoked-of (Event.on_dialogue dialogue request) answer i e =
+    invoked-under dialogue request answer i (number_of answer) refl e
 invoked-of (Event.received bytes) answer i e = absurd cc
 invoked-of (Event.moment now) answer i e = absurd cc
 
@@ -90,15 +106,19 @@ invoke-made pair i e = invoked-of pair.event pair.answer i e
 -- ---- its identifier and its timeout
 
 abbrev invoke_asked : Invocation → CodeParts → Option (List ℕ) → Option ℤ → Request
-invoke_asked i code parameter linked = Request.component (ComponentRequest.invoke i.id i.class code parameter linked i.timeout)
+invoke_asked i code parameter linked =
+    Request.component (ComponentRequest.invoke i.id i.class code parameter linked i.timeout)
 
-pub made-identifier : (pair : Pair) (i : Invocation) → InRange pair.event → invoked_by pair ≡ Some i → is_identifier i.id ≡ true
+pub made-identifier : (pair : Pair) (i : Invocation) → InRange pair.event → invoked_by pair ≡ Some i
+    → is_identifier i.id ≡ true
 made-identifier pair i within e =
     let made : IsInvoke pair i = invoke-made pair i e in
     let asked : Request = invoke_asked i made.code made.parameter made.linked in
     let whole = and_parts (is_short i.dialogue) (is_request asked) (subst InRange made.event within) in
-    let timed = and_parts (is_identifier i.id && is_code made.code && are_octets_if_any made.parameter && is_identifier_if_any made.linked) (is_long i.timeout) whole.1 in
-    let linked = and_parts (is_identifier i.id && is_code made.code && are_octets_if_any made.parameter) (is_identifier_if_any made.linked) timed.0 in
+    let timed = and_parts (is_identifier i.id && is_code made.code && are_octets_if_any made.parameter
+    && is_identifier_if_any made.linked) (is_long i.timeout) whole.1 in
+    let linked = and_parts (is_identifier i.id && is_code made.code && are_octets_if_any made.parameter)
+    (is_identifier_if_any made.linked) timed.0 in
     let parameter = and_parts (is_identifier i.id && is_code made.code) (are_octets_if_any made.parameter) linked.0 in
     (and_parts (is_identifier i.id) (is_code made.code) parameter.0).0
 
@@ -106,12 +126,15 @@ not-bad : (a b : Bool) → not (a && b) ≡ false → a ≡ true
 not-bad true b e = refl
 not-bad false b e = absurd cc
 
-pub made-timeout : (start : Start) (pair : Pair) (past : Past) (i : Invocation) → AreReplies start (pair ∷ past) → invoked_by pair ≡ Some i → 0 < i.timeout
+pub made-timeout : (start : Start) (pair : Pair) (past : Past) (i : Invocation) → AreReplies start (pair ∷ past)
+    → invoked_by pair ≡ Some i → 0 < i.timeout
 made-timeout start pair past i legal e =
     let h : History = record { start = start; pairs = past } in
     let made : IsInvoke pair i = invoke-made pair i e in
     let asked : Request = invoke_asked i made.code made.parameter made.linked in
-    let answered : Answer.number i.number ≡ reply h (Event.on_dialogue i.dialogue asked) = sym made.answer ∙ (legal.1 ∙ ap (reply h) made.event) in
+    let answered : Answer.number i.number ≡ reply h (Event.on_dialogue i.dialogue asked) =
+    sym made.answer ∙ (legal.1 ∙ ap (reply h) made.event) in
     let a : IsAccepted h i.dialogue asked = accepted-request h i.dialogue asked (sym (ap is_accepted answered)) in
-    let none = first_that-none (holds (situation_of h i.dialogue (standing_of i.dialogue past a.state a.context) asked) asked) (faults_of asked) a.faultless in
+    let none = first_that-none (holds (situation_of h i.dialogue (standing_of i.dialogue past a.state a.context) asked)
+    asked) (faults_of asked) a.faultless in
     ltb-true 0 i.timeout (not-bad (nat_lt 0 i.timeout) (nat_le i.timeout moment_limit) none.1.0)

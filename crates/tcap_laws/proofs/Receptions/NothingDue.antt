@@ -5,7 +5,8 @@ use Rattle.std.specs.List.{AllByRecursion}
 use Rattle.tcap_model.specs.Words.Fault.{Fault}
 use Rattle.tcap_model.specs.Procedures.Refusals.{first_that}
 
-pub first_that-none : (holds : Fault → Bool) (faults : List Fault) → first_that holds faults ≡ None → AllByRecursion (λ f. holds f ≡ false) faults
+pub first_that-none : (holds : Fault → Bool) (faults : List Fault) → first_that holds faults ≡ None
+    → AllByRecursion (λ f. holds f ≡ false) faults
 first_that-none holds [] e = tt
 first_that-none holds (f ∷ faults) e = elim (cases_Bool (holds f)) [
   | inl t ↦ let e = e in let s : Some f ≡ None = rw t at e in absurd cc

@@ -28,7 +28,8 @@ LifeId (Life.standing state context) = StateId state
 LifeId Life.over = Unit {0}
 
 begun-id : (bytes : List ℕ) (read : Result Message FrameFault) → frame_at bytes ≡ read → LifeId (begun_life read)
-begun-id bytes (Ok (Message.begin origin portion components)) e = read-ids bytes (Message.begin origin portion components) e
+begun-id bytes (Ok (Message.begin origin portion components)) e =
+    read-ids bytes (Message.begin origin portion components) e
 begun-id bytes (Ok (Message.unidirectional portion components)) e = tt
 begun-id bytes (Ok (Message.end to portion components)) e = tt
 begun-id bytes (Ok (Message.go_on origin to portion components)) e = tt
@@ -51,7 +52,8 @@ activated-id State.sent id = tt
 activated-id (State.received peer) id = id
 activated-id (State.active peer) id = id
 
-request-id : (state : State) (context : Option (List ℕ)) (request : Request) → StateId state → LifeId (life_by_request state context request)
+request-id : (state : State) (context : Option (List ℕ)) (request : Request) → StateId state
+    → LifeId (life_by_request state context request)
 request-id state context (Request.component asked) peer = peer
 request-id state context (Request.dialogue (DialogueRequest.uni asked info)) peer = tt
 request-id state context (Request.dialogue (DialogueRequest.begin asked info)) peer = tt
@@ -59,21 +61,25 @@ request-id state context (Request.dialogue (DialogueRequest.go_on asked info)) p
 request-id state context (Request.dialogue (DialogueRequest.finish ending asked info)) peer = tt
 request-id state context (Request.dialogue (DialogueRequest.u_abort why info)) peer = tt
 
-accepted-id : (accepted : Bool) (state : State) (context : Option (List ℕ)) (request : Request) → StateId state → LifeId (life_if_accepted accepted state context request)
+accepted-id : (accepted : Bool) (state : State) (context : Option (List ℕ)) (request : Request) → StateId state
+    → LifeId (life_if_accepted accepted state context request)
 accepted-id true state context request peer = request-id state context request peer
 accepted-id false state context request peer = peer
 
-answered-id : (state : State) (origin : List ℕ) → StateId state → IsTransId origin → StateId (state_after_continue state origin)
+answered-id : (state : State) (origin : List ℕ) → StateId state → IsTransId origin
+    → StateId (state_after_continue state origin)
 answered-id State.fresh origin peer id = tt
 answered-id State.sent origin peer id = id
 answered-id (State.received known) origin peer id = peer
 answered-id (State.active known) origin peer id = peer
 
-verdict-id : (state : State) (context : Option (List ℕ)) (origin : List ℕ) (verdict : PortionVerdict) → StateId state → IsTransId origin → LifeId (life_by_verdict state context origin verdict)
+verdict-id : (state : State) (context : Option (List ℕ)) (origin : List ℕ) (verdict : PortionVerdict) → StateId state
+    → IsTransId origin → LifeId (life_by_verdict state context origin verdict)
 verdict-id state context origin (PortionVerdict.normal told info) peer id = answered-id state origin peer id
 verdict-id state context origin PortionVerdict.abnormal peer id = tt
 
-message-id : (bytes : List ℕ) (state : State) (context : Option (List ℕ)) (read : Result Message FrameFault) → frame_at bytes ≡ read → StateId state → LifeId (life_by_message state context read)
+message-id : (bytes : List ℕ) (state : State) (context : Option (List ℕ)) (read : Result Message FrameFault)
+    → frame_at bytes ≡ read → StateId state → LifeId (life_by_message state context read)
 message-id bytes state context (Ok (Message.go_on origin to portion components)) e peer =
     let id = read-ids bytes (Message.go_on origin to portion components) e in
     verdict-id state context origin (portion_verdict state context portion) peer id.0
@@ -83,17 +89,21 @@ message-id bytes state context (Ok (Message.unidirectional portion components)) 
 message-id bytes state context (Ok (Message.begin origin portion components)) e peer = peer
 message-id bytes state context (Err fault) e peer = tt
 
-live-id : (live : Bool) (state : State) (context : Option (List ℕ)) (bytes : List ℕ) → StateId state → LifeId (life_if_live live state context bytes)
+live-id : (live : Bool) (state : State) (context : Option (List ℕ)) (bytes : List ℕ) → StateId state
+    → LifeId (life_if_live live state context bytes)
 live-id true state context bytes peer = message-id bytes state context (frame_at bytes) refl peer
 live-id false state context bytes peer = peer
 
-event-id : (state : State) (context : Option (List ℕ)) (event : Event) (accepted : Bool) → StateId state → LifeId (life_by_event state context event accepted)
+event-id : (state : State) (context : Option (List ℕ)) (event : Event) (accepted : Bool) → StateId state
+    → LifeId (life_by_event state context event accepted)
 event-id state context Event.new_dialogue accepted peer = peer
-event-id state context (Event.on_dialogue dialogue request) accepted peer = accepted-id accepted state context request peer
+event-id state context (Event.on_dialogue dialogue request) accepted peer =
+    accepted-id accepted state context request peer
 event-id state context (Event.received bytes) accepted peer = live-id (is_live state) state context bytes peer
 event-id state context (Event.moment now) accepted peer = peer
 
-named-id : (named : Bool) (state : State) (context : Option (List ℕ)) (pair : Pair) → StateId state → LifeId (life_if_named named state context pair)
+named-id : (named : Bool) (state : State) (context : Option (List ℕ)) (pair : Pair) → StateId state
+    → LifeId (life_if_named named state context pair)
 named-id true state context pair peer = event-id state context pair.event (is_accepted pair.answer) peer
 named-id false state context pair peer = peer
 

@@ -24,7 +24,8 @@ pub record CanGo (m : Message) : Type 0 where
 
 -- an output that sends an Abort
 abbrev pub Sends : Output → Type 0
-Sends output = (peer : List ℕ) × (reason : Reason) × (output ≡ message_sent (Message.abort peer reason)) × CanGo (Message.abort peer reason)
+Sends output = (peer : List ℕ) × (reason : Reason) × (output ≡ message_sent (Message.abort peer reason))
+    × CanGo (Message.abort peer reason)
 
 pub goes-spelled : (m : Message) → CanGo m → IsMessage m (written_frame m)
 goes-spelled m can = record { is_written = refl; spelled = written_spelled m can.has_ids can.has_cause can.is_short }
@@ -36,20 +37,25 @@ element-le n = elim (cases_Bool (ltb n 0x80)) [
   | inr a ↦ elim (cases_Bool (ltb n 0x100)) [ inl b ↦ rw (a, b) (omega arith) | inr b ↦ rw (a, b) (omega arith) ]
 ]
 
-abort-length : (peer : List ℕ) (reason : Reason) → IsTransId peer → length (written_frame (Message.abort peer reason)) ≤ reason_length (option_map length (reason_dialogue reason)) reason + 12
+abort-length : (peer : List ℕ) (reason : Reason) → IsTransId peer
+    → length (written_frame (Message.abort peer reason))
+    ≤ reason_length (option_map length (reason_dialogue reason)) reason + 12
 abort-length peer reason id =
     let own = length-own (Message.abort peer reason) in
     let ids = element-le (length peer) in
-    let all = element-le (element_length (length peer) + reason_length (option_map length (reason_dialogue reason)) reason) in
+    let all = element-le (element_length (length peer) + reason_length (option_map length (reason_dialogue reason))
+    reason) in
     omega (arith, own, ids, all, id.1)
 
-cause-goes : (number : ℕ) (peer : List ℕ) → number ≤ cause_limit → IsTransId peer → CanGo (Message.abort peer (Reason.cause number))
+cause-goes : (number : ℕ) (peer : List ℕ) → number ≤ cause_limit → IsTransId peer
+    → CanGo (Message.abort peer (Reason.cause number))
 cause-goes number peer within id =
     let long = abort-length peer (Reason.cause number) id in
     let one = element-le 1 in
     record { has_ids = id; has_cause = within; is_short = omega (arith, long, one) }
 
-pub portion-goes : (portion peer : List ℕ) → length portion ≤ 1000 → IsTransId peer → CanGo (Message.abort peer (Reason.portion portion))
+pub portion-goes : (portion peer : List ℕ) → length portion ≤ 1000 → IsTransId peer
+    → CanGo (Message.abort peer (Reason.portion portion))
 portion-goes portion peer within id =
     let long = abort-length peer (Reason.portion portion) id in
     let part = element-le (length portion) in
@@ -75,7 +81,8 @@ written-most tag content =
     let most = element_length-most (length content) in
     omega (arith, same, most)
 
-fields-most : (context : List ℕ) → length (written_fields (response_fields true context false (Source.provider 2) [])) ≤ length context + 100
+fields-most : (context : List ℕ) → length (written_fields (response_fields true context false (Source.provider 2) []))
+    ≤ length context + 100
 fields-most context =
     let named = written (0xa1 ∷ []) (written (0x06 ∷ []) context) in
     let others = written_fields (result_field false ∷ diagnostic_field (Source.provider 2) ∷ filled 0xbe [] ∷ []) in
@@ -84,7 +91,8 @@ fields-most context =
     let both = length-append named others in
     omega (arith, name, outer, both)
 
-external-most : (context : List ℕ) → length (written_dialogue (PduValue.aare true context false (Source.provider 2) [])) ≤ length context + 200
+external-most : (context : List ℕ) → length (written_dialogue (PduValue.aare true context false (Source.provider 2) []))
+    ≤ length context + 200
 unfolding written_dialogue written_external
 external-most context =
     let contents = written_fields (response_fields true context false (Source.provider 2) []) in
@@ -96,7 +104,8 @@ external-most context =
     let whole = written-most 0x28 (written_fields (must 0x06 structured_syntax ∷ must 0xa0 pdu ∷ [])) in
     omega (arith, fields, inner, held, both, whole)
 
-pub version-sends : (context peer : List ℕ) → IsObjectIdentifier context → IsTransId peer → Sends (version_abort context peer)
+pub version-sends : (context peer : List ℕ) → IsObjectIdentifier context → IsTransId peer
+    → Sends (version_abort context peer)
 version-sends context peer name id =
     let portion = written_dialogue (PduValue.aare true context false (Source.provider 2) []) in
     let most = external-most context in

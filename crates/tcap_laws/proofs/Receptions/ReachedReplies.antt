@@ -32,12 +32,20 @@ outputs_by h r = Answer.outputs (reception_outputs h r)
 
 -- ---- bytes that name a live dialogue
 
-module _ (h : History) (dialogue : ℕ) (bytes : List ℕ) (named : names (Event.received bytes) dialogue ≡ true) (lives : live_in (life dialogue h.pairs) ≡ true) where
-  pub taken-reply : (m : Message) → SpellsFrame m bytes → reply h (Event.received bytes) ≡ Answer.outputs (taken_outputs dialogue h.pairs (life dialogue h.pairs) m)
-  taken-reply m spelled = ap (outputs_by h) (named-taken (live_at h) (is_some (birth_due h)) dialogue bytes named lives m (frame_again m bytes spelled))
+module _ (h : History) (dialogue : ℕ) (bytes : List ℕ) (named : names (Event.received bytes) dialogue ≡ true)
+    (lives : live_in (life dialogue h.pairs) ≡ true) where
+  pub taken-reply : (m : Message) → SpellsFrame m bytes
+      → reply h (Event.received bytes) ≡ Answer.outputs (taken_outputs dialogue h.pairs (life dialogue h.pairs) m)
+  taken-reply m spelled =
+      ap (outputs_by h) (named-taken (live_at h) (is_some (birth_due h)) dialogue bytes named lives m
+      (frame_again m bytes spelled))
 
-  pub broken-reply : (f : FrameFault) (origin destination : Option (List ℕ)) → IsFrameFault bytes f → Front bytes origin destination →
-      reply h (Event.received bytes) ≡ Answer.outputs (option_to_list (fault_answer bytes f origin) ++ Output.dialogue (DialogueIndication.p_abort dialogue (AbortCause.cause (fault_cause f))) ∷ ended_in dialogue h.pairs [])
+  pub broken-reply : (f : FrameFault) (origin destination : Option (List ℕ)) → IsFrameFault bytes f
+      → Front bytes origin destination →
+      reply h (Event.received bytes) ≡ Answer.outputs
+      (option_to_list (fault_answer bytes f origin)
+      ++ Output.dialogue (DialogueIndication.p_abort dialogue (AbortCause.cause (fault_cause f)))
+      ∷ ended_in dialogue h.pairs [])
   broken-reply f origin destination is front =
       let at_front = ap (λ (p : Option (List ℕ) × Option (List ℕ)). p.0) (front_again bytes origin destination front) in
       ap (outputs_by h)
@@ -49,39 +57,56 @@ module _ (h : History) (dialogue : ℕ) (bytes : List ℕ) (named : names (Event
 abbrev IsSomething : List Output → Type 0
 IsSomething outputs = (first : Output) × (others : List Output) × (outputs ≡ first ∷ others)
 
-continue-some : (dialogue : ℕ) (past : Past) (state : State) (origin components : List ℕ) (verdict : PortionVerdict) → IsSomething (continue_outputs dialogue past state origin components verdict)
+continue-some : (dialogue : ℕ) (past : Past) (state : State) (origin components : List ℕ) (verdict : PortionVerdict)
+    → IsSomething (continue_outputs dialogue past state origin components verdict)
 continue-some dialogue past state origin components (PortionVerdict.normal context info) = (_, _, refl)
 continue-some dialogue past state origin components PortionVerdict.abnormal = (_, _, refl)
 
-end-some : (dialogue : ℕ) (past : Past) (components : List ℕ) (verdict : PortionVerdict) → IsSomething (end_outputs dialogue past components verdict)
+end-some : (dialogue : ℕ) (past : Past) (components : List ℕ) (verdict : PortionVerdict)
+    → IsSomething (end_outputs dialogue past components verdict)
 end-some dialogue past components (PortionVerdict.normal context info) = (_, _, refl)
 end-some dialogue past components PortionVerdict.abnormal = (_, _, refl)
 
-message-some : (dialogue : ℕ) (past : Past) (state : State) (context : Option (List ℕ)) (bytes : List ℕ) (m : Message) → names (Event.received bytes) dialogue ≡ true → frame_at bytes ≡ Ok m → IsSomething (message_outputs dialogue past state context m)
-message-some dialogue past state context bytes (Message.go_on origin to portion components) named e = continue-some dialogue past state origin components (portion_verdict state context portion)
-message-some dialogue past state context bytes (Message.end to portion components) named e = end-some dialogue past components (portion_verdict state context portion)
+message-some : (dialogue : ℕ) (past : Past) (state : State) (context : Option (List ℕ)) (bytes : List ℕ) (m : Message)
+    → names (Event.received bytes) dialogue ≡ true → frame_at bytes ≡ Ok m
+    → IsSomething (message_outputs dialogue past state context m)
+message-some dialogue past state context bytes (Message.go_on origin to portion components) named e =
+    continue-some dialogue past state origin components (portion_verdict state context portion)
+message-some dialogue past state context bytes (Message.end to portion components) named e =
+    end-some dialogue past components (portion_verdict state context portion)
 message-some dialogue past state context bytes (Message.abort to reason) named e = (_, _, refl)
-message-some dialogue past state context bytes (Message.unidirectional portion components) named e = absurd (unaddressed dialogue bytes named (Message.unidirectional portion components) e refl)
-message-some dialogue past state context bytes (Message.begin origin portion components) named e = absurd (unaddressed dialogue bytes named (Message.begin origin portion components) e refl)
+message-some dialogue past state context bytes (Message.unidirectional portion components) named e =
+    absurd (unaddressed dialogue bytes named (Message.unidirectional portion components) e refl)
+message-some dialogue past state context bytes (Message.begin origin portion components) named e =
+    absurd (unaddressed dialogue bytes named (Message.begin origin portion components) e refl)
 
-taken-some : (dialogue : ℕ) (past : Past) (before : Life) (bytes : List ℕ) (m : Message) → live_in before ≡ true → names (Event.received bytes) dialogue ≡ true → frame_at bytes ≡ Ok m → IsSomething (taken_outputs dialogue past before m)
+taken-some : (dialogue : ℕ) (past : Past) (before : Life) (bytes : List ℕ) (m : Message) → live_in before ≡ true
+    → names (Event.received bytes) dialogue ≡ true → frame_at bytes ≡ Ok m
+    → IsSomething (taken_outputs dialogue past before m)
 taken-some dialogue past Life.unborn bytes m lives named e = absurd (true≢false (sym lives))
-taken-some dialogue past (Life.standing state context) bytes m lives named e = message-some dialogue past state context bytes m named e
+taken-some dialogue past (Life.standing state context) bytes m lives named e =
+    message-some dialogue past state context bytes m named e
 taken-some dialogue past Life.over bytes m lives named e = absurd (true≢false (sym lives))
 
-broken-some : (abort : Option Output) (first : Output) (others : List Output) → IsSomething (option_to_list abort ++ first ∷ others)
+broken-some : (abort : Option Output) (first : Output) (others : List Output)
+    → IsSomething (option_to_list abort ++ first ∷ others)
 broken-some None first others = (_, _, refl)
 broken-some (Some abort) first others = (_, _, refl)
 
-reception-some : (h : History) (bytes : List ℕ) (r : Reception) → IsNamed (live_at h) bytes r → IsSomething (reception_outputs h r)
+reception-some : (h : History) (bytes : List ℕ) (r : Reception) → IsNamed (live_at h) bytes r
+    → IsSomething (reception_outputs h r)
 reception-some h bytes (Reception.dropped why) is = (_, _, refl)
 reception-some h bytes (Reception.aborted abort) is = (_, _, refl)
 reception-some h bytes (Reception.unidirectional context info components) is = (_, _, refl)
 reception-some h bytes (Reception.begun origin context info components) is = (_, _, refl)
-reception-some h bytes (Reception.taken dialogue m) is = taken-some dialogue h.pairs (life dialogue h.pairs) bytes m is.1 is.0 is.2
-reception-some h bytes (Reception.broken dialogue abort cause) is = broken-some abort (Output.dialogue (DialogueIndication.p_abort dialogue (AbortCause.cause cause))) (ended_in dialogue h.pairs [])
+reception-some h bytes (Reception.taken dialogue m) is =
+    taken-some dialogue h.pairs (life dialogue h.pairs) bytes m is.1 is.0 is.2
+reception-some h bytes (Reception.broken dialogue abort cause) is =
+    broken-some abort (Output.dialogue (DialogueIndication.p_abort dialogue (AbortCause.cause cause)))
+    (ended_in dialogue h.pairs [])
 
-pub some-reply : (h : History) (bytes : List ℕ) → (first : Output) × (others : List Output) × (reply h (Event.received bytes) ≡ Answer.outputs (first ∷ others))
+pub some-reply : (h : History) (bytes : List ℕ)
+    → (first : Output) × (others : List Output) × (reply h (Event.received bytes) ≡ Answer.outputs (first ∷ others))
 some-reply h bytes =
     let r = reception (live_at h) (is_some (birth_due h)) bytes in
     let some = reception-some h bytes r (reception-named (live_at h) (is_some (birth_due h)) bytes) in

@@ -61,9 +61,11 @@ each-at : {X : Type 0} (P : X → Type 0) (xs ys : List X) (x : X) → AllByRecu
 each-at P [] ys x all = all.0
 each-at P (y ∷ xs) ys x all = each-at P xs ys x all.1
 
-pub tells-sends : (P : List ℕ → Type 0) (answer : Answer) (bytes : List ℕ) → AnswerSends P answer → Tells answer (Output.send bytes) → P bytes
+pub tells-sends : (P : List ℕ → Type 0) (answer : Answer) (bytes : List ℕ) → AnswerSends P answer
+    → Tells answer (Output.send bytes) → P bytes
 tells-sends P answer bytes sends tells =
-    each-at (SendsOnly P) tells.earlier tells.later (Output.send bytes) (subst (λ (a : Answer). AnswerSends P a) tells.is_answer sends)
+    each-at (SendsOnly P) tells.earlier tells.later (Output.send bytes)
+    (subst (λ (a : Answer). AnswerSends P a) tells.is_answer sends)
 
 told-only : (P : List ℕ → Type 0) (output : Output) → IsTold output → SendsOnly P output
 told-only P (Output.send bytes) told = absurd told
@@ -82,106 +84,173 @@ aborts output sends =
     subst (λ (o : Output). SendsOnly SentForBytes o) (sym sends.2)
     (record { peer = sends.0; reason = sends.1; is_message = goes-spelled (Message.abort sends.0 sends.1) sends.3 })
 
-if-aborts : (abort : Option Output) (outputs : List Output) → IfSends abort → EachSends SentForBytes outputs → EachSends SentForBytes (option_to_list abort ++ outputs)
+if-aborts : (abort : Option Output) (outputs : List Output) → IfSends abort → EachSends SentForBytes outputs
+    → EachSends SentForBytes (option_to_list abort ++ outputs)
 if-aborts None outputs sends others = others
 if-aborts (Some abort) outputs sends others = (aborts abort sends, others)
 
 ended-sends : (dialogue : ℕ) (past : Past) → EachSends SentForBytes (ended_in dialogue past [])
 ended-sends dialogue past = told-each SentForBytes (ended_in dialogue past []) (ended-told dialogue past [])
 
-continue-sends : (dialogue : ℕ) (past : Past) (state : State) (origin components : List ℕ) (verdict : PortionVerdict) → IsTransId (peer_by state origin) → EachSends SentForBytes (continue_outputs dialogue past state origin components verdict)
-continue-sends dialogue past state origin components (PortionVerdict.normal context info) id =
-    (tt, told-each SentForBytes (told_of (handled_in dialogue past components)) (components-told dialogue past components))
-continue-sends dialogue past state origin components PortionVerdict.abnormal id =
-    (aborts (abnormal_abort (peer_by state origin)) (abnormal-sends (peer_by state origin) id), (tt, ended-sends dialogue past))
+continue-sends : (dialogue : ℕ) (past : Past) (state : State) (origin components : List ℕ) (verdict : PortionVerdict)
+    → IsTransId (peer_by state origin) → EachSends SentForBytes
+    (continue_outputs dialogue past state origin components verdict)
+continue-sends dialogue past state origin components (PortionVerdict.normal context info) id = (
+  tt,
+  told-each SentForBytes (told_of (handled_in dialogue past components))
+      (components-told dialogue past components),
+)
+continue-sends dialogue past state origin components PortionVerdict.abnormal id = (
+  aborts (abnormal_abort (peer_by state origin)) (abnormal-sends (peer_by state origin) id),
+  (tt, ended-sends dialogue past),
+)
 
-end-sends : (dialogue : ℕ) (past : Past) (components : List ℕ) (verdict : PortionVerdict) → EachSends SentForBytes (end_outputs dialogue past components verdict)
+end-sends : (dialogue : ℕ) (past : Past) (components : List ℕ) (verdict : PortionVerdict)
+    → EachSends SentForBytes (end_outputs dialogue past components verdict)
 end-sends dialogue past components (PortionVerdict.normal context info) =
     let told = told_of (handled_in dialogue past components) in
-    let ended = ended_in dialogue past (components_of components) in
-    (tt, told-each SentForBytes (told ++ ended) (each-append IsTold told ended (components-told dialogue past components) (ended-told dialogue past (components_of components))))
+    let ended = ended_in dialogue past (components_of components) in (
+      tt,
+      told-each SentForBytes (told ++ ended) (each-append IsTold told ended
+          (components-told dialogue past components) (ended-told dialogue past (components_of components))),
+    )
 end-sends dialogue past components PortionVerdict.abnormal = (tt, ended-sends dialogue past)
 
-message-sends : (dialogue : ℕ) (past : Past) (state : State) (context : Option (List ℕ)) (message : Message) → StateId state → HasIds message → EachSends SentForBytes (message_outputs dialogue past state context message)
+message-sends : (dialogue : ℕ) (past : Past) (state : State) (context : Option (List ℕ)) (message : Message)
+    → StateId state → HasIds message → EachSends SentForBytes (message_outputs dialogue past state context message)
 message-sends dialogue past state context (Message.go_on origin to portion components) peer ids =
-    continue-sends dialogue past state origin components (portion_verdict state context portion) (peer_by-id state origin peer ids.0)
-message-sends dialogue past state context (Message.end to portion components) peer ids = end-sends dialogue past components (portion_verdict state context portion)
-message-sends dialogue past state context (Message.abort to reason) peer ids = (told-only SentForBytes (abort_told dialogue reason) (abort-told dialogue reason), ended-sends dialogue past)
+    continue-sends dialogue past state origin components (portion_verdict state context portion)
+    (peer_by-id state origin peer ids.0)
+message-sends dialogue past state context (Message.end to portion components) peer ids =
+    end-sends dialogue past components (portion_verdict state context portion)
+message-sends dialogue past state context (Message.abort to reason) peer ids =
+    (told-only SentForBytes (abort_told dialogue reason) (abort-told dialogue reason), ended-sends dialogue past)
 message-sends dialogue past state context (Message.unidirectional portion components) peer ids = tt
 message-sends dialogue past state context (Message.begin origin portion components) peer ids = tt
 
-taken-sends : (dialogue : ℕ) (past : Past) (before : Life) (message : Message) → LifeId before → HasIds message → EachSends SentForBytes (taken_outputs dialogue past before message)
+taken-sends : (dialogue : ℕ) (past : Past) (before : Life) (message : Message) → LifeId before → HasIds message
+    → EachSends SentForBytes (taken_outputs dialogue past before message)
 taken-sends dialogue past Life.unborn message peer ids = tt
-taken-sends dialogue past (Life.standing state context) message peer ids = message-sends dialogue past state context message peer ids
+taken-sends dialogue past (Life.standing state context) message peer ids =
+    message-sends dialogue past state context message peer ids
 taken-sends dialogue past Life.over message peer ids = tt
 
-reception-sends : (h : History) (bytes : List ℕ) (full : Bool) (r : Reception) → IsSound full bytes r → EachSends SentForBytes (reception_outputs h r)
+reception-sends : (h : History) (bytes : List ℕ) (full : Bool) (r : Reception) → IsSound full bytes r
+    → EachSends SentForBytes (reception_outputs h r)
 reception-sends h bytes full (Reception.dropped why) sound = (tt, tt)
 reception-sends h bytes full (Reception.aborted abort) sound = (aborts abort sound, tt)
 reception-sends h bytes full (Reception.unidirectional context info components) sound =
     (tt, told-each SentForBytes (uni_told (components_of components)) (uni-told (components_of components)))
-reception-sends h bytes full (Reception.begun origin context info components) sound =
-    (tt, told-each SentForBytes (told_of (handled_in (next_dialogue h) h.pairs components)) (components-told (next_dialogue h) h.pairs components))
+reception-sends h bytes full (Reception.begun origin context info components) sound = (
+  tt,
+  told-each SentForBytes (told_of (handled_in (next_dialogue h) h.pairs components))
+      (components-told (next_dialogue h) h.pairs components),
+)
 reception-sends h bytes full (Reception.taken dialogue message) sound =
-    taken-sends dialogue h.pairs (life dialogue h.pairs) message (life-id dialogue h.pairs) (read-ids bytes message sound)
+    taken-sends dialogue h.pairs (life dialogue h.pairs) message (life-id dialogue h.pairs)
+    (read-ids bytes message sound)
 reception-sends h bytes full (Reception.broken dialogue abort cause) sound =
-    if-aborts abort (Output.dialogue (DialogueIndication.p_abort dialogue (AbortCause.cause cause)) ∷ ended_in dialogue h.pairs []) sound (tt, ended-sends dialogue h.pairs)
+    if-aborts abort (Output.dialogue (DialogueIndication.p_abort dialogue (AbortCause.cause cause))
+    ∷ ended_in dialogue h.pairs []) sound (tt, ended-sends dialogue h.pairs)
 
 bytes-sends : (h : History) (bytes : List ℕ) → AnswerSends SentForBytes (reply h (Event.received bytes))
 bytes-sends h bytes =
     let live = λ (dialogue : ℕ). live_in (life dialogue h.pairs) in
-    reception-sends h bytes (is_some (birth_due h)) (reception live (is_some (birth_due h)) bytes) (reception-sound live (is_some (birth_due h)) bytes)
+    reception-sends h bytes (is_some (birth_due h)) (reception live (is_some (birth_due h)) bytes)
+    (reception-sound live (is_some (birth_due h)) bytes)
 
-pub sent_for_bytes : (h : History) (bytes octets : List ℕ) → Tells (reply h (Event.received bytes)) (Output.send octets) → SentForBytes octets
-sent_for_bytes h bytes octets tells = tells-sends SentForBytes (reply h (Event.received bytes)) octets (bytes-sends h bytes) tells
+pub sent_for_bytes : (h : History) (bytes octets : List ℕ) → Tells (reply h (Event.received bytes)) (Output.send octets)
+    → SentForBytes octets
+sent_for_bytes h bytes octets tells =
+    tells-sends SentForBytes (reply h (Event.received bytes)) octets (bytes-sends h bytes) tells
 
 -- ---- requests
 
 module _ (h : History) (dialogue : ℕ) where
-  if-sent : (state : State) (context : Option (List ℕ)) (request : Request) → life dialogue h.pairs ≡ Life.standing state context → (message : Option Message) → message_of (standing_of dialogue h.pairs state context) request ≡ message → IfGoes message → EachSends (SentForRequest h dialogue request) (sent_if_any message)
+  if-sent : (state : State) (context : Option (List ℕ)) (request : Request)
+      → life dialogue h.pairs ≡ Life.standing state context → (message : Option Message)
+      → message_of (standing_of dialogue h.pairs state context) request ≡ message → IfGoes message
+      → EachSends (SentForRequest h dialogue request) (sent_if_any message)
   if-sent state context request lives None is goes = tt
-  if-sent state context request lives (Some m) is goes =
-      (record { state = state; context = context; message = m; is_life = lives; is_asked = is; is_message = goes-spelled m goes }, tt)
+  if-sent state context request lives (Some m) is goes = (
+    record {
+      state = state;
+      context = context;
+      message = m;
+      is_life = lives;
+      is_asked = is;
+      is_message =
+          goes-spelled m goes;
+    },
+    tt,
+  )
 
-  message-goes : (state : State) (context : Option (List ℕ)) (request : Request) → life dialogue h.pairs ≡ Life.standing state context → due_on (situation_of h dialogue (standing_of dialogue h.pairs state context) request) request ≡ None → StateId state → EachSends (SentForRequest h dialogue request) (sent_if_any (message_of (standing_of dialogue h.pairs state context) request))
+  message-goes : (state : State) (context : Option (List ℕ)) (request : Request)
+      → life dialogue h.pairs ≡ Life.standing state context
+      → due_on (situation_of h dialogue (standing_of dialogue h.pairs state context) request) request ≡ None
+      → StateId state → EachSends (SentForRequest h dialogue request)
+      (sent_if_any (message_of (standing_of dialogue h.pairs state context) request))
   message-goes state context request lives due peer =
       let d : Standing = standing_of dialogue h.pairs state context in
-      if-sent state context request lives (message_of d request) refl (request-goes (situation_of h dialogue d request) request peer due)
+      if-sent state context request lives (message_of d request) refl
+      (request-goes (situation_of h dialogue d request) request peer due)
 
-  last-sends : (state : State) (context : Option (List ℕ)) (request : Request) → life dialogue h.pairs ≡ Life.standing state context → due_on (situation_of h dialogue (standing_of dialogue h.pairs state context) request) request ≡ None → StateId state → EachSends (SentForRequest h dialogue request) (sent_if_any (message_of (standing_of dialogue h.pairs state context) request) ++ ended_in dialogue h.pairs [])
+  last-sends : (state : State) (context : Option (List ℕ)) (request : Request)
+      → life dialogue h.pairs ≡ Life.standing state context
+      → due_on (situation_of h dialogue (standing_of dialogue h.pairs state context) request) request ≡ None
+      → StateId state → EachSends (SentForRequest h dialogue request)
+      (sent_if_any (message_of (standing_of dialogue h.pairs state context) request) ++ ended_in dialogue h.pairs [])
   last-sends state context request lives due peer =
       let sent = SentForRequest h dialogue request in
       let message = sent_if_any (message_of (standing_of dialogue h.pairs state context) request) in
       let ended = ended_in dialogue h.pairs [] in
-      each-append (SendsOnly sent) message ended (message-goes state context request lives due peer) (told-each sent ended (ended-told dialogue h.pairs []))
+      each-append (SendsOnly sent) message ended (message-goes state context request lives due peer)
+      (told-each sent ended (ended-told dialogue h.pairs []))
 
-  given_up-sends : (request : Request) (number : Option ℕ) → AnswerSends (SentForRequest h dialogue request) (given_up_answer number)
+  given_up-sends : (request : Request) (number : Option ℕ)
+      → AnswerSends (SentForRequest h dialogue request) (given_up_answer number)
   given_up-sends request None = tt
   given_up-sends request (Some n) = tt
 
-  accepted-sends : (state : State) (context : Option (List ℕ)) (request : Request) → life dialogue h.pairs ≡ Life.standing state context → due_on (situation_of h dialogue (standing_of dialogue h.pairs state context) request) request ≡ None → StateId state → AnswerSends (SentForRequest h dialogue request) (accepted_answer h (standing_of dialogue h.pairs state context) request)
-  accepted-sends state context (Request.component (ComponentRequest.invoke id class code parameter linked timeout)) lives due peer = tt
+  accepted-sends : (state : State) (context : Option (List ℕ)) (request : Request)
+      → life dialogue h.pairs ≡ Life.standing state context
+      → due_on (situation_of h dialogue (standing_of dialogue h.pairs state context) request) request ≡ None
+      → StateId state → AnswerSends (SentForRequest h dialogue request)
+      (accepted_answer h (standing_of dialogue h.pairs state context) request)
+  accepted-sends state context (Request.component (ComponentRequest.invoke id class code parameter linked timeout))
+      lives due peer = tt
   accepted-sends state context (Request.component (ComponentRequest.result_last id body)) lives due peer = tt
   accepted-sends state context (Request.component (ComponentRequest.result_more id body)) lives due peer = tt
   accepted-sends state context (Request.component (ComponentRequest.error_back id code parameter)) lives due peer = tt
   accepted-sends state context (Request.component (ComponentRequest.u_reject id problem)) lives due peer = tt
-  accepted-sends state context (Request.component (ComponentRequest.u_cancel id)) lives due peer = given_up-sends (Request.component (ComponentRequest.u_cancel id)) (pending dialogue id h.pairs)
-  accepted-sends state context (Request.dialogue (DialogueRequest.uni asked info)) lives due peer = last-sends state context (Request.dialogue (DialogueRequest.uni asked info)) lives due peer
-  accepted-sends state context (Request.dialogue (DialogueRequest.begin asked info)) lives due peer = message-goes state context (Request.dialogue (DialogueRequest.begin asked info)) lives due peer
-  accepted-sends state context (Request.dialogue (DialogueRequest.go_on asked info)) lives due peer = message-goes state context (Request.dialogue (DialogueRequest.go_on asked info)) lives due peer
-  accepted-sends state context (Request.dialogue (DialogueRequest.finish ending asked info)) lives due peer = last-sends state context (Request.dialogue (DialogueRequest.finish ending asked info)) lives due peer
-  accepted-sends state context (Request.dialogue (DialogueRequest.u_abort why info)) lives due peer = last-sends state context (Request.dialogue (DialogueRequest.u_abort why info)) lives due peer
+  accepted-sends state context (Request.component (ComponentRequest.u_cancel id)) lives due peer =
+      given_up-sends (Request.component (ComponentRequest.u_cancel id)) (pending dialogue id h.pairs)
+  accepted-sends state context (Request.dialogue (DialogueRequest.uni asked info)) lives due peer =
+      last-sends state context (Request.dialogue (DialogueRequest.uni asked info)) lives due peer
+  accepted-sends state context (Request.dialogue (DialogueRequest.begin asked info)) lives due peer =
+      message-goes state context (Request.dialogue (DialogueRequest.begin asked info)) lives due peer
+  accepted-sends state context (Request.dialogue (DialogueRequest.go_on asked info)) lives due peer =
+      message-goes state context (Request.dialogue (DialogueRequest.go_on asked info)) lives due peer
+  accepted-sends state context (Request.dialogue (DialogueRequest.finish ending asked info)) lives due peer =
+      last-sends state context (Request.dialogue (DialogueRequest.finish ending asked info)) lives due peer
+  accepted-sends state context (Request.dialogue (DialogueRequest.u_abort why info)) lives due peer =
+      last-sends state context (Request.dialogue (DialogueRequest.u_abort why info)) lives due peer
 
-  request-sends : (request : Request) (before : Life) (fault : Option Fault) → life dialogue h.pairs ≡ before → due_by h dialogue request before ≡ fault → LifeId before → AnswerSends (SentForRequest h dialogue request) (request_answer h dialogue request before fault)
+  request-sends : (request : Request) (before : Life) (fault : Option Fault) → life dialogue h.pairs ≡ before
+      → due_by h dialogue request before ≡ fault → LifeId before
+      → AnswerSends (SentForRequest h dialogue request) (request_answer h dialogue request before fault)
   request-sends request before (Some f) lives due peer = tt
   request-sends request Life.unborn None lives due peer = tt
   request-sends request Life.over None lives due peer = tt
-  request-sends request (Life.standing state context) None lives due peer = accepted-sends state context request lives due peer
+  request-sends request (Life.standing state context) None lives due peer =
+      accepted-sends state context request lives due peer
 
-pub sent_for_request : (h : History) (dialogue : ℕ) (request : Request) (bytes : List ℕ) → Tells (reply h (Event.on_dialogue dialogue request)) (Output.send bytes) → SentForRequest h dialogue request bytes
+pub sent_for_request : (h : History) (dialogue : ℕ) (request : Request) (bytes : List ℕ)
+    → Tells (reply h (Event.on_dialogue dialogue request)) (Output.send bytes) → SentForRequest h dialogue request bytes
 sent_for_request h dialogue request bytes tells =
     tells-sends (SentForRequest h dialogue request) (reply h (Event.on_dialogue dialogue request)) bytes
-    (request-sends h dialogue request (life dialogue h.pairs) (due h dialogue request) refl refl (life-id dialogue h.pairs)) tells
+    (request-sends h dialogue request (life dialogue h.pairs) (due h dialogue request) refl refl
+    (life-id dialogue h.pairs)) tells
 
 -- ---- all events
 
@@ -196,12 +265,19 @@ pub moment-sends : (past : Past) (now : ℕ) (fault : Option Fault) → AnswerSe
 moment-sends past now (Some f) = tt
 moment-sends past now None = chosen (nat_lt now (clock past))
   where
-    chosen : (early : Bool) → AnswerSends Nothing (if early then Answer.outputs [] else Answer.outputs (lapses past now))
+    chosen : (early : Bool) → AnswerSends Nothing
+        (if early then Answer.outputs [] else Answer.outputs (lapses past now))
     chosen true = tt
-    chosen false = told-each Nothing (lapses past now) (lapses-told (in_order lapse_key (filter_map (lapsing_at past now) (invocations past))))
+    chosen false = told-each Nothing (lapses past now)
+        (lapses-told (in_order lapse_key (filter_map (lapsing_at past now) (invocations past))))
 
-pub sent_message : (h : History) (event : Event) (bytes : List ℕ) → Tells (reply h event) (Output.send bytes) → (m : Message) × IsMessage m bytes
-sent_message h Event.new_dialogue bytes tells = absurd (tells-sends Nothing (reply h Event.new_dialogue) bytes (birth-sends h (birth_due h)) tells)
-sent_message h (Event.on_dialogue dialogue request) bytes tells = let sent = sent_for_request h dialogue request bytes tells in (sent.message, sent.is_message)
-sent_message h (Event.received octets) bytes tells = let sent = sent_for_bytes h octets bytes tells in (Message.abort sent.peer sent.reason, sent.is_message)
-sent_message h (Event.moment now) bytes tells = absurd (tells-sends Nothing (reply h (Event.moment now)) bytes (moment-sends h.pairs now (moment_fault now)) tells)
+pub sent_message : (h : History) (event : Event) (bytes : List ℕ) → Tells (reply h event) (Output.send bytes)
+    → (m : Message) × IsMessage m bytes
+sent_message h Event.new_dialogue bytes tells =
+    absurd (tells-sends Nothing (reply h Event.new_dialogue) bytes (birth-sends h (birth_due h)) tells)
+sent_message h (Event.on_dialogue dialogue request) bytes tells = let sent =
+    sent_for_request h dialogue request bytes tells in (sent.message, sent.is_message)
+sent_message h (Event.received octets) bytes tells = let sent =
+    sent_for_bytes h octets bytes tells in (Message.abort sent.peer sent.reason, sent.is_message)
+sent_message h (Event.moment now) bytes tells =
+    absurd (tells-sends Nothing (reply h (Event.moment now)) bytes (moment-sends h.pairs now (moment_fault now)) tells)

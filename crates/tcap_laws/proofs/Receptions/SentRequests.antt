@@ -24,13 +24,15 @@ IfMessage (Some m) = HasIds m × HasCause m
 local-id : (dialogue : ℕ) → IsTransId (local_id dialogue)
 local-id dialogue = (omega arith, omega arith)
 
-continue-ids : (d : Standing) (state : State) (portion : Option (List ℕ)) → StateId state → IfMessage (continue_message d state portion)
+continue-ids : (d : Standing) (state : State) (portion : Option (List ℕ)) → StateId state
+    → IfMessage (continue_message d state portion)
 continue-ids d State.fresh portion id = tt
 continue-ids d State.sent portion id = tt
 continue-ids d (State.received peer) portion id = ((local-id d.identifier, id), tt)
 continue-ids d (State.active peer) portion id = ((local-id d.identifier, id), tt)
 
-end-ids : (d : Standing) (state : State) (portion : Option (List ℕ)) → StateId state → IfMessage (end_message d state portion)
+end-ids : (d : Standing) (state : State) (portion : Option (List ℕ)) → StateId state
+    → IfMessage (end_message d state portion)
 end-ids d State.fresh portion id = tt
 end-ids d State.sent portion id = tt
 end-ids d (State.received peer) portion id = (id, tt)
@@ -57,7 +59,8 @@ user-users : (context : Option (List ℕ)) (info : List ℕ) → IsUsers (user_a
 user-users None info = tt
 user-users (Some context) info = tt
 
-refusing-ids : (state : State) (context : Option (List ℕ)) (info : List ℕ) → StateId state → IfMessage (refusing_message state context info)
+refusing-ids : (state : State) (context : Option (List ℕ)) (info : List ℕ) → StateId state
+    → IfMessage (refusing_message state context info)
 refusing-ids state None info id = tt
 refusing-ids state (Some context) info id = abort-ids state (refusing_abort context info) id tt
 
@@ -65,18 +68,26 @@ pub message-ids : (d : Standing) (request : Request) → StateId d.state → IfM
 message-ids d (Request.component asked) peer = tt
 message-ids d (Request.dialogue (DialogueRequest.uni context info)) peer = (tt, tt)
 message-ids d (Request.dialogue (DialogueRequest.begin context info)) peer = (local-id d.identifier, tt)
-message-ids d (Request.dialogue (DialogueRequest.go_on context info)) peer = continue-ids d d.state (answer_portion d.state d.context context info) peer
-message-ids d (Request.dialogue (DialogueRequest.finish Ending.basic context info)) peer = end-ids d d.state (answer_portion d.state d.context context info) peer
+message-ids d (Request.dialogue (DialogueRequest.go_on context info)) peer =
+    continue-ids d d.state (answer_portion d.state d.context context info) peer
+message-ids d (Request.dialogue (DialogueRequest.finish Ending.basic context info)) peer =
+    end-ids d d.state (answer_portion d.state d.context context info) peer
 message-ids d (Request.dialogue (DialogueRequest.finish Ending.prearranged context info)) peer = tt
-message-ids d (Request.dialogue (DialogueRequest.u_abort AbortReason.by_user info)) peer = abort-ids d.state (user_abort d.context info) peer (user-users d.context info)
-message-ids d (Request.dialogue (DialogueRequest.u_abort AbortReason.not_supported info)) peer = refusing-ids d.state d.context info peer
+message-ids d (Request.dialogue (DialogueRequest.u_abort AbortReason.by_user info)) peer =
+    abort-ids d.state (user_abort d.context info) peer (user-users d.context info)
+message-ids d (Request.dialogue (DialogueRequest.u_abort AbortReason.not_supported info)) peer =
+    refusing-ids d.state d.context info peer
 
 -- ---- the length
 
-not-long : (s : Situation) (request : Request) → holds s request Fault.too_long ≡ false → passes_message (message_of s.standing request) ≡ false
-not-long s request e = (or_parts (passes_queue s.limit s.standing.queue (queued_for s.number request)) (passes_message (message_of s.standing request)) e).1
+not-long : (s : Situation) (request : Request) → holds s request Fault.too_long ≡ false
+    → passes_message (message_of s.standing request) ≡ false
+not-long s request e =
+    (or_parts (passes_queue s.limit s.standing.queue (queued_for s.number request))
+    (passes_message (message_of s.standing request)) e).1
 
-not-passing : (s : Situation) (request : Request) → due_on s request ≡ None → passes_message (message_of s.standing request) ≡ false
+not-passing : (s : Situation) (request : Request) → due_on s request ≡ None
+    → passes_message (message_of s.standing request) ≡ false
 not-passing s (Request.component asked) due = refl
 not-passing s (Request.dialogue (DialogueRequest.uni context info)) due =
     let r : Request = Request.dialogue (DialogueRequest.uni context info) in
@@ -106,7 +117,10 @@ IfGoes (Some m) = CanGo m
 
 if-goes : (message : Option Message) → IfMessage message → passes_message message ≡ false → IfGoes message
 if-goes None ids short = tt
-if-goes (Some m) ids short = record { has_ids = ids.0; has_cause = ids.1; is_short = ltb-false message_limit (length (written_frame m)) short }
+if-goes (Some m) ids short =
+    record { has_ids = ids.0; has_cause = ids.1; is_short = ltb-false message_limit (length (written_frame m)) short }
 
-pub request-goes : (s : Situation) (request : Request) → StateId s.standing.state → due_on s request ≡ None → IfGoes (message_of s.standing request)
-request-goes s request peer due = if-goes (message_of s.standing request) (message-ids s.standing request peer) (not-passing s request due)
+pub request-goes : (s : Situation) (request : Request) → StateId s.standing.state → due_on s request ≡ None
+    → IfGoes (message_of s.standing request)
+request-goes s request peer due =
+    if-goes (message_of s.standing request) (message-ids s.standing request peer) (not-passing s request due)

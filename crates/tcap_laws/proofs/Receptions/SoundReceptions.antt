@@ -31,8 +31,11 @@ IfSends (Some abort) = Sends abort
 abbrev pub IsSound : Bool → List ℕ → Reception → Type 0
 IsSound full bytes (Reception.dropped why) = Unit {0}
 IsSound full bytes (Reception.aborted abort) = Sends abort
-IsSound full bytes (Reception.unidirectional context info components) = (portion : Option (List ℕ)) × (frame_at bytes ≡ Ok (Message.unidirectional portion components))
-IsSound full bytes (Reception.begun origin context info components) = (portion : Option (List ℕ)) × (frame_at bytes ≡ Ok (Message.begin origin portion components)) × (begin_context (begin_verdict portion) ≡ context) × (full ≡ false)
+IsSound full bytes (Reception.unidirectional context info components) =
+    (portion : Option (List ℕ)) × (frame_at bytes ≡ Ok (Message.unidirectional portion components))
+IsSound full bytes (Reception.begun origin context info components) =
+    (portion : Option (List ℕ)) × (frame_at bytes ≡ Ok (Message.begin origin portion components))
+    × (begin_context (begin_verdict portion) ≡ context) × (full ≡ false)
 IsSound full bytes (Reception.taken dialogue message) = frame_at bytes ≡ Ok message
 IsSound full bytes (Reception.broken dialogue abort cause) = IfSends abort
 
@@ -41,14 +44,17 @@ IsSound full bytes (Reception.broken dialogue abort cause) = IfSends abort
 pub read-ids : (bytes : List ℕ) (m : Message) → frame_at bytes ≡ Ok m → HasIds m
 read-ids bytes m e = let spelled = frame_takes bytes m e in spelled.is_frame.has_ids
 
-uni-sound : (full : Bool) (bytes : List ℕ) (verdict : PortionVerdict) (portion : Option (List ℕ)) (components : List ℕ) → frame_at bytes ≡ Ok (Message.unidirectional portion components) → IsSound full bytes (uni_by verdict components)
+uni-sound : (full : Bool) (bytes : List ℕ) (verdict : PortionVerdict) (portion : Option (List ℕ)) (components : List ℕ)
+    → frame_at bytes ≡ Ok (Message.unidirectional portion components) → IsSound full bytes (uni_by verdict components)
 uni-sound full bytes (PortionVerdict.normal context info) portion components e = (portion, e)
 uni-sound full bytes PortionVerdict.abnormal portion components e = tt
 
-wrong-by : (portion context : List ℕ) (read : Result PduValue DialogueFault) → dialogue_at portion ≡ read → begin_verdict_by read ≡ BeginVerdict.wrong_version context → IsObjectIdentifier context
+wrong-by : (portion context : List ℕ) (read : Result PduValue DialogueFault) → dialogue_at portion ≡ read
+    → begin_verdict_by read ≡ BeginVerdict.wrong_version context → IsObjectIdentifier context
 wrong-by portion context (Ok (aarq false name info)) is e =
     let same : name ≡ context = cc in
-    subst (λ (w : List ℕ). IsObjectIdentifier w) same (spelled_context (aarq false name info) portion (dialogue_takes portion (aarq false name info) is))
+    subst (λ (w : List ℕ). IsObjectIdentifier w) same
+    (spelled_context (aarq false name info) portion (dialogue_takes portion (aarq false name info) is))
 wrong-by portion context (Ok (aarq true name info)) is e = absurd cc
 wrong-by portion context (Ok (audt version1 name info)) is e = absurd cc
 wrong-by portion context (Ok (aare version1 name accepted diagnostic info)) is e = absurd cc
@@ -56,36 +62,52 @@ wrong-by portion context (Ok (abrt by_provider info)) is e = absurd cc
 wrong-by portion context (Ok (foreign external)) is e = absurd cc
 wrong-by portion context (Err f) is e = absurd cc
 
-wrong-named : (portion : Option (List ℕ)) (context : List ℕ) → begin_verdict portion ≡ BeginVerdict.wrong_version context → IsObjectIdentifier context
+wrong-named : (portion : Option (List ℕ)) (context : List ℕ)
+    → begin_verdict portion ≡ BeginVerdict.wrong_version context → IsObjectIdentifier context
 wrong-named None context e = absurd cc
 wrong-named (Some portion) context e = wrong-by portion context (dialogue_at portion) refl e
 
-begin-sound : (full : Bool) → full ≡ false → (bytes origin : List ℕ) (portion : Option (List ℕ)) (components : List ℕ) → frame_at bytes ≡ Ok (Message.begin origin portion components) → IsTransId origin → (verdict : BeginVerdict) → begin_verdict portion ≡ verdict → IsSound full bytes (begin_by verdict origin components)
-begin-sound full room bytes origin portion components e id BeginVerdict.plain is = (portion, e, ap begin_context is, room)
-begin-sound full room bytes origin portion components e id (BeginVerdict.with_context context info) is = (portion, e, ap begin_context is, room)
-begin-sound full room bytes origin portion components e id (BeginVerdict.wrong_version context) is = version-sends context origin (wrong-named portion context is) id
+begin-sound : (full : Bool) → full ≡ false → (bytes origin : List ℕ) (portion : Option (List ℕ)) (components : List ℕ)
+    → frame_at bytes ≡ Ok (Message.begin origin portion components) → IsTransId origin → (verdict : BeginVerdict)
+    → begin_verdict portion ≡ verdict → IsSound full bytes (begin_by verdict origin components)
+begin-sound full room bytes origin portion components e id BeginVerdict.plain is =
+    (portion, e, ap begin_context is, room)
+begin-sound full room bytes origin portion components e id (BeginVerdict.with_context context info) is =
+    (portion, e, ap begin_context is, room)
+begin-sound full room bytes origin portion components e id (BeginVerdict.wrong_version context) is =
+    version-sends context origin (wrong-named portion context is) id
 begin-sound full room bytes origin portion components e id BeginVerdict.abnormal is = abnormal-sends origin id
 
-born-sound : (bytes origin : List ℕ) (portion : Option (List ℕ)) (components : List ℕ) (full : Bool) → frame_at bytes ≡ Ok (Message.begin origin portion components) → IsTransId origin → IsSound full bytes (message_by (λ d. true) full (Message.begin origin portion components))
+born-sound : (bytes origin : List ℕ) (portion : Option (List ℕ)) (components : List ℕ) (full : Bool)
+    → frame_at bytes ≡ Ok (Message.begin origin portion components) → IsTransId origin
+    → IsSound full bytes (message_by (λ d. true) full (Message.begin origin portion components))
 born-sound bytes origin portion components true e id = cause-sends resource_limitation origin (omega arith) id
-born-sound bytes origin portion components false e id = begin-sound false refl bytes origin portion components e id (begin_verdict portion) refl
+born-sound bytes origin portion components false e id =
+    begin-sound false refl bytes origin portion components e id (begin_verdict portion) refl
 
-continue-sound : (full : Bool) (bytes origin : List ℕ) (m : Message) (named : Option ℕ) → frame_at bytes ≡ Ok m → IsTransId origin → IsSound full bytes (continue_by named origin m)
+continue-sound : (full : Bool) (bytes origin : List ℕ) (m : Message) (named : Option ℕ) → frame_at bytes ≡ Ok m
+    → IsTransId origin → IsSound full bytes (continue_by named origin m)
 continue-sound full bytes origin m (Some d) e id = e
 continue-sound full bytes origin m None e id = cause-sends unrecognized_id origin (omega arith) id
 
-last-sound : (full : Bool) (bytes : List ℕ) (m : Message) (named : Option ℕ) → frame_at bytes ≡ Ok m → IsSound full bytes (final_message_by named m)
+last-sound : (full : Bool) (bytes : List ℕ) (m : Message) (named : Option ℕ) → frame_at bytes ≡ Ok m
+    → IsSound full bytes (final_message_by named m)
 last-sound full bytes m (Some d) e = e
 last-sound full bytes m None e = tt
 
-message-sound : (live : ℕ → Bool) (full : Bool) (bytes : List ℕ) (m : Message) → frame_at bytes ≡ Ok m → IsSound full bytes (message_by live full m)
-message-sound live full bytes (Message.unidirectional portion components) e = uni-sound full bytes (uni_verdict portion) portion components e
-message-sound live full bytes (Message.begin origin portion components) e = born-sound bytes origin portion components full e (read-ids bytes (Message.begin origin portion components) e)
+message-sound : (live : ℕ → Bool) (full : Bool) (bytes : List ℕ) (m : Message) → frame_at bytes ≡ Ok m
+    → IsSound full bytes (message_by live full m)
+message-sound live full bytes (Message.unidirectional portion components) e =
+    uni-sound full bytes (uni_verdict portion) portion components e
+message-sound live full bytes (Message.begin origin portion components) e =
+    born-sound bytes origin portion components full e (read-ids bytes (Message.begin origin portion components) e)
 message-sound live full bytes (Message.go_on origin to portion components) e =
     let id = read-ids bytes (Message.go_on origin to portion components) e in
     continue-sound full bytes origin (Message.go_on origin to portion components) (addressed live to) e id.0
-message-sound live full bytes (Message.end to portion components) e = last-sound full bytes (Message.end to portion components) (addressed live to) e
-message-sound live full bytes (Message.abort to reason) e = last-sound full bytes (Message.abort to reason) (addressed live to) e
+message-sound live full bytes (Message.end to portion components) e =
+    last-sound full bytes (Message.end to portion components) (addressed live to) e
+message-sound live full bytes (Message.abort to reason) e =
+    last-sound full bytes (Message.abort to reason) (addressed live to) e
 
 -- ---- faulty messages
 
@@ -114,30 +136,37 @@ abort-if : (f : FrameFault) (origin : Option (List ℕ)) → IfId origin → IfS
 abort-if f None id = tt
 abort-if f (Some origin) id = cause-sends (fault_cause f) origin (cause-within f) id
 
-aborted-sound : (full : Bool) (bytes : List ℕ) (abort : Option Output) → IfSends abort → IsSound full bytes (aborted_or_dropped abort)
+aborted-sound : (full : Bool) (bytes : List ℕ) (abort : Option Output) → IfSends abort
+    → IsSound full bytes (aborted_or_dropped abort)
 aborted-sound full bytes None sends = tt
 aborted-sound full bytes (Some abort) sends = sends
 
-broken-sound : (full : Bool) (bytes : List ℕ) (named : Option ℕ) (abort : Option Output) (f : FrameFault) → IfSends abort → IsSound full bytes (faulty_continue named abort f)
+broken-sound : (full : Bool) (bytes : List ℕ) (named : Option ℕ) (abort : Option Output) (f : FrameFault)
+    → IfSends abort → IsSound full bytes (faulty_continue named abort f)
 broken-sound full bytes (Some d) abort f sends = sends
 broken-sound full bytes None abort f sends = aborted-sound full bytes abort sends
 
-ended-sound : (full : Bool) (bytes : List ℕ) (named : Option ℕ) (f : FrameFault) → IsSound full bytes (faulty_last named f)
+ended-sound : (full : Bool) (bytes : List ℕ) (named : Option ℕ) (f : FrameFault)
+    → IsSound full bytes (faulty_last named f)
 ended-sound full bytes (Some d) f = tt
 ended-sound full bytes None f = tt
 
-either-sound : (full : Bool) (bytes : List ℕ) (test : Bool) (x y : Reception) → IsSound full bytes x → IsSound full bytes y → IsSound full bytes (if test then x else y)
+either-sound : (full : Bool) (bytes : List ℕ) (test : Bool) (x y : Reception) → IsSound full bytes x
+    → IsSound full bytes y → IsSound full bytes (if test then x else y)
 either-sound full bytes true x y p q = p
 either-sound full bytes false x y p q = q
 
-fault-sound : (full : Bool) (bytes : List ℕ) (first : ℕ) (named : Option ℕ) (abort : Option Output) (f : FrameFault) → IfSends abort → IsSound full bytes (fault_by first named abort f)
+fault-sound : (full : Bool) (bytes : List ℕ) (first : ℕ) (named : Option ℕ) (abort : Option Output) (f : FrameFault)
+    → IfSends abort → IsSound full bytes (fault_by first named abort f)
 fault-sound full bytes first named abort f sends =
     either-sound full bytes (first == 0x61) _ _ tt
     (either-sound full bytes (first == 0x64) _ _ (ended-sound full bytes named f)
     (either-sound full bytes (first == 0x65) _ _ (broken-sound full bytes named abort f sends)
-    (either-sound full bytes (first == 0x67) _ _ (ended-sound full bytes named f) (aborted-sound full bytes abort sends))))
+    (either-sound full bytes (first == 0x67) _ _ (ended-sound full bytes named f)
+    (aborted-sound full bytes abort sends))))
 
-faulty-sound : (full : Bool) (live : ℕ → Bool) (bytes : List ℕ) (f : FrameFault) → IsSound full bytes (faulty live bytes f)
+faulty-sound : (full : Bool) (live : ℕ → Bool) (bytes : List ℕ) (f : FrameFault)
+    → IsSound full bytes (faulty live bytes f)
 faulty-sound full live [] f = tt
 faulty-sound full live (first ∷ bytes) f =
     let front = front_at (first ∷ bytes) in
@@ -146,10 +175,12 @@ faulty-sound full live (first ∷ bytes) f =
 
 -- ---- all bytes
 
-reading-sound : (live : ℕ → Bool) (full : Bool) (bytes : List ℕ) (read : Result Message FrameFault) → frame_at bytes ≡ read → IsSound full bytes (reading_by live full bytes read)
+reading-sound : (live : ℕ → Bool) (full : Bool) (bytes : List ℕ) (read : Result Message FrameFault)
+    → frame_at bytes ≡ read → IsSound full bytes (reading_by live full bytes read)
 reading-sound live full bytes (Ok m) e = message-sound live full bytes m e
 reading-sound live full bytes (Err f) e = faulty-sound full live bytes f
 
 pub reception-sound : (live : ℕ → Bool) (full : Bool) (bytes : List ℕ) → IsSound full bytes (reception live full bytes)
 reception-sound live full bytes =
-    either-sound full bytes (nat_lt message_limit (length bytes)) _ _ tt (reading-sound live full bytes (frame_at bytes) refl)
+    either-sound full bytes (nat_lt message_limit (length bytes)) _ _ tt
+    (reading-sound live full bytes (frame_at bytes) refl)

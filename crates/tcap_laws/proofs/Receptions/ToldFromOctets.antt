@@ -137,7 +137,8 @@ each-stands h bytes r = record {
       handled-stands bytes m spelled (Some next) (sent_there next h.pairs earlier (subject_of item)) item read;
 }
 
-ended-stand : (event : Event) (dialogue : ℕ) (past : Past) (components : List Item) → AllStand event (ended_in dialogue past components)
+ended-stand : (event : Event) (dialogue : ℕ) (past : Past) (components : List Item)
+    → AllStand event (ended_in dialogue past components)
 ended-stand event = each-ended (StandsForOne event) (λ dialogue number id of. absurd (indicates _ of))
 
 sent_if_any-stand : (event : Event) (message : Option Message) → AllStand event (sent_if_any message)
@@ -154,34 +155,47 @@ AnswerStands event (Answer.given_up n) = Unit {0}
 AnswerStands event (Answer.outputs outputs) = AllStand event outputs
 AnswerStands event (Answer.refused fault) = Unit {0}
 
-last-stands : (event : Event) (dialogue : ℕ) (past : Past) (message : Option Message) → AnswerStands event (last_answer dialogue past message)
+last-stands : (event : Event) (dialogue : ℕ) (past : Past) (message : Option Message)
+    → AnswerStands event (last_answer dialogue past message)
 last-stands event dialogue past message =
-    each-append (StandsForOne event) (sent_if_any message) (ended_in dialogue past []) (sent_if_any-stand event message) (ended-stand event dialogue past [])
+    each-append (StandsForOne event) (sent_if_any message) (ended_in dialogue past []) (sent_if_any-stand event message)
+    (ended-stand event dialogue past [])
 
 given_up-stands : (event : Event) (number : Option ℕ) → AnswerStands event (given_up_answer number)
 given_up-stands event None = tt
 given_up-stands event (Some n) = tt
 
-accepted-stands : (event : Event) (h : History) (d : Standing) (request : Request) → AnswerStands event (accepted_answer h d request)
+accepted-stands : (event : Event) (h : History) (d : Standing) (request : Request)
+    → AnswerStands event (accepted_answer h d request)
 accepted-stands event h d (Request.component (ComponentRequest.invoke id class code parameter linked timeout)) = tt
 accepted-stands event h d (Request.component (ComponentRequest.result_last id body)) = tt
 accepted-stands event h d (Request.component (ComponentRequest.result_more id body)) = tt
 accepted-stands event h d (Request.component (ComponentRequest.error_back id code parameter)) = tt
 accepted-stands event h d (Request.component (ComponentRequest.u_reject id problem)) = tt
-accepted-stands event h d (Request.component (ComponentRequest.u_cancel id)) = given_up-stands event (pending d.identifier id h.pairs)
-accepted-stands event h d (Request.dialogue (DialogueRequest.uni context info)) = last-stands event d.identifier h.pairs (message_of d (Request.dialogue (DialogueRequest.uni context info)))
-accepted-stands event h d (Request.dialogue (DialogueRequest.begin context info)) = sent_if_any-stand event (message_of d (Request.dialogue (DialogueRequest.begin context info)))
-accepted-stands event h d (Request.dialogue (DialogueRequest.go_on context info)) = sent_if_any-stand event (message_of d (Request.dialogue (DialogueRequest.go_on context info)))
-accepted-stands event h d (Request.dialogue (DialogueRequest.finish ending context info)) = last-stands event d.identifier h.pairs (message_of d (Request.dialogue (DialogueRequest.finish ending context info)))
-accepted-stands event h d (Request.dialogue (DialogueRequest.u_abort why info)) = last-stands event d.identifier h.pairs (message_of d (Request.dialogue (DialogueRequest.u_abort why info)))
+accepted-stands event h d (Request.component (ComponentRequest.u_cancel id)) =
+    given_up-stands event (pending d.identifier id h.pairs)
+accepted-stands event h d (Request.dialogue (DialogueRequest.uni context info)) =
+    last-stands event d.identifier h.pairs (message_of d (Request.dialogue (DialogueRequest.uni context info)))
+accepted-stands event h d (Request.dialogue (DialogueRequest.begin context info)) =
+    sent_if_any-stand event (message_of d (Request.dialogue (DialogueRequest.begin context info)))
+accepted-stands event h d (Request.dialogue (DialogueRequest.go_on context info)) =
+    sent_if_any-stand event (message_of d (Request.dialogue (DialogueRequest.go_on context info)))
+accepted-stands event h d (Request.dialogue (DialogueRequest.finish ending context info)) =
+    last-stands event d.identifier h.pairs (message_of d
+    (Request.dialogue (DialogueRequest.finish ending context info)))
+accepted-stands event h d (Request.dialogue (DialogueRequest.u_abort why info)) =
+    last-stands event d.identifier h.pairs (message_of d (Request.dialogue (DialogueRequest.u_abort why info)))
 
-request-stands : (event : Event) (h : History) (dialogue : ℕ) (request : Request) (before : Life) (fault : Option Fault) → AnswerStands event (request_answer h dialogue request before fault)
+request-stands : (event : Event) (h : History) (dialogue : ℕ) (request : Request) (before : Life) (fault : Option Fault)
+    → AnswerStands event (request_answer h dialogue request before fault)
 request-stands event h dialogue request before (Some f) = tt
 request-stands event h dialogue request Life.unborn None = tt
 request-stands event h dialogue request Life.over None = tt
-request-stands event h dialogue request (Life.standing state context) None = accepted-stands event h (standing_of dialogue h.pairs state context) request
+request-stands event h dialogue request (Life.standing state context) None =
+    accepted-stands event h (standing_of dialogue h.pairs state context) request
 
-moment-stands : (event : Event) (past : Past) (now : ℕ) (fault : Option Fault) → AnswerStands event (moment_answer past now fault)
+moment-stands : (event : Event) (past : Past) (now : ℕ) (fault : Option Fault)
+    → AnswerStands event (moment_answer past now fault)
 moment-stands event past now (Some f) = tt
 moment-stands event past now None = chosen (nat_lt now (clock past))
   where
@@ -196,7 +210,9 @@ birth-stands event h None = tt
 
 reply-stands : (h : History) (event : Event) → AnswerStands event (reply h event)
 reply-stands h Event.new_dialogue = birth-stands Event.new_dialogue h (birth_due h)
-reply-stands h (Event.on_dialogue dialogue request) = request-stands (Event.on_dialogue dialogue request) h dialogue request (life dialogue h.pairs) (due h dialogue request)
+reply-stands h (Event.on_dialogue dialogue request) =
+    request-stands (Event.on_dialogue dialogue request) h dialogue request (life dialogue h.pairs)
+    (due h dialogue request)
 reply-stands h (Event.received bytes) =
     each-received (StandsForOne (Event.received bytes)) (besides-stand (Event.received bytes)) h bytes
     (each-stands h bytes (received_at h bytes))
@@ -211,6 +227,8 @@ legal-before start (pair ∷ later) past legal = legal-before start later past l
 
 pub told-from : EachIsToldFrom
 told-from h legal told =
-    let here = legal-before h.start told.stands.later (told.pair ∷ told.before) (subst (AreReplies h.start) told.stands.is_past legal.1) in
-    let all = subst (AnswerStands told.pair.event) (sym here.1 ∙ told.tells.is_answer) (reply-stands (record { start = h.start; pairs = told.before }) told.pair.event) in
+    let here = legal-before h.start told.stands.later (told.pair ∷ told.before)
+    (subst (AreReplies h.start) told.stands.is_past legal.1) in
+    let all = subst (AnswerStands told.pair.event) (sym here.1 ∙ told.tells.is_answer)
+    (reply-stands (record { start = h.start; pairs = told.before }) told.pair.event) in
     one-of (StandsForOne told.pair.event) told.tells.earlier told.tells.later told.output all told.is_of_component

@@ -45,7 +45,8 @@ handled-told : (dialogue : Option ℕ) (sent : Option SentInvocation) (item : It
     → IsTold (handled dialogue sent item).told
 handled-told dialogue sent item = is-told dialogue sent item (handled dialogue sent item) (comes_of dialogue sent item)
 
-pub components-told : (dialogue : ℕ) (past : Past) (components : List ℕ) → AreTold (told_of (handled_in dialogue past components))
+pub components-told : (dialogue : ℕ) (past : Past) (components : List ℕ)
+    → AreTold (told_of (handled_in dialogue past components))
 components-told dialogue past components = each-told dialogue past components IsTold (λ earlier item read.
     handled-told (Some dialogue) (sent_there dialogue past earlier (subject_of item)) item)
 

@@ -29,7 +29,8 @@ abbrev pub entry_of : ℤ → Option Row → Option Entry
 entry_of id None = None
 entry_of id (Some r) = if int_eq id r.0 then Some r.1 else None
 
-entry_at-cons : (id : ℤ) (o : Option Row) (rows : List Row) → entry_at (cons_option o rows) id ≡ option_or (entry_of id o) (entry_at rows id)
+entry_at-cons : (id : ℤ) (o : Option Row) (rows : List Row)
+    → entry_at (cons_option o rows) id ≡ option_or (entry_of id o) (entry_at rows id)
 entry_at-cons id None rows = refl
 entry_at-cons id (Some r) rows = go (int_eq id r.0)
   where
@@ -42,12 +43,15 @@ abbrev pub Found : {X : Type 0} → (X → Type 0) → ℤ → (X → Option Row
 Found P id h xs None = AllByRecursion (λ x. entry_of id (h x) ≡ None) xs
 Found {X} P id h xs (Some e) = (x : X) × P x × (entry_of id (h x) ≡ Some e)
 
-pub found : {X : Type 0} (P : X → Type 0) (id : ℤ) (h : X → Option Row) (xs : List X) → AllByRecursion P xs → Found P id h xs (entry_at (filter_map h xs) id)
+pub found : {X : Type 0} (P : X → Type 0) (id : ℤ) (h : X → Option Row) (xs : List X) → AllByRecursion P xs
+    → Found P id h xs (entry_at (filter_map h xs) id)
 found P id h [] a = tt
 found {X = X} P id h (x ∷ xs) a =
-    subst (Found P id h (x ∷ xs)) (sym (entry_at-cons id (h x) (filter_map h xs))) (go (entry_of id (h x)) refl (entry_at (filter_map h xs) id) (found P id h xs a.1))
+    subst (Found P id h (x ∷ xs)) (sym (entry_at-cons id (h x) (filter_map h xs)))
+    (go (entry_of id (h x)) refl (entry_at (filter_map h xs) id) (found P id h xs a.1))
   where
-    go : (o : Option Entry) → entry_of id (h x) ≡ o → (p : Option Entry) → Found P id h xs p → Found P id h (x ∷ xs) (option_or o p)
+    go : (o : Option Entry) → entry_of id (h x) ≡ o → (p : Option Entry) → Found P id h xs p
+        → Found P id h (x ∷ xs) (option_or o p)
     go None e None f = (e, f)
     go None e (Some y) f = f
     go (Some y) e p f = (x, a.0, e)
@@ -69,19 +73,24 @@ same_number m n e = grind (arith, nat_tests)
 number_itself : (n : ℕ) → (n == n) ≡ true
 number_itself n = grind (arith, nat_tests)
 
-with_id-some : (dialogue : ℕ) (id : ℤ) (o : Option Invocation) (j : Invocation) → with_id dialogue id o ≡ Some j → (o ≡ Some j) × (has_id dialogue id j ≡ true)
+with_id-some : (dialogue : ℕ) (id : ℤ) (o : Option Invocation) (j : Invocation) → with_id dialogue id o ≡ Some j
+    → (o ≡ Some j) × (has_id dialogue id j ≡ true)
 with_id-some dialogue id None j e = absurd cc
 with_id-some dialogue id (Some i) j e = go (has_id dialogue id i) refl e
   where
-    go : (b : Bool) → has_id dialogue id i ≡ b → cond b (Some i) None ≡ Some j → (Some i ≡ Some j) × (has_id dialogue id j ≡ true)
+    go : (b : Bool) → has_id dialogue id i ≡ b → cond b (Some i) None ≡ Some j
+        → (Some i ≡ Some j) × (has_id dialogue id j ≡ true)
     go true q w = (w, let same : i ≡ j = cc in subst (λ (k : Invocation). has_id dialogue id k ≡ true) same q)
     go false q w = absurd cc
 
-pub latest_has : (dialogue : ℕ) (id : ℤ) (past : Past) (j : Invocation) → latest dialogue id past ≡ Some j → has_id dialogue id j ≡ true
+pub latest_has : (dialogue : ℕ) (id : ℤ) (past : Past) (j : Invocation) → latest dialogue id past ≡ Some j
+    → has_id dialogue id j ≡ true
 latest_has dialogue id [] j e = absurd cc
-latest_has dialogue id (pair ∷ past) j e = go (with_id dialogue id (invoked_by pair)) refl e (latest_has dialogue id past j)
+latest_has dialogue id (pair ∷ past) j e =
+    go (with_id dialogue id (invoked_by pair)) refl e (latest_has dialogue id past j)
   where
-    go : (o : Option Invocation) → with_id dialogue id (invoked_by pair) ≡ o → option_or o (latest dialogue id past) ≡ Some j
+    go : (o : Option Invocation) → with_id dialogue id (invoked_by pair) ≡ o
+        → option_or o (latest dialogue id past) ≡ Some j
         → (latest dialogue id past ≡ Some j → has_id dialogue id j ≡ true) → has_id dialogue id j ≡ true
     go None q w before = before w
     go (Some i) q w before = (with_id-some dialogue id (invoked_by pair) j (q ∙ w)).1
@@ -95,18 +104,24 @@ all_after P [] ys a = a
 all_after P (x ∷ xs) ys a = all_after P xs ys a.1
 
 -- what holds of all invocations holds of the latest
-latest_among : (P : Invocation → Type 0) (dialogue : ℕ) (id : ℤ) (past : Past) (j : Invocation) → latest dialogue id past ≡ Some j → AllByRecursion P (invocations past) → P j
+latest_among : (P : Invocation → Type 0) (dialogue : ℕ) (id : ℤ) (past : Past) (j : Invocation)
+    → latest dialogue id past ≡ Some j → AllByRecursion P (invocations past) → P j
 latest_among P dialogue id [] j e a = absurd cc
 latest_among P dialogue id (pair ∷ past) j e a =
-    go (with_id dialogue id (invoked_by pair)) refl e (λ w. latest_among P dialogue id past j w (all_before P (invocations past) (option_to_list (invoked_by pair)) a))
+    go (with_id dialogue id (invoked_by pair)) refl e
+    (λ w. latest_among P dialogue id past j w (all_before P (invocations past) (option_to_list (invoked_by pair))
+    a))
   where
     made : (o : Option Invocation) → o ≡ Some j → AllByRecursion P (option_to_list o) → P j
     made None q w = absurd cc
     made (Some i) q w = let same : i ≡ j = cc in subst P same w.0
 
-    go : (o : Option Invocation) → with_id dialogue id (invoked_by pair) ≡ o → option_or o (latest dialogue id past) ≡ Some j → (latest dialogue id past ≡ Some j → P j) → P j
+    go : (o : Option Invocation) → with_id dialogue id (invoked_by pair) ≡ o
+        → option_or o (latest dialogue id past) ≡ Some j → (latest dialogue id past ≡ Some j → P j) → P j
     go None q w before = before w
-    go (Some i) q w before = made (invoked_by pair) (with_id-some dialogue id (invoked_by pair) j (q ∙ w)).0 (all_after P (invocations past) (option_to_list (invoked_by pair)) a)
+    go (Some i) q w before =
+        made (invoked_by pair) (with_id-some dialogue id (invoked_by pair) j (q ∙ w)).0
+        (all_after P (invocations past) (option_to_list (invoked_by pair)) a)
 
 -- ---- what the rows say
 
@@ -126,39 +141,57 @@ pending_is i (Some t) = refl
 abbrev Decides : ℕ → Past → Invocation → Option Entry → Option Told → Type 0
 Decides reject_ms past i o decided =
     (is_some o ≡ holds_identifier reject_ms i.dialogue i.id past decided)
-    × (number_of (passing is_pending o) ≡ cond (is_none (option_map (λ (t : Told). t.closing) decided)) (Some i.number) None)
+    × (number_of (passing is_pending o) ≡ cond (is_none (option_map (λ (t : Told). t.closing) decided)) (Some i.number)
+    None)
 
-row_decides : (reject_ms : ℕ) (past : Past) (i : Invocation) (s : Stage) (decided : Option Told) → stage_by reject_ms past i decided ≡ Some s → Decides reject_ms past i (Some (row i s).1) decided
+row_decides : (reject_ms : ℕ) (past : Past) (i : Invocation) (s : Stage) (decided : Option Told)
+    → stage_by reject_ms past i decided ≡ Some s → Decides reject_ms past i (Some (row i s).1) decided
 row_decides reject_ms past i s None e =
-    let same : pending_stage i (deadline i past) ≡ s = some_same (pending_stage i (deadline i past)) s e in
-    (refl, ap (λ b. number_of (cond b (Some (row i s).1) None)) (sym (ap is_pending same) ∙ pending_is i (deadline i past)))
+    let same : pending_stage i (deadline i past) ≡ s = some_same (pending_stage i (deadline i past)) s e in (
+      refl,
+      ap (λ b. number_of (cond b (Some (row i s).1) None))
+          (sym (ap is_pending same) ∙ pending_is i (deadline i past)),
+    )
 row_decides reject_ms past i s (Some told) e = go (is_waiting reject_ms i.dialogue i.id past told) refl e
   where
     until : Stage
     until = Waiting (clock told.place + reject_ms)
 
-    go : (b : Bool) → is_waiting reject_ms i.dialogue i.id past told ≡ b → cond b (Some until) None ≡ Some s → Decides reject_ms past i (Some (row i s).1) (Some told)
-    go true q w = (sym q, ap (λ b. number_of (cond b (Some (row i s).1) None)) (sym (ap is_pending (some_same until s w))))
+    go : (b : Bool) → is_waiting reject_ms i.dialogue i.id past told ≡ b → cond b (Some until) None ≡ Some s
+        → Decides reject_ms past i (Some (row i s).1) (Some told)
+    go true q w = (
+      sym q,
+      ap (λ b. number_of (cond b (Some (row i s).1) None))
+          (sym (ap is_pending (some_same until s w))),
+    )
     go false q w = absurd cc
 
-no_row_decides : (reject_ms : ℕ) (past : Past) (i : Invocation) (decided : Option Told) → stage_by reject_ms past i decided ≡ None → Decides reject_ms past i None decided
+no_row_decides : (reject_ms : ℕ) (past : Past) (i : Invocation) (decided : Option Told)
+    → stage_by reject_ms past i decided ≡ None → Decides reject_ms past i None decided
 no_row_decides reject_ms past i None e = absurd cc
 no_row_decides reject_ms past i (Some told) e = go (is_waiting reject_ms i.dialogue i.id past told) refl e
   where
-    go : (b : Bool) → is_waiting reject_ms i.dialogue i.id past told ≡ b → cond b (Some (Waiting (clock told.place + reject_ms))) None ≡ None → Decides reject_ms past i None (Some told)
+    go : (b : Bool) → is_waiting reject_ms i.dialogue i.id past told ≡ b
+        → cond b (Some (Waiting (clock told.place + reject_ms))) None ≡ None → Decides reject_ms past i None (Some told)
     go true q w = absurd cc
     go false q w = (sym q, refl)
 
 -- an invocation with the number of the latest one says the same of the identifier
-says_decided : (reject_ms : ℕ) (past : Past) (i j : Invocation) (o : Option Entry) → i.number ≡ j.number → Decides reject_ms past i o (decision i.number past) → Says reject_ms i.dialogue i.id past (Some j) o
+says_decided : (reject_ms : ℕ) (past : Past) (i j : Invocation) (o : Option Entry) → i.number ≡ j.number
+    → Decides reject_ms past i o (decision i.number past) → Says reject_ms i.dialogue i.id past (Some j) o
 says_decided reject_ms past i j o e d = record {
   in_use = d.0 ∙ ap (λ n. holds_identifier reject_ms i.dialogue i.id past (decision n past)) e;
-  pending = d.1 ∙ (ap (λ c. cond (is_none c) (Some i.number) None) (closing_of_decision i.number past) ∙ ap (λ n. cond (is_none (outcome n past)) (Some n) None) e);
+  pending = d.1 ∙ (ap (λ c. cond (is_none c) (Some i.number) None) (closing_of_decision i.number past)
+      ∙ ap (λ n. cond (is_none (outcome n past)) (Some n) None) e);
 }
 
-says_row : (reject_ms : ℕ) (past : Past) (i : Invocation) (s : Stage) (last : Option Invocation) → is_number i.number last ≡ true → stage_by reject_ms past i (decision i.number past) ≡ Some s → Says reject_ms i.dialogue i.id past last (Some (row i s).1)
+says_row : (reject_ms : ℕ) (past : Past) (i : Invocation) (s : Stage) (last : Option Invocation)
+    → is_number i.number last ≡ true → stage_by reject_ms past i (decision i.number past) ≡ Some s
+    → Says reject_ms i.dialogue i.id past last (Some (row i s).1)
 says_row reject_ms past i s None e w = absurd cc
-says_row reject_ms past i s (Some j) e w = says_decided reject_ms past i j (Some (row i s).1) (sym (same_number j.number i.number e)) (row_decides reject_ms past i s (decision i.number past) w)
+says_row reject_ms past i s (Some j) e w =
+    says_decided reject_ms past i j (Some (row i s).1) (sym (same_number j.number i.number e))
+    (row_decides reject_ms past i s (decision i.number past) w)
 
 -- an invocation whose row is that of the identifier
 pub record HasRow (reject_ms dialogue : ℕ) (id : ℤ) (past : Past) (i : Invocation) (e : Entry) : Type 0 where
@@ -169,71 +202,109 @@ pub record HasRow (reject_ms dialogue : ℕ) (id : ℤ) (past : Past) (i : Invoc
   pub at_stage : stage_by reject_ms past i (decision i.number past) ≡ Some stage
   pub entry_is : Some (row i stage).1 ≡ Some e
 
-pub has_row : (reject_ms dialogue : ℕ) (id : ℤ) (past : Past) (i : Invocation) (e : Entry) → entry_of id (row_of reject_ms dialogue past i) ≡ Some e → HasRow reject_ms dialogue id past i e
-has_row reject_ms dialogue id past i e w = go ((i.dialogue == dialogue) && is_number i.number (latest i.dialogue i.id past)) refl w
+pub has_row : (reject_ms dialogue : ℕ) (id : ℤ) (past : Past) (i : Invocation) (e : Entry)
+    → entry_of id (row_of reject_ms dialogue past i) ≡ Some e → HasRow reject_ms dialogue id past i e
+has_row reject_ms dialogue id past i e w =
+    go ((i.dialogue == dialogue) && is_number i.number (latest i.dialogue i.id past)) refl w
   where
-    at_id : (s : Stage) (b : Bool) → int_eq id i.id ≡ b → i.dialogue ≡ dialogue → is_number i.number (latest i.dialogue i.id past) ≡ true → stage_by reject_ms past i (decision i.number past) ≡ Some s
+    at_id : (s : Stage) (b : Bool) → int_eq id i.id ≡ b → i.dialogue ≡ dialogue
+        → is_number i.number (latest i.dialogue i.id past) ≡ true
+        → stage_by reject_ms past i (decision i.number past) ≡ Some s
         → cond b (Some (row i s).1) None ≡ Some e → HasRow reject_ms dialogue id past i e
-    at_id s true q d n p w = record { dialogue_is = d; id_is = sym ((Decides-int_eq id i.id).0 q); is_last = n; stage = s; at_stage = p; entry_is = w }
+    at_id s true q d n p w =
+        record {
+          dialogue_is = d;
+          id_is = sym ((Decides-int_eq id i.id).0 q);
+          is_last = n;
+          stage = s;
+          at_stage =
+              p;
+          entry_is = w;
+        }
     at_id s false q d n p w = absurd cc
 
-    staged : (o : Option Stage) → stage_by reject_ms past i (decision i.number past) ≡ o → i.dialogue ≡ dialogue → is_number i.number (latest i.dialogue i.id past) ≡ true
+    staged : (o : Option Stage) → stage_by reject_ms past i (decision i.number past) ≡ o → i.dialogue ≡ dialogue
+        → is_number i.number (latest i.dialogue i.id past) ≡ true
         → entry_of id (row_by i o) ≡ Some e → HasRow reject_ms dialogue id past i e
     staged None p d n w = absurd cc
     staged (Some s) p d n w = at_id s (int_eq id i.id) refl d n p w
 
     go : (b : Bool) → ((i.dialogue == dialogue) && is_number i.number (latest i.dialogue i.id past)) ≡ b
-        → entry_of id (cond b (row_by i (stage_by reject_ms past i (decision i.number past))) None) ≡ Some e → HasRow reject_ms dialogue id past i e
+        → entry_of id (cond b (row_by i (stage_by reject_ms past i (decision i.number past))) None) ≡ Some e
+        → HasRow reject_ms dialogue id past i e
     go true q w =
         let t = both (i.dialogue == dialogue) (is_number i.number (latest i.dialogue i.id past)) q in
         staged (stage_by reject_ms past i (decision i.number past)) refl (same_number i.dialogue dialogue t.0) t.1 w
     go false q w = absurd cc
 
 -- it says so
-says_found : (reject_ms dialogue : ℕ) (id : ℤ) (past : Past) (i : Invocation) (e : Entry) → HasRow reject_ms dialogue id past i e → Says reject_ms dialogue id past (latest dialogue id past) (Some e)
+says_found : (reject_ms dialogue : ℕ) (id : ℤ) (past : Past) (i : Invocation) (e : Entry)
+    → HasRow reject_ms dialogue id past i e → Says reject_ms dialogue id past (latest dialogue id past) (Some e)
 says_found reject_ms dialogue id past i e r =
     let there = says_row reject_ms past i r.stage (latest i.dialogue i.id past) r.is_last r.at_stage in
-    let named = subst (λ (k : ℤ). Says reject_ms i.dialogue k past (latest i.dialogue k past) (Some (row i r.stage).1)) r.id_is there in
-    let placed = subst (λ (k : ℕ). Says reject_ms k id past (latest k id past) (Some (row i r.stage).1)) r.dialogue_is named in
+    let named = subst (λ (k : ℤ). Says reject_ms i.dialogue k past (latest i.dialogue k past) (Some (row i r.stage).1))
+    r.id_is there in
+    let placed = subst (λ (k : ℕ). Says reject_ms k id past (latest k id past) (Some (row i r.stage).1)) r.dialogue_is
+    named in
     subst (λ (y : Option Entry). Says reject_ms dialogue id past (latest dialogue id past) y) r.entry_is placed
 
 -- where the latest invocation has no row, it says so
-no_stage : (id : ℤ) (i : Invocation) (o : Option Stage) → int_eq id i.id ≡ true → entry_of id (row_by i o) ≡ None → o ≡ None
+no_stage : (id : ℤ) (i : Invocation) (o : Option Stage) → int_eq id i.id ≡ true → entry_of id (row_by i o) ≡ None
+    → o ≡ None
 no_stage id i None q w = refl
 no_stage id i (Some s) q w =
-    let some : cond (int_eq id i.id) (Some (row i s).1) None ≡ Some (row i s).1 = ap (λ b. cond b (Some (row i s).1) None) q in
+    let some : cond (int_eq id i.id) (Some (row i s).1) None ≡ Some (row i s).1 =
+    ap (λ b. cond b (Some (row i s).1) None) q in
     let never : Some (row i s).1 ≡ None = sym some ∙ w in absurd cc
 
-says_missing : (reject_ms : ℕ) (past : Past) (j : Invocation) → latest j.dialogue j.id past ≡ Some j → entry_of j.id (row_of reject_ms j.dialogue past j) ≡ None → Says reject_ms j.dialogue j.id past (latest j.dialogue j.id past) None
+says_missing : (reject_ms : ℕ) (past : Past) (j : Invocation) → latest j.dialogue j.id past ≡ Some j
+    → entry_of j.id (row_of reject_ms j.dialogue past j) ≡ None
+    → Says reject_ms j.dialogue j.id past (latest j.dialogue j.id past) None
 says_missing reject_ms past j e w =
-    let is_last : is_number j.number (latest j.dialogue j.id past) ≡ true = ap (is_number j.number) e ∙ number_itself j.number in
-    let test : ((j.dialogue == j.dialogue) && is_number j.number (latest j.dialogue j.id past)) ≡ true = ap (λ b. b && is_number j.number (latest j.dialogue j.id past)) (number_itself j.dialogue) ∙ is_last in
+    let is_last : is_number j.number (latest j.dialogue j.id past) ≡ true =
+    ap (is_number j.number) e ∙ number_itself j.number in
+    let test : ((j.dialogue == j.dialogue) && is_number j.number (latest j.dialogue j.id past)) ≡ true =
+    ap (λ b. b && is_number j.number (latest j.dialogue j.id past)) (number_itself j.dialogue) ∙ is_last in
     let stage : Option Stage = stage_by reject_ms past j (decision j.number past) in
-    let none : entry_of j.id (row_by j stage) ≡ None = sym (ap (λ b. entry_of j.id (cond b (row_by j stage) None)) test) ∙ w in
+    let none : entry_of j.id (row_by j stage) ≡ None =
+    sym (ap (λ b. entry_of j.id (cond b (row_by j stage) None)) test) ∙ w in
     let free = no_stage j.id j stage ((Decides-int_eq j.id j.id).1 refl) none in
     subst (λ (l : Option Invocation). Says reject_ms j.dialogue j.id past l None) (sym e)
     (says_decided reject_ms past j j None refl (no_row_decides reject_ms past j (decision j.number past) free))
 
 says_none : (reject_ms dialogue : ℕ) (id : ℤ) (past : Past) (last : Option Invocation) → latest dialogue id past ≡ last
-    → AllByRecursion (λ i. entry_of id (row_of reject_ms dialogue past i) ≡ None) (invocations past) → Says reject_ms dialogue id past (latest dialogue id past) None
-says_none reject_ms dialogue id past None e a = subst (λ (l : Option Invocation). Says reject_ms dialogue id past l None) (sym e) (record { in_use = refl; pending = refl })
+    → AllByRecursion (λ i. entry_of id (row_of reject_ms dialogue past i) ≡ None) (invocations past)
+    → Says reject_ms dialogue id past (latest dialogue id past) None
+says_none reject_ms dialogue id past None e a =
+    subst (λ (l : Option Invocation). Says reject_ms dialogue id past l None) (sym e)
+    (record { in_use = refl; pending = refl })
 says_none reject_ms dialogue id past (Some j) e a =
     let t = both (j.dialogue == dialogue) (int_eq j.id id) (latest_has dialogue id past j e) in
-    free dialogue id (same_number j.dialogue dialogue t.0) ((Decides-int_eq j.id id).0 t.1) e (latest_among (λ i. entry_of id (row_of reject_ms dialogue past i) ≡ None) dialogue id past j e a)
+    free dialogue id (same_number j.dialogue dialogue t.0) ((Decides-int_eq j.id id).0 t.1) e
+    (latest_among (λ i. entry_of id (row_of reject_ms dialogue past i) ≡ None) dialogue id past j e a)
   where
-    free : (d : ℕ) (k : ℤ) → j.dialogue ≡ d → j.id ≡ k → latest d k past ≡ Some j → entry_of k (row_of reject_ms d past j) ≡ None → Says reject_ms d k past (latest d k past) None
-    free d k p q = subst (λ (y : ℤ). latest d y past ≡ Some j → entry_of y (row_of reject_ms d past j) ≡ None → Says reject_ms d y past (latest d y past) None) q
-        (subst (λ (x : ℕ). latest x j.id past ≡ Some j → entry_of j.id (row_of reject_ms x past j) ≡ None → Says reject_ms x j.id past (latest x j.id past) None) p (says_missing reject_ms past j))
+    free : (d : ℕ) (k : ℤ) → j.dialogue ≡ d → j.id ≡ k → latest d k past ≡ Some j
+        → entry_of k (row_of reject_ms d past j) ≡ None → Says reject_ms d k past (latest d k past) None
+    free d k p q = subst (λ (y : ℤ). latest d y past ≡ Some j → entry_of y (row_of reject_ms d past j) ≡ None
+        → Says reject_ms d y past (latest d y past) None) q
+        (subst (λ (x : ℕ). latest x j.id past ≡ Some j → entry_of j.id (row_of reject_ms x past j) ≡ None
+        → Says reject_ms x j.id past (latest x j.id past) None) p (says_missing reject_ms past j))
 
-rows_say : (reject_ms dialogue : ℕ) (past : Past) (id : ℤ) → Says reject_ms dialogue id past (latest dialogue id past) (entry_at (rows_of reject_ms dialogue past) id)
-rows_say reject_ms dialogue past id = go (entry_at (rows_of reject_ms dialogue past) id) (found (λ i. Unit {0}) id (row_of reject_ms dialogue past) (invocations past) (each_passes (invocations past)))
+rows_say : (reject_ms dialogue : ℕ) (past : Past) (id : ℤ)
+    → Says reject_ms dialogue id past (latest dialogue id past) (entry_at (rows_of reject_ms dialogue past) id)
+rows_say reject_ms dialogue past id =
+    go (entry_at (rows_of reject_ms dialogue past) id)
+    (found (λ i. Unit {0}) id (row_of reject_ms dialogue past) (invocations past) (each_passes (invocations past)))
   where
-    go : (o : Option Entry) → Found (λ i. Unit {0}) id (row_of reject_ms dialogue past) (invocations past) o → Says reject_ms dialogue id past (latest dialogue id past) o
+    go : (o : Option Entry) → Found (λ i. Unit {0}) id (row_of reject_ms dialogue past) (invocations past) o
+        → Says reject_ms dialogue id past (latest dialogue id past) o
     go None f = says_none reject_ms dialogue id past (latest dialogue id past) refl f
     go (Some e) f = says_found reject_ms dialogue id past f.0 e (has_row reject_ms dialogue id past f.0 e f.2)
 
-pub in_use-rows : (reject_ms dialogue : ℕ) (past : Past) (id : ℤ) → is_some (entry_at (rows_of reject_ms dialogue past) id) ≡ held reject_ms dialogue id past
+pub in_use-rows : (reject_ms dialogue : ℕ) (past : Past) (id : ℤ)
+    → is_some (entry_at (rows_of reject_ms dialogue past) id) ≡ held reject_ms dialogue id past
 in_use-rows reject_ms dialogue past id = (rows_say reject_ms dialogue past id).in_use
 
-pub pending-rows : (reject_ms dialogue : ℕ) (past : Past) (id : ℤ) → given_up_at (rows_of reject_ms dialogue past) id ≡ pending dialogue id past
+pub pending-rows : (reject_ms dialogue : ℕ) (past : Past) (id : ℤ)
+    → given_up_at (rows_of reject_ms dialogue past) id ≡ pending dialogue id past
 pending-rows reject_ms dialogue past id = (rows_say reject_ms dialogue past id).pending

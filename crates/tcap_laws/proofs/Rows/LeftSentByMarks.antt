@@ -35,14 +35,18 @@ more_read (Err f ∷ earlier) c a = absurd a
 sym_assoc : {X : Type 0} (xs ys zs : List X) → xs ++ (ys ++ zs) ≡ (xs ++ ys) ++ zs
 sym_assoc xs ys zs = sym (append_assoc xs ys zs)
 
-marks_more : (id : ℤ) (earlier : List Item) (c : ComponentParts) → AreRead earlier → component_marks id (earlier ++ Ok c ∷ []) ≡ component_marks id earlier ++ marks_of_component id c
+marks_more : (id : ℤ) (earlier : List Item) (c : ComponentParts) → AreRead earlier
+    → component_marks id (earlier ++ Ok c ∷ []) ≡ component_marks id earlier ++ marks_of_component id c
 marks_more id [] c a = append-nil (marks_of_component id c)
-marks_more id (Ok d ∷ earlier) c a = ap (λ z. marks_of_component id d ++ z) (marks_more id earlier c a) ∙ sym_assoc (marks_of_component id d) (component_marks id earlier) (marks_of_component id c)
+marks_more id (Ok d ∷ earlier) c a =
+    ap (λ z. marks_of_component id d ++ z) (marks_more id earlier c a)
+    ∙ sym_assoc (marks_of_component id d) (component_marks id earlier) (marks_of_component id c)
 marks_more id (Err f ∷ earlier) c a = absurd a
 
 -- the marks of an invocation after one component more
 pub up_to_more : (past : Past) (earlier : List Item) (c : ComponentParts) (i : Invocation) → AreRead earlier
-    → marks_up_to past (earlier ++ Ok c ∷ []) i ≡ marks_up_to past earlier i ++ map (λ mark. record { clock = clock past; mark = mark }) (marks_of_component i.id c)
+    → marks_up_to past (earlier ++ Ok c ∷ []) i ≡ marks_up_to past earlier i
+    ++ map (λ mark. record { clock = clock past; mark = mark }) (marks_of_component i.id c)
 up_to_more past earlier c i a =
     let f : Mark → Noted = λ mark. record { clock = clock past; mark = mark } in
     ap (λ z. span i past ++ map f z) (marks_more i.id earlier c a)
@@ -54,12 +58,16 @@ up_to_more past earlier c i a =
 -- an answer's mark doesn't send, and leaves an invocation that is Sent so where its class says so
 pub record IsMarkOf (received : Received) (mark : Mark) : Type 0 where
   pub sends_not : is_sent mark ≡ false
-  pub closes : (class : Class) (timeout sent : ℕ) → is_none (closing_of class timeout (Some sent) mark) ≡ stays class received
+  pub closes : (class : Class) (timeout sent : ℕ)
+      → is_none (closing_of class timeout (Some sent) mark) ≡ stays class received
 
-pub one_more : (class : Class) (timeout c : ℕ) (received : Received) (mark : Mark) (marks : List Noted) → IsMarkOf received mark
-    → is_sent_in class timeout (marks ++ record { clock = c; mark = mark } ∷ []) ≡ (is_sent_in class timeout marks && stays class received)
+pub one_more : (class : Class) (timeout c : ℕ) (received : Received) (mark : Mark) (marks : List Noted)
+    → IsMarkOf received mark
+    → is_sent_in class timeout (marks ++ record { clock = c; mark = mark } ∷ [])
+    ≡ (is_sent_in class timeout marks && stays class received)
 one_more class timeout c received mark marks a =
-    ap (λ o. is_some o && is_none (first_closing class timeout (marks ++ new ∷ []))) (sent_clock-append marks (new ∷ []) ∙ none_sent)
+    ap (λ o. is_some o && is_none (first_closing class timeout (marks ++ new ∷ [])))
+    (sent_clock-append marks (new ∷ []) ∙ none_sent)
     ∙ (ap (λ o. is_some (sent_clock marks) && is_none o) (first_closing-append class timeout marks (new ∷ []))
     ∙ go (sent_clock marks) (first_closing class timeout marks))
   where
@@ -83,7 +91,9 @@ one_more class timeout c received mark marks a =
     last None = refl
     last (Some x) = refl
 
-    go : (s : Option ℕ) (o : Option Closing) → (is_some s && is_none (option_or o (option_or (closing_of class timeout s mark) None))) ≡ ((is_some s && is_none o) && stays class received)
+    go : (s : Option ℕ) (o : Option Closing) → (is_some s
+        && is_none (option_or o (option_or (closing_of class timeout s mark) None)))
+        ≡ ((is_some s && is_none o) && stays class received)
     go None o = refl
     go (Some k) None = ap is_none (last (closing_of class timeout (Some k) mark)) ∙ a.closes class timeout k
     go (Some k) (Some x) = refl

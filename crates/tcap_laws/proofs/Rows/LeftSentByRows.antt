@@ -75,25 +75,30 @@ reject_stays class k = ap stays_by (reject_rule class k) ∙ go (is_of_answer k)
 -- the rows are still distinct, and the answer took what it closes from its identifier
 pub record LeavesSent (received : Received) (id : ℤ) (rows after : List Row) : Type 0 where
   pub distinct : IsDistinct int_eq (keys_of after)
-  pub sent : (named : ℤ) → sent_at after named ≡ cond (int_eq id named) (left received (sent_at rows named)) (sent_at rows named)
+  pub sent : (named : ℤ) → sent_at after named
+      ≡ cond (int_eq id named) (left received (sent_at rows named)) (sent_at rows named)
 
 same_test : (id x y : ℤ) → int_eq id x ≡ true → int_eq id y ≡ int_eq x y
 same_test id x y e = ap (λ k. int_eq k y) ((Decides-int_eq id x).0 e)
 
-all_removed : (P : ℤ → Type 0) (test : ℤ → Bool) (rows : List Row) → AllByRecursion P (keys_of rows) → AllByRecursion P (keys_of (remove_entry test rows))
+all_removed : (P : ℤ → Type 0) (test : ℤ → Bool) (rows : List Row) → AllByRecursion P (keys_of rows)
+    → AllByRecursion P (keys_of (remove_entry test rows))
 all_removed P test [] a = tt
 all_removed P test (r ∷ rows) a = go (test r.0) (all_removed P test rows a.1)
   where
-    go : (b : Bool) → AllByRecursion P (keys_of (remove_entry test rows)) → AllByRecursion P (keys_of (cond b rows (r ∷ remove_entry test rows)))
+    go : (b : Bool) → AllByRecursion P (keys_of (remove_entry test rows))
+        → AllByRecursion P (keys_of (cond b rows (r ∷ remove_entry test rows)))
     go true ih = a.1
     go false ih = (a.0, ih)
 
-distinct_removed : (test : ℤ → Bool) (rows : List Row) → IsDistinct int_eq (keys_of rows) → IsDistinct int_eq (keys_of (remove_entry test rows))
+distinct_removed : (test : ℤ → Bool) (rows : List Row) → IsDistinct int_eq (keys_of rows)
+    → IsDistinct int_eq (keys_of (remove_entry test rows))
 unfolding IsDistinct
 distinct_removed test [] d = tt
 distinct_removed test (r ∷ rows) d = go (test r.0) (distinct_removed test rows d.1)
   where
-    go : (b : Bool) → IsDistinct int_eq (keys_of (remove_entry test rows)) → IsDistinct int_eq (keys_of (cond b rows (r ∷ remove_entry test rows)))
+    go : (b : Bool) → IsDistinct int_eq (keys_of (remove_entry test rows))
+        → IsDistinct int_eq (keys_of (cond b rows (r ∷ remove_entry test rows)))
     go true ih = d.1
     go false ih = (all_removed (λ k. int_eq r.0 k ≡ false) test rows d.0, ih)
 
@@ -107,16 +112,23 @@ module _ (rows : List Row) (id : ℤ) (received : Received) (distinct : IsDistin
   unchanged : left received (sent_at rows id) ≡ sent_at rows id → LeavesSent received id rows rows
   unchanged e = record { distinct = distinct; sent = λ named. go named (int_eq id named) refl }
     where
-      go : (named : ℤ) (b : Bool) → int_eq id named ≡ b → sent_at rows named ≡ cond b (left received (sent_at rows named)) (sent_at rows named)
-      go named true q = subst (λ k. sent_at rows k ≡ left received (sent_at rows k)) ((Decides-int_eq id named).0 q) (sym e)
+      go : (named : ℤ) (b : Bool) → int_eq id named ≡ b
+          → sent_at rows named ≡ cond b (left received (sent_at rows named)) (sent_at rows named)
+      go named true q = subst (λ k. sent_at rows k ≡ left received (sent_at rows k)) ((Decides-int_eq id named).0 q)
+          (sym e)
       go named false q = refl
 
   -- where the identifier's invocation isn't Sent any more
-  closed : (after : List Row) (o : Option Entry) → IsDistinct int_eq (keys_of after) → passing is_sent o ≡ None → left received (sent_at rows id) ≡ None
-      → ((named : ℤ) → entry_at after named ≡ cond (int_eq id named) o (entry_at rows named)) → LeavesSent received id rows after
-  closed after o d w e look = record { distinct = d; sent = λ named. ap (passing is_sent) (look named) ∙ go named (int_eq id named) refl }
+  closed : (after : List Row) (o : Option Entry) → IsDistinct int_eq (keys_of after) → passing is_sent o ≡ None
+      → left received (sent_at rows id) ≡ None
+      → ((named : ℤ) → entry_at after named ≡ cond (int_eq id named) o (entry_at rows named))
+      → LeavesSent received id rows after
+  closed after o d w e look =
+      record { distinct = d; sent = λ named. ap (passing is_sent) (look named) ∙ go named (int_eq id named) refl }
     where
-      go : (named : ℤ) (b : Bool) → int_eq id named ≡ b → passing is_sent (cond b o (entry_at rows named)) ≡ cond b (left received (sent_at rows named)) (sent_at rows named)
+      go : (named : ℤ) (b : Bool) → int_eq id named ≡ b
+          → passing is_sent (cond b o (entry_at rows named))
+          ≡ cond b (left received (sent_at rows named)) (sent_at rows named)
       go named true q = w ∙ subst (λ k. None ≡ left received (sent_at rows k)) ((Decides-int_eq id named).0 q) (sym e)
       go named false q = refl
 
@@ -128,15 +140,19 @@ module _ (rows : List Row) (id : ℤ) (received : Received) (distinct : IsDistin
     removed q = closed (without rows id) None (distinct_removed (int_eq id) rows distinct) refl (left_is false q)
         (λ named. lookup-remove_entry int_eq_equiv (int_eq id) (same_test id) named rows distinct)
 
-    waiting : (until : ℕ) → stays e.class received ≡ false → LeavesSent received id rows (set_value (int_eq id) rows (record e { stage = Waiting until }))
+    waiting : (until : ℕ) → stays e.class received ≡ false
+        → LeavesSent received id rows (set_value (int_eq id) rows (record e { stage = Waiting until }))
     waiting until q =
-        closed (set_value (int_eq id) rows w) (Some w) (subst (IsDistinct int_eq) (sym (keys-set_value (int_eq id) rows w)) distinct) refl (left_is false q)
-        (λ named. lookup-set_value int_eq_equiv (int_eq id) (same_test id) named w rows (sent_inside (entry_at rows id) e is))
+        closed (set_value (int_eq id) rows w) (Some w)
+        (subst (IsDistinct int_eq) (sym (keys-set_value (int_eq id) rows w)) distinct) refl (left_is false q)
+        (λ named. lookup-set_value int_eq_equiv (int_eq id) (same_test id) named w rows
+        (sent_inside (entry_at rows id) e is))
       where
         w : Entry
         w = record e { stage = Waiting until }
 
-    by_consequence : (k : Consequence) (until : ℕ) → class_rule e.class received ≡ k → LeavesSent received id rows (after_consequence k rows id e until)
+    by_consequence : (k : Consequence) (until : ℕ) → class_rule e.class received ≡ k
+        → LeavesSent received id rows (after_consequence k rows id e until)
     by_consequence Consequence.result_last until q = waiting until (ap stays_by q)
     by_consequence Consequence.result_more until q = unchanged (left_is true (ap stays_by q) ∙ sym is)
     by_consequence Consequence.error_back until q = waiting until (ap stays_by q)

@@ -36,12 +36,15 @@ IsOfBorn past i = was_alive (life i.dialogue past) ≡ true
 alive : (l : Life) (state : State) (context : Option (List ℕ)) → l ≡ Life.standing state context → was_alive l ≡ true
 alive l state context e = ap was_alive e
 
-made_alive : (start : Start) (pair : Pair) (past : Past) (i : Invocation) → AreReplies start (pair ∷ past) → invoked_by pair ≡ Some i → IsOfBorn past i
+made_alive : (start : Start) (pair : Pair) (past : Past) (i : Invocation) → AreReplies start (pair ∷ past)
+    → invoked_by pair ≡ Some i → IsOfBorn past i
 made_alive start pair past i legal e =
     let h : History = record { start = start; pairs = past } in
     let made : IsInvoke pair i = invoke-made pair i e in
-    let asked : Request = Request.component (ComponentRequest.invoke i.id i.class made.code made.parameter made.linked i.timeout) in
-    let answered : Answer.number i.number ≡ reply h (Event.on_dialogue i.dialogue asked) = sym made.answer ∙ (legal.1 ∙ ap (reply h) made.event) in
+    let asked : Request =
+    Request.component (ComponentRequest.invoke i.id i.class made.code made.parameter made.linked i.timeout) in
+    let answered : Answer.number i.number ≡ reply h (Event.on_dialogue i.dialogue asked) =
+    sym made.answer ∙ (legal.1 ∙ ap (reply h) made.event) in
     let a : IsAccepted h i.dialogue asked = accepted-request h i.dialogue asked (sym (ap is_accepted answered)) in
     alive (life i.dialogue past) a.state a.context a.stands
 
@@ -56,13 +59,15 @@ each-alive start (pair ∷ past) legal = both (invocations past) (each-alive sta
     last None e = tt
     last (Some i) e = (later i (made_alive start pair past i legal e), tt)
 
-    both : (xs : List Invocation) → AllByRecursion (IsOfBorn past) xs → (o : Option Invocation) → invoked_by pair ≡ o → AllByRecursion (IsOfBorn (pair ∷ past)) (xs ++ option_to_list o)
+    both : (xs : List Invocation) → AllByRecursion (IsOfBorn past) xs → (o : Option Invocation) → invoked_by pair ≡ o
+        → AllByRecursion (IsOfBorn (pair ∷ past)) (xs ++ option_to_list o)
     both [] a o e = last o e
     both (x ∷ xs) a o e = (later x a.0, both xs a.1 o e)
 
 -- ---- so one that wasn't has no rows
 
-module _ (start : Start) (past : Past) (legal : AreReplies start past) (dialogue : ℕ) (unborn : life dialogue past ≡ Life.unborn) (test : Invocation → Bool) (made : Invocation → Option Row) where
+module _ (start : Start) (past : Past) (legal : AreReplies start past) (dialogue : ℕ)
+    (unborn : life dialogue past ≡ Life.unborn) (test : Invocation → Bool) (made : Invocation → Option Row) where
   abbrev row_by_test : Invocation → Option Row
   row_by_test i = cond ((i.dialogue == dialogue) && test i) (made i) None
 
@@ -76,18 +81,25 @@ module _ (start : Start) (past : Past) (legal : AreReplies start past) (dialogue
           let never : true ≡ false = sym a ∙ (ap (λ n. was_alive (life n past)) same ∙ ap was_alive unborn) in
           absurd cc
 
-  no_listed : (is : List Invocation) → AllByRecursion (IsOfBorn past) is → filter_map (λ i. cond ((i.dialogue == dialogue) && test i) (made i) None) is ≡ []
+  no_listed : (is : List Invocation) → AllByRecursion (IsOfBorn past) is
+      → filter_map (λ i. cond ((i.dialogue == dialogue) && test i) (made i) None) is ≡ []
   no_listed [] a = refl
-  no_listed (i ∷ is) a = ap (λ o. cons_option o (filter_map (λ i. cond ((i.dialogue == dialogue) && test i) (made i) None) is)) (no_row i a.0) ∙ no_listed is a.1
+  no_listed (i ∷ is) a =
+      ap (λ o. cons_option o (filter_map (λ i. cond ((i.dialogue == dialogue) && test i) (made i) None) is))
+      (no_row i a.0) ∙ no_listed is a.1
 
   pub none_listed : filter_map (λ i. cond ((i.dialogue == dialogue) && test i) (made i) None) (invocations past) ≡ []
   none_listed = no_listed (invocations past) (each-alive start past legal)
 
-module _ (reject_ms : ℕ) (start : Start) (pair : Pair) (past : Past) (legal : AreReplies start past) (none : invoked_by pair ≡ None) (dialogue : ℕ) (unborn : life dialogue past ≡ Life.unborn) where
+module _ (reject_ms : ℕ) (start : Start) (pair : Pair) (past : Past) (legal : AreReplies start past)
+    (none : invoked_by pair ≡ None) (dialogue : ℕ) (unborn : life dialogue past ≡ Life.unborn) where
   pub rows_born : rows_of reject_ms dialogue (pair ∷ past) ≡ []
   rows_born =
       ap (λ o. filter_map (row_of reject_ms dialogue (pair ∷ past)) (invocations past ++ option_to_list o)) none
-      ∙ (ap (filter_map (row_of reject_ms dialogue (pair ∷ past))) (append-nil (invocations past)) ∙ none_listed start past legal dialogue unborn (λ i. is_number i.number (latest i.dialogue i.id (pair ∷ past))) (λ i. row_by i (stage_by reject_ms (pair ∷ past) i (decision i.number (pair ∷ past)))))
+      ∙ (ap (filter_map (row_of reject_ms dialogue (pair ∷ past))) (append-nil (invocations past))
+      ∙ none_listed start past legal dialogue unborn
+      (λ i. is_number i.number (latest i.dialogue i.id (pair ∷ past)))
+      (λ i. row_by i (stage_by reject_ms (pair ∷ past) i (decision i.number (pair ∷ past)))))
 
 -- ---- a dialogue that is asked for
 
@@ -98,15 +110,24 @@ module _ (h : History) (legal : IsLegal h) where
   pub next_unborn : life next h.pairs ≡ Life.unborn
   next_unborn = unborn-life next h.pairs (beyond-unborn h.start h.pairs legal.1 next (omega arith))
 
-  pub fresh-born : birth_due h ≡ None → dialogue_at h.start.reject_ms (due_pair h Event.new_dialogue ∷ h.pairs) next ≡ Some (fresh_dialogue next h.start.reject_ms)
+  pub fresh-born : birth_due h ≡ None → dialogue_at h.start.reject_ms (due_pair h Event.new_dialogue ∷ h.pairs) next
+      ≡ Some (fresh_dialogue next h.start.reject_ms)
   fresh-born e =
       let here : Pair = due_pair h Event.new_dialogue in
       let own : (next == next) ≡ true = grind (arith, nat_tests) in
-      let birth : is_birth_of next here ≡ true = ap (λ f. is_that next (born_of Event.new_dialogue (birth_answer h f))) e ∙ own in
+      let birth : is_birth_of next here ≡ true =
+      ap (λ f. is_that next (born_of Event.new_dialogue (birth_answer h f))) e ∙ own in
       ap (λ l. dialogue_by h.start.reject_ms next (here ∷ h.pairs) (life_after next l here)) next_unborn
       ∙ (ap (λ b. dialogue_by h.start.reject_ms next (here ∷ h.pairs) (life_at_birth b Event.new_dialogue)) birth
-      ∙ (ap (λ q. Some (made q (rows_of h.start.reject_ms next (here ∷ h.pairs)))) (ap (λ b. cond b [] (queue next h.pairs)) birth)
-      ∙ ap (λ rows. Some (made [] rows)) (rows_born h.start.reject_ms h.start here h.pairs legal.1 refl next next_unborn)))
+      ∙ (ap (λ q. Some (made q (rows_of h.start.reject_ms next (here ∷ h.pairs))))
+      (ap (λ b. cond b [] (queue next h.pairs)) birth)
+      ∙ ap (λ rows. Some (made [] rows)) (rows_born h.start.reject_ms h.start here h.pairs legal.1 refl next
+      next_unborn)))
     where
       made : List Queued → List Row → Dialogue
-      made q rows = record { standing = record { identifier = next; state = State.fresh; context = None; queue = q }; invocations = record { reject_ms = h.start.reject_ms; rows = rows } }
+      made q rows = record {
+        standing =
+            record { identifier = next; state = State.fresh; context = None; queue = q };
+        invocations =
+            record { reject_ms = h.start.reject_ms; rows = rows };
+      }

@@ -58,9 +58,11 @@ module _ (start : Start) (past : Past) (legal : AreReplies start past) (reject_m
   rows_up earlier = rows_if dialogue past (stage_up earlier)
 
   pub rows_before : rows_of reject_ms dialogue past ≡ rows_up []
-  rows_before = same_stages dialogue past start legal (λ i. stage_by reject_ms past i (decision i.number past)) (stage_up []) (λ i f s. stage_is reject_ms past i f ∙ more i (decision i.number past))
+  rows_before = same_stages dialogue past start legal (λ i. stage_by reject_ms past i (decision i.number past))
+      (stage_up []) (λ i f s. stage_is reject_ms past i f ∙ more i (decision i.number past))
     where
-      more : (i : Invocation) (d : Option Told) → stage_more reject_ms past i (clock past) (span i past) d ≡ stage_more reject_ms past i (clock past) (marks_up_to past [] i) d
+      more : (i : Invocation) (d : Option Told) → stage_more reject_ms past i (clock past) (span i past) d
+          ≡ stage_more reject_ms past i (clock past) (marks_up_to past [] i) d
       more i d = ap (λ z. stage_more reject_ms past i (clock past) z d) (sym (append-nil (span i past)))
 
   -- ---- one component
@@ -70,18 +72,25 @@ module _ (start : Start) (past : Past) (legal : AreReplies start past) (reject_m
 
   module _ (earlier : List Item) (read : AreRead earlier) (c : ComponentParts) where
     -- an invocation is at the same after it
-    stage_same : (i : Invocation) → marks_of_component i.id c ≡ [] → stage_up (earlier ++ Ok c ∷ []) i ≡ stage_up earlier i
+    stage_same : (i : Invocation) → marks_of_component i.id c ≡ []
+        → stage_up (earlier ++ Ok c ∷ []) i ≡ stage_up earlier i
     stage_same i none =
         ap (λ z. stage_more reject_ms past i (clock past) z (decision i.number past))
-        (up_to_more past earlier c i read ∙ (ap (λ z. marks_up_to past earlier i ++ map (λ mark. record { clock = clock past; mark = mark }) z) none ∙ append-nil (marks_up_to past earlier i)))
+        (up_to_more past earlier c i read ∙ (ap (λ z. marks_up_to past earlier i
+        ++ map (λ mark. record { clock = clock past; mark = mark }) z) none
+        ∙ append-nil (marks_up_to past earlier i)))
 
     rows_same : ((k : ℤ) → marks_of_component k c ≡ []) → rows_up earlier ≡ rows_up (earlier ++ Ok c ∷ [])
-    rows_same none = same_stages dialogue past start legal (stage_up earlier) (stage_up (earlier ++ Ok c ∷ [])) (λ i f s. sym (stage_same i (none i.id)))
+    rows_same none = same_stages dialogue past start legal (stage_up earlier) (stage_up (earlier ++ Ok c ∷ []))
+        (λ i f s. sym (stage_same i (none i.id)))
 
     -- or a mark moves it on
-    module _ (id : ℤ) (received : Received) (mark : Mark) (answers : (class : Class) (s : Stage) → mark_stage until (clock past) mark class s ≡ answered_stage until received class s)
+    module _ (id : ℤ) (received : Received) (mark : Mark)
+        (answers : (class : Class) (s : Stage) → mark_stage until (clock past) mark class s
+        ≡ answered_stage until received class s)
         (marks : (k : ℤ) → marks_of_component k c ≡ cond (int_eq id k) (mark ∷ []) []) where
-      waits_on : (u : ℕ) (class : Class) (b : Bool) → cond b (answered_stage until received class (Waiting u)) (Some (Waiting u)) ≡ Some (Waiting u)
+      waits_on : (u : ℕ) (class : Class) (b : Bool)
+          → cond b (answered_stage until received class (Waiting u)) (Some (Waiting u)) ≡ Some (Waiting u)
       waits_on u class true = refl
       waits_on u class false = refl
 
@@ -89,22 +98,28 @@ module _ (start : Start) (past : Past) (legal : AreReplies start past) (reject_m
       then_same None = refl
       then_same (Some s) = refl
 
-      then_answers : (i : Invocation) (o : Option Stage) → then_stage (mark_stage until (clock past) mark i.class) o ≡ then_stage (answered_stage until received i.class) o
+      then_answers : (i : Invocation) (o : Option Stage)
+          → then_stage (mark_stage until (clock past) mark i.class) o
+          ≡ then_stage (answered_stage until received i.class) o
       then_answers i None = refl
       then_answers i (Some s) = answers i.class s
 
-      stage_step : (i : Invocation) (d : Option Told) → stage_more reject_ms past i (clock past) (marks_up_to past (earlier ++ Ok c ∷ []) i) d
-          ≡ then_stage (on_id id (answered_stage until received) i.id i.class) (stage_more reject_ms past i (clock past) (marks_up_to past earlier i) d)
+      stage_step : (i : Invocation) (d : Option Told)
+          → stage_more reject_ms past i (clock past) (marks_up_to past (earlier ++ Ok c ∷ []) i) d
+          ≡ then_stage (on_id id (answered_stage until received) i.id i.class)
+          (stage_more reject_ms past i (clock past) (marks_up_to past earlier i) d)
       stage_step i (Some t) = go (is_waiting reject_ms i.dialogue i.id past t)
         where
           waiting : Option Stage
           waiting = Some (Waiting (clock t.place + reject_ms))
 
-          go : (b : Bool) → cond b waiting None ≡ then_stage (on_id id (answered_stage until received) i.id i.class) (cond b waiting None)
+          go : (b : Bool) → cond b waiting None ≡ then_stage (on_id id (answered_stage until received) i.id i.class)
+              (cond b waiting None)
           go true = sym (waits_on (clock t.place + reject_ms) i.class (int_eq id i.id))
           go false = refl
       stage_step i None =
-          ap (marked_stage until i.class i.timeout) (up_to_more past earlier c i read ∙ ap (λ z. before ++ map note z) (marks i.id)) ∙ go (int_eq id i.id)
+          ap (marked_stage until i.class i.timeout) (up_to_more past earlier c i read
+          ∙ ap (λ z. before ++ map note z) (marks i.id)) ∙ go (int_eq id i.id)
         where
           before : List Noted
           before = marks_up_to past earlier i
@@ -113,12 +128,16 @@ module _ (start : Start) (past : Past) (legal : AreReplies start past) (reject_m
           note mark = record { clock = clock past; mark = mark }
 
           go : (b : Bool) → marked_stage until i.class i.timeout (before ++ map note (cond b (mark ∷ []) []))
-              ≡ then_stage (λ s. cond b (answered_stage until received i.class s) (Some s)) (marked_stage until i.class i.timeout before)
-          go true = mark_steps until (clock past) i.timeout i.class before mark ∙ then_answers i (marked_stage until i.class i.timeout before)
-          go false = ap (marked_stage until i.class i.timeout) (append-nil before) ∙ then_same (marked_stage until i.class i.timeout before)
+              ≡ then_stage (λ s. cond b (answered_stage until received i.class s) (Some s))
+              (marked_stage until i.class i.timeout before)
+          go true = mark_steps until (clock past) i.timeout i.class before mark
+              ∙ then_answers i (marked_stage until i.class i.timeout before)
+          go false = ap (marked_stage until i.class i.timeout) (append-nil before)
+              ∙ then_same (marked_stage until i.class i.timeout before)
 
       rows_step : rows_up (earlier ++ Ok c ∷ []) ≡ restaged (on_id id (answered_stage until received)) (rows_up earlier)
-      rows_step = stages_moved dialogue past start legal (on_id id (answered_stage until received)) (stage_up earlier) (stage_up (earlier ++ Ok c ∷ [])) (λ i f s. stage_step i (decision i.number past))
+      rows_step = stages_moved dialogue past start legal (on_id id (answered_stage until received)) (stage_up earlier)
+          (stage_up (earlier ++ Ok c ∷ [])) (λ i f s. stage_step i (decision i.number past))
 
   -- ---- the rows of the table
 
@@ -132,14 +151,20 @@ module _ (start : Start) (past : Past) (legal : AreReplies start past) (reject_m
     same_at : (c : ComponentParts) → ((k : ℤ) → marks_of_component k c ≡ []) → IsAt (earlier ++ Ok c ∷ []) list
     same_at c none = record { rows = at.rows ∙ rows_same earlier read c none; wait = at.wait; distinct = at.distinct }
 
-    answer_at : (c : ComponentParts) (id : ℤ) (received : Received) (mark : Mark) → ((class : Class) (s : Stage) → mark_stage until (clock past) mark class s ≡ answered_stage until received class s)
-        → ((k : ℤ) → marks_of_component k c ≡ cond (int_eq id k) (mark ∷ []) []) → (after : InvocationList) → after.reject_ms ≡ list.reject_ms
-        → after.rows ≡ restaged (on_id id (answered_stage (clock past + list.reject_ms) received)) list.rows → IsAt (earlier ++ Ok c ∷ []) after
+    answer_at : (c : ComponentParts) (id : ℤ) (received : Received) (mark : Mark)
+        → ((class : Class) (s : Stage) → mark_stage until (clock past) mark class s
+        ≡ answered_stage until received class s)
+        → ((k : ℤ) → marks_of_component k c ≡ cond (int_eq id k) (mark ∷ []) []) → (after : InvocationList)
+        → after.reject_ms ≡ list.reject_ms
+        → after.rows ≡ restaged (on_id id (answered_stage (clock past + list.reject_ms) received)) list.rows
+        → IsAt (earlier ++ Ok c ∷ []) after
     answer_at c id received mark answers marks after same e = record {
       rows = e ∙ (ap (λ m. restaged (on_id id (answered_stage (clock past + m) received)) list.rows) at.wait
-          ∙ (ap (restaged (on_id id (answered_stage until received))) at.rows ∙ sym (rows_step earlier read c id received mark answers marks)));
+          ∙ (ap (restaged (on_id id (answered_stage until received))) at.rows
+          ∙ sym (rows_step earlier read c id received mark answers marks)));
       wait = same ∙ at.wait;
-      distinct = subst (λ z. IsDistinct int_eq (keys_of z)) (sym e) (distinct_restaged (on_id id (answered_stage (clock past + list.reject_ms) received)) list.rows at.distinct);
+      distinct = subst (λ z. IsDistinct int_eq (keys_of z)) (sym e)
+          (distinct_restaged (on_id id (answered_stage (clock past + list.reject_ms) received)) list.rows at.distinct);
     }
 
     freed_wait : (id : ℤ) (b : Bool) → (freed list id b).reject_ms ≡ list.reject_ms
@@ -152,29 +177,38 @@ module _ (start : Start) (past : Past) (legal : AreReplies start past) (reject_m
         → IsAt (earlier ++ Ok (ComponentParts.reject_back (Some id) problem) ∷ []) (after_reject list id problem.kind)
     invoke_at id problem of marks = answer_at (ComponentParts.reject_back (Some id) problem) id
         (Received.reject problem.kind) (Mark.reject problem) (reject_frees until problem.kind of) marks
-        (after_reject list id problem.kind) (freed_wait id (is_some (rejected_at list.rows id problem.kind))) (reject_moves list id problem.kind (clock past + list.reject_ms) at.distinct)
+        (after_reject list id problem.kind) (freed_wait id (is_some (rejected_at list.rows id problem.kind)))
+        (reject_moves list id problem.kind (clock past + list.reject_ms) at.distinct)
 
     -- a Reject of an answer from here
-    own_at : (id : ℤ) (problem : ProblemParts) → ((k : ℤ) → reject_marks k id problem problem.kind ≡ []) → ((class : Class) (s : Stage) → answered_stage (clock past + list.reject_ms) (Received.reject problem.kind) class s ≡ Some s)
+    own_at : (id : ℤ) (problem : ProblemParts) → ((k : ℤ) → reject_marks k id problem problem.kind ≡ [])
+        → ((class : Class) (s : Stage) → answered_stage (clock past + list.reject_ms) (Received.reject problem.kind)
+        class s ≡ Some s)
         → IsAt (earlier ++ Ok (ComponentParts.reject_back (Some id) problem) ∷ []) (after_reject list id problem.kind)
     own_at id problem marks keeps =
         let same : (after_reject list id problem.kind).rows ≡ list.rows =
-        reject_moves list id problem.kind (clock past + list.reject_ms) at.distinct ∙ same_rows (on_id id (answered_stage (clock past + list.reject_ms) (Received.reject problem.kind))) list.rows (all list.rows) in
+        reject_moves list id problem.kind (clock past + list.reject_ms) at.distinct
+        ∙ same_rows (on_id id (answered_stage (clock past + list.reject_ms) (Received.reject problem.kind)))
+        list.rows (all list.rows) in
         record {
           rows = same ∙ (at.rows ∙ rows_same earlier read (ComponentParts.reject_back (Some id) problem) marks);
           wait = freed_wait id (is_some (rejected_at list.rows id problem.kind)) ∙ at.wait;
           distinct = subst (λ z. IsDistinct int_eq (keys_of z)) (sym same) at.distinct;
         }
       where
-        all : (rows : List Row) → AllByRecursion (λ r. on_id id (answered_stage (clock past + list.reject_ms) (Received.reject problem.kind)) r.0 r.1.class r.1.stage ≡ Some r.1.stage) rows
+        all : (rows : List Row) → AllByRecursion (λ r.
+            on_id id (answered_stage (clock past + list.reject_ms) (Received.reject problem.kind)) r.0 r.1.class
+            r.1.stage ≡ Some r.1.stage) rows
         all [] = tt
         all (r ∷ rows) = (go (int_eq id r.0), all rows)
           where
-            go : (b : Bool) → cond b (answered_stage (clock past + list.reject_ms) (Received.reject problem.kind) r.1.class r.1.stage) (Some r.1.stage) ≡ Some r.1.stage
+            go : (b : Bool) → cond b (answered_stage (clock past + list.reject_ms) (Received.reject problem.kind)
+                r.1.class r.1.stage) (Some r.1.stage) ≡ Some r.1.stage
             go true = keeps r.1.class r.1.stage
             go false = refl
 
-    reject_at : (id : ℤ) (problem : ProblemParts) (k : Kind) → problem.kind ≡ k → IsAt (earlier ++ Ok (ComponentParts.reject_back (Some id) problem) ∷ []) (after_reject list id problem.kind)
+    reject_at : (id : ℤ) (problem : ProblemParts) (k : Kind) → problem.kind ≡ k
+        → IsAt (earlier ++ Ok (ComponentParts.reject_back (Some id) problem) ∷ []) (after_reject list id problem.kind)
     reject_at id problem kind.General e =
         invoke_at id problem (ap is_of_answer e) (λ n. ap (reject_marks n id problem) e)
     reject_at id problem kind.Invoke e =
@@ -185,41 +219,61 @@ module _ (start : Start) (past : Past) (legal : AreReplies start past) (reject_m
         (reject_keeps (clock past + list.reject_ms) problem.kind (ap is_of_answer e))
 
     item_at : (c : ComponentParts) → IsAt (earlier ++ Ok c ∷ []) (after_item (clock past) list (Ok c))
-    item_at (ComponentParts.invoke id linked code parameter) = same_at (ComponentParts.invoke id linked code parameter) (λ k. refl)
-    item_at (ComponentParts.result_last id body) = answer_at (ComponentParts.result_last id body) id Received.return_result_last (Mark.last body) (λ class s. refl) (λ k. refl)
-        (after_item (clock past) list (Ok (ComponentParts.result_last id body))) refl (answer_moves list.rows id Received.return_result_last (clock past + list.reject_ms) at.distinct)
-    item_at (ComponentParts.error_back id code parameter) = answer_at (ComponentParts.error_back id code parameter) id Received.return_error (Mark.error code parameter) (λ class s. refl) (λ k. refl)
-        (after_item (clock past) list (Ok (ComponentParts.error_back id code parameter))) refl (answer_moves list.rows id Received.return_error (clock past + list.reject_ms) at.distinct)
+    item_at (ComponentParts.invoke id linked code parameter) =
+        same_at (ComponentParts.invoke id linked code parameter) (λ k. refl)
+    item_at (ComponentParts.result_last id body) =
+        answer_at (ComponentParts.result_last id body) id Received.return_result_last (Mark.last body) (λ class s. refl)
+        (λ k. refl)
+        (after_item (clock past) list (Ok (ComponentParts.result_last id body))) refl
+        (answer_moves list.rows id Received.return_result_last (clock past + list.reject_ms) at.distinct)
+    item_at (ComponentParts.error_back id code parameter) =
+        answer_at (ComponentParts.error_back id code parameter) id Received.return_error (Mark.error code parameter)
+        (λ class s. refl) (λ k. refl)
+        (after_item (clock past) list (Ok (ComponentParts.error_back id code parameter))) refl
+        (answer_moves list.rows id Received.return_error (clock past + list.reject_ms) at.distinct)
     item_at (ComponentParts.reject_back None problem) = same_at (ComponentParts.reject_back None problem) (λ k. refl)
     item_at (ComponentParts.reject_back (Some id) problem) = reject_at id problem problem.kind refl
-    item_at (ComponentParts.result_more id body) = answer_at (ComponentParts.result_more id body) id Received.return_result_not_last (Mark.more body) (λ class s. refl) (λ k. refl)
-        (after_item (clock past) list (Ok (ComponentParts.result_more id body))) refl (answer_moves list.rows id Received.return_result_not_last (clock past + list.reject_ms) at.distinct)
+    item_at (ComponentParts.result_more id body) =
+        answer_at (ComponentParts.result_more id body) id Received.return_result_not_last (Mark.more body)
+        (λ class s. refl) (λ k. refl)
+        (after_item (clock past) list (Ok (ComponentParts.result_more id body))) refl
+        (answer_moves list.rows id Received.return_result_not_last (clock past + list.reject_ms) at.distinct)
 
   -- ---- all components
 
   -- one that can't be read means nothing
-  fault_same : (earlier : List Item) (f : FaultParts) (i : Invocation) → AreRead earlier → marks_up_to past (earlier ++ Err f ∷ []) i ≡ marks_up_to past earlier i
-  fault_same earlier f i read = ap (λ z. span i past ++ map (λ mark. record { clock = clock past; mark = mark }) z) (go earlier read)
+  fault_same : (earlier : List Item) (f : FaultParts) (i : Invocation) → AreRead earlier
+      → marks_up_to past (earlier ++ Err f ∷ []) i ≡ marks_up_to past earlier i
+  fault_same earlier f i read =
+      ap (λ z. span i past ++ map (λ mark. record { clock = clock past; mark = mark }) z) (go earlier read)
     where
       go : (items : List Item) → AreRead items → component_marks i.id (items ++ Err f ∷ []) ≡ component_marks i.id items
       go [] a = refl
       go (Ok c ∷ items) a = ap (λ z. marks_of_component i.id c ++ z) (go items a)
       go (Err g ∷ items) a = absurd a
 
-  walk_from : (items : List Item) → FaultLast items → (list : InvocationList) (earlier : List Item) → AreRead earlier → IsAt earlier list
-      → (walked dialogue (clock past) list items).invocations ≡ record { reject_ms = reject_ms; rows = rows_up (earlier ++ items) }
-  walk_from [] f list earlier read at = ap (λ m. record { reject_ms = m; rows = list.rows }) at.wait ∙ ap (λ z. record { reject_ms = reject_ms; rows = z }) (at.rows ∙ ap rows_up (sym (append-nil earlier)))
+  walk_from : (items : List Item) → FaultLast items → (list : InvocationList) (earlier : List Item) → AreRead earlier
+      → IsAt earlier list
+      → (walked dialogue (clock past) list items).invocations
+      ≡ record { reject_ms = reject_ms; rows = rows_up (earlier ++ items) }
+  walk_from [] f list earlier read at =
+      ap (λ m. record { reject_ms = m; rows = list.rows }) at.wait
+      ∙ ap (λ z. record { reject_ms = reject_ms; rows = z }) (at.rows ∙ ap rows_up (sym (append-nil earlier)))
   walk_from (Ok c ∷ items) f list earlier read at =
-      walk_from items f (after_item (clock past) list (Ok c)) (earlier ++ Ok c ∷ []) (more_read earlier c read) (item_at earlier read list at c)
+      walk_from items f (after_item (clock past) list (Ok c)) (earlier ++ Ok c ∷ []) (more_read earlier c read)
+      (item_at earlier read list at c)
       ∙ ap (λ z. record { reject_ms = reject_ms; rows = rows_up z }) (append_assoc earlier (Ok c ∷ []) items)
   walk_from (Err g ∷ []) f list earlier read at =
       ap (λ m. record { reject_ms = m; rows = list.rows }) at.wait
-      ∙ ap (λ z. record { reject_ms = reject_ms; rows = z }) (at.rows ∙ same_stages dialogue past start legal (stage_up earlier) (stage_up (earlier ++ Err g ∷ []))
-      (λ i f s. ap (λ z. stage_more reject_ms past i (clock past) z (decision i.number past)) (sym (fault_same earlier g i read))))
+      ∙ ap (λ z. record { reject_ms = reject_ms; rows = z })
+      (at.rows ∙ same_stages dialogue past start legal (stage_up earlier) (stage_up (earlier ++ Err g ∷ []))
+      (λ i f s. ap (λ z. stage_more reject_ms past i (clock past) z (decision i.number past))
+      (sym (fault_same earlier g i read))))
   walk_from (Err g ∷ item ∷ items) f list earlier read at = absurd f
 
   pub walk_at : (items : List Item) → FaultLast items
-      → (walked dialogue (clock past) (record { reject_ms = reject_ms; rows = rows_of reject_ms dialogue past }) items).invocations ≡ record { reject_ms = reject_ms; rows = rows_up items }
+      → (walked dialogue (clock past) (record { reject_ms = reject_ms; rows = rows_of reject_ms dialogue past })
+      items).invocations ≡ record { reject_ms = reject_ms; rows = rows_up items }
   walk_at items f = walk_from items f (record { reject_ms = reject_ms; rows = rows_of reject_ms dialogue past }) [] tt
       (record { rows = rows_before; wait = refl; distinct = rows_distinct start past legal reject_ms dialogue })
 
@@ -232,7 +286,8 @@ module _ (start : Start) (past : Past) (legal : AreReplies start past) (reject_m
     abbrev later : List Noted
     later = map (λ mark. record { clock = clock past; mark = mark }) (component_marks i.id items)
 
-    tells_of : (timeout : ℕ) (o : Option Closing) (s : Option ℕ) → row_told dialogue (row_by i (closed_stage until timeout o s)) ≡ cond (is_none o) told_here None
+    tells_of : (timeout : ℕ) (o : Option Closing) (s : Option ℕ)
+        → row_told dialogue (row_by i (closed_stage until timeout o s)) ≡ cond (is_none o) told_here None
     tells_of timeout None None = refl
     tells_of timeout None (Some k) = refl
     tells_of timeout (Some c) s = go (is_rejectable c)
@@ -241,10 +296,14 @@ module _ (start : Start) (past : Past) (legal : AreReplies start past) (reject_m
         go true = refl
         go false = refl
 
-    closing_up : first_closing i.class i.timeout (marks_up_to past items i) ≡ option_or (outcome i.number past) (closing_after i.class i.timeout (span i past) later)
-    closing_up = first_closing-append i.class i.timeout (span i past) later ∙ ap (λ o. option_or o (closing_after i.class i.timeout (span i past) later)) (sym (ap (λ o. outcome_of o past) found))
+    closing_up : first_closing i.class i.timeout (marks_up_to past items i)
+        ≡ option_or (outcome i.number past) (closing_after i.class i.timeout (span i past) later)
+    closing_up = first_closing-append i.class i.timeout (span i past) later
+        ∙ ap (λ o. option_or o (closing_after i.class i.timeout (span i past) later))
+        (sym (ap (λ o. outcome_of o past) found))
 
-    decided_tells : (c : Closing) (d : Option Told) → option_map (λ (t : Told). t.closing) d ≡ Some c → row_told dialogue (row_by i (stage_more reject_ms past i (clock past) (marks_up_to past items i) d)) ≡ None
+    decided_tells : (c : Closing) (d : Option Told) → option_map (λ (t : Told). t.closing) d ≡ Some c
+        → row_told dialogue (row_by i (stage_more reject_ms past i (clock past) (marks_up_to past items i) d)) ≡ None
     decided_tells c None e = absurd cc
     decided_tells c (Some t) e = go (is_waiting reject_ms i.dialogue i.id past t)
       where
@@ -253,12 +312,19 @@ module _ (start : Start) (past : Past) (legal : AreReplies start past) (reject_m
         go false = refl
 
     here_tells : (o : Option Closing) → outcome i.number past ≡ o
-        → row_told dialogue (cond (is_number i.number (latest i.dialogue i.id past)) (row_by i (stage_up items i)) None) ≡ cond (is_none (first_closing i.class i.timeout (marks_up_to past items i))) told_here None
+        → row_told dialogue (cond (is_number i.number (latest i.dialogue i.id past)) (row_by i (stage_up items i)) None)
+        ≡ cond (is_none (first_closing i.class i.timeout (marks_up_to past items i))) told_here None
     here_tells None e =
-        ap (λ b. row_told dialogue (cond b (row_by i (stage_up items i)) None)) (ap (is_number i.number) (latest_if_open start past i.number i legal found e) ∙ own_number i)
-        ∙ (ap (λ d. row_told dialogue (row_by i (stage_more reject_ms past i (clock past) (marks_up_to past items i) d))) (undecided i.number past e)
-        ∙ tells_of i.timeout (first_closing i.class i.timeout (marks_up_to past items i)) (sent_clock (marks_up_to past items i)))
-    here_tells (Some c) e = go (is_number i.number (latest i.dialogue i.id past)) ∙ sym (ap (λ o. cond (is_none o) told_here None) (closing_up ∙ ap (λ o. option_or o (closing_after i.class i.timeout (span i past) later)) e))
+        ap (λ b. row_told dialogue (cond b (row_by i (stage_up items i)) None))
+        (ap (is_number i.number) (latest_if_open start past i.number i legal found e) ∙ own_number i)
+        ∙ (ap (λ d. row_told dialogue (row_by i (stage_more reject_ms past i (clock past) (marks_up_to past items i)
+        d))) (undecided i.number past e)
+        ∙ tells_of i.timeout (first_closing i.class i.timeout (marks_up_to past items i))
+        (sent_clock (marks_up_to past items i)))
+    here_tells (Some c) e =
+        go (is_number i.number (latest i.dialogue i.id past))
+        ∙ sym (ap (λ o. cond (is_none o) told_here None)
+        (closing_up ∙ ap (λ o. option_or o (closing_after i.class i.timeout (span i past) later)) e))
       where
         go : (b : Bool) → row_told dialogue (cond b (row_by i (stage_up items i)) None) ≡ None
         go true = decided_tells c (decision i.number past) (closing_of_decision i.number past ∙ e)
@@ -267,31 +333,48 @@ module _ (start : Start) (past : Past) (legal : AreReplies start past) (reject_m
     one_told : row_told dialogue (row_if dialogue past (stage_up items) i) ≡ ended_of dialogue past items i
     one_told = go (i.dialogue == dialogue)
       where
-        go : (b : Bool) → row_told dialogue (cond (b && is_number i.number (latest i.dialogue i.id past)) (row_by i (stage_up items i)) None) ≡ cond (b && is_none (first_closing i.class i.timeout (marks_up_to past items i))) told_here None
+        go : (b : Bool) → row_told dialogue (cond (b && is_number i.number (latest i.dialogue i.id past))
+            (row_by i (stage_up items i)) None) ≡ cond (b
+            && is_none (first_closing i.class i.timeout (marks_up_to past items i))) told_here None
         go true = here_tells (outcome i.number past) refl
         go false = refl
 
-  pub ended_after : (items : List Item) → ended_told dialogue (record { reject_ms = reject_ms; rows = rows_up items }) ≡ ended_in dialogue past items
+  pub ended_after : (items : List Item) → ended_told dialogue (record { reject_ms = reject_ms; rows = rows_up items })
+      ≡ ended_in dialogue past items
   ended_after items =
       rows_told dialogue (row_if dialogue past (stage_up items)) (invocations past)
-      ∙ same_kept (IsFound past) (λ i. row_told dialogue (row_if dialogue past (stage_up items) i)) (ended_of dialogue past items) (λ i found. one_told items i found) (invocations past) (each_found start past legal)
+      ∙ same_kept (IsFound past) (λ i. row_told dialogue (row_if dialogue past (stage_up items) i))
+      (ended_of dialogue past items) (λ i found. one_told items i found) (invocations past)
+      (each_found start past legal)
 
   -- ---- after the message
 
-  pub rows_message : (items : List Item) (pair : Pair) (none : invoked_by pair ≡ None) → clock (pair ∷ past) ≡ clock past
-      → ((k : ℤ) → marks dialogue k pair past ≡ map (λ mark. record { clock = clock past; mark = mark }) (component_marks k items)) → ((k : ℤ) (u : ℕ) → pair_ends_wait u dialogue k pair ≡ false)
+  pub rows_message : (items : List Item) (pair : Pair) (none : invoked_by pair ≡ None)
+      → clock (pair ∷ past) ≡ clock past
+      → ((k : ℤ) → marks dialogue k pair past ≡ map (λ mark. record { clock = clock past; mark = mark })
+      (component_marks k items)) → ((k : ℤ) (u : ℕ) → pair_ends_wait u dialogue k pair ≡ false)
       → rows_of reject_ms dialogue (pair ∷ past) ≡ rows_up items
   rows_message items pair none still marks_are ends =
       rows_after reject_ms start pair past legal none dialogue
-      ∙ same_stages dialogue past start legal (λ i. stage_by reject_ms (pair ∷ past) i (decision i.number (pair ∷ past))) (stage_up items) (λ i f s. stage_after reject_ms start pair past legal none i f ∙ one i s (decision i.number past))
+      ∙ same_stages dialogue past start legal (λ i.
+      stage_by reject_ms (pair ∷ past) i (decision i.number (pair ∷ past))) (stage_up items)
+      (λ i f s. stage_after reject_ms start pair past legal none i f ∙ one i s (decision i.number past))
     where
-      one : (i : Invocation) → i.dialogue ≡ dialogue → (d : Option Told) → stage_pair reject_ms start pair past legal none i d ≡ stage_more reject_ms past i (clock past) (marks_up_to past items i) d
-      one i same None = ap (λ c. marked_stage (c + reject_ms) i.class i.timeout (span i past ++ marks i.dialogue i.id pair past)) still
-          ∙ ap (λ z. marked_stage until i.class i.timeout (span i past ++ z)) (ap (λ n. marks n i.id pair past) same ∙ marks_are i.id)
+      one : (i : Invocation) → i.dialogue ≡ dialogue → (d : Option Told)
+          → stage_pair reject_ms start pair past legal none i d
+          ≡ stage_more reject_ms past i (clock past) (marks_up_to past items i) d
+      one i same None = ap (λ c. marked_stage (c + reject_ms) i.class i.timeout
+          (span i past ++ marks i.dialogue i.id pair past)) still
+          ∙ ap (λ z. marked_stage until i.class i.timeout (span i past ++ z))
+          (ap (λ n. marks n i.id pair past) same ∙ marks_are i.id)
       one i same (Some t) =
-          ap (λ b. cond (is_waiting reject_ms i.dialogue i.id past t && not b) (Some (Waiting (clock t.place + reject_ms))) None) (ap (λ n. pair_ends_wait (clock t.place + reject_ms) n i.id pair) same ∙ ends i.id (clock t.place + reject_ms))
+          ap (λ b. cond (is_waiting reject_ms i.dialogue i.id past t && not b)
+          (Some (Waiting (clock t.place + reject_ms))) None)
+          (ap (λ n. pair_ends_wait (clock t.place + reject_ms) n i.id pair) same
+          ∙ ends i.id (clock t.place + reject_ms))
           ∙ go (is_waiting reject_ms i.dialogue i.id past t)
         where
-          go : (b : Bool) → cond (b && true) (Some (Waiting (clock t.place + reject_ms))) None ≡ cond b (Some (Waiting (clock t.place + reject_ms))) None
+          go : (b : Bool) → cond (b && true) (Some (Waiting (clock t.place + reject_ms))) None
+              ≡ cond b (Some (Waiting (clock t.place + reject_ms))) None
           go true = refl
           go false = refl

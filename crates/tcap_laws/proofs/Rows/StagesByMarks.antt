@@ -33,7 +33,8 @@ closed_stage until timeout None sent = Some (open_stage timeout sent)
 closed_stage until timeout (Some closing) sent = cond (is_rejectable closing) (Some (Waiting until)) None
 
 abbrev pub marked_stage : ℕ → Class → ℕ → List Noted → Option Stage
-marked_stage until class timeout marks = closed_stage until timeout (first_closing class timeout marks) (sent_clock marks)
+marked_stage until class timeout marks =
+    closed_stage until timeout (first_closing class timeout marks) (sent_clock marks)
 
 -- ---- what a mark makes of a stage
 
@@ -103,7 +104,8 @@ then_stage f (Some s) = f s
 
 module _ (until clock timeout : ℕ) (class : Class) where
   abbrev Steps : Mark → Option Closing → Option ℕ → Type 0
-  Steps m o s = closed_stage until timeout (option_or o (option_or (closing_of class timeout s m) None)) (option_or s (cond (is_sent m) (Some clock) None))
+  Steps m o s = closed_stage until timeout (option_or o (option_or (closing_of class timeout s m) None))
+      (option_or s (cond (is_sent m) (Some clock) None))
       ≡ then_stage (mark_stage until clock m class) (closed_stage until timeout o s)
 
   -- what is closed stays so
@@ -120,7 +122,8 @@ module _ (until clock timeout : ℕ) (class : Class) where
   closed_steps : (m : Mark) (c : Closing) (s : Option ℕ) → Steps m (Some c) s
   closed_steps m c s = go (is_rejectable c)
     where
-      go : (b : Bool) → cond b (Some (Waiting until)) None ≡ then_stage (mark_stage until clock m class) (cond b (Some (Waiting until)) None)
+      go : (b : Bool) → cond b (Some (Waiting until)) None
+          ≡ then_stage (mark_stage until clock m class) (cond b (Some (Waiting until)) None)
       go true = sym (waits m until)
       go false = refl
 
@@ -159,7 +162,8 @@ module _ (until clock timeout : ℕ) (class : Class) where
   open_steps (Mark.moment now) None = refl
   open_steps (Mark.moment now) (Some k) = go (nat_le (k + timeout) now)
     where
-      go : (b : Bool) → closed_stage until timeout (option_or (cond b (Some Closing.lapsed) None) None) (Some k) ≡ cond b None (Some (Sent (k + timeout)))
+      go : (b : Bool) → closed_stage until timeout (option_or (cond b (Some Closing.lapsed) None) None) (Some k)
+          ≡ cond b None (Some (Sent (k + timeout)))
       go true = refl
       go false = refl
   open_steps (Mark.last body) None = refl
@@ -175,13 +179,19 @@ module _ (until clock timeout : ℕ) (class : Class) where
   one_steps m None s = open_steps m s
   one_steps m (Some c) s = closed_steps m c s
 
-  sent_one : (m : Mark) (b : Bool) → is_sent m ≡ b → sent_clock (record { clock = clock; mark = m } ∷ []) ≡ cond (is_sent m) (Some clock) None
+  sent_one : (m : Mark) (b : Bool) → is_sent m ≡ b
+      → sent_clock (record { clock = clock; mark = m } ∷ []) ≡ cond (is_sent m) (Some clock) None
   sent_one m true e = rw e refl
   sent_one m false e = rw e refl
 
-  pub mark_steps : (marks : List Noted) (m : Mark) → marked_stage until class timeout (marks ++ record { clock = clock; mark = m } ∷ []) ≡ then_stage (mark_stage until clock m class) (marked_stage until class timeout marks)
+  pub mark_steps : (marks : List Noted) (m : Mark)
+      → marked_stage until class timeout (marks ++ record { clock = clock; mark = m } ∷ [])
+      ≡ then_stage (mark_stage until clock m class) (marked_stage until class timeout marks)
   mark_steps marks m =
       let new : Noted = record { clock = clock; mark = m } in
-      ap (λ o. closed_stage until timeout o (sent_clock (marks ++ new ∷ []))) (first_closing-append class timeout marks (new ∷ []))
-      ∙ (ap (closed_stage until timeout (option_or (first_closing class timeout marks) (option_or (closing_of class timeout (sent_clock marks) m) None))) (sent_clock-append marks (new ∷ []) ∙ ap (option_or (sent_clock marks)) (sent_one m (is_sent m) refl))
+      ap (λ o. closed_stage until timeout o (sent_clock (marks ++ new ∷ [])))
+      (first_closing-append class timeout marks (new ∷ []))
+      ∙ (ap (closed_stage until timeout (option_or (first_closing class timeout marks)
+      (option_or (closing_of class timeout (sent_clock marks) m) None)))
+      (sent_clock-append marks (new ∷ []) ∙ ap (option_or (sent_clock marks)) (sent_one m (is_sent m) refl))
       ∙ one_steps m (first_closing class timeout marks) (sent_clock marks))

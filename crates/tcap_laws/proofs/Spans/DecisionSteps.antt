@@ -25,16 +25,20 @@ or_assoc None b c = refl
 or_assoc (Some x) b c = refl
 
 pub closing_after-append : (class : Class) (timeout : ℕ) (before xs ys : List Noted)
-    → closing_after class timeout before (xs ++ ys) ≡ option_or (closing_after class timeout before xs) (closing_after class timeout (before ++ xs) ys)
+    → closing_after class timeout before (xs ++ ys)
+    ≡ option_or (closing_after class timeout before xs) (closing_after class timeout (before ++ xs) ys)
 closing_after-append class timeout before [] ys = ap (λ z. closing_after class timeout z ys) (sym (append-nil before))
 closing_after-append class timeout before (x ∷ xs) ys =
     let first : Option Closing = closes class timeout before x in
     ap (option_or first) (closing_after-append class timeout (before ++ x ∷ []) xs ys)
-    ∙ (or_assoc first (closing_after class timeout (before ++ x ∷ []) xs) (closing_after class timeout ((before ++ x ∷ []) ++ xs) ys)
-    ∙ ap (λ z. option_or (option_or first (closing_after class timeout (before ++ x ∷ []) xs)) (closing_after class timeout z ys)) (append_assoc before (x ∷ []) xs))
+    ∙ (or_assoc first (closing_after class timeout (before ++ x ∷ []) xs)
+    (closing_after class timeout ((before ++ x ∷ []) ++ xs) ys)
+    ∙ ap (λ z. option_or (option_or first (closing_after class timeout (before ++ x ∷ []) xs))
+    (closing_after class timeout z ys)) (append_assoc before (x ∷ []) xs))
 
 pub first_closing-append : (class : Class) (timeout : ℕ) (xs ys : List Noted)
-    → first_closing class timeout (xs ++ ys) ≡ option_or (first_closing class timeout xs) (closing_after class timeout xs ys)
+    → first_closing class timeout (xs ++ ys) ≡ option_or (first_closing class timeout xs)
+    (closing_after class timeout xs ys)
 first_closing-append class timeout xs ys = closing_after-append class timeout [] xs ys
 
 -- ---- the invocation of a number
@@ -43,7 +47,8 @@ find_passes : {X : Type 0} (test : X → Bool) (xs : List X) (y : X) → find te
 find_passes test [] y e = absurd cc
 find_passes {X = X} test (x ∷ xs) y e = go (test x) refl e (find_passes test xs y)
   where
-    go : (b : Bool) → test x ≡ b → cond b (Some x) (find test xs) ≡ Some y → (find test xs ≡ Some y → test y ≡ true) → test y ≡ true
+    go : (b : Bool) → test x ≡ b → cond b (Some x) (find test xs) ≡ Some y → (find test xs ≡ Some y → test y ≡ true)
+        → test y ≡ true
     go true q e more = let same : x ≡ y = cc in subst (λ (z : X). test z ≡ true) same q
     go false q e more = more e
 
@@ -52,18 +57,23 @@ number_found n past i e =
     let passes : (i.number == n) ≡ true = find_passes (λ (i : Invocation). i.number == n) (invocations past) i e in
     grind (arith, nat_tests)
 
-pub made_found : (n : ℕ) (past : Past) (i : Invocation) → invocation_of n past ≡ Some i → is_some (invocation_of i.number past) ≡ true
+pub made_found : (n : ℕ) (past : Past) (i : Invocation) → invocation_of n past ≡ Some i
+    → is_some (invocation_of i.number past) ≡ true
 made_found n past i e = ap (λ m. is_some (invocation_of m past)) (number_found n past i e) ∙ ap is_some e
 
-pub invocation_stays : (n : ℕ) (pair : Pair) (past : Past) (i : Invocation) → invocation_of n past ≡ Some i → invocation_of n (pair ∷ past) ≡ Some i
+pub invocation_stays : (n : ℕ) (pair : Pair) (past : Past) (i : Invocation) → invocation_of n past ≡ Some i
+    → invocation_of n (pair ∷ past) ≡ Some i
 invocation_stays n pair past i e =
     let test : Invocation → Bool = λ (i : Invocation). i.number == n in
-    find-append test (invocations past) (option_to_list (invoked_by pair)) ∙ ap (λ o. option_or o (find test (option_to_list (invoked_by pair)))) e
+    find-append test (invocations past) (option_to_list (invoked_by pair))
+    ∙ ap (λ o. option_or o (find test (option_to_list (invoked_by pair)))) e
 
 -- ---- what is decided stays
 
-closing_stays : (i : Invocation) (pair : Pair) (past : Past) (c : Closing) → is_some (invocation_of i.number past) ≡ true
-    → first_closing i.class i.timeout (span i past) ≡ Some c → first_closing i.class i.timeout (span i (pair ∷ past)) ≡ Some c
+closing_stays : (i : Invocation) (pair : Pair) (past : Past) (c : Closing)
+    → is_some (invocation_of i.number past) ≡ true
+    → first_closing i.class i.timeout (span i past) ≡ Some c
+    → first_closing i.class i.timeout (span i (pair ∷ past)) ≡ Some c
 closing_stays i pair past c made e = go (is_reused i (pair ∷ past)) refl
   where
     go : (b : Bool) → is_reused i (pair ∷ past) ≡ b → first_closing i.class i.timeout (span i (pair ∷ past)) ≡ Some c
@@ -72,19 +82,24 @@ closing_stays i pair past c made e = go (is_reused i (pair ∷ past)) refl
         ∙ (first_closing-append i.class i.timeout (span i past) (marks i.dialogue i.id pair past)
         ∙ ap (λ o. option_or o (closing_after i.class i.timeout (span i past) (marks i.dialogue i.id pair past))) e)
 
-pub outcome_stays : (n : ℕ) (pair : Pair) (past : Past) (c : Closing) → outcome n past ≡ Some c → outcome n (pair ∷ past) ≡ Some c
+pub outcome_stays : (n : ℕ) (pair : Pair) (past : Past) (c : Closing) → outcome n past ≡ Some c
+    → outcome n (pair ∷ past) ≡ Some c
 outcome_stays n pair past c e = go (invocation_of n past) refl e
   where
-    go : (o : Option Invocation) → invocation_of n past ≡ o → outcome_of o past ≡ Some c → outcome n (pair ∷ past) ≡ Some c
+    go : (o : Option Invocation) → invocation_of n past ≡ o → outcome_of o past ≡ Some c
+        → outcome n (pair ∷ past) ≡ Some c
     go None q e = absurd cc
-    go (Some i) q e = ap (λ o. outcome_of o (pair ∷ past)) (invocation_stays n pair past i q) ∙ closing_stays i pair past c (made_found n past i q) e
+    go (Some i) q e = ap (λ o. outcome_of o (pair ∷ past)) (invocation_stays n pair past i q)
+        ∙ closing_stays i pair past c (made_found n past i q) e
 
-pub decision_stays : (n : ℕ) (pair : Pair) (past : Past) (t : Told) → decision n past ≡ Some t → decision n (pair ∷ past) ≡ Some t
+pub decision_stays : (n : ℕ) (pair : Pair) (past : Past) (t : Told) → decision n past ≡ Some t
+    → decision n (pair ∷ past) ≡ Some t
 decision_stays n pair past t e = ap (λ o. option_or o (decided_at n (pair ∷ past))) e
 
 -- ---- a decision is an outcome
 
-decided_closing : (place : Past) (o : Option Invocation) → option_map (λ (t : Told). t.closing) (decided_of place o) ≡ outcome_of o place
+decided_closing : (place : Past) (o : Option Invocation)
+    → option_map (λ (t : Told). t.closing) (decided_of place o) ≡ outcome_of o place
 decided_closing place None = refl
 decided_closing place (Some i) = go (outcome_of (Some i) place)
   where
@@ -92,7 +107,8 @@ decided_closing place (Some i) = go (outcome_of (Some i) place)
     go None = refl
     go (Some c) = refl
 
-pub closing_of_decision : (n : ℕ) (past : Past) → option_map (λ (t : Told). t.closing) (decision n past) ≡ outcome n past
+pub closing_of_decision : (n : ℕ) (past : Past)
+    → option_map (λ (t : Told). t.closing) (decision n past) ≡ outcome n past
 closing_of_decision n [] = refl
 closing_of_decision n (pair ∷ past) = go (decision n past) (closing_of_decision n past)
   where
@@ -108,7 +124,8 @@ undecided n past e = go (decision n past) (closing_of_decision n past)
     go None q = refl
     go (Some t) q = let never : Some t.closing ≡ None = q ∙ e in absurd cc
 
-pub decided_now : (n : ℕ) (pair : Pair) (past : Past) → outcome n past ≡ None → decision n (pair ∷ past) ≡ decided_at n (pair ∷ past)
+pub decided_now : (n : ℕ) (pair : Pair) (past : Past) → outcome n past ≡ None
+    → decision n (pair ∷ past) ≡ decided_at n (pair ∷ past)
 decided_now n pair past e = ap (λ o. option_or o (decided_at n (pair ∷ past))) (undecided n past e)
 
 -- ---- where and of what
@@ -127,10 +144,12 @@ pub record DecidedAt (n : ℕ) (past : Past) (t : Told) : Type 0 where
   pub dialogue : t.dialogue ≡ invocation.dialogue
   pub id : t.id ≡ invocation.id
 
-decided_here : (n : ℕ) (pair : Pair) (past : Past) (t : Told) → outcome n past ≡ None → decided_at n (pair ∷ past) ≡ Some t → DecidedAt n (pair ∷ past) t
+decided_here : (n : ℕ) (pair : Pair) (past : Past) (t : Told) → outcome n past ≡ None
+    → decided_at n (pair ∷ past) ≡ Some t → DecidedAt n (pair ∷ past) t
 decided_here n pair past t none e = go (invocation_of n (pair ∷ past)) refl e
   where
-    go2 : (i : Invocation) (c : Option Closing) → invocation_of n (pair ∷ past) ≡ Some i → outcome_of (Some i) (pair ∷ past) ≡ c → told_outcome (pair ∷ past) i c ≡ Some t → DecidedAt n (pair ∷ past) t
+    go2 : (i : Invocation) (c : Option Closing) → invocation_of n (pair ∷ past) ≡ Some i
+        → outcome_of (Some i) (pair ∷ past) ≡ c → told_outcome (pair ∷ past) i c ≡ Some t → DecidedAt n (pair ∷ past) t
     go2 i None q w e = absurd cc
     go2 i (Some c) q w e =
         let same : record { place = pair ∷ past; dialogue = i.dialogue; id = i.id; closing = c } ≡ t = cc in
@@ -148,7 +167,8 @@ decided_here n pair past t none e = go (invocation_of n (pair ∷ past)) refl e
           id = refl;
         })
 
-    go : (o : Option Invocation) → invocation_of n (pair ∷ past) ≡ o → decided_of (pair ∷ past) o ≡ Some t → DecidedAt n (pair ∷ past) t
+    go : (o : Option Invocation) → invocation_of n (pair ∷ past) ≡ o → decided_of (pair ∷ past) o ≡ Some t
+        → DecidedAt n (pair ∷ past) t
     go None q e = absurd cc
     go (Some i) q e = go2 i (outcome_of (Some i) (pair ∷ past)) q refl e
 
@@ -156,9 +176,11 @@ pub decision_place : (n : ℕ) (past : Past) (t : Told) → decision n past ≡ 
 decision_place n [] t e = absurd cc
 decision_place n (pair ∷ past) t e = go (decision n past) refl e (decision_place n past t)
   where
-    go : (d : Option Told) → decision n past ≡ d → option_or d (decided_at n (pair ∷ past)) ≡ Some t → (decision n past ≡ Some t → DecidedAt n past t) → DecidedAt n (pair ∷ past) t
+    go : (d : Option Told) → decision n past ≡ d → option_or d (decided_at n (pair ∷ past)) ≡ Some t
+        → (decision n past ≡ Some t → DecidedAt n past t) → DecidedAt n (pair ∷ past) t
     go None q e more =
-        let none : outcome n past ≡ None = sym (closing_of_decision n past) ∙ ap (option_map (λ (t : Told). t.closing)) q in
+        let none : outcome n past ≡ None =
+        sym (closing_of_decision n past) ∙ ap (option_map (λ (t : Told). t.closing)) q in
         decided_here n pair past t none e
     go (Some s) q e more =
         let d = more (q ∙ e) in

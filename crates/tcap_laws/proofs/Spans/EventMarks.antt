@@ -27,13 +27,18 @@ module _ (dialogue : ℕ) (id : ℤ) (event : Event) (answer : Answer) (past : P
       go Life.over = rw e refl
 
   -- an event that names a dialogue that stands
-  pub standing_marks : (s : State) (c : Option (List ℕ)) → life dialogue past ≡ Life.standing s c → names event dialogue ≡ true
-      → marks dialogue id now_pair past ≡ noted_at_clock (clock past) (marks_by_event id (Life.standing s c) (life_by_event s c event (is_accepted answer)) event (is_accepted answer))
-  standing_marks s c q e = ap (λ l. noted_at_clock (clock past) (marks_after_birth dialogue id l now_pair)) q ∙ rw e (rw e refl)
+  pub standing_marks : (s : State) (c : Option (List ℕ)) → life dialogue past ≡ Life.standing s c
+      → names event dialogue ≡ true
+      → marks dialogue id now_pair past ≡ noted_at_clock (clock past)
+      (marks_by_event id (Life.standing s c) (life_by_event s c event (is_accepted answer)) event
+      (is_accepted answer))
+  standing_marks s c q e =
+      ap (λ l. noted_at_clock (clock past) (marks_after_birth dialogue id l now_pair)) q ∙ rw e (rw e refl)
 
   -- an event that names a dialogue that is over
   pub over_marks : life dialogue past ≡ Life.over → names event dialogue ≡ true
-      → marks dialogue id now_pair past ≡ noted_at_clock (clock past) (marks_by_event id Life.over Life.over event (is_accepted answer))
+      → marks dialogue id now_pair past ≡ noted_at_clock (clock past)
+      (marks_by_event id Life.over Life.over event (is_accepted answer))
   over_marks q e = ap (λ l. noted_at_clock (clock past) (marks_after_birth dialogue id l now_pair)) q ∙ rw e refl
 
   -- before its birth

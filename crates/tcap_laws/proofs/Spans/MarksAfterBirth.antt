@@ -39,23 +39,28 @@ alive_by_request s c (Request.dialogue (DialogueRequest.go_on asked info)) = ref
 alive_by_request s c (Request.dialogue (DialogueRequest.finish ending asked info)) = refl
 alive_by_request s c (Request.dialogue (DialogueRequest.u_abort why info)) = refl
 
-alive_if_accepted : (b : Bool) (s : State) (c : Option (List ℕ)) (r : Request) → was_alive (life_if_accepted b s c r) ≡ true
+alive_if_accepted : (b : Bool) (s : State) (c : Option (List ℕ)) (r : Request)
+    → was_alive (life_if_accepted b s c r) ≡ true
 alive_if_accepted false s c r = refl
 alive_if_accepted true s c r = alive_by_request s c r
 
-alive_by_verdict : (s : State) (c : Option (List ℕ)) (origin : List ℕ) (v : PortionVerdict) → was_alive (life_by_verdict s c origin v) ≡ true
+alive_by_verdict : (s : State) (c : Option (List ℕ)) (origin : List ℕ) (v : PortionVerdict)
+    → was_alive (life_by_verdict s c origin v) ≡ true
 alive_by_verdict s c origin (PortionVerdict.normal told info) = refl
 alive_by_verdict s c origin PortionVerdict.abnormal = refl
 
-alive_by_message : (s : State) (c : Option (List ℕ)) (read : Result Message FrameFault) → was_alive (life_by_message s c read) ≡ true
-alive_by_message s c (Ok (Message.go_on origin to portion components)) = alive_by_verdict s c origin (portion_verdict s c portion)
+alive_by_message : (s : State) (c : Option (List ℕ)) (read : Result Message FrameFault)
+    → was_alive (life_by_message s c read) ≡ true
+alive_by_message s c (Ok (Message.go_on origin to portion components)) =
+    alive_by_verdict s c origin (portion_verdict s c portion)
 alive_by_message s c (Ok (Message.end to portion components)) = refl
 alive_by_message s c (Ok (Message.abort to reason)) = refl
 alive_by_message s c (Ok (Message.unidirectional portion components)) = refl
 alive_by_message s c (Ok (Message.begin origin portion components)) = refl
 alive_by_message s c (Err fault) = refl
 
-alive_if_live : (b : Bool) (s : State) (c : Option (List ℕ)) (bytes : List ℕ) → was_alive (life_if_live b s c bytes) ≡ true
+alive_if_live : (b : Bool) (s : State) (c : Option (List ℕ)) (bytes : List ℕ)
+    → was_alive (life_if_live b s c bytes) ≡ true
 alive_if_live false s c bytes = refl
 alive_if_live true s c bytes = alive_by_message s c (frame_at bytes)
 
@@ -65,11 +70,13 @@ alive_by_event s c (Event.on_dialogue dialogue request) b = alive_if_accepted b 
 alive_by_event s c (Event.received bytes) b = alive_if_live (is_live s) s c bytes
 alive_by_event s c (Event.moment now) b = refl
 
-alive_if_named : (b : Bool) (s : State) (c : Option (List ℕ)) (pair : Pair) → was_alive (life_if_named b s c pair) ≡ true
+alive_if_named : (b : Bool) (s : State) (c : Option (List ℕ)) (pair : Pair)
+    → was_alive (life_if_named b s c pair) ≡ true
 alive_if_named false s c pair = refl
 alive_if_named true s c pair = alive_by_event s c pair.event (is_accepted pair.answer)
 
-pub stays_alive : (dialogue : ℕ) (l : Life) (pair : Pair) → was_alive l ≡ true → was_alive (life_after dialogue l pair) ≡ true
+pub stays_alive : (dialogue : ℕ) (l : Life) (pair : Pair) → was_alive l ≡ true
+    → was_alive (life_after dialogue l pair) ≡ true
 stays_alive dialogue Life.unborn pair e = absurd cc
 stays_alive dialogue (Life.standing s c) pair e = alive_if_named (names pair.event dialogue) s c pair
 stays_alive dialogue Life.over pair e = refl
@@ -79,7 +86,8 @@ noted_at_clock c ms = map (λ (mark : Mark). record { clock = c; mark = mark }) 
 
 -- ---- before its birth a dialogue has no marks
 
-pub no_marks : (dialogue : ℕ) (id : ℤ) (pair : Pair) (past : Past) → was_alive (life dialogue past) ≡ false → marks dialogue id pair past ≡ []
+pub no_marks : (dialogue : ℕ) (id : ℤ) (pair : Pair) (past : Past) → was_alive (life dialogue past) ≡ false
+    → marks dialogue id pair past ≡ []
 no_marks dialogue id pair past e = go (life dialogue past) e
   where
     none : List Noted
@@ -90,21 +98,27 @@ no_marks dialogue id pair past e = go (life dialogue past) e
     go (Life.standing s c) e = absurd cc
     go Life.over e = absurd cc
 
-was_unborn : (dialogue : ℕ) (pair : Pair) (past : Past) → was_alive (life dialogue (pair ∷ past)) ≡ false → was_alive (life dialogue past) ≡ false
+was_unborn : (dialogue : ℕ) (pair : Pair) (past : Past) → was_alive (life dialogue (pair ∷ past)) ≡ false
+    → was_alive (life dialogue past) ≡ false
 was_unborn dialogue pair past e = go (was_alive (life dialogue past)) refl
   where
     go : (b : Bool) → was_alive (life dialogue past) ≡ b → was_alive (life dialogue past) ≡ false
     go false q = q
-    go true q = let never : was_alive (life dialogue (pair ∷ past)) ≡ true = stays_alive dialogue (life dialogue past) pair q in absurd cc
+    go true q = let never : was_alive (life dialogue (pair ∷ past)) ≡ true =
+        stays_alive dialogue (life dialogue past) pair q in absurd cc
 
 pub span_unborn : (i : Invocation) (past : Past) → was_alive (life i.dialogue past) ≡ false → span i past ≡ []
 span_unborn i [] e = refl
-span_unborn i (pair ∷ past) e = go (is_some (invocation_of i.number past)) (is_reused i (pair ∷ past)) refl refl (span_unborn i past before)
+span_unborn i (pair ∷ past) e =
+    go (is_some (invocation_of i.number past)) (is_reused i (pair ∷ past)) refl refl (span_unborn i past before)
   where
     before : was_alive (life i.dialogue past) ≡ false
     before = was_unborn i.dialogue pair past e
 
-    go : (m u : Bool) → is_some (invocation_of i.number past) ≡ m → is_reused i (pair ∷ past) ≡ u → span i past ≡ [] → span i (pair ∷ past) ≡ []
+    go : (m u : Bool) → is_some (invocation_of i.number past) ≡ m → is_reused i (pair ∷ past) ≡ u → span i past ≡ []
+        → span i (pair ∷ past) ≡ []
     go false u p q more = span_new i pair past p
     go true true p q more = span_stays i pair past p q ∙ more
-    go true false p q more = span_grows i pair past p q ∙ (ap (λ z. z ++ marks i.dialogue i.id pair past) more ∙ no_marks i.dialogue i.id pair past before)
+    go true false p q more =
+        span_grows i pair past p q ∙ (ap (λ z. z ++ marks i.dialogue i.id pair past) more
+        ∙ no_marks i.dialogue i.id pair past before)

@@ -49,7 +49,8 @@ pub record IsUnsent (class : Class) (timeout : ℕ) (span : List Noted) : Type 0
   pub unsent : sent_clock span ≡ None
   pub unclosed : first_closing class timeout span ≡ None
 
-no_clock : (clock : ℕ) (mark : Mark) → LeavesQueued mark → sent_clock (record { clock = clock; mark = mark } ∷ []) ≡ None
+no_clock : (clock : ℕ) (mark : Mark) → LeavesQueued mark
+    → sent_clock (record { clock = clock; mark = mark } ∷ []) ≡ None
 no_clock clock Mark.sent leaves = absurd leaves
 no_clock clock Mark.end leaves = absurd leaves
 no_clock clock Mark.given_up leaves = absurd leaves
@@ -72,19 +73,28 @@ no_closing class timeout (Mark.reject problem) leaves = refl
 both-none : {X : Type 0} (x y : Option X) → x ≡ None → y ≡ None → option_or x y ≡ None
 both-none x y p q = rw (p, q) refl
 
-one-more : (class : Class) (timeout clock : ℕ) (mark : Mark) (span : List Noted) → LeavesQueued mark → IsUnsent class timeout span → IsUnsent class timeout (span ++ record { clock = clock; mark = mark } ∷ [])
+one-more : (class : Class) (timeout clock : ℕ) (mark : Mark) (span : List Noted) → LeavesQueued mark
+    → IsUnsent class timeout span → IsUnsent class timeout (span ++ record { clock = clock; mark = mark } ∷ [])
 one-more class timeout clock mark span leaves was = record {
-  unsent = sent_clock-append span (record { clock = clock; mark = mark } ∷ []) ∙ both-none (sent_clock span) (sent_clock (record { clock = clock; mark = mark } ∷ [])) was.unsent (no_clock clock mark leaves);
+  unsent = sent_clock-append span (record { clock = clock; mark = mark } ∷ [])
+      ∙ both-none (sent_clock span) (sent_clock (record { clock = clock; mark = mark } ∷ [])) was.unsent
+      (no_clock clock mark leaves);
   unclosed = first_closing-append class timeout span (record { clock = clock; mark = mark } ∷ [])
-      ∙ both-none (first_closing class timeout span) (option_or (closing_of class timeout (sent_clock span) mark) None) was.unclosed
-      (both-none (closing_of class timeout (sent_clock span) mark) None (ap (λ (s : Option ℕ). closing_of class timeout s mark) was.unsent ∙ no_closing class timeout mark leaves) refl);
+      ∙ both-none (first_closing class timeout span) (option_or (closing_of class timeout (sent_clock span) mark) None)
+      was.unclosed
+      (both-none (closing_of class timeout (sent_clock span) mark) None
+      (ap (λ (s : Option ℕ). closing_of class timeout s mark) was.unsent ∙ no_closing class timeout mark leaves)
+      refl);
 }
 
-pub still-unsent : (class : Class) (timeout clock : ℕ) (made : List Mark) (span : List Noted) → AllLeave made → IsUnsent class timeout span → IsUnsent class timeout (span ++ noted_at_clock clock made)
+pub still-unsent : (class : Class) (timeout clock : ℕ) (made : List Mark) (span : List Noted) → AllLeave made
+    → IsUnsent class timeout span → IsUnsent class timeout (span ++ noted_at_clock clock made)
 still-unsent class timeout clock [] span leave was = subst (IsUnsent class timeout) (sym (append-nil span)) was
 still-unsent class timeout clock (mark ∷ made) span leave was =
-    subst (IsUnsent class timeout) (append_assoc span (record { clock = clock; mark = mark } ∷ []) (noted_at_clock clock made))
-    (still-unsent class timeout clock made (span ++ record { clock = clock; mark = mark } ∷ []) leave.1 (one-more class timeout clock mark span leave.0 was))
+    subst (IsUnsent class timeout) (append_assoc span (record { clock = clock; mark = mark } ∷ [])
+    (noted_at_clock clock made))
+    (still-unsent class timeout clock made (span ++ record { clock = clock; mark = mark } ∷ []) leave.1
+    (one-more class timeout clock mark span leave.0 was))
 
 -- ---- which marks are so
 
@@ -103,14 +113,17 @@ reject-leaves id named problem kind.Error = tt
 component-leaves : (id : ℤ) (c : ComponentParts) → AllLeave (marks_of_component id c)
 component-leaves id (ComponentParts.invoke named linked code parameter) = tt
 component-leaves id (ComponentParts.result_last named body) = marked-leaves id named (Mark.last body) tt
-component-leaves id (ComponentParts.error_back named code parameter) = marked-leaves id named (Mark.error code parameter) tt
+component-leaves id (ComponentParts.error_back named code parameter) =
+    marked-leaves id named (Mark.error code parameter) tt
 component-leaves id (ComponentParts.reject_back None problem) = tt
 component-leaves id (ComponentParts.reject_back (Some named) problem) = reject-leaves id named problem problem.kind
 component-leaves id (ComponentParts.result_more named body) = marked-leaves id named (Mark.more body) tt
 
 components-leave : (id : ℤ) (items : List (Result ComponentParts FaultParts)) → AllLeave (component_marks id items)
 components-leave id [] = tt
-components-leave id (Ok c ∷ items) = each-append LeavesQueued (marks_of_component id c) (component_marks id items) (component-leaves id c) (components-leave id items)
+components-leave id (Ok c ∷ items) =
+    each-append LeavesQueued (marks_of_component id c) (component_marks id items) (component-leaves id c)
+    (components-leave id items)
 components-leave id (Err f ∷ items) = tt
 
 -- the life that is left
@@ -119,31 +132,44 @@ IsStanding Life.unborn = ⊥
 IsStanding (Life.standing state context) = Unit {0}
 IsStanding Life.over = ⊥
 
-pub no-ending : (state : State) (context : Option (List ℕ)) (after : Life) → IsStanding after → AllLeave (end_if_over (Life.standing state context) after)
+pub no-ending : (state : State) (context : Option (List ℕ)) (after : Life) → IsStanding after
+    → AllLeave (end_if_over (Life.standing state context) after)
 no-ending state context Life.unborn stands = absurd stands
 no-ending state context (Life.standing s c) stands = tt
 no-ending state context Life.over stands = absurd stands
 
-continue-leaves : (id : ℤ) (state : State) (context : Option (List ℕ)) (origin content : List ℕ) (other : List Mark) (verdict : PortionVerdict) → IsStanding (life_by_verdict state context origin verdict) → AllLeave (unwrap_or (if_normal verdict (component_marks id (components_of content))) other)
-continue-leaves id state context origin content other (PortionVerdict.normal told info) stands = components-leave id (components_of content)
+continue-leaves : (id : ℤ) (state : State) (context : Option (List ℕ)) (origin content : List ℕ) (other : List Mark)
+    (verdict : PortionVerdict) → IsStanding (life_by_verdict state context origin verdict)
+    → AllLeave (unwrap_or (if_normal verdict (component_marks id (components_of content))) other)
+continue-leaves id state context origin content other (PortionVerdict.normal told info) stands =
+    components-leave id (components_of content)
 continue-leaves id state context origin content other PortionVerdict.abnormal stands = absurd stands
 
-message-leaves : (id : ℤ) (state : State) (context : Option (List ℕ)) (other : List Mark) (read : Result Message FrameFault) → AllLeave other → IsStanding (life_by_message state context read) → AllLeave (unwrap_or (marks_of_message id state context read) other)
-message-leaves id state context other (Ok (Message.go_on origin to portion components)) leave stands = continue-leaves id state context origin components other (portion_verdict state context portion) stands
+message-leaves : (id : ℤ) (state : State) (context : Option (List ℕ)) (other : List Mark)
+    (read : Result Message FrameFault) → AllLeave other → IsStanding (life_by_message state context read)
+    → AllLeave (unwrap_or (marks_of_message id state context read) other)
+message-leaves id state context other (Ok (Message.go_on origin to portion components)) leave stands =
+    continue-leaves id state context origin components other (portion_verdict state context portion) stands
 message-leaves id state context other (Ok (Message.end to portion components)) leave stands = absurd stands
 message-leaves id state context other (Ok (Message.abort to reason)) leave stands = absurd stands
 message-leaves id state context other (Ok (Message.unidirectional portion components)) leave stands = leave
 message-leaves id state context other (Ok (Message.begin origin portion components)) leave stands = leave
 message-leaves id state context other (Err fault) leave stands = absurd stands
 
-live-leaves : (alive : Bool) (id : ℤ) (state : State) (context : Option (List ℕ)) (other : List Mark) (bytes : List ℕ) → AllLeave other → IsStanding (life_if_live alive state context bytes) → AllLeave (unwrap_or (marks_if_live alive id state context bytes) other)
-live-leaves true id state context other bytes leave stands = message-leaves id state context other (frame_at bytes) leave stands
+live-leaves : (alive : Bool) (id : ℤ) (state : State) (context : Option (List ℕ)) (other : List Mark) (bytes : List ℕ)
+    → AllLeave other → IsStanding (life_if_live alive state context bytes)
+    → AllLeave (unwrap_or (marks_if_live alive id state context bytes) other)
+live-leaves true id state context other bytes leave stands =
+    message-leaves id state context other (frame_at bytes) leave stands
 live-leaves false id state context other bytes leave stands = leave
 
-pub bytes-leave : (id : ℤ) (state : State) (context : Option (List ℕ)) (bytes : List ℕ) → IsStanding (life_if_live (is_live state) state context bytes) →
-    AllLeave (unwrap_or (marks_if_live (is_live state) id state context bytes) (end_if_over (Life.standing state context) (life_if_live (is_live state) state context bytes)))
+pub bytes-leave : (id : ℤ) (state : State) (context : Option (List ℕ)) (bytes : List ℕ)
+    → IsStanding (life_if_live (is_live state) state context bytes) →
+    AllLeave (unwrap_or (marks_if_live (is_live state) id state context bytes)
+    (end_if_over (Life.standing state context) (life_if_live (is_live state) state context bytes)))
 bytes-leave id state context bytes stands =
-    live-leaves (is_live state) id state context (end_if_over (Life.standing state context) (life_if_live (is_live state) state context bytes)) bytes
+    live-leaves (is_live state) id state context
+    (end_if_over (Life.standing state context) (life_if_live (is_live state) state context bytes)) bytes
     (no-ending state context (life_if_live (is_live state) state context bytes) stands) stands
 
 -- ---- requests that leave an invocation queued
@@ -162,8 +188,11 @@ SparesAt id (Request.dialogue (DialogueRequest.go_on context info)) = ⊥
 SparesAt id (Request.dialogue (DialogueRequest.finish ending context info)) = Unit {0}
 SparesAt id (Request.dialogue (DialogueRequest.u_abort why info)) = Unit {0}
 
-request-leaves : (id : ℤ) (s : State) (c : Option (List ℕ)) (r : Request) → IsStanding (life_by_request s c r) → SparesAt id r → AllLeave (unwrap_or (marks_of_request id r) (end_if_over (Life.standing s c) (life_by_request s c r)))
-request-leaves id s c (Request.component (ComponentRequest.invoke named class code parameter linked timeout)) stands spares = tt
+request-leaves : (id : ℤ) (s : State) (c : Option (List ℕ)) (r : Request) → IsStanding (life_by_request s c r)
+    → SparesAt id r → AllLeave (unwrap_or (marks_of_request id r)
+    (end_if_over (Life.standing s c) (life_by_request s c r)))
+request-leaves id s c (Request.component (ComponentRequest.invoke named class code parameter linked timeout)) stands
+    spares = tt
 request-leaves id s c (Request.component (ComponentRequest.result_last named body)) stands spares = tt
 request-leaves id s c (Request.component (ComponentRequest.result_more named body)) stands spares = tt
 request-leaves id s c (Request.component (ComponentRequest.error_back named code parameter)) stands spares = tt
@@ -183,10 +212,12 @@ Spares id (Event.on_dialogue dialogue request) false = Unit {0}
 Spares id (Event.received bytes) accepted = Unit {0}
 Spares id (Event.moment now) accepted = Unit {0}
 
-pub event-leaves : (id : ℤ) (s : State) (c : Option (List ℕ)) (event : Event) (accepted : Bool) → IsStanding (life_by_event s c event accepted) → Spares id event accepted →
+pub event-leaves : (id : ℤ) (s : State) (c : Option (List ℕ)) (event : Event) (accepted : Bool)
+    → IsStanding (life_by_event s c event accepted) → Spares id event accepted →
     AllLeave (marks_by_event id (Life.standing s c) (life_by_event s c event accepted) event accepted)
 event-leaves id s c Event.new_dialogue accepted stands spares = tt
-event-leaves id s c (Event.on_dialogue dialogue request) true stands spares = request-leaves id s c request stands spares
+event-leaves id s c (Event.on_dialogue dialogue request) true stands spares =
+    request-leaves id s c request stands spares
 event-leaves id s c (Event.on_dialogue dialogue request) false stands spares = tt
 event-leaves id s c (Event.received bytes) accepted stands spares = bytes-leave id s c bytes stands
 event-leaves id s c (Event.moment now) true stands spares = (tt, tt)

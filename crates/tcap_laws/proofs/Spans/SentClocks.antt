@@ -24,7 +24,8 @@ use Rattle.tcap_laws.proofs.Spans.MarksAfterBirth.{was_alive, noted_at_clock, no
 
 -- ---- the clock at the Sent mark
 
-map_or : (o p : Option Noted) → option_map (λ (noted : Noted). noted.clock) (option_or o p) ≡ option_or (option_map (λ (noted : Noted). noted.clock) o) (option_map (λ (noted : Noted). noted.clock) p)
+map_or : (o p : Option Noted) → option_map (λ (noted : Noted). noted.clock) (option_or o p)
+    ≡ option_or (option_map (λ (noted : Noted). noted.clock) o) (option_map (λ (noted : Noted). noted.clock) p)
 map_or None p = refl
 map_or (Some x) p = refl
 
@@ -40,7 +41,9 @@ sent_at c s (m ∷ ms) e = go (is_sent m) e (sent_at c s ms)
     rest : List Noted
     rest = noted_at_clock c ms
 
-    go : (b : Bool) → option_map (λ (noted : Noted). noted.clock) (cond b (Some (record { clock = c; mark = m })) (find (λ (noted : Noted). is_sent noted.mark) rest)) ≡ Some s → (sent_clock rest ≡ Some s → s ≡ c) → s ≡ c
+    go : (b : Bool) → option_map (λ (noted : Noted). noted.clock)
+        (cond b (Some (record { clock = c; mark = m })) (find (λ (noted : Noted). is_sent noted.mark) rest)) ≡ Some s
+        → (sent_clock rest ≡ Some s → s ≡ c) → s ≡ c
     go true e more = let same : c ≡ s = cc in sym same
     go false e more = more e
 
@@ -49,11 +52,14 @@ sent_at c s (m ∷ ms) e = go (is_sent m) e (sent_at c s ms)
 abbrev pub at_moment : ℕ → Answer → Pair
 at_moment now answer = record { event = Event.moment now; answer = answer }
 
-pub moment_marks : (dialogue : ℕ) (id : ℤ) (now : ℕ) (answer : Answer) (past : Past) → is_accepted answer ≡ true → was_alive (life dialogue past) ≡ true
+pub moment_marks : (dialogue : ℕ) (id : ℤ) (now : ℕ) (answer : Answer) (past : Past) → is_accepted answer ≡ true
+    → was_alive (life dialogue past) ≡ true
     → marks dialogue id (at_moment now answer) past ≡ record { clock = clock past; mark = Mark.moment now } ∷ []
 moment_marks dialogue id now answer past accepted e = go (life dialogue past) e
   where
-    go : (l : Life) → was_alive l ≡ true → noted_at_clock (clock past) (marks_after_birth dialogue id l (at_moment now answer)) ≡ record { clock = clock past; mark = Mark.moment now } ∷ []
+    go : (l : Life) → was_alive l ≡ true → noted_at_clock (clock past)
+        (marks_after_birth dialogue id l (at_moment now answer))
+        ≡ record { clock = clock past; mark = Mark.moment now } ∷ []
     go Life.unborn e = absurd cc
     go (Life.standing s c) e = rw accepted refl
     go Life.over e = rw accepted refl
@@ -62,13 +68,15 @@ pub both_none : (x y : Option Closing) → option_or x y ≡ None → (x ≡ Non
 both_none None y e = (refl, e)
 both_none (Some c) y e = absurd cc
 
-lapses_not : (class : Class) (timeout s m : ℕ) → option_or (closing_of class timeout (Some s) (Mark.moment m)) None ≡ None → m < s + max 1 timeout
+lapses_not : (class : Class) (timeout s m : ℕ)
+    → option_or (closing_of class timeout (Some s) (Mark.moment m)) None ≡ None → m < s + max 1 timeout
 lapses_not class timeout s m e = go (nat_le (s + timeout) m) refl e
   where
     none : Option Closing
     none = None
 
-    go : (b : Bool) → nat_le (s + timeout) m ≡ b → option_or (cond b (Some Closing.lapsed) none) none ≡ none → m < s + max 1 timeout
+    go : (b : Bool) → nat_le (s + timeout) m ≡ b → option_or (cond b (Some Closing.lapsed) none) none ≡ none
+        → m < s + max 1 timeout
     go true q e = absurd cc
     go false q e = let low : m < s + timeout = grind (arith, nat_tests) in omega arith
 
@@ -81,18 +89,22 @@ abbrev spanned_closing : Invocation → Past → Option Closing
 spanned_closing i past = first_closing i.class i.timeout (span i past)
 
 -- what a pair adds, where the clock stays
-within_still : (c s timeout : ℕ) (before : Option ℕ) (ms : List Mark) → option_or before (sent_clock (noted_at_clock c ms)) ≡ Some s
+within_still : (c s timeout : ℕ) (before : Option ℕ) (ms : List Mark)
+    → option_or before (sent_clock (noted_at_clock c ms)) ≡ Some s
     → ((q : ℕ) → before ≡ Some q → c < q + max 1 timeout) → c < s + max 1 timeout
 within_still c s timeout None ms e ih = let same : s ≡ c = sent_at c s ms e in omega arith
 within_still c s timeout (Some q) ms e ih = let same : q ≡ s = cc in let bound = ih q refl in omega arith
 
 -- what an accepted moment adds
-within_moment : (class : Class) (c s timeout now : ℕ) (S : List Noted) → sent_clock (S ++ record { clock = c; mark = Mark.moment now } ∷ []) ≡ Some s
+within_moment : (class : Class) (c s timeout now : ℕ) (S : List Noted)
+    → sent_clock (S ++ record { clock = c; mark = Mark.moment now } ∷ []) ≡ Some s
     → closing_after class timeout S (record { clock = c; mark = Mark.moment now } ∷ []) ≡ None
     → ((q : ℕ) → sent_clock S ≡ Some q → c < q + max 1 timeout) → max c now < s + max 1 timeout
-within_moment class c s timeout now S sent none ih = go (sent_clock S) refl (sym (sent_clock-append S (record { clock = c; mark = Mark.moment now } ∷ [])) ∙ sent) none
+within_moment class c s timeout now S sent none ih =
+    go (sent_clock S) refl (sym (sent_clock-append S (record { clock = c; mark = Mark.moment now } ∷ [])) ∙ sent) none
   where
-    go : (o : Option ℕ) → sent_clock S ≡ o → option_or o None ≡ Some s → option_or (closing_of class timeout o (Mark.moment now)) None ≡ None → max c now < s + max 1 timeout
+    go : (o : Option ℕ) → sent_clock S ≡ o → option_or o None ≡ Some s
+        → option_or (closing_of class timeout o (Mark.moment now)) None ≡ None → max c now < s + max 1 timeout
     go None q e x = absurd cc
     go (Some k) q e x =
         let same : k ≡ s = cc in
@@ -102,7 +114,8 @@ within_moment class c s timeout now S sent none ih = go (sent_clock S) refl (sym
 
 module _ (i : Invocation) (past : Past) (made : is_some (invocation_of i.number past) ≡ true)
     (ih : spanned_closing i past ≡ None → (q : ℕ) → spanned_clock i past ≡ Some q → clock past < q + max 1 i.timeout)
-    (pair : Pair) (s : ℕ) (fresh : is_reused i (pair ∷ past) ≡ false) (none : spanned_closing i (pair ∷ past) ≡ None) (sent : spanned_clock i (pair ∷ past) ≡ Some s) where
+    (pair : Pair) (s : ℕ) (fresh : is_reused i (pair ∷ past) ≡ false) (none : spanned_closing i (pair ∷ past) ≡ None)
+    (sent : spanned_clock i (pair ∷ past) ≡ Some s) where
   abbrev added : List Noted
   added = marks i.dialogue i.id pair past
 
@@ -110,10 +123,13 @@ module _ (i : Invocation) (past : Past) (made : is_some (invocation_of i.number 
   grown = span_grows i pair past made fresh
 
   nones : (spanned_closing i past ≡ None) × (closing_after i.class i.timeout (span i past) added ≡ None)
-  nones = both_none (spanned_closing i past) (closing_after i.class i.timeout (span i past) added) (sym (first_closing-append i.class i.timeout (span i past) added) ∙ (ap (first_closing i.class i.timeout) (sym grown) ∙ none))
+  nones = both_none (spanned_closing i past) (closing_after i.class i.timeout (span i past) added)
+      (sym (first_closing-append i.class i.timeout (span i past) added)
+      ∙ (ap (first_closing i.class i.timeout) (sym grown) ∙ none))
 
   still_within : clock past < s + max 1 i.timeout
-  still_within = within_still (clock past) s i.timeout (spanned_clock i past) (marks_after_birth i.dialogue i.id (life i.dialogue past) pair)
+  still_within = within_still (clock past) s i.timeout (spanned_clock i past)
+      (marks_after_birth i.dialogue i.id (life i.dialogue past) pair)
       (sym (sent_clock-append (span i past) added) ∙ (ap sent_clock (sym grown) ∙ sent)) (ih nones.0)
 
   -- who has a Sent mark has a dialogue that was born
@@ -127,7 +143,8 @@ module _ (i : Invocation) (past : Past) (made : is_some (invocation_of i.number 
           let never : sent_clock [] ≡ Some s = ap sent_clock (sym empty) ∙ sent in
           absurd cc
 
-  moment_within : (now : ℕ) (answer : Answer) → at_moment now answer ≡ pair → is_accepted answer ≡ true → max (clock past) now < s + max 1 i.timeout
+  moment_within : (now : ℕ) (answer : Answer) → at_moment now answer ≡ pair → is_accepted answer ≡ true
+      → max (clock past) now < s + max 1 i.timeout
   moment_within now answer same accepted = go (was_alive (life i.dialogue past)) refl
     where
       go : (b : Bool) → was_alive (life i.dialogue past) ≡ b → max (clock past) now < s + max 1 i.timeout
@@ -135,11 +152,15 @@ module _ (i : Invocation) (past : Past) (made : is_some (invocation_of i.number 
           let never = sym q ∙ alive_then (no_marks i.dialogue i.id pair past q) in
           absurd cc
       go true q =
-          let one : added ≡ record { clock = clock past; mark = Mark.moment now } ∷ [] = ap (λ p. marks i.dialogue i.id p past) (sym same) ∙ moment_marks i.dialogue i.id now answer past accepted q in
-          within_moment i.class (clock past) s i.timeout now (span i past) (ap (λ z. sent_clock (span i past ++ z)) (sym one) ∙ (ap sent_clock (sym grown) ∙ sent))
+          let one : added ≡ record { clock = clock past; mark = Mark.moment now } ∷ [] =
+          ap (λ p. marks i.dialogue i.id p past) (sym same)
+          ∙ moment_marks i.dialogue i.id now answer past accepted q in
+          within_moment i.class (clock past) s i.timeout now (span i past)
+          (ap (λ z. sent_clock (span i past ++ z)) (sym one) ∙ (ap sent_clock (sym grown) ∙ sent))
           (ap (closing_after i.class i.timeout (span i past)) (sym one) ∙ nones.1) (ih nones.0)
 
-  pair_within : (event : Event) (answer : Answer) → record { event = event; answer = answer } ≡ pair → clock (record { event = event; answer = answer } ∷ past) < s + max 1 i.timeout
+  pair_within : (event : Event) (answer : Answer) → record { event = event; answer = answer } ≡ pair
+      → clock (record { event = event; answer = answer } ∷ past) < s + max 1 i.timeout
   pair_within Event.new_dialogue answer e = still_within
   pair_within (Event.on_dialogue d r) answer e = still_within
   pair_within (Event.received bytes) answer e = still_within
@@ -149,43 +170,56 @@ module _ (i : Invocation) (past : Past) (made : is_some (invocation_of i.number 
       go true q = rw q (moment_within now answer e q)
       go false q = rw q still_within
 
-pub clock_before : (i : Invocation) (past : Past) (s : ℕ) → is_some (invocation_of i.number past) ≡ true → is_reused i past ≡ false
-    → first_closing i.class i.timeout (span i past) ≡ None → sent_clock (span i past) ≡ Some s → clock past < s + max 1 i.timeout
+pub clock_before : (i : Invocation) (past : Past) (s : ℕ) → is_some (invocation_of i.number past) ≡ true
+    → is_reused i past ≡ false
+    → first_closing i.class i.timeout (span i past) ≡ None → sent_clock (span i past) ≡ Some s
+    → clock past < s + max 1 i.timeout
 clock_before i [] s made fresh none sent = absurd cc
-clock_before i (pair ∷ past) s made fresh none sent = go (is_some (invocation_of i.number past)) refl (clock_before i past)
+clock_before i (pair ∷ past) s made fresh none sent =
+    go (is_some (invocation_of i.number past)) refl (clock_before i past)
   where
     go : (b : Bool) → is_some (invocation_of i.number past) ≡ b
-        → ((q : ℕ) → is_some (invocation_of i.number past) ≡ true → is_reused i past ≡ false → spanned_closing i past ≡ None → spanned_clock i past ≡ Some q → clock past < q + max 1 i.timeout)
+        → ((q : ℕ) → is_some (invocation_of i.number past) ≡ true → is_reused i past ≡ false
+        → spanned_closing i past ≡ None → spanned_clock i past ≡ Some q → clock past < q + max 1 i.timeout)
         → clock (pair ∷ past) < s + max 1 i.timeout
     go false q ih =
         let never : sent_clock [] ≡ Some s = ap sent_clock (sym (span_new i pair past q)) ∙ sent in
         absurd cc
     go true q ih =
-        let before = (none_before (is_reused i past) (is_invoked (has_id i.dialogue i.id) (invoked_by pair)) (sym (reused_step i pair past q) ∙ fresh)).0 in
+        let before = (none_before (is_reused i past) (is_invoked (has_id i.dialogue i.id) (invoked_by pair))
+        (sym (reused_step i pair past q) ∙ fresh)).0 in
         pair_within i past q (λ x k y. ih k q before x y) pair s fresh none sent pair.event pair.answer refl
 
-pub clock_within : (i : Invocation) (past : Past) (s : ℕ) → is_some (invocation_of i.number past) ≡ true → is_reused i past ≡ false
-    → first_closing i.class i.timeout (span i past) ≡ None → sent_clock (span i past) ≡ Some s → clock past ≤ s + i.timeout
+pub clock_within : (i : Invocation) (past : Past) (s : ℕ) → is_some (invocation_of i.number past) ≡ true
+    → is_reused i past ≡ false
+    → first_closing i.class i.timeout (span i past) ≡ None → sent_clock (span i past) ≡ Some s
+    → clock past ≤ s + i.timeout
 clock_within i past s made fresh none sent = let bound = clock_before i past s made fresh none sent in omega arith
 
-pub deadline_within : (n : ℕ) (past : Past) (i : Invocation) (until : ℕ) → invocation_of n past ≡ Some i → is_reused i past ≡ false → outcome n past ≡ None
+pub deadline_within : (n : ℕ) (past : Past) (i : Invocation) (until : ℕ) → invocation_of n past ≡ Some i
+    → is_reused i past ≡ false → outcome n past ≡ None
     → deadline i past ≡ Some until → clock past ≤ until
 deadline_within n past i until found fresh none at = go (sent_clock (span i past)) refl at
   where
     open_still : first_closing i.class i.timeout (span i past) ≡ None
     open_still = ap (λ o. outcome_of o past) (sym found) ∙ none
 
-    go : (o : Option ℕ) → sent_clock (span i past) ≡ o → option_map (λ sent. sent + i.timeout) o ≡ Some until → clock past ≤ until
+    go : (o : Option ℕ) → sent_clock (span i past) ≡ o → option_map (λ sent. sent + i.timeout) o ≡ Some until
+        → clock past ≤ until
     go None q e = absurd cc
-    go (Some s) q e = let same : s + i.timeout ≡ until = cc in let bound = clock_within i past s (made_found n past i found) fresh open_still q in omega arith
+    go (Some s) q e = let same : s + i.timeout ≡ until = cc in let bound =
+        clock_within i past s (made_found n past i found) fresh open_still q in omega arith
 
-pub deadline_before : (n : ℕ) (past : Past) (i : Invocation) (until : ℕ) → invocation_of n past ≡ Some i → is_reused i past ≡ false → 0 < i.timeout → outcome n past ≡ None
+pub deadline_before : (n : ℕ) (past : Past) (i : Invocation) (until : ℕ) → invocation_of n past ≡ Some i
+    → is_reused i past ≡ false → 0 < i.timeout → outcome n past ≡ None
     → deadline i past ≡ Some until → clock past < until
 deadline_before n past i until found fresh timely none at = go (sent_clock (span i past)) refl at
   where
     open_still : first_closing i.class i.timeout (span i past) ≡ None
     open_still = ap (λ o. outcome_of o past) (sym found) ∙ none
 
-    go : (o : Option ℕ) → sent_clock (span i past) ≡ o → option_map (λ sent. sent + i.timeout) o ≡ Some until → clock past < until
+    go : (o : Option ℕ) → sent_clock (span i past) ≡ o → option_map (λ sent. sent + i.timeout) o ≡ Some until
+        → clock past < until
     go None q e = absurd cc
-    go (Some s) q e = let same : s + i.timeout ≡ until = cc in let bound = clock_before i past s (made_found n past i found) fresh open_still q in omega arith
+    go (Some s) q e = let same : s + i.timeout ≡ until = cc in let bound =
+        clock_before i past s (made_found n past i found) fresh open_still q in omega arith

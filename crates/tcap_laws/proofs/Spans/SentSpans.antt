@@ -33,36 +33,49 @@ found-mapped None e = e
 found-mapped (Some noted) e = refl
 
 -- up to the first Sent mark nothing changes
-up_to-first : (span more : List Noted) → is_some (find is_sent_mark span) ≡ true → up_to is_sent_mark (span ++ more) ≡ up_to is_sent_mark span
+up_to-first : (span more : List Noted) → is_some (find is_sent_mark span) ≡ true
+    → up_to is_sent_mark (span ++ more) ≡ up_to is_sent_mark span
 up_to-first [] more e = absurd cc
 up_to-first (noted ∷ span) more e = elim (cases_Bool (is_sent_mark noted)) [
   | inl here ↦ rw here refl
   | inr later ↦ let e = e in rw later (ap (λ (w : List Noted). noted ∷ w) (up_to-first span more (rw later at e)))
 ]
 
-pub was_sent-more : (class : Class) (timeout : ℕ) (span more : List Noted) → was_sent_in class timeout span ≡ true → was_sent_in class timeout (span ++ more) ≡ true
+pub was_sent-more : (class : Class) (timeout : ℕ) (span more : List Noted) → was_sent_in class timeout span ≡ true
+    → was_sent_in class timeout (span ++ more) ≡ true
 was_sent-more class timeout span more e =
-    let both = and_parts (is_some (sent_clock span)) (is_none (first_closing class timeout (up_to is_sent_mark span))) e in
-    let sent : is_some (sent_clock (span ++ more)) ≡ true = ap is_some (sent_clock-append span more) ∙ some-or (sent_clock span) (sent_clock more) both.0 in
-    let same : up_to is_sent_mark (span ++ more) ≡ up_to is_sent_mark span = up_to-first span more (found-mapped (find is_sent_mark span) both.0) in
+    let both = and_parts (is_some (sent_clock span)) (is_none (first_closing class timeout (up_to is_sent_mark span))) e
+    in
+    let sent : is_some (sent_clock (span ++ more)) ≡ true =
+    ap is_some (sent_clock-append span more) ∙ some-or (sent_clock span) (sent_clock more) both.0 in
+    let same : up_to is_sent_mark (span ++ more) ≡ up_to is_sent_mark span =
+    up_to-first span more (found-mapped (find is_sent_mark span) both.0) in
     rw (sent, ap (λ (w : List Noted). is_none (first_closing class timeout w)) same ∙ both.1) refl
 
 -- ---- a Sent mark that nothing closed before
 
 -- what stands up to the first Sent mark stands before any Sent mark
-up_to-prefix : (earlier : List Noted) (noted : Noted) (later : List Noted) → is_sent_mark noted ≡ true → (rest : List Noted) × (earlier ≡ up_to is_sent_mark (earlier ++ noted ∷ later) ++ rest)
+up_to-prefix : (earlier : List Noted) (noted : Noted) (later : List Noted) → is_sent_mark noted ≡ true
+    → (rest : List Noted) × (earlier ≡ up_to is_sent_mark (earlier ++ noted ∷ later) ++ rest)
 up_to-prefix [] noted later e = ([], rw e refl)
 up_to-prefix (first ∷ earlier) noted later e = elim (cases_Bool (is_sent_mark first)) [
   | inl here ↦ (first ∷ earlier, rw here refl)
-  | inr not ↦ let others = up_to-prefix earlier noted later e in (others.0, rw not (ap (λ (w : List Noted). first ∷ w) others.1))
+  | inr not ↦ let others =
+      up_to-prefix earlier noted later e in (others.0, rw not (ap (λ (w : List Noted). first ∷ w) others.1))
 ]
 
-pub was_sent-at : (class : Class) (timeout clock : ℕ) (earlier later : List Noted) → first_closing class timeout earlier ≡ None → was_sent_in class timeout (earlier ++ record { clock = clock; mark = Mark.sent } ∷ later) ≡ true
+pub was_sent-at : (class : Class) (timeout clock : ℕ) (earlier later : List Noted)
+    → first_closing class timeout earlier ≡ None
+    → was_sent_in class timeout (earlier ++ record { clock = clock; mark = Mark.sent } ∷ later) ≡ true
 was_sent-at class timeout clock earlier later none =
     let noted : Noted = record { clock = clock; mark = Mark.sent } in
     let span : List Noted = earlier ++ noted ∷ later in
-    let sent : is_some (sent_clock span) ≡ true = ap is_some (sent_clock-append earlier (noted ∷ later)) ∙ or-some (sent_clock earlier) (sent_clock (noted ∷ later)) refl in
+    let sent : is_some (sent_clock span) ≡ true =
+    ap is_some (sent_clock-append earlier (noted ∷ later))
+    ∙ or-some (sent_clock earlier) (sent_clock (noted ∷ later)) refl in
     let front = up_to-prefix earlier noted later refl in
     let unclosed : first_closing class timeout (up_to is_sent_mark span) ≡ None =
-    (both_none (first_closing class timeout (up_to is_sent_mark span)) _ (sym (first_closing-append class timeout (up_to is_sent_mark span) front.0) ∙ (sym (ap (first_closing class timeout) front.1) ∙ none))).0 in
+    (both_none (first_closing class timeout (up_to is_sent_mark span)) _
+    (sym (first_closing-append class timeout (up_to is_sent_mark span) front.0)
+    ∙ (sym (ap (first_closing class timeout) front.1) ∙ none))).0 in
     rw (sent, ap is_none unclosed) refl

@@ -43,7 +43,8 @@ module _ (d named : ℕ) where
     where
       chosen : (test : Bool) →
           begins_or_continues d (if test then Output.dialogue (DialogueIndication.p_abort named AbortCause.no_common)
-          else Output.dialogue (DialogueIndication.u_abort named (Some (aare version1 context false diagnostic info)))) ≡ false
+          else Output.dialogue (DialogueIndication.u_abort named (Some (aare version1 context false diagnostic info))))
+          ≡ false
       chosen true = refl
       chosen false = refl
 

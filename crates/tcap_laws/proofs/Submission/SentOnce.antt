@@ -38,7 +38,8 @@ gone d [] = []
 gone d (pair ∷ past) = if is_sending d pair then submitted d [] past else gone d past
 
 no-component : (request : Request) → sends_components request ≡ true → component_of request ≡ None
-no-component (Request.component (ComponentRequest.invoke id class code parameter linked timeout)) e = absurd (true≢false (sym e))
+no-component (Request.component (ComponentRequest.invoke id class code parameter linked timeout)) e =
+    absurd (true≢false (sym e))
 no-component (Request.component (ComponentRequest.result_last id body)) e = absurd (true≢false (sym e))
 no-component (Request.component (ComponentRequest.result_more id body)) e = absurd (true≢false (sym e))
 no-component (Request.component (ComponentRequest.error_back id code parameter)) e = absurd (true≢false (sym e))

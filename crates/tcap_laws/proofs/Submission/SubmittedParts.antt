@@ -43,7 +43,8 @@ written-append (s ∷ ss) ts (q ∷ qs) rs are others = (are.0, written-append s
 abbrev pub left_submitted : List ℕ → List Queued → List Queued
 left_submitted given waits = filter (λ (q : Queued). not (is_given_up given (number_waiting q.invoking))) waits
 
-pub left-append : (given : List ℕ) (qs rs : List Queued) → left_submitted given (qs ++ rs) ≡ left_submitted given qs ++ left_submitted given rs
+pub left-append : (given : List ℕ) (qs rs : List Queued)
+    → left_submitted given (qs ++ rs) ≡ left_submitted given qs ++ left_submitted given rs
 left-append given qs rs = filter-append (λ (q : Queued). not (is_given_up given (number_waiting q.invoking))) qs rs
 
 kept-alike : (s : Submitted) (q : Queued) (ss : List Submitted) (qs : List Queued) (a b : Bool) → b ≡ a →
@@ -72,7 +73,8 @@ none-given (Some n) = refl
 pub left-all : (qs : List Queued) → left_submitted [] qs ≡ qs
 left-all [] = refl
 left-all (q ∷ qs) =
-    ap (λ (b : Bool). cond (not b) (q ∷ left_submitted [] qs) (left_submitted [] qs)) (none-given (number_waiting q.invoking))
+    ap (λ (b : Bool). cond (not b) (q ∷ left_submitted [] qs) (left_submitted [] qs))
+    (none-given (number_waiting q.invoking))
     ∙ ap (λ (l : List Queued). q ∷ l) (left-all qs)
 
 module _ (n : ℕ) (given : List ℕ) where

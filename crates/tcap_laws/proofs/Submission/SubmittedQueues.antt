@@ -177,7 +177,8 @@ module _ (h : History) (d : ℕ) (legal : AreReplies h.start h.pairs) (waits : W
       (stays d here h.pairs waits)
   pair-waits (Event.on_dialogue named request) answer range is_reply = by (named == d) refl
     where
-      by : (b : Bool) → (named == d) ≡ b → WaitsUnsent d (with_answer (Event.on_dialogue named request) answer ∷ h.pairs)
+      by : (b : Bool) → (named == d) ≡ b → WaitsUnsent d
+          (with_answer (Event.on_dialogue named request) answer ∷ h.pairs)
       by true e =
           request-waits h d named e waits request answer
           (and_parts (is_short named) (is_request request) range).1 is_reply (is_accepted answer) refl

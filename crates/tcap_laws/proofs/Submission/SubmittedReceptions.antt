@@ -164,7 +164,8 @@ module _ (h : History) (d : ℕ) (bytes : List ℕ) (q : List Queued) where
   -- ---- a live dialogue takes them
 
   abbrev broken_told : ℕ → ℕ → List Output
-  broken_told named cause = Output.dialogue (DialogueIndication.p_abort named (AbortCause.cause cause)) ∷ ended_in named h.pairs []
+  broken_told named cause =
+      Output.dialogue (DialogueIndication.p_abort named (AbortCause.cause cause)) ∷ ended_in named h.pairs []
 
   broken-none : (named cause : ℕ) (abort : Option Output) → IfSends abort →
       first_begun (option_to_list abort ++ broken_told named cause) ≡ None
@@ -279,7 +280,8 @@ module _ (h : History) (d : ℕ) (bytes : List ℕ) (q : List Queued) where
   agrees empty (Reception.aborted abort) is named sound = aborted-agrees abort sound is
   agrees empty (Reception.unidirectional context info components) is named sound =
       let told = uni_told (components_of components) in
-      quiet (Output.dialogue (DialogueIndication.uni context info) ∷ told) (no-begin_first told (uni-told (components_of components))) refl
+      quiet (Output.dialogue (DialogueIndication.uni context info) ∷ told)
+      (no-begin_first told (uni-told (components_of components))) refl
       (unreached (Reception.unidirectional context info components) is refl)
   agrees empty (Reception.begun origin context info components) is named sound =
       begun-agrees origin context info components sound.0 empty sound.1 is

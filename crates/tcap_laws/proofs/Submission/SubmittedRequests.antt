@@ -133,7 +133,8 @@ module _ (h : History) (d named : ℕ) (same : (named == d) ≡ true) (waits : W
       After (Request.component (ComponentRequest.u_cancel id)) (given_up_answer given)
   cancelled id None accepted = absurd (true≢false (sym accepted))
   cancelled id (Some n) accepted =
-      asked (Request.component (ComponentRequest.u_cancel id)) (Answer.given_up n) false (n ∷ []) [] (without_invoke n waiting) refl refl refl refl
+      asked (Request.component (ComponentRequest.u_cancel id)) (Answer.given_up n) false (n ∷ []) []
+      (without_invoke n waiting) refl refl refl refl
       (fewer d (with_answer (Request.component (ComponentRequest.u_cancel id)) (Answer.given_up n)) h.pairs waits n)
 
   abbrev accepted_to : State → Option (List ℕ) → Request → Answer
@@ -148,7 +149,8 @@ module _ (h : History) (d named : ℕ) (same : (named == d) ≡ true) (waits : W
 
   accepted-waits : (request : Request) (s : State) (c : Option (List ℕ)) → IfGood (component_of request) →
       is_accepted (accepted_to s c request) ≡ true → After request (accepted_to s c request)
-  accepted-waits (Request.component (ComponentRequest.invoke id class code parameter linked timeout)) s c good accepted =
+  accepted-waits (Request.component (ComponentRequest.invoke id class code parameter linked timeout)) s c good
+      accepted =
       let n = next_number h in
       let part : ComponentParts = invoke id linked code parameter in
       component (Request.component (ComponentRequest.invoke id class code parameter linked timeout)) (Answer.number n)
@@ -159,16 +161,21 @@ module _ (h : History) (d named : ℕ) (same : (named == d) ≡ true) (waits : W
   accepted-waits (Request.component (ComponentRequest.result_more id body)) s c good accepted =
       plain (Request.component (ComponentRequest.result_more id body)) (result_more id body) refl good refl refl
   accepted-waits (Request.component (ComponentRequest.error_back id code parameter)) s c good accepted =
-      plain (Request.component (ComponentRequest.error_back id code parameter)) (error_back id code parameter) refl good refl refl
+      plain (Request.component (ComponentRequest.error_back id code parameter)) (error_back id code parameter) refl good
+      refl refl
   accepted-waits (Request.component (ComponentRequest.u_reject id problem)) s c good accepted =
       plain (Request.component (ComponentRequest.u_reject id problem)) (reject_back id problem) refl good refl refl
-  accepted-waits (Request.component (ComponentRequest.u_cancel id)) s c good accepted = cancelled id (pending named id h.pairs) accepted
+  accepted-waits (Request.component (ComponentRequest.u_cancel id)) s c good accepted =
+      cancelled id (pending named id h.pairs) accepted
   accepted-waits (Request.dialogue (DialogueRequest.uni context info)) s c good accepted =
-      sent (Request.dialogue (DialogueRequest.uni context info)) (accepted_to s c (Request.dialogue (DialogueRequest.uni context info))) refl refl refl refl
+      sent (Request.dialogue (DialogueRequest.uni context info))
+      (accepted_to s c (Request.dialogue (DialogueRequest.uni context info))) refl refl refl refl
   accepted-waits (Request.dialogue (DialogueRequest.begin context info)) s c good accepted =
-      sent (Request.dialogue (DialogueRequest.begin context info)) (accepted_to s c (Request.dialogue (DialogueRequest.begin context info))) refl refl refl refl
+      sent (Request.dialogue (DialogueRequest.begin context info))
+      (accepted_to s c (Request.dialogue (DialogueRequest.begin context info))) refl refl refl refl
   accepted-waits (Request.dialogue (DialogueRequest.go_on context info)) s c good accepted =
-      sent (Request.dialogue (DialogueRequest.go_on context info)) (accepted_to s c (Request.dialogue (DialogueRequest.go_on context info))) refl refl refl refl
+      sent (Request.dialogue (DialogueRequest.go_on context info))
+      (accepted_to s c (Request.dialogue (DialogueRequest.go_on context info))) refl refl refl refl
   accepted-waits (Request.dialogue (DialogueRequest.finish Ending.basic context info)) s c good accepted =
       let r : Request = Request.dialogue (DialogueRequest.finish Ending.basic context info) in
       sent r (accepted_to s c r) refl refl refl refl

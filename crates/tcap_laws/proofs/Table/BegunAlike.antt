@@ -41,21 +41,31 @@ use Rattle.tcap_pdu.specs.FrameWritten.{message_limit}
 
 -- ---- the application context of an accepted Begin
 
-by_verdict : (v : BeginVerdict) (origin components : List ℕ) (context : Option (List ℕ)) (info : List ℕ) → begin_by v origin components ≡ Reception.begun origin context info components → begin_context v ≡ context
+by_verdict : (v : BeginVerdict) (origin components : List ℕ) (context : Option (List ℕ)) (info : List ℕ)
+    → begin_by v origin components ≡ Reception.begun origin context info components → begin_context v ≡ context
 by_verdict BeginVerdict.plain origin components context info e = cc
 by_verdict (BeginVerdict.with_context given told) origin components context info e = cc
 by_verdict (BeginVerdict.wrong_version given) origin components context info e = absurd cc
 by_verdict BeginVerdict.abnormal origin components context info e = absurd cc
 
-context_is : (live : ℕ → Bool) (full : Bool) (bytes origin : List ℕ) (portion context : Option (List ℕ)) (info components : List ℕ) → frame_at bytes ≡ Ok (Message.begin origin portion components)
-    → reception live full bytes ≡ Reception.begun origin context info components → begin_context (begin_verdict portion) ≡ context
-context_is live full bytes origin portion context info components frame e = long (nat_lt message_limit (length bytes)) (ap (λ r. cond (nat_lt message_limit (length bytes)) (Reception.dropped DropCause.too_long) (reading_by live full bytes r)) (sym frame) ∙ e)
+context_is : (live : ℕ → Bool) (full : Bool) (bytes origin : List ℕ) (portion context : Option (List ℕ))
+    (info components : List ℕ) → frame_at bytes ≡ Ok (Message.begin origin portion components)
+    → reception live full bytes ≡ Reception.begun origin context info components
+    → begin_context (begin_verdict portion) ≡ context
+context_is live full bytes origin portion context info components frame e =
+    long (nat_lt message_limit (length bytes)) (ap
+    (λ r. cond (nat_lt message_limit (length bytes)) (Reception.dropped DropCause.too_long)
+    (reading_by live full bytes r)) (sym frame) ∙ e)
   where
-    whole : (b : Bool) → cond b (Reception.aborted (abort_with resource_limitation origin)) (begin_by (begin_verdict portion) origin components) ≡ Reception.begun origin context info components → begin_context (begin_verdict portion) ≡ context
+    whole : (b : Bool) → cond b (Reception.aborted (abort_with resource_limitation origin))
+        (begin_by (begin_verdict portion) origin components) ≡ Reception.begun origin context info components
+        → begin_context (begin_verdict portion) ≡ context
     whole true e = absurd cc
     whole false e = by_verdict (begin_verdict portion) origin components context info e
 
-    long : (b : Bool) → cond b (Reception.dropped DropCause.too_long) (message_by live full (Message.begin origin portion components)) ≡ Reception.begun origin context info components → begin_context (begin_verdict portion) ≡ context
+    long : (b : Bool) → cond b (Reception.dropped DropCause.too_long)
+        (message_by live full (Message.begin origin portion components))
+        ≡ Reception.begun origin context info components → begin_context (begin_verdict portion) ≡ context
     long true e = absurd cc
     long false e = whole full e
 
@@ -69,11 +79,17 @@ module _ (h : History) (legal : IsLegal h) where
   standing_list = record { reject_ms = h.start.reject_ms; rows = rows_of h.start.reject_ms (next_dialogue h) h.pairs }
 
   no_rows : fresh.invocations ≡ standing_list
-  no_rows = ap (λ z. record { reject_ms = h.start.reject_ms; rows = z }) (sym (none_listed h.start h.pairs legal.1 (next_dialogue h) (next_unborn h legal)
-      (λ i. is_number i.number (latest i.dialogue i.id h.pairs)) (λ i. row_by i (stage_by h.start.reject_ms h.pairs i (decision i.number h.pairs)))))
+  no_rows = ap (λ z. record { reject_ms = h.start.reject_ms; rows = z })
+      (sym (none_listed h.start h.pairs legal.1 (next_dialogue h) (next_unborn h legal)
+      (λ i. is_number i.number (latest i.dialogue i.id h.pairs))
+      (λ i. row_by i (stage_by h.start.reject_ms h.pairs i (decision i.number h.pairs)))))
 
   like : IsLike (next_dialogue h) h.pairs (rows_of h.start.reject_ms (next_dialogue h) h.pairs) []
-  like = record { distinct = rows_distinct h.start h.pairs legal.1 h.start.reject_ms (next_dialogue h); sent = λ id. sent-rows h.start h.pairs legal.1 h.start.reject_ms (next_dialogue h) id }
+  like = record {
+    distinct = rows_distinct h.start h.pairs legal.1 h.start.reject_ms (next_dialogue h);
+    sent =
+        λ id. sent-rows h.start h.pairs legal.1 h.start.reject_ms (next_dialogue h) id;
+  }
 
   module _ (components : List ℕ) where
     abbrev walk : Walked
@@ -83,25 +99,39 @@ module _ (h : History) (legal : IsLegal h) where
     walk_is = ap (λ l. walked (next_dialogue h) (clock h.pairs) l (components_of components)) no_rows
 
     told_is : walk.told ≡ told_of (handled_in (next_dialogue h) h.pairs components)
-    told_is = ap (λ (w : Walked). w.told) walk_is ∙ sym (walk_tells (next_dialogue h) h.pairs (components_of components) (fault_last (length components) components) standing_list [] tt like)
+    told_is = ap (λ (w : Walked). w.told) walk_is
+        ∙ sym (walk_tells (next_dialogue h) h.pairs (components_of components)
+        (fault_last (length components) components) standing_list [] tt like)
 
     rejects_is : rejects_of (handled_in (next_dialogue h) h.pairs components) ≡ walk.rejects
-    rejects_is = walk_rejects (next_dialogue h) h.pairs (components_of components) (fault_last (length components) components) standing_list [] tt like ∙ ap (λ (w : Walked). w.rejects) (sym walk_is)
+    rejects_is = walk_rejects (next_dialogue h) h.pairs (components_of components)
+        (fault_last (length components) components) standing_list [] tt like
+        ∙ ap (λ (w : Walked). w.rejects) (sym walk_is)
 
     left_is : record { reject_ms = h.start.reject_ms; rows = [] } ≡ walk.invocations
     left_is =
-        ap (λ z. record { reject_ms = h.start.reject_ms; rows = z }) (sym (none_listed h.start h.pairs legal.1 (next_dialogue h) (next_unborn h legal)
-        (λ i. is_number i.number (latest i.dialogue i.id h.pairs)) (λ i. row_by i (stage_up h.start h.pairs legal.1 h.start.reject_ms (next_dialogue h) (components_of components) i))))
-        ∙ (sym (walk_at h.start h.pairs legal.1 h.start.reject_ms (next_dialogue h) (components_of components) (fault_last (length components) components)) ∙ ap (λ (w : Walked). w.invocations) (sym walk_is))
+        ap (λ z. record { reject_ms = h.start.reject_ms; rows = z })
+        (sym (none_listed h.start h.pairs legal.1 (next_dialogue h) (next_unborn h legal)
+        (λ i. is_number i.number (latest i.dialogue i.id h.pairs))
+        (λ i. row_by i (stage_up h.start h.pairs legal.1 h.start.reject_ms (next_dialogue h)
+        (components_of components) i))))
+        ∙ (sym (walk_at h.start h.pairs legal.1 h.start.reject_ms (next_dialogue h) (components_of components)
+        (fault_last (length components) components)) ∙ ap (λ (w : Walked). w.invocations) (sym walk_is))
 
   -- ---- the answer and the dialogue
 
-  module _ (bytes origin : List ℕ) (context : Option (List ℕ)) (info components : List ℕ) (accepted : reception (λ dialogue. live_in (life dialogue h.pairs)) (is_some (birth_due h)) bytes ≡ Reception.begun origin context info components) where
-    reply_is : reply h (Event.received bytes) ≡ Answer.outputs (Output.dialogue (DialogueIndication.begin (next_dialogue h) context info) ∷ told_of (handled_in (next_dialogue h) h.pairs components))
+  module _ (bytes origin : List ℕ) (context : Option (List ℕ)) (info components : List ℕ)
+      (accepted : reception (λ dialogue. live_in (life dialogue h.pairs)) (is_some (birth_due h)) bytes
+      ≡ Reception.begun origin context info components) where
+    reply_is : reply h (Event.received bytes) ≡ Answer.outputs
+        (Output.dialogue (DialogueIndication.begin (next_dialogue h) context info)
+        ∷ told_of (handled_in (next_dialogue h) h.pairs components))
     reply_is = ap (λ r. Answer.outputs (reception_outputs h r)) accepted
 
-    pub begun-answered : (born (setting_at h) (next_dialogue h) h.start.reject_ms origin context info components).answer ≡ reply h (Event.received bytes)
-    begun-answered = ap (λ z. Answer.outputs (Output.dialogue (DialogueIndication.begin (next_dialogue h) context info) ∷ z)) (told_is components) ∙ sym reply_is
+    pub begun-answered : (born (setting_at h) (next_dialogue h) h.start.reject_ms origin context info components).answer
+        ≡ reply h (Event.received bytes)
+    begun-answered = ap (λ z. Answer.outputs (Output.dialogue (DialogueIndication.begin (next_dialogue h) context info)
+        ∷ z)) (told_is components) ∙ sym reply_is
 
     abbrev here : Pair
     here = due_pair h (Event.received bytes)
@@ -113,21 +143,45 @@ module _ (h : History) (legal : IsLegal h) where
         own = grind (arith, nat_tests)
 
     abbrev made : Option (List ℕ) → List Queued → InvocationList → Option Dialogue
-    made c q list = Some (record { standing = record { identifier = next_dialogue h; state = State.received origin; context = c; queue = q }; invocations = list })
+    made c q list = Some (record {
+      standing =
+          record { identifier = next_dialogue h; state = State.received origin; context = c; queue = q };
+      invocations =
+          list;
+    })
 
     pub begun-born : (portion : Option (List ℕ)) → frame_at bytes ≡ Ok (Message.begin origin portion components)
-        → dialogue_at h.start.reject_ms (here ∷ h.pairs) (next_dialogue h) ≡ left_standing (born (setting_at h) (next_dialogue h) h.start.reject_ms origin context info components)
+        → dialogue_at h.start.reject_ms (here ∷ h.pairs) (next_dialogue h)
+        ≡ left_standing (born (setting_at h) (next_dialogue h) h.start.reject_ms origin context info components)
     begun-born portion frame =
-        ap (λ l. dialogue_by h.start.reject_ms (next_dialogue h) (here ∷ h.pairs) (life_after (next_dialogue h) l here)) (next_unborn h legal)
-        ∙ (ap (λ b. dialogue_by h.start.reject_ms (next_dialogue h) (here ∷ h.pairs) (life_at_birth b (Event.received bytes))) birth
+        ap (λ l. dialogue_by h.start.reject_ms (next_dialogue h) (here ∷ h.pairs) (life_after (next_dialogue h) l here))
+        (next_unborn h legal)
+        ∙ (ap (λ b. dialogue_by h.start.reject_ms (next_dialogue h) (here ∷ h.pairs)
+        (life_at_birth b (Event.received bytes))) birth
         ∙ (ap (λ r. dialogue_by h.start.reject_ms (next_dialogue h) (here ∷ h.pairs) (begun_life r)) frame
-        ∙ (ap (λ c. made c (queue (next_dialogue h) (here ∷ h.pairs)) (record { reject_ms = h.start.reject_ms; rows = rows_of h.start.reject_ms (next_dialogue h) (here ∷ h.pairs) }))
-        (context_is (λ dialogue. live_in (life dialogue h.pairs)) (is_some (birth_due h)) bytes origin portion context info components frame accepted)
-        ∙ (ap (λ q. made context q (record { reject_ms = h.start.reject_ms; rows = rows_of h.start.reject_ms (next_dialogue h) (here ∷ h.pairs) })) queue_is
-        ∙ (ap (λ z. made context (queue_each queue_limit [] (walk components).rejects) (record { reject_ms = h.start.reject_ms; rows = z })) (rows_born h.start.reject_ms h.start here h.pairs legal.1 refl (next_dialogue h) (next_unborn h legal))
+        ∙ (ap (λ c. made c (queue (next_dialogue h) (here ∷ h.pairs))
+        (record {
+          reject_ms = h.start.reject_ms;
+          rows =
+              rows_of h.start.reject_ms (next_dialogue h) (here ∷ h.pairs);
+        }))
+        (context_is (λ dialogue. live_in (life dialogue h.pairs)) (is_some (birth_due h)) bytes origin portion context
+        info components frame accepted)
+        ∙ (ap (λ q. made context q (record {
+          reject_ms = h.start.reject_ms;
+          rows =
+              rows_of h.start.reject_ms (next_dialogue h) (here ∷ h.pairs);
+        })) queue_is
+        ∙ (ap (λ z. made context (queue_each queue_limit [] (walk components).rejects)
+        (record { reject_ms = h.start.reject_ms; rows = z }))
+        (rows_born h.start.reject_ms h.start here h.pairs legal.1 refl (next_dialogue h) (next_unborn h legal))
         ∙ ap (made context (queue_each queue_limit [] (walk components).rejects)) (left_is components))))))
       where
         queue_is : queue (next_dialogue h) (here ∷ h.pairs) ≡ queue_each queue_limit [] (walk components).rejects
         queue_is =
-            ap (λ b. cond b (queue_born (next_dialogue h) h.pairs (Event.received bytes)) (cond (names (Event.received bytes) (next_dialogue h)) (queue_by_event (next_dialogue h) h.pairs (queue (next_dialogue h) h.pairs) (Event.received bytes) here.answer) (queue (next_dialogue h) h.pairs))) birth
-            ∙ (ap (queue_at_birth (next_dialogue h) h.pairs) frame ∙ ap (queue_each queue_limit []) (rejects_is components))
+            ap (λ b. cond b (queue_born (next_dialogue h) h.pairs (Event.received bytes))
+            (cond (names (Event.received bytes) (next_dialogue h))
+            (queue_by_event (next_dialogue h) h.pairs (queue (next_dialogue h) h.pairs) (Event.received bytes)
+            here.answer) (queue (next_dialogue h) h.pairs))) birth
+            ∙ (ap (queue_at_birth (next_dialogue h) h.pairs) frame
+            ∙ ap (queue_each queue_limit []) (rejects_is components))

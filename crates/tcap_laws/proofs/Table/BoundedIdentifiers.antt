@@ -49,14 +49,16 @@ code-same (negsuc m) (negsuc n) p q e = let same : m ≡ n = omega (arith, e) in
 abbrev AreIdentifiers : List ℤ → Type 0
 AreIdentifiers ids = AllByRecursion (λ id. is_identifier id ≡ true) ids
 
-codes-apart : (x : ℤ) (ids : List ℤ) → is_identifier x ≡ true → AreIdentifiers ids → AllByRecursion (λ y. int_eq x y ≡ false) ids → AllByRecursion (λ c. eqb (octet_of x) c ≡ false) (map octet_of ids)
+codes-apart : (x : ℤ) (ids : List ℤ) → is_identifier x ≡ true → AreIdentifiers ids
+    → AllByRecursion (λ y. int_eq x y ≡ false) ids → AllByRecursion (λ c. eqb (octet_of x) c ≡ false) (map octet_of ids)
 codes-apart x [] e each apart = tt
 codes-apart x (y ∷ ids) e each apart = (go (eqb (octet_of x) (octet_of y)) refl, codes-apart x ids e each.1 apart.1)
   where
     go : (b : Bool) → eqb (octet_of x) (octet_of y) ≡ b → eqb (octet_of x) (octet_of y) ≡ false
     go false q = q
     go true q =
-        let equal : int_eq x y ≡ true = (Decides-int_eq x y).1 (code-same x y e each.0 ((Decides-eqb (octet_of x) (octet_of y)).0 q)) in
+        let equal : int_eq x y ≡ true =
+        (Decides-int_eq x y).1 (code-same x y e each.0 ((Decides-eqb (octet_of x) (octet_of y)).0 q)) in
         let never : true ≡ false = sym equal ∙ apart.0 in
         absurd cc
 
@@ -69,7 +71,8 @@ codes-below : (ids : List ℤ) → AreIdentifiers ids → (c : ℕ) → list_any
 codes-below [] each c e = absurd cc
 codes-below (x ∷ ids) each c e = go (eqb c (octet_of x)) refl e (codes-below ids each.1 c)
   where
-    go : (b : Bool) → eqb c (octet_of x) ≡ b → (b || list_any (eqb c) (map octet_of ids)) ≡ true → (list_any (eqb c) (map octet_of ids) ≡ true → c < 256) → c < 256
+    go : (b : Bool) → eqb c (octet_of x) ≡ b → (b || list_any (eqb c) (map octet_of ids)) ≡ true
+        → (list_any (eqb c) (map octet_of ids) ≡ true → c < 256) → c < 256
     go true q w rest = subst (λ k. k < 256) (sym ((Decides-eqb c (octet_of x)).0 q)) (code-below x each.0)
     go false q w rest = rest w
 
@@ -84,9 +87,12 @@ distinct-bounded ids each d =
 abbrev HasIdentifier : Invocation → Type 0
 HasIdentifier i = is_identifier i.id ≡ true
 
-each-identifier : (start : Start) (past : Past) → AreReplies start past → AllByRecursion HasIdentifier (invocations past)
+each-identifier : (start : Start) (past : Past) → AreReplies start past
+    → AllByRecursion HasIdentifier (invocations past)
 each-identifier start [] legal = tt
-each-identifier start (pair ∷ past) legal = each-append HasIdentifier (invocations past) (option_to_list (invoked_by pair)) (each-identifier start past legal.2) (go (invoked_by pair) refl)
+each-identifier start (pair ∷ past) legal =
+    each-append HasIdentifier (invocations past) (option_to_list (invoked_by pair)) (each-identifier start past legal.2)
+    (go (invoked_by pair) refl)
   where
     go : (o : Option Invocation) → invoked_by pair ≡ o → AllByRecursion HasIdentifier (option_to_list o)
     go None e = tt
@@ -97,24 +103,30 @@ module _ (reject_ms dialogue : ℕ) (past : Past) where
   row_here i = row_of reject_ms dialogue past i
 
   row-identifier : (i : Invocation) (r : Row) → row_here i ≡ Some r → HasIdentifier i → is_identifier r.0 ≡ true
-  row-identifier i r e has = go ((i.dialogue == dialogue) && is_number i.number (latest i.dialogue i.id past)) (stage_by reject_ms past i (decision i.number past)) e
+  row-identifier i r e has =
+      go ((i.dialogue == dialogue) && is_number i.number (latest i.dialogue i.id past))
+      (stage_by reject_ms past i (decision i.number past)) e
     where
       go : (b : Bool) (s : Option Stage) → cond b (row_by i s) None ≡ Some r → is_identifier r.0 ≡ true
       go false s q = absurd cc
       go true None q = absurd cc
       go true (Some s) q = let at : i.id ≡ r.0 = cc in subst (λ id. is_identifier id ≡ true) at has
 
-  rows-identifiers : (is : List Invocation) → AllByRecursion HasIdentifier is → AreIdentifiers (keys_of (filter_map row_here is))
+  rows-identifiers : (is : List Invocation) → AllByRecursion HasIdentifier is
+      → AreIdentifiers (keys_of (filter_map row_here is))
   rows-identifiers [] each = tt
   rows-identifiers (i ∷ is) each = go (row_here i) refl (rows-identifiers is each.1)
     where
-      go : (o : Option Row) → row_here i ≡ o → AreIdentifiers (keys_of (filter_map row_here is)) → AreIdentifiers (keys_of (cons_option o (filter_map row_here is)))
+      go : (o : Option Row) → row_here i ≡ o → AreIdentifiers (keys_of (filter_map row_here is))
+          → AreIdentifiers (keys_of (cons_option o (filter_map row_here is)))
       go None e rest = rest
       go (Some r) e rest = (row-identifier i r e each.0, rest)
 
-pub identifiers-bounded : (start : Start) (past : Past) → AreReplies start past → (reject_ms dialogue : ℕ) → length (rows_of reject_ms dialogue past) ≤ 256
+pub identifiers-bounded : (start : Start) (past : Past) → AreReplies start past → (reject_ms dialogue : ℕ)
+    → length (rows_of reject_ms dialogue past) ≤ 256
 identifiers-bounded start past legal reject_ms dialogue =
     let rows : List Row = rows_of reject_ms dialogue past in
-    let few = distinct-bounded (keys_of rows) (rows-identifiers reject_ms dialogue past (invocations past) (each-identifier start past legal)) (rows_distinct start past legal reject_ms dialogue) in
+    let few = distinct-bounded (keys_of rows) (rows-identifiers reject_ms dialogue past (invocations past)
+    (each-identifier start past legal)) (rows_distinct start past legal reject_ms dialogue) in
     let long = length-keys_of rows in
     omega (arith, few, long)

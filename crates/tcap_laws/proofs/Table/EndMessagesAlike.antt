@@ -23,18 +23,30 @@ use Rattle.tcap_pdu.specs.FrameSpelling.{Message}
 
 module _ (h : History) (dialogue : ℕ) (legal : IsLegal h) where
   any-end : (state : State) (context : Option (List ℕ)) (components : List ℕ) (verdict : PortionVerdict)
-      → (ended_by (dialogue_in h dialogue legal state context) verdict (walked_in (setting_at h).clock (dialogue_in h dialogue legal state context) components)).answer ≡ Answer.outputs (end_outputs dialogue h.pairs components verdict)
-  any-end state context components PortionVerdict.abnormal = over-answer h dialogue legal state context (Output.dialogue (DialogueIndication.p_abort dialogue AbortCause.abnormal) ∷ [])
+      → (ended_by (dialogue_in h dialogue legal state context) verdict
+      (walked_in (setting_at h).clock (dialogue_in h dialogue legal state context) components)).answer
+      ≡ Answer.outputs (end_outputs dialogue h.pairs components verdict)
+  any-end state context components PortionVerdict.abnormal =
+      over-answer h dialogue legal state context (Output.dialogue
+      (DialogueIndication.p_abort dialogue AbortCause.abnormal) ∷ [])
   any-end state context components (PortionVerdict.normal told info) =
       let w : Walked = walked_in (setting_at h).clock (dialogue_in h dialogue legal state context) components in
       let first : List Output = told_of (handled_in dialogue h.pairs components) in
-      ap (λ z. Answer.outputs (Output.dialogue (DialogueIndication.end dialogue told info) ∷ z ++ ended_told dialogue w.invocations)) (components-told h dialogue legal state context components)
-      ∙ (ap (λ l. Answer.outputs (Output.dialogue (DialogueIndication.end dialogue told info) ∷ first ++ ended_told dialogue l)) (walk_at h.start h.pairs legal.1 h.start.reject_ms dialogue (components_of components) (fault_last (length components) components))
-      ∙ ap (λ z. Answer.outputs (Output.dialogue (DialogueIndication.end dialogue told info) ∷ first ++ z)) (ended_after h.start h.pairs legal.1 h.start.reject_ms dialogue (components_of components)))
+      ap (λ z. Answer.outputs (Output.dialogue (DialogueIndication.end dialogue told info) ∷ z
+      ++ ended_told dialogue w.invocations)) (components-told h dialogue legal state context components)
+      ∙ (ap (λ l. Answer.outputs (Output.dialogue (DialogueIndication.end dialogue told info) ∷ first
+      ++ ended_told dialogue l)) (walk_at h.start h.pairs legal.1 h.start.reject_ms dialogue
+      (components_of components) (fault_last (length components) components))
+      ∙ ap (λ z. Answer.outputs (Output.dialogue (DialogueIndication.end dialogue told info) ∷ first ++ z))
+      (ended_after h.start h.pairs legal.1 h.start.reject_ms dialogue (components_of components)))
 
-  pub end-answered : (d : Dialogue) (to : List ℕ) (portion : Option (List ℕ)) (components : List ℕ) → dialogue_at h.start.reject_ms h.pairs dialogue ≡ Some d
-      → (table_move (setting_at h) d (DialogueEvent.frame (Message.end to portion components))).answer ≡ Answer.outputs (taken_outputs dialogue h.pairs (life dialogue h.pairs) (Message.end to portion components))
+  pub end-answered : (d : Dialogue) (to : List ℕ) (portion : Option (List ℕ)) (components : List ℕ)
+      → dialogue_at h.start.reject_ms h.pairs dialogue ≡ Some d
+      → (table_move (setting_at h) d (DialogueEvent.frame (Message.end to portion components))).answer
+      ≡ Answer.outputs (taken_outputs dialogue h.pairs (life dialogue h.pairs) (Message.end to portion components))
   unfolding table_move
   end-answered d to portion components e =
-      at_life (λ l d. (table_move (setting_at h) d (DialogueEvent.frame (Message.end to portion components))).answer ≡ Answer.outputs (taken_outputs dialogue h.pairs l (Message.end to portion components))) h dialogue d
-      (λ state context. any-end state context components (portion_verdict state context portion)) (life dialogue h.pairs) e
+      at_life (λ l d. (table_move (setting_at h) d (DialogueEvent.frame (Message.end to portion components))).answer
+      ≡ Answer.outputs (taken_outputs dialogue h.pairs l (Message.end to portion components))) h dialogue d
+      (λ state context. any-end state context components (portion_verdict state context portion))
+      (life dialogue h.pairs) e

@@ -48,13 +48,15 @@ accepted_by h now None e = go (nat_lt now (clock h.pairs))
     go true = refl
     go false = refl
 
-answered_is : (state : State) (origin : List ℕ) → is_live state ≡ true → state_after_continue state origin ≡ State.active (peer_by state origin)
+answered_is : (state : State) (origin : List ℕ) → is_live state ≡ true
+    → state_after_continue state origin ≡ State.active (peer_by state origin)
 answered_is State.fresh origin e = absurd cc
 answered_is State.sent origin e = refl
 answered_is (State.received peer) origin e = absurd cc
 answered_is (State.active peer) origin e = refl
 
-module _ (h : History) (dialogue : ℕ) (legal : IsLegal h) (state : State) (context : Option (List ℕ)) (stands : life dialogue h.pairs ≡ Life.standing state context) where
+module _ (h : History) (dialogue : ℕ) (legal : IsLegal h) (state : State) (context : Option (List ℕ))
+    (stands : life dialogue h.pairs ≡ Life.standing state context) where
   abbrev d : Dialogue
   d = standing_dialogue h dialogue state context
 
@@ -66,16 +68,20 @@ module _ (h : History) (dialogue : ℕ) (legal : IsLegal h) (state : State) (con
 
   -- ---- a moment
 
-  moment-moves : (now : ℕ) → moment_fault now ≡ None → found_at (Event.moment now) ≡ left_standing (table_move (setting_at h) d (DialogueEvent.moment now))
+  moment-moves : (now : ℕ) → moment_fault now ≡ None
+      → found_at (Event.moment now) ≡ left_standing (table_move (setting_at h) d (DialogueEvent.moment now))
   unfolding table_move
   moment-moves now e =
       let accepted : is_accepted (reply h (Event.moment now)) ≡ true = accepted_by h now (moment_fault now) e in
       let rows : List Row = rows_of h.start.reject_ms dialogue h.pairs in
       life_named h dialogue legal state context stands (Event.moment now) refl (Life.standing state context) refl
-      ∙ assembled h dialogue legal state context stands (Event.moment now) state context (queue dialogue h.pairs) (filter (λ r. stays now r.1.stage) rows)
+      ∙ assembled h dialogue legal state context stands (Event.moment now) state context (queue dialogue h.pairs)
+      (filter (λ r. stays now r.1.stage) rows)
       (queue_named h dialogue legal state context stands (Event.moment now) refl)
       (rows_lapsed h.start.reject_ms h.start (due_pair h (Event.moment now)) h.pairs legal.1 refl dialogue now
-      (λ k. standing_marks dialogue k (Event.moment now) (reply h (Event.moment now)) h.pairs state context stands refl ∙ ap (λ b. noted_at_clock (clock h.pairs) (marks_by_event k (Life.standing state context) (Life.standing state context) (Event.moment now) b)) accepted)
+      (λ k. standing_marks dialogue k (Event.moment now) (reply h (Event.moment now)) h.pairs state context stands refl
+      ∙ ap (λ b. noted_at_clock (clock h.pairs) (marks_by_event k (Life.standing state context)
+      (Life.standing state context) (Event.moment now) b)) accepted)
       (λ k u. ap (λ b. b && nat_le u now) accepted)
       ∙ sym (passing_rows (stays now) rows))
 
@@ -89,93 +95,152 @@ module _ (h : History) (dialogue : ℕ) (legal : IsLegal h) (state : State) (con
       life_read : life_by_event state context event (is_accepted (reply h event)) ≡ life_by_message state context read
       life_read = ap (λ b. life_if_live b state context bytes) live ∙ ap (life_by_message state context) frame
 
-      found_read : (l : Life) → life_by_message state context read ≡ l → found_at event ≡ dialogue_by h.start.reject_ms dialogue (here h dialogue legal state context stands event ∷ h.pairs) l
+      found_read : (l : Life) → life_by_message state context read ≡ l
+          → found_at event ≡ dialogue_by h.start.reject_ms dialogue
+          (here h dialogue legal state context stands event ∷ h.pairs) l
       found_read l e = life_named h dialogue legal state context stands event named l (life_read ∙ e)
 
-      marks_read : (k : ℤ) → marks dialogue k (due_pair h event) h.pairs ≡ noted_at_clock (clock h.pairs) (unwrap_or (marks_of_message k state context read) (end_if_over (Life.standing state context) (life_by_message state context read)))
+      marks_read : (k : ℤ) → marks dialogue k (due_pair h event) h.pairs
+          ≡ noted_at_clock (clock h.pairs) (unwrap_or (marks_of_message k state context read)
+          (end_if_over (Life.standing state context) (life_by_message state context read)))
       marks_read k =
           standing_marks dialogue k event (reply h event) h.pairs state context stands named
-          ∙ (ap (λ b. noted_at_clock (clock h.pairs) (unwrap_or (marks_if_live b k state context bytes) (end_if_over (Life.standing state context) (life_if_live b state context bytes)))) live
-          ∙ ap (λ f. noted_at_clock (clock h.pairs) (unwrap_or (marks_of_message k state context f) (end_if_over (Life.standing state context) (life_by_message state context f)))) frame)
+          ∙ (ap (λ b. noted_at_clock (clock h.pairs) (unwrap_or (marks_if_live b k state context bytes)
+          (end_if_over (Life.standing state context) (life_if_live b state context bytes)))) live
+          ∙ ap (λ f. noted_at_clock (clock h.pairs) (unwrap_or (marks_of_message k state context f)
+          (end_if_over (Life.standing state context) (life_by_message state context f)))) frame)
 
-      queue_read : queue dialogue (due_pair h event ∷ h.pairs) ≡ queue_by_message dialogue h.pairs (Life.standing state context) (queue dialogue h.pairs) read
+      queue_read : queue dialogue (due_pair h event ∷ h.pairs)
+          ≡ queue_by_message dialogue h.pairs (Life.standing state context) (queue dialogue h.pairs) read
       queue_read =
           queue_named h dialogue legal state context stands event named
           ∙ (ap (λ l. queue_by_bytes dialogue h.pairs l (queue dialogue h.pairs) bytes) stands
-          ∙ (ap (λ b. cond b (queue_by_message dialogue h.pairs (Life.standing state context) (queue dialogue h.pairs) (frame_at bytes)) (queue dialogue h.pairs)) live
+          ∙ (ap (λ b. cond b (queue_by_message dialogue h.pairs (Life.standing state context) (queue dialogue h.pairs)
+          (frame_at bytes)) (queue dialogue h.pairs)) live
           ∙ ap (queue_by_message dialogue h.pairs (Life.standing state context) (queue dialogue h.pairs)) frame))
 
       no_end : (k : ℤ) (u : ℕ) → pair_ends_wait u dialogue k (due_pair h event) ≡ false
       no_end k u = and_false (is_accepted (reply h event))
 
       -- a message that is to no dialogue
-      message_kept : life_by_message state context read ≡ Life.standing state context → ((k : ℤ) (other : List Mark) → unwrap_or (marks_of_message k state context read) other ≡ other)
-          → queue_by_message dialogue h.pairs (Life.standing state context) (queue dialogue h.pairs) read ≡ queue dialogue h.pairs → found_at event ≡ Some d
+      message_kept : life_by_message state context read ≡ Life.standing state context
+          → ((k : ℤ) (other : List Mark) → unwrap_or (marks_of_message k state context read) other ≡ other)
+          → queue_by_message dialogue h.pairs (Life.standing state context) (queue dialogue h.pairs) read
+          ≡ queue dialogue h.pairs → found_at event ≡ Some d
       message_kept same none kept =
           found_read (Life.standing state context) same
-          ∙ assembled h dialogue legal state context stands event state context (queue dialogue h.pairs) (rows_of h.start.reject_ms dialogue h.pairs) (queue_read ∙ kept)
+          ∙ assembled h dialogue legal state context stands event state context (queue dialogue h.pairs)
+          (rows_of h.start.reject_ms dialogue h.pairs) (queue_read ∙ kept)
           (rows_kept h.start.reject_ms h.start (due_pair h event) h.pairs legal.1 refl dialogue
-          (λ k. marks_read k ∙ (ap (noted_at_clock (clock h.pairs)) (none k (end_if_over (Life.standing state context) (life_by_message state context read))) ∙ ap (λ l. noted_at_clock (clock h.pairs) (end_if_over (Life.standing state context) l)) same))
+          (λ k. marks_read k ∙ (ap (noted_at_clock (clock h.pairs))
+          (none k (end_if_over (Life.standing state context) (life_by_message state context read)))
+          ∙ ap (λ l. noted_at_clock (clock h.pairs) (end_if_over (Life.standing state context) l)) same))
           no_end)
 
     -- a Continue
-    module _ (origin to : List ℕ) (portion : Option (List ℕ)) (components : List ℕ) (frame : frame_at bytes ≡ Ok (Message.go_on origin to portion components)) where
+    module _ (origin to : List ℕ) (portion : Option (List ℕ)) (components : List ℕ)
+        (frame : frame_at bytes ≡ Ok (Message.go_on origin to portion components)) where
       abbrev read_as : Result Message FrameFault
       read_as = Ok (Message.go_on origin to portion components)
 
       abbrev walk : Walked
       walk = walked_in (clock h.pairs) d components
 
-      continue-moves : (v : PortionVerdict) → portion_verdict state context portion ≡ v → found_at event ≡ left_standing (continued_by (setting_at h) d origin v walk)
-      continue-moves PortionVerdict.abnormal e = found_read read_as frame Life.over (ap (life_by_verdict state context origin) e)
+      continue-moves : (v : PortionVerdict) → portion_verdict state context portion ≡ v
+          → found_at event ≡ left_standing (continued_by (setting_at h) d origin v walk)
+      continue-moves PortionVerdict.abnormal e =
+          found_read read_as frame Life.over (ap (life_by_verdict state context origin) e)
       continue-moves (PortionVerdict.normal told info) e =
-          found_read read_as frame (Life.standing (State.active (peer_by state origin)) context) (ap (life_by_verdict state context origin) e ∙ ap (λ s. Life.standing s context) (answered_is state origin live))
-          ∙ (assembled h dialogue legal state context stands event (State.active (peer_by state origin)) context (queue_each queue_limit (queue dialogue h.pairs) walk.rejects) (rows_up h.start h.pairs legal.1 h.start.reject_ms dialogue (components_of components))
-          (queue_read read_as frame ∙ (ap (λ v. queue_by_verdict v (queue dialogue h.pairs) (handled_in dialogue h.pairs components)) e ∙ ap (queue_each queue_limit (queue dialogue h.pairs)) (sym (components-rejected h dialogue legal d components stands_at))))
-          (rows_message h.start h.pairs legal.1 h.start.reject_ms dialogue (components_of components) (due_pair h event) refl refl
-          (λ k. marks_read read_as frame k ∙ ap (λ v. noted_at_clock (clock h.pairs) (unwrap_or (if_normal v (component_marks k (components_of components))) (end_if_over (Life.standing state context) (life_by_verdict state context origin (portion_verdict state context portion))))) e)
+          found_read read_as frame (Life.standing (State.active (peer_by state origin)) context)
+          (ap (life_by_verdict state context origin) e
+          ∙ ap (λ s. Life.standing s context) (answered_is state origin live))
+          ∙ (assembled h dialogue legal state context stands event (State.active (peer_by state origin)) context
+          (queue_each queue_limit (queue dialogue h.pairs) walk.rejects)
+          (rows_up h.start h.pairs legal.1 h.start.reject_ms dialogue (components_of components))
+          (queue_read read_as frame ∙ (ap (λ v. queue_by_verdict v (queue dialogue h.pairs)
+          (handled_in dialogue h.pairs components)) e ∙ ap (queue_each queue_limit (queue dialogue h.pairs))
+          (sym (components-rejected h dialogue legal d components stands_at))))
+          (rows_message h.start h.pairs legal.1 h.start.reject_ms dialogue (components_of components) (due_pair h event)
+          refl refl
+          (λ k. marks_read read_as frame k ∙ ap (λ v. noted_at_clock (clock h.pairs)
+          (unwrap_or (if_normal v (component_marks k (components_of components)))
+          (end_if_over (Life.standing state context) (life_by_verdict state context origin
+          (portion_verdict state context portion))))) e)
           (no_end read_as frame))
-          ∙ ap (λ l. Some (record { standing = record { identifier = dialogue; state = State.active (peer_by state origin); context = context; queue = queue_each queue_limit (queue dialogue h.pairs) walk.rejects }; invocations = l }))
-          (sym (walk_at h.start h.pairs legal.1 h.start.reject_ms dialogue (components_of components) (fault_last (length components) components))))
+          ∙ ap (λ l. Some (record {
+            standing =
+                record {
+                  identifier = dialogue;
+                  state = State.active (peer_by state origin);
+                  context = context;
+                  queue =
+                      queue_each queue_limit (queue dialogue h.pairs) walk.rejects;
+                };
+            invocations = l;
+          }))
+          (sym (walk_at h.start h.pairs legal.1 h.start.reject_ms dialogue (components_of components)
+          (fault_last (length components) components))))
 
     ended_none : (v : PortionVerdict) (w : Walked) → None ≡ left_standing (ended_by d v w)
     ended_none (PortionVerdict.normal told info) w = refl
     ended_none PortionVerdict.abnormal w = refl
 
-    message-moves : (m : Message) → frame_at bytes ≡ Ok m → found_at event ≡ left_standing (table_move (setting_at h) d (DialogueEvent.frame m))
+    message-moves : (m : Message) → frame_at bytes ≡ Ok m
+        → found_at event ≡ left_standing (table_move (setting_at h) d (DialogueEvent.frame m))
     unfolding table_move
-    message-moves (Message.go_on origin to portion components) e = continue-moves origin to portion components e (portion_verdict state context portion) refl
-    message-moves (Message.end to portion components) e = found_read (Ok (Message.end to portion components)) e Life.over refl ∙ ended_none (portion_verdict state context portion) (walked_in (clock h.pairs) d components)
+    message-moves (Message.go_on origin to portion components) e =
+        continue-moves origin to portion components e (portion_verdict state context portion) refl
+    message-moves (Message.end to portion components) e =
+        found_read (Ok (Message.end to portion components)) e Life.over refl
+        ∙ ended_none (portion_verdict state context portion) (walked_in (clock h.pairs) d components)
     message-moves (Message.abort to reason) e = found_read (Ok (Message.abort to reason)) e Life.over refl
-    message-moves (Message.unidirectional portion components) e = message_kept (Ok (Message.unidirectional portion components)) e refl (λ k other. refl) refl
-    message-moves (Message.begin origin portion components) e = message_kept (Ok (Message.begin origin portion components)) e refl (λ k other. refl) refl
+    message-moves (Message.unidirectional portion components) e =
+        message_kept (Ok (Message.unidirectional portion components)) e refl (λ k other. refl) refl
+    message-moves (Message.begin origin portion components) e =
+        message_kept (Ok (Message.begin origin portion components)) e refl (λ k other. refl) refl
 
-    fault-moves : (f : FrameFault) (cause : ℕ) → frame_at bytes ≡ Err f → found_at event ≡ left_standing (table_move (setting_at h) d (DialogueEvent.fault cause))
+    fault-moves : (f : FrameFault) (cause : ℕ) → frame_at bytes ≡ Err f
+        → found_at event ≡ left_standing (table_move (setting_at h) d (DialogueEvent.fault cause))
     unfolding table_move
     fault-moves f cause e = found_read (Err f) e Life.over refl
 
 -- ---- a dialogue that is found
 
-pub by_life : (P : Dialogue → Type 0) (h : History) (dialogue : ℕ) (d : Dialogue) → ((state : State) (context : Option (List ℕ)) → life dialogue h.pairs ≡ Life.standing state context → P (standing_dialogue h dialogue state context))
+pub by_life : (P : Dialogue → Type 0) (h : History) (dialogue : ℕ) (d : Dialogue)
+    → ((state : State) (context : Option (List ℕ)) → life dialogue h.pairs ≡ Life.standing state context
+    → P (standing_dialogue h dialogue state context))
     → dialogue_at h.start.reject_ms h.pairs dialogue ≡ Some d → P d
-by_life P h dialogue d standing e = at_life (λ l d. life dialogue h.pairs ≡ l → P d) h dialogue d (λ state context q. standing state context q) (life dialogue h.pairs) e refl
+by_life P h dialogue d standing e =
+    at_life (λ l d. life dialogue h.pairs ≡ l → P d) h dialogue d (λ state context q. standing state context q)
+    (life dialogue h.pairs) e refl
 
-pub taken-moves : (h : History) (dialogue : ℕ) (d : Dialogue) (bytes : List ℕ) (m : Message) → IsLegal h → dialogue_at h.start.reject_ms h.pairs dialogue ≡ Some d
+pub taken-moves : (h : History) (dialogue : ℕ) (d : Dialogue) (bytes : List ℕ) (m : Message) → IsLegal h
+    → dialogue_at h.start.reject_ms h.pairs dialogue ≡ Some d
     → names (Event.received bytes) dialogue ≡ true → is_live d.standing.state ≡ true → frame_at bytes ≡ Ok m
-    → dialogue_at h.start.reject_ms (due_pair h (Event.received bytes) ∷ h.pairs) dialogue ≡ left_standing (table_move (setting_at h) d (DialogueEvent.frame m))
+    → dialogue_at h.start.reject_ms (due_pair h (Event.received bytes) ∷ h.pairs) dialogue
+    ≡ left_standing (table_move (setting_at h) d (DialogueEvent.frame m))
 taken-moves h dialogue d bytes m legal e named live frame =
-    by_life (λ d. is_live d.standing.state ≡ true → dialogue_at h.start.reject_ms (due_pair h (Event.received bytes) ∷ h.pairs) dialogue ≡ left_standing (table_move (setting_at h) d (DialogueEvent.frame m))) h dialogue d
+    by_life (λ d. is_live d.standing.state ≡ true
+    → dialogue_at h.start.reject_ms (due_pair h (Event.received bytes) ∷ h.pairs) dialogue
+    ≡ left_standing (table_move (setting_at h) d (DialogueEvent.frame m))) h dialogue d
     (λ state context q live. message-moves h dialogue legal state context q bytes named live m frame) e live
 
-pub broken-moves : (h : History) (dialogue : ℕ) (d : Dialogue) (bytes : List ℕ) (fault : FrameFault) (cause : ℕ) → IsLegal h → dialogue_at h.start.reject_ms h.pairs dialogue ≡ Some d
+pub broken-moves : (h : History) (dialogue : ℕ) (d : Dialogue) (bytes : List ℕ) (fault : FrameFault) (cause : ℕ)
+    → IsLegal h → dialogue_at h.start.reject_ms h.pairs dialogue ≡ Some d
     → names (Event.received bytes) dialogue ≡ true → is_live d.standing.state ≡ true → frame_at bytes ≡ Err fault
-    → dialogue_at h.start.reject_ms (due_pair h (Event.received bytes) ∷ h.pairs) dialogue ≡ left_standing (table_move (setting_at h) d (DialogueEvent.fault cause))
+    → dialogue_at h.start.reject_ms (due_pair h (Event.received bytes) ∷ h.pairs) dialogue
+    ≡ left_standing (table_move (setting_at h) d (DialogueEvent.fault cause))
 broken-moves h dialogue d bytes fault cause legal e named live frame =
-    by_life (λ d. is_live d.standing.state ≡ true → dialogue_at h.start.reject_ms (due_pair h (Event.received bytes) ∷ h.pairs) dialogue ≡ left_standing (table_move (setting_at h) d (DialogueEvent.fault cause))) h dialogue d
+    by_life (λ d. is_live d.standing.state ≡ true
+    → dialogue_at h.start.reject_ms (due_pair h (Event.received bytes) ∷ h.pairs) dialogue
+    ≡ left_standing (table_move (setting_at h) d (DialogueEvent.fault cause))) h dialogue d
     (λ state context q live. fault-moves h dialogue legal state context q bytes named live fault cause frame) e live
 
-pub lapsed-moves : (h : History) (dialogue : ℕ) (d : Dialogue) (now : ℕ) → IsLegal h → dialogue_at h.start.reject_ms h.pairs dialogue ≡ Some d → moment_fault now ≡ None
-    → dialogue_at h.start.reject_ms (due_pair h (Event.moment now) ∷ h.pairs) dialogue ≡ left_standing (table_move (setting_at h) d (DialogueEvent.moment now))
+pub lapsed-moves : (h : History) (dialogue : ℕ) (d : Dialogue) (now : ℕ) → IsLegal h
+    → dialogue_at h.start.reject_ms h.pairs dialogue ≡ Some d → moment_fault now ≡ None
+    → dialogue_at h.start.reject_ms (due_pair h (Event.moment now) ∷ h.pairs) dialogue
+    ≡ left_standing (table_move (setting_at h) d (DialogueEvent.moment now))
 lapsed-moves h dialogue d now legal e f =
-    by_life (λ d. dialogue_at h.start.reject_ms (due_pair h (Event.moment now) ∷ h.pairs) dialogue ≡ left_standing (table_move (setting_at h) d (DialogueEvent.moment now))) h dialogue d
+    by_life (λ d. dialogue_at h.start.reject_ms (due_pair h (Event.moment now) ∷ h.pairs) dialogue
+    ≡ left_standing (table_move (setting_at h) d (DialogueEvent.moment now))) h dialogue d
     (λ state context q. moment-moves h dialogue legal state context q now f) e

@@ -54,32 +54,45 @@ abbrev pub dropped : Class → Stage → Option Stage
 dropped class s = dropped_stage s
 
 module _ (list : InvocationList) (id : ℤ) (distinct : IsDistinct int_eq (keys_of list.rows)) where
-  pub freed_wait : (o : Option Entry) → entry_at list.rows id ≡ o → (freed list id (is_some (passing is_waiting o))) ≡ record { reject_ms = list.reject_ms; rows = restaged (on_id id free_wait) list.rows }
-  freed_wait None at = ap (λ z. record { reject_ms = list.reject_ms; rows = z }) (sym (left_rows id free_wait list.rows distinct (subst (λ o. LeavesStage free_wait o) (sym at) tt)))
+  pub freed_wait : (o : Option Entry) → entry_at list.rows id ≡ o
+      → (freed list id (is_some (passing is_waiting o)))
+      ≡ record { reject_ms = list.reject_ms; rows = restaged (on_id id free_wait) list.rows }
+  freed_wait None at =
+      ap (λ z. record { reject_ms = list.reject_ms; rows = z })
+      (sym (left_rows id free_wait list.rows distinct (subst (λ o. LeavesStage free_wait o) (sym at) tt)))
   freed_wait (Some e) at = go e.stage refl
     where
-      go : (s : Stage) → e.stage ≡ s → freed list id (is_some (cond (is_waiting e.stage) (Some e) None)) ≡ record { reject_ms = list.reject_ms; rows = restaged (on_id id free_wait) list.rows }
+      go : (s : Stage) → e.stage ≡ s → freed list id (is_some (cond (is_waiting e.stage) (Some e) None))
+          ≡ record { reject_ms = list.reject_ms; rows = restaged (on_id id free_wait) list.rows }
       go (Waiting u) q =
           ap (λ s. freed list id (is_some (cond (is_waiting s) (Some e) None))) q
-          ∙ ap (λ z. record { reject_ms = list.reject_ms; rows = z }) (sym (freed_rows id free_wait list.rows e distinct at (ap (free_wait e.class) q)))
+          ∙ ap (λ z. record { reject_ms = list.reject_ms; rows = z })
+          (sym (freed_rows id free_wait list.rows e distinct at (ap (free_wait e.class) q)))
       go (Queued timeout) q =
           ap (λ s. freed list id (is_some (cond (is_waiting s) (Some e) None))) q
-          ∙ ap (λ z. record { reject_ms = list.reject_ms; rows = z }) (sym (left_rows id free_wait list.rows distinct (subst (λ o. LeavesStage free_wait o) (sym at) (ap (free_wait e.class) q ∙ ap Some (sym q)))))
+          ∙ ap (λ z. record { reject_ms = list.reject_ms; rows = z })
+          (sym (left_rows id free_wait list.rows distinct
+          (subst (λ o. LeavesStage free_wait o) (sym at) (ap (free_wait e.class) q ∙ ap Some (sym q)))))
       go (Sent deadline) q =
           ap (λ s. freed list id (is_some (cond (is_waiting s) (Some e) None))) q
-          ∙ ap (λ z. record { reject_ms = list.reject_ms; rows = z }) (sym (left_rows id free_wait list.rows distinct (subst (λ o. LeavesStage free_wait o) (sym at) (ap (free_wait e.class) q ∙ ap Some (sym q)))))
+          ∙ ap (λ z. record { reject_ms = list.reject_ms; rows = z })
+          (sym (left_rows id free_wait list.rows distinct
+          (subst (λ o. LeavesStage free_wait o) (sym at) (ap (free_wait e.class) q ∙ ap Some (sym q)))))
 
-  pub given_up : (n : ℕ) (o : Option Entry) → entry_at list.rows id ≡ o → numbered (passing is_pending o) ≡ Some n → restaged (on_id id dropped) list.rows ≡ without list.rows id
+  pub given_up : (n : ℕ) (o : Option Entry) → entry_at list.rows id ≡ o → numbered (passing is_pending o) ≡ Some n
+      → restaged (on_id id dropped) list.rows ≡ without list.rows id
   given_up n None at e = absurd cc
   given_up n (Some y) at e = go y.stage refl e
     where
-      go : (s : Stage) → y.stage ≡ s → numbered (cond (is_pending y.stage) (Some y) None) ≡ Some n → restaged (on_id id dropped) list.rows ≡ without list.rows id
+      go : (s : Stage) → y.stage ≡ s → numbered (cond (is_pending y.stage) (Some y) None) ≡ Some n
+          → restaged (on_id id dropped) list.rows ≡ without list.rows id
       go (Queued timeout) q e = freed_rows id dropped list.rows y distinct at (ap dropped_stage q)
       go (Sent deadline) q e = freed_rows id dropped list.rows y distinct at (ap dropped_stage q)
       go (Waiting u) q e =
           let never : None ≡ Some n = sym (ap (λ s. numbered (cond (is_pending s) (Some y) None)) q) ∙ e in absurd cc
 
-module _ (h : History) (dialogue : ℕ) (legal : IsLegal h) (state : State) (context : Option (List ℕ)) (stands : life dialogue h.pairs ≡ Life.standing state context) (request : Request) where
+module _ (h : History) (dialogue : ℕ) (legal : IsLegal h) (state : State) (context : Option (List ℕ))
+    (stands : life dialogue h.pairs ≡ Life.standing state context) (request : Request) where
   abbrev pub d : Dialogue
   d = standing_dialogue h dialogue state context
 
@@ -98,8 +111,10 @@ module _ (h : History) (dialogue : ℕ) (legal : IsLegal h) (state : State) (con
   pub distinct : IsDistinct int_eq (keys_of rows)
   distinct = rows_distinct h.start h.pairs legal.1 h.start.reject_ms dialogue
 
-  pub reply_is : (f : Option Fault) → due h dialogue request ≡ f → reply h event ≡ request_answer h dialogue request (Life.standing state context) f
-  reply_is f e = ap (λ l. request_answer h dialogue request l (due h dialogue request)) stands ∙ ap (request_answer h dialogue request (Life.standing state context)) e
+  pub reply_is : (f : Option Fault) → due h dialogue request ≡ f
+      → reply h event ≡ request_answer h dialogue request (Life.standing state context) f
+  reply_is f e = ap (λ l. request_answer h dialogue request l (due h dialogue request)) stands
+      ∙ ap (request_answer h dialogue request (Life.standing state context)) e
 
   -- ---- a request with this answer
 
@@ -107,38 +122,67 @@ module _ (h : History) (dialogue : ℕ) (legal : IsLegal h) (state : State) (con
     pub invoked_as : invoked_by (due_pair h event) ≡ invoked_under dialogue request (number_of a)
     invoked_as = ap (λ a. invoked_under dialogue request (number_of a)) is
 
-    pub found_by : (l : Life) → life_if_accepted (is_accepted a) state context request ≡ l → found_at ≡ dialogue_by h.start.reject_ms dialogue (due_pair h event ∷ h.pairs) l
-    found_by l e = life_named h dialogue legal state context stands event own l (ap (λ a. life_if_accepted (is_accepted a) state context request) is ∙ e)
+    pub found_by : (l : Life) → life_if_accepted (is_accepted a) state context request ≡ l
+        → found_at ≡ dialogue_by h.start.reject_ms dialogue (due_pair h event ∷ h.pairs) l
+    found_by l e = life_named h dialogue legal state context stands event own l
+        (ap (λ a. life_if_accepted (is_accepted a) state context request) is ∙ e)
 
-    pub queue_by : queue dialogue (due_pair h event ∷ h.pairs) ≡ queue_if_accepted (is_accepted a) (queue dialogue h.pairs) request a
-    queue_by = queue_named h dialogue legal state context stands event own ∙ ap (λ a. queue_if_accepted (is_accepted a) (queue dialogue h.pairs) request a) is
+    pub queue_by : queue dialogue (due_pair h event ∷ h.pairs)
+        ≡ queue_if_accepted (is_accepted a) (queue dialogue h.pairs) request a
+    queue_by = queue_named h dialogue legal state context stands event own
+        ∙ ap (λ a. queue_if_accepted (is_accepted a) (queue dialogue h.pairs) request a) is
 
-    pub marks_by : (k : ℤ) → marks dialogue k (due_pair h event) h.pairs ≡ noted_at_clock (clock h.pairs) (marks_by_event k (Life.standing state context) (life_if_accepted (is_accepted a) state context request) event (is_accepted a))
+    pub marks_by : (k : ℤ) → marks dialogue k (due_pair h event) h.pairs
+        ≡ noted_at_clock (clock h.pairs) (marks_by_event k (Life.standing state context)
+        (life_if_accepted (is_accepted a) state context request) event (is_accepted a))
     marks_by k = standing_marks dialogue k event (reply h event) h.pairs state context stands own
-        ∙ ap (λ a. noted_at_clock (clock h.pairs) (marks_by_event k (Life.standing state context) (life_if_accepted (is_accepted a) state context request) event (is_accepted a))) is
+        ∙ ap (λ a. noted_at_clock (clock h.pairs) (marks_by_event k (Life.standing state context)
+        (life_if_accepted (is_accepted a) state context request) event (is_accepted a))) is
 
-    pub ends_by : (k : ℤ) (u : ℕ) → pair_ends_wait u dialogue k (due_pair h event) ≡ (is_accepted a && rejects_answer k request)
-    ends_by k u = ap (λ b. is_accepted (reply h event) && (b && rejects_answer k request)) own ∙ ap (λ a. is_accepted a && rejects_answer k request) is
+    pub ends_by : (k : ℤ) (u : ℕ) → pair_ends_wait u dialogue k (due_pair h event)
+        ≡ (is_accepted a && rejects_answer k request)
+    ends_by k u = ap (λ b. is_accepted (reply h event) && (b && rejects_answer k request)) own
+        ∙ ap (λ a. is_accepted a && rejects_answer k request) is
 
-    pub rows_quiet : invoked_under dialogue request (number_of a) ≡ None → ((k : ℤ) → marks_by_event k (Life.standing state context) (life_if_accepted (is_accepted a) state context request) event (is_accepted a) ≡ [])
-        → ((k : ℤ) → (is_accepted a && rejects_answer k request) ≡ false) → rows_of h.start.reject_ms dialogue (due_pair h event ∷ h.pairs) ≡ rows
-    rows_quiet none no_marks ends = rows_kept h.start.reject_ms h.start (due_pair h event) h.pairs legal.1 (invoked_as ∙ none) dialogue
+    pub rows_quiet : invoked_under dialogue request (number_of a) ≡ None
+        → ((k : ℤ) → marks_by_event k (Life.standing state context)
+        (life_if_accepted (is_accepted a) state context request) event (is_accepted a) ≡ [])
+        → ((k : ℤ) → (is_accepted a && rejects_answer k request) ≡ false)
+        → rows_of h.start.reject_ms dialogue (due_pair h event ∷ h.pairs) ≡ rows
+    rows_quiet none no_marks ends =
+        rows_kept h.start.reject_ms h.start (due_pair h event) h.pairs legal.1 (invoked_as ∙ none) dialogue
         (λ k. marks_by k ∙ ap (noted_at_clock (clock h.pairs)) (no_marks k)) (λ k u. ends_by k u ∙ ends k)
 
     -- the dialogue of these parts
-    pub found_of : (s : State) (c : Option (List ℕ)) (q : List Component) (after : List Row) → life_if_accepted (is_accepted a) state context request ≡ Life.standing s c
-        → queue_if_accepted (is_accepted a) (queue dialogue h.pairs) request a ≡ q → rows_of h.start.reject_ms dialogue (due_pair h event ∷ h.pairs) ≡ after
-        → found_at ≡ Some (record { standing = record { identifier = dialogue; state = s; context = c; queue = q }; invocations = record { reject_ms = h.start.reject_ms; rows = after } })
-    found_of s c q after e w v = found_by (Life.standing s c) e ∙ assembled h dialogue legal state context stands event s c q after (queue_by ∙ w) v
+    pub found_of : (s : State) (c : Option (List ℕ)) (q : List Component) (after : List Row)
+        → life_if_accepted (is_accepted a) state context request ≡ Life.standing s c
+        → queue_if_accepted (is_accepted a) (queue dialogue h.pairs) request a ≡ q
+        → rows_of h.start.reject_ms dialogue (due_pair h event ∷ h.pairs) ≡ after
+        → found_at ≡ Some (record {
+          standing =
+              record { identifier = dialogue; state = s; context = c; queue = q };
+          invocations =
+              record { reject_ms = h.start.reject_ms; rows = after };
+        })
+    found_of s c q after e w v =
+        found_by (Life.standing s c) e ∙ assembled h dialogue legal state context stands event s c q after
+        (queue_by ∙ w) v
 
   pub refused_moves : (f : Fault) → reply h event ≡ Answer.refused f → found_at ≡ Some d
-  refused_moves f is = found_of (Answer.refused f) is state context (queue dialogue h.pairs) rows refl refl (rows_quiet (Answer.refused f) is refl (λ k. refl) (λ k. refl))
+  refused_moves f is =
+      found_of (Answer.refused f) is state context (queue dialogue h.pairs) rows refl refl
+      (rows_quiet (Answer.refused f) is refl (λ k. refl) (λ k. refl))
 
   -- a message that takes the queue
-  pub rows_sent : (outputs : List Output) (is : reply h event ≡ Answer.outputs outputs) → invoked_under dialogue request None ≡ None
-      → ((k : ℤ) → unwrap_or (marks_of_request k request) (end_if_over (Life.standing state context) (life_by_request state context request)) ≡ Mark.sent ∷ []) → ((k : ℤ) → rejects_answer k request ≡ false)
+  pub rows_sent : (outputs : List Output) (is : reply h event ≡ Answer.outputs outputs)
+      → invoked_under dialogue request None ≡ None
+      → ((k : ℤ) → unwrap_or (marks_of_request k request)
+      (end_if_over (Life.standing state context) (life_by_request state context request)) ≡ Mark.sent ∷ [])
+      → ((k : ℤ) → rejects_answer k request ≡ false)
       → rows_of h.start.reject_ms dialogue (due_pair h event ∷ h.pairs) ≡ sent_rows (clock h.pairs) rows
   rows_sent outputs is none marked ends =
-      rows_marked h.start.reject_ms h.start (due_pair h event) h.pairs legal.1 (invoked_as (Answer.outputs outputs) is ∙ none) dialogue Mark.sent (λ k. true)
-      (λ k. marks_by (Answer.outputs outputs) is k ∙ ap (noted_at_clock (clock h.pairs)) (marked k)) (λ k u. ends_by (Answer.outputs outputs) is k u ∙ ends k)
+      rows_marked h.start.reject_ms h.start (due_pair h event) h.pairs legal.1
+      (invoked_as (Answer.outputs outputs) is ∙ none) dialogue Mark.sent (λ k. true)
+      (λ k. marks_by (Answer.outputs outputs) is k ∙ ap (noted_at_clock (clock h.pairs)) (marked k))
+      (λ k u. ends_by (Answer.outputs outputs) is k u ∙ ends k)
       ∙ sent_all (clock h.pairs) rows

@@ -19,7 +19,8 @@ use Rattle.tcap_model.specs.Replies.Reply.{reply}
 use Rattle.tcap_model.specs.Words.State.{State}
 use Rattle.tcap_model.specs.Table.World.{dialogue_at, dialogue_by, rows_of}
 
-module _ (h : History) (dialogue : ℕ) (legal : IsLegal h) (state : State) (context : Option (List ℕ)) (stands : life dialogue h.pairs ≡ Life.standing state context) (event : Event) where
+module _ (h : History) (dialogue : ℕ) (legal : IsLegal h) (state : State) (context : Option (List ℕ))
+    (stands : life dialogue h.pairs ≡ Life.standing state context) (event : Event) where
   abbrev pub here : Pair
   here = due_pair h event
 
@@ -30,31 +31,44 @@ module _ (h : History) (dialogue : ℕ) (legal : IsLegal h) (state : State) (con
       go : (b : Bool) → is_birth_of dialogue here ≡ b → is_birth_of dialogue here ≡ false
       go false e = e
       go true e =
-          let next : dialogue ≡ next_dialogue h = dialogue-next h event dialogue (that-is dialogue (born_of event (reply h event)) e) in
+          let next : dialogue ≡ next_dialogue h =
+          dialogue-next h event dialogue (that-is dialogue (born_of event (reply h event)) e) in
           let beyond : h.start.next_dialogue + births h.pairs ≤ dialogue = omega arith in
-          let unborn : life dialogue h.pairs ≡ Life.unborn = unborn-life dialogue h.pairs (beyond-unborn h.start h.pairs legal.1 dialogue beyond) in
+          let unborn : life dialogue h.pairs ≡ Life.unborn =
+          unborn-life dialogue h.pairs (beyond-unborn h.start h.pairs legal.1 dialogue beyond) in
           let never : Life.unborn ≡ Life.standing state context = sym unborn ∙ stands in
           absurd cc
 
-  pub life_named : names event dialogue ≡ true → (l : Life) → life_by_event state context event (is_accepted (reply h event)) ≡ l
-      → dialogue_at h.start.reject_ms (here ∷ h.pairs) dialogue ≡ dialogue_by h.start.reject_ms dialogue (here ∷ h.pairs) l
+  pub life_named : names event dialogue ≡ true → (l : Life)
+      → life_by_event state context event (is_accepted (reply h event)) ≡ l
+      → dialogue_at h.start.reject_ms (here ∷ h.pairs) dialogue
+      ≡ dialogue_by h.start.reject_ms dialogue (here ∷ h.pairs) l
   life_named named l e =
       ap (λ x. dialogue_by h.start.reject_ms dialogue (here ∷ h.pairs) (life_after dialogue x here)) stands
       ∙ (ap (λ b. dialogue_by h.start.reject_ms dialogue (here ∷ h.pairs) (life_if_named b state context here)) named
       ∙ ap (dialogue_by h.start.reject_ms dialogue (here ∷ h.pairs)) e)
 
-  pub life_unnamed : names event dialogue ≡ false → dialogue_at h.start.reject_ms (here ∷ h.pairs) dialogue ≡ dialogue_by h.start.reject_ms dialogue (here ∷ h.pairs) (Life.standing state context)
+  pub life_unnamed : names event dialogue ≡ false
+      → dialogue_at h.start.reject_ms (here ∷ h.pairs) dialogue
+      ≡ dialogue_by h.start.reject_ms dialogue (here ∷ h.pairs) (Life.standing state context)
   life_unnamed named =
       ap (λ x. dialogue_by h.start.reject_ms dialogue (here ∷ h.pairs) (life_after dialogue x here)) stands
       ∙ ap (λ b. dialogue_by h.start.reject_ms dialogue (here ∷ h.pairs) (life_if_named b state context here)) named
 
   queue_by : (a b : Bool) → is_birth_of dialogue here ≡ a → names event dialogue ≡ b → queue dialogue (here ∷ h.pairs)
-      ≡ cond a (queue_born dialogue h.pairs event) (cond b (queue_by_event dialogue h.pairs (queue dialogue h.pairs) event (reply h event)) (queue dialogue h.pairs))
+      ≡ cond a (queue_born dialogue h.pairs event)
+      (cond b (queue_by_event dialogue h.pairs (queue dialogue h.pairs) event (reply h event))
+      (queue dialogue h.pairs))
   queue_by a b p q =
-      ap (λ a. cond a (queue_born dialogue h.pairs event) (cond (names event dialogue) (queue_by_event dialogue h.pairs (queue dialogue h.pairs) event (reply h event)) (queue dialogue h.pairs))) p
-      ∙ ap (λ b. cond a (queue_born dialogue h.pairs event) (cond b (queue_by_event dialogue h.pairs (queue dialogue h.pairs) event (reply h event)) (queue dialogue h.pairs))) q
+      ap (λ a. cond a (queue_born dialogue h.pairs event)
+      (cond (names event dialogue) (queue_by_event dialogue h.pairs (queue dialogue h.pairs) event (reply h event))
+      (queue dialogue h.pairs))) p
+      ∙ ap (λ b. cond a (queue_born dialogue h.pairs event)
+      (cond b (queue_by_event dialogue h.pairs (queue dialogue h.pairs) event (reply h event))
+      (queue dialogue h.pairs))) q
 
-  pub queue_named : names event dialogue ≡ true → queue dialogue (here ∷ h.pairs) ≡ queue_by_event dialogue h.pairs (queue dialogue h.pairs) event (reply h event)
+  pub queue_named : names event dialogue ≡ true
+      → queue dialogue (here ∷ h.pairs) ≡ queue_by_event dialogue h.pairs (queue dialogue h.pairs) event (reply h event)
   queue_named named = queue_by false true not_born named
 
   pub queue_unnamed : names event dialogue ≡ false → queue dialogue (here ∷ h.pairs) ≡ queue dialogue h.pairs
@@ -62,8 +76,16 @@ module _ (h : History) (dialogue : ℕ) (legal : IsLegal h) (state : State) (con
 
   -- a dialogue of these parts
   abbrev pub made_of : State → Option (List ℕ) → List Queued → List Row → Dialogue
-  made_of s c q rows = record { standing = record { identifier = dialogue; state = s; context = c; queue = q }; invocations = record { reject_ms = h.start.reject_ms; rows = rows } }
+  made_of s c q rows =
+      record {
+        standing = record { identifier = dialogue; state = s; context = c; queue = q };
+        invocations =
+            record { reject_ms = h.start.reject_ms; rows = rows };
+      }
 
-  pub assembled : (s : State) (c : Option (List ℕ)) (q : List Queued) (rows : List Row) → queue dialogue (here ∷ h.pairs) ≡ q → rows_of h.start.reject_ms dialogue (here ∷ h.pairs) ≡ rows
+  pub assembled : (s : State) (c : Option (List ℕ)) (q : List Queued) (rows : List Row)
+      → queue dialogue (here ∷ h.pairs) ≡ q → rows_of h.start.reject_ms dialogue (here ∷ h.pairs) ≡ rows
       → dialogue_by h.start.reject_ms dialogue (here ∷ h.pairs) (Life.standing s c) ≡ Some (made_of s c q rows)
-  assembled s c q rows e w = ap (λ q. Some (made_of s c q (rows_of h.start.reject_ms dialogue (here ∷ h.pairs)))) e ∙ ap (λ rows. Some (made_of s c q rows)) w
+  assembled s c q rows e w =
+      ap (λ q. Some (made_of s c q (rows_of h.start.reject_ms dialogue (here ∷ h.pairs)))) e
+      ∙ ap (λ rows. Some (made_of s c q rows)) w

@@ -49,7 +49,8 @@ begin_context BeginVerdict.abnormal = None
 -- A Begin leads to Initiation Received, with its origin as the peer's identifier
 -- (Q.774, Dialogue begin).
 abbrev pub begun_life : Result Message FrameFault → Life
-begun_life (Ok (Message.begin origin portion components)) = Life.standing (State.received origin) (begin_context (begin_verdict portion))
+begun_life (Ok (Message.begin origin portion components)) =
+    Life.standing (State.received origin) (begin_context (begin_verdict portion))
 begun_life (Ok (Message.unidirectional portion components)) = Life.unborn
 begun_life (Ok (Message.end to portion components)) = Life.unborn
 begun_life (Ok (Message.go_on origin to portion components)) = Life.unborn
@@ -78,7 +79,8 @@ abbrev pub life_by_request : State → Option (List ℕ) → Request → Life
 life_by_request state context (Request.component asked) = Life.standing state context
 life_by_request state context (Request.dialogue (DialogueRequest.uni asked info)) = Life.over
 life_by_request state context (Request.dialogue (DialogueRequest.begin asked info)) = Life.standing State.sent asked
-life_by_request state context (Request.dialogue (DialogueRequest.go_on asked info)) = Life.standing (activated state) context
+life_by_request state context (Request.dialogue (DialogueRequest.go_on asked info)) =
+    Life.standing (activated state) context
 life_by_request state context (Request.dialogue (DialogueRequest.finish ending asked info)) = Life.over
 life_by_request state context (Request.dialogue (DialogueRequest.u_abort why info)) = Life.over
 
@@ -100,14 +102,16 @@ state_after_continue (State.active peer) origin = State.active peer
 -- A Continue whose dialogue portion is as it should be keeps the dialogue, any other ends it
 -- (Q.774, Abnormal procedures relating to dialogue control).
 abbrev pub life_by_verdict : State → Option (List ℕ) → List ℕ → PortionVerdict → Life
-life_by_verdict state context origin (PortionVerdict.normal told info) = Life.standing (state_after_continue state origin) context
+life_by_verdict state context origin (PortionVerdict.normal told info) =
+    Life.standing (state_after_continue state origin) context
 life_by_verdict state context origin PortionVerdict.abnormal = Life.over
 
 -- What a message to a live dialogue makes of it: a Continue may keep it, an End, an Abort and a faulty
 -- message end it. A Unidirectional and a Begin are to no dialogue
 -- (Q.774, Transaction state machine).
 abbrev pub life_by_message : State → Option (List ℕ) → Result Message FrameFault → Life
-life_by_message state context (Ok (Message.go_on origin to portion components)) = life_by_verdict state context origin (portion_verdict state context portion)
+life_by_message state context (Ok (Message.go_on origin to portion components)) =
+    life_by_verdict state context origin (portion_verdict state context portion)
 life_by_message state context (Ok (Message.end to portion components)) = Life.over
 life_by_message state context (Ok (Message.abort to reason)) = Life.over
 life_by_message state context (Err fault) = Life.over
@@ -124,7 +128,8 @@ life_if_live true state context bytes = life_by_message state context (frame_at 
 -- What an event that names a dialogue that stands makes of it, by whether it was accepted (own).
 abbrev pub life_by_event : State → Option (List ℕ) → Event → Bool → Life
 life_by_event state context Event.new_dialogue accepted = Life.standing state context
-life_by_event state context (Event.on_dialogue dialogue request) accepted = life_if_accepted accepted state context request
+life_by_event state context (Event.on_dialogue dialogue request) accepted =
+    life_if_accepted accepted state context request
 life_by_event state context (Event.received bytes) accepted = life_if_live (is_live state) state context bytes
 life_by_event state context (Event.moment now) accepted = Life.standing state context
 

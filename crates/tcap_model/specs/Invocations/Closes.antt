@@ -46,7 +46,8 @@ closing_of class timeout None (Mark.last body) = None
 closing_of class timeout None (Mark.more body) = None
 closing_of class timeout None (Mark.error code parameter) = None
 closing_of class timeout None (Mark.reject problem) = None
-closing_of class timeout (Some sent) (Mark.moment now) = if nat_le (sent + timeout) now then Some Closing.lapsed else None
+closing_of class timeout (Some sent) (Mark.moment now) =
+    if nat_le (sent + timeout) now then Some Closing.lapsed else None
 closing_of class timeout (Some sent) (Mark.last body) = closing_by_last class body
 closing_of class timeout (Some sent) (Mark.more body) = closing_by_more class
 closing_of class timeout (Some sent) (Mark.error code parameter) = closing_by_error class code parameter

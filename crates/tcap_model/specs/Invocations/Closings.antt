@@ -26,13 +26,16 @@ told_by_output n place (Output.component (ComponentIndication.invoked dialogue i
 told_by_output n place (Output.component (ComponentIndication.result_more dialogue number id body)) = []
 told_by_output n place (Output.component (ComponentIndication.local_reject dialogue id problem)) = []
 told_by_output n place (Output.component (ComponentIndication.remote_reject dialogue id problem by)) = []
-told_by_output n place (Output.component (ComponentIndication.closed dialogue number id closing)) = told_if n number (record { place = place; dialogue = dialogue; id = id; closing = closing })
+told_by_output n place (Output.component (ComponentIndication.closed dialogue number id closing)) =
+    told_if n number (record { place = place; dialogue = dialogue; id = id; closing = closing })
 told_by_output n place (Output.dropped why) = []
 
 -- The invocation was given up, with the identifier of the TC-U-CANCEL request (Q.771, User cancel).
 abbrev pub given_up_by : ℕ → Past → ℕ → Request → ℕ → List Told
-given_up_by n place dialogue (Request.component (ComponentRequest.u_cancel id)) number = told_if n number (record { place = place; dialogue = dialogue; id = id; closing = Closing.given_up })
-given_up_by n place dialogue (Request.component (ComponentRequest.invoke id class code parameter linked timeout)) number = []
+given_up_by n place dialogue (Request.component (ComponentRequest.u_cancel id)) number =
+    told_if n number (record { place = place; dialogue = dialogue; id = id; closing = Closing.given_up })
+given_up_by n place dialogue (Request.component (ComponentRequest.invoke id class code parameter linked timeout))
+    number = []
 given_up_by n place dialogue (Request.component (ComponentRequest.result_last id body)) number = []
 given_up_by n place dialogue (Request.component (ComponentRequest.result_more id body)) number = []
 given_up_by n place dialogue (Request.component (ComponentRequest.error_back id code parameter)) number = []

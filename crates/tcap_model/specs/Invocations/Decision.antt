@@ -10,7 +10,8 @@ use Rattle.tcap_model.specs.Histories.Pair.{Past}
 -- The closing indication that an outcome asks for at this place (own).
 abbrev pub told_outcome : Past → Invocation → Option Closing → Option Told
 told_outcome place i None = None
-told_outcome place i (Some closing) = Some (record { place = place; dialogue = i.dialogue; id = i.id; closing = closing })
+told_outcome place i (Some closing) =
+    Some (record { place = place; dialogue = i.dialogue; id = i.id; closing = closing })
 
 -- The same, where there is such an invocation (own).
 abbrev pub decided_of : Past → Option Invocation → Option Told

@@ -23,7 +23,8 @@ pub record Invocation : Type 0 where
 -- (Q.771, Component handling).
 abbrev pub invoked_under : ℕ → Request → Option ℕ → Option Invocation
 invoked_under dialogue request None = None
-invoked_under dialogue (Request.component (ComponentRequest.invoke id class code parameter linked timeout)) (Some n) = Some (record { number = n; dialogue = dialogue; id = id; class = class; timeout = timeout })
+invoked_under dialogue (Request.component (ComponentRequest.invoke id class code parameter linked timeout)) (Some n) =
+    Some (record { number = n; dialogue = dialogue; id = id; class = class; timeout = timeout })
 invoked_under dialogue (Request.component (ComponentRequest.result_last id body)) (Some n) = None
 invoked_under dialogue (Request.component (ComponentRequest.result_more id body)) (Some n) = None
 invoked_under dialogue (Request.component (ComponentRequest.error_back id code parameter)) (Some n) = None

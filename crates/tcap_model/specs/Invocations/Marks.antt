@@ -142,15 +142,18 @@ marks_by_event id before after event accepted =
 -- An event that doesn't name the dialogue means nothing (own).
 abbrev pub marks_if_named : Bool → ℕ → ℤ → Life → Pair → List Mark
 marks_if_named false dialogue id before pair = []
-marks_if_named true dialogue id before pair = marks_by_event id before (life_after dialogue before pair) pair.event (is_accepted pair.answer)
+marks_if_named true dialogue id before pair =
+    marks_by_event id before (life_after dialogue before pair) pair.event (is_accepted pair.answer)
 
 -- An event up to the birth means nothing (own).
 abbrev pub marks_after_birth : ℕ → ℤ → Life → Pair → List Mark
 marks_after_birth dialogue id Life.unborn pair = []
-marks_after_birth dialogue id (Life.standing state context) pair = marks_if_named (names pair.event dialogue) dialogue id (Life.standing state context) pair
+marks_after_birth dialogue id (Life.standing state context) pair =
+    marks_if_named (names pair.event dialogue) dialogue id (Life.standing state context) pair
 marks_after_birth dialogue id Life.over pair = marks_if_named (names pair.event dialogue) dialogue id Life.over pair
 
 -- What a pair means for an identifier of a dialogue, in order, by what stands before it
 -- (Q.774, Invocation state machine).
 abbrev pub marks : ℕ → ℤ → Pair → Past → List Noted
-marks dialogue id pair past = map (λ mark. record { clock = clock past; mark = mark }) (marks_after_birth dialogue id (life dialogue past) pair)
+marks dialogue id pair past =
+    map (λ mark. record { clock = clock past; mark = mark }) (marks_after_birth dialogue id (life dialogue past) pair)

@@ -13,7 +13,8 @@ use Rattle.tcap_model.specs.Invocations.Span.{up_to, span}
 -- What the first of some marks that closes gives, each judged by those before it (own).
 abbrev pub closing_after : Class → ℕ → List Noted → List Noted → Option Closing
 closing_after class timeout before [] = None
-closing_after class timeout before (noted ∷ others) = option_or (closes class timeout before noted) (closing_after class timeout (before ++ noted ∷ []) others)
+closing_after class timeout before (noted ∷ others) =
+    option_or (closes class timeout before noted) (closing_after class timeout (before ++ noted ∷ []) others)
 
 -- What the first mark of a span that closes gives (own).
 abbrev pub first_closing : Class → ℕ → List Noted → Option Closing
@@ -30,7 +31,9 @@ is_queued_in class timeout marks = is_none (sent_clock marks) && is_none (first_
 -- The invocation was sent: its Invoke went out, and no mark before that closes it. What closes it after
 -- that doesn't matter, be it in the same event (Q.774, Operation Sent).
 abbrev pub was_sent_in : Class → ℕ → List Noted → Bool
-was_sent_in class timeout marks = is_some (sent_clock marks) && is_none (first_closing class timeout (up_to (λ (noted : Noted). is_sent noted.mark) marks))
+was_sent_in class timeout marks =
+    is_some (sent_clock marks) && is_none (first_closing class timeout
+    (up_to (λ (noted : Noted). is_sent noted.mark) marks))
 
 -- The outcome of an invocation, where there is one (own).
 abbrev pub outcome_of : Option Invocation → Past → Option Closing

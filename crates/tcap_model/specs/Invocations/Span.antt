@@ -43,4 +43,5 @@ uses_id dialogue id p = is_invoked (has_id dialogue id) (invoked_by p.pair)
 -- The marks for the dialogue and the identifier of an invocation after its invoke, up to the next use
 -- of the identifier in that dialogue, in order of time (own).
 abbrev pub span : Invocation → Past → List Noted
-span i past = flat_map (λ p. marks i.dialogue i.id p.pair p.before) (up_to (uses_id i.dialogue i.id) (following (invokes_number i.number) (places past)))
+span i past = flat_map (λ p. marks i.dialogue i.id p.pair p.before)
+    (up_to (uses_id i.dialogue i.id) (following (invokes_number i.number) (places past)))

@@ -21,9 +21,11 @@ is_no_common (Source.provider n) = n == 2
 -- What an AARE in an Abort tells: where it isn't accepted, that there is no common dialogue portion or
 -- that the peer's user refused; an accepted one is abnormal (Q.774, Abort by the provider).
 abbrev pub response_told : ℕ → Bool → List ℕ → Bool → Source → List ℕ → Output
-response_told d version1 context true diagnostic info = Output.dialogue (DialogueIndication.p_abort d AbortCause.abnormal)
+response_told d version1 context true diagnostic info =
+    Output.dialogue (DialogueIndication.p_abort d AbortCause.abnormal)
 response_told d version1 context false diagnostic info =
-    if is_no_common diagnostic then Output.dialogue (DialogueIndication.p_abort d AbortCause.no_common) else Output.dialogue (DialogueIndication.u_abort d (Some (aare version1 context false diagnostic info)))
+    if is_no_common diagnostic then Output.dialogue (DialogueIndication.p_abort d AbortCause.no_common) else
+    Output.dialogue (DialogueIndication.u_abort d (Some (aare version1 context false diagnostic info)))
 
 -- What an ABRT tells: the user's abort, or an abnormal one by the provider
 -- (Q.774, Abort by the user; Q.774, Abort by the provider).
@@ -35,7 +37,8 @@ abort_pdu_told d false info = Output.dialogue (DialogueIndication.u_abort d (Som
 abbrev pub portion_told : ℕ → Result PduValue DialogueFault → Output
 portion_told d (Ok (abrt by_provider info)) = abort_pdu_told d by_provider info
 portion_told d (Ok (foreign external)) = Output.dialogue (DialogueIndication.u_abort d (Some (foreign external)))
-portion_told d (Ok (aare version1 context accepted diagnostic info)) = response_told d version1 context accepted diagnostic info
+portion_told d (Ok (aare version1 context accepted diagnostic info)) =
+    response_told d version1 context accepted diagnostic info
 portion_told d (Ok (aarq version1 context info)) = Output.dialogue (DialogueIndication.p_abort d AbortCause.abnormal)
 portion_told d (Ok (audt version1 context info)) = Output.dialogue (DialogueIndication.p_abort d AbortCause.abnormal)
 portion_told d (Err f) = Output.dialogue (DialogueIndication.p_abort d AbortCause.abnormal)
@@ -72,7 +75,9 @@ abnormal_abort peer = message_sent (Message.abort peer (Reason.portion (written_
 -- accepted, diagnostic "no common dialogue portion" by the provider; a context has at most 255 octets,
 -- so that it fits into a message (Q.774, Dialogue begin).
 abbrev pub version_abort : List ℕ → List ℕ → Output
-version_abort context peer = message_sent (Message.abort peer (Reason.portion (written_dialogue (PduValue.aare true context false (Source.provider 2) []))))
+version_abort context peer =
+    message_sent (Message.abort peer (Reason.portion
+    (written_dialogue (PduValue.aare true context false (Source.provider 2) []))))
 
 -- The P-Abort cause of a faulty message: 0 unrecognized message type, 2 badly formatted transaction
 -- portion, 3 incorrect transaction portion (Q.773, P-Abort cause).

@@ -42,7 +42,11 @@ telling output = record { told = output; reject = None }
 -- (Q.774, Component related abnormal conditions).
 abbrev pub rejecting : Option ℕ → Option ℤ → ProblemParts → Handled
 rejecting dialogue id problem =
-    record { told = Output.component (ComponentIndication.local_reject dialogue id problem); reject = Some (reject_back id problem) }
+    record {
+      told = Output.component (ComponentIndication.local_reject dialogue id problem);
+      reject =
+          Some (reject_back id problem);
+    }
 
 -- An answer that closes the invocation (Q.774, Invocation state machine).
 abbrev pub closing : SentInvocation → ℤ → Closing → Handled
@@ -52,13 +56,19 @@ closing sent id how = telling (Output.component (ComponentIndication.closed sent
 -- Reject, and the peer gets the Reject (Q.774, Component related abnormal conditions).
 abbrev pub closing_unexpected : SentInvocation → ℤ → ProblemParts → Handled
 closing_unexpected sent id problem =
-    record { told = Output.component (ComponentIndication.closed sent.dialogue sent.number id (Closing.rejected problem Rejector.local)); reject = Some (reject_back (Some id) problem) }
+    record {
+      told = Output.component (ComponentIndication.closed sent.dialogue sent.number id
+          (Closing.rejected problem Rejector.local));
+      reject = Some (reject_back (Some id) problem);
+    }
 
 -- An Invoke is told: it has no linked identifier, or that of an invocation that is Sent; with any
 -- other linked identifier it is rejected (Q.774, Component handling).
 abbrev pub invoke_handled : Option ℕ → Option SentInvocation → ℤ → Option ℤ → CodeParts → Option (List ℕ) → Handled
-invoke_handled dialogue sent id None code parameter = telling (Output.component (ComponentIndication.invoked dialogue id None code parameter))
-invoke_handled dialogue (Some sent) id (Some linked) code parameter = telling (Output.component (ComponentIndication.invoked dialogue id (Some linked) code parameter))
+invoke_handled dialogue sent id None code parameter =
+    telling (Output.component (ComponentIndication.invoked dialogue id None code parameter))
+invoke_handled dialogue (Some sent) id (Some linked) code parameter =
+    telling (Output.component (ComponentIndication.invoked dialogue id (Some linked) code parameter))
 invoke_handled dialogue None id (Some linked) code parameter = rejecting dialogue (Some id) unrecognized_linked
 
 -- A Return Result Last for an invocation that is Sent, by whether its class reports success: it closes
@@ -127,7 +137,12 @@ handled dialogue sent (Ok (result_last id body)) = last_handled dialogue sent id
 handled dialogue sent (Ok (result_more id body)) = more_handled dialogue sent id body
 handled dialogue sent (Ok (error_back id code parameter)) = error_handled dialogue sent id code parameter
 handled dialogue sent (Ok (reject_back id problem)) = reject_handled dialogue sent id problem
-handled dialogue sent (Err f) = record { told = Output.component (ComponentIndication.local_reject dialogue f.id f.problem); reject = fault_reject f }
+handled dialogue sent (Err f) =
+    record {
+      told = Output.component (ComponentIndication.local_reject dialogue f.id f.problem);
+      reject =
+          fault_reject f;
+    }
 
 -- What some components tell (Q.774, Component handling).
 abbrev pub told_of : List Handled → List Output

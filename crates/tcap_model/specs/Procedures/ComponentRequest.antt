@@ -6,17 +6,20 @@ use Rattle.tcap_model.specs.Procedures.QueueRules.{Invoking, Queued, queued}
 
 -- The component that a request queues, if it is a component request (Q.774, Component handling).
 abbrev pub component_of : Request → Option ComponentParts
-component_of (Request.component (ComponentRequest.invoke id class code parameter linked timeout)) = Some (ComponentParts.invoke id linked code parameter)
+component_of (Request.component (ComponentRequest.invoke id class code parameter linked timeout)) =
+    Some (ComponentParts.invoke id linked code parameter)
 component_of (Request.component (ComponentRequest.result_last id body)) = Some (ComponentParts.result_last id body)
 component_of (Request.component (ComponentRequest.result_more id body)) = Some (ComponentParts.result_more id body)
-component_of (Request.component (ComponentRequest.error_back id code parameter)) = Some (ComponentParts.error_back id code parameter)
+component_of (Request.component (ComponentRequest.error_back id code parameter)) =
+    Some (ComponentParts.error_back id code parameter)
 component_of (Request.component (ComponentRequest.u_reject id problem)) = Some (ComponentParts.reject_back id problem)
 component_of (Request.component (ComponentRequest.u_cancel id)) = None
 component_of (Request.dialogue asked) = None
 
 -- What an Invoke asks for: the invocation of this number, with the request's operation class (own).
 abbrev pub invoking_of : ℕ → Request → Option Invoking
-invoking_of number (Request.component (ComponentRequest.invoke id class code parameter linked timeout)) = Some (record { number = number; class = class })
+invoking_of number (Request.component (ComponentRequest.invoke id class code parameter linked timeout)) =
+    Some (record { number = number; class = class })
 invoking_of number (Request.component (ComponentRequest.result_last id body)) = None
 invoking_of number (Request.component (ComponentRequest.result_more id body)) = None
 invoking_of number (Request.component (ComponentRequest.error_back id code parameter)) = None

@@ -49,7 +49,8 @@ uni_by PortionVerdict.abnormal components = Reception.dropped DropCause.bad_dial
 -- A Begin is accepted or aborted, by its dialogue portion (Q.774, Dialogue begin).
 abbrev pub begin_by : BeginVerdict → List ℕ → List ℕ → Reception
 begin_by BeginVerdict.plain origin components = Reception.begun origin None [] components
-begin_by (BeginVerdict.with_context context info) origin components = Reception.begun origin (Some context) info components
+begin_by (BeginVerdict.with_context context info) origin components =
+    Reception.begun origin (Some context) info components
 begin_by (BeginVerdict.wrong_version context) origin components = Reception.aborted (version_abort context origin)
 begin_by BeginVerdict.abnormal origin components = Reception.aborted (abnormal_abort origin)
 
@@ -70,9 +71,12 @@ final_message_by None m = Reception.dropped DropCause.no_dialogue
 abbrev pub message_by : (ℕ → Bool) → Bool → Message → Reception
 message_by is_live is_full (Message.unidirectional portion components) = uni_by (uni_verdict portion) components
 message_by is_live is_full (Message.begin origin portion components) =
-    if is_full then Reception.aborted (abort_with resource_limitation origin) else begin_by (begin_verdict portion) origin components
-message_by is_live is_full (Message.go_on origin to portion components) = continue_by (addressed is_live to) origin (Message.go_on origin to portion components)
-message_by is_live is_full (Message.end to portion components) = final_message_by (addressed is_live to) (Message.end to portion components)
+    if is_full then Reception.aborted (abort_with resource_limitation origin) else begin_by (begin_verdict portion)
+    origin components
+message_by is_live is_full (Message.go_on origin to portion components) =
+    continue_by (addressed is_live to) origin (Message.go_on origin to portion components)
+message_by is_live is_full (Message.end to portion components) =
+    final_message_by (addressed is_live to) (Message.end to portion components)
 message_by is_live is_full (Message.abort to reason) = final_message_by (addressed is_live to) (Message.abort to reason)
 
 -- ---- faulty messages
@@ -115,7 +119,8 @@ fault_by first named abort f =
 abbrev pub faulty : (ℕ → Bool) → List ℕ → FrameFault → Reception
 faulty is_live [] f = Reception.dropped DropCause.bad_message
 faulty is_live (first ∷ bytes) f =
-    fault_by first (addressed_if_any is_live (front_at (first ∷ bytes)).1) (fault_abort f (front_at (first ∷ bytes)).0) f
+    fault_by first (addressed_if_any is_live (front_at (first ∷ bytes)).1) (fault_abort f (front_at (first ∷ bytes)).0)
+    f
 
 -- ---- all bytes
 
@@ -128,4 +133,5 @@ reading_by is_live is_full bytes (Err f) = faulty is_live bytes f
 -- none can be born: above 65,535 bytes they are dropped (Q.774, Transaction sublayer procedures).
 abbrev pub reception : (ℕ → Bool) → Bool → List ℕ → Reception
 reception is_live is_full bytes =
-    if nat_lt message_limit (length bytes) then Reception.dropped DropCause.too_long else reading_by is_live is_full bytes (frame_at bytes)
+    if nat_lt message_limit (length bytes) then Reception.dropped DropCause.too_long else reading_by is_live is_full
+    bytes (frame_at bytes)

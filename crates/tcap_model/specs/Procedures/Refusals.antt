@@ -21,17 +21,36 @@ use Rattle.tcap_model.specs.Procedures.RequestMessage.{message_of}
 -- The faults of each request, in the order in which they are judged; of several the first is
 -- answered, and want of memory is the last (own).
 abbrev pub faults_of : Request → List Fault
-faults_of (Request.component (ComponentRequest.invoke id class code parameter linked timeout)) = Fault.unknown_dialogue ∷ Fault.bad_timeout ∷ Fault.bad_oid ∷ Fault.bad_parameter ∷ Fault.invoke_id_in_use ∷ Fault.numbers_spent ∷ Fault.too_long ∷ Fault.out_of_memory ∷ []
-faults_of (Request.component (ComponentRequest.result_last id body)) = Fault.unknown_dialogue ∷ Fault.wrong_state ∷ Fault.bad_oid ∷ Fault.bad_parameter ∷ Fault.too_long ∷ Fault.out_of_memory ∷ []
-faults_of (Request.component (ComponentRequest.result_more id body)) = Fault.unknown_dialogue ∷ Fault.wrong_state ∷ Fault.bad_oid ∷ Fault.bad_parameter ∷ Fault.too_long ∷ Fault.out_of_memory ∷ []
-faults_of (Request.component (ComponentRequest.error_back id code parameter)) = Fault.unknown_dialogue ∷ Fault.wrong_state ∷ Fault.bad_oid ∷ Fault.bad_parameter ∷ Fault.too_long ∷ Fault.out_of_memory ∷ []
-faults_of (Request.component (ComponentRequest.u_reject id problem)) = Fault.unknown_dialogue ∷ Fault.wrong_state ∷ Fault.too_long ∷ Fault.out_of_memory ∷ []
+faults_of (Request.component (ComponentRequest.invoke id class code parameter linked timeout)) =
+    Fault.unknown_dialogue ∷ Fault.bad_timeout ∷ Fault.bad_oid ∷ Fault.bad_parameter ∷ Fault.invoke_id_in_use
+    ∷ Fault.numbers_spent ∷ Fault.too_long ∷ Fault.out_of_memory ∷ []
+faults_of (Request.component (ComponentRequest.result_last id body)) =
+    Fault.unknown_dialogue ∷ Fault.wrong_state ∷ Fault.bad_oid ∷ Fault.bad_parameter ∷ Fault.too_long
+    ∷ Fault.out_of_memory ∷ []
+faults_of (Request.component (ComponentRequest.result_more id body)) =
+    Fault.unknown_dialogue ∷ Fault.wrong_state ∷ Fault.bad_oid ∷ Fault.bad_parameter ∷ Fault.too_long
+    ∷ Fault.out_of_memory ∷ []
+faults_of (Request.component (ComponentRequest.error_back id code parameter)) =
+    Fault.unknown_dialogue ∷ Fault.wrong_state ∷ Fault.bad_oid ∷ Fault.bad_parameter ∷ Fault.too_long
+    ∷ Fault.out_of_memory ∷ []
+faults_of (Request.component (ComponentRequest.u_reject id problem)) =
+    Fault.unknown_dialogue ∷ Fault.wrong_state ∷ Fault.too_long ∷ Fault.out_of_memory ∷ []
 faults_of (Request.component (ComponentRequest.u_cancel id)) = Fault.unknown_dialogue ∷ Fault.no_such_invocation ∷ []
-faults_of (Request.dialogue (DialogueRequest.uni context info)) = Fault.unknown_dialogue ∷ Fault.wrong_state ∷ Fault.bad_oid ∷ Fault.bad_parameter ∷ Fault.no_context ∷ Fault.not_class_four ∷ Fault.too_long ∷ Fault.out_of_memory ∷ []
-faults_of (Request.dialogue (DialogueRequest.begin context info)) = Fault.unknown_dialogue ∷ Fault.wrong_state ∷ Fault.bad_oid ∷ Fault.bad_parameter ∷ Fault.no_context ∷ Fault.too_long ∷ Fault.out_of_memory ∷ []
-faults_of (Request.dialogue (DialogueRequest.go_on context info)) = Fault.unknown_dialogue ∷ Fault.wrong_state ∷ Fault.bad_oid ∷ Fault.bad_parameter ∷ Fault.no_context ∷ Fault.too_long ∷ Fault.out_of_memory ∷ []
-faults_of (Request.dialogue (DialogueRequest.finish ending context info)) = Fault.unknown_dialogue ∷ Fault.wrong_state ∷ Fault.bad_oid ∷ Fault.bad_parameter ∷ Fault.no_context ∷ Fault.too_long ∷ Fault.out_of_memory ∷ []
-faults_of (Request.dialogue (DialogueRequest.u_abort why info)) = Fault.unknown_dialogue ∷ Fault.wrong_state ∷ Fault.bad_parameter ∷ Fault.no_context ∷ Fault.too_long ∷ Fault.out_of_memory ∷ []
+faults_of (Request.dialogue (DialogueRequest.uni context info)) =
+    Fault.unknown_dialogue ∷ Fault.wrong_state ∷ Fault.bad_oid ∷ Fault.bad_parameter ∷ Fault.no_context
+    ∷ Fault.not_class_four ∷ Fault.too_long ∷ Fault.out_of_memory ∷ []
+faults_of (Request.dialogue (DialogueRequest.begin context info)) =
+    Fault.unknown_dialogue ∷ Fault.wrong_state ∷ Fault.bad_oid ∷ Fault.bad_parameter ∷ Fault.no_context ∷ Fault.too_long
+    ∷ Fault.out_of_memory ∷ []
+faults_of (Request.dialogue (DialogueRequest.go_on context info)) =
+    Fault.unknown_dialogue ∷ Fault.wrong_state ∷ Fault.bad_oid ∷ Fault.bad_parameter ∷ Fault.no_context ∷ Fault.too_long
+    ∷ Fault.out_of_memory ∷ []
+faults_of (Request.dialogue (DialogueRequest.finish ending context info)) =
+    Fault.unknown_dialogue ∷ Fault.wrong_state ∷ Fault.bad_oid ∷ Fault.bad_parameter ∷ Fault.no_context ∷ Fault.too_long
+    ∷ Fault.out_of_memory ∷ []
+faults_of (Request.dialogue (DialogueRequest.u_abort why info)) =
+    Fault.unknown_dialogue ∷ Fault.wrong_state ∷ Fault.bad_parameter ∷ Fault.no_context ∷ Fault.too_long
+    ∷ Fault.out_of_memory ∷ []
 
 -- The first fault of a list that holds (own).
 abbrev pub first_that : (Fault → Bool) → List Fault → Option Fault
@@ -42,7 +61,8 @@ first_that holds (f ∷ fs) = if holds f then Some f else first_that holds fs
 
 -- The timeout of an Invoke is 0 or above the limit (own).
 abbrev pub has_bad_timeout : Request → Bool
-has_bad_timeout (Request.component (ComponentRequest.invoke id class code parameter linked timeout)) = not (nat_lt 0 timeout && nat_le timeout moment_limit)
+has_bad_timeout (Request.component (ComponentRequest.invoke id class code parameter linked timeout)) =
+    not (nat_lt 0 timeout && nat_le timeout moment_limit)
 has_bad_timeout (Request.component (ComponentRequest.result_last id body)) = false
 has_bad_timeout (Request.component (ComponentRequest.result_more id body)) = false
 has_bad_timeout (Request.component (ComponentRequest.error_back id code parameter)) = false
@@ -111,10 +131,14 @@ abbrev pub has_no_context : State → Option (List ℕ) → Request → Bool
 has_no_context state known (Request.component asked) = false
 has_no_context state known (Request.dialogue (DialogueRequest.uni context info)) = lacks_context context info
 has_no_context state known (Request.dialogue (DialogueRequest.begin context info)) = lacks_context context info
-has_no_context state known (Request.dialogue (DialogueRequest.go_on context info)) = not (is_asked state known) && gives_any context info
-has_no_context state known (Request.dialogue (DialogueRequest.finish Ending.basic context info)) = not (is_asked state known) && gives_any context info
-has_no_context state known (Request.dialogue (DialogueRequest.finish Ending.prearranged context info)) = gives_any context info
-has_no_context state known (Request.dialogue (DialogueRequest.u_abort AbortReason.by_user info)) = not (has_peer state && is_some known) && is_filled info
+has_no_context state known (Request.dialogue (DialogueRequest.go_on context info)) =
+    not (is_asked state known) && gives_any context info
+has_no_context state known (Request.dialogue (DialogueRequest.finish Ending.basic context info)) =
+    not (is_asked state known) && gives_any context info
+has_no_context state known (Request.dialogue (DialogueRequest.finish Ending.prearranged context info)) =
+    gives_any context info
+has_no_context state known (Request.dialogue (DialogueRequest.u_abort AbortReason.by_user info)) =
+    not (has_peer state && is_some known) && is_filled info
 has_no_context state known (Request.dialogue (DialogueRequest.u_abort AbortReason.not_supported info)) = false
 
 -- A Unidirectional would carry nothing, or an Invoke of another class than 4
@@ -156,7 +180,9 @@ holds s request Fault.wrong_state = not (has_request s.standing.state s.standing
 holds s request Fault.invoke_id_in_use = s.is_in_use
 holds s request Fault.no_such_invocation = is_none s.pending
 holds s request Fault.bad_timeout = has_bad_timeout request
-holds s request Fault.too_long = passes_queue s.limit s.standing.queue (queued_for s.number request) || passes_message (message_of s.standing request)
+holds s request Fault.too_long =
+    passes_queue s.limit s.standing.queue (queued_for s.number request)
+    || passes_message (message_of s.standing request)
 holds s request Fault.dialogues_full = false
 holds s request Fault.dialogue_ids_spent = false
 holds s request Fault.numbers_spent = s.is_spent
@@ -172,4 +198,5 @@ due_on s request = first_that (holds s request) (faults_of request)
 
 -- The first fault of an Invoke that the dialogue alone can judge, where no number is left (own).
 abbrev pub invoke_fault : Situation → Request → Option Fault
-invoke_fault s request = first_that (holds s request) (Fault.bad_timeout ∷ Fault.bad_oid ∷ Fault.bad_parameter ∷ Fault.invoke_id_in_use ∷ [])
+invoke_fault s request =
+    first_that (holds s request) (Fault.bad_timeout ∷ Fault.bad_oid ∷ Fault.bad_parameter ∷ Fault.invoke_id_in_use ∷ [])

@@ -27,7 +27,8 @@ uni_portion (Some context) info = Some (written_dialogue (PduValue.audt true con
 -- the AARQ, diagnostic "null" by the user (Q.774, Dialogue continuation).
 abbrev pub accepting_portion : Option (List ℕ) → Option (List ℕ) → List ℕ → Option (List ℕ)
 accepting_portion None given info = None
-accepting_portion (Some asked) given info = Some (written_dialogue (PduValue.aare true (unwrap_or given asked) true (Source.user 0) info))
+accepting_portion (Some asked) given info =
+    Some (written_dialogue (PduValue.aare true (unwrap_or given asked) true (Source.user 0) info))
 
 -- The dialogue portion of a Continue or an End: the answer to an AARQ that isn't answered yet, and
 -- else none (Q.774, Dialogue continuation).
@@ -55,8 +56,10 @@ refusing_abort context info = Reason.portion (written_dialogue (PduValue.aare tr
 abbrev pub continue_message : Standing → State → Option (List ℕ) → Option Message
 continue_message d State.fresh portion = None
 continue_message d State.sent portion = None
-continue_message d (State.received peer) portion = Some (Message.go_on (local_id d.identifier) peer portion (joined d.queue))
-continue_message d (State.active peer) portion = Some (Message.go_on (local_id d.identifier) peer portion (joined d.queue))
+continue_message d (State.received peer) portion =
+    Some (Message.go_on (local_id d.identifier) peer portion (joined d.queue))
+continue_message d (State.active peer) portion =
+    Some (Message.go_on (local_id d.identifier) peer portion (joined d.queue))
 
 -- An End of a dialogue to its peer, once the peer is known (Q.774, Dialogue end).
 abbrev pub end_message : Standing → State → Option (List ℕ) → Option Message
@@ -82,10 +85,16 @@ refusing_message state (Some context) info = abort_message state (refusing_abort
 -- (Q.774, Dialogue control).
 abbrev pub message_of : Standing → Request → Option Message
 message_of d (Request.component asked) = None
-message_of d (Request.dialogue (DialogueRequest.uni context info)) = Some (Message.unidirectional (uni_portion context info) (joined d.queue))
-message_of d (Request.dialogue (DialogueRequest.begin context info)) = Some (Message.begin (local_id d.identifier) (begin_portion context info) (joined d.queue))
-message_of d (Request.dialogue (DialogueRequest.go_on context info)) = continue_message d d.state (answer_portion d.state d.context context info)
-message_of d (Request.dialogue (DialogueRequest.finish Ending.basic context info)) = end_message d d.state (answer_portion d.state d.context context info)
+message_of d (Request.dialogue (DialogueRequest.uni context info)) =
+    Some (Message.unidirectional (uni_portion context info) (joined d.queue))
+message_of d (Request.dialogue (DialogueRequest.begin context info)) =
+    Some (Message.begin (local_id d.identifier) (begin_portion context info) (joined d.queue))
+message_of d (Request.dialogue (DialogueRequest.go_on context info)) =
+    continue_message d d.state (answer_portion d.state d.context context info)
+message_of d (Request.dialogue (DialogueRequest.finish Ending.basic context info)) =
+    end_message d d.state (answer_portion d.state d.context context info)
 message_of d (Request.dialogue (DialogueRequest.finish Ending.prearranged context info)) = None
-message_of d (Request.dialogue (DialogueRequest.u_abort AbortReason.by_user info)) = abort_message d.state (user_abort d.context info)
-message_of d (Request.dialogue (DialogueRequest.u_abort AbortReason.not_supported info)) = refusing_message d.state d.context info
+message_of d (Request.dialogue (DialogueRequest.u_abort AbortReason.by_user info)) =
+    abort_message d.state (user_abort d.context info)
+message_of d (Request.dialogue (DialogueRequest.u_abort AbortReason.not_supported info)) =
+    refusing_message d.state d.context info

@@ -41,4 +41,5 @@ has_request state context (Request.dialogue (DialogueRequest.go_on given info)) 
 has_request state context (Request.dialogue (DialogueRequest.finish Ending.basic given info)) = has_peer state
 has_request state context (Request.dialogue (DialogueRequest.finish Ending.prearranged given info)) = true
 has_request state context (Request.dialogue (DialogueRequest.u_abort AbortReason.by_user info)) = true
-has_request state context (Request.dialogue (DialogueRequest.u_abort AbortReason.not_supported info)) = is_asked state context
+has_request state context (Request.dialogue (DialogueRequest.u_abort AbortReason.not_supported info)) =
+    is_asked state context

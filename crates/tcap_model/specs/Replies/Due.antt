@@ -18,7 +18,8 @@ use Rattle.tcap_model.specs.Words.State.{State}
 
 -- A dialogue that stands, as its history tells of it (own).
 abbrev pub standing_of : ℕ → Past → State → Option (List ℕ) → Standing
-standing_of dialogue past state context = record { identifier = dialogue; state = state; context = context; queue = queue dialogue past }
+standing_of dialogue past state context =
+    record { identifier = dialogue; state = state; context = context; queue = queue dialogue past }
 
 -- Whether an identifier is in use, where the request has one (own).
 abbrev pub held_if_any : ℕ → ℕ → Past → Option ℤ → Bool
@@ -45,7 +46,8 @@ situation_of h dialogue standing request = record {
 -- the dialogue is unknown (own).
 abbrev pub due_by : History → ℕ → Request → Life → Option Fault
 due_by h dialogue request Life.unborn = Some Fault.unknown_dialogue
-due_by h dialogue request (Life.standing state context) = due_on (situation_of h dialogue (standing_of dialogue h.pairs state context) request) request
+due_by h dialogue request (Life.standing state context) =
+    due_on (situation_of h dialogue (standing_of dialogue h.pairs state context) request) request
 due_by h dialogue request Life.over = Some Fault.unknown_dialogue
 
 -- The fault that is due for a request on a dialogue (own).

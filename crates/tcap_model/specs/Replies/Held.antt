@@ -27,7 +27,8 @@ is_rejectable Closing.given_up = false
 -- Whether a request rejects the answer for this identifier (Q.774, Wait for Reject).
 abbrev pub rejects_answer : ℤ → Request → Bool
 rejects_answer id (Request.component (ComponentRequest.u_reject None problem)) = false
-rejects_answer id (Request.component (ComponentRequest.u_reject (Some named) problem)) = int_eq named id && is_of_answer problem.kind
+rejects_answer id (Request.component (ComponentRequest.u_reject (Some named) problem)) =
+    int_eq named id && is_of_answer problem.kind
 rejects_answer id (Request.component (ComponentRequest.invoke named class code parameter linked timeout)) = false
 rejects_answer id (Request.component (ComponentRequest.result_last named body)) = false
 rejects_answer id (Request.component (ComponentRequest.result_more named body)) = false
@@ -55,7 +56,8 @@ since place past = take (length past - length place) past
 -- clock then (Q.774, Wait for Reject; the length is own).
 abbrev pub is_waiting : ℕ → ℕ → ℤ → Past → Told → Bool
 is_waiting reject_ms dialogue id past told =
-    is_rejectable told.closing && not (list_any (pair_ends_wait (clock told.place + reject_ms) dialogue id) (since told.place past))
+    is_rejectable told.closing && not (list_any (pair_ends_wait (clock told.place + reject_ms) dialogue id)
+    (since told.place past))
 
 -- Whether the identifier of an invocation is in use: nothing has decided yet, or it waits
 -- (Q.774, Invocation state machine).

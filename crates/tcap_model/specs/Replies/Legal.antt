@@ -10,12 +10,15 @@ use Rattle.tcap_model.specs.Replies.Reply.{reply}
 -- (own).
 abbrev pub AreReplies : Start → Past → Type 0
 AreReplies start [] = Unit {0}
-AreReplies start (pair ∷ past) = InRange pair.event × (pair.answer ≡ reply (record { start = start; pairs = past }) pair.event) × AreReplies start past
+AreReplies start (pair ∷ past) =
+    InRange pair.event × (pair.answer ≡ reply (record { start = start; pairs = past }) pair.event)
+    × AreReplies start past
 
 -- The limits and the starting counters are those that their types hold: 1 to 65,535 dialogues, a wait
 -- of at most 2^62 milliseconds, an identifier of 32 bits, a number of 64 bits (own).
 abbrev pub is_start : Start → Bool
-is_start start = (nat_le 1 start.max_dialogues && nat_le start.max_dialogues 65535) && (nat_le start.reject_ms moment_limit && (is_short start.next_dialogue && is_long start.next_number))
+is_start start = (nat_le 1 start.max_dialogues && nat_le start.max_dialogues 65535)
+    && (nat_le start.reject_ms moment_limit && (is_short start.next_dialogue && is_long start.next_number))
 
 -- A history is legal if it starts within the limits, and each answer in it is the reply to what stands
 -- before it (own).

@@ -26,7 +26,8 @@ use Rattle.tcap_model.specs.Words.State.{is_live}
 abbrev pub handled_after : ℕ → Past → List Item → List Item → List Handled
 handled_after dialogue past earlier [] = []
 handled_after dialogue past earlier (item ∷ items) =
-    handled (Some dialogue) (sent_there dialogue past earlier (subject_of item)) item ∷ handled_after dialogue past (earlier ++ item ∷ []) items
+    handled (Some dialogue) (sent_there dialogue past earlier (subject_of item)) item
+    ∷ handled_after dialogue past (earlier ++ item ∷ []) items
 
 -- The components in the contents of a component portion (Q.774, Component handling).
 abbrev pub handled_in : ℕ → Past → List ℕ → List Handled
@@ -41,15 +42,18 @@ rejects_of components = map (queued None) (flat_map (λ (h : Handled). option_to
 -- The queue after the Rejects of the components of a normal Continue; an abnormal one has none
 -- (Q.774, Component related abnormal conditions).
 abbrev pub queue_by_verdict : PortionVerdict → List Queued → List Handled → List Queued
-queue_by_verdict (PortionVerdict.normal context info) queue components = queue_each queue_limit queue (rejects_of components)
+queue_by_verdict (PortionVerdict.normal context info) queue components =
+    queue_each queue_limit queue (rejects_of components)
 queue_by_verdict PortionVerdict.abnormal queue components = queue
 
 -- The queue after a message to a live dialogue: that of an End doesn't matter any more (own).
 abbrev pub queue_by_message : ℕ → Past → Life → List Queued → Result Message FrameFault → List Queued
 queue_by_message dialogue past (Life.standing state context) queue (Ok (Message.go_on origin to portion components)) =
     queue_by_verdict (portion_verdict state context portion) queue (handled_in dialogue past components)
-queue_by_message dialogue past (Life.standing state context) queue (Ok (Message.unidirectional portion components)) = queue
-queue_by_message dialogue past (Life.standing state context) queue (Ok (Message.begin origin portion components)) = queue
+queue_by_message dialogue past (Life.standing state context) queue (Ok (Message.unidirectional portion components)) =
+    queue
+queue_by_message dialogue past (Life.standing state context) queue (Ok (Message.begin origin portion components)) =
+    queue
 queue_by_message dialogue past (Life.standing state context) queue (Ok (Message.end to portion components)) = queue
 queue_by_message dialogue past (Life.standing state context) queue (Ok (Message.abort to reason)) = queue
 queue_by_message dialogue past (Life.standing state context) queue (Err f) = queue
@@ -59,7 +63,8 @@ queue_by_message dialogue past Life.over queue read = queue
 -- The queue of a dialogue that a Begin gives birth to: the Rejects of its components
 -- (Q.774, Component related abnormal conditions).
 abbrev pub queue_at_birth : ℕ → Past → Result Message FrameFault → List Queued
-queue_at_birth dialogue past (Ok (Message.begin origin portion components)) = queue_each queue_limit [] (rejects_of (handled_in dialogue past components))
+queue_at_birth dialogue past (Ok (Message.begin origin portion components)) =
+    queue_each queue_limit [] (rejects_of (handled_in dialogue past components))
 queue_at_birth dialogue past (Ok (Message.unidirectional portion components)) = []
 queue_at_birth dialogue past (Ok (Message.go_on origin to portion components)) = []
 queue_at_birth dialogue past (Ok (Message.end to portion components)) = []
@@ -86,11 +91,17 @@ queue_after_cancel (Answer.refused fault) queue = queue
 -- The queue after an accepted request: a component request appends its component; TC-UNI, TC-BEGIN,
 -- TC-CONTINUE and a basic TC-END take all (Q.774, Component handling).
 abbrev pub queue_by_request : List Queued → Request → Answer → List Queued
-queue_by_request queue (Request.component (ComponentRequest.invoke id class code parameter linked timeout)) answer = queue ++ option_to_list (queued_for (number_in answer) (Request.component (ComponentRequest.invoke id class code parameter linked timeout)))
-queue_by_request queue (Request.component (ComponentRequest.result_last id body)) answer = queue ++ option_to_list (queued_for 0 (Request.component (ComponentRequest.result_last id body)))
-queue_by_request queue (Request.component (ComponentRequest.result_more id body)) answer = queue ++ option_to_list (queued_for 0 (Request.component (ComponentRequest.result_more id body)))
-queue_by_request queue (Request.component (ComponentRequest.error_back id code parameter)) answer = queue ++ option_to_list (queued_for 0 (Request.component (ComponentRequest.error_back id code parameter)))
-queue_by_request queue (Request.component (ComponentRequest.u_reject id problem)) answer = queue ++ option_to_list (queued_for 0 (Request.component (ComponentRequest.u_reject id problem)))
+queue_by_request queue (Request.component (ComponentRequest.invoke id class code parameter linked timeout)) answer =
+    queue ++ option_to_list (queued_for (number_in answer)
+    (Request.component (ComponentRequest.invoke id class code parameter linked timeout)))
+queue_by_request queue (Request.component (ComponentRequest.result_last id body)) answer =
+    queue ++ option_to_list (queued_for 0 (Request.component (ComponentRequest.result_last id body)))
+queue_by_request queue (Request.component (ComponentRequest.result_more id body)) answer =
+    queue ++ option_to_list (queued_for 0 (Request.component (ComponentRequest.result_more id body)))
+queue_by_request queue (Request.component (ComponentRequest.error_back id code parameter)) answer =
+    queue ++ option_to_list (queued_for 0 (Request.component (ComponentRequest.error_back id code parameter)))
+queue_by_request queue (Request.component (ComponentRequest.u_reject id problem)) answer =
+    queue ++ option_to_list (queued_for 0 (Request.component (ComponentRequest.u_reject id problem)))
 queue_by_request queue (Request.component (ComponentRequest.u_cancel id)) answer = queue_after_cancel answer queue
 queue_by_request queue (Request.dialogue (DialogueRequest.uni context info)) answer = []
 queue_by_request queue (Request.dialogue (DialogueRequest.begin context info)) answer = []
@@ -114,8 +125,10 @@ queue_by_bytes dialogue past (Life.standing state context) queue bytes =
 -- The queue after an event that names the dialogue (own).
 abbrev pub queue_by_event : ℕ → Past → List Queued → Event → Answer → List Queued
 queue_by_event dialogue past queue Event.new_dialogue answer = queue
-queue_by_event dialogue past queue (Event.on_dialogue named request) answer = queue_if_accepted (is_accepted answer) queue request answer
-queue_by_event dialogue past queue (Event.received bytes) answer = queue_by_bytes dialogue past (life dialogue past) queue bytes
+queue_by_event dialogue past queue (Event.on_dialogue named request) answer =
+    queue_if_accepted (is_accepted answer) queue request answer
+queue_by_event dialogue past queue (Event.received bytes) answer =
+    queue_by_bytes dialogue past (life dialogue past) queue bytes
 queue_by_event dialogue past queue (Event.moment now) answer = queue
 
 -- The queue that an event gives birth with (own).

@@ -58,24 +58,32 @@ last_answer dialogue past message = Answer.outputs (sent_if_any message ++ ended
 
 -- The answer to a request for which no fault is due (Q.774, Component handling; Q.774, Dialogue control).
 abbrev pub accepted_answer : History → Standing → Request → Answer
-accepted_answer h d (Request.component (ComponentRequest.invoke id class code parameter linked timeout)) = Answer.number (next_number h)
+accepted_answer h d (Request.component (ComponentRequest.invoke id class code parameter linked timeout)) =
+    Answer.number (next_number h)
 accepted_answer h d (Request.component (ComponentRequest.result_last id body)) = Answer.done
 accepted_answer h d (Request.component (ComponentRequest.result_more id body)) = Answer.done
 accepted_answer h d (Request.component (ComponentRequest.error_back id code parameter)) = Answer.done
 accepted_answer h d (Request.component (ComponentRequest.u_reject id problem)) = Answer.done
-accepted_answer h d (Request.component (ComponentRequest.u_cancel id)) = given_up_answer (pending d.identifier id h.pairs)
-accepted_answer h d (Request.dialogue (DialogueRequest.uni context info)) = last_answer d.identifier h.pairs (message_of d (Request.dialogue (DialogueRequest.uni context info)))
-accepted_answer h d (Request.dialogue (DialogueRequest.begin context info)) = Answer.outputs (sent_if_any (message_of d (Request.dialogue (DialogueRequest.begin context info))))
-accepted_answer h d (Request.dialogue (DialogueRequest.go_on context info)) = Answer.outputs (sent_if_any (message_of d (Request.dialogue (DialogueRequest.go_on context info))))
-accepted_answer h d (Request.dialogue (DialogueRequest.finish ending context info)) = last_answer d.identifier h.pairs (message_of d (Request.dialogue (DialogueRequest.finish ending context info)))
-accepted_answer h d (Request.dialogue (DialogueRequest.u_abort why info)) = last_answer d.identifier h.pairs (message_of d (Request.dialogue (DialogueRequest.u_abort why info)))
+accepted_answer h d (Request.component (ComponentRequest.u_cancel id)) =
+    given_up_answer (pending d.identifier id h.pairs)
+accepted_answer h d (Request.dialogue (DialogueRequest.uni context info)) =
+    last_answer d.identifier h.pairs (message_of d (Request.dialogue (DialogueRequest.uni context info)))
+accepted_answer h d (Request.dialogue (DialogueRequest.begin context info)) =
+    Answer.outputs (sent_if_any (message_of d (Request.dialogue (DialogueRequest.begin context info))))
+accepted_answer h d (Request.dialogue (DialogueRequest.go_on context info)) =
+    Answer.outputs (sent_if_any (message_of d (Request.dialogue (DialogueRequest.go_on context info))))
+accepted_answer h d (Request.dialogue (DialogueRequest.finish ending context info)) =
+    last_answer d.identifier h.pairs (message_of d (Request.dialogue (DialogueRequest.finish ending context info)))
+accepted_answer h d (Request.dialogue (DialogueRequest.u_abort why info)) =
+    last_answer d.identifier h.pairs (message_of d (Request.dialogue (DialogueRequest.u_abort why info)))
 
 -- The answer to a request, by the fault that is due (own).
 abbrev pub request_answer : History → ℕ → Request → Life → Option Fault → Answer
 request_answer h dialogue request before (Some f) = Answer.refused f
 request_answer h dialogue request Life.unborn None = Answer.refused Fault.unknown_dialogue
 request_answer h dialogue request Life.over None = Answer.refused Fault.unknown_dialogue
-request_answer h dialogue request (Life.standing state context) None = accepted_answer h (standing_of dialogue h.pairs state context) request
+request_answer h dialogue request (Life.standing state context) None =
+    accepted_answer h (standing_of dialogue h.pairs state context) request
 
 -- ---- messages
 
@@ -85,21 +93,27 @@ abbrev pub continue_outputs : ℕ → Past → State → List ℕ → List ℕ �
 continue_outputs dialogue past state origin components (PortionVerdict.normal context info) =
     Output.dialogue (DialogueIndication.go_on dialogue context info) ∷ told_of (handled_in dialogue past components)
 continue_outputs dialogue past state origin components PortionVerdict.abnormal =
-    abnormal_abort (peer_by state origin) ∷ Output.dialogue (DialogueIndication.p_abort dialogue AbortCause.abnormal) ∷ ended_in dialogue past []
+    abnormal_abort (peer_by state origin) ∷ Output.dialogue (DialogueIndication.p_abort dialogue AbortCause.abnormal)
+    ∷ ended_in dialogue past []
 
 -- An End to a live dialogue is told with its components, or it is abnormal; the dialogue is over
 -- (Q.774, Dialogue end; Q.774, Abnormal procedures relating to dialogue control).
 abbrev pub end_outputs : ℕ → Past → List ℕ → PortionVerdict → List Output
 end_outputs dialogue past components (PortionVerdict.normal context info) =
-    Output.dialogue (DialogueIndication.end dialogue context info) ∷ told_of (handled_in dialogue past components) ++ ended_in dialogue past (components_of components)
-end_outputs dialogue past components PortionVerdict.abnormal = Output.dialogue (DialogueIndication.p_abort dialogue AbortCause.abnormal) ∷ ended_in dialogue past []
+    Output.dialogue (DialogueIndication.end dialogue context info) ∷ told_of (handled_in dialogue past components)
+    ++ ended_in dialogue past (components_of components)
+end_outputs dialogue past components PortionVerdict.abnormal =
+    Output.dialogue (DialogueIndication.p_abort dialogue AbortCause.abnormal) ∷ ended_in dialogue past []
 
 -- What a message to a live dialogue gives; a Unidirectional and a Begin are to none
 -- (Q.774, Transaction sublayer procedures).
 abbrev pub message_outputs : ℕ → Past → State → Option (List ℕ) → Message → List Output
-message_outputs dialogue past state context (Message.go_on origin to portion components) = continue_outputs dialogue past state origin components (portion_verdict state context portion)
-message_outputs dialogue past state context (Message.end to portion components) = end_outputs dialogue past components (portion_verdict state context portion)
-message_outputs dialogue past state context (Message.abort to reason) = abort_told dialogue reason ∷ ended_in dialogue past []
+message_outputs dialogue past state context (Message.go_on origin to portion components) =
+    continue_outputs dialogue past state origin components (portion_verdict state context portion)
+message_outputs dialogue past state context (Message.end to portion components) =
+    end_outputs dialogue past components (portion_verdict state context portion)
+message_outputs dialogue past state context (Message.abort to reason) =
+    abort_told dialogue reason ∷ ended_in dialogue past []
 message_outputs dialogue past state context (Message.unidirectional portion components) = []
 message_outputs dialogue past state context (Message.begin origin portion components) = []
 
@@ -113,12 +127,15 @@ taken_outputs dialogue past Life.over message = []
 abbrev pub reception_outputs : History → Reception → List Output
 reception_outputs h (Reception.dropped why) = Output.dropped why ∷ []
 reception_outputs h (Reception.aborted abort) = abort ∷ []
-reception_outputs h (Reception.unidirectional context info components) = Output.dialogue (DialogueIndication.uni context info) ∷ uni_told (components_of components)
+reception_outputs h (Reception.unidirectional context info components) =
+    Output.dialogue (DialogueIndication.uni context info) ∷ uni_told (components_of components)
 reception_outputs h (Reception.begun origin context info components) =
-    Output.dialogue (DialogueIndication.begin (next_dialogue h) context info) ∷ told_of (handled_in (next_dialogue h) h.pairs components)
+    Output.dialogue (DialogueIndication.begin (next_dialogue h) context info)
+    ∷ told_of (handled_in (next_dialogue h) h.pairs components)
 reception_outputs h (Reception.taken dialogue message) = taken_outputs dialogue h.pairs (life dialogue h.pairs) message
 reception_outputs h (Reception.broken dialogue abort cause) =
-    option_to_list abort ++ Output.dialogue (DialogueIndication.p_abort dialogue (AbortCause.cause cause)) ∷ ended_in dialogue h.pairs []
+    option_to_list abort ++ Output.dialogue (DialogueIndication.p_abort dialogue (AbortCause.cause cause))
+    ∷ ended_in dialogue h.pairs []
 
 -- ---- moments
 
@@ -134,7 +151,8 @@ lapse_key l = l.deadline ∷ l.invocation.dialogue ∷ l.invocation.number ∷ [
 -- An invocation that is Sent lapses at a moment at or past its deadline (Q.774, Invocation timer).
 abbrev pub lapsing_by : ℕ → Bool → Invocation → Option ℕ → Option Lapsing
 lapsing_by now sent i None = None
-lapsing_by now sent i (Some deadline) = if sent && nat_le deadline now then Some (record { deadline = deadline; invocation = i }) else None
+lapsing_by now sent i (Some deadline) =
+    if sent && nat_le deadline now then Some (record { deadline = deadline; invocation = i }) else None
 
 -- The same, by the marks of the invocation (Q.774, Invocation timer).
 abbrev pub lapsing_at : Past → ℕ → Invocation → Option Lapsing
@@ -142,7 +160,8 @@ lapsing_at past now i = lapsing_by now (is_sent_in i.class i.timeout (span i pas
 
 -- What is told of a lapse: TC-L-CANCEL (Q.774, Invocation timer).
 abbrev pub lapse_told : Lapsing → Output
-lapse_told l = Output.component (ComponentIndication.closed l.invocation.dialogue l.invocation.number l.invocation.id Closing.lapsed)
+lapse_told l = Output.component (ComponentIndication.closed l.invocation.dialogue l.invocation.number l.invocation.id
+    Closing.lapsed)
 
 -- What lapses at a moment, in the order in which it is told (Q.774, Invocation timer).
 abbrev pub lapses : Past → ℕ → List Output
@@ -164,7 +183,9 @@ birth_answer h None = Answer.new_dialogue (next_dialogue h)
 -- (Q.774, Transaction sublayer procedures; Q.774, Component handling).
 abbrev pub reply : History → Event → Answer
 reply h Event.new_dialogue = birth_answer h (birth_due h)
-reply h (Event.on_dialogue dialogue request) = request_answer h dialogue request (life dialogue h.pairs) (due h dialogue request)
+reply h (Event.on_dialogue dialogue request) =
+    request_answer h dialogue request (life dialogue h.pairs) (due h dialogue request)
 reply h (Event.received bytes) =
-    Answer.outputs (reception_outputs h (reception (λ dialogue. live_in (life dialogue h.pairs)) (is_some (birth_due h)) bytes))
+    Answer.outputs (reception_outputs h (reception (λ dialogue. live_in (life dialogue h.pairs)) (is_some (birth_due h))
+    bytes))
 reply h (Event.moment now) = moment_answer h.pairs now (moment_fault now)

@@ -44,11 +44,12 @@ pub data IsAnswer (dialogue number : ℕ) (id : ℤ) : Output → Request → Ty
 
 -- A request was accepted by the far engine, in a dialogue whose peer's identifier is the four octets of
 -- this dialogue (own).
-pub record IsFarRequest (engine : Engine) (dialogue : ℕ) (request : Request) (pair : Pair) (before : Trace) : Type 0 where
-  pub far_dialogue : ℕ
-  pub is_event : pair.event ≡ Event.on_dialogue far_dialogue request
-  pub accepted : is_accepted pair.answer ≡ true
-  pub is_peer : peer_in (life far_dialogue (side (far engine) before)) ≡ Some (local_id dialogue)
+pub record IsFarRequest (engine : Engine) (dialogue : ℕ) (request : Request) (pair : Pair) (before : Trace) : Type 0
+  where
+    pub far_dialogue : ℕ
+    pub is_event : pair.event ≡ Event.on_dialogue far_dialogue request
+    pub accepted : is_accepted pair.answer ≡ true
+    pub is_peer : peer_in (life far_dialogue (side (far engine) before)) ≡ Some (local_id dialogue)
 
 -- Such a request stands before (own).
 pub record ComesFromFar (engine : Engine) (dialogue : ℕ) (request : Request) (trace : Trace) : Type 0 where

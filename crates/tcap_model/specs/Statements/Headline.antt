@@ -62,12 +62,14 @@ told_closing told = record { dialogue = told.dialogue; id = told.id; closing = t
 
 -- The ending of an invocation with this outcome (own).
 abbrev pub closing_due : Invocation → Option Closing → List ToldClosing
-closing_due i outcome = option_to_list (option_map (λ closing. record { dialogue = i.dialogue; id = i.id; closing = closing }) outcome)
+closing_due i outcome =
+    option_to_list (option_map (λ closing. record { dialogue = i.dialogue; id = i.id; closing = closing }) outcome)
 
 -- The closing indications of an invocation are none where it has no outcome, and else one: its outcome
 -- with its contents, with the invocation's dialogue and identifier (own).
 abbrev pub HasOutcome : History → ℕ → Type 0
-HasOutcome h n = (i : Invocation) → invocation_of n h.pairs ≡ Some i → map told_closing (closings n h.pairs) ≡ closing_due i (outcome_of (Some i) h.pairs)
+HasOutcome h n = (i : Invocation) → invocation_of n h.pairs ≡ Some i
+    → map told_closing (closings n h.pairs) ≡ closing_due i (outcome_of (Some i) h.pairs)
 
 -- ---- counting
 
@@ -75,8 +77,10 @@ HasOutcome h n = (i : Invocation) → invocation_of n h.pairs ≡ Some i → map
 -- deadline was accepted, or its dialogue is over (own).
 pub record Counted (h : History) (n : ℕ) : Type 0 where
   pub most : length (closings n h.pairs) ≤ 1
-  pub late : (i : Invocation) (t : ℕ) → invocation_of n h.pairs ≡ Some i → deadline i h.pairs ≡ Some t → t ≤ clock h.pairs → length (closings n h.pairs) ≡ 1
-  pub over : (i : Invocation) → invocation_of n h.pairs ≡ Some i → life i.dialogue h.pairs ≡ Life.over → length (closings n h.pairs) ≡ 1
+  pub late : (i : Invocation) (t : ℕ) → invocation_of n h.pairs ≡ Some i → deadline i h.pairs ≡ Some t
+      → t ≤ clock h.pairs → length (closings n h.pairs) ≡ 1
+  pub over : (i : Invocation) → invocation_of n h.pairs ≡ Some i → life i.dialogue h.pairs ≡ Life.over
+      → length (closings n h.pairs) ≡ 1
 
 -- ---- bound
 

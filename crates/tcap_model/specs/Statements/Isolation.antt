@@ -33,7 +33,8 @@ compared dialogue (Event.moment now) answer = answer_within dialogue answer
 -- The reply to an event is the one that the dialogue's own history gives, as far as it is compared
 -- (own).
 abbrev pub IsAlone : History → ℕ → Event → Type 0
-IsAlone h dialogue event = compared dialogue event (reply h event) ≡ compared dialogue event (reply (history_of dialogue h) event)
+IsAlone h dialogue event =
+    compared dialogue event (reply h event) ≡ compared dialogue event (reply (history_of dialogue h) event)
 
 -- Neither other dialogues nor their peers are seen in a dialogue, be it born or not: for each event that
 -- names it, unless no invocation number is left (own).

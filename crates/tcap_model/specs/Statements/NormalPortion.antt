@@ -24,7 +24,8 @@ pub data IsAcceptance : PduValue → Type 0 where
 -- where one must stand (Q.774, Dialogue continuation).
 pub data IsNormal (state : State) (context : Option (List ℕ)) : Option (List ℕ) → Type 0 where
   absent : NoneMayStand state context → IsNormal state context None
-  accepting : (portion : List ℕ) (pdu : PduValue) → MustStand state context → SpellsDialogue pdu portion → IsAcceptance pdu →
+  accepting : (portion : List ℕ) (pdu : PduValue) → MustStand state context → SpellsDialogue pdu portion
+      → IsAcceptance pdu →
       IsNormal state context (Some portion)
 
 -- It is abnormal: absent where an acceptance must stand, there where none may stand; or where an
@@ -33,7 +34,8 @@ pub data IsNormal (state : State) (context : Option (List ℕ)) : Option (List �
 pub data IsAbnormal (state : State) (context : Option (List ℕ)) : Option (List ℕ) → Type 0 where
   missing : MustStand state context → IsAbnormal state context None
   not_allowed : (portion : List ℕ) → NoneMayStand state context → IsAbnormal state context (Some portion)
-  another : (portion : List ℕ) (pdu : PduValue) → MustStand state context → SpellsDialogue pdu portion → (IsAcceptance pdu → ⊥) →
+  another : (portion : List ℕ) (pdu : PduValue) → MustStand state context → SpellsDialogue pdu portion
+      → (IsAcceptance pdu → ⊥) →
       IsAbnormal state context (Some portion)
   unspelled : (portion : List ℕ) → MustStand state context → ((pdu : PduValue) → SpellsDialogue pdu portion → ⊥) →
       IsAbnormal state context (Some portion)

@@ -40,9 +40,11 @@ answer_within dialogue (Answer.refused fault) = Answer.refused fault
 -- A pair without the outputs of other dialogues, where it is that of a moment (own).
 abbrev pub pair_within : ℕ → Event → Answer → Pair
 pair_within dialogue Event.new_dialogue answer = record { event = Event.new_dialogue; answer = answer }
-pair_within dialogue (Event.on_dialogue asked request) answer = record { event = Event.on_dialogue asked request; answer = answer }
+pair_within dialogue (Event.on_dialogue asked request) answer =
+    record { event = Event.on_dialogue asked request; answer = answer }
 pair_within dialogue (Event.received bytes) answer = record { event = Event.received bytes; answer = answer }
-pair_within dialogue (Event.moment now) answer = record { event = Event.moment now; answer = answer_within dialogue answer }
+pair_within dialogue (Event.moment now) answer =
+    record { event = Event.moment now; answer = answer_within dialogue answer }
 
 -- Whether it is a moment (own).
 abbrev pub is_moment : Event → Bool
@@ -53,10 +55,13 @@ is_moment (Event.moment now) = true
 
 -- A dialogue sees every moment, its birth, and after it what names it (own).
 abbrev pub is_seen_by : ℕ → Pair → Past → Bool
-is_seen_by dialogue pair past = (is_moment pair.event || is_birth_of dialogue pair) || (was_born dialogue past && names pair.event dialogue)
+is_seen_by dialogue pair past =
+    (is_moment pair.event || is_birth_of dialogue pair) || (was_born dialogue past && names pair.event dialogue)
 
 -- The history of one dialogue: its birth, the pairs after it that name it, and the moments before it,
 -- and in the answers to moments the outputs of this dialogue alone (own).
 abbrev pub only : ℕ → Past → Past
 only dialogue [] = []
-only dialogue (pair ∷ past) = if is_seen_by dialogue pair past then pair_within dialogue pair.event pair.answer ∷ only dialogue past else only dialogue past
+only dialogue (pair ∷ past) =
+    if is_seen_by dialogue pair past then pair_within dialogue pair.event pair.answer
+    ∷ only dialogue past else only dialogue past

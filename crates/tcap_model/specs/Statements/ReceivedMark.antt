@@ -17,7 +17,8 @@ use Rattle.tcap_model.specs.Words.State.{State, is_live}
 
 -- Bytes were received that name a dialogue, which is live in this state, with this application context
 -- (Q.774, Transaction state machine).
-pub record Reaches (dialogue : ℕ) (state : State) (context : Option (List ℕ)) (bytes : List ℕ) (pair : Pair) (past : Past) : Type 0 where
+pub record Reaches (dialogue : ℕ) (state : State) (context : Option (List ℕ)) (bytes : List ℕ) (pair : Pair)
+    (past : Past) : Type 0 where
   pub is_event : pair.event ≡ Event.received bytes
   pub names_it : NamesDialogue dialogue bytes
   pub is_life : life dialogue past ≡ Life.standing state context

@@ -34,7 +34,8 @@ abbrev pub IsLocalReject : ℕ → Option ℤ → ProblemParts → Output → Ty
 IsLocalReject dialogue id problem output =
     (output ≡ Output.component (ComponentIndication.local_reject (Some dialogue) id problem))
     ⊎ ((number : ℕ) × (named : ℤ) × (id ≡ Some named)
-    × (output ≡ Output.component (ComponentIndication.closed dialogue number named (Closing.rejected problem Rejector.local))))
+    × (output ≡ Output.component (ComponentIndication.closed dialogue number named
+    (Closing.rejected problem Rejector.local))))
 
 -- A Reject was formed here: its problem was told before, in the answer to received bytes (own).
 pub record WasFormed (dialogue : ℕ) (component : ComponentParts) (past : Past) : Type 0 where
@@ -57,7 +58,8 @@ ComesFrom dialogue past component = WasRequested dialogue component past ⊎ Was
 
 -- The components that the octets of a Send have are those of the dialogue whose request sent it, and
 -- none of them can't be read (own).
-pub record SentFromOne (event : Event) (past : Past) (components : List ComponentParts) (fault : Option FaultParts) : Type 0 where
+pub record SentFromOne (event : Event) (past : Past) (components : List ComponentParts)
+    (fault : Option FaultParts) : Type 0 where
   pub dialogue : ℕ
   pub request : Request
   pub is_event : event ≡ Event.on_dialogue dialogue request

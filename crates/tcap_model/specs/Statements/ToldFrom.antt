@@ -16,19 +16,36 @@ use Rattle.tcap_model.specs.Statements.Places.{StandsIn, Tells}
 
 -- An indication stands for a component (Q.771, Component handling).
 pub data StandsFor : Output → ComponentParts → Type 0 where
-  an_invoke : (dialogue : Option ℕ) (id : ℤ) (linked : Option ℤ) (code : CodeParts) (parameter : Option (List ℕ)) → StandsFor (Output.component (ComponentIndication.invoked dialogue id linked code parameter)) (ComponentParts.invoke id linked code parameter)
-  a_result_more : (dialogue number : ℕ) (id : ℤ) (body : Option BodyParts) → StandsFor (Output.component (ComponentIndication.result_more dialogue number id body)) (ComponentParts.result_more id body)
-  a_result_last : (dialogue number : ℕ) (id : ℤ) (body : Option BodyParts) → StandsFor (Output.component (ComponentIndication.closed dialogue number id (Closing.result_last body))) (ComponentParts.result_last id body)
-  an_error : (dialogue number : ℕ) (id : ℤ) (code : CodeParts) (parameter : Option (List ℕ)) → StandsFor (Output.component (ComponentIndication.closed dialogue number id (Closing.error_back code parameter))) (ComponentParts.error_back id code parameter)
-  a_reject : (dialogue number : ℕ) (id : ℤ) (problem : ProblemParts) → StandsFor (Output.component (ComponentIndication.closed dialogue number id (Closing.rejected problem Rejector.remote_user))) (ComponentParts.reject_back (Some id) problem)
+  an_invoke : (dialogue : Option ℕ) (id : ℤ) (linked : Option ℤ) (code : CodeParts) (parameter : Option (List ℕ))
+      → StandsFor (Output.component (ComponentIndication.invoked dialogue id linked code parameter))
+      (ComponentParts.invoke id linked code parameter)
+  a_result_more : (dialogue number : ℕ) (id : ℤ) (body : Option BodyParts)
+      → StandsFor (Output.component (ComponentIndication.result_more dialogue number id body))
+      (ComponentParts.result_more id body)
+  a_result_last : (dialogue number : ℕ) (id : ℤ) (body : Option BodyParts)
+      → StandsFor (Output.component (ComponentIndication.closed dialogue number id (Closing.result_last body)))
+      (ComponentParts.result_last id body)
+  an_error : (dialogue number : ℕ) (id : ℤ) (code : CodeParts) (parameter : Option (List ℕ))
+      → StandsFor (Output.component (ComponentIndication.closed dialogue number id (Closing.error_back code parameter)))
+      (ComponentParts.error_back id code parameter)
+  a_reject : (dialogue number : ℕ) (id : ℤ) (problem : ProblemParts)
+      → StandsFor (Output.component (ComponentIndication.closed dialogue number id
+      (Closing.rejected problem Rejector.remote_user))) (ComponentParts.reject_back (Some id) problem)
 
 -- The indications that stand for a component (Q.771, Component handling).
 pub data IsOfComponent : Output → Type 0 where
-  invoke : (dialogue : Option ℕ) (id : ℤ) (linked : Option ℤ) (code : CodeParts) (parameter : Option (List ℕ)) → IsOfComponent (Output.component (ComponentIndication.invoked dialogue id linked code parameter))
-  result_more : (dialogue number : ℕ) (id : ℤ) (body : Option BodyParts) → IsOfComponent (Output.component (ComponentIndication.result_more dialogue number id body))
-  result_last : (dialogue number : ℕ) (id : ℤ) (body : Option BodyParts) → IsOfComponent (Output.component (ComponentIndication.closed dialogue number id (Closing.result_last body)))
-  error_back : (dialogue number : ℕ) (id : ℤ) (code : CodeParts) (parameter : Option (List ℕ)) → IsOfComponent (Output.component (ComponentIndication.closed dialogue number id (Closing.error_back code parameter)))
-  rejected : (dialogue number : ℕ) (id : ℤ) (problem : ProblemParts) → IsOfComponent (Output.component (ComponentIndication.closed dialogue number id (Closing.rejected problem Rejector.remote_user)))
+  invoke : (dialogue : Option ℕ) (id : ℤ) (linked : Option ℤ) (code : CodeParts) (parameter : Option (List ℕ))
+      → IsOfComponent (Output.component (ComponentIndication.invoked dialogue id linked code parameter))
+  result_more : (dialogue number : ℕ) (id : ℤ) (body : Option BodyParts)
+      → IsOfComponent (Output.component (ComponentIndication.result_more dialogue number id body))
+  result_last : (dialogue number : ℕ) (id : ℤ) (body : Option BodyParts)
+      → IsOfComponent (Output.component (ComponentIndication.closed dialogue number id (Closing.result_last body)))
+  error_back : (dialogue number : ℕ) (id : ℤ) (code : CodeParts) (parameter : Option (List ℕ))
+      → IsOfComponent (Output.component (ComponentIndication.closed dialogue number id
+      (Closing.error_back code parameter)))
+  rejected : (dialogue number : ℕ) (id : ℤ) (problem : ProblemParts)
+      → IsOfComponent (Output.component (ComponentIndication.closed dialogue number id
+      (Closing.rejected problem Rejector.remote_user)))
 
 -- An indication in the answer to received bytes stands for one of the components that these spell
 -- before the first that can't be read (own).

@@ -43,11 +43,16 @@ UsesOnce engine dialogue trace =
 -- The requests that answer an Invoke: results, errors, and Rejects of the Invoke
 -- (Q.771, Component handling).
 pub data AnswersInvoke (id : ℤ) : Request → Type 0 where
-  a_result_last : (body : Option BodyParts) → AnswersInvoke id (Request.component (ComponentRequest.result_last id body))
-  a_result_more : (body : Option BodyParts) → AnswersInvoke id (Request.component (ComponentRequest.result_more id body))
-  an_error : (code : CodeParts) (parameter : Option (List ℕ)) → AnswersInvoke id (Request.component (ComponentRequest.error_back id code parameter))
-  a_general_reject : (code : ℕ) → AnswersInvoke id (Request.component (ComponentRequest.u_reject (Some id) (record { kind = kind.General; code = code })))
-  an_invoke_reject : (code : ℕ) → AnswersInvoke id (Request.component (ComponentRequest.u_reject (Some id) (record { kind = kind.Invoke; code = code })))
+  a_result_last : (body : Option BodyParts) → AnswersInvoke id
+      (Request.component (ComponentRequest.result_last id body))
+  a_result_more : (body : Option BodyParts) → AnswersInvoke id
+      (Request.component (ComponentRequest.result_more id body))
+  an_error : (code : CodeParts) (parameter : Option (List ℕ))
+      → AnswersInvoke id (Request.component (ComponentRequest.error_back id code parameter))
+  a_general_reject : (code : ℕ) → AnswersInvoke id
+      (Request.component (ComponentRequest.u_reject (Some id) (record { kind = kind.General; code = code })))
+  an_invoke_reject : (code : ℕ) → AnswersInvoke id
+      (Request.component (ComponentRequest.u_reject (Some id) (record { kind = kind.Invoke; code = code })))
 
 -- An Invoke with this identifier was told in this dialogue before (own).
 pub record WasInvoked (dialogue : ℕ) (id : ℤ) (past : Past) : Type 0 where
@@ -57,7 +62,8 @@ pub record WasInvoked (dialogue : ℕ) (id : ℤ) (past : Past) : Type 0 where
   pub code : CodeParts
   pub parameter : Option (List ℕ)
   pub stands : StandsIn pair before past
-  pub tells : Tells pair.answer (Output.component (ComponentIndication.invoked (Some dialogue) id linked code parameter))
+  pub tells : Tells pair.answer (Output.component
+      (ComponentIndication.invoked (Some dialogue) id linked code parameter))
 
 -- An accepted request that answers an Invoke stands in a history (own).
 pub record AcceptedAnswer (past : Past) : Type 0 where
@@ -112,17 +118,19 @@ Once trace = (engine : Engine) (number : ℕ) → length (closings number (side 
 
 -- An accepted invoke with this identifier, linked identifier, code and parameter, whose Invoke was sent
 -- (own).
-pub record WasAsked (id : ℤ) (linked : Option ℤ) (code : CodeParts) (parameter : Option (List ℕ)) (past : Past) : Type 0 where
-  pub pair : Pair
-  pub before : Past
-  pub dialogue : ℕ
-  pub class : Class
-  pub timeout : ℕ
-  pub number : ℕ
-  pub stands : StandsIn pair before past
-  pub is_event : pair.event ≡ Event.on_dialogue dialogue (Request.component (ComponentRequest.invoke id class code parameter linked timeout))
-  pub is_answer : pair.answer ≡ Answer.number number
-  pub was_sent : WasSent number past
+pub record WasAsked (id : ℤ) (linked : Option ℤ) (code : CodeParts) (parameter : Option (List ℕ)) (past : Past) : Type 0
+  where
+    pub pair : Pair
+    pub before : Past
+    pub dialogue : ℕ
+    pub class : Class
+    pub timeout : ℕ
+    pub number : ℕ
+    pub stands : StandsIn pair before past
+    pub is_event : pair.event ≡ Event.on_dialogue dialogue
+        (Request.component (ComponentRequest.invoke id class code parameter linked timeout))
+    pub is_answer : pair.answer ≡ Answer.number number
+    pub was_sent : WasSent number past
 
 -- An engine tells an Invoke (own).
 pub record ToldInvoke (engine : Engine) (dialogue : Option ℕ) (trace : Trace) : Type 0 where

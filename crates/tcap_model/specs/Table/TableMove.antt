@@ -73,13 +73,19 @@ reject_queued (Some reject) = queued None reject ∷ []
 
 -- One component before those that follow it (own).
 abbrev pub walked_before : Handled → Walked → Walked
-walked_before h w = record { told = h.told ∷ w.told; rejects = reject_queued h.reject ++ w.rejects; invocations = w.invocations }
+walked_before h w = record {
+  told = h.told ∷ w.told;
+  rejects = reject_queued h.reject ++ w.rejects;
+  invocations =
+      w.invocations;
+}
 
 -- The components of a message to a dialogue, in order (Q.774, Component handling).
 abbrev pub walked : ℕ → ℕ → InvocationList → List Item → Walked
 walked dialogue clock list [] = record { told = []; rejects = []; invocations = list }
 walked dialogue clock list (item ∷ items) =
-    walked_before (handled (Some dialogue) (sent_by_rows dialogue list (subject_of item)) item) (walked dialogue clock (after_item clock list item) items)
+    walked_before (handled (Some dialogue) (sent_by_rows dialogue list (subject_of item)) item)
+    (walked dialogue clock (after_item clock list item) items)
 
 -- The components in the contents of a component portion (Q.774, Component handling).
 abbrev pub walked_in : ℕ → Dialogue → List ℕ → Walked
@@ -89,7 +95,8 @@ walked_in clock d components = walked d.standing.identifier clock d.invocations 
 
 -- Each invocation that is Queued or Sent is told as ended, by number (Q.774, Component handling).
 abbrev pub ended_told : ℕ → InvocationList → List Output
-ended_told dialogue list = map (λ e. Output.component (ComponentIndication.closed dialogue e.0 e.1 Closing.ended)) (ended_at list.rows)
+ended_told dialogue list =
+    map (λ e. Output.component (ComponentIndication.closed dialogue e.0 e.1 Closing.ended)) (ended_at list.rows)
 
 -- A dialogue that is over: nothing is queued, and no invocation is left (own).
 abbrev pub closed_dialogue : Dialogue → Dialogue
@@ -99,7 +106,12 @@ closed_dialogue d = with_queue (with_invocations d (with_rows d.invocations []))
 -- (Q.774, Component handling).
 abbrev pub over_with : Dialogue → List Output → InvocationList → Moved
 over_with d first list =
-    record { answer = Answer.outputs (first ++ ended_told d.standing.identifier list); after = closed_dialogue d; is_over = true }
+    record {
+      answer = Answer.outputs (first ++ ended_told d.standing.identifier list);
+      after =
+          closed_dialogue d;
+      is_over = true;
+    }
 
 -- ---- requests
 
@@ -130,25 +142,43 @@ freed_by list (Some id) kind.Error = after_free_wait list id
 abbrev pub giving_up : Dialogue → ℤ → Option ℕ → Moved
 giving_up d id None = answering d (Answer.refused Fault.no_such_invocation)
 giving_up d id (Some number) =
-    answering (with_queue (with_invocations d (after_give_up d.invocations id)) (without_invoke number d.standing.queue)) (Answer.given_up number)
+    answering (with_queue (with_invocations d (after_give_up d.invocations id))
+    (without_invoke number d.standing.queue)) (Answer.given_up number)
 
 -- A request that is accepted (Q.774, Component handling; Q.774, Dialogue control).
 abbrev pub accepted : Setting → Dialogue → Request → Moved
 accepted s d (Request.component (ComponentRequest.invoke id class code parameter linked timeout)) =
-    answering (with_queued (with_invocations d (added d.invocations id s.number class timeout)) (queued_for s.number (Request.component (ComponentRequest.invoke id class code parameter linked timeout)))) (Answer.number s.number)
-accepted s d (Request.component (ComponentRequest.result_last id body)) = answering (with_queued d (queued_for s.number (Request.component (ComponentRequest.result_last id body)))) Answer.done
-accepted s d (Request.component (ComponentRequest.result_more id body)) = answering (with_queued d (queued_for s.number (Request.component (ComponentRequest.result_more id body)))) Answer.done
-accepted s d (Request.component (ComponentRequest.error_back id code parameter)) = answering (with_queued d (queued_for s.number (Request.component (ComponentRequest.error_back id code parameter)))) Answer.done
+    answering (with_queued (with_invocations d (added d.invocations id s.number class timeout))
+    (queued_for s.number (Request.component (ComponentRequest.invoke id class code parameter linked timeout))))
+    (Answer.number s.number)
+accepted s d (Request.component (ComponentRequest.result_last id body)) =
+    answering (with_queued d (queued_for s.number (Request.component (ComponentRequest.result_last id body))))
+    Answer.done
+accepted s d (Request.component (ComponentRequest.result_more id body)) =
+    answering (with_queued d (queued_for s.number (Request.component (ComponentRequest.result_more id body))))
+    Answer.done
+accepted s d (Request.component (ComponentRequest.error_back id code parameter)) =
+    answering (with_queued d (queued_for s.number (Request.component (ComponentRequest.error_back id code parameter))))
+    Answer.done
 accepted s d (Request.component (ComponentRequest.u_reject id problem)) =
-    answering (with_queued (with_invocations d (freed_by d.invocations id problem.kind)) (queued_for s.number (Request.component (ComponentRequest.u_reject id problem)))) Answer.done
+    answering (with_queued (with_invocations d (freed_by d.invocations id problem.kind))
+    (queued_for s.number (Request.component (ComponentRequest.u_reject id problem)))) Answer.done
 accepted s d (Request.component (ComponentRequest.u_cancel id)) = giving_up d id (given_up_at d.invocations.rows id)
-accepted s d (Request.dialogue (DialogueRequest.uni context info)) = over_with d (sent_if_any (message_of d.standing (Request.dialogue (DialogueRequest.uni context info)))) d.invocations
+accepted s d (Request.dialogue (DialogueRequest.uni context info)) =
+    over_with d (sent_if_any (message_of d.standing (Request.dialogue (DialogueRequest.uni context info))))
+    d.invocations
 accepted s d (Request.dialogue (DialogueRequest.begin context info)) =
-    answering (in_context (in_state (gone_out s d) State.sent) context) (Answer.outputs (sent_if_any (message_of d.standing (Request.dialogue (DialogueRequest.begin context info)))))
+    answering (in_context (in_state (gone_out s d) State.sent) context)
+    (Answer.outputs (sent_if_any (message_of d.standing (Request.dialogue (DialogueRequest.begin context info)))))
 accepted s d (Request.dialogue (DialogueRequest.go_on context info)) =
-    answering (in_state (gone_out s d) (activated d.standing.state)) (Answer.outputs (sent_if_any (message_of d.standing (Request.dialogue (DialogueRequest.go_on context info)))))
-accepted s d (Request.dialogue (DialogueRequest.finish ending context info)) = over_with d (sent_if_any (message_of d.standing (Request.dialogue (DialogueRequest.finish ending context info)))) d.invocations
-accepted s d (Request.dialogue (DialogueRequest.u_abort why info)) = over_with d (sent_if_any (message_of d.standing (Request.dialogue (DialogueRequest.u_abort why info)))) d.invocations
+    answering (in_state (gone_out s d) (activated d.standing.state))
+    (Answer.outputs (sent_if_any (message_of d.standing (Request.dialogue (DialogueRequest.go_on context info)))))
+accepted s d (Request.dialogue (DialogueRequest.finish ending context info)) =
+    over_with d (sent_if_any (message_of d.standing (Request.dialogue (DialogueRequest.finish ending context info))))
+    d.invocations
+accepted s d (Request.dialogue (DialogueRequest.u_abort why info)) =
+    over_with d (sent_if_any (message_of d.standing (Request.dialogue (DialogueRequest.u_abort why info))))
+    d.invocations
 
 -- Whether an identifier is in use, by the rows (Q.774, Invocation state machine).
 abbrev pub in_use_by_rows : InvocationList → Option ℤ → Bool
@@ -184,25 +214,33 @@ requested_by s d r None = accepted s d r
 abbrev pub continued_by : Setting → Dialogue → List ℕ → PortionVerdict → Walked → Moved
 continued_by s d origin (PortionVerdict.normal context info) w = record {
   answer = Answer.outputs (Output.dialogue (DialogueIndication.go_on d.standing.identifier context info) ∷ w.told);
-  after = with_queue (with_invocations (in_state d (State.active (peer_by d.standing.state origin))) w.invocations) (queue_each s.limit d.standing.queue w.rejects);
+  after = with_queue (with_invocations (in_state d (State.active (peer_by d.standing.state origin))) w.invocations)
+      (queue_each s.limit d.standing.queue w.rejects);
   is_over = false;
 }
 continued_by s d origin PortionVerdict.abnormal w =
-    over_with d (abnormal_abort (peer_by d.standing.state origin) ∷ Output.dialogue (DialogueIndication.p_abort d.standing.identifier AbortCause.abnormal) ∷ []) d.invocations
+    over_with d (abnormal_abort (peer_by d.standing.state origin)
+    ∷ Output.dialogue (DialogueIndication.p_abort d.standing.identifier AbortCause.abnormal) ∷ []) d.invocations
 
 -- An End is told with its components, whose Rejects don't go out, or it is abnormal; the dialogue is
 -- over (Q.774, Dialogue end; Q.774, Abnormal procedures relating to dialogue control).
 abbrev pub ended_by : Dialogue → PortionVerdict → Walked → Moved
-ended_by d (PortionVerdict.normal context info) w = over_with d (Output.dialogue (DialogueIndication.end d.standing.identifier context info) ∷ w.told) w.invocations
-ended_by d PortionVerdict.abnormal w = over_with d (Output.dialogue (DialogueIndication.p_abort d.standing.identifier AbortCause.abnormal) ∷ []) d.invocations
+ended_by d (PortionVerdict.normal context info) w =
+    over_with d (Output.dialogue (DialogueIndication.end d.standing.identifier context info) ∷ w.told) w.invocations
+ended_by d PortionVerdict.abnormal w =
+    over_with d (Output.dialogue (DialogueIndication.p_abort d.standing.identifier AbortCause.abnormal) ∷ [])
+    d.invocations
 
 -- A message to a dialogue that is live; a Unidirectional and a Begin are never to one
 -- (Q.774, Transaction sublayer procedures).
 abbrev pub framed : Setting → Dialogue → Message → Moved
 framed s d (Message.unidirectional portion components) = answering d (Answer.outputs [])
 framed s d (Message.begin origin portion components) = answering d (Answer.outputs [])
-framed s d (Message.go_on origin to portion components) = continued_by s d origin (portion_verdict d.standing.state d.standing.context portion) (walked_in s.clock d components)
-framed s d (Message.end to portion components) = ended_by d (portion_verdict d.standing.state d.standing.context portion) (walked_in s.clock d components)
+framed s d (Message.go_on origin to portion components) =
+    continued_by s d origin (portion_verdict d.standing.state d.standing.context portion)
+    (walked_in s.clock d components)
+framed s d (Message.end to portion components) =
+    ended_by d (portion_verdict d.standing.state d.standing.context portion) (walked_in s.clock d components)
 framed s d (Message.abort to reason) = over_with d (abort_told d.standing.identifier reason ∷ []) d.invocations
 
 -- A dialogue that is born by a Begin: it is told with its components, and the Rejects of these are
@@ -210,14 +248,16 @@ framed s d (Message.abort to reason) = over_with d (abort_told d.standing.identi
 abbrev pub begun_with : Setting → ℕ → ℕ → List ℕ → Option (List ℕ) → List ℕ → Walked → Moved
 begun_with s identifier reject_ms origin context info w = record {
   answer = Answer.outputs (Output.dialogue (DialogueIndication.begin identifier context info) ∷ w.told);
-  after = with_queue (in_context (in_state (with_invocations (fresh_dialogue identifier reject_ms) w.invocations) (State.received origin)) context) (queue_each s.limit [] w.rejects);
+  after = with_queue (in_context (in_state (with_invocations (fresh_dialogue identifier reject_ms) w.invocations)
+      (State.received origin)) context) (queue_each s.limit [] w.rejects);
   is_over = false;
 }
 
 -- The same, from the contents of the Begin's component portion (Q.774, Dialogue begin).
 abbrev pub born : Setting → ℕ → ℕ → List ℕ → Option (List ℕ) → List ℕ → List ℕ → Moved
 born s identifier reject_ms origin context info components =
-    begun_with s identifier reject_ms origin context info (walked_in s.clock (fresh_dialogue identifier reject_ms) components)
+    begun_with s identifier reject_ms origin context info
+    (walked_in s.clock (fresh_dialogue identifier reject_ms) components)
 
 -- ---- moments
 
@@ -228,13 +268,16 @@ row_lapse_told dialogue l = Output.component (ComponentIndication.closed dialogu
 -- What lapses at a moment is told, and each identifier that has waited is free
 -- (Q.774, Invocation timer; Q.774, Reject timer).
 abbrev pub lapsed : Dialogue → ℕ → Moved
-lapsed d now = answering (with_invocations d (after_lapse d.invocations now)) (Answer.outputs (map (row_lapse_told d.standing.identifier) (told_at now d.invocations.rows)))
+lapsed d now = answering (with_invocations d (after_lapse d.invocations now))
+    (Answer.outputs (map (row_lapse_told d.standing.identifier) (told_at now d.invocations.rows)))
 
 -- What a dialogue does (Q.774, Transaction sublayer procedures; Q.774, Component handling).
 unfoldable pub table_move : Setting → Dialogue → DialogueEvent → Moved
 table_move s d (DialogueEvent.request r) = requested_by s d r (due_on (situation s d r) r)
 table_move s d (DialogueEvent.frame m) = framed s d m
-table_move s d (DialogueEvent.fault cause) = over_with d (Output.dialogue (DialogueIndication.p_abort d.standing.identifier (AbortCause.cause cause)) ∷ []) d.invocations
+table_move s d (DialogueEvent.fault cause) =
+    over_with d (Output.dialogue (DialogueIndication.p_abort d.standing.identifier (AbortCause.cause cause)) ∷ [])
+    d.invocations
 table_move s d (DialogueEvent.moment now) = lapsed d now
 
 -- The dialogue after it moved, if it isn't over (own).

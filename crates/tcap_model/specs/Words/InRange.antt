@@ -50,16 +50,19 @@ is_short n = nat_lt n (2 ^ 32)
 
 -- The numbers of a request are those that its types hold (own).
 abbrev pub is_request : Request → Bool
-is_request (Request.component (ComponentRequest.invoke id class code parameter linked timeout)) = is_identifier id && is_code code && are_octets_if_any parameter && is_identifier_if_any linked && is_long timeout
+is_request (Request.component (ComponentRequest.invoke id class code parameter linked timeout)) =
+    is_identifier id && is_code code && are_octets_if_any parameter && is_identifier_if_any linked && is_long timeout
 is_request (Request.component (ComponentRequest.result_last id body)) = is_identifier id && is_body body
 is_request (Request.component (ComponentRequest.result_more id body)) = is_identifier id && is_body body
-is_request (Request.component (ComponentRequest.error_back id code parameter)) = is_identifier id && is_code code && are_octets_if_any parameter
+is_request (Request.component (ComponentRequest.error_back id code parameter)) =
+    is_identifier id && is_code code && are_octets_if_any parameter
 is_request (Request.component (ComponentRequest.u_reject id problem)) = is_identifier_if_any id && is_problem problem
 is_request (Request.component (ComponentRequest.u_cancel id)) = is_identifier id
 is_request (Request.dialogue (DialogueRequest.uni context info)) = are_octets_if_any context && are_octets info
 is_request (Request.dialogue (DialogueRequest.begin context info)) = are_octets_if_any context && are_octets info
 is_request (Request.dialogue (DialogueRequest.go_on context info)) = are_octets_if_any context && are_octets info
-is_request (Request.dialogue (DialogueRequest.finish ending context info)) = are_octets_if_any context && are_octets info
+is_request (Request.dialogue (DialogueRequest.finish ending context info)) =
+    are_octets_if_any context && are_octets info
 is_request (Request.dialogue (DialogueRequest.u_abort why info)) = are_octets info
 
 -- The numbers of an event are those that its types hold (own).

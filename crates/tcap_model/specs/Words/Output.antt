@@ -40,7 +40,8 @@ pub data Closing : Type 0 where
 -- (Q.771, Component handling).
 pub data ComponentIndication : Type 0 where
   -- TC-INVOKE
-  invoked : (dialogue : Option ℕ) (id : ℤ) (linked : Option ℤ) (code : CodeParts) (parameter : Option (List ℕ)) → ComponentIndication
+  invoked : (dialogue : Option ℕ) (id : ℤ) (linked : Option ℤ) (code : CodeParts) (parameter : Option (List ℕ))
+      → ComponentIndication
   -- TC-RESULT-NL
   result_more : (dialogue number : ℕ) (id : ℤ) (body : Option BodyParts) → ComponentIndication
   -- TC-L-REJECT of a component that was received

@@ -21,7 +21,8 @@ pub data AbortReason : Type 0 where
 -- milliseconds (Q.771, Component handling).
 pub data ComponentRequest : Type 0 where
   -- TC-INVOKE
-  invoke : (id : ℤ) (class : Class) (code : CodeParts) (parameter : Option (List ℕ)) (linked : Option ℤ) (timeout : ℕ) → ComponentRequest
+  invoke : (id : ℤ) (class : Class) (code : CodeParts) (parameter : Option (List ℕ)) (linked : Option ℤ) (timeout : ℕ)
+      → ComponentRequest
   -- TC-RESULT-L
   result_last : (id : ℤ) (body : Option BodyParts) → ComponentRequest
   -- TC-RESULT-NL

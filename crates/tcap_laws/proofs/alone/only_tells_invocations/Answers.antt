@@ -14,7 +14,10 @@ pub returns-clause-span : goal.returns-clause-span
 returns-clause-span c = λ h dialogue n i legal found own. found_span h.start dialogue h.pairs legal.1 n i found own
 
 pub returns-clause-deadline : goal.returns-clause-deadline
-returns-clause-deadline c = λ h dialogue n i legal found own. found_deadline h.start dialogue h.pairs legal.1 n i found own
+returns-clause-deadline c =
+    λ h dialogue n i legal found own. found_deadline h.start dialogue h.pairs legal.1 n i found own
 
 pub returns-clause-outcome : goal.returns-clause-outcome
-returns-clause-outcome c = λ h dialogue n i legal found own. only_outcome h.start dialogue h.pairs legal.1 n (found_own h.start dialogue h.pairs legal.1 n i found own)
+returns-clause-outcome c =
+    λ h dialogue n i legal found own. only_outcome h.start dialogue h.pairs legal.1 n
+    (found_own h.start dialogue h.pairs legal.1 n i found own)

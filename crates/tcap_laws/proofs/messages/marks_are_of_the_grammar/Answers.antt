@@ -25,4 +25,5 @@ returns-clause-made c = means-marks
 
 pub returns-clause-some : goal.returns-clause-some
 returns-clause-some c =
-    λ dialogue id state context bytes pair past reaches. reached-means dialogue id state context bytes pair past reaches (frame_at bytes) refl
+    λ dialogue id state context bytes pair past reaches.
+    reached-means dialogue id state context bytes pair past reaches (frame_at bytes) refl
