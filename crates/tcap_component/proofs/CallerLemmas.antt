@@ -5,3 +5,4 @@ pub use Rattle.tcap_component.proofs.PlaceSteps.{ends-all, ends-rest, coded-rest
 pub use Rattle.tcap_component.proofs.SpelledWritable.{spelled_code, spelled_parameter, spelled_parts, all_writable}
 pub use Rattle.tcap_component.proofs.WrittenGrammar.{has_code-takes, Judged, write_fault-judged, write_fault-none, write_fault-told, not_refused_by, one_due}
 pub use Rattle.tcap_component.proofs.WrittenSpelling.{component_spelled, component_written}
+pub use Rattle.tcap_component.proofs.ComponentsRoad.{components-yield}

@@ -1,5 +1,6 @@
 pub mod CallerLemmas
 pub mod ComponentGrammar
+pub mod ComponentsRoad
 pub mod ContentsGrammar
 pub mod FaultGrammar
 pub mod ItemSteps

@@ -1,5 +1,6 @@
 -- Where the slices of a component lie in the bytes that it was read from.
 use Rattle.std.specs.Prelude.{◌≡◌, ℕ, ◌+◌, List, [], ◌∷◌, ◌++◌, length, Option, Some, None, Result, Ok, Err, IfSome}
+use Rattle.std.specs.Iterator.{YieldsFirstBy}
 use Rattle.ber_core.specs.Place.{Slice, AtEnd}
 use Rattle.ber_core.specs.Way.{inside, way_to, IsOnWay}
 use Rattle.tcap_component.specs.declared.component.Code.{Code}
@@ -10,7 +11,7 @@ use Rattle.tcap_component.specs.declared.component.Component.TheVariants as comp
 use Rattle.tcap_component.specs.declared.components.Components.{Components}
 use Rattle.tcap_component.specs.declared.fault.ComponentFault.{ComponentFault}
 use Rattle.tcap_component.specs.Component.{component_tag}
-use Rattle.tcap_component.specs.Views.{component_parts}
+use Rattle.tcap_component.specs.Views.{component_parts, item_view, components_left}
 
 -- The content to which the tags lead: that of the first element with the first tag, in it that of the
 -- first with the second, and so on (own).
@@ -66,3 +67,7 @@ bytes_left s = s.rest
 -- end (own).
 abbrev pub StepsInPlace : Components → Option (Result Component ComponentFault) → Components → Type 0
 StepsInPlace old item new = IfSome item (λ i. ItemInPlace i (bytes_left old)) × AtEnd (bytes_left new) (bytes_left old)
+
+-- One step of the iterator: the first item that is left, in its place (own).
+abbrev pub components_steps : Components → Option (Result Component ComponentFault) → Components → Type 0
+components_steps old item new = YieldsFirstBy item_view components_left old item new × StepsInPlace old item new

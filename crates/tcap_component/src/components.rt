@@ -46,14 +46,14 @@ impl<'a> Components<'a> {
 }
 
 impl<'a> Iterator for Components<'a> {
-    ghost use Rattle.std.specs.Iterator.{YieldsFirstBy, item_count};
-    ghost use Rattle.tcap_component.specs.Place.{StepsInPlace};
-    ghost use Rattle.tcap_component.specs.Views.{item_view, components_left};
+    ghost use Rattle.std.specs.Iterator.{item_count};
+    ghost use Rattle.tcap_component.specs.Place.{components_steps};
+    ghost use Rattle.tcap_component.specs.Views.{components_left};
 
     type Item = Result<Component<'a>, ComponentFault>;
 
     // The first item that is left; its slices are parts of the bytes that are left.
-    ghost next_gives = { λ old item new. YieldsFirstBy item_view components_left old item new × StepsInPlace old item new };
+    ghost next_gives = { components_steps };
 
     ghost remaining = { item_count components_left };
 
