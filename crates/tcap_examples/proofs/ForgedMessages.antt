@@ -13,7 +13,7 @@ use Rattle.tcap_model.specs.Histories.Pair.{Pair, Past}
 use Rattle.tcap_model.specs.Statements.TwoEnds.{WasAsked, Origin, Operations}
 use Rattle.tcap_model.specs.Statements.FarAnswer.{IsAnswer, ComesFromFar}
 use Rattle.tcap_examples.specs.Nets.PlayedNets.{answer, result_continue, forged}
-use Rattle.tcap_examples.specs.Values.HistoryWords.{request_pair, received_pair, continued, empty_result}
+use Rattle.tcap_examples.specs.Values.HistoryWords.{received_pair, continued, empty_result}
 use Rattle.std.proofs.lemmas.Bool.{false≢true}
 use Rattle.tcap_model.specs.Words.Event.{Event}
 use Rattle.tcap_examples.specs.Values.Hex.{hex}

@@ -2,6 +2,7 @@ mod AnswersAhead
 mod Apart
 mod ComponentPremises
 mod ComponentsBroken
+mod ComponentsSent
 mod ComponentsWork
 mod EndPremises
 mod ForgedMessages

@@ -7,7 +7,7 @@ pub use Rattle.tcap_laws.proofs.Births.BoundedDialogues.{dialogues-bounded}
 pub use Rattle.tcap_laws.proofs.Table.BoundedIdentifiers.{identifiers-bounded}
 pub use Rattle.tcap_laws.proofs.Queues.BoundedQueues.{queues-bounded}
 pub use Rattle.tcap_laws.proofs.Births.Clocks.{clock-step, clock-later}
-pub use Rattle.tcap_laws.proofs.Decisions.ClassTables.{class-tables}
+pub use Rattle.tcap_laws.proofs.Rows.ClassTables.{class-tables}
 pub use Rattle.tcap_laws.proofs.Decisions.CountedHistories.{counted, open_before}
 pub use Rattle.tcap_laws.proofs.Decisions.DecidedHistories.{closings_are}
 pub use Rattle.tcap_laws.proofs.Decisions.DecidedOutcomes.{outcome_told, plainly_decided}
@@ -24,7 +24,7 @@ pub use Rattle.tcap_laws.proofs.Births.DrawnNumbers.{reply-numbered, number-next
 pub use Rattle.tcap_laws.proofs.Births.NumbersFound.{invocation_of-found, numbers-below}
 pub use Rattle.tcap_laws.proofs.Isolation.SeenBytes.{alone-bytes}
 pub use Rattle.tcap_laws.proofs.Isolation.SeenDecisions.{only_decision, only_held, only_pending}
-pub use Rattle.tcap_laws.proofs.Isolation.SeenInvocations.{found_own, only_invocations, only_latest, found_only, found_span, found_deadline, only_outcome}
+pub use Rattle.tcap_laws.proofs.Isolation.SeenInvocations.{found_own, found_only, found_span, found_deadline, only_outcome}
 pub use Rattle.tcap_laws.proofs.Isolation.SeenLives.{only_clock, only_born, only_life, unseen, unseen_marks, seen_marks}
 pub use Rattle.tcap_laws.proofs.Isolation.SeenMoments.{each-alone, only_lapses, alone-moment}
 pub use Rattle.tcap_laws.proofs.Isolation.SeenQueues.{only_handled, only_queue}

@@ -1,4 +1,3 @@
-pub mod ClassTables
 pub mod ComponentTellings
 pub mod CountedHistories
 pub mod DecidedHistories

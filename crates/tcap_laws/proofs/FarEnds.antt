@@ -1,4 +1,6 @@
 pub mod AfterInvokes
+pub mod AnswersNamed
+pub mod BeginsSent
 pub mod ClosedOnce
 pub mod FairTellings
 pub mod FarInvokes
@@ -7,3 +9,4 @@ pub mod PlacedTellings
 pub mod SentInvokes
 pub mod WaitingInvokes
 pub mod WaitingQueues
+pub mod WaitingSteps

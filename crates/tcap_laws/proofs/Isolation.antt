@@ -1,4 +1,5 @@
 pub mod KeyedLists
+pub mod OwnInvocations
 pub mod SeenBytes
 pub mod SeenDecisions
 pub mod SeenInvocations

@@ -1,9 +1,13 @@
+pub mod ClassTables
 pub mod ComponentsAlike
 pub mod DistinctRows
+pub mod EndsAfterComponents
 pub mod IdentifiersInRows
 pub mod InvocationsLeft
+pub mod LatestRows
 pub mod LeftSentByMarks
 pub mod LeftSentByRows
+pub mod MarksOfAnswers
 pub mod NoRowsAtBirth
 pub mod Restaged
 pub mod RowStages

@@ -5,7 +5,6 @@ use Rattle.tcap_model.specs.Table.Dialogue.{Dialogue, fresh_dialogue}
 use Rattle.tcap_model.specs.Words.Event.{Event}
 use Rattle.tcap_model.specs.Histories.History.{History, Start}
 use Rattle.tcap_examples.specs.Dialogues.Played.{heard}
-use Rattle.tcap_model.specs.Procedures.QueueRules.{queue_limit}
 use Rattle.tcap_model.specs.Replies.Reply.{reply}
 use Rattle.tcap_model.specs.Table.TableMove.{Setting, DialogueEvent, table_move}
 use Rattle.tcap_model.specs.Table.World.{World, world_of}

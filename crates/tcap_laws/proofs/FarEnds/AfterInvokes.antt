@@ -24,8 +24,8 @@ use Rattle.tcap_model.specs.Statements.FarAnswer.{FarAnswer, FarSource, peer_in,
 use Rattle.tcap_laws.proofs.Peers.CarriedComponents.{Carried, stands-before}
 use Rattle.tcap_laws.proofs.Spans.DrawnInvocations.{invocation_step}
 use Rattle.tcap_laws.proofs.FarEnds.ClosedOnce.{once}
-use Rattle.tcap_laws.proofs.FarEnds.FarInvokes.{Facing, IsIn, in-in, invoke-told, invoke-from}
-use Rattle.tcap_laws.proofs.FarEnds.FarOrigins.{answer-indicates, origin}
+use Rattle.tcap_laws.proofs.FarEnds.FarInvokes.{Facing, invoke-told, invoke-from}
+use Rattle.tcap_laws.proofs.FarEnds.FarOrigins.{origin}
 use Rattle.tcap_laws.proofs.Peers.HeardPeers.{IsPeered}
 use Rattle.tcap_laws.proofs.Peers.NetPlaces.{happens-rest, happens-stands, IsAt, stands-happens}
 use Rattle.tcap_laws.proofs.Peers.OpenedApart.{NeverBegun, net-before, never-before}
@@ -34,6 +34,8 @@ use Rattle.tcap_laws.proofs.FarEnds.PlacedTellings.{IsOf, RejectsInvoke, Placed,
 use Rattle.tcap_laws.proofs.FarEnds.SentInvokes.{HasSource, stands-for-invoke, source, invoke-sent, sent-later, operations}
 use Rattle.tcap_laws.proofs.Receptions.ToldFromOctets.{legal-before, told-from}
 use Rattle.tcap_laws.proofs.FarEnds.WaitingInvokes.{invocation_as}
+use Rattle.tcap_laws.proofs.FarEnds.AnswersNamed.{answer-indicates}
+use Rattle.tcap_laws.proofs.FarEnds.BeginsSent.{IsIn, in-in}
 
 -- ---- the pair that made an invocation
 

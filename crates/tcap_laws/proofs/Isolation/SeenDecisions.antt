@@ -8,7 +8,7 @@ use Rattle.tcap_laws.proofs.Births.DrawnDialogues.{unborn-life}
 use Rattle.tcap_laws.proofs.Spans.DecisionSteps.{closing_of_decision, decision_place}
 use Rattle.tcap_laws.proofs.Spans.EarlierMoments.{since_end}
 use Rattle.tcap_laws.proofs.Spans.LatestInvocations.{latest_is}
-use Rattle.tcap_laws.proofs.Isolation.SeenInvocations.{IsOwn, own_before, only_invocation, only_latest, found_own, found_span, only_outcome}
+use Rattle.tcap_laws.proofs.Isolation.SeenInvocations.{found_own, found_span, only_outcome}
 use Rattle.tcap_laws.proofs.Isolation.SeenLives.{with_answer, IsUnseen, unseen, within_accepted, seen_or_not, only_clock}
 use Rattle.tcap_model.specs.Words.Answer.{Answer, is_accepted}
 use Rattle.tcap_model.specs.Histories.Birth.{was_born}
@@ -29,6 +29,7 @@ use Rattle.tcap_model.specs.Histories.Pair.{Past}
 use Rattle.tcap_model.specs.Replies.Reply.{request_answer}
 use Rattle.tcap_model.specs.Words.Request.{Request}
 use Rattle.tcap_laws.proofs.BoolLemmas.{and_false}
+use Rattle.tcap_laws.proofs.Isolation.OwnInvocations.{IsOwn, only_invocation, only_latest, own_before}
 
 -- a decision at the place that the dialogue sees
 abbrev pub told_within : ℕ → Told → Told

@@ -7,7 +7,7 @@ use Rattle.std.specs.Prelude.{filter, filter_map, map, option_map}
 use Rattle.tcap_laws.proofs.Isolation.KeyedLists.{filter-in_order}
 use Rattle.tcap_laws.proofs.Births.NumbersFound.{invocation_of-found}
 use Rattle.tcap_laws.proofs.Isolation.SeenBytes.{alone-bytes}
-use Rattle.tcap_laws.proofs.Isolation.SeenInvocations.{is_of_dialogue, own_true, only_invocations, found_span}
+use Rattle.tcap_laws.proofs.Isolation.SeenInvocations.{found_span}
 use Rattle.tcap_laws.proofs.Isolation.SeenLives.{only_clock}
 use Rattle.tcap_laws.proofs.Isolation.SeenRequests.{alone_request}
 use Rattle.tcap_model.specs.Words.Answer.{Answer}
@@ -27,6 +27,7 @@ use Rattle.tcap_model.specs.Replies.Reply.{Lapsing, lapse_key, lapsing_by, lapsi
 use Rattle.tcap_model.specs.Words.Request.{Request}
 use Rattle.tcap_model.specs.Invocations.Span.{span}
 use Rattle.tcap_model.specs.Words.Time.{moment_fault}
+use Rattle.tcap_laws.proofs.Isolation.OwnInvocations.{is_of_dialogue, only_invocations, own_true}
 
 -- ---- lists
 

@@ -9,7 +9,7 @@ use Rattle.tcap_laws.proofs.Births.DrawnDialogues.{unborn-life}
 use Rattle.tcap_laws.proofs.Spans.MarksAfterBirth.{noted_at_clock}
 use Rattle.tcap_laws.proofs.Spans.LatestInvocations.{latest_is}
 use Rattle.tcap_laws.proofs.Isolation.SeenDecisions.{unborn_refused}
-use Rattle.tcap_laws.proofs.Isolation.SeenInvocations.{only_latest, found_span}
+use Rattle.tcap_laws.proofs.Isolation.SeenInvocations.{found_span}
 use Rattle.tcap_laws.proofs.Isolation.SeenLives.{with_answer, IsUnseen, unseen, seen_or_not, only_clock, only_life}
 use Rattle.tcap_model.specs.Words.Answer.{Answer, is_accepted}
 use Rattle.tcap_model.specs.Histories.Birth.{is_birth_of, was_born}
@@ -32,6 +32,7 @@ use Rattle.tcap_model.specs.Procedures.QueueRules.{Queued, queue_limit, queue_ea
 use Rattle.tcap_model.specs.Words.Request.{Request}
 use Rattle.tcap_model.specs.Invocations.Span.{span}
 use Rattle.tcap_model.specs.Words.State.{is_live}
+use Rattle.tcap_laws.proofs.Isolation.OwnInvocations.{only_latest}
 
 -- ---- components
 

@@ -7,7 +7,6 @@ use Rattle.std.specs.Prelude.{filter, filter_map, is_none, is_some}
 use Rattle.tcap_pdu.specs.FrameSpelling.{Message}
 use Rattle.tcap_laws.proofs.Births.NumbersFound.{invocation_of-found, numbers-below}
 use Rattle.tcap_laws.proofs.Isolation.SeenDecisions.{only_held, only_pending}
-use Rattle.tcap_laws.proofs.Isolation.SeenInvocations.{is_of_dialogue, own_true, only_invocations}
 use Rattle.tcap_laws.proofs.Isolation.SeenLives.{seen_or_not, invoked_within, only_life}
 use Rattle.tcap_laws.proofs.Isolation.SeenQueues.{marks_same, only_queue}
 use Rattle.tcap_laws.proofs.Births.StartCounters.{start_number-within}
@@ -36,6 +35,7 @@ use Rattle.tcap_model.specs.Words.Request.{Request, ComponentRequest, DialogueRe
 use Rattle.tcap_model.specs.Procedures.RequestMessage.{message_of}
 use Rattle.tcap_model.specs.Procedures.Standing.{Standing}
 use Rattle.tcap_model.specs.Words.State.{State}
+use Rattle.tcap_laws.proofs.Isolation.OwnInvocations.{is_of_dialogue, only_invocations, own_true}
 
 -- ---- what the end of a dialogue tells
 

@@ -1,27 +1,24 @@
 -- The components of a message tell the same by the rows of a dialogue and by its history.
 use Rattle.std.proofs.Common.{◌≡◌, ℕ, zero, suc, ℤ, ◌+◌, ◌&&◌, Bool, true, false, cond, List, [], ◌∷◌, ◌++◌, map, Option, Some, None, Result, Ok, Err, refl, ap, sym, ◌∙◌}
 use Rattle.std.proofs.lemmas.List.{append-nil}
-use Rattle.std.specs.Prelude.{is_none, flat_map, option_to_list}
+use Rattle.std.specs.Prelude.{flat_map, option_to_list}
 use Rattle.std.specs.List.{IsDistinct}
 use Rattle.std.specs.Map.{keys_of}
 use Rattle.std.specs.Ordering.{int_eq}
-use Rattle.tcap_component.specs.Component.{ComponentParts, CodeParts, BodyParts}
+use Rattle.tcap_component.specs.Component.{ComponentParts}
 use Rattle.tcap_component.specs.ComponentFault.{FaultParts}
 use Rattle.tcap_component.specs.ComponentReading.{component_at, components_by, components_from}
 use Rattle.tcap_component.specs.Problem.{ProblemParts}
 use Rattle.tcap_component.specs.declared.problem.Kind.{Kind}
 use Rattle.tcap_component.specs.declared.problem.Kind.TheVariants as kind
 use Rattle.tcap_invocation.specs.declared.class.Class.{Class}
-use Rattle.tcap_invocation.specs.declared.class.Class.TheVariants.{One, Two, Three, Four}
 use Rattle.tcap_invocation.specs.declared.invocations.Invocation.{Invocation as Entry}
 use Rattle.tcap_invocation.specs.Class.{Received}
 use Rattle.tcap_invocation.specs.Invocations.{Row, InvocationList, sent_at}
 use Rattle.tcap_laws.proofs.Spans.LatestInvocations.{id_of}
 use Rattle.tcap_laws.proofs.Rows.LeftSentByRows.{stays, left, LeavesSent, reject_stays, rows_leave, reject_leaves}
 use Rattle.tcap_laws.proofs.Rows.LeftSentByMarks.{AreRead, more_read, up_to_more, IsMarkOf, one_more}
-use Rattle.tcap_laws.proofs.Rows.IdentifiersInRows.{latest_has}
 use Rattle.tcap_model.specs.Histories.Clock.{clock}
-use Rattle.tcap_model.specs.Invocations.Closes.{closing_by_last, closing_by_more, closing_by_error}
 use Rattle.tcap_model.specs.Procedures.ComponentHandling.{Item, Handled, SentInvocation, handled, subject_of}
 use Rattle.tcap_model.specs.Table.Dialogue.{sent_of, sent_by_rows}
 use Rattle.tcap_model.specs.Invocations.Invocation.{Invocation, latest}
@@ -33,33 +30,8 @@ use Rattle.tcap_model.specs.Replies.Queue.{handled_after, rejects_of}
 use Rattle.tcap_model.specs.Procedures.QueueRules.{queued}
 use Rattle.tcap_model.specs.Table.TableMove.{after_item, reject_queued, walked}
 use Rattle.tcap_model.specs.Invocations.SentThere.{if_sent, marks_up_to, sent_there}
-
--- ---- the marks of answers
-
-last_stays : (body : Option BodyParts) (class : Class)
-    → is_none (closing_by_last class body) ≡ stays class Received.return_result_last
-last_stays body One = refl
-last_stays body Two = refl
-last_stays body Three = refl
-last_stays body Four = refl
-
-more_stays : (class : Class) → is_none (closing_by_more class) ≡ stays class Received.return_result_not_last
-more_stays One = refl
-more_stays Two = refl
-more_stays Three = refl
-more_stays Four = refl
-
-error_stays : (code : CodeParts) (parameter : Option (List ℕ)) (class : Class)
-    → is_none (closing_by_error class code parameter) ≡ stays class Received.return_error
-error_stays code parameter One = refl
-error_stays code parameter Two = refl
-error_stays code parameter Three = refl
-error_stays code parameter Four = refl
-
-mark_of_reject : (problem : ProblemParts) → is_of_answer problem.kind ≡ false
-    → IsMarkOf (Received.reject problem.kind) (Mark.reject problem)
-mark_of_reject problem of =
-    record { sends_not = refl; closes = λ class timeout sent. sym (reject_stays class problem.kind ∙ of) }
+use Rattle.tcap_laws.proofs.Rows.MarksOfAnswers.{last_stays, more_stays, error_stays, mark_of_reject}
+use Rattle.tcap_laws.proofs.Rows.LatestRows.{latest_has}
 
 -- ---- one component
 

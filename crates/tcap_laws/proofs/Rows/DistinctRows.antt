@@ -7,7 +7,7 @@ use Rattle.std.specs.Map.{keys_of}
 use Rattle.std.specs.Ordering.{int_eq}
 use Rattle.tcap_invocation.specs.Invocations.{Row}
 use Rattle.tcap_laws.proofs.Spans.LatestInvocations.{other_number, own_number}
-use Rattle.tcap_laws.proofs.Rows.IdentifiersInRows.{entry_of, has_row}
+use Rattle.tcap_laws.proofs.Rows.IdentifiersInRows.{has_row}
 use Rattle.tcap_laws.proofs.Spans.SupersededInvocations.{latest_found}
 use Rattle.tcap_laws.proofs.Decisions.ToldInvocations.{IsFound, each_found}
 use Rattle.tcap_model.specs.Histories.History.{Start}
@@ -15,6 +15,7 @@ use Rattle.tcap_model.specs.Invocations.Invocation.{Invocation, invoked_by, invo
 use Rattle.tcap_model.specs.Replies.Legal.{AreReplies}
 use Rattle.tcap_model.specs.Histories.Pair.{Pair, Past}
 use Rattle.tcap_model.specs.Table.World.{row_of, rows_of}
+use Rattle.tcap_laws.proofs.Rows.LatestRows.{entry_of}
 
 -- ---- the numbers of invocations
 

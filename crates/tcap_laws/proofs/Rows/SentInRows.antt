@@ -10,7 +10,7 @@ use Rattle.tcap_invocation.specs.Closing.{number_of}
 use Rattle.tcap_invocation.specs.Stage.{is_sent, is_pending}
 use Rattle.tcap_laws.proofs.Spans.DecisionSteps.{closing_of_decision}
 use Rattle.tcap_laws.proofs.Spans.LatestInvocations.{latest_is}
-use Rattle.tcap_laws.proofs.Rows.IdentifiersInRows.{Found, found, HasRow, has_row, pending-rows}
+use Rattle.tcap_laws.proofs.Rows.IdentifiersInRows.{HasRow, has_row, pending-rows}
 use Rattle.tcap_laws.proofs.Spans.SupersededInvocations.{latest_found}
 use Rattle.tcap_laws.proofs.Decisions.ToldInvocations.{IsFound, each_found}
 use Rattle.tcap_model.specs.Histories.Clock.{clock}
@@ -30,6 +30,7 @@ use Rattle.tcap_model.specs.Invocations.SentThere.{marks_up_to, if_sent, sent_th
 use Rattle.tcap_model.specs.Invocations.Span.{span}
 use Rattle.tcap_model.specs.Table.World.{pending_stage, stage_by, row, row_of, rows_of}
 use Rattle.tcap_laws.proofs.BoolLemmas.{and_false, and_true}
+use Rattle.tcap_laws.proofs.Rows.LatestRows.{Found, found}
 
 -- whether an invocation is Sent where it has an outcome or none
 sent-by_outcome : (past : Past) (i : Invocation) → IsFound past i

@@ -4,7 +4,7 @@ use Rattle.tcap_component.specs.ComponentReading.{components_of}
 use Rattle.tcap_laws.proofs.Table.LastAnswersAlike.{dialogue_in, over-answer, components-told}
 use Rattle.tcap_laws.proofs.Table.RequestsJudgedAlike.{at_life}
 use Rattle.tcap_laws.proofs.Rows.ComponentsAlike.{fault_last}
-use Rattle.tcap_laws.proofs.Rows.RowsAfterComponents.{walk_at, ended_after}
+use Rattle.tcap_laws.proofs.Rows.RowsAfterComponents.{walk_at}
 use Rattle.tcap_model.specs.Table.Agreement.{setting_at}
 use Rattle.tcap_model.specs.Words.Answer.{Answer}
 use Rattle.tcap_model.specs.Procedures.ComponentHandling.{told_of}
@@ -20,6 +20,7 @@ use Rattle.tcap_model.specs.Words.State.{State}
 use Rattle.tcap_model.specs.Table.TableMove.{DialogueEvent, Walked, ended_told, walked_in, ended_by, table_move}
 use Rattle.tcap_model.specs.Table.World.{dialogue_at}
 use Rattle.tcap_pdu.specs.FrameSpelling.{Message}
+use Rattle.tcap_laws.proofs.Rows.EndsAfterComponents.{ended_after}
 
 module _ (h : History) (dialogue : ℕ) (legal : IsLegal h) where
   any-end : (state : State) (context : Option (List ℕ)) (components : List ℕ) (verdict : PortionVerdict)

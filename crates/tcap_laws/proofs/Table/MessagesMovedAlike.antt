@@ -12,7 +12,7 @@ use Rattle.tcap_laws.proofs.Table.RequestsJudgedAlike.{standing_dialogue, at_lif
 use Rattle.tcap_laws.proofs.Rows.Restaged.{passing_rows}
 use Rattle.tcap_laws.proofs.Table.StandingPairs.{here, life_named, queue_named, assembled}
 use Rattle.tcap_laws.proofs.Rows.ComponentsAlike.{fault_last}
-use Rattle.tcap_laws.proofs.Rows.RowsAfterComponents.{walk_at, rows_up, rows_message}
+use Rattle.tcap_laws.proofs.Rows.RowsAfterComponents.{walk_at, rows_up}
 use Rattle.tcap_model.specs.Table.Agreement.{setting_at, due_pair}
 use Rattle.tcap_model.specs.Words.Answer.{Answer, is_accepted}
 use Rattle.tcap_model.specs.Histories.Clock.{clock}
@@ -37,6 +37,7 @@ use Rattle.tcap_pdu.specs.declared.fault.FrameFault.{FrameFault}
 use Rattle.tcap_pdu.specs.FrameReading.{frame_at}
 use Rattle.tcap_pdu.specs.FrameSpelling.{Message}
 use Rattle.tcap_laws.proofs.BoolLemmas.{and_false}
+use Rattle.tcap_laws.proofs.Rows.EndsAfterComponents.{rows_message}
 
 -- ---- what a history says in any case
 

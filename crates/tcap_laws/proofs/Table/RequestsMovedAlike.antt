@@ -79,17 +79,14 @@ module _ (h : History) (dialogue : ℕ) (legal : IsLegal h) (state : State) (con
 
   -- a component is queued, and nothing else changes
   queued_moves : (request : Request) (is : reply h (Event.on_dialogue dialogue request) ≡ Answer.done)
-      (q : List Component)
-      → life_by_request state context request ≡ Life.standing state context
+      (q : List Component) → life_by_request state context request ≡ Life.standing state context
       → queue_by_request waiting request Answer.done ≡ q → invoked_under dialogue request None ≡ None
       → ((k : ℤ) → unwrap_or (marks_of_request k request)
       (end_if_over (Life.standing state context) (life_by_request state context request)) ≡ [])
       → ((k : ℤ) → rejects_answer k request ≡ false)
       → found_after request ≡ Some (record {
-        standing =
-            record { identifier = dialogue; state = state; context = context; queue = q };
-        invocations =
-            record { reject_ms = h.start.reject_ms; rows = rows };
+        standing = record { identifier = dialogue; state = state; context = context; queue = q };
+        invocations = record { reject_ms = h.start.reject_ms; rows = rows };
       })
   queued_moves request is q l e none marked ends =
       found_of h dialogue legal state context stands request Answer.done is state context q rows l e

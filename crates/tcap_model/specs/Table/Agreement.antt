@@ -1,7 +1,6 @@
 -- What a history hands to one of its dialogues.
-use Rattle.std.specs.Prelude.{Bool, true, false, Option, Some, None, if◌then◌else◌}
+use Rattle.std.specs.Prelude.{Bool, true, false}
 use Rattle.tcap_model.specs.Histories.Clock.{clock}
-use Rattle.tcap_model.specs.Table.Dialogue.{Dialogue}
 use Rattle.tcap_model.specs.Words.Event.{Event}
 use Rattle.tcap_model.specs.Histories.History.{History}
 use Rattle.tcap_model.specs.Invocations.Invocation.{next_number}
@@ -9,7 +8,7 @@ use Rattle.tcap_model.specs.Histories.Pair.{Pair}
 use Rattle.tcap_model.specs.Procedures.QueueRules.{queue_limit}
 use Rattle.tcap_model.specs.Replies.Reply.{reply}
 use Rattle.tcap_model.specs.Words.Request.{Request, DialogueRequest}
-use Rattle.tcap_model.specs.Table.TableMove.{Setting, Moved}
+use Rattle.tcap_model.specs.Table.TableMove.{Setting}
 
 -- What is around a dialogue at a history (own).
 abbrev pub setting_at : History → Setting

@@ -1,5 +1,6 @@
-use Rattle.tcap_laws.proofs.Isolation.SeenInvocations.{only_invocations, only_latest, found_only, found_own, found_span, found_deadline, only_outcome}
+use Rattle.tcap_laws.proofs.Isolation.SeenInvocations.{found_only, found_own, found_span, found_deadline, only_outcome}
 use Rattle.tcap_laws.proofs.alone.only_tells_invocations.Goals as goal
+use Rattle.tcap_laws.proofs.Isolation.OwnInvocations.{only_invocations, only_latest}
 
 pub returns-clause-all : goal.returns-clause-all
 returns-clause-all c = λ h dialogue legal. only_invocations h.start dialogue h.pairs legal.1

@@ -1,4 +1,4 @@
-use Rattle.tcap_laws.proofs.Decisions.ClassTables.{class-tables}
+use Rattle.tcap_laws.proofs.Rows.ClassTables.{class-tables}
 use Rattle.tcap_laws.proofs.invoking.class_tables_agree.Goals as goal
 
 pub returns : goal.returns
