@@ -53,6 +53,11 @@ fn integer(content: &[u8]) -> Option<i32>
 
 /// The number that contents octets are: one to four octets, two's complement, in the fewest octets
 /// (X.690, Encoding of an integer value; the limit is our own).
+///
+/// ```rust
+/// assert_eq!(rt; ber_core::read_int(&[0x00, 0x80]), Some(128));
+/// assert_eq!(rt; ber_core::read_int(&[0x00, 0x7f]), None); // not the fewest octets
+/// ```
 pub fn read_int(content: &[u8]) -> Option<i32>
     // What is read is the number of the octets, and these are the ones that are written for it.
     ensures found { IfSome result (λ z. IsInteger z content.now) }

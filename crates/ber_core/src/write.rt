@@ -169,6 +169,12 @@ pub fn write_head<A: Allocator + Copy>(
 
 /// Appends an element in the shortest definite form, or nothing. `tag` is one that `read_head` reads,
 /// `content` has at most 65,535 octets (X.690, Structure of an encoding).
+///
+/// ```rust
+/// let mut out = Vec::new(alloc);
+/// ber_core::write_element(&mut out, &[0x04], &[0xaa])?;
+/// assert_eq!(rt; out.as_slice(), [0x04, 0x01, 0xaa].as_slice());
+/// ```
 #[inline(always)]
 pub fn write_element<A: Allocator + Copy>(
     out: &mut Vec<u8, A>,

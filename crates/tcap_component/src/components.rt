@@ -28,6 +28,13 @@ impl<'a> Components<'a> {
 
     /// The components in the contents of 6C. It gives exactly the components before the first fault,
     /// then that fault, and then ends.
+    ///
+    /// ```rust
+    /// let mut components = Components::new(&[0xa2, 0x03, 0x02, 0x01, 0x05, 0xa5, 0x00]);
+    /// assert!(rt; matches!(components.next(), Some(Ok(Component::ResultLast { id: 5, body: None }))));
+    /// assert!(rt; matches!(components.next(), Some(Err(_))));
+    /// assert!(rt; components.next().is_none());
+    /// ```
     #[tactic(auto, using(crate::proofs::ListGrammar::first_fault_again, crate::proofs::ListGrammar::first_fault_is, crate::proofs::SpelledWritable::all_writable))]
     pub fn new(content: &'a [u8]) -> Components<'a>
         // The components before the first fault, and then that fault.

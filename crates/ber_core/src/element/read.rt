@@ -41,6 +41,13 @@ fn split_element<'a>(bytes: &'a [u8]) -> Result<(Element<'a>, &'a [u8]), BerFaul
 }
 
 /// Reads the first element, and gives what follows it.
+///
+/// ```rust
+/// let (element, rest) = ber_core::read_element(&[0x04, 0x01, 0xaa, 0x05])?;
+/// assert_eq!(rt; element.content, [0xaa].as_slice());
+/// assert_eq!(rt; rest, [0x05].as_slice());
+/// assert!(rt; matches!(ber_core::read_element(&[0x04, 0x02, 0xaa]), Err(BerFault::Short)));
+/// ```
 #[inline(always)]
 pub fn read_element<'a>(bytes: &'a [u8]) -> Result<(Element<'a>, &'a [u8]), BerFault>
     // What is read is an element, and what follows it.

@@ -165,6 +165,12 @@ fn write_all<A: Allocator + Copy>(
 
 /// Writes a component in the canonical form. A fault other than `OutOfMemory` comes exactly where the
 /// component can't be written: BadOid first, then BadParameter, then TooLong.
+///
+/// ```rust
+/// let result = Component::ResultLast { id: 5, body: None };
+/// let written = tcap_component::write_component(alloc, &result)?;
+/// assert_eq!(rt; written.as_slice(), [0xa2, 0x03, 0x02, 0x01, 0x05].as_slice());
+/// ```
 #[tactic(auto, using(crate::proofs::WrittenGrammar::not_refused_by, crate::proofs::WrittenGrammar::one_due, crate::proofs::WrittenSpelling::component_spelled))]
 #[inline(always)]
 pub fn write_component<A: Allocator + Copy>(

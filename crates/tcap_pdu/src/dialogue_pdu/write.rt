@@ -76,6 +76,12 @@ fn spell_portion<A: Allocator + Copy>(
 
 /// Writes the contents of a dialogue portion in the canonical form. A diagnostic is at most 127. Of
 /// the faults the first in the order BadOid, BadInfo, TooLong, OutOfMemory is answered.
+///
+/// ```rust
+/// let request = DialoguePdu::Aarq { version1: true, context: &[0x04, 0, 0, 1, 0, 1, 3], info: &[] };
+/// let portion = tcap_pdu::write_dialogue(alloc, &request)?;
+/// assert!(rt; matches!(tcap_pdu::read_dialogue(portion.as_slice()), Ok(DialoguePdu::Aarq { .. })));
+/// ```
 #[inline(always)]
 pub fn write_dialogue<A: Allocator + Copy>(
     alloc: A,

@@ -224,6 +224,11 @@ fn split_frame<'a>(bytes: &'a [u8]) -> Result<Frame<'a>, FrameFault>
 
 /// Reads the message that the bytes are, all of them, of any length. It takes no memory: the slices
 /// of the message are parts of the bytes (Q.773, Structure of TC messages).
+///
+/// ```rust
+/// let begin = [0x62, 0x06, 0x48, 0x04, 0x00, 0x00, 0x00, 0x01];
+/// assert!(rt; matches!(tcap_pdu::read_frame(&begin), Ok(Frame::Begin { dialogue: None, .. })));
+/// ```
 #[inline(always)]
 pub fn read_frame<'a>(bytes: &'a [u8]) -> Result<Frame<'a>, FrameFault>
     // What is read is spelled by the bytes.

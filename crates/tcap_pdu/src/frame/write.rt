@@ -164,6 +164,12 @@ fn spell_frame<A: Allocator + Copy>(
 /// left out but in a Unidirectional. The contents of 6B and 6C are copied. A cause is at most 127.
 /// Faults: TooLong above 65,535 bytes, then OutOfMemory (Q.773, Structure of TC messages; the
 /// shortest form and the limit are our own).
+///
+/// ```rust
+/// let end = Frame::End { dtid: TransId::of(1), dialogue: None, components: &[] };
+/// let written = tcap_pdu::write_frame(alloc, &end)?;
+/// assert_eq!(rt; written.as_slice(), [0x64, 0x06, 0x49, 0x04, 0x00, 0x00, 0x00, 0x01].as_slice());
+/// ```
 #[inline(always)]
 pub fn write_frame<A: Allocator + Copy>(alloc: A, frame: &Frame<'_>) -> Result<Vec<u8, A>, PduFault>
     requires { HasCause (message frame.now) }
