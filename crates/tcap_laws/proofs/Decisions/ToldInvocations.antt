@@ -21,7 +21,8 @@ use Rattle.tcap_model.specs.Invocations.Outcome.{first_closing, is_sent_in}
 use Rattle.tcap_model.specs.Words.Output.{Output, Closing, ComponentIndication}
 use Rattle.tcap_model.specs.Histories.Pair.{Pair, Past}
 use Rattle.tcap_model.specs.Invocations.SentThere.{marks_up_to}
-use Rattle.tcap_model.specs.Words.KeyOrder.{comes_before, put, in_order}
+use Rattle.tcap_invocation.proofs.CallerLemmas.{all_in_order}
+use Rattle.tcap_model.specs.Words.KeyOrder.{comes_before, key_before, put, in_order}
 use Rattle.tcap_model.specs.Replies.Reply.{ended_of, ended_in, Lapsing, lapse_key, lapsing_by, lapsing_at, lapse_told, lapses}
 use Rattle.tcap_model.specs.Invocations.Span.{span}
 use Rattle.tcap_laws.proofs.ListLemmas.{each-append}
@@ -166,25 +167,12 @@ module _ (n : ℕ) (place past : Past) where
           ∙ (ap (λ z. z ++ flat_map lapse ys) (swapped x y p q.0)
           ∙ append_assoc (lapse x) (lapse y) (flat_map lapse ys)))
 
-  each_put : (x : Lapsing) (ys : List Lapsing) → IsOne x → AllByRecursion IsOne ys
-      → AllByRecursion IsOne (put lapse_key x ys)
-  each_put x [] p q = (p, tt)
-  each_put x (y ∷ ys) p q = go (comes_before (lapse_key y) (lapse_key x)) (each_put x ys p q.1)
-    where
-      go : (b : Bool) → AllByRecursion IsOne (put lapse_key x ys)
-          → AllByRecursion IsOne (cond b (y ∷ put lapse_key x ys) (x ∷ y ∷ ys))
-      go true e = (q.0, e)
-      go false e = (p, (q.0, q.1))
-
-  each_in_order : (xs : List Lapsing) → AllByRecursion IsOne xs → AllByRecursion IsOne (in_order lapse_key xs)
-  each_in_order [] p = tt
-  each_in_order (x ∷ xs) p = each_put x (in_order lapse_key xs) p.0 (each_in_order xs p.1)
-
   told_in_order : (xs : List Lapsing) → AllByRecursion IsOne xs
       → flat_map lapse (in_order lapse_key xs) ≡ flat_map lapse xs
   told_in_order [] p = refl
   told_in_order (x ∷ xs) p =
-      told_put x (in_order lapse_key xs) p.0 (each_in_order xs p.1) ∙ ap (λ z. lapse x ++ z) (told_in_order xs p.1)
+      told_put x (in_order lapse_key xs) p.0 (all_in_order (key_before lapse_key) IsOne xs p.1)
+      ∙ ap (λ z. lapse x ++ z) (told_in_order xs p.1)
 
   abbrev pub lapse_if_any : Option Lapsing → List Told
   lapse_if_any None = []

@@ -3,7 +3,9 @@ use Rattle.std.proofs.Common.{◌≡◌, ◌==◌, ℕ, Bool, true, false, cond,
 use Rattle.std.proofs.Common.{List, [], ◌∷◌, refl, sym, ap, ◌∙◌, inl, inr, arith}
 use Rattle.std.proofs.lemmas.Bool.{or_cases, or_parts, eq-eqb, eqb-true, ltb-false, ltb-true, le-ltb, true≢false}
 use Rattle.std.specs.Prelude.{filter}
-use Rattle.tcap_model.specs.Words.KeyOrder.{comes_before, put, in_order}
+use Rattle.tcap_invocation.specs.Order.{put_by, in_order_by}
+use Rattle.tcap_invocation.proofs.CallerLemmas.{Ahead, Ordered, ahead_later, ordered_in_order}
+use Rattle.tcap_model.specs.Words.KeyOrder.{comes_before, key_before, in_order}
 
 -- ---- the order of keys
 
@@ -56,94 +58,65 @@ trans (m ∷ ms) (n ∷ ns) (l ∷ ls) p q =
     (and_not (n == m) (comes_before ns ms) first.1 (eq-eqb n m (omega (arith, low, high, is))))
     (and_not (l == n) (comes_before ls ns) second.1 (eq-eqb l n (omega (arith, low, high, is))))))
 
--- ---- lists in order
+-- ---- some left out
 
-module _ {X : Type 0} (key : X → List ℕ) where
-  abbrev is_before : X → X → Bool
-  is_before x y = comes_before (key x) (key y)
+module _ {A : Type 0} (before : A → A → Bool) (once : (a b : A) → before a b ≡ true → before b a ≡ false)
+    (behind : (a b c : A) → before b a ≡ false → before c b ≡ false → before c a ≡ false) (own : A → Bool) where
+  put-first : (x : A) (ys : List A) → Ahead before x ys → put_by before x ys ≡ x ∷ ys
+  put-first x [] ahead = refl
+  put-first x (y ∷ ys) ahead = ap (λ b. cond b (y ∷ put_by before x ys) (x ∷ y ∷ ys)) ahead.0
 
-  abbrev NoneBefore : X → List X → Type 0
-  NoneBefore x [] = Unit {0}
-  NoneBefore x (y ∷ ys) = (is_before y x ≡ false) × NoneBefore x ys
-
-  abbrev AreInOrder : List X → Type 0
-  AreInOrder [] = Unit {0}
-  AreInOrder (x ∷ xs) = NoneBefore x xs × AreInOrder xs
-
-  none-trans : (x y : X) (ys : List X) → is_before y x ≡ false → NoneBefore y ys → NoneBefore x ys
-  none-trans x y [] e none = tt
-  none-trans x y (z ∷ zs) e none = (trans (key x) (key y) (key z) e none.0, none-trans x y zs e none.1)
-
-  put-none : (z x : X) (ys : List X) → is_before x z ≡ false → NoneBefore z ys → NoneBefore z (put key x ys)
-  put-none z x [] e none = (e, tt)
-  put-none z x (y ∷ ys) e none = go (is_before y x) (put-none z x ys e none.1)
+  filter-ahead : (x : A) (ys : List A) → Ahead before x ys → Ahead before x (filter own ys)
+  filter-ahead x [] ahead = tt
+  filter-ahead x (y ∷ ys) ahead = go (own y) (filter-ahead x ys ahead.1)
     where
-      go : (b : Bool) → NoneBefore z (put key x ys) → NoneBefore z (cond b (y ∷ put key x ys) (x ∷ y ∷ ys))
-      go true ih = (none.0, ih)
-      go false ih = (e, none)
+      go : (b : Bool) → Ahead before x (filter own ys) → Ahead before x (cond b (y ∷ filter own ys) (filter own ys))
+      go true ih = (ahead.0, ih)
+      go false ih = ih
 
-  put-ordered : (x : X) (ys : List X) → AreInOrder ys → AreInOrder (put key x ys)
-  put-ordered x [] ordered = (tt, tt)
-  put-ordered x (y ∷ ys) ordered = go (is_before y x) refl (put-ordered x ys ordered.1)
+  put-kept : (x : A) (ys : List A) → own x ≡ true → Ordered before ys
+      → filter own (put_by before x ys) ≡ put_by before x (filter own ys)
+  put-kept x [] e ordered = ap (λ b. cond b (x ∷ []) []) e
+  put-kept x (y ∷ ys) e ordered = go (before y x) refl (put-kept x ys e ordered.1)
     where
-      go : (b : Bool) → is_before y x ≡ b → AreInOrder (put key x ys) →
-          AreInOrder (cond b (y ∷ put key x ys) (x ∷ y ∷ ys))
-      go true e ih = (put-none y x ys (asym (key x) (key y) e) ordered.0, ih)
-      go false e ih = ((e, none-trans x y ys e ordered.0), ordered)
+      kept : (b : Bool) → before y x ≡ true → filter own (put_by before x ys) ≡ put_by before x (filter own ys)
+          → cond b (y ∷ filter own (put_by before x ys)) (filter own (put_by before x ys))
+          ≡ put_by before x (cond b (y ∷ filter own ys) (filter own ys))
+      kept true q ih =
+          ap (λ (l : List A). y ∷ l) ih
+          ∙ sym (ap (λ b. cond b (y ∷ put_by before x (filter own ys)) (x ∷ y ∷ filter own ys)) q)
+      kept false q ih = ih
 
-  ordered-all : (xs : List X) → AreInOrder (in_order key xs)
-  ordered-all [] = tt
-  ordered-all (x ∷ xs) = put-ordered x (in_order key xs) (ordered-all xs)
+      go : (b : Bool) → before y x ≡ b → filter own (put_by before x ys) ≡ put_by before x (filter own ys)
+          → filter own (cond b (y ∷ put_by before x ys) (x ∷ y ∷ ys)) ≡ put_by before x (filter own (y ∷ ys))
+      go true q ih = kept (own y) q ih
+      go false q ih =
+          ap (λ b. cond b (x ∷ filter own (y ∷ ys)) (filter own (y ∷ ys))) e
+          ∙ sym (put-first x (filter own (y ∷ ys))
+          (filter-ahead x (y ∷ ys) (q, ahead_later before once behind x y ys q ordered.0)))
 
-  put-first : (x : X) (ys : List X) → NoneBefore x ys → put key x ys ≡ x ∷ ys
-  put-first x [] none = refl
-  put-first x (y ∷ ys) none = ap (λ b. cond b (y ∷ put key x ys) (x ∷ y ∷ ys)) none.0
+  put-left : (x : A) (ys : List A) → own x ≡ false → filter own (put_by before x ys) ≡ filter own ys
+  put-left x [] e = ap (λ b. cond b (x ∷ []) []) e
+  put-left x (y ∷ ys) e = go (before y x) (put-left x ys e)
+    where
+      go : (b : Bool) → filter own (put_by before x ys) ≡ filter own ys
+          → filter own (cond b (y ∷ put_by before x ys) (x ∷ y ∷ ys)) ≡ filter own (y ∷ ys)
+      go true ih = ap (λ (l : List A). cond (own y) (y ∷ l) l) ih
+      go false ih = ap (λ b. cond b (x ∷ filter own (y ∷ ys)) (filter own (y ∷ ys))) e
 
-  -- ---- some left out
+  filter-in_order_by : (xs : List A) → filter own (in_order_by before xs) ≡ in_order_by before (filter own xs)
+  filter-in_order_by [] = refl
+  filter-in_order_by (x ∷ xs) = go (own x) refl (filter-in_order_by xs)
+    where
+      go : (b : Bool) → own x ≡ b → filter own (in_order_by before xs) ≡ in_order_by before (filter own xs)
+          → filter own (put_by before x (in_order_by before xs))
+          ≡ in_order_by before (cond b (x ∷ filter own xs) (filter own xs))
+      go true e ih =
+          put-kept x (in_order_by before xs) e (ordered_in_order before once behind xs) ∙ ap (put_by before x) ih
+      go false e ih = put-left x (in_order_by before xs) e ∙ ih
 
-  module _ (own : X → Bool) where
-    filter-none : (x : X) (ys : List X) → NoneBefore x ys → NoneBefore x (filter own ys)
-    filter-none x [] none = tt
-    filter-none x (y ∷ ys) none = go (own y) (filter-none x ys none.1)
-      where
-        go : (b : Bool) → NoneBefore x (filter own ys) → NoneBefore x (cond b (y ∷ filter own ys) (filter own ys))
-        go true ih = (none.0, ih)
-        go false ih = ih
-
-    put-kept : (x : X) (ys : List X) → own x ≡ true → AreInOrder ys →
-        filter own (put key x ys) ≡ put key x (filter own ys)
-    put-kept x [] e ordered = ap (λ b. cond b (x ∷ []) []) e
-    put-kept x (y ∷ ys) e ordered = go (is_before y x) refl (put-kept x ys e ordered.1)
-      where
-        kept : (b : Bool) → is_before y x ≡ true → filter own (put key x ys) ≡ put key x (filter own ys)
-            → cond b (y ∷ filter own (put key x ys)) (filter own (put key x ys))
-            ≡ put key x (cond b (y ∷ filter own ys) (filter own ys))
-        kept true q ih =
-            ap (λ (l : List X). y ∷ l) ih ∙ sym (ap (λ b.
-            cond b (y ∷ put key x (filter own ys)) (x ∷ y ∷ filter own ys)) q)
-        kept false q ih = ih
-
-        go : (b : Bool) → is_before y x ≡ b → filter own (put key x ys) ≡ put key x (filter own ys)
-            → filter own (cond b (y ∷ put key x ys) (x ∷ y ∷ ys)) ≡ put key x (filter own (y ∷ ys))
-        go true q ih = kept (own y) q ih
-        go false q ih =
-            ap (λ b. cond b (x ∷ filter own (y ∷ ys)) (filter own (y ∷ ys))) e
-            ∙ sym (put-first x (filter own (y ∷ ys)) (filter-none x (y ∷ ys) (q, none-trans x y ys q ordered.0)))
-
-    put-left : (x : X) (ys : List X) → own x ≡ false → filter own (put key x ys) ≡ filter own ys
-    put-left x [] e = ap (λ b. cond b (x ∷ []) []) e
-    put-left x (y ∷ ys) e = go (is_before y x) (put-left x ys e)
-      where
-        go : (b : Bool) → filter own (put key x ys) ≡ filter own ys
-            → filter own (cond b (y ∷ put key x ys) (x ∷ y ∷ ys)) ≡ filter own (y ∷ ys)
-        go true ih = ap (λ (l : List X). cond (own y) (y ∷ l) l) ih
-        go false ih = ap (λ b. cond b (x ∷ filter own (y ∷ ys)) (filter own (y ∷ ys))) e
-
-    pub filter-in_order : (xs : List X) → filter own (in_order key xs) ≡ in_order key (filter own xs)
-    filter-in_order [] = refl
-    filter-in_order (x ∷ xs) = go (own x) refl (filter-in_order xs)
-      where
-        go : (b : Bool) → own x ≡ b → filter own (in_order key xs) ≡ in_order key (filter own xs)
-            → filter own (put key x (in_order key xs)) ≡ in_order key (cond b (x ∷ filter own xs) (filter own xs))
-        go true e ih = put-kept x (in_order key xs) e (ordered-all xs) ∙ ap (put key x) ih
-        go false e ih = put-left x (in_order key xs) e ∙ ih
+pub filter-in_order : {X : Type 0} (key : X → List ℕ) (own : X → Bool) (xs : List X)
+    → filter own (in_order key xs) ≡ in_order key (filter own xs)
+filter-in_order key own xs =
+    filter-in_order_by (key_before key) (λ a b e. asym (key b) (key a) e)
+    (λ a b c p q. trans (key a) (key b) (key c) p q) own xs
