@@ -3,10 +3,10 @@ use Rattle.std.proofs.Common.{◌≡◌, ℕ, ℤ, true, false, Bool, List, Opti
 use Rattle.tcap_component.specs.Component.{CodeParts, BodyParts}
 use Rattle.tcap_component.specs.Component.ComponentParts.{invoke, result_last, error_back, reject_back, result_more}
 use Rattle.tcap_component.specs.ComponentFault.{FaultParts}
-use Rattle.tcap_component.specs.Problem.{ProblemParts, IsProblem, is_by_provider}
+use Rattle.tcap_component.specs.Problem.{ProblemParts, IsProblem, is_by_provider, unexpected_error, unexpected_result, unrecognized_error, unrecognized_linked_id, unrecognized_result}
 use Rattle.tcap_invocation.specs.Class.{reports_success, reports_failure}
 use Rattle.tcap_model.specs.Procedures.ComponentHandling.{Item, SentInvocation, Handled, telling, rejecting, closing, closing_unexpected, invoke_handled, last_by, last_handled, more_by, more_handled, error_by, error_handled, remote, reject_by, reject_handled, fault_reject, handled}
-use Rattle.tcap_model.specs.Procedures.Problems.{unrecognized_linked, unrecognized_result, unexpected_result, unrecognized_error, unexpected_error, is_of_answer}
+use Rattle.tcap_model.specs.Procedures.Problems.{is_of_answer}
 use Rattle.tcap_model.specs.Words.Output.{Output, Closing, Rejector, ComponentIndication}
 
 -- the identifier that a component carries, or one that can't be read
@@ -58,7 +58,7 @@ pub data ComesOf (dialogue : Option ℕ) : Option SentInvocation → Item → Ha
         reject = fault_reject f;
       })
 
-unlinked-here : IsFormedHere unrecognized_linked
+unlinked-here : IsFormedHere unrecognized_linked_id
 unlinked-here = record { is_problem = omega arith; is_provided = refl }
 
 no_result-here : IsFormedHere unrecognized_result
@@ -84,7 +84,7 @@ module _ (dialogue : Option ℕ) where
   of-invoke sent id None code parameter = ComesOf.an_invoke sent id None code parameter
   of-invoke (Some sent) id (Some linked) code parameter = ComesOf.an_invoke (Some sent) id (Some linked) code parameter
   of-invoke None id (Some linked) code parameter =
-      ComesOf.not_sent (Ok (invoke id (Some linked) code parameter)) id unrecognized_linked refl unlinked-here
+      ComesOf.not_sent (Ok (invoke id (Some linked) code parameter)) id unrecognized_linked_id refl unlinked-here
 
   of-last : (sent : Option SentInvocation) (id : ℤ) (body : Option BodyParts)
       → ComesOf dialogue sent (Ok (result_last id body)) (last_handled dialogue sent id body)

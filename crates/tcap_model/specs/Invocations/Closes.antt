@@ -3,10 +3,11 @@ use Rattle.std.specs.Prelude.{ℕ, ◌+◌, List, Option, Some, None, nat_le, if
 use Rattle.tcap_component.specs.Component.{CodeParts, BodyParts}
 use Rattle.tcap_invocation.specs.declared.class.Class.{Class}
 use Rattle.tcap_invocation.specs.declared.class.Class.TheVariants.{One, Two, Three, Four}
-use Rattle.tcap_model.specs.Procedures.Problems.{unexpected_result, unexpected_error, remote_rejector}
+use Rattle.tcap_model.specs.Procedures.Problems.{remote_rejector}
 use Rattle.tcap_model.specs.Invocations.Deadline.{sent_clock}
 use Rattle.tcap_model.specs.Invocations.Marks.{Mark, Noted}
 use Rattle.tcap_model.specs.Words.Output.{Closing, Rejector}
+use Rattle.tcap_component.specs.Problem.{unexpected_error, unexpected_result}
 
 -- How a Return Result Last closes an invocation that is Sent: by the result, and where the class
 -- reports no success by a Reject from here, "return result unexpected"

@@ -1,13 +1,13 @@
 -- What one received component tells and which Reject it has.
 use Rattle.std.specs.Prelude.{ℕ, ℤ, Bool, true, false, List, Option, Some, None, Result, Ok, Err, map, if◌then◌else◌}
-use Rattle.tcap_component.specs.Problem.{ProblemParts}
+use Rattle.tcap_component.specs.Problem.{ProblemParts, unexpected_error, unexpected_result, unrecognized_error, unrecognized_linked_id, unrecognized_result}
 use Rattle.tcap_component.specs.Component.{ComponentParts, CodeParts, BodyParts}
 use Rattle.tcap_component.specs.Component.ComponentParts.{invoke, result_last, error_back, reject_back, result_more}
 use Rattle.tcap_component.specs.ComponentFault.{FaultParts}
 use Rattle.tcap_invocation.specs.declared.class.Class.{Class}
 use Rattle.tcap_invocation.specs.Class.{reports_success, reports_failure}
 use Rattle.tcap_model.specs.Words.Output.{Output, Closing, Rejector, ComponentIndication}
-use Rattle.tcap_model.specs.Procedures.Problems.{unrecognized_linked, unrecognized_result, unexpected_result, unrecognized_error, unexpected_error, is_of_answer, remote_rejector}
+use Rattle.tcap_model.specs.Procedures.Problems.{is_of_answer, remote_rejector}
 
 -- A component that was read, or the fault of one that can't be read (own).
 abbrev pub Item : Type 0
@@ -69,7 +69,7 @@ invoke_handled dialogue sent id None code parameter =
     telling (Output.component (ComponentIndication.invoked dialogue id None code parameter))
 invoke_handled dialogue (Some sent) id (Some linked) code parameter =
     telling (Output.component (ComponentIndication.invoked dialogue id (Some linked) code parameter))
-invoke_handled dialogue None id (Some linked) code parameter = rejecting dialogue (Some id) unrecognized_linked
+invoke_handled dialogue None id (Some linked) code parameter = rejecting dialogue (Some id) unrecognized_linked_id
 
 -- A Return Result Last for an invocation that is Sent, by whether its class reports success: it closes
 -- the invocation, or else is unexpected (Q.774, Component handling).

@@ -2,12 +2,12 @@
 -- invocations, by what a component tells, and by how a mark closes its invocation.
 use Rattle.std.specs.Prelude.{◌≡◌, ℕ, ℤ, true, false, List, Option, Some, None, Ok}
 use Rattle.tcap_component.specs.Component.{CodeParts, BodyParts, ComponentParts}
-use Rattle.tcap_component.specs.Problem.{ProblemParts}
+use Rattle.tcap_component.specs.Problem.{ProblemParts, unexpected_error, unexpected_result}
 use Rattle.tcap_invocation.specs.Class.{Received, Consequence, class_rule}
 use Rattle.tcap_model.specs.Invocations.Closes.{closing_of}
 use Rattle.tcap_model.specs.Invocations.Marks.{Mark}
 use Rattle.tcap_model.specs.Procedures.ComponentHandling.{SentInvocation, Handled, telling, closing, closing_unexpected, remote, handled}
-use Rattle.tcap_model.specs.Procedures.Problems.{unexpected_result, unexpected_error, is_of_answer, remote_rejector}
+use Rattle.tcap_model.specs.Procedures.Problems.{is_of_answer, remote_rejector}
 use Rattle.tcap_model.specs.Words.Output.{Output, Closing, Rejector, ComponentIndication}
 
 -- The lines on which the three agree, for an answer to an invocation that is Sent: what comes of it,
