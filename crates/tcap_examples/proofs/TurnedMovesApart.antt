@@ -4,7 +4,7 @@ use Rattle.tcap_examples.proofs.Apart.{apart}
 use Rattle.tcap_examples.specs.Computing.{computing}
 use Rattle.tcap_examples.specs.Wrong.TurnedMoves.{ByDialogueShows, FreedFirstShows, DrawingEarlyShows}
 use Rattle.tcap_examples.specs.Wrong.TurnedMoves.{HearingEarlyShows}
-use Rattle.tcap_model.specs.Table.EngineMove.{EngineMoved, engine_move}
+use Rattle.tcap_model.specs.Table.EngineMove.{EngineMoved}
 use Rattle.tcap_model.specs.Words.Answer.{Answer}
 use Rattle.tcap_model.specs.Words.Output.{ComponentIndication, Output}
 
@@ -38,19 +38,19 @@ abbrev how_many_stand : EngineMoved → ℕ
 how_many_stand m = length m.after.dialogues
 
 pub by_dialogue_shows : ByDialogueShows
-unfolding computing engine_move
+unfolding computing
 by_dialogue_shows = record { is_right = refl; is_turned = λ same. apart first_told same refl }
 
 pub freed_first_shows : FreedFirstShows
-unfolding computing engine_move
+unfolding computing
 freed_first_shows = record { is_right = refl; is_turned = λ same. apart first_told same refl }
 
 pub drawing_early_shows : DrawingEarlyShows
-unfolding computing engine_move
+unfolding computing
 drawing_early_shows = record { is_right = refl; is_turned = λ same. apart next_drawn same refl }
 
 pub hearing_early_shows : HearingEarlyShows
-unfolding computing engine_move
+unfolding computing
 hearing_early_shows = record { is_right = refl; is_turned = λ same. apart how_many_stand same refl }
 
 -- What the examples cite.

@@ -1,5 +1,5 @@
 //! Histories that the engine's move runs through step by step, with the engine written after each event.
-#![tactic(auto, unfolding(crate::specs::Computing::computing, tcap_model::specs::Table::EngineMove::engine_move))]
+#![tactic(auto, unfolding(crate::specs::Computing::computing))]
 
 ghost use Rattle.tcap_examples.specs.Histories.EngineSteps.{RunsThrough};
 ghost use Rattle.tcap_examples.specs.Histories.EngineWalks as walks;

@@ -1,6 +1,6 @@
 //! Worked histories that the engine's move runs along: at each event it leads from the engine at the
 //! history to the engine at the history with its pair.
-#![tactic(auto, unfolding(crate::specs::Computing::computing, tcap_model::specs::Table::EngineMove::engine_move))]
+#![tactic(auto, unfolding(crate::specs::Computing::computing))]
 
 ghost use Rattle.tcap_examples.specs.Histories.EngineSteps.{Runs};
 ghost use Rattle.tcap_examples.specs.Histories.Closing as closing;
@@ -18,6 +18,7 @@ pub fn closing_move()
     ensures lapse_and_late_result { Runs closing.lapse_and_late_result }
     ensures repeated_aare { Runs closing.repeated_aare }
     ensures answers_the_class_forbids { Runs closing.answers_the_class_forbids }
+    ensures each_answer_of_each_class { Runs closing.each_answer_of_each_class }
     ensures identifier_held_after_a_result { Runs closing.identifier_held_after_a_result }
     ensures identifier_held_at_the_same_moment { Runs closing.identifier_held_at_the_same_moment }
     ensures identifier_freed_by_a_reject { Runs closing.identifier_freed_by_a_reject }

@@ -1,7 +1,8 @@
 -- What becomes of received bytes depends on which dialogues are live, and not on how that is found.
 use Rattle.std.proofs.Common.{◌≡◌, ℕ, Bool, cond, nat_lt, List, [], ◌∷◌, length, Option, Some, None, Result, Ok, Err}
 use Rattle.std.proofs.Common.{refl, ap}
-use Rattle.tcap_model.specs.Procedures.Reception.{addressed_if_any, continue_by, final_message_by, message_by, fault_abort}
+use Rattle.tcap_model.specs.Procedures.Reception.{addressed_if_any, continue_by, final_message_by, message_by}
+use Rattle.tcap_model.specs.Procedures.Reception.{fault_abort}
 use Rattle.tcap_model.specs.Procedures.Reception.{fault_by, faulty, live_named, reading_by, reception, Reception}
 use Rattle.tcap_model.specs.Words.LocalId.{dialogue_named}
 use Rattle.tcap_model.specs.Words.Output.{DropCause}
