@@ -9,3 +9,4 @@ pub use Rattle.tcap_pdu.proofs.WrittenSpelling.{written_spells, written_read}
 pub use Rattle.tcap_pdu.proofs.SpelledWritable.{spelled_context, spelled_information, spelled_diagnostic}
 pub use Rattle.tcap_pdu.proofs.LengthGrammar.{content-fits}
 pub use Rattle.tcap_pdu.proofs.PartsWithin.{contents_within, filled_least, dialogue_within}
+pub use Rattle.tcap_pdu.proofs.DialogueParts.{information_none}

@@ -5,6 +5,7 @@ mod read;
 mod write;
 
 pub use len::dialogue_len;
+pub use parts::is_user_information;
 pub use read::read_dialogue;
 pub use write::write_dialogue;
 

@@ -46,7 +46,8 @@ fn are_externals(bytes: &[u8]) -> bool
     })
 }
 
-/// The same, computed.
+/// Whether the bytes are user information as a dialogue PDU carries it: EXTERNALs, elements with the tag
+/// 28, one after the other, and none where it is left out (Q.773, Dialogue portion).
 #[tactic(auto, using(crate::proofs::DialogueParts::information_none))]
 #[inline(always)]
 pub fn is_user_information(bytes: &[u8]) -> bool

@@ -1,0 +1,62 @@
+-- Refusals as a contract sees them.
+use Rattle.std.specs.Prelude.{◌≡◌, ℕ, Bool, true, false, [], ◌∷◌, Option, Some, Result, Ok, Err, IsTrue}
+use Rattle.tcap_model.specs.Table.Dialogue as model
+use Rattle.tcap_model.specs.Words.Answer.{Answer}
+use Rattle.tcap_model.specs.Words.Fault as model_fault
+use Rattle.tcap_dialogue.specs.declared.dialogue.Step.{Step}
+use Rattle.tcap_dialogue.specs.declared.fault.Fault.{Fault}
+use Rattle.tcap_dialogue.specs.declared.fault.Fault.TheVariants as fault
+use Rattle.tcap_dialogue.specs.StepViews.{Outcome, stepped}
+
+-- A fault (own).
+abbrev pub fault_view : Fault → model_fault.Fault
+fault_view fault.OutOfMemory = model_fault.Fault.out_of_memory
+fault_view fault.UnknownDialogue = model_fault.Fault.unknown_dialogue
+fault_view fault.WrongState = model_fault.Fault.wrong_state
+fault_view fault.InvokeIdInUse = model_fault.Fault.invoke_id_in_use
+fault_view fault.NoSuchInvocation = model_fault.Fault.no_such_invocation
+fault_view fault.BadTimeout = model_fault.Fault.bad_timeout
+fault_view fault.TooLong = model_fault.Fault.too_long
+fault_view fault.DialoguesFull = model_fault.Fault.dialogues_full
+fault_view fault.DialogueIdsSpent = model_fault.Fault.dialogue_ids_spent
+fault_view fault.NumbersSpent = model_fault.Fault.numbers_spent
+fault_view fault.BadOid = model_fault.Fault.bad_oid
+fault_view fault.BadParameter = model_fault.Fault.bad_parameter
+fault_view fault.NotClassFour = model_fault.Fault.not_class_four
+fault_view fault.MomentTooLate = model_fault.Fault.moment_too_late
+fault_view fault.NoContext = model_fault.Fault.no_context
+
+-- Whether something is kept or told, for which memory may be wanting: the answer is no refusal and no
+-- empty list, and nothing was given up (own).
+abbrev pub takes_memory : Answer → Bool
+takes_memory (Answer.new_dialogue dialogue) = true
+takes_memory (Answer.number number) = true
+takes_memory Answer.done = true
+takes_memory (Answer.given_up number) = false
+takes_memory (Answer.outputs []) = false
+takes_memory (Answer.outputs (o ∷ os)) = true
+takes_memory (Answer.refused f) = false
+
+-- A refusal is the one that the table gives, and the dialogue is what it says; want of memory comes only
+-- where the table's answer takes memory, and leaves the dialogue as it was (own).
+abbrev pub RefusedBy : model_fault.Fault → Outcome → model.Dialogue → model.Dialogue → Type 0
+RefusedBy model_fault.Fault.out_of_memory o old new = (new ≡ old) × IsTrue (takes_memory o.0)
+RefusedBy f o old new = o ≡ (Answer.refused f, Some new)
+
+-- An answer is the one that the table gives and the dialogue what it says, or the refusal is (own).
+abbrev pub Answers : {T : Type 0} → (T → Answer) → Result T Fault → Outcome → model.Dialogue → model.Dialogue → Type 0
+Answers view (Ok x) o old new = o ≡ (view x, Some new)
+Answers view (Err f) o old new = RefusedBy (fault_view f) o old new
+
+-- The same of a step, after which the dialogue may be over (own).
+abbrev pub Steps : {A : Type 0} → Result (Step A) Fault → Outcome → model.Dialogue → model.Dialogue → Type 0
+Steps (Ok s) o old new = stepped s new ≡ o
+Steps (Err f) o old new = RefusedBy (fault_view f) o old new
+
+-- An invocation gets a number (own).
+abbrev pub numbered : ℕ → Unit {0} → Answer
+numbered number _ = Answer.number number
+
+-- A component is queued (own).
+abbrev pub queued_done : Unit {0} → Answer
+queued_done _ = Answer.done

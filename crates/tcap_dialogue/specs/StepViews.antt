@@ -1,0 +1,29 @@
+-- What a call of a dialogue gives, beside what the table says.
+use Rattle.std.specs.Prelude.{ℕ, Option, Some, None, if◌then◌else◌}
+use Rattle.tcap_model.specs.Procedures.QueueRules.{queue_limit}
+use Rattle.tcap_model.specs.Table.Dialogue as model
+use Rattle.tcap_model.specs.Table.TableMove.{Moved, Setting, left_standing}
+use Rattle.tcap_model.specs.Words.Answer.{Answer}
+use Rattle.tcap_dialogue.specs.declared.dialogue.Step.{Step}
+use Rattle.tcap_dialogue.specs.OutputViews.{all_shown}
+
+-- What is answered, and the dialogue if it stands (own).
+abbrev pub Outcome : Type 0
+Outcome = Answer × Option model.Dialogue
+
+-- What the table says (own).
+abbrev pub outcome : Moved → Outcome
+outcome m = (m.answer, left_standing m)
+
+-- What a step gave, where the dialogue is then this one; of one that is over nothing is said (own).
+abbrev pub stepped : {A : Type 0} → Step A → model.Dialogue → Outcome
+stepped s d = (Answer.outputs (all_shown s.outputs.items), (if s.over then None else Some d))
+
+-- What is around a dialogue of which something is asked at this moment, where an invocation gets this
+-- number (own).
+abbrev pub asked : ℕ → ℕ → Setting
+asked clock number = record { clock = clock; number = number; limit = queue_limit }
+
+-- What is around a dialogue that takes a message at this moment: no invocation gets a number (own).
+abbrev pub at_clock : ℕ → Setting
+at_clock clock = asked clock 0

@@ -1,0 +1,50 @@
+pub(crate) mod opening;
+pub(crate) mod timers;
+
+use crate::output::Output;
+use crate::queue::Queue;
+use crate::state::Phase;
+use std::alloc::{Allocator, Global};
+use std::marker::Model;
+use tcap_invocation::Invocations;
+
+/// What a call gives: what is sent and told, in order, and whether the dialogue is over.
+#[derive(Debug, Drop, PartialEq, Eq)]
+pub struct Step<'m, A: Allocator = Global> {
+    /// What is sent and told.
+    pub outputs: Vec<Output<'m, A>, A>,
+    /// Whether the dialogue is over, so that it is not to be used any more.
+    pub over: bool,
+}
+
+/// One dialogue (Q.774, Transaction state machine; Q.774, Component handling).
+///
+/// - Requests of the TC-user: `invoke`, `result_last`, `result_more`, `error_back`, `u_reject`,
+///   `u_cancel`; `uni`, `begin`, `go_on`, `finish`, `u_abort`; or any of them by `ask`.
+/// - Events from outside: `accept`, which makes the dialogue of a Begin, `take_frame`, `take_fault`;
+///   time: `lapse`, or one by one `due_count`, `first_due`, `lapse_one` and `free_due`.
+/// - Getters: `identifier`, `state`, `peer`, `check_invoke`.
+///
+/// Moments are in milliseconds by the caller's clock, at most 2^62. A contract sees the identifier,
+/// state, context, queue and invocations, and forgets how much room they have.
+#[derive(Debug, Drop)]
+pub struct Dialogue<A: Allocator + Copy = Global> {
+    identifier: u32,
+    phase: Phase,
+    context: Option<Vec<u8, A>>,
+    queue: Queue<A>,
+    invocations: Invocations<A>,
+}
+
+impl<A: Allocator + Copy> Model for Dialogue<A> {
+    ghost use Rattle.tcap_model.specs.Table.Dialogue as model;
+    ghost use Rattle.tcap_dialogue.specs.StateViews.{phase_view, context_view};
+    ghost use Rattle.tcap_dialogue.specs.QueueViews.{queue_view};
+
+    ghost Value = { model.Dialogue };
+
+    ghost view = { λ d. record {
+      standing = record { identifier = d.identifier; state = phase_view d.phase; context = context_view d.context; queue = queue_view d.queue };
+      invocations = d.invocations;
+    } };
+}

@@ -1,0 +1,56 @@
+//! A new dialogue, and what is seen of one.
+
+ghost use Rattle.std.specs.Prelude.{◌≡◌, ◌≤◌};
+ghost use Rattle.tcap_dialogue.specs.StateViews.{state_of};
+ghost use Rattle.tcap_invocation.specs.Stage.{moment_limit};
+ghost use Rattle.tcap_model.specs.Table.Dialogue.{fresh_dialogue};
+ghost use Rattle.tcap_model.specs.Words.State.{peer_of};
+
+use super::Dialogue;
+use crate::queue::Queue;
+use crate::state::{Phase, State};
+use std::alloc::Allocator;
+use tcap_invocation::Invocations;
+use tcap_pdu::TransId;
+
+impl<A: Allocator + Copy> Dialogue<A> {
+    /// A new dialogue with this identifier, in which nothing has happened. `reject_ms` is how long an
+    /// invoke identifier waits for a Reject of its result or error, 0 to 2^62 milliseconds
+    /// (Q.774, Transaction state machine).
+    pub fn fresh(alloc: A, identifier: u32, reject_ms: u64) -> Dialogue<A>
+        requires { reject_ms ≤ moment_limit }
+        ensures { result ≡ fresh_dialogue identifier reject_ms }
+    {
+        Dialogue {
+            identifier,
+            phase: Phase::Fresh,
+            context: None,
+            queue: Queue {
+                octets: Vec::new(alloc),
+                parts: Vec::new(alloc),
+            },
+            invocations: Invocations::new(alloc, reject_ms),
+        }
+    }
+
+    /// Its identifier, which is its local transaction identifier.
+    pub fn identifier(&self) -> u32
+        ensures { result ≡ self.now.standing.identifier }
+    {
+        self.identifier
+    }
+
+    /// Its state.
+    pub fn state(&self) -> State
+        ensures { result ≡ state_of self.now.standing.state }
+    {
+        self.phase.state()
+    }
+
+    /// The peer's transaction identifier, which is known in Received and in Active.
+    pub fn peer(&self) -> Option<TransId>
+        ensures { result ≡ peer_of self.now.standing.state }
+    {
+        self.phase.peer()
+    }
+}

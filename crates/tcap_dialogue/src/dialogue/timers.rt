@@ -1,0 +1,44 @@
+//! What lapses with time, invocation by invocation.
+
+ghost use Rattle.std.specs.Prelude.{◌≡◌, ◌∷◌, length, IfSome};
+ghost use Rattle.tcap_invocation.specs.Lapses.{due_at, told_at, first_due_at, lapse_at, after_lapse, after_lapse_one, after_free_due};
+ghost use Rattle.tcap_model.specs.Table.Dialogue.{with_invocations};
+
+use super::Dialogue;
+use std::alloc::Allocator;
+use tcap_invocation::Lapse;
+
+impl<A: Allocator + Copy> Dialogue<A> {
+    /// How many Sent invocations have a deadline at most the clock.
+    pub fn due_count(&self, clock: u64) -> usize
+        ensures { result ≡ length (due_at clock self.now.invocations.rows) }
+    {
+        self.invocations.due_count(clock)
+    }
+
+    /// Of these the first by deadline, then number.
+    pub fn first_due(&self, clock: u64) -> Option<Lapse>
+        ensures { result ≡ first_due_at clock self.now.invocations.rows }
+    {
+        self.invocations.first_due(clock)
+    }
+
+    /// Takes out the Sent invocation with the identifier, if its deadline is at most the clock.
+    pub fn lapse_one(&mut self, id: i8, clock: u64) -> Option<Lapse>
+        ensures lapse { result ≡ lapse_at clock self.old.invocations.rows id }
+        ensures dialogue { self.new ≡ with_invocations self.old (after_lapse_one self.old.invocations id clock) }
+        // If it is the first that is due, what is told from here on is the rest.
+        ensures first { IfSome (first_due_at clock self.old.invocations.rows) (λ l. l.id ≡ id → told_at clock self.old.invocations.rows ≡ l ∷ told_at clock self.new.invocations.rows) }
+        // What all lapses together leave is the same.
+        ensures rest { after_lapse self.new.invocations clock ≡ after_lapse self.old.invocations clock }
+    {
+        self.invocations.lapse_one(id, clock)
+    }
+
+    /// Frees each identifier whose wait is over at the clock.
+    pub fn free_due(&mut self, clock: u64)
+        ensures { self.new ≡ with_invocations self.old (after_free_due self.old.invocations clock) }
+    {
+        self.invocations.free_due(clock)
+    }
+}

@@ -1,0 +1,20 @@
+//! One dialogue (Q.771, Q.774): its state, its queue of components and its invocations; what it answers
+//! to each request, to each message and to time.
+//!
+//! Stands on `ber_core`, `tcap_pdu`, `tcap_component`, `tcap_invocation` and the definitions of
+//! `tcap_model`. Begin at `Dialogue`; each call does what `table_move` says
+//! (tcap_model/specs/Table/TableMove.antt), and what a contract sees of a value stands in specs/.
+#![tactic(auto)]
+
+mod dialogue;
+mod fault;
+mod output;
+mod queue;
+mod request;
+mod state;
+
+pub use dialogue::{Dialogue, Step};
+pub use fault::Fault;
+pub use output::{By, DropWhy, Output, Why};
+pub use request::{AbortWhy, Ending, Request};
+pub use state::State;
