@@ -1,7 +1,7 @@
 -- The state and the application context of a dialogue as a contract sees them.
 use Rattle.std.specs.Prelude.{ℕ, List, Option, Some, None}
-use Rattle.std.specs.declared.vec.Vec.{Vec}
 use Rattle.tcap_model.specs.Words.State as model
+use Rattle.tcap_dialogue.specs.declared.context.Context.{Context}
 use Rattle.tcap_dialogue.specs.declared.state.Phase.{Phase}
 use Rattle.tcap_dialogue.specs.declared.state.Phase.TheVariants as phase
 use Rattle.tcap_dialogue.specs.declared.state.State.{State}
@@ -23,6 +23,6 @@ state_of (model.State.received peer) = state.Received
 state_of (model.State.active peer) = state.Active
 
 -- The application context (own).
-abbrev pub context_view : {A : Type 0} → Option (Vec ℕ A) → Option (List ℕ)
+abbrev pub context_view : {A : Type 0} → Option (Context A) → Option (List ℕ)
 context_view None = None
-context_view (Some context) = Some context.items
+context_view (Some context) = Some context.octets.items

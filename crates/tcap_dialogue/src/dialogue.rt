@@ -1,6 +1,7 @@
 pub(crate) mod opening;
 pub(crate) mod timers;
 
+use crate::context::Context;
 use crate::output::Output;
 use crate::queue::Queue;
 use crate::state::Phase;
@@ -31,7 +32,7 @@ pub struct Step<'m, A: Allocator = Global> {
 pub struct Dialogue<A: Allocator + Copy = Global> {
     identifier: u32,
     phase: Phase,
-    context: Option<Vec<u8, A>>,
+    context: Option<Context<A>>,
     queue: Queue<A>,
     invocations: Invocations<A>,
 }

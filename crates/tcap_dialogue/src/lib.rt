@@ -6,6 +6,7 @@
 //! (tcap_model/specs/Table/TableMove.antt), and what a contract sees of a value stands in specs/.
 #![tactic(auto)]
 
+mod context;
 mod dialogue;
 mod fault;
 mod output;
