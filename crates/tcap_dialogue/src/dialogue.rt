@@ -1,3 +1,4 @@
+pub(crate) mod ending;
 pub(crate) mod opening;
 pub(crate) mod timers;
 
