@@ -1,5 +1,5 @@
 -- Refusals as a contract sees them.
-use Rattle.std.specs.Prelude.{◌≡◌, ℕ, Bool, true, false, [], ◌∷◌, Option, Some, Result, Ok, Err, IsTrue}
+use Rattle.std.specs.Prelude.{◌≡◌, ℕ, Bool, true, false, [], ◌∷◌, Some, Result, Ok, Err, IsTrue}
 use Rattle.tcap_model.specs.Table.Dialogue as model
 use Rattle.tcap_model.specs.Words.Answer.{Answer}
 use Rattle.tcap_model.specs.Words.Fault as model_fault
@@ -54,9 +54,13 @@ Steps (Ok s) o old new = stepped s new ≡ o
 Steps (Err f) o old new = RefusedBy (fault_view f) o old new
 
 -- An invocation gets a number (own).
-abbrev pub numbered : ℕ → Unit {0} → Answer
-numbered number _ = Answer.number number
+abbrev pub numbered : ℕ → Answer
+numbered number = Answer.number number
 
 -- A component is queued (own).
 abbrev pub queued_done : Unit {0} → Answer
 queued_done _ = Answer.done
+
+-- An invocation is given up (own).
+abbrev pub gave_up : ℕ → Answer
+gave_up number = Answer.given_up number

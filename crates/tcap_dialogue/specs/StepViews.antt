@@ -2,8 +2,10 @@
 use Rattle.std.specs.Prelude.{ℕ, Option, Some, None, if◌then◌else◌}
 use Rattle.tcap_model.specs.Procedures.QueueRules.{queue_limit}
 use Rattle.tcap_model.specs.Table.Dialogue as model
-use Rattle.tcap_model.specs.Table.TableMove.{Moved, Setting, left_standing}
+use Rattle.tcap_model.specs.Procedures.Refusals.{due_on}
+use Rattle.tcap_model.specs.Table.TableMove.{Moved, Setting, left_standing, situation, requested_by}
 use Rattle.tcap_model.specs.Words.Answer.{Answer}
+use Rattle.tcap_model.specs.Words.Request.{Request}
 use Rattle.tcap_dialogue.specs.declared.dialogue.Step.{Step}
 use Rattle.tcap_dialogue.specs.OutputViews.{all_shown}
 
@@ -27,3 +29,8 @@ asked clock number = record { clock = clock; number = number; limit = queue_limi
 -- What is around a dialogue that takes a message at this moment: no invocation gets a number (own).
 abbrev pub at_clock : ℕ → Setting
 at_clock clock = asked clock 0
+
+-- What the table says of a request at this moment, where an invocation gets this number (own).
+abbrev pub requested : ℕ → ℕ → model.Dialogue → Request → Outcome
+requested clock number d r =
+    outcome (requested_by (asked clock number) d r (due_on (situation (asked clock number) d r) r))
