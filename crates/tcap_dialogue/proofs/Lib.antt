@@ -1,3 +1,5 @@
 pub mod CutLemmas
 pub mod FaultLemmas
+pub mod PortionLemmas
 pub mod RefusalLemmas
+pub mod SendingLemmas

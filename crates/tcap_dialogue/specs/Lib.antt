@@ -1,8 +1,10 @@
+pub mod ControlViews
 pub mod FaultText
 pub mod FaultViews
 pub mod OutputViews
 pub mod Parts
 pub mod QueueViews
 pub mod RequestViews
+pub mod SendingViews
 pub mod StateViews
 pub mod StepViews

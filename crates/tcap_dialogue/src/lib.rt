@@ -7,11 +7,13 @@
 #![tactic(auto)]
 
 mod context;
+mod control;
 mod dialogue;
 mod fault;
 mod output;
 mod queue;
 mod request;
+mod sending;
 mod state;
 
 pub use dialogue::{Dialogue, Step};

@@ -1,0 +1,42 @@
+//! The message of a request: what bears the dialogue portion, and the PDU in it.
+
+pub mod portions;
+pub mod written;
+
+use tcap_pdu::{DialoguePdu, TransId};
+
+/// A message without its dialogue portion: the identifiers, and the octets of the components.
+#[derive(Debug, Drop)]
+pub enum Bearer<'a> {
+    /// Unidirectional.
+    Uni {
+        components: &'a [u8],
+    },
+    /// Begin of the dialogue with this identifier.
+    Begin {
+        origin: u32,
+        components: &'a [u8],
+    },
+    /// Continue of the dialogue with this identifier.
+    Continue {
+        origin: u32,
+        peer: &'a TransId,
+        components: &'a [u8],
+    },
+    /// End.
+    End {
+        peer: &'a TransId,
+        components: &'a [u8],
+    },
+    /// Abort by the user.
+    Abort {
+        peer: &'a TransId,
+    },
+}
+
+/// The message of a request, with the dialogue PDU that it carries, if any.
+#[derive(Debug, Drop)]
+pub struct Sending<'a> {
+    pub bearer: Bearer<'a>,
+    pub pdu: Option<DialoguePdu<'a>>,
+}
