@@ -1,10 +1,11 @@
-use Rattle.std.proofs.Common.{◌≡◌, ℕ, ◌+◌, ◌≤◌, ◌<◌, ◌-◌, nat_le, false, List, [], ◌∷◌, ◌++◌, length, take, drop, Option, refl, sym, ap, ◌∙◌, arith, length-append}
+use Rattle.std.proofs.Common.{◌≡◌, ℕ, ◌+◌, ◌≤◌, ◌<◌, ◌-◌, nat_le, Bool, ◌&&◌, false, List, [], ◌∷◌, ◌++◌, length, take, drop, Option, refl, sym, ap, ◌∙◌, arith, length-append}
 use Rattle.std.proofs.Math.Seq.{take-length}
 use Rattle.std.proofs.lemmas.Bool.Decides.{nat_tests}
 use Rattle.std.proofs.lemmas.List.{take-append-le, drop-append-le, take-append-drop, length-drop}
 use Rattle.tcap_model.specs.Procedures.QueueRules.{Queued, queue_limit, queue_if_fits, fits}
+use Rattle.std.specs.List.{list_all}
 use Rattle.std.specs.Option.{option_map}
-use Rattle.tcap_model.specs.Procedures.QueueRules.{joined}
+use Rattle.tcap_model.specs.Procedures.QueueRules.{can_go_alone, goes_alone, joined}
 use Rattle.tcap_dialogue.specs.declared.queue.Part.{Part}
 use Rattle.tcap_dialogue.specs.declared.queue.Invoking.{Invoking}
 use Rattle.tcap_dialogue.specs.Parts.{total}
@@ -55,3 +56,12 @@ cut-room parts all c whole within = rw (cut-joined parts all whole) (grind (arit
 pub cut-above : (parts : List Part) (all : List ℕ) (c : Queued) → total parts ≡ length all → queue_limit < length c.octets →
     false ≡ fits queue_limit (cut parts all) c
 cut-above parts all c whole above = rw (cut-joined parts all whole) (grind (arith, nat_tests))
+
+-- Whether the components may go alone, by what they ask for.
+pub cut-alone : (parts : List Part) (all : List ℕ) → list_all (λ (c : Queued). goes_alone c.invoking) (cut parts all) ≡ list_all (λ (p : Part). goes_alone (option_map invoking_view p.invoking)) parts
+cut-alone [] all = refl
+cut-alone (p ∷ parts) all = ap (λ (b : Bool). goes_alone (option_map invoking_view p.invoking) && b) (cut-alone parts (drop p.len all))
+
+pub alone-filled : (parts : List Part) (all : List ℕ) → 0 < length parts → list_all (λ (p : Part). goes_alone (option_map invoking_view p.invoking)) parts ≡ can_go_alone (cut parts all)
+alone-filled [] all filled = absurd (omega (arith, filled))
+alone-filled (p ∷ parts) all filled = sym (cut-alone (p ∷ parts) all)

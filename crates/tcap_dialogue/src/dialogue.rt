@@ -1,5 +1,6 @@
 pub(crate) mod ending;
 pub(crate) mod opening;
+pub(crate) mod sending;
 pub(crate) mod timers;
 
 use crate::context::Context;

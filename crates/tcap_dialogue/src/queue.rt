@@ -2,6 +2,7 @@ ghost use Rattle.std.specs.Prelude.{◌≡◌, length};
 ghost use Rattle.tcap_dialogue.specs.Parts.{total};
 
 pub mod append;
+pub mod sending;
 
 use std::alloc::{Allocator, Global};
 use tcap_invocation::Class;
