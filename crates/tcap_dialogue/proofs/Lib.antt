@@ -1,3 +1,4 @@
+pub mod ControlLemmas
 pub mod CutLemmas
 pub mod FaultLemmas
 pub mod PortionLemmas

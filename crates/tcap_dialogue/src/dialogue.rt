@@ -1,4 +1,5 @@
 pub(crate) mod ending;
+pub(crate) mod control_faults;
 pub(crate) mod opening;
 pub(crate) mod sending;
 pub(crate) mod timers;
