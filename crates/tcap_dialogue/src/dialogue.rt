@@ -1,5 +1,7 @@
 pub(crate) mod ending;
+pub(crate) mod control_changes;
 pub(crate) mod control_faults;
+pub(crate) mod dialogue_requests;
 pub(crate) mod opening;
 pub(crate) mod sending;
 pub(crate) mod timers;

@@ -1,0 +1,152 @@
+//! What a request of dialogue handling changes, once no fault is due.
+
+ghost use Rattle.std.specs.Prelude.{◌≡◌, ◌+◌, ◌<◌, ◌≤◌, ◌||◌, ℕ, true, false, is_some, nat_lt, option_copied, IfOk, OnErr, IsTrue, vec_len, vec_capacity};
+ghost use Rattle.tcap_dialogue.specs.ControlViews.{control_view};
+ghost use Rattle.tcap_dialogue.specs.FaultViews.{takes_memory};
+ghost use Rattle.tcap_dialogue.specs.OutputViews.{all_shown};
+ghost use Rattle.tcap_dialogue.specs.StateViews.{phase_view};
+ghost use Rattle.tcap_dialogue.specs.StepViews.{asked, outcome, stepped};
+ghost use Rattle.tcap_invocation.specs.Stage.{moment_limit};
+ghost use Rattle.tcap_model.specs.Procedures.AbortRules.{sent_if_any};
+ghost use Rattle.tcap_model.specs.Procedures.Refusals.{can_name, context_given};
+ghost use Rattle.tcap_model.specs.Procedures.RequestMessage.{message_of};
+ghost use Rattle.tcap_model.specs.Table.TableMove.{accepted, gone_out, over_with};
+ghost use Rattle.tcap_model.specs.Words.Request.{DialogueRequest, Request};
+ghost use Rattle.tcap_model.specs.Words.State.{activated};
+
+use super::ending::tell_ended;
+use super::{Dialogue, Step};
+use crate::context::Context;
+use crate::control::Control;
+use crate::output::Output;
+use crate::state::Phase;
+use ber_core::OutOfMemory;
+use std::alloc::Allocator;
+
+/// The state after the answer to a Begin.
+fn activated(phase: &Phase) -> Phase
+    ensures { phase_view result ≡ activated (phase_view phase.now) }
+{
+    match phase {
+        Phase::Fresh => Phase::Fresh,
+        Phase::Sent => Phase::Sent,
+        Phase::Received(peer) | Phase::Active(peer) => Phase::Active(peer.copied()),
+    }
+}
+
+impl<A: Allocator + Copy> Dialogue<A> {
+    /// What a request sends, with room for so many outputs more.
+    fn sent_outputs<'m>(
+        &self,
+        control: &Control<'_>,
+        more: usize,
+    ) -> Result<Vec<Output<'m, A>, A>, OutOfMemory>
+        ensures sent { IfOk result (λ v. all_shown v.items ≡ sent_if_any (message_of self.now.standing (Request.dialogue (control_view control.now)))) }
+        ensures room { IfOk result (λ v. vec_len v + more ≤ vec_capacity v) }
+        ensures memory { OnErr result (IsTrue (is_some (message_of self.now.standing (Request.dialogue (control_view control.now))) || nat_lt 0 more)) }
+    {
+        let alloc = *self.queue.octets.allocator();
+        match self.sending(control) {
+            None => Ok(Vec::with_capacity(alloc, more)?),
+            Some(sending) => {
+                let octets = sending.written(alloc)?;
+                let mut outputs = Vec::with_capacity(alloc, more.saturating_add(1))?;
+                outputs.push_reserved(Output::Send(octets));
+                Ok(outputs)
+            }
+        }
+    }
+
+    /// A message with the queue goes out at this moment.
+    fn go_out(&mut self, clock: u64)
+        requires { clock ≤ moment_limit }
+        ensures { self.new ≡ gone_out (asked clock 0) self.old }
+    {
+        self.queue.clear();
+        self.invocations.sent(clock);
+    }
+
+    /// The Begin goes out; the dialogue keeps a copy of the context.
+    fn take_begin<'m>(
+        &mut self,
+        context: Option<&[u8]>,
+        info: &[u8],
+        clock: u64,
+    ) -> Result<Step<'m, A>, OutOfMemory>
+        requires clock { clock ≤ moment_limit }
+        requires named { can_name (option_copied context) ≡ true }
+        ensures ok { IfOk result (λ s. stepped s self.new ≡ outcome (accepted (asked clock 0) self.old (Request.dialogue (DialogueRequest.begin (option_copied context.entry) info.now)))) }
+        ensures err { OnErr result (self.new ≡ self.old) }
+        ensures kept { self.new.standing.identifier ≡ self.old.standing.identifier }
+    {
+        let kept = Context::of_any(*self.queue.octets.allocator(), context)?;
+        let outputs = self.sent_outputs(&Control::Begin { context, info }, 0)?;
+        self.go_out(clock);
+        self.phase = Phase::Sent;
+        self.context = kept;
+        Ok(Step {
+            outputs,
+            over: false,
+        })
+    }
+
+    /// The Continue goes out.
+    fn take_continue<'m>(
+        &mut self,
+        context: Option<&[u8]>,
+        info: &[u8],
+        clock: u64,
+    ) -> Result<Step<'m, A>, OutOfMemory>
+        requires { clock ≤ moment_limit }
+        ensures ok { IfOk result (λ s. stepped s self.new ≡ outcome (accepted (asked clock 0) self.old (Request.dialogue (DialogueRequest.go_on (option_copied context.entry) info.now)))) }
+        ensures err { OnErr result (self.new ≡ self.old) }
+        ensures memory { OnErr result (IsTrue (takes_memory (accepted (asked clock 0) self.old (Request.dialogue (DialogueRequest.go_on (option_copied context.entry) info.now))).answer)) }
+        ensures kept { self.new.standing.identifier ≡ self.old.standing.identifier }
+    {
+        let outputs = self.sent_outputs(&Control::Continue { context, info }, 0)?;
+        self.go_out(clock);
+        self.phase = activated(&self.phase);
+        Ok(Step {
+            outputs,
+            over: false,
+        })
+    }
+
+    /// A request goes through with which the dialogue is over.
+    fn take_last<'m>(&mut self, control: &Control<'_>) -> Result<Step<'m, A>, OutOfMemory>
+        ensures ok { IfOk result (λ s. stepped s self.new ≡ outcome (over_with self.old (sent_if_any (message_of self.old.standing (Request.dialogue (control_view control.now)))) self.old.invocations)) }
+        ensures err { OnErr result (self.new ≡ self.old) }
+        ensures memory { OnErr result (IsTrue (takes_memory (over_with self.old (sent_if_any (message_of self.old.standing (Request.dialogue (control_view control.now)))) self.old.invocations).answer)) }
+        ensures kept { self.new.standing.identifier ≡ self.old.standing.identifier }
+    {
+        let left = self.invocations.open_count();
+        let mut outputs = self.sent_outputs(control, left)?;
+        tell_ended(self.identifier, &mut self.invocations, &mut outputs);
+        Ok(Step {
+            outputs,
+            over: true,
+        })
+    }
+
+    /// A request of which no fault is due goes through.
+    pub(super) fn take_control<'m>(
+        &mut self,
+        control: &Control<'_>,
+        clock: u64,
+    ) -> Result<Step<'m, A>, OutOfMemory>
+        requires clock { clock ≤ moment_limit }
+        requires named { can_name (context_given (Request.dialogue (control_view control.now))) ≡ true }
+        ensures ok { IfOk result (λ s. stepped s self.new ≡ outcome (accepted (asked clock 0) self.old (Request.dialogue (control_view control.now)))) }
+        ensures err { OnErr result (self.new ≡ self.old) }
+        ensures memory { OnErr result (IsTrue (takes_memory (accepted (asked clock 0) self.old (Request.dialogue (control_view control.now))).answer)) }
+        ensures kept { self.new.standing.identifier ≡ self.old.standing.identifier }
+    {
+        match control {
+            Control::Begin { context, info } => self.take_begin(*context, info, clock),
+            Control::Continue { context, info } => self.take_continue(*context, info, clock),
+            Control::Uni { .. } | Control::End { .. } | Control::Abort { .. } => {
+                self.take_last(control)
+            }
+        }
+    }
+}
