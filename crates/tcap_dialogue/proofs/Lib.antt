@@ -1,6 +1,9 @@
+pub mod CancelLemmas
+pub mod ComponentRequestLemmas
 pub mod ControlLemmas
 pub mod CutLemmas
 pub mod FaultLemmas
 pub mod PortionLemmas
 pub mod RefusalLemmas
+pub mod RoomLemmas
 pub mod SendingLemmas

@@ -1,6 +1,7 @@
 -- A fault that is due is what the table answers.
 use Rattle.std.proofs.Common.{◌≡◌, ◌≢◌, Bool, true, false, List, [], ◌∷◌, Option, Some, refl, sym, ap, subst, ◌∙◌}
 use Rattle.tcap_model.specs.Table.Dialogue.{Dialogue}
+use Rattle.tcap_model.specs.Words.Answer.{Answer}
 use Rattle.tcap_model.specs.Words.Fault.{Fault}
 use Rattle.tcap_model.specs.Words.Fault.Fault.{out_of_memory, unknown_dialogue, wrong_state, invoke_id_in_use, no_such_invocation, bad_timeout, too_long, dialogues_full, dialogue_ids_spent, numbers_spent, bad_oid, bad_parameter, not_class_four, moment_too_late, no_context}
 use Rattle.tcap_model.specs.Procedures.Refusals.{first_that, holds, faults_of, due_on}
@@ -18,26 +19,26 @@ never h e (f ∷ fs) = go (h f) refl (never h e fs)
     go true b ih = λ q. let is : Some f ≡ Some out_of_memory = rw b at q in let same : f ≡ out_of_memory = cc in let no_memory : true ≡ false = sym b ∙ ap h same ∙ e in cc
     go false b ih = λ q. ih (rw b at q)
 
--- Each fault but want of memory is a refusal of the table.
-refused : (f : Fault) → f ≢ out_of_memory → (s : Setting) (d : Dialogue) (r : Request) → RefusedBy f (outcome (requested_by s d r (Some f))) d d
-refused out_of_memory n s d r = absurd (n refl)
-refused unknown_dialogue n s d r = refl
-refused wrong_state n s d r = refl
-refused invoke_id_in_use n s d r = refl
-refused no_such_invocation n s d r = refl
-refused bad_timeout n s d r = refl
-refused too_long n s d r = refl
-refused dialogues_full n s d r = refl
-refused dialogue_ids_spent n s d r = refl
-refused numbers_spent n s d r = refl
-refused bad_oid n s d r = refl
-refused bad_parameter n s d r = refl
-refused not_class_four n s d r = refl
-refused moment_too_late n s d r = refl
-refused no_context n s d r = refl
+-- Each fault but want of memory is a refusal that leaves the dialogue as it was.
+pub refused : (f : Fault) → f ≢ out_of_memory → (d : Dialogue) → RefusedBy f (Answer.refused f, Some d) d d
+refused out_of_memory n d = absurd (n refl)
+refused unknown_dialogue n d = refl
+refused wrong_state n d = refl
+refused invoke_id_in_use n d = refl
+refused no_such_invocation n d = refl
+refused bad_timeout n d = refl
+refused too_long n d = refl
+refused dialogues_full n d = refl
+refused dialogue_ids_spent n d = refl
+refused numbers_spent n d = refl
+refused bad_oid n d = refl
+refused bad_parameter n d = refl
+refused not_class_four n d = refl
+refused moment_too_late n d = refl
+refused no_context n d = refl
 
 -- The fault that is due is the refusal of the table.
 pub due-refused : (f : Fault) (s : Setting) (d : Dialogue) (r : Request) → Some f ≡ due_on (situation s d r) r → RefusedBy f (outcome (requested_by s d r (due_on (situation s d r) r))) d d
 due-refused f s d r e =
     subst (λ (o : Option Fault). RefusedBy f (outcome (requested_by s d r o)) d d) e
-    (refused f (λ q. never (holds (situation s d r) r) refl (faults_of r) (sym e ∙ ap (λ (x : Fault). Some x) q)) s d r)
+    (refused f (λ q. never (holds (situation s d r) r) refl (faults_of r) (sym e ∙ ap (λ (x : Fault). Some x) q)) d)

@@ -1,3 +1,4 @@
+pub mod ComponentRefusals
 pub mod ControlViews
 pub mod FaultText
 pub mod FaultViews

@@ -1,7 +1,9 @@
-pub(crate) mod ending;
+pub(crate) mod component_requests;
 pub(crate) mod control_changes;
 pub(crate) mod control_faults;
 pub(crate) mod dialogue_requests;
+pub(crate) mod ending;
+pub(crate) mod judging;
 pub(crate) mod opening;
 pub(crate) mod sending;
 pub(crate) mod timers;

@@ -2,6 +2,8 @@ ghost use Rattle.std.specs.Prelude.{◌≡◌, length};
 ghost use Rattle.tcap_dialogue.specs.Parts.{total};
 
 pub mod append;
+pub mod cancel;
+pub mod room;
 pub mod sending;
 
 use std::alloc::{Allocator, Global};

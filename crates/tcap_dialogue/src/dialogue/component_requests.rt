@@ -1,0 +1,136 @@
+//! The requests of component handling (Q.771, Component handling): a component is written at once and
+//! queued until the next message goes out.
+
+ghost use Rattle.std.specs.Prelude.{◌≡◌, ◌<◌, ◌^◌, ◌-◌, option_copied};
+ghost use Rattle.std.specs.Option.{option_map};
+ghost use Rattle.tcap_component.specs.Views.{code_parts, body_parts, problem_parts, component_parts};
+ghost use Rattle.tcap_dialogue.specs.ComponentRefusals.{answered};
+ghost use Rattle.tcap_dialogue.specs.FaultViews.{Answers, numbered, queued_done, gave_up};
+ghost use Rattle.tcap_dialogue.specs.StepViews.{requested};
+ghost use Rattle.tcap_invocation.specs.Invocations.{AllBelow};
+ghost use Rattle.tcap_model.specs.Table.Dialogue.{with_invocations};
+ghost use Rattle.tcap_model.specs.Table.TableMove.{freed_by};
+ghost use Rattle.tcap_model.specs.Words.Request.{Request};
+ghost use Rattle.tcap_model.specs.Words.Request.ComponentRequest.{invoke, result_last, result_more, error_back, u_reject, u_cancel};
+
+use super::Dialogue;
+use crate::fault::Fault;
+use crate::queue::Invoking;
+use std::alloc::Allocator;
+use tcap_component::{Body, Code, Component, Kind, Problem};
+use tcap_invocation::Class;
+
+impl<A: Allocator + Copy> Dialogue<A> {
+    /// TC-INVOKE request: the invocation is Queued with this number, which is above all that the dialogue
+    /// had, and answered. `id` and `linked` are -128 to 127, `parameter` is the octets of one element,
+    /// `timeout_ms` is 1 to 2^62 milliseconds.
+    pub fn invoke(
+        &mut self,
+        number: u64,
+        id: i8,
+        class: Class,
+        code: Code<'_>,
+        parameter: Option<&[u8]>,
+        linked: Option<i8>,
+        timeout_ms: u64,
+    ) -> Result<u64, Fault>
+        requires left { number < 2 ^ 64 - 1 }
+        requires above { AllBelow number self.old.invocations.rows }
+        ensures { Answers numbered result (requested 0 number self.old (Request.component (invoke id class (code_parts code.entry) (option_copied parameter.entry) linked timeout_ms))) self.old self.new }
+    {
+        if let Some(fault) = self.invoke_refusal(
+            number, id, class, code, parameter, linked, timeout_ms,
+        ) {
+            return Err(fault);
+        }
+        let octets = self.queue.make_room(&Component::Invoke {
+            id,
+            linked,
+            code,
+            parameter,
+        })?;
+        if self.invocations.add(id, number, class, timeout_ms).is_err() {
+            return Err(Fault::OutOfMemory);
+        }
+        self.queue.append(&octets, Some(Invoking { number, class }));
+        Ok(number)
+    }
+
+    /// TC-RESULT-L request.
+    pub fn result_last(&mut self, id: i8, body: Option<Body<'_>>) -> Result<(), Fault>
+        ensures { Answers queued_done result (requested 0 0 self.old (Request.component (result_last id (option_map body_parts body.entry)))) self.old self.new }
+    {
+        self.queue_answer(&Component::ResultLast { id, body })
+    }
+
+    /// TC-RESULT-NL request.
+    pub fn result_more(&mut self, id: i8, body: Option<Body<'_>>) -> Result<(), Fault>
+        ensures { Answers queued_done result (requested 0 0 self.old (Request.component (result_more id (option_map body_parts body.entry)))) self.old self.new }
+    {
+        self.queue_answer(&Component::ResultMore { id, body })
+    }
+
+    /// TC-U-ERROR request.
+    pub fn error_back(
+        &mut self,
+        id: i8,
+        code: Code<'_>,
+        parameter: Option<&[u8]>,
+    ) -> Result<(), Fault>
+        ensures { Answers queued_done result (requested 0 0 self.old (Request.component (error_back id (code_parts code.entry) (option_copied parameter.entry)))) self.old self.new }
+    {
+        self.queue_answer(&Component::ErrorBack {
+            id,
+            code,
+            parameter,
+        })
+    }
+
+    /// TC-U-REJECT request. A Reject of a result or an error frees the identifier that waits for it.
+    pub fn u_reject(&mut self, id: Option<i8>, problem: Problem) -> Result<(), Fault>
+        ensures { Answers queued_done result (requested 0 0 self.old (Request.component (u_reject id (problem_parts problem)))) self.old self.new }
+    {
+        self.queue_answer(&Component::RejectBack { id, problem })?;
+        self.free_rejected(id, problem.kind());
+        Ok(())
+    }
+
+    /// TC-U-CANCEL request: the number of the invocation that is given up. An Invoke that wasn't sent
+    /// leaves the queue. It takes no memory.
+    pub fn u_cancel(&mut self, id: i8) -> Result<u64, Fault>
+        ensures { Answers gave_up result (requested 0 0 self.old (Request.component (u_cancel id))) self.old self.new }
+    {
+        let Some(number) = self.invocations.give_up(id) else {
+            return Err(Fault::NoSuchInvocation);
+        };
+        self.queue.remove_invoke(number);
+        Ok(number)
+    }
+
+    /// Queues a component that answers the peer.
+    fn queue_answer(&mut self, component: &Component<'_>) -> Result<(), Fault>
+        ensures { Answers queued_done result (answered self.old (component_parts component.now)) self.old self.new }
+    {
+        if let Some(fault) = self.answer_refusal(component) {
+            return Err(fault);
+        }
+        let octets = self.queue.make_room(component)?;
+        self.queue.append(&octets, None);
+        Ok(())
+    }
+
+    /// Frees the identifier of a result or an error that the user rejects.
+    fn free_rejected(&mut self, id: Option<i8>, kind: Kind)
+        ensures { self.new ≡ with_invocations self.old (freed_by self.old.invocations id kind) }
+    {
+        let Some(id) = id else {
+            return;
+        };
+        match kind {
+            Kind::Result | Kind::Error => {
+                self.invocations.free_wait(id);
+            }
+            Kind::General | Kind::Invoke => {}
+        }
+    }
+}

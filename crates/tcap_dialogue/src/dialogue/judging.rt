@@ -1,0 +1,120 @@
+//! Why a component request is refused; no memory is taken.
+
+ghost use Rattle.std.specs.Prelude.{◌≡◌, ℕ, ℤ, Option, ◌<◌, ◌^◌, ◌-◌, ◌&&◌, not, nat_lt, nat_le, option_copied};
+ghost use Rattle.std.specs.Option.{option_map};
+ghost use Rattle.tcap_component.specs.Views.{code_parts, component_parts};
+ghost use Rattle.tcap_dialogue.specs.ComponentRefusals.{spelling_fault, answer_fault};
+ghost use Rattle.tcap_dialogue.specs.FaultViews.{fault_view};
+ghost use Rattle.tcap_dialogue.specs.StateViews.{phase_view};
+ghost use Rattle.tcap_dialogue.specs.StepViews.{asked};
+ghost use Rattle.tcap_invocation.specs.declared.class.Class.{Class};
+ghost use Rattle.tcap_model.specs.Procedures.Refusals.{due_on, invoke_fault};
+ghost use Rattle.tcap_model.specs.Procedures.States.{has_peer};
+ghost use Rattle.tcap_model.specs.Table.TableMove.{situation};
+ghost use Rattle.tcap_model.specs.Words.Request.{Request, ComponentRequest};
+ghost use Rattle.tcap_model.specs.Words.Request.ComponentRequest.{invoke};
+
+use super::Dialogue;
+use crate::fault::Fault;
+use crate::state::Phase;
+use std::alloc::Allocator;
+use tcap_component::{Code, Component, WriteFault, component_fault};
+use tcap_invocation::{Class, MAX_MOMENT};
+
+/// Whether the peer was heard, so that there is something to answer.
+fn has_peer(phase: &Phase) -> bool
+    ensures { result ≡ has_peer (phase_view phase.now) }
+{
+    match phase {
+        Phase::Fresh | Phase::Sent => false,
+        Phase::Received(_) | Phase::Active(_) => true,
+    }
+}
+
+/// Whether a timeout is neither 0 nor above the limit.
+fn is_timeout(timeout_ms: u64) -> bool
+    ensures { result ≡ (nat_lt 0 timeout_ms && nat_le timeout_ms (2 ^ 62)) }
+{
+    0 < timeout_ms && timeout_ms <= MAX_MOMENT
+}
+
+/// Why the code or the parameter of a component can't be written.
+#[tactic(auto, unfolding(tcap_component::specs::Written::write_fault))]
+fn spelling_fault(component: &Component<'_>) -> Option<Fault>
+    ensures { option_map fault_view result ≡ spelling_fault (component_parts component.now) }
+{
+    match component_fault(component)? {
+        WriteFault::BadOid => Some(Fault::BadOid),
+        WriteFault::BadParameter => Some(Fault::BadParameter),
+        WriteFault::TooLong | WriteFault::OutOfMemory => None,
+    }
+}
+
+impl<A: Allocator + Copy> Dialogue<A> {
+    /// What of an Invoke the dialogue refuses, whatever its number: BadTimeout, BadOid, BadParameter,
+    /// InvokeIdInUse. It takes no memory.
+    pub fn check_invoke(
+        &self,
+        id: i8,
+        code: Code<'_>,
+        parameter: Option<&[u8]>,
+        timeout_ms: u64,
+    ) -> Option<Fault>
+        ensures { (number : ℕ) (class : Class) (linked : Option ℤ) →
+            let r = Request.component (invoke id class (code_parts code.entry) (option_copied parameter.entry) linked timeout_ms) in
+            option_map fault_view result ≡ invoke_fault (situation (asked 0 number) self.now r) r }
+    {
+        if !is_timeout(timeout_ms) {
+            return Some(Fault::BadTimeout);
+        }
+        let component = Component::Invoke {
+            id,
+            linked: None,
+            code,
+            parameter,
+        };
+        if let Some(fault) = spelling_fault(&component) {
+            return Some(fault);
+        }
+        if self.invocations.in_use(id) {
+            return Some(Fault::InvokeIdInUse);
+        }
+        None
+    }
+
+    /// Why an Invoke is refused, memory apart. A number is left.
+    pub(super) fn invoke_refusal(
+        &self,
+        number: u64,
+        id: i8,
+        class: Class,
+        code: Code<'_>,
+        parameter: Option<&[u8]>,
+        linked: Option<i8>,
+        timeout_ms: u64,
+    ) -> Option<Fault>
+        requires { number < 2 ^ 64 - 1 }
+        ensures { let r = Request.component (invoke id class (code_parts code.entry) (option_copied parameter.entry) linked timeout_ms) in
+            option_map fault_view result ≡ due_on (situation (asked 0 number) self.now r) r }
+    {
+        if let Some(fault) = self.check_invoke(id, code, parameter, timeout_ms) {
+            return Some(fault);
+        }
+        self.queue.refusal(&Component::Invoke {
+            id,
+            linked,
+            code,
+            parameter,
+        })
+    }
+
+    /// Why a component that answers the peer is refused, memory apart.
+    pub(super) fn answer_refusal(&self, component: &Component<'_>) -> Option<Fault>
+        ensures { option_map fault_view result ≡ answer_fault self.now (component_parts component.now) }
+    {
+        if !has_peer(&self.phase) {
+            return Some(Fault::WrongState);
+        }
+        self.queue.refusal(component)
+    }
+}
