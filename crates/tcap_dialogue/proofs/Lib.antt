@@ -1,6 +1,7 @@
 pub mod CancelLemmas
 pub mod ComponentRequestLemmas
 pub mod ControlLemmas
+pub mod AbortLemmas
 pub mod CutLemmas
 pub mod FaultLemmas
 pub mod PortionLemmas

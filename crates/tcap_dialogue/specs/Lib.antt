@@ -1,5 +1,6 @@
 pub mod ComponentRefusals
 pub mod ControlViews
+pub mod AbortViews
 pub mod FaultText
 pub mod FaultViews
 pub mod OutputViews

@@ -10,3 +10,4 @@ pub use Rattle.tcap_pdu.proofs.SpelledWritable.{spelled_context, spelled_informa
 pub use Rattle.tcap_pdu.proofs.LengthGrammar.{content-fits}
 pub use Rattle.tcap_pdu.proofs.PartsWithin.{contents_within, filled_least, dialogue_within}
 pub use Rattle.tcap_pdu.proofs.DialogueParts.{information_none}
+pub use Rattle.tcap_pdu.proofs.DialogueLength.{element_most, element_least, external_most, external_least, length-dialogue}
