@@ -125,8 +125,5 @@ pub fn write_abort<A: Allocator + Copy>(alloc: A, abort: &Abort<'_>) -> Result<V
     requires { CanWriteAbort abort.now }
     ensures { IfOk result (λ octets. Output.send octets.items ≡ abort_sent abort.now) }
 {
-    match write_any(alloc, abort) {
-        Ok(octets) => Ok(octets),
-        Err(_) => Err(OutOfMemory),
-    }
+    write_any(alloc, abort).map_err(|_fault| OutOfMemory)
 }

@@ -1,6 +1,7 @@
 -- From the first fault that is due to the faults of writing.
 use Rattle.std.proofs.Common.{◌≡◌, ℕ, ◌≤◌, ltb, true, List, length, Option, Some, None, Ok, Err, refl, sym, subst, ◌∙◌, inl, inr, arith}
-use Rattle.std.specs.Prelude.{IfSome}
+use Rattle.std.specs.Prelude.{IfSome, IfNone, Result}
+use Rattle.std.specs.Result.{result_ok}
 use Rattle.std.proofs.lemmas.Bool.{cases_Bool, false≢true, le-ltb, ltb-true, ltb-false}
 use Rattle.ber_core.proofs.CallerLemmas.{refused_is, read_is, not_read, not_refused, object_identifier_takes, object_identifier_again}
 use Rattle.tcap_pdu.specs.declared.fault.PduFault.{PduFault}
@@ -102,3 +103,12 @@ context_within p w = context_short (context_of p) (context_again p w.has_context
 
 pub short_within : (p : PduValue) → IsWritable p → portion_length p ≤ 65535
 short_within p w = let l = length-dialogue p in let s = w.is_short in omega (arith, l, s)
+
+-- the same of a length that may be told
+pub length_some : (p : PduValue) (r : Result ℕ PduFault) → length_at p ≡ r → IfSome (result_ok r) (λ n. IsWritable p × (n ≡ length (written_dialogue p)))
+length_some p (Ok n) e = length_told p n e
+length_some p (Err f) e = tt
+
+pub length_none : (p : PduValue) (r : Result ℕ PduFault) → length_at p ≡ r → IfNone (result_ok r) (IsWritable p → ⊥)
+length_none p (Ok n) e = tt
+length_none p (Err f) e = not_writable p f e

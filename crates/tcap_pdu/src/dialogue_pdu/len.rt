@@ -150,8 +150,5 @@ pub fn dialogue_len(pdu: &DialoguePdu<'_>) -> Option<usize>
     // The same, computed: what the layers above cite.
     ensures exact { result ≡ result_ok (length_at (pdu_value pdu.now)) }
 {
-    match checked_len(pdu) {
-        Ok(len) => Some(len),
-        Err(_) => None,
-    }
+    checked_len(pdu).ok()
 }
