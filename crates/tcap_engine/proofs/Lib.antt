@@ -1,0 +1,2 @@
+pub mod BirthLemmas
+pub mod TableLemmas

@@ -1,0 +1,27 @@
+-- What a call of the engine answers, beside what the engine's move says.
+use Rattle.std.specs.Prelude.{◌≡◌, ℕ, Option, Some, None, Result, Ok, Err, IsTrue}
+use Rattle.tcap_dialogue.specs.declared.fault.Fault.{Fault}
+use Rattle.tcap_dialogue.specs.FaultViews.{fault_view, takes_memory}
+use Rattle.tcap_model.specs.Table.EngineMove.{EngineMoved}
+use Rattle.tcap_model.specs.Table.World.{World}
+use Rattle.tcap_model.specs.Words.Answer.{Answer}
+use Rattle.tcap_model.specs.Words.Fault as model
+
+-- The answer and the engine are those of the move (own).
+abbrev pub Moves : EngineMoved → Answer → World → Type 0
+Moves m answer new = (answer ≡ m.answer) × (new ≡ m.after)
+
+-- A refusal is the one that the move gives; want of memory comes only where the move's answer takes
+-- memory, and leaves the engine as it was (own).
+abbrev pub EngineRefuses : model.Fault → EngineMoved → World → World → Type 0
+EngineRefuses model.Fault.out_of_memory m old new = (new ≡ old) × IsTrue (takes_memory m.answer)
+EngineRefuses f m old new = Moves m (Answer.refused f) new
+
+-- An answer and the engine after it are those of the move, or the refusal is (own).
+abbrev pub EngineAnswers : {T : Type 0} → (T → Answer) → Result T Fault → EngineMoved → World → World → Type 0
+EngineAnswers view (Ok x) m old new = Moves m (view x) new
+EngineAnswers view (Err f) m old new = EngineRefuses (fault_view f) m old new
+
+-- A dialogue is born (own).
+abbrev pub birth_answer : ℕ → Answer
+birth_answer dialogue = Answer.new_dialogue dialogue

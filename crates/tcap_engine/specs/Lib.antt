@@ -1,0 +1,4 @@
+pub mod Answering
+pub mod Limits
+pub mod StateOf
+pub mod Table

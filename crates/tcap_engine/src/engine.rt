@@ -1,0 +1,48 @@
+pub(crate) mod births;
+pub(crate) mod opening;
+
+use crate::limits::Limits;
+use indexmap::IndexMap;
+use std::alloc::{Allocator, Global};
+use std::hash::{BuildHasherDefault, FoldHasher};
+use std::marker::Model;
+use tcap_dialogue::Dialogue;
+
+/// The dialogues by their identifiers, in order of birth.
+pub(crate) type Table<A> = IndexMap<u32, Dialogue<A>, BuildHasherDefault<FoldHasher>, A>;
+
+/// The engine (Q.774, Transaction sublayer procedures; Q.774, Component handling).
+///
+/// - Requests of the TC-user: `new_dialogue`.
+/// - Events from outside: time.
+/// - Getters: `now`, `state_of`.
+///
+/// Moments are in milliseconds by the caller's clock, at most 2^62. A contract sees the limits, the
+/// counters, the clock and the dialogues that stand by rising identifier, which is the order of birth,
+/// and forgets how much room there is.
+#[derive(Debug, Drop)]
+pub struct Engine<A: Allocator + Copy = Global> {
+    limits: Limits,
+    next_dialogue: u32,
+    next_number: u64,
+    clock: u64,
+    table: Table<A>,
+}
+
+impl<A: Allocator + Copy> Model for Engine<A> {
+    ghost use Rattle.tcap_model.specs.Table.World.{World};
+    ghost use Rattle.tcap_engine.specs.Table.{IsSound, dialogues_of};
+
+    ghost Value = { World };
+
+    ghost view = { λ e. record {
+      max_dialogues = e.limits.max_dialogues;
+      reject_ms = e.limits.reject_ms;
+      next_dialogue = e.next_dialogue;
+      next_number = e.next_number;
+      clock = e.clock;
+      dialogues = dialogues_of e.table.entries;
+    } };
+
+    ghost invariant = { λ e. IsSound e.limits e.next_dialogue e.next_number e.clock e.table.entries };
+}

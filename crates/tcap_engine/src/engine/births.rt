@@ -1,0 +1,45 @@
+//! Dialogues that are born.
+
+ghost use Rattle.std.specs.Prelude.{◌≡◌, OnErr};
+ghost use Rattle.std.specs.Option.{option_map};
+ghost use Rattle.tcap_dialogue.specs.FaultViews.{fault_view};
+ghost use Rattle.tcap_engine.specs.Answering.{EngineAnswers, birth_answer};
+ghost use Rattle.tcap_model.specs.Table.EngineMove.{engine_move, birth_fault_in};
+ghost use Rattle.tcap_model.specs.Words.Event.{Event};
+
+use super::Engine;
+use std::alloc::Allocator;
+use tcap_dialogue::{Dialogue, Fault};
+
+impl<A: Allocator + Copy> Engine<A> {
+    /// A new dialogue, in which nothing has happened: its identifier. Faults: `DialoguesFull`,
+    /// `DialogueIdsSpent`, `OutOfMemory`.
+    #[tactic(auto, unfolding(tcap_model::specs::Table::EngineMove::engine_move))]
+    pub fn new_dialogue(&mut self) -> Result<u32, Fault>
+        ensures moves { EngineAnswers birth_answer result (engine_move self.old Event.new_dialogue) self.old self.new }
+        ensures err { OnErr result (self.new ≡ self.old) }
+    {
+        if let Some(fault) = self.birth_fault() {
+            return Err(fault);
+        }
+        self.table.reserve(1)?;
+        let identifier = self.next_dialogue;
+        let fresh = Dialogue::fresh(*self.table.allocator(), identifier, self.limits.reject_ms);
+        self.table.insert(identifier, fresh).unwrap();
+        self.next_dialogue = identifier + 1;
+        Ok(identifier)
+    }
+
+    /// Why no dialogue can be born, the first that holds.
+    fn birth_fault(&self) -> Option<Fault>
+        ensures { option_map fault_view result ≡ birth_fault_in self.now }
+    {
+        if self.limits.max_dialogues <= self.table.len() {
+            Some(Fault::DialoguesFull)
+        } else if self.next_dialogue == u32::MAX {
+            Some(Fault::DialogueIdsSpent)
+        } else {
+            None
+        }
+    }
+}

@@ -1,0 +1,51 @@
+//! A new engine, and what is seen of one.
+
+ghost use Rattle.std.specs.Prelude.{◌≡◌, []};
+ghost use Rattle.tcap_engine.specs.Limits.{AreLimits};
+ghost use Rattle.tcap_engine.specs.StateOf.{state_in};
+ghost use Rattle.tcap_model.specs.Table.World.{first_world};
+
+use super::Engine;
+use crate::limits::Limits;
+use indexmap::IndexMap;
+use std::alloc::Allocator;
+use tcap_dialogue::{Dialogue, State};
+
+impl<A: Allocator + Copy> Engine<A> {
+    /// An engine with clock 0 and no dialogues, whose first dialogue and first invocation are 1.
+    pub fn new(alloc: A, limits: Limits) -> Engine<A>
+        requires { AreLimits limits }
+        ensures { result ≡ first_world (record { max_dialogues = limits.max_dialogues; reject_ms = limits.reject_ms; next_dialogue = 1; next_number = 1 }) }
+    {
+        Engine::resume(alloc, limits, 1, 1)
+    }
+
+    /// An engine with clock 0 and no dialogues that goes on with these counters: the identifier of its
+    /// first dialogue and the number of its first invocation.
+    pub fn resume(alloc: A, limits: Limits, next_dialogue: u32, next_number: u64) -> Engine<A>
+        requires { AreLimits limits }
+        ensures { result ≡ first_world (record { max_dialogues = limits.max_dialogues; reject_ms = limits.reject_ms; next_dialogue = next_dialogue; next_number = next_number }) }
+    {
+        Engine {
+            limits,
+            next_dialogue,
+            next_number,
+            clock: 0,
+            table: IndexMap::new(alloc),
+        }
+    }
+
+    /// The clock: the last moment that was accepted, in milliseconds, 0 to 2^62.
+    pub fn now(&self) -> u64
+        ensures { result ≡ self.now.clock }
+    {
+        self.clock
+    }
+
+    /// The state of the dialogue with this identifier, `None` where none stands.
+    pub fn state_of(&self, d: u32) -> Option<State>
+        ensures { result ≡ state_in self.now d }
+    {
+        self.table.get(&d).map(Dialogue::state)
+    }
+}
