@@ -8,6 +8,7 @@
 
 mod engine;
 mod limits;
+mod reception;
 
 pub use engine::Engine;
 pub use limits::Limits;

@@ -1,0 +1,53 @@
+-- What becomes of received bytes, as a contract sees it.
+use Rattle.std.specs.Prelude.{ℕ, List, [], Option, Some, None, IfSome}
+use Rattle.ber_core.specs.ObjectIdentifier.{IsObjectIdentifier}
+use Rattle.ber_core.specs.Place.{Slice}
+use Rattle.tcap_dialogue.specs.AbortViews.{CanWriteAbort, abort_sent}
+use Rattle.tcap_dialogue.specs.OutputViews.{drop_view}
+use Rattle.tcap_model.specs.Procedures.AbortRules.{fault_cause}
+use Rattle.tcap_model.specs.Procedures.Reception as model
+use Rattle.tcap_model.specs.Procedures.Reception.{fault_abort}
+use Rattle.tcap_pdu.specs.FrameSpelling.{Message}
+use Rattle.tcap_pdu.specs.FrameViews.{message}
+use Rattle.tcap_engine.specs.declared.reception.Reception.{Reception}
+use Rattle.tcap_engine.specs.declared.reception.Reception.TheVariants as reception
+
+-- The context of an AARQ or an AUDT, if there is one (Q.773, Dialogue portion).
+abbrev pub context_asked : Option (Slice × Slice) → Option (List ℕ)
+context_asked None = None
+context_asked (Some request) = Some request.0.now
+
+-- Its user information, empty where there is none (Q.773, Dialogue portion).
+abbrev pub information_asked : Option (Slice × Slice) → List ℕ
+information_asked None = []
+information_asked (Some request) = request.1.now
+
+-- What becomes of received bytes (own).
+abbrev pub reception_view : Reception → model.Reception
+reception_view (reception.Dropped why) = model.Reception.dropped (drop_view why)
+reception_view (reception.Aborted abort) = model.Reception.aborted (abort_sent abort)
+reception_view (reception.Unidirectional request components) =
+    model.Reception.unidirectional (context_asked request) (information_asked request) components.now
+reception_view (reception.Begun origin request components) =
+    model.Reception.begun origin (context_asked request) (information_asked request) components.now
+reception_view (reception.Taken dialogue frame) = model.Reception.taken dialogue (message frame)
+reception_view (reception.Broken dialogue origin fault) =
+    model.Reception.broken dialogue (fault_abort fault origin) (fault_cause fault)
+
+-- A Continue, an End or an Abort, which are to one dialogue (Q.773, Structure of TC messages).
+abbrev pub IsAddressed : Message → Type 0
+IsAddressed (Message.unidirectional portion components) = ⊥
+IsAddressed (Message.begin origin portion components) = ⊥
+IsAddressed (Message.end to portion components) = Unit {0}
+IsAddressed (Message.go_on origin to portion components) = Unit {0}
+IsAddressed (Message.abort to reason) = Unit {0}
+
+-- It can be carried out: a context is an object identifier, and a message that a dialogue takes is to
+-- one (own).
+abbrev pub CanRun : Reception → Type 0
+CanRun (reception.Dropped why) = Unit {0}
+CanRun (reception.Aborted abort) = CanWriteAbort abort
+CanRun (reception.Unidirectional request components) = Unit {0}
+CanRun (reception.Begun origin request components) = IfSome request (λ r. IsObjectIdentifier r.0.now)
+CanRun (reception.Taken dialogue frame) = IsAddressed (message frame)
+CanRun (reception.Broken dialogue origin fault) = Unit {0}
