@@ -1,5 +1,5 @@
 -- What becomes of received bytes, as a contract sees it.
-use Rattle.std.specs.Prelude.{ℕ, List, [], Option, Some, None, IfSome}
+use Rattle.std.specs.Prelude.{◌≡◌, ℕ, List, [], Option, Some, None, IfSome}
 use Rattle.ber_core.specs.ObjectIdentifier.{IsObjectIdentifier}
 use Rattle.ber_core.specs.Place.{Slice}
 use Rattle.tcap_dialogue.specs.AbortViews.{CanWriteAbort, abort_sent}
@@ -51,3 +51,12 @@ CanRun (reception.Unidirectional request components) = Unit {0}
 CanRun (reception.Begun origin request components) = IfSome request (λ r. IsObjectIdentifier r.0.now)
 CanRun (reception.Taken dialogue frame) = IsAddressed (message frame)
 CanRun (reception.Broken dialogue origin fault) = Unit {0}
+
+-- The dialogue that takes a message or is ended by one is the one that was named (own).
+abbrev pub IsOf : Option ℕ → Reception → Type 0
+IsOf named (reception.Dropped why) = Unit {0}
+IsOf named (reception.Aborted abort) = Unit {0}
+IsOf named (reception.Unidirectional request components) = Unit {0}
+IsOf named (reception.Begun origin request components) = Unit {0}
+IsOf named (reception.Taken dialogue frame) = named ≡ Some dialogue
+IsOf named (reception.Broken dialogue origin fault) = named ≡ Some dialogue

@@ -1,7 +1,7 @@
 //! What becomes of received bytes, before anything is done.
 
 ghost use Rattle.std.specs.Prelude.{◌≡◌, Bool, ℕ, Option, Some, option_copied};
-ghost use Rattle.tcap_engine.specs.ReceptionViews.{CanRun, IsAddressed, reception_view};
+ghost use Rattle.tcap_engine.specs.ReceptionViews.{CanRun, IsAddressed, IsOf, reception_view};
 ghost use Rattle.tcap_dialogue.specs.AbortViews.{cause_number};
 ghost use Rattle.tcap_model.specs.Procedures.AbortRules.{abort_with};
 ghost use Rattle.tcap_model.specs.Procedures.Destination.{destination};
@@ -53,6 +53,7 @@ pub enum Reception<'m> {
 fn hear_uni<'m>(dialogue: Option<&'m [u8]>, components: &'m [u8]) -> Reception<'m>
     ensures value { reception_view result ≡ uni_by (uni_verdict (option_copied dialogue.entry)) components.now }
     ensures can { CanRun result }
+    ensures of { (named : Option ℕ) → IsOf named result }
 {
     match judge_uni(dialogue) {
         UniVerdict::Plain => Reception::Unidirectional {
@@ -75,6 +76,7 @@ fn hear_begin<'m>(
 ) -> Reception<'m>
     ensures value { reception_view result ≡ begin_by (begin_verdict (option_copied dialogue.entry)) origin components.now }
     ensures can { CanRun result }
+    ensures of { (named : Option ℕ) → IsOf named result }
 {
     match judge_begin(dialogue) {
         BeginVerdict::Plain => Reception::Begun {
@@ -99,6 +101,7 @@ fn hear_begin<'m>(
 fn aborted_by<'m>(peer: TransId, cause: Cause) -> Reception<'m>
     ensures value { reception_view result ≡ model.Reception.aborted (abort_with (cause_number cause) peer) }
     ensures can { CanRun result }
+    ensures of { (named : Option ℕ) → IsOf named result }
 {
     Reception::Aborted(Abort::Cause { peer, cause })
 }
@@ -109,6 +112,7 @@ fn hear_last<'m>(frame: Frame<'m>, named: Option<u32>) -> Reception<'m>
     requires { IsAddressed (message frame) }
     ensures value { reception_view result ≡ final_message_by named (message frame.entry) }
     ensures can { CanRun result }
+    ensures of { IsOf named result }
 {
     match named {
         Some(dialogue) => Reception::Taken { dialogue, frame },
@@ -121,6 +125,7 @@ fn hear_last<'m>(frame: Frame<'m>, named: Option<u32>) -> Reception<'m>
 pub fn hear_message<'m>(frame: Frame<'m>, named: Option<u32>, is_full: bool) -> Reception<'m>
     ensures value { (is_live : ℕ → Bool) → named ≡ addressed_if_any is_live (destination (message frame.entry)) → reception_view result ≡ message_by is_live is_full (message frame.entry) }
     ensures can { CanRun result }
+    ensures of { IsOf named result }
 {
     match frame {
         Frame::Uni {
@@ -178,6 +183,7 @@ pub fn hear_message<'m>(frame: Frame<'m>, named: Option<u32>, is_full: bool) -> 
 fn refuse<'m>(origin: Option<TransId>, fault: FrameFault) -> Reception<'m>
     ensures value { reception_view result ≡ aborted_or_dropped (fault_abort fault origin) }
     ensures can { CanRun result }
+    ensures of { (named : Option ℕ) → IsOf named result }
 {
     match origin {
         Some(peer) => aborted_by(peer, Cause::Faulty(fault)),
@@ -189,6 +195,7 @@ fn refuse<'m>(origin: Option<TransId>, fault: FrameFault) -> Reception<'m>
 fn break_continue<'m>(named: Option<u32>, origin: Option<TransId>, fault: FrameFault) -> Reception<'m>
     ensures value { reception_view result ≡ faulty_continue named (fault_abort fault origin) fault }
     ensures can { CanRun result }
+    ensures of { IsOf named result }
 {
     match named {
         Some(dialogue) => Reception::Broken {
@@ -205,6 +212,7 @@ fn break_continue<'m>(named: Option<u32>, origin: Option<TransId>, fault: FrameF
 fn break_last<'m>(named: Option<u32>, fault: FrameFault) -> Reception<'m>
     ensures value { reception_view result ≡ faulty_last named fault }
     ensures can { CanRun result }
+    ensures of { IsOf named result }
 {
     match named {
         Some(dialogue) => Reception::Broken {
@@ -226,6 +234,7 @@ fn hear_fault_by<'m>(
 ) -> Reception<'m>
     ensures value { reception_view result ≡ fault_by first named (fault_abort fault origin) fault }
     ensures can { CanRun result }
+    ensures of { IsOf named result }
 {
     match first {
         UNIDIRECTIONAL => Reception::Dropped(DropWhy::BadMessage),
@@ -245,6 +254,7 @@ pub fn hear_fault<'m>(
 ) -> Reception<'m>
     ensures value { (is_live : ℕ → Bool) → named ≡ addressed_if_any is_live (front_at bytes.now).1 → origin ≡ (front_at bytes.now).0 → reception_view result ≡ faulty is_live bytes.now fault }
     ensures can { CanRun result }
+    ensures of { IsOf named result }
 {
     match bytes {
         [] => Reception::Dropped(DropWhy::BadMessage),
