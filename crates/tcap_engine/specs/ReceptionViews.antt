@@ -60,3 +60,12 @@ IsOf named (reception.Unidirectional request components) = Unit {0}
 IsOf named (reception.Begun origin request components) = Unit {0}
 IsOf named (reception.Taken dialogue frame) = named ≡ Some dialogue
 IsOf named (reception.Broken dialogue origin fault) = named ≡ Some dialogue
+
+-- The dialogue that a message reaches, if it reaches one (own).
+abbrev pub reached : Reception → Option ℕ
+reached (reception.Dropped why) = None
+reached (reception.Aborted abort) = None
+reached (reception.Unidirectional request components) = None
+reached (reception.Begun origin request components) = None
+reached (reception.Taken dialogue frame) = Some dialogue
+reached (reception.Broken dialogue origin fault) = Some dialogue

@@ -1,5 +1,6 @@
 pub(crate) mod births;
 pub(crate) mod opening;
+pub(crate) mod receiving;
 
 use crate::limits::Limits;
 use indexmap::IndexMap;

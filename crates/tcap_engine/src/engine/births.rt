@@ -31,7 +31,7 @@ impl<A: Allocator + Copy> Engine<A> {
     }
 
     /// Why no dialogue can be born, the first that holds.
-    fn birth_fault(&self) -> Option<Fault>
+    pub(crate) fn birth_fault(&self) -> Option<Fault>
         ensures { option_map fault_view result ≡ birth_fault_in self.now }
     {
         if self.limits.max_dialogues <= self.table.len() {
