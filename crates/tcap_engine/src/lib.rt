@@ -8,6 +8,7 @@
 
 mod engine;
 mod limits;
+mod ranges;
 mod reception;
 
 pub use engine::Engine;
