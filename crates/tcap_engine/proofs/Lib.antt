@@ -1,2 +1,3 @@
 pub mod BirthLemmas
 pub mod TableLemmas
+pub mod StandingLemmas

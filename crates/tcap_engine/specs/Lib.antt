@@ -1,4 +1,5 @@
 pub mod Answering
+pub mod HistoryForm
 pub mod Limits
 pub mod ReceptionViews
 pub mod StateOf

@@ -4,6 +4,7 @@ ghost use Rattle.std.specs.Prelude.{◌≡◌, OnErr};
 ghost use Rattle.std.specs.Option.{option_map};
 ghost use Rattle.tcap_dialogue.specs.FaultViews.{fault_view};
 ghost use Rattle.tcap_engine.specs.Answering.{EngineAnswers, birth_answer};
+ghost use Rattle.tcap_engine.specs.HistoryForm.{Stands};
 ghost use Rattle.tcap_model.specs.Table.EngineMove.{engine_move, birth_fault_in};
 ghost use Rattle.tcap_model.specs.Words.Event.{Event};
 
@@ -14,8 +15,19 @@ use tcap_dialogue::{Dialogue, Fault};
 impl<A: Allocator + Copy> Engine<A> {
     /// A new dialogue, in which nothing has happened: its identifier. Faults: `DialoguesFull`,
     /// `DialogueIdsSpent`, `OutOfMemory`.
-    #[tactic(auto, unfolding(tcap_model::specs::Table::EngineMove::engine_move))]
+    #[tactic(auto, using(crate::proofs::StandingLemmas::stands_after))]
     pub fn new_dialogue(&mut self) -> Result<u32, Fault>
+        ensures moves { EngineAnswers birth_answer result (engine_move self.old Event.new_dialogue) self.old self.new }
+        ensures err { OnErr result (self.new ≡ self.old) }
+        // Whatever legal history the engine stood at: the reply, and the history that it stands at then.
+        ensures stands { Stands birth_answer result Event.new_dialogue self.old self.new }
+    {
+        self.bear()
+    }
+
+    /// The same, by the engine's move.
+    #[tactic(auto, unfolding(tcap_model::specs::Table::EngineMove::engine_move))]
+    fn bear(&mut self) -> Result<u32, Fault>
         ensures moves { EngineAnswers birth_answer result (engine_move self.old Event.new_dialogue) self.old self.new }
         ensures err { OnErr result (self.new ≡ self.old) }
     {

@@ -8,7 +8,7 @@ use Rattle.tcap_model.specs.Table.World.{World}
 use Rattle.tcap_model.specs.Words.Answer.{Answer}
 use Rattle.tcap_engine.specs.Table.{Place, dialogues_of}
 use Rattle.tcap_engine.proofs.BirthLemmas.{absent-drawn, from-push, drawn-push, within-push, dialogues-push, room-to-be-born, born-by}
-use Rattle.tcap_engine.proofs.engine.Engine.new_dialogue.Goals as goal
+use Rattle.tcap_engine.proofs.engine.Engine.bear.Goals as goal
 
 pub invariant_of-self-2 : goal.invariant_of-self-2
 invariant_of-self-2 g c =
