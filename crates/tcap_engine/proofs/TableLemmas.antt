@@ -1,5 +1,5 @@
 -- What is written into the table, taken out of it and found in it.
-use Rattle.std.proofs.Common.{◌≡◌, ◌≢◌, ℕ, ◌+◌, ◌<◌, ◌≤◌, Bool, true, false, cond, nat_eq, List, [], ◌∷◌, ◌++◌, Option, Some, None, refl, sym, ap, ◌∙◌, arith}
+use Rattle.std.proofs.Common.{◌≡◌, ℕ, ◌+◌, ◌<◌, ◌≤◌, Bool, true, false, cond, nat_eq, List, [], ◌∷◌, Option, Some, None, refl, sym, ap, ◌∙◌, arith}
 use Rattle.std.proofs.lemmas.Bool.{eqb-true}
 use Rattle.std.specs.List.{cons_option}
 use Rattle.std.specs.Map.{lookup, set_value, remove_entry}
@@ -7,7 +7,7 @@ use Rattle.tcap_model.specs.Table.Dialogue.{Dialogue}
 use Rattle.tcap_model.specs.Table.EngineMove.{dialogue_in, with_dialogue}
 use Rattle.tcap_engine.specs.Table.{Place, AreFrom, dialogues_of}
 
-apart : (d n : ℕ) → d < n → nat_eq d n ≡ false
+pub apart : (d n : ℕ) → d < n → nat_eq d n ≡ false
 apart d n lt = go (nat_eq d n) refl
   where
     go : (b : Bool) → nat_eq d n ≡ b → nat_eq d n ≡ false

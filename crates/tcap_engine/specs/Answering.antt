@@ -1,7 +1,10 @@
 -- What a call of the engine answers, beside what the engine's move says.
-use Rattle.std.specs.Prelude.{◌≡◌, ℕ, Option, Some, None, Result, Ok, Err, IsTrue}
+use Rattle.std.specs.Prelude.{◌≡◌, ℕ, Result, Ok, Err, IsTrue}
 use Rattle.tcap_dialogue.specs.declared.fault.Fault.{Fault}
 use Rattle.tcap_dialogue.specs.FaultViews.{fault_view, takes_memory}
+use Rattle.tcap_dialogue.specs.declared.output.Output.{Output}
+use Rattle.tcap_dialogue.specs.OutputViews.{all_shown}
+use Rattle.std.specs.declared.vec.Vec.{Vec}
 use Rattle.tcap_model.specs.Table.EngineMove.{EngineMoved}
 use Rattle.tcap_model.specs.Table.World.{World}
 use Rattle.tcap_model.specs.Words.Answer.{Answer}
@@ -25,3 +28,7 @@ EngineAnswers view (Err f) m old new = EngineRefuses (fault_view f) m old new
 -- A dialogue is born (own).
 abbrev pub birth_answer : ℕ → Answer
 birth_answer dialogue = Answer.new_dialogue dialogue
+
+-- Outputs are told (own).
+abbrev pub outputs_answer : {A : Type 0} → Vec (Output A) A → Answer
+outputs_answer told = Answer.outputs (all_shown told.items)

@@ -1,5 +1,6 @@
 pub mod Answering
 pub mod HistoryForm
+pub mod Lapsing
 pub mod Limits
 pub mod ReceptionViews
 pub mod StateOf

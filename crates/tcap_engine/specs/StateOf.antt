@@ -1,5 +1,5 @@
 -- The state of a dialogue of an engine.
-use Rattle.std.specs.Prelude.{ℕ, Option, Some, None}
+use Rattle.std.specs.Prelude.{ℕ, Option}
 use Rattle.std.specs.Option.{option_map}
 use Rattle.tcap_dialogue.specs.declared.state.State.{State}
 use Rattle.tcap_dialogue.specs.StateViews as view

@@ -1,4 +1,6 @@
+pub(crate) mod advance;
 pub(crate) mod births;
+pub(crate) mod moment;
 pub(crate) mod opening;
 pub(crate) mod receiving;
 

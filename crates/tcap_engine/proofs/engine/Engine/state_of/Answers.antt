@@ -1,4 +1,4 @@
-use Rattle.std.proofs.Common.{rules, sym, ap, ◌≡◌, ◌∙◌, nat_eq, Option}
+use Rattle.std.proofs.Common.{rules, sym, ap, ◌≡◌, ◌∙◌, nat_eq}
 use Rattle.std.specs.Option.{option_map}
 use Rattle.std.specs.Map.{lookup}
 use Rattle.tcap_dialogue.specs.StateViews.{state_of}

@@ -1,0 +1,37 @@
+//! Time.
+
+ghost use Rattle.std.specs.Prelude.{◌≡◌, OnErr};
+ghost use Rattle.tcap_engine.specs.Answering.{EngineAnswers, outputs_answer};
+ghost use Rattle.tcap_model.specs.Table.EngineMove.{engine_move};
+ghost use Rattle.tcap_model.specs.Words.Event.{Event};
+
+use super::Engine;
+use super::moment::{due_count, free_due, tell_due};
+use std::alloc::Allocator;
+use tcap_dialogue::{Fault, Output};
+use tcap_invocation::MAX_MOMENT;
+
+impl<A: Allocator + Copy> Engine<A> {
+    /// The clock is at this moment, in milliseconds, at most 2^62: tells each invocation whose deadline
+    /// was reached, by deadline, then dialogue, then number (TC-L-CANCEL indication), and frees each
+    /// identifier that has waited. A moment below the clock does nothing. Faults: `MomentTooLate`,
+    /// `OutOfMemory`.
+    #[tactic(auto, unfolding(tcap_model::specs::Table::EngineMove::engine_move))]
+    pub fn advance<'m>(&mut self, now: u64) -> Result<Vec<Output<'m, A>, A>, Fault>
+        ensures moves { EngineAnswers outputs_answer result (engine_move self.old (Event.moment now)) self.old self.new }
+        ensures err { OnErr result (self.new ≡ self.old) }
+    {
+        let alloc = *self.table.allocator();
+        if now > MAX_MOMENT {
+            return Err(Fault::MomentTooLate);
+        }
+        if now < self.clock {
+            return Ok(Vec::new(alloc));
+        }
+        let mut outputs = Vec::with_capacity(alloc, due_count(&self.table, now))?;
+        tell_due(&mut self.table, now, &mut outputs);
+        free_due(&mut self.table, now);
+        self.clock = now;
+        Ok(outputs)
+    }
+}
