@@ -2,11 +2,13 @@
 
 ghost use Rattle.std.specs.Prelude.{◌≡◌, OnErr};
 ghost use Rattle.tcap_engine.specs.Answering.{EngineAnswers, outputs_answer};
+ghost use Rattle.tcap_engine.specs.HistoryForm.{Stands};
 ghost use Rattle.tcap_model.specs.Table.EngineMove.{engine_move};
 ghost use Rattle.tcap_model.specs.Words.Event.{Event};
 
 use super::Engine;
 use super::moment::{due_count, free_due, tell_due};
+use crate::ranges;
 use std::alloc::Allocator;
 use tcap_dialogue::{Fault, Output};
 use tcap_invocation::MAX_MOMENT;
@@ -16,8 +18,20 @@ impl<A: Allocator + Copy> Engine<A> {
     /// was reached, by deadline, then dialogue, then number (TC-L-CANCEL indication), and frees each
     /// identifier that has waited. A moment below the clock does nothing. Faults: `MomentTooLate`,
     /// `OutOfMemory`.
-    #[tactic(auto, unfolding(tcap_model::specs::Table::EngineMove::engine_move))]
+    #[tactic(auto, using(crate::proofs::StandingLemmas::stands_after))]
     pub fn advance<'m>(&mut self, now: u64) -> Result<Vec<Output<'m, A>, A>, Fault>
+        ensures moves { EngineAnswers outputs_answer result (engine_move self.old (Event.moment now)) self.old self.new }
+        ensures err { OnErr result (self.new ≡ self.old) }
+        // Whatever legal history the engine stood at: the reply, and the history that it stands at then.
+        ensures stands { Stands outputs_answer result (Event.moment now) self.old self.new }
+    {
+        ranges::long(now);
+        self.go_to(now)
+    }
+
+    /// The same, by the engine's move.
+    #[tactic(auto, unfolding(tcap_model::specs::Table::EngineMove::engine_move))]
+    fn go_to<'m>(&mut self, now: u64) -> Result<Vec<Output<'m, A>, A>, Fault>
         ensures moves { EngineAnswers outputs_answer result (engine_move self.old (Event.moment now)) self.old self.new }
         ensures err { OnErr result (self.new ≡ self.old) }
     {

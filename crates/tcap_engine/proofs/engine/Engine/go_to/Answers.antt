@@ -13,7 +13,7 @@ use Rattle.tcap_model.specs.Table.EngineMove.{engine_move, advanced}
 use Rattle.tcap_model.specs.Table.World.{World}
 use Rattle.tcap_model.specs.Words.Answer.{Answer}
 use Rattle.tcap_model.specs.Words.Event.{Event}
-use Rattle.tcap_engine.proofs.engine.Engine.advance.Goals as goal
+use Rattle.tcap_engine.proofs.engine.Engine.go_to.Goals as goal
 
 pub returns-in_err-outputs-clause-moves : goal.returns-in_err-outputs-clause-moves
 returns-in_err-outputs-clause-moves g c =
