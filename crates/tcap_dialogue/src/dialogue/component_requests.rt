@@ -36,7 +36,8 @@ impl<A: Allocator + Copy> Dialogue<A> {
     ) -> Result<u64, Fault>
         requires left { number < 2 ^ 64 - 1 }
         requires above { AllBelow number self.old.invocations.rows }
-        ensures { Answers numbered result (requested 0 number self.old (Request.component (invoke id class (code_parts code.entry) (option_copied parameter.entry) linked timeout_ms))) self.old self.new }
+        ensures answer { Answers numbered result (requested 0 number self.old (Request.component (invoke id class (code_parts code.entry) (option_copied parameter.entry) linked timeout_ms))) self.old self.new }
+        ensures kept { self.new.standing.identifier ≡ self.old.standing.identifier }
     {
         if let Some(fault) = self.invoke_refusal(
             number, id, class, code, parameter, linked, timeout_ms,
@@ -58,14 +59,16 @@ impl<A: Allocator + Copy> Dialogue<A> {
 
     /// TC-RESULT-L request.
     pub fn result_last(&mut self, id: i8, body: Option<Body<'_>>) -> Result<(), Fault>
-        ensures { Answers queued_done result (requested 0 0 self.old (Request.component (result_last id (option_map body_parts body.entry)))) self.old self.new }
+        ensures answer { Answers queued_done result (requested 0 0 self.old (Request.component (result_last id (option_map body_parts body.entry)))) self.old self.new }
+        ensures kept { self.new.standing.identifier ≡ self.old.standing.identifier }
     {
         self.queue_answer(&Component::ResultLast { id, body })
     }
 
     /// TC-RESULT-NL request.
     pub fn result_more(&mut self, id: i8, body: Option<Body<'_>>) -> Result<(), Fault>
-        ensures { Answers queued_done result (requested 0 0 self.old (Request.component (result_more id (option_map body_parts body.entry)))) self.old self.new }
+        ensures answer { Answers queued_done result (requested 0 0 self.old (Request.component (result_more id (option_map body_parts body.entry)))) self.old self.new }
+        ensures kept { self.new.standing.identifier ≡ self.old.standing.identifier }
     {
         self.queue_answer(&Component::ResultMore { id, body })
     }
@@ -77,7 +80,8 @@ impl<A: Allocator + Copy> Dialogue<A> {
         code: Code<'_>,
         parameter: Option<&[u8]>,
     ) -> Result<(), Fault>
-        ensures { Answers queued_done result (requested 0 0 self.old (Request.component (error_back id (code_parts code.entry) (option_copied parameter.entry)))) self.old self.new }
+        ensures answer { Answers queued_done result (requested 0 0 self.old (Request.component (error_back id (code_parts code.entry) (option_copied parameter.entry)))) self.old self.new }
+        ensures kept { self.new.standing.identifier ≡ self.old.standing.identifier }
     {
         self.queue_answer(&Component::ErrorBack {
             id,
@@ -88,7 +92,8 @@ impl<A: Allocator + Copy> Dialogue<A> {
 
     /// TC-U-REJECT request. A Reject of a result or an error frees the identifier that waits for it.
     pub fn u_reject(&mut self, id: Option<i8>, problem: Problem) -> Result<(), Fault>
-        ensures { Answers queued_done result (requested 0 0 self.old (Request.component (u_reject id (problem_parts problem)))) self.old self.new }
+        ensures answer { Answers queued_done result (requested 0 0 self.old (Request.component (u_reject id (problem_parts problem)))) self.old self.new }
+        ensures kept { self.new.standing.identifier ≡ self.old.standing.identifier }
     {
         self.queue_answer(&Component::RejectBack { id, problem })?;
         self.free_rejected(id, problem.kind());
@@ -98,7 +103,8 @@ impl<A: Allocator + Copy> Dialogue<A> {
     /// TC-U-CANCEL request: the number of the invocation that is given up. An Invoke that wasn't sent
     /// leaves the queue. It takes no memory.
     pub fn u_cancel(&mut self, id: i8) -> Result<u64, Fault>
-        ensures { Answers gave_up result (requested 0 0 self.old (Request.component (u_cancel id))) self.old self.new }
+        ensures answer { Answers gave_up result (requested 0 0 self.old (Request.component (u_cancel id))) self.old self.new }
+        ensures kept { self.new.standing.identifier ≡ self.old.standing.identifier }
     {
         let Some(number) = self.invocations.give_up(id) else {
             return Err(Fault::NoSuchInvocation);
@@ -109,7 +115,8 @@ impl<A: Allocator + Copy> Dialogue<A> {
 
     /// Queues a component that answers the peer.
     fn queue_answer(&mut self, component: &Component<'_>) -> Result<(), Fault>
-        ensures { Answers queued_done result (answered self.old (component_parts component.now)) self.old self.new }
+        ensures answer { Answers queued_done result (answered self.old (component_parts component.now)) self.old self.new }
+        ensures kept { self.new.standing.identifier ≡ self.old.standing.identifier }
     {
         if let Some(fault) = self.answer_refusal(component) {
             return Err(fault);

@@ -30,11 +30,7 @@ impl<A: Allocator + Copy> Dialogue<A> {
     /// TC-UNI request: the queue goes out in a Unidirectional, and the dialogue is over. Faults:
     /// WrongState unless Fresh, BadOid, BadParameter, NoContext for information without a context,
     /// NotClassFour, TooLong, OutOfMemory (Q.774, Unstructured dialogue).
-    pub fn uni<'m>(
-        &mut self,
-        context: Option<&[u8]>,
-        info: &[u8],
-    ) -> Result<Step<'m, A>, Fault>
+    pub fn uni<'m>(&mut self, context: Option<&[u8]>, info: &[u8]) -> Result<Step<'m, A>, Fault>
         ensures step { Steps result (requested 0 0 self.old (Request.dialogue (DialogueRequest.uni (option_copied context.entry) info.now))) self.old self.new }
         ensures kept { self.new.standing.identifier ≡ self.old.standing.identifier }
     {

@@ -3,5 +3,5 @@ use Rattle.tcap_component.specs.Views.{code_parts}
 use Rattle.tcap_dialogue.proofs.ComponentRequestLemmas.{error-answered}
 use Rattle.tcap_dialogue.proofs.dialogue.Dialogue.error_back.Goals as goal
 
-pub returns : goal.returns
-returns g c = rw (error-answered 0 0 c.args.self.now c.args.id (code_parts c.args.code) (option_copied c.args.parameter)) (search (rules, c.queue_answer.ensures))
+pub returns-clause-answer : goal.returns-clause-answer
+returns-clause-answer g c = rw (error-answered 0 0 c.args.self.now c.args.id (code_parts c.args.code) (option_copied c.args.parameter)) (search (rules, c.queue_answer.ensures.answer))

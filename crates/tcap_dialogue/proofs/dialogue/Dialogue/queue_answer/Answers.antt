@@ -3,5 +3,5 @@ use Rattle.tcap_dialogue.specs.FaultViews.{fault_view}
 use Rattle.tcap_dialogue.proofs.ComponentRequestLemmas.{answer-refused}
 use Rattle.tcap_dialogue.proofs.dialogue.Dialogue.queue_answer.Goals as goal
 
-pub returns-in-Some : goal.returns-in-Some
-returns-in-Some g c = answer-refused (fault_view c.in-Some.fault) c.args.self.now (component_parts c.args.component.now) c.in-Some.ensures
+pub returns-in-Some-clause-answer : goal.returns-in-Some-clause-answer
+returns-in-Some-clause-answer g c = answer-refused (fault_view c.in-Some.fault) c.args.self.now (component_parts c.args.component.now) c.in-Some.ensures
