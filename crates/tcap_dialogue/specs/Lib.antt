@@ -3,10 +3,13 @@ pub mod ControlViews
 pub mod AbortViews
 pub mod FaultText
 pub mod FaultViews
+pub mod HandledViews
 pub mod OutputViews
 pub mod Parts
 pub mod QueueViews
 pub mod RequestViews
 pub mod SendingViews
+pub mod Slices
 pub mod StateViews
 pub mod StepViews
+pub mod Verdicts

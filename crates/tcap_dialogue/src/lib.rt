@@ -10,6 +10,7 @@ mod context;
 mod control;
 mod dialogue;
 mod fault;
+mod handling;
 mod output;
 mod provider_abort;
 mod queue;
