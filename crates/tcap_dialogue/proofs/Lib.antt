@@ -8,3 +8,6 @@ pub mod PortionLemmas
 pub mod RefusalLemmas
 pub mod RoomLemmas
 pub mod SendingLemmas
+pub mod ItemLemmas
+pub mod PlaceLemmas
+pub mod WalkLemmas

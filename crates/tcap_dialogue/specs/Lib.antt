@@ -13,3 +13,4 @@ pub mod Slices
 pub mod StateViews
 pub mod StepViews
 pub mod Verdicts
+pub mod Walking

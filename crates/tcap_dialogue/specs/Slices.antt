@@ -1,10 +1,11 @@
 -- Where the slices of an output lie in the message that was received.
-use Rattle.std.specs.Prelude.{◌≡◌, ℕ, ℤ, Bool, true, false, List, [], ◌∷◌, ◌++◌, Option, Some, None, IfSome}
+use Rattle.std.specs.Prelude.{◌≡◌, ℕ, ℤ, Bool, true, false, List, [], ◌∷◌, ◌++◌, Option, Some, None, Result, Ok, Err}
 use Rattle.std.specs.List.{AllByRecursion}
 use Rattle.ber_core.specs.Place.{Slice, AtEnd}
 use Rattle.tcap_component.specs.declared.component.Body.{Body}
 use Rattle.tcap_component.specs.declared.component.Component.{Component}
 use Rattle.tcap_component.specs.declared.component.Component.TheVariants as component
+use Rattle.tcap_component.specs.declared.fault.ComponentFault.{ComponentFault}
 use Rattle.tcap_component.specs.ComponentReading.{components_of}
 use Rattle.tcap_component.specs.Place.{ComponentInPlace}
 use Rattle.tcap_model.specs.Procedures.ComponentHandling.{Item}
@@ -45,54 +46,56 @@ abbrev pub result_of : Bool → ℤ → Option Body → Component
 result_of true id body = component.ResultLast id body
 result_of false id body = component.ResultMore id body
 
+-- The slices of an output: none; the context and the information of a dialogue PDU with this tag; a
+-- dialogue PDU of an Abort; those of a component (own).
+pub data Slices : Type 0 where
+  none : Slices
+  held : (tag : ℕ) (context : Option Slice) (info : Slice) → Slices
+  of_pdu : Option DialoguePdu → Slices
+  of_component : Component → Slices
+
 module _ {A : Type 0} where
-  -- The component that is told with its slices, if one is (own).
-  abbrev pub component_told : Output A → Option Component
-  component_told (output.Send bytes) = None
-  component_told (output.Uni context info) = None
-  component_told (output.Begin d context info) = None
-  component_told (output.Continue d context info) = None
-  component_told (output.End d context info) = None
-  component_told (output.UAbort d pdu) = None
-  component_told (output.PAbort d why) = None
-  component_told (output.Invoked d id linked code parameter) = Some (component.Invoke id linked code parameter)
-  component_told (output.ResultMore d number id body) = Some (component.ResultMore id body)
-  component_told (output.LocalReject d id problem) = None
-  component_told (output.RemoteReject d id problem by) = None
-  component_told (output.ResultLast d number id body) = Some (component.ResultLast id body)
-  component_told (output.ErrorBack d number id code parameter) = Some (component.ErrorBack id code parameter)
-  component_told (output.Rejected d number id problem by) = None
-  component_told (output.Lapsed d number id) = None
-  component_told (output.Ended d number id) = None
-  component_told (output.Dropped why) = None
+  -- The slices of an output: a Unidirectional and a Begin tell an AUDT or an AARQ, 60, a Continue and
+  -- an End an AARE, 61 (Q.773, Dialogue portion; Q.773, Component portion).
+  abbrev pub slices_of : Output A → Slices
+  slices_of (output.Send bytes) = Slices.none
+  slices_of (output.Uni context info) = Slices.held 0x60 context info
+  slices_of (output.Begin d context info) = Slices.held 0x60 context info
+  slices_of (output.Continue d context info) = Slices.held 0x61 context info
+  slices_of (output.End d context info) = Slices.held 0x61 context info
+  slices_of (output.UAbort d pdu) = Slices.of_pdu pdu
+  slices_of (output.PAbort d why) = Slices.none
+  slices_of (output.Invoked d id linked code parameter) = Slices.of_component (component.Invoke id linked code parameter)
+  slices_of (output.ResultMore d number id body) = Slices.of_component (component.ResultMore id body)
+  slices_of (output.LocalReject d id problem) = Slices.none
+  slices_of (output.RemoteReject d id problem by) = Slices.none
+  slices_of (output.ResultLast d number id body) = Slices.of_component (component.ResultLast id body)
+  slices_of (output.ErrorBack d number id code parameter) = Slices.of_component (component.ErrorBack id code parameter)
+  slices_of (output.Rejected d number id problem by) = Slices.none
+  slices_of (output.Lapsed d number id) = Slices.none
+  slices_of (output.Ended d number id) = Slices.none
+  slices_of (output.Dropped why) = Slices.none
 
-  -- The slices of a dialogue indication lie in place in the contents of the dialogue portion: of an
-  -- AARQ or an AUDT, 60, or of an AARE, 61 (Q.773, Dialogue portion).
-  abbrev pub DialogueInPlace : Option Slice → Output A → Type 0
-  DialogueInPlace portion (output.Send bytes) = Unit {0}
-  DialogueInPlace portion (output.Uni context info) = HeldIn 0x60 context info portion
-  DialogueInPlace portion (output.Begin d context info) = HeldIn 0x60 context info portion
-  DialogueInPlace portion (output.Continue d context info) = HeldIn 0x61 context info portion
-  DialogueInPlace portion (output.End d context info) = HeldIn 0x61 context info portion
-  DialogueInPlace portion (output.UAbort d pdu) = PduIn pdu portion
-  DialogueInPlace portion (output.PAbort d why) = Unit {0}
-  DialogueInPlace portion (output.Invoked d id linked code parameter) = Unit {0}
-  DialogueInPlace portion (output.ResultMore d number id body) = Unit {0}
-  DialogueInPlace portion (output.LocalReject d id problem) = Unit {0}
-  DialogueInPlace portion (output.RemoteReject d id problem by) = Unit {0}
-  DialogueInPlace portion (output.ResultLast d number id body) = Unit {0}
-  DialogueInPlace portion (output.ErrorBack d number id code parameter) = Unit {0}
-  DialogueInPlace portion (output.Rejected d number id problem by) = Unit {0}
-  DialogueInPlace portion (output.Lapsed d number id) = Unit {0}
-  DialogueInPlace portion (output.Ended d number id) = Unit {0}
-  DialogueInPlace portion (output.Dropped why) = Unit {0}
+-- Where there are slices, they are those of the component (own).
+abbrev pub AreOf : Component → Slices → Type 0
+AreOf c Slices.none = Unit {0}
+AreOf c (Slices.held tag context info) = ⊥
+AreOf c (Slices.of_pdu pdu) = ⊥
+AreOf c (Slices.of_component told) = told ≡ c
 
-  -- The slices of an output are the parts of the dialogue portion and of the component portion that
-  -- it tells (own).
-  abbrev pub OutputInPlace : Option Slice → Slice → Output A → Type 0
-  OutputInPlace dialogue components o =
-      DialogueInPlace dialogue o × IfSome (component_told o) (λ c. StandsIn c components)
+-- The same of an item; a fault has no slices (own).
+abbrev pub AreOfItem : Result Component ComponentFault → Slices → Type 0
+AreOfItem (Ok c) slices = AreOf c slices
+AreOfItem (Err f) slices = slices ≡ Slices.none
 
-  -- The same of some outputs (own).
-  abbrev pub AllInPlace : Option Slice → Slice → List (Output A) → Type 0
-  AllInPlace dialogue components outputs = AllByRecursion (OutputInPlace dialogue components) outputs
+-- The slices lie in place in the contents of the dialogue portion and of the component portion (own).
+abbrev pub LieIn : Option Slice → Slice → Slices → Type 0
+LieIn dialogue components Slices.none = Unit {0}
+LieIn dialogue components (Slices.held tag context info) = HeldIn tag context info dialogue
+LieIn dialogue components (Slices.of_pdu pdu) = PduIn pdu dialogue
+LieIn dialogue components (Slices.of_component c) = StandsIn c components
+
+-- The slices of each output are the parts of the dialogue portion and of the component portion that it
+-- tells, and no equal octets elsewhere (own).
+abbrev pub AllInPlace : {A : Type 0} → Option Slice → Slice → List (Output A) → Type 0
+AllInPlace dialogue components outputs = AllByRecursion (λ o. LieIn dialogue components (slices_of o)) outputs

@@ -4,7 +4,7 @@ ghost use Rattle.std.specs.Prelude.{◌≡◌, Some, None};
 ghost use Rattle.tcap_component.specs.Views.{problem_parts};
 ghost use Rattle.tcap_dialogue.specs.HandledViews.{handled_view};
 ghost use Rattle.tcap_dialogue.specs.OutputViews.{rejector};
-ghost use Rattle.tcap_dialogue.specs.Slices.{component_told};
+ghost use Rattle.tcap_dialogue.specs.Slices.{Slices, slices_of};
 ghost use Rattle.tcap_dialogue.specs.Verdicts.{unexpected as unexpected_told};
 ghost use Rattle.tcap_model.specs.Procedures.ComponentHandling.{rejecting as rejecting_told};
 ghost use Rattle.tcap_model.specs.Procedures.Problems.{remote_rejector};
@@ -49,7 +49,7 @@ fn unexpected<'m, A: Allocator>(
     problem: Problem,
 ) -> Handled<'m, A>
     ensures handled { handled_view result ≡ unexpected_told dialogue number id (problem_parts problem) }
-    ensures slices { component_told result.told ≡ None }
+    ensures slices { slices_of result.told ≡ Slices.none }
 {
     Handled {
         told: Output::Rejected {
@@ -69,7 +69,7 @@ fn unexpected<'m, A: Allocator>(
 /// A component that is rejected here and closes nothing.
 fn rejecting<'m, A: Allocator>(dialogue: u32, id: i8, problem: Problem) -> Handled<'m, A>
     ensures handled { handled_view result ≡ rejecting_told (Some dialogue) (Some id) (problem_parts problem) }
-    ensures slices { component_told result.told ≡ None }
+    ensures slices { slices_of result.told ≡ Slices.none }
 {
     Handled {
         told: Output::LocalReject {

@@ -14,6 +14,7 @@ mod handling;
 mod output;
 mod provider_abort;
 mod queue;
+mod receive;
 mod request;
 mod sending;
 mod state;

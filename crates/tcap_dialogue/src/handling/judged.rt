@@ -1,11 +1,11 @@
 //! Results, errors and Rejects, by what the class machine says of them.
 
 ghost use Rattle.std.specs.Option.{option_map};
-ghost use Rattle.std.specs.Prelude.{◌≡◌, Some, None, Bool, true, false, option_copied, IfSome};
+ghost use Rattle.std.specs.Prelude.{◌≡◌, Some, None, Bool, true, false, option_copied};
 ghost use Rattle.tcap_component.specs.Views.{problem_parts, body_parts, code_parts};
 ghost use Rattle.tcap_component.specs.declared.component.Component.TheVariants as component;
 ghost use Rattle.tcap_dialogue.specs.HandledViews.{handled_view};
-ghost use Rattle.tcap_dialogue.specs.Slices.{component_told, result_of};
+ghost use Rattle.tcap_dialogue.specs.Slices.{Slices, AreOf, slices_of, result_of};
 ghost use Rattle.tcap_dialogue.specs.Verdicts.{result_judged, error_judged, reject_judged};
 
 use super::{Handled, rejecting, remote_rejector, unexpected};
@@ -23,7 +23,7 @@ pub fn result_judged<'m, A: Allocator>(
     verdict: Verdict,
 ) -> Handled<'m, A>
     ensures handled { handled_view result ≡ result_judged dialogue id (option_map body_parts body.entry) last verdict }
-    ensures slices { IfSome (component_told result.told) (λ c. c ≡ result_of last id body.entry) }
+    ensures slices { AreOf (result_of last id body.entry) (slices_of result.told) }
 {
     match verdict {
         Verdict::Good(number) => {
@@ -60,7 +60,7 @@ pub fn error_judged<'m, A: Allocator>(
     verdict: Verdict,
 ) -> Handled<'m, A>
     ensures handled { handled_view result ≡ error_judged dialogue id (code_parts code.entry) (option_copied parameter.entry) verdict }
-    ensures slices { IfSome (component_told result.told) (λ c. c ≡ component.ErrorBack id code.entry parameter.entry) }
+    ensures slices { AreOf (component.ErrorBack id code.entry parameter.entry) (slices_of result.told) }
 {
     match verdict {
         Verdict::Good(number) => Handled {
@@ -92,7 +92,7 @@ pub fn reject_judged<'m, A: Allocator>(
     closed: Option<u64>,
 ) -> Handled<'m, A>
     ensures handled { handled_view result ≡ reject_judged dialogue id (problem_parts problem) closed }
-    ensures slices { component_told result.told ≡ None }
+    ensures slices { slices_of result.told ≡ Slices.none }
 {
     let by = remote_rejector(problem);
     let told = match closed {

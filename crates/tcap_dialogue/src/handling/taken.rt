@@ -1,12 +1,12 @@
 //! One component of a message to a dialogue.
 
 ghost use Rattle.std.specs.Option.{option_map};
-ghost use Rattle.std.specs.Prelude.{◌≡◌, ◌≤◌, Some, None, Bool, true, false, Ok, Err, option_copied, IfSome};
+ghost use Rattle.std.specs.Prelude.{◌≡◌, ◌≤◌, Some, None, Bool, true, false, Ok, Err, option_copied};
 ghost use Rattle.tcap_component.specs.Component.ComponentParts.{reject_back};
 ghost use Rattle.tcap_component.specs.Views.{item_view, problem_parts, body_parts, code_parts, component_parts, fault_parts};
 ghost use Rattle.tcap_component.specs.declared.component.Component.TheVariants as component;
 ghost use Rattle.tcap_dialogue.specs.HandledViews.{handled_view};
-ghost use Rattle.tcap_dialogue.specs.Slices.{component_told, result_of};
+ghost use Rattle.tcap_dialogue.specs.Slices.{Slices, AreOf, AreOfItem, slices_of, result_of};
 ghost use Rattle.tcap_dialogue.specs.Verdicts.{result_handled};
 ghost use Rattle.tcap_invocation.specs.Answers.{after_received, after_reject};
 ghost use Rattle.tcap_invocation.specs.Class.{return_result};
@@ -33,7 +33,7 @@ fn take_invoke<'m, A: Allocator + Copy>(
     parameter: Option<&'m [u8]>,
 ) -> Handled<'m, A>
     ensures handled { handled_view result ≡ invoke_handled (Some dialogue) (sent_by_rows dialogue invocations.now linked) id linked (code_parts code.entry) (option_copied parameter.entry) }
-    ensures slices { IfSome (component_told result.told) (λ c. c ≡ component.Invoke id linked code.entry parameter.entry) }
+    ensures slices { AreOf (component.Invoke id linked code.entry parameter.entry) (slices_of result.told) }
 {
     if let Some(linked) = linked {
         if !invocations.is_open(linked) {
@@ -64,7 +64,7 @@ fn take_result<'m, A: Allocator + Copy>(
     requires { clock ≤ moment_limit }
     ensures handled { handled_view result ≡ result_handled (Some dialogue) (sent_by_rows dialogue invocations.old (Some id)) id (option_map body_parts body.entry) last }
     ensures list { invocations.new ≡ after_received invocations.old id (return_result last) clock }
-    ensures slices { IfSome (component_told result.told) (λ c. c ≡ result_of last id body.entry) }
+    ensures slices { AreOf (result_of last id body.entry) (slices_of result.told) }
 {
     let verdict = invocations.on_result(id, last, clock);
     result_judged(dialogue, id, body, last, verdict)
@@ -82,7 +82,7 @@ fn take_error<'m, A: Allocator + Copy>(
     requires { clock ≤ moment_limit }
     ensures handled { handled_view result ≡ error_handled (Some dialogue) (sent_by_rows dialogue invocations.old (Some id)) id (code_parts code.entry) (option_copied parameter.entry) }
     ensures list { invocations.new ≡ after_received invocations.old id return_error clock }
-    ensures slices { IfSome (component_told result.told) (λ c. c ≡ component.ErrorBack id code.entry parameter.entry) }
+    ensures slices { AreOf (component.ErrorBack id code.entry parameter.entry) (slices_of result.told) }
 {
     let verdict = invocations.on_error(id, clock);
     error_judged(dialogue, id, code, parameter, verdict)
@@ -97,7 +97,7 @@ fn take_reject<'m, A: Allocator + Copy>(
 ) -> Handled<'m, A>
     ensures handled { handled_view result ≡ reject_handled (Some dialogue) (sent_by_rows dialogue invocations.old (Some id)) (Some id) (problem_parts problem) }
     ensures list { invocations.new ≡ after_reject invocations.old id (problem_parts problem).kind }
-    ensures slices { component_told result.told ≡ None }
+    ensures slices { slices_of result.told ≡ Slices.none }
 {
     let closed = invocations.on_reject(id, problem.kind());
     reject_judged(dialogue, id, problem, closed)
@@ -110,7 +110,7 @@ pub fn take_remote<'m, A: Allocator>(
     problem: Problem,
 ) -> Handled<'m, A>
     ensures handled { handled_view result ≡ remote dialogue id (problem_parts problem) }
-    ensures slices { component_told result.told ≡ None }
+    ensures slices { slices_of result.told ≡ Slices.none }
 {
     Handled {
         told: Output::RemoteReject {
@@ -126,7 +126,7 @@ pub fn take_remote<'m, A: Allocator>(
 /// A component that can't be read.
 pub fn take_unread<'m, A: Allocator>(dialogue: Option<u32>, fault: ComponentFault) -> Handled<'m, A>
     ensures handled { handled_view result ≡ handled dialogue None (Err (fault_parts fault)) }
-    ensures slices { component_told result.told ≡ None }
+    ensures slices { slices_of result.told ≡ Slices.none }
 {
     let reject = if fault.was_reject {
         None
@@ -155,7 +155,7 @@ fn take_reject_back<'m, A: Allocator + Copy>(
 ) -> Handled<'m, A>
     ensures handled { handled_view result ≡ handled (Some dialogue) (sent_by_rows dialogue invocations.old id) (Ok (reject_back id (problem_parts problem))) }
     ensures list { invocations.new ≡ after_item 0 invocations.old (Ok (reject_back id (problem_parts problem))) }
-    ensures slices { component_told result.told ≡ None }
+    ensures slices { slices_of result.told ≡ Slices.none }
 {
     match id {
         Some(id) => take_reject(invocations, dialogue, id, problem),
@@ -173,7 +173,7 @@ fn take_component<'m, A: Allocator + Copy>(
     requires { clock ≤ moment_limit }
     ensures handled { handled_view result ≡ handled (Some dialogue) (sent_by_rows dialogue invocations.old (subject_of (Ok (component_parts component.entry)))) (Ok (component_parts component.entry)) }
     ensures list { invocations.new ≡ after_item clock invocations.old (Ok (component_parts component.entry)) }
-    ensures slices { IfSome (component_told result.told) (λ c. c ≡ component.entry) }
+    ensures slices { AreOf component.entry (slices_of result.told) }
 {
     match component {
         Component::Invoke {
@@ -209,7 +209,7 @@ pub fn take_item<'m, A: Allocator + Copy>(
     requires { clock ≤ moment_limit }
     ensures handled { handled_view result ≡ handled (Some dialogue) (sent_by_rows dialogue invocations.old (subject_of (item_view item.entry))) (item_view item.entry) }
     ensures list { invocations.new ≡ after_item clock invocations.old (item_view item.entry) }
-    ensures slices { IfSome (component_told result.told) (λ c. Ok c ≡ item.entry) }
+    ensures slices { AreOfItem item.entry (slices_of result.told) }
 {
     match item {
         Ok(component) => take_component(invocations, dialogue, clock, component),

@@ -1,0 +1,53 @@
+-- The slices of what the components tell lie in place.
+use Rattle.std.proofs.Common.{◌≡◌, ℕ, List, [], ◌∷◌, ◌++◌, Option, Some, None, Result, Ok, Err, refl, sym, ap, subst, ◌∙◌, append_assoc, ◌+◌}
+use Rattle.std.specs.List.{AllByRecursion}
+use Rattle.ber_core.specs.Place.{Slice, AtEnd}
+use Rattle.tcap_component.specs.declared.component.Component.{Component}
+use Rattle.tcap_component.specs.declared.components.Components.{Components}
+use Rattle.tcap_component.specs.declared.fault.ComponentFault.{ComponentFault}
+use Rattle.tcap_component.specs.Component.{ComponentParts}
+use Rattle.tcap_component.specs.ComponentFault.{FaultParts}
+use Rattle.tcap_component.specs.ComponentReading.{components_of}
+use Rattle.tcap_component.specs.Place.{ItemInPlace, StepsInPlace, bytes_left, components_steps}
+use Rattle.tcap_component.specs.Views.{item_view, components_left}
+use Rattle.tcap_model.specs.Procedures.ComponentHandling.{Item}
+use Rattle.tcap_dialogue.specs.declared.output.Output.{Output}
+use Rattle.tcap_dialogue.specs.Slices.{Slices, IsLeftOf, StandsIn, AreOf, AreOfItem, LieIn, AllInPlace, slices_of}
+
+-- All is left of a component portion of which nothing was read.
+pub left_self : (portion : Slice) → IsLeftOf portion portion
+left_self portion = record { ends = (refl, refl); before = []; follows = refl }
+
+-- One component less is left.
+pub left_step : (portion : Slice) (old new : Components) (item : Result Component ComponentFault) →
+    IsLeftOf (bytes_left old) portion → components_steps old (Some item) new → IsLeftOf (bytes_left new) portion
+left_step portion old new item left step =
+    let ends : AtEnd (bytes_left new) (bytes_left old) = step.1.1 in
+    let first : components_of (bytes_left old).now ≡ item_view item ∷ components_of (bytes_left new).now = step.0 in
+    record {
+      ends = (ends.0 ∙ left.ends.0, ends.1 ∙ left.ends.1);
+      before = left.before ++ item_view item ∷ [];
+      follows = left.follows ∙ ap (λ (is : List Item). left.before ++ is) first ∙ sym (append_assoc left.before (item_view item ∷ []) (components_of (bytes_left new).now));
+    }
+
+component-lies : (portion : Slice) (dialogue : Option Slice) (bytes : Slice) (item : Result Component ComponentFault) (slices : Slices) →
+    IsLeftOf bytes portion → ItemInPlace item bytes → AreOfItem item slices → LieIn dialogue portion slices
+component-lies portion dialogue bytes (Ok c) Slices.none left place are = tt
+component-lies portion dialogue bytes (Ok c) (Slices.held tag context info) left place are = absurd are
+component-lies portion dialogue bytes (Ok c) (Slices.of_pdu pdu) left place are = absurd are
+component-lies portion dialogue bytes (Ok c) (Slices.of_component told) left place are =
+    subst (λ x. StandsIn x portion) (sym are) (record { bytes = bytes; is_left = left; in_place = place })
+component-lies portion dialogue bytes (Err f) slices left place are = subst (LieIn dialogue portion) (sym are) tt
+
+module _ {A : Type 0} where
+  pub all-push : (dialogue : Option Slice) (portion : Slice) (outputs : List (Output A)) (o : Output A) →
+      AllInPlace dialogue portion outputs → LieIn dialogue portion (slices_of o) → AllInPlace dialogue portion (outputs ++ o ∷ [])
+  all-push dialogue portion [] o all one = (one, tt)
+  all-push dialogue portion (x ∷ xs) o all one = (all.0, all-push dialogue portion xs o all.1 one)
+
+  -- One output more, of the component that is read.
+  pub one_more : (dialogue : Option Slice) (portion : Slice) (outputs : List (Output A)) (told : Output A) (bytes : Slice) (item : Result Component ComponentFault) →
+      IsLeftOf bytes portion → ItemInPlace item bytes → AreOfItem item (slices_of told) →
+      AllInPlace dialogue portion outputs → AllInPlace dialogue portion (outputs ++ told ∷ [])
+  one_more dialogue portion outputs told bytes item left place are all =
+      all-push dialogue portion outputs told all (component-lies portion dialogue bytes item (slices_of told) left place are)

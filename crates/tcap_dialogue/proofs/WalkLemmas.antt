@@ -1,0 +1,84 @@
+-- One component more, before those that follow it.
+use Rattle.std.proofs.Common.{◌≡◌, ◌≤◌, ℕ, arith, length, Ok, Err, List, [], ◌∷◌, ◌++◌, Option, Some, None, refl, ap, ◌∙◌, append_assoc}
+use Rattle.tcap_component.specs.Component.{ComponentParts}
+use Rattle.tcap_component.specs.Component.ComponentParts.{invoke, result_last, error_back, reject_back, result_more}
+use Rattle.tcap_invocation.specs.Class.{Received}
+use Rattle.tcap_invocation.specs.Closing.{ended_at}
+use Rattle.tcap_invocation.proofs.CallerLemmas.{ended_at-after_received, ended_at-after_reject}
+use Rattle.tcap_model.specs.Procedures.ComponentHandling.{Item, Handled, handled, subject_of}
+use Rattle.tcap_model.specs.Procedures.QueueRules.{Queued, queue_limit, queue_each}
+use Rattle.tcap_model.specs.Table.Dialogue.{sent_by_rows}
+use Rattle.tcap_model.specs.Table.TableMove.{Walked, walked, walked_before, reject_queued, after_item}
+use Rattle.tcap_model.specs.Words.Output.{Output}
+use Rattle.tcap_invocation.specs.Invocations.{InvocationList}
+use Rattle.tcap_dialogue.specs.declared.output.Output as code
+use Rattle.tcap_dialogue.specs.OutputViews.{all_shown, shown}
+use Rattle.tcap_dialogue.specs.Walking.{Told, told_by, told_from, Done, done_by, done_from, with_reject}
+
+rejects_each : (queue : List Queued) (reject : Option ComponentParts) (rejects : List Queued) →
+    queue_each queue_limit (with_reject queue reject) rejects ≡ queue_each queue_limit queue (reject_queued reject ++ rejects)
+rejects_each queue None rejects = refl
+rejects_each queue (Some r) rejects = refl
+
+done_before : (told : List Output) (queue : List Queued) (h : Handled) (w : Walked) →
+    done_by (told ++ h.told ∷ []) (with_reject queue h.reject) w ≡ done_by told queue (walked_before h w)
+done_before told queue h w =
+    let told_more : (told ++ h.told ∷ []) ++ w.told ≡ told ++ (h.told ∷ w.told) = append_assoc told (h.told ∷ []) w.told in
+    let queued_more = rejects_each queue h.reject w.rejects in
+    let done : List Output → List Queued → Done = λ t q. record { told = t; list = w.invocations; queue = q } in
+    ap (λ t. done t (queue_each queue_limit (with_reject queue h.reject) w.rejects)) told_more ∙ ap (done (told ++ (h.told ∷ w.told))) queued_more
+
+-- A component more.
+pub done_step : (dialogue clock : ℕ) (done : Done) (item : Item) (items : List Item) →
+    done_from dialogue clock (record {
+      told = done.told ++ (handled (Some dialogue) (sent_by_rows dialogue done.list (subject_of item)) item).told ∷ [];
+      list = after_item clock done.list item;
+      queue = with_reject done.queue (handled (Some dialogue) (sent_by_rows dialogue done.list (subject_of item)) item).reject;
+    }) items ≡ done_from dialogue clock done (item ∷ items)
+done_step dialogue clock done item items =
+    done_before done.told done.queue (handled (Some dialogue) (sent_by_rows dialogue done.list (subject_of item)) item) (walked dialogue clock (after_item clock done.list item) items)
+
+-- The same where nothing is queued.
+pub told_step : (dialogue clock : ℕ) (t : Told) (item : Item) (items : List Item) →
+    told_from dialogue clock (record {
+      told = t.told ++ (handled (Some dialogue) (sent_by_rows dialogue t.list (subject_of item)) item).told ∷ [];
+      list = after_item clock t.list item;
+    }) items ≡ told_from dialogue clock t (item ∷ items)
+told_step dialogue clock t item items =
+    let h = handled (Some dialogue) (sent_by_rows dialogue t.list (subject_of item)) item in
+    let w = walked dialogue clock (after_item clock t.list item) items in
+    ap (λ (os : List Output). let r : Told = record { told = os; list = w.invocations } in r) (append_assoc t.told (h.told ∷ []) w.told)
+
+-- The same by what the code says of its step.
+pub done_next : (dialogue clock : ℕ) (told told_new : List Output) (list list_new : InvocationList) (queue queue_new : List Queued) (h : Handled) (item : Item) (items_new items : List Item) →
+    items ≡ item ∷ items_new → h ≡ handled (Some dialogue) (sent_by_rows dialogue list (subject_of item)) item →
+    told_new ≡ told ++ h.told ∷ [] → list_new ≡ after_item clock list item → queue_new ≡ with_reject queue h.reject →
+    done_from dialogue clock (record { told = told_new; list = list_new; queue = queue_new }) items_new ≡ done_from dialogue clock (record { told = told; list = list; queue = queue }) items
+done_next dialogue clock told told_new list list_new queue queue_new h item items_new items first by more after less =
+    rw (first, more, after, less, by) (done_step dialogue clock (record { told = told; list = list; queue = queue }) item items_new)
+
+pub told_next : (dialogue clock : ℕ) (told told_new : List Output) (list list_new : InvocationList) (h : Handled) (item : Item) (items_new items : List Item) →
+    items ≡ item ∷ items_new → h ≡ handled (Some dialogue) (sent_by_rows dialogue list (subject_of item)) item →
+    told_new ≡ told ++ h.told ∷ [] → list_new ≡ after_item clock list item →
+    told_from dialogue clock (record { told = told_new; list = list_new }) items_new ≡ told_from dialogue clock (record { told = told; list = list }) items
+told_next dialogue clock told told_new list list_new h item items_new items first by more after =
+    rw (first, more, after, by) (told_step dialogue clock (record { told = told; list = list }) item items_new)
+
+module _ {A : Type 0} where
+  shown_end : (os : List (code.Output A)) (o : code.Output A) → all_shown (os ++ o ∷ []) ≡ all_shown os ++ shown o ∷ []
+  shown_end [] o = refl
+  shown_end (x ∷ xs) o = ap (λ (ms : List Output). shown x ∷ ms) (shown_end xs o)
+
+  -- One output more is shown.
+  pub shown_push : (outputs all : List (code.Output A)) (o : code.Output A) → all ≡ outputs ++ o ∷ [] → all_shown all ≡ all_shown outputs ++ shown o ∷ []
+  shown_push outputs all o e = rw e (shown_end outputs o)
+
+-- A component leaves no more invocations to be ended.
+pub ended_next : (clock : ℕ) (list : InvocationList) (item : Item) → length (ended_at (after_item clock list item).rows) ≤ length (ended_at list.rows)
+ended_next clock list (Ok (invoke id linked code parameter)) = omega arith
+ended_next clock list (Ok (result_last id body)) = ended_at-after_received list id Received.return_result_last clock
+ended_next clock list (Ok (result_more id body)) = ended_at-after_received list id Received.return_result_not_last clock
+ended_next clock list (Ok (error_back id code parameter)) = ended_at-after_received list id Received.return_error clock
+ended_next clock list (Ok (reject_back None problem)) = omega arith
+ended_next clock list (Ok (reject_back (Some id) problem)) = ended_at-after_reject list id problem.kind
+ended_next clock list (Err f) = omega arith
