@@ -6,6 +6,7 @@ pub mod FaultViews
 pub mod HandledViews
 pub mod OutputViews
 pub mod Parts
+pub mod PortionViews
 pub mod QueueViews
 pub mod RequestViews
 pub mod SendingViews

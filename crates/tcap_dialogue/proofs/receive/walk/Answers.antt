@@ -17,12 +17,18 @@ loop-item-preserved g c =
     let all = bytes_left c.into_iter-item-iterator.result in
     let h = c.take_item-handled.result in
     let done = done_next c.args.dialogue c.args.clock (all_shown c.loop-item.outputs.items) (all_shown c.push_reserved.new.self.items) c.loop-item.invocations c.take_item-handled.new.invocations
-        (queue_view c.loop-item.queue) (queue_view c.queue_reject.new.queue) (handled_view h) (item_view c.in-Some.item) (components_left c.next.new.self) (components_left c.loop-item.item-iterator)
-        steps.0 c.take_item-handled.ensures.handled (shown_push c.loop-item.outputs.items c.push_reserved.new.self.items h.told c.push_reserved.ensures.items) c.take_item-handled.ensures.list c.queue_reject.ensures.queue in
-    (tt, tt, done ∙ inv.2, search rules, search rules, search rules,
-    left_step all c.loop-item.item-iterator c.next.new.self c.in-Some.item inv.6 steps,
-    λ portion before. subst (AllInPlace portion all) (sym c.push_reserved.ensures.items)
-    (one_more portion all c.loop-item.outputs.items c.take_item-handled.result.told (bytes_left c.loop-item.item-iterator) c.in-Some.item inv.6 steps.1.0 c.take_item-handled.ensures.slices (inv.7 portion before)))
+    (queue_view c.loop-item.queue) (queue_view c.queue_reject.new.queue) (handled_view h) (item_view c.in-Some.item) (components_left c.next.new.self) (components_left c.loop-item.item-iterator)
+    steps.0 c.take_item-handled.ensures.handled (shown_push c.loop-item.outputs.items c.push_reserved.new.self.items h.told c.push_reserved.ensures.items) c.take_item-handled.ensures.list c.queue_reject.ensures.queue in (
+      tt,
+      tt,
+      done ∙ inv.2,
+      search rules,
+      search rules,
+      search rules,
+      left_step all c.loop-item.item-iterator c.next.new.self c.in-Some.item inv.6 steps,
+      λ portion before. subst (AllInPlace portion all) (sym c.push_reserved.ensures.items)
+          (one_more portion all c.loop-item.outputs.items c.take_item-handled.result.told (bytes_left c.loop-item.item-iterator) c.in-Some.item inv.6 steps.1.0 c.take_item-handled.ensures.slices (inv.7 portion before)),
+    )
 
 pub returns-clause-place : goal.returns-clause-place
 returns-clause-place g c portion all =

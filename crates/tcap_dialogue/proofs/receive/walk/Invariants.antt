@@ -14,7 +14,7 @@ invariant-loop-item g l =
     (goal.iterator-loop-item g).can_next l.item-iterator
     × (goal.iterator-loop-item g).is_finite l.item-iterator
     × (done_from l.dialogue l.clock (record { told = all_shown l.outputs.items; list = l.invocations; queue = queue_view l.queue }) (components_left l.item-iterator)
-        ≡ done_from l.dialogue l.clock (record { told = all_shown l.initial.outputs.items; list = l.initial.invocations; queue = queue_view l.initial.queue }) (components_of l.components))
+    ≡ done_from l.dialogue l.clock (record { told = all_shown l.initial.outputs.items; list = l.initial.invocations; queue = queue_view l.initial.queue }) (components_of l.components))
     × (vec_len l.outputs + length (components_left l.item-iterator) ≤ vec_capacity l.outputs)
     × (vec_len l.queue.octets + 8 * length (components_left l.item-iterator) ≤ vec_capacity l.queue.octets)
     × (vec_len l.queue.parts + length (components_left l.item-iterator) ≤ vec_capacity l.queue.parts)

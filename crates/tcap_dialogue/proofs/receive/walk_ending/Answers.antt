@@ -16,12 +16,18 @@ loop-item-preserved g c =
     let all = bytes_left c.into_iter-item-iterator.result in
     let h = c.take_item-handled.result in
     let told = told_next c.args.dialogue c.args.clock (all_shown c.loop-item.outputs.items) (all_shown c.push_reserved.new.self.items) c.loop-item.invocations c.take_item-handled.new.invocations
-        (handled_view h) (item_view c.in-Some.item) (components_left c.next.new.self) (components_left c.loop-item.item-iterator)
-        steps.0 c.take_item-handled.ensures.handled (shown_push c.loop-item.outputs.items c.push_reserved.new.self.items h.told c.push_reserved.ensures.items) c.take_item-handled.ensures.list in
-    (tt, tt, told ∙ inv.2, search rules, search rules, search (rules, ended_next c.args.clock c.loop-item.invocations (item_view c.in-Some.item)),
-    left_step all c.loop-item.item-iterator c.next.new.self c.in-Some.item inv.6 steps,
-    λ portion before. subst (AllInPlace portion all) (sym c.push_reserved.ensures.items)
-    (one_more portion all c.loop-item.outputs.items c.take_item-handled.result.told (bytes_left c.loop-item.item-iterator) c.in-Some.item inv.6 steps.1.0 c.take_item-handled.ensures.slices (inv.7 portion before)))
+    (handled_view h) (item_view c.in-Some.item) (components_left c.next.new.self) (components_left c.loop-item.item-iterator)
+    steps.0 c.take_item-handled.ensures.handled (shown_push c.loop-item.outputs.items c.push_reserved.new.self.items h.told c.push_reserved.ensures.items) c.take_item-handled.ensures.list in (
+      tt,
+      tt,
+      told ∙ inv.2,
+      search rules,
+      search rules,
+      search (rules, ended_next c.args.clock c.loop-item.invocations (item_view c.in-Some.item)),
+      left_step all c.loop-item.item-iterator c.next.new.self c.in-Some.item inv.6 steps,
+      λ portion before. subst (AllInPlace portion all) (sym c.push_reserved.ensures.items)
+          (one_more portion all c.loop-item.outputs.items c.take_item-handled.result.told (bytes_left c.loop-item.item-iterator) c.in-Some.item inv.6 steps.1.0 c.take_item-handled.ensures.slices (inv.7 portion before)),
+    )
 
 pub returns-clause-place : goal.returns-clause-place
 returns-clause-place g c portion all =

@@ -14,7 +14,7 @@ invariant-loop-item g l =
     (goal.iterator-loop-item g).can_next l.item-iterator
     × (goal.iterator-loop-item g).is_finite l.item-iterator
     × (told_from l.dialogue l.clock (record { told = all_shown l.outputs.items; list = l.invocations }) (components_left l.item-iterator)
-        ≡ told_from l.dialogue l.clock (record { told = all_shown l.initial.outputs.items; list = l.initial.invocations }) (components_of l.components))
+    ≡ told_from l.dialogue l.clock (record { told = all_shown l.initial.outputs.items; list = l.initial.invocations }) (components_of l.components))
     × (vec_len l.outputs + length (components_left l.item-iterator) ≤ vec_len l.initial.outputs + length (components_of l.components))
     × (vec_capacity l.initial.outputs ≤ vec_capacity l.outputs)
     × (length (ended_at l.invocations.rows) ≤ length (ended_at l.initial.invocations.rows))
