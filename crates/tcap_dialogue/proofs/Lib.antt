@@ -1,13 +1,14 @@
+pub mod AbortLemmas
 pub mod CancelLemmas
 pub mod ComponentRequestLemmas
 pub mod ControlLemmas
-pub mod AbortLemmas
 pub mod CutLemmas
 pub mod FaultLemmas
+pub mod ItemLemmas
+pub mod PlaceLemmas
 pub mod PortionLemmas
+pub mod ProviderAbortLemmas
 pub mod RefusalLemmas
 pub mod RoomLemmas
 pub mod SendingLemmas
-pub mod ItemLemmas
-pub mod PlaceLemmas
 pub mod WalkLemmas

@@ -40,14 +40,24 @@ component-lies portion dialogue bytes (Ok c) (Slices.of_component told) left pla
 component-lies portion dialogue bytes (Err f) slices left place are = subst (LieIn dialogue portion) (sym are) tt
 
 module _ {A : Type 0} where
-  pub all-push : (dialogue : Option Slice) (portion : Slice) (outputs : List (Output A)) (o : Output A) →
+  pub all_push : (dialogue : Option Slice) (portion : Slice) (outputs : List (Output A)) (o : Output A) →
       AllInPlace dialogue portion outputs → LieIn dialogue portion (slices_of o) → AllInPlace dialogue portion (outputs ++ o ∷ [])
-  all-push dialogue portion [] o all one = (one, tt)
-  all-push dialogue portion (x ∷ xs) o all one = (all.0, all-push dialogue portion xs o all.1 one)
+  all_push dialogue portion [] o all one = (one, tt)
+  all_push dialogue portion (x ∷ xs) o all one = (all.0, all_push dialogue portion xs o all.1 one)
 
   -- One output more, of the component that is read.
   pub one_more : (dialogue : Option Slice) (portion : Slice) (outputs : List (Output A)) (told : Output A) (bytes : Slice) (item : Result Component ComponentFault) →
       IsLeftOf bytes portion → ItemInPlace item bytes → AreOfItem item (slices_of told) →
       AllInPlace dialogue portion outputs → AllInPlace dialogue portion (outputs ++ told ∷ [])
   one_more dialogue portion outputs told bytes item left place are all =
-      all-push dialogue portion outputs told all (component-lies portion dialogue bytes item (slices_of told) left place are)
+      all_push dialogue portion outputs told all (component-lies portion dialogue bytes item (slices_of told) left place are)
+
+  -- The first output.
+  pub all_first : (dialogue : Option Slice) (portion : Slice) (outputs all : List (Output A)) (o : Output A) →
+      outputs ≡ [] → all ≡ outputs ++ o ∷ [] → LieIn dialogue portion (slices_of o) → AllInPlace dialogue portion all
+  all_first dialogue portion outputs all o none one lies = rw (one, none) (lies, tt)
+
+  -- One output more.
+  pub all_next : (dialogue : Option Slice) (portion : Slice) (outputs all : List (Output A)) (o : Output A) →
+      AllInPlace dialogue portion outputs → all ≡ outputs ++ o ∷ [] → LieIn dialogue portion (slices_of o) → AllInPlace dialogue portion all
+  all_next dialogue portion outputs all o before one lies = rw one (all_push dialogue portion outputs o before lies)

@@ -1,5 +1,5 @@
 -- One component more, before those that follow it.
-use Rattle.std.proofs.Common.{◌≡◌, ◌≤◌, ℕ, arith, length, Ok, Err, List, [], ◌∷◌, ◌++◌, Option, Some, None, refl, ap, ◌∙◌, append_assoc}
+use Rattle.std.proofs.Common.{◌≡◌, ◌≤◌, ℕ, ℤ, map, sym, arith, length, Ok, Err, List, [], ◌∷◌, ◌++◌, Option, Some, None, refl, ap, ◌∙◌, append_assoc}
 use Rattle.tcap_component.specs.Component.{ComponentParts}
 use Rattle.tcap_component.specs.Component.ComponentParts.{invoke, result_last, error_back, reject_back, result_more}
 use Rattle.tcap_invocation.specs.Class.{Received}
@@ -8,8 +8,9 @@ use Rattle.tcap_invocation.proofs.CallerLemmas.{ended_at-after_received, ended_a
 use Rattle.tcap_model.specs.Procedures.ComponentHandling.{Item, Handled, handled, subject_of}
 use Rattle.tcap_model.specs.Procedures.QueueRules.{Queued, queue_limit, queue_each}
 use Rattle.tcap_model.specs.Table.Dialogue.{sent_by_rows}
-use Rattle.tcap_model.specs.Table.TableMove.{Walked, walked, walked_before, reject_queued, after_item}
-use Rattle.tcap_model.specs.Words.Output.{Output}
+use Rattle.tcap_model.specs.Table.TableMove.{Walked, walked, walked_before, reject_queued, after_item, ended_told}
+use Rattle.tcap_model.specs.Words.Output.{Output, Closing, ComponentIndication}
+use Rattle.tcap_dialogue.specs.declared.output.Output.TheVariants as output
 use Rattle.tcap_invocation.specs.Invocations.{InvocationList}
 use Rattle.tcap_dialogue.specs.declared.output.Output as code
 use Rattle.tcap_dialogue.specs.OutputViews.{all_shown, shown}
@@ -82,3 +83,13 @@ ended_next clock list (Ok (error_back id code parameter)) = ended_at-after_recei
 ended_next clock list (Ok (reject_back None problem)) = omega arith
 ended_next clock list (Ok (reject_back (Some id) problem)) = ended_at-after_reject list id problem.kind
 ended_next clock list (Err f) = omega arith
+
+-- One invocation more is told as ended.
+pub tell_next : {A : Type 0} → (d number : ℕ) (id : ℤ) (outputs all : List (code.Output A)) (list rest : InvocationList) →
+    all ≡ outputs ++ output.Ended d number id ∷ [] → ended_at list.rows ≡ (number, id) ∷ ended_at rest.rows →
+    all_shown all ++ ended_told d rest ≡ all_shown outputs ++ ended_told d list
+tell_next d number id outputs all list rest more left =
+    let told : Output = Output.component (ComponentIndication.closed d number id Closing.ended) in
+    ap (λ (os : List Output). os ++ ended_told d rest) (shown_push outputs all (output.Ended d number id) more)
+    ∙ append_assoc (all_shown outputs) (told ∷ []) (ended_told d rest)
+    ∙ ap (λ (es : List (ℕ × ℤ)). all_shown outputs ++ map (λ e. Output.component (ComponentIndication.closed d e.0 e.1 Closing.ended)) es) (sym left)

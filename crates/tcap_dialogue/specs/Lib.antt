@@ -1,6 +1,7 @@
+pub mod AbortViews
+pub mod Aborting
 pub mod ComponentRefusals
 pub mod ControlViews
-pub mod AbortViews
 pub mod FaultText
 pub mod FaultViews
 pub mod HandledViews

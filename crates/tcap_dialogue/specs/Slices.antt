@@ -10,6 +10,8 @@ use Rattle.tcap_component.specs.ComponentReading.{components_of}
 use Rattle.tcap_component.specs.Place.{ComponentInPlace}
 use Rattle.tcap_model.specs.Procedures.ComponentHandling.{Item}
 use Rattle.tcap_pdu.specs.declared.dialogue_pdu.DialoguePdu.{DialoguePdu}
+use Rattle.tcap_pdu.specs.FramePortions.{dialogue_slice, components_slice}
+use Rattle.tcap_pdu.specs.declared.frame.Frame.{Frame}
 use Rattle.tcap_pdu.specs.DialoguePlace.{HeldOnWay, PduInPlace}
 use Rattle.tcap_dialogue.specs.declared.output.Output.{Output}
 use Rattle.tcap_dialogue.specs.declared.output.Output.TheVariants as output
@@ -99,3 +101,12 @@ LieIn dialogue components (Slices.of_component c) = StandsIn c components
 -- tells, and no equal octets elsewhere (own).
 abbrev pub AllInPlace : {A : Type 0} → Option Slice → Slice → List (Output A) → Type 0
 AllInPlace dialogue components outputs = AllByRecursion (λ o. LieIn dialogue components (slices_of o)) outputs
+
+-- The contents of the component portion of a message, empty where it holds none (own).
+abbrev pub portion_read : Option Slice → Slice → Slice
+portion_read None other = other
+portion_read (Some components) other = components
+
+-- The slices of what a message tells are parts of its portions (own).
+abbrev pub FrameTold : {A : Type 0} → Frame → List (Output A) → Type 0
+FrameTold f outputs = (none : Slice) → AllInPlace (dialogue_slice f) (portion_read (components_slice f) none) outputs

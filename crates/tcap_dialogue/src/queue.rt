@@ -12,6 +12,9 @@ use tcap_invocation::Class;
 /// The greatest number of octets of a queue (our own).
 pub const MAX_QUEUE: usize = 60_000;
 
+/// The greatest number of octets of a Reject.
+pub const MAX_REJECT: usize = 8;
+
 /// The invocation that an Invoke asks for.
 #[derive(Clone, Copy, Debug, PartialEq, Eq)]
 pub struct Invoking {

@@ -1,0 +1,5 @@
+use Rattle.std.proofs.Common.{◌≡◌}
+use Rattle.tcap_dialogue.proofs.dialogue.abort.abort_told.Goals as goal
+
+pub returns-in-Dialogue-clause-place : goal.returns-in-Dialogue-clause-place
+returns-in-Dialogue-clause-place g c components = rw (c.in-Dialogue.is) (c.portion_told.ensures.place components)
