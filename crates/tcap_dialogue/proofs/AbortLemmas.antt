@@ -1,41 +1,39 @@
--- The Abort of an abnormal portion fits into a message.
-use Rattle.std.proofs.Common.{◌≡◌, ◌≤◌, ◌<◌, ◌+◌, ℕ, true, List, [], length, arith, refl}
-use Rattle.std.specs.Option.{option_map}
-use Rattle.ber_core.proofs.CallerLemmas.{element_length-most}
-use Rattle.tcap_pdu.specs.DialogueSpelling.{IsInformation}
-use Rattle.tcap_pdu.specs.DialogueSpelling.PduValue.{abrt}
-use Rattle.tcap_pdu.specs.DialogueWritten.{WriteFault, written_dialogue, written_external}
-use Rattle.tcap_pdu.specs.FrameLength.{element_length, reason_length, reason_dialogue}
-use Rattle.tcap_pdu.specs.FrameSpelling.{Message, Reason}
-use Rattle.tcap_pdu.specs.FrameWritten.{message_limit, written_frame}
-use Rattle.tcap_pdu.specs.TransId.{IsTransId}
-use Rattle.tcap_pdu.specs.declared.fault.PduFault.TheVariants.{TooLong, BadInfo}
-use Rattle.tcap_pdu.proofs.CallerLemmas.{length-own}
+-- The Aborts of the provider fit into any message.
+use Rattle.std.proofs.Common.{◌≡◌, ℕ, ◌+◌, ◌≤◌, List, [], length, refl, true, false, arith}
+use Rattle.ber_core.specs.ObjectIdentifier.{IsObjectIdentifier}
+use Rattle.ber_core.specs.WrittenLength.{element_length}
+use Rattle.tcap_pdu.specs.DialogueDue.{portion_length, external_length, opening_length, answer_length}
+use Rattle.tcap_pdu.specs.DialogueSpelling.{PduValue, Source, IsInformation}
+use Rattle.tcap_pdu.specs.DialogueSpelling.PduValue.{aare, abrt}
+use Rattle.tcap_pdu.specs.DialogueWritten.{IsWritable, written_dialogue}
+use Rattle.tcap_pdu.proofs.CallerLemmas.{element_most, external_most, length-dialogue}
 
+-- No user information is user information.
 no_information : IsInformation []
 no_information = record { externals = []; is_list = record { each = tt; is_joined = refl }; each = tt }
 
-abrt_short : length (written_dialogue (abrt true [])) ≤ 100
-unfolding written_dialogue written_external
-abrt_short = omega arith
+abort_counts : portion_length (abrt true []) ≤ 100
+unfolding portion_length
+abort_counts = omega (arith, external_most (element_length 1 + 0), element_most 1)
 
--- The contents of the dialogue portion can be written.
-pub abrt_not_long : WriteFault (abrt true []) TooLong → ⊥
-abrt_not_long f = omega (arith, f.2, abrt_short)
+-- An ABRT of the provider has at most 100 octets.
+pub abort_short : length (written_dialogue (abrt true [])) ≤ 100
+abort_short = omega (arith, length-dialogue (abrt true []), abort_counts)
 
-pub abrt_informed : WriteFault (abrt true []) BadInfo → ⊥
-abrt_informed f = f.1 no_information
+pub abort_writable : IsWritable (abrt true [])
+abort_writable = record { has_context = tt; has_information = no_information; is_short = omega (arith, abort_short) }
 
-element-le : (n : ℕ) → element_length n ≤ n + 4
-unfolding element_length
-element-le n = element_length-most n
+response_counts : (context : List ℕ) → length context ≤ 255 → portion_length (aare true context false (Source.provider 2) []) ≤ 1000
+unfolding portion_length
+response_counts context most =
+    let n = length context in
+    omega (arith, most, external_most (opening_length n + answer_length + 0), element_most 2, element_most n, element_most (element_length n),
+        element_most 1, element_most (element_length 1), element_most (element_length (element_length 1)))
 
--- The whole message can.
-pub abort_short : (peer : List ℕ) → IsTransId peer → message_limit < length (written_frame (Message.abort peer (Reason.portion (written_dialogue (abrt true []))))) → ⊥
-abort_short peer id long =
-    let reason = Reason.portion (written_dialogue (abrt true [])) in
-    let own = length-own (Message.abort peer reason) in
-    let ids = element-le (length peer) in
-    let part = element-le (length (written_dialogue (abrt true []))) in
-    let all = element-le (element_length (length peer) + reason_length (option_map length (reason_dialogue reason)) reason) in
-    omega (arith, long, own, ids, part, all, id.1, abrt_short)
+-- An AARE that names the context of an AARQ has at most 1,000 octets.
+pub response_short : (context : List ℕ) → IsObjectIdentifier context → length (written_dialogue (aare true context false (Source.provider 2) [])) ≤ 1000
+response_short context is = omega (arith, length-dialogue (aare true context false (Source.provider 2) []), response_counts context is.is_short)
+
+pub response_writable : (context : List ℕ) → IsObjectIdentifier context → IsWritable (aare true context false (Source.provider 2) [])
+response_writable context is =
+    record { has_context = is; has_information = no_information; is_short = omega (arith, response_short context is) }

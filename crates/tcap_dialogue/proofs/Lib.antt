@@ -7,7 +7,7 @@ pub mod FaultLemmas
 pub mod ItemLemmas
 pub mod PlaceLemmas
 pub mod PortionLemmas
-pub mod ProviderAbortLemmas
+pub mod PortionNames
 pub mod RefusalLemmas
 pub mod RoomLemmas
 pub mod SendingLemmas

@@ -1,5 +1,6 @@
 -- What a dialogue portion comes to, as a contract sees it.
 use Rattle.std.specs.Prelude.{ℕ, ◌∷◌, [], Option, Some, None, option_copied}
+use Rattle.ber_core.specs.ObjectIdentifier.{IsObjectIdentifier}
 use Rattle.ber_core.specs.Place.{Slice}
 use Rattle.ber_core.specs.Way.{IsOnWay}
 use Rattle.tcap_model.specs.Procedures.PortionRules as model
@@ -39,3 +40,10 @@ BeginIn verdict.Plain dialogue = Unit {0}
 BeginIn (verdict.Context context info) dialogue = HeldIn 0x60 (Some context) info dialogue
 BeginIn (verdict.WrongVersion context) dialogue = ContextIn context dialogue
 BeginIn verdict.Abnormal dialogue = Unit {0}
+
+-- A context that is told is an object identifier (Q.773, Dialogue portion).
+abbrev pub BeginNames : BeginVerdict → Type 0
+BeginNames verdict.Plain = Unit {0}
+BeginNames (verdict.Context context info) = IsObjectIdentifier context.now
+BeginNames (verdict.WrongVersion context) = IsObjectIdentifier context.now
+BeginNames verdict.Abnormal = Unit {0}

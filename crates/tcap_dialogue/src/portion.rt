@@ -1,11 +1,12 @@
 //! What the dialogue portion of a message means.
 
 ghost use Rattle.std.specs.Prelude.{◌≡◌, Some, option_copied};
-ghost use Rattle.tcap_dialogue.specs.PortionViews.{portion_view, begin_view, PortionIn, BeginIn};
+ghost use Rattle.tcap_dialogue.specs.PortionViews.{portion_view, begin_view, PortionIn, BeginIn, BeginNames};
 ghost use Rattle.tcap_dialogue.specs.StateViews.{phase_view, context_view};
 ghost use Rattle.tcap_model.specs.Procedures.PortionRules.{begin_verdict, begin_verdict_by, response_verdict, absent_verdict, answering_verdict, portion_verdict, uni_verdict, uni_verdict_by};
 ghost use Rattle.tcap_pdu.specs.DialogueReading.{dialogue_at};
 
+use crate::context::Context;
 use crate::state::Phase;
 use std::alloc::Allocator;
 use tcap_pdu::{DialoguePdu, read_dialogue};
@@ -41,6 +42,8 @@ pub enum BeginVerdict<'m> {
 /// The dialogue portion of a Begin: none, or an AARQ (Q.774, Dialogue begin).
 pub fn judge_begin<'m>(dialogue: Option<&'m [u8]>) -> BeginVerdict<'m>
     ensures verdict { begin_view result ≡ begin_verdict (option_copied dialogue.entry) }
+    // A context is an object identifier.
+    ensures named { BeginNames result }
     // The slices are the parts of the dialogue portion.
     ensures place { BeginIn result dialogue.entry }
 {
@@ -51,8 +54,10 @@ pub fn judge_begin<'m>(dialogue: Option<&'m [u8]>) -> BeginVerdict<'m>
 }
 
 /// The same of a dialogue portion that is there.
+#[tactic(auto, using(crate::proofs::PortionNames::request_names))]
 fn judge_request<'m>(portion: &'m [u8]) -> BeginVerdict<'m>
     ensures verdict { begin_view result ≡ begin_verdict_by (dialogue_at portion.now) }
+    ensures named { BeginNames result }
     ensures place { BeginIn result (Some portion.entry) }
 {
     match read_dialogue(portion) {
@@ -186,7 +191,7 @@ fn judge_answer<'m>(dialogue: Option<&'m [u8]>) -> PortionVerdict<'m>
 /// context (Q.774, Dialogue continuation).
 pub fn judge_portion<'m, A: Allocator + Copy>(
     phase: &Phase,
-    context: &Option<Vec<u8, A>>,
+    context: &Option<Context<A>>,
     dialogue: Option<&'m [u8]>,
 ) -> PortionVerdict<'m>
     ensures verdict { portion_view result ≡ portion_verdict (phase_view phase.now) (context_view context.now) (option_copied dialogue.entry) }

@@ -89,7 +89,7 @@ fn write_pdu<A: Allocator + Copy>(
 }
 
 /// The octets of an Abort, for which nothing but memory can be wanting.
-#[tactic(auto, using(crate::proofs::ProviderAbortLemmas::abort_short, crate::proofs::ProviderAbortLemmas::abort_writable, crate::proofs::ProviderAbortLemmas::response_short, crate::proofs::ProviderAbortLemmas::response_writable))]
+#[tactic(auto, using(crate::proofs::AbortLemmas::abort_short, crate::proofs::AbortLemmas::abort_writable, crate::proofs::AbortLemmas::response_short, crate::proofs::AbortLemmas::response_writable))]
 fn write_any<A: Allocator + Copy>(alloc: A, abort: &Abort<'_>) -> Result<Vec<u8, A>, PduFault>
     requires { CanWriteAbort abort.now }
     ensures sent { IfOk result (λ octets. Output.send octets.items ≡ abort_sent abort.now) }

@@ -12,25 +12,19 @@ ghost use Rattle.tcap_model.specs.Table.TableMove.{over_with};
 ghost use Rattle.tcap_model.specs.Words.State.{peer_by};
 ghost use Rattle.tcap_pdu.specs.DialoguePlace.{PduInPlace};
 ghost use Rattle.tcap_pdu.specs.DialogueReading.{dialogue_at};
-ghost use Rattle.tcap_pdu.specs.DialogueSpelling.PduValue.{abrt};
 ghost use Rattle.tcap_pdu.specs.DialogueViews.{pdu_value, source};
-ghost use Rattle.tcap_pdu.specs.DialogueWritten.{written_dialogue};
 ghost use Rattle.tcap_pdu.specs.FramePortions.{reason_slice};
-ghost use Rattle.tcap_pdu.specs.FrameSpelling.{Message, Reason};
 ghost use Rattle.tcap_pdu.specs.FrameViews.{reason_of};
-ghost use Rattle.tcap_pdu.specs.FrameWritten.{written_frame};
 
 use super::ending::tell_ended;
 use super::{Dialogue, Step};
 use crate::output::{Output, Why};
+use crate::provider_abort::{Abort, write_abort};
 use crate::state::Phase;
 use ber_core::OutOfMemory;
 use std::alloc::Allocator;
 use tcap_pdu::dialogue_tag::NO_COMMON_DIALOGUE_PORTION;
-use tcap_pdu::{
-    AbortPart, Diagnostic, DialoguePdu, Frame, PduFault, TransId, read_dialogue, write_dialogue,
-    write_frame,
-};
+use tcap_pdu::{AbortPart, Diagnostic, DialoguePdu, TransId, read_dialogue};
 
 /// What an Abort to a dialogue tells (Q.774, Abort by the user; Q.774, Abort by the provider).
 pub fn abort_told<'m, A: Allocator>(dialogue: u32, reason: &AbortPart<'m>) -> Output<'m, A>
@@ -121,44 +115,6 @@ fn is_no_common(diagnostic: Diagnostic) -> bool
     }
 }
 
-/// The contents of a dialogue portion with an ABRT by the provider.
-#[tactic(auto, using(crate::proofs::AbortLemmas::abrt_not_long, crate::proofs::AbortLemmas::abrt_informed))]
-fn provider_abort<A: Allocator + Copy>(alloc: A) -> Result<Vec<u8, A>, OutOfMemory>
-    ensures { IfOk result (λ octets. octets.items ≡ written_dialogue (abrt true [])) }
-{
-    let pdu = DialoguePdu::Abrt {
-        by_provider: true,
-        info: &[],
-    };
-    match write_dialogue(alloc, &pdu) {
-        Ok(octets) => Ok(octets),
-        Err(PduFault::OutOfMemory) => Err(OutOfMemory),
-        Err(PduFault::TooLong) => unreachable!(),
-        Err(PduFault::BadOid) => unreachable!(),
-        Err(PduFault::BadInfo) => unreachable!(),
-    }
-}
-
-/// The Abort to the peer of a message whose dialogue portion is abnormal; it always fits
-/// (Q.774, Abnormal procedures relating to dialogue control).
-#[tactic(auto, using(crate::proofs::AbortLemmas::abort_short))]
-fn abnormal_abort<A: Allocator + Copy>(alloc: A, peer: &TransId) -> Result<Vec<u8, A>, OutOfMemory>
-    ensures { IfOk result (λ octets. octets.items ≡ written_frame (Message.abort peer.now (Reason.portion (written_dialogue (abrt true []))))) }
-{
-    let portion = provider_abort(alloc)?;
-    let frame = Frame::Abort {
-        dtid: peer.copied(),
-        reason: AbortPart::Dialogue(&portion),
-    };
-    match write_frame(alloc, &frame) {
-        Ok(octets) => Ok(octets),
-        Err(PduFault::OutOfMemory) => Err(OutOfMemory),
-        Err(PduFault::TooLong) => unreachable!(),
-        Err(PduFault::BadOid) => unreachable!(),
-        Err(PduFault::BadInfo) => unreachable!(),
-    }
-}
-
 /// The peer of a Continue: the one known, or else its originator (Q.774, Transaction state machine).
 fn peer_by<'a>(phase: &'a Phase, origin: &'a TransId) -> &'a TransId
     ensures { result.now ≡ peer_by (phase_view phase.now) origin.now }
@@ -189,7 +145,7 @@ impl<A: Allocator + Copy> Dialogue<A> {
     }
 
     /// An Abort: it tells why, and the dialogue is over, whatever its state is.
-    pub(super) fn take_abort<'m>(
+    pub(super) fn receive_abort<'m>(
         &mut self,
         reason: &AbortPart<'m>,
     ) -> Result<Step<'m, A>, OutOfMemory>
@@ -225,7 +181,8 @@ impl<A: Allocator + Copy> Dialogue<A> {
         ensures place { (portion : Option Slice) (components : Slice) → IfOk result (λ s. AllInPlace portion components s.outputs.items) }
     {
         let alloc = *self.queue.octets.allocator();
-        let octets = abnormal_abort(alloc, peer_by(&self.phase, origin))?;
+        let peer = peer_by(&self.phase, origin).copied();
+        let octets = write_abort(alloc, &Abort::Abnormal { peer })?;
         let count = self.invocations.open_count().saturating_add(2);
         let mut outputs = Vec::with_capacity(alloc, count)?;
         outputs.push_reserved(Output::Send(octets));

@@ -131,7 +131,7 @@ impl<A: Allocator + Copy> Dialogue<A> {
     }
 
     /// A Continue (Q.774, Dialogue continuation).
-    fn take_continue<'m>(
+    fn receive_continue<'m>(
         &mut self,
         origin: &TransId,
         dialogue: Option<&'m [u8]>,
@@ -153,7 +153,7 @@ impl<A: Allocator + Copy> Dialogue<A> {
     }
 
     /// An End (Q.774, Dialogue end).
-    fn take_end<'m>(
+    fn receive_end<'m>(
         &mut self,
         dialogue: Option<&'m [u8]>,
         components: &'m [u8],
@@ -174,7 +174,7 @@ impl<A: Allocator + Copy> Dialogue<A> {
     }
 
     /// The same as `take_frame`, message by message.
-    fn take_message<'m>(
+    fn receive_message<'m>(
         &mut self,
         frame: &Frame<'m>,
         clock: u64,
@@ -191,13 +191,13 @@ impl<A: Allocator + Copy> Dialogue<A> {
                 dialogue,
                 components,
                 ..
-            } => self.take_continue(otid, *dialogue, components, clock),
+            } => self.receive_continue(otid, *dialogue, components, clock),
             Frame::End {
                 dialogue,
                 components,
                 ..
-            } => self.take_end(*dialogue, components, clock),
-            Frame::Abort { reason, .. } => self.take_abort(reason),
+            } => self.receive_end(*dialogue, components, clock),
+            Frame::Abort { reason, .. } => self.receive_abort(reason),
             Frame::Uni { .. } | Frame::Begin { .. } => Ok(Step {
                 outputs: Vec::new(*self.queue.octets.allocator()),
                 over: false,
@@ -223,7 +223,7 @@ impl<A: Allocator + Copy> Dialogue<A> {
         // The slices that are told are the parts of the message, and no equal octets elsewhere.
         ensures place { IfOk result (λ s. FrameTold frame.now s.outputs.items) }
     {
-        self.take_message(frame, clock)
+        self.receive_message(frame, clock)
     }
 
     /// A faulty message names the dialogue: TC-P-ABORT with this P-Abort cause, 0 to 127, and the

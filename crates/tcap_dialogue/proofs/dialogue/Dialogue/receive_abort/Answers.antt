@@ -1,7 +1,7 @@
 use Rattle.std.proofs.Common.{rules, ◌≡◌, sym, subst}
 use Rattle.tcap_dialogue.specs.Slices.{AllInPlace}
 use Rattle.tcap_pdu.specs.FramePortions.{reason_slice}
-use Rattle.tcap_dialogue.proofs.dialogue.Dialogue.take_abort.Goals as goal
+use Rattle.tcap_dialogue.proofs.dialogue.Dialogue.receive_abort.Goals as goal
 
 pub returns-clause-place : goal.returns-clause-place
 returns-clause-place g c components =
