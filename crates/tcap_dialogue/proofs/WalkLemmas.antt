@@ -5,7 +5,7 @@ use Rattle.tcap_component.specs.Component.ComponentParts.{invoke, result_last, e
 use Rattle.tcap_invocation.specs.Class.{Received}
 use Rattle.tcap_invocation.specs.Closing.{ended_at}
 use Rattle.tcap_invocation.proofs.CallerLemmas.{ended_at-after_received, ended_at-after_reject}
-use Rattle.tcap_model.specs.Procedures.ComponentHandling.{Item, Handled, handled, subject_of}
+use Rattle.tcap_model.specs.Procedures.ComponentHandling.{Item, Handled, handled, subject_of, uni_told}
 use Rattle.tcap_model.specs.Procedures.QueueRules.{Queued, queue_limit, queue_each}
 use Rattle.tcap_model.specs.Table.Dialogue.{sent_by_rows}
 use Rattle.tcap_model.specs.Table.TableMove.{Walked, walked, walked_before, reject_queued, after_item, ended_told}
@@ -93,3 +93,13 @@ tell_next d number id outputs all list rest more left =
     ap (λ (os : List Output). os ++ ended_told d rest) (shown_push outputs all (output.Ended d number id) more)
     ∙ append_assoc (all_shown outputs) (told ∷ []) (ended_told d rest)
     ∙ ap (λ (es : List (ℕ × ℤ)). all_shown outputs ++ map (λ e. Output.component (ComponentIndication.closed d e.0 e.1 Closing.ended)) es) (sym left)
+
+-- One component more of a Unidirectional.
+pub alone_next : {A : Type 0} → (outputs all : List (code.Output A)) (o : code.Output A) (item : Item) (items_new items : List Item) →
+    items ≡ item ∷ items_new → shown o ≡ (handled None None item).told → all ≡ outputs ++ o ∷ [] →
+    all_shown all ++ uni_told items_new ≡ all_shown outputs ++ uni_told items
+alone_next outputs all o item items_new items first by more =
+    ap (λ (os : List Output). os ++ uni_told items_new) (shown_push outputs all o more)
+    ∙ append_assoc (all_shown outputs) (shown o ∷ []) (uni_told items_new)
+    ∙ ap (λ (x : Output). all_shown outputs ++ (x ∷ uni_told items_new)) by
+    ∙ ap (λ (is : List Item). all_shown outputs ++ uni_told is) (sym first)

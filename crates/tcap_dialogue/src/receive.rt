@@ -1,7 +1,7 @@
 //! The components of a message, one by one.
 
 ghost use Rattle.std.specs.Option.{option_map};
-ghost use Rattle.std.specs.Prelude.{◌≡◌, ◌+◌, ◌*◌, ◌≤◌, Option, length, vec_len, vec_capacity};
+ghost use Rattle.std.specs.Prelude.{◌≡◌, ◌+◌, ◌*◌, ◌≤◌, ◌++◌, Option, length, vec_len, vec_capacity};
 ghost use Rattle.ber_core.specs.Place.{Slice};
 ghost use Rattle.tcap_component.specs.ComponentReading.{components_of};
 ghost use Rattle.tcap_dialogue.specs.HandledViews.{reject_parts};
@@ -10,9 +10,11 @@ ghost use Rattle.tcap_dialogue.specs.QueueViews.{queue_view};
 ghost use Rattle.tcap_dialogue.specs.Slices.{AllInPlace};
 ghost use Rattle.tcap_dialogue.specs.Walking.{done_from, told_from, with_reject};
 ghost use Rattle.tcap_invocation.specs.Closing.{ended_at};
+ghost use Rattle.tcap_model.specs.Procedures.ComponentHandling.{uni_told};
 ghost use Rattle.tcap_invocation.specs.Stage.{moment_limit};
 
 use crate::handling::Reject;
+use crate::handling::alone::take_alone;
 use crate::handling::taken::take_item;
 use crate::output::Output;
 use crate::queue::Queue;
@@ -87,5 +89,19 @@ pub fn walk_ending<'m, A: Allocator + Copy>(
     for item in Components::new(components) {
         let handled = take_item(invocations, dialogue, clock, item);
         outputs.push_reserved(handled.told);
+    }
+}
+
+/// Tells the components of a Unidirectional; there is room for them (Q.774, Unstructured dialogue).
+pub fn walk_alone<'m, A: Allocator + Copy>(
+    components: &'m [u8],
+    outputs: &mut Vec<Output<'m, A>, A>,
+)
+    requires outputs { vec_len outputs.old + length (components_of components.now) ≤ vec_capacity outputs.old }
+    ensures told { all_shown outputs.new.items ≡ all_shown outputs.old.items ++ uni_told (components_of components.now) }
+    ensures place { (portion : Option Slice) → AllInPlace portion components.entry outputs.old.items → AllInPlace portion components.entry outputs.new.items }
+{
+    for item in Components::new(components) {
+        outputs.push_reserved(take_alone(item));
     }
 }
