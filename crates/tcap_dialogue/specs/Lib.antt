@@ -2,6 +2,7 @@ pub mod AbortViews
 pub mod Aborting
 pub mod ComponentRefusals
 pub mod ControlViews
+pub mod Beginning
 pub mod FaultText
 pub mod FaultViews
 pub mod HandledViews

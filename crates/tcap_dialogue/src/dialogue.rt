@@ -3,6 +3,7 @@ pub(crate) mod control_changes;
 pub(crate) mod control_faults;
 pub(crate) mod dialogue_requests;
 pub(crate) mod abort;
+pub(crate) mod beginning;
 pub(crate) mod ending;
 pub(crate) mod judging;
 pub(crate) mod opening;

@@ -20,6 +20,7 @@ mod request;
 mod sending;
 mod state;
 
+pub use dialogue::beginning::take_uni;
 pub use dialogue::{Dialogue, Step};
 pub use fault::Fault;
 pub use output::{By, DropWhy, Output, Why};

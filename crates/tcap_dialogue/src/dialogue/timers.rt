@@ -1,14 +1,27 @@
 //! What lapses with time, invocation by invocation.
 
-ghost use Rattle.std.specs.Prelude.{◌≡◌, ◌∷◌, length, IfSome};
+ghost use Rattle.std.specs.Prelude.{◌≡◌, ◌≢◌, [], ◌∷◌, length, IfSome, IfOk, OnOk, OnErr};
 ghost use Rattle.tcap_invocation.specs.Lapses.{due_at, told_at, first_due_at, lapse_at, after_lapse, after_lapse_one, after_free_due};
 ghost use Rattle.tcap_model.specs.Table.Dialogue.{with_invocations};
 
 use super::Dialogue;
+use ber_core::OutOfMemory;
 use std::alloc::Allocator;
 use tcap_invocation::Lapse;
 
 impl<A: Allocator + Copy> Dialogue<A> {
+    /// The clock is at this moment: takes out each Sent invocation whose deadline is at most the clock,
+    /// told by deadline, then number, and untold each identifier whose wait is over by then
+    /// (TC-L-CANCEL indication).
+    pub fn lapse(&mut self, clock: u64) -> Result<Vec<Lapse, A>, OutOfMemory>
+        ensures told { IfOk result (λ lapses. lapses.items ≡ told_at clock self.old.invocations.rows) }
+        ensures dialogue { OnOk result (self.new ≡ with_invocations self.old (after_lapse self.old.invocations clock)) }
+        ensures err { OnErr result (self.new ≡ self.old) }
+        ensures memory { OnErr result (told_at clock self.old.invocations.rows ≢ []) }
+    {
+        self.invocations.lapse(clock)
+    }
+
     /// How many Sent invocations have a deadline at most the clock.
     pub fn due_count(&self, clock: u64) -> usize
         ensures { result ≡ length (due_at clock self.now.invocations.rows) }
