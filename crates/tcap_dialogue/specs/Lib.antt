@@ -1,8 +1,8 @@
 pub mod AbortViews
 pub mod Aborting
+pub mod Beginning
 pub mod ComponentRefusals
 pub mod ControlViews
-pub mod Beginning
 pub mod FaultText
 pub mod FaultViews
 pub mod HandledViews

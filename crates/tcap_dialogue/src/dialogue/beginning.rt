@@ -1,20 +1,22 @@
 //! What gives birth to a dialogue, or has none: a Begin and a Unidirectional.
 
-ghost use Rattle.std.specs.Prelude.{◌≡◌, ℕ, ◌∷◌, ◌≤◌, Option, Some, option_copied, IfOk, OnOk};
+ghost use Rattle.std.specs.Prelude.{◌≡◌, ℕ, ◌∷◌, ◌≤◌, Option, true, option_copied, IfOk, IfSome};
+ghost use Rattle.ber_core.specs.ObjectIdentifier.{IsObjectIdentifier};
 ghost use Rattle.ber_core.specs.Place.{Slice};
 ghost use Rattle.tcap_component.specs.ComponentReading.{components_of};
 ghost use Rattle.tcap_dialogue.specs.Beginning.{Given, GivenIn, begun, begun_from, context_given, info_given, context_slice};
 ghost use Rattle.tcap_dialogue.specs.OutputViews.{all_shown};
 ghost use Rattle.tcap_dialogue.specs.Slices.{AllInPlace, HeldIn};
-ghost use Rattle.tcap_dialogue.specs.StateViews.{context_view};
 ghost use Rattle.tcap_dialogue.specs.StepViews.{at_clock, outcome};
 ghost use Rattle.tcap_invocation.specs.Stage.{moment_limit};
 ghost use Rattle.tcap_model.specs.Procedures.ComponentHandling.{uni_told};
+ghost use Rattle.tcap_model.specs.Procedures.Refusals.{can_name};
 ghost use Rattle.tcap_model.specs.Table.TableMove.{born};
 ghost use Rattle.tcap_model.specs.Words.Output as model;
 ghost use Rattle.tcap_model.specs.Words.Output.{DialogueIndication};
 
 use super::Dialogue;
+use crate::context::Context;
 use crate::output::Output;
 use crate::receive::{count_items, walk, walk_alone};
 use crate::state::Phase;
@@ -22,24 +24,10 @@ use ber_core::OutOfMemory;
 use std::alloc::Allocator;
 use tcap_pdu::TransId;
 
-/// A copy of the contents octets of an application context name.
-fn context_copied<A: Allocator + Copy>(
-    alloc: A,
-    context: Option<&[u8]>,
-) -> Result<Option<Vec<u8, A>>, OutOfMemory>
-    ensures { IfOk result (λ copy. context_view copy ≡ option_copied context.entry) }
-{
-    let Some(octets) = context else {
-        return Ok(None);
-    };
-    let mut copy = Vec::with_capacity(alloc, octets.len())?;
-    copy.extend_from_slice(octets)?;
-    Ok(Some(copy))
-}
-
 /// The context and the information of an AARQ or an AUDT, empty where there is none.
 fn parts_of<'m>(pdu: Option<(&'m [u8], &'m [u8])>) -> (Option<&'m [u8]>, &'m [u8])
     ensures context { result.0 ≡ context_slice pdu.entry }
+    ensures given { option_copied result.0 ≡ context_given pdu.entry }
     ensures info { result.1.now ≡ info_given pdu.entry }
     ensures place { (tag : ℕ) (portion : Option Slice) → GivenIn tag pdu.entry portion → HeldIn tag result.0 result.1 portion }
 {
@@ -60,7 +48,8 @@ impl<A: Allocator + Copy> Dialogue<A> {
         components: &'m [u8],
         clock: u64,
     ) -> Result<Vec<Output<'m, A>, A>, OutOfMemory>
-        requires { clock ≤ moment_limit }
+        requires clock { clock ≤ moment_limit }
+        requires named { can_name (option_copied context) ≡ true }
         ensures ok { IfOk result (λ outputs. begun outputs.items self.new ≡ outcome (begun_from clock self.old otid.now (option_copied context.entry) info.now components.now)) }
         ensures place { (portion : Option Slice) → HeldIn 0x60 context.entry info.entry portion → IfOk result (λ outputs. AllInPlace portion components.entry outputs.items) }
     {
@@ -68,7 +57,7 @@ impl<A: Allocator + Copy> Dialogue<A> {
         let items = count_items(components);
         let mut outputs = Vec::with_capacity(alloc, items.saturating_add(1))?;
         self.queue.reserve_rejects(items)?;
-        self.context = context_copied(alloc, context)?;
+        self.context = Context::of_any(alloc, context)?;
         outputs.push_reserved(Output::Begin {
             dialogue: self.identifier,
             context,
@@ -90,6 +79,7 @@ impl<A: Allocator + Copy> Dialogue<A> {
     /// `reject_ms` and `clock` are at most 2^62 milliseconds, `otid` is the originator, `aarq` the
     /// contents octets of the application context name and the user information of its AARQ, if it has
     /// one, and `components` the contents of its component portion (Q.774, Dialogue begin).
+    #[tactic(auto, using(crate::proofs::PortionNames::named_given))]
     pub fn accept<'m>(
         alloc: A,
         identifier: u32,
@@ -101,6 +91,7 @@ impl<A: Allocator + Copy> Dialogue<A> {
     ) -> Result<(Dialogue<A>, Vec<Output<'m, A>, A>), OutOfMemory>
         requires reject { reject_ms ≤ moment_limit }
         requires clock { clock ≤ moment_limit }
+        requires named { IfSome aarq (λ a. IsObjectIdentifier a.0.now) }
         // What is told, and the dialogue.
         ensures ok { IfOk result (λ r. begun r.1.items r.0 ≡ outcome (born (at_clock clock) identifier reject_ms otid.now (context_given aarq.entry) (info_given aarq.entry) components.now)) }
         // The slices that are told are those that were given, and parts of the component portion.

@@ -5,13 +5,15 @@ ghost use Rattle.ber_core.specs.Place.{Slice};
 ghost use Rattle.tcap_dialogue.specs.OutputViews.{cause_view};
 ghost use Rattle.tcap_dialogue.specs.PortionViews.{portion_view, PortionIn};
 ghost use Rattle.tcap_dialogue.specs.QueueViews.{queue_view};
-ghost use Rattle.tcap_dialogue.specs.Slices.{AllInPlace, FrameTold, HeldIn};
+ghost use Rattle.tcap_dialogue.specs.Slices.{AllInPlace, HeldIn};
 ghost use Rattle.tcap_dialogue.specs.StateViews.{phase_view};
 ghost use Rattle.tcap_dialogue.specs.StepViews.{at_clock, outcome, stepped};
 ghost use Rattle.tcap_invocation.specs.Stage.{moment_limit};
-ghost use Rattle.tcap_model.specs.Procedures.PortionRules.{PortionVerdict, portion_verdict};
-ghost use Rattle.tcap_model.specs.Table.TableMove.{DialogueEvent, continued_by, ended_by, framed, table_move, walked_in};
+ghost use Rattle.tcap_model.specs.Procedures.PortionRules.{portion_verdict};
+ghost use Rattle.tcap_model.specs.Procedures.PortionRules.PortionVerdict.{normal};
+ghost use Rattle.tcap_model.specs.Table.TableMove.{DialogueEvent, Setting, continued_by, ended_by, framed, table_move, walked_in};
 ghost use Rattle.tcap_model.specs.Words.State.{State, peer_by};
+ghost use Rattle.tcap_pdu.specs.FramePortions.{dialogue_slice, components_slice};
 ghost use Rattle.tcap_pdu.specs.FrameViews.{message};
 
 use super::ending::tell_ended;
@@ -60,7 +62,7 @@ impl<A: Allocator + Copy> Dialogue<A> {
         clock: u64,
     ) -> Result<Step<'m, A>, OutOfMemory>
         requires { clock ≤ moment_limit }
-        ensures ok { IfOk result (λ s. stepped s self.new ≡ outcome (continued_by (at_clock clock) self.old origin.now (PortionVerdict.normal (option_copied context.entry) info.now) (walked_in clock self.old components.now))) }
+        ensures ok { IfOk result (λ s. stepped s self.new ≡ outcome (continued_by (at_clock clock) self.old origin.now (normal (option_copied context.entry) info.now) (walked_in clock self.old components.now))) }
         ensures err { OnErr result (self.new ≡ self.old) }
         ensures kept { self.new.standing.identifier ≡ self.old.standing.identifier }
         ensures place { (portion : Option Slice) → HeldIn 0x61 context.entry info.entry portion → IfOk result (λ s. AllInPlace portion components.entry s.outputs.items) }
@@ -101,7 +103,7 @@ impl<A: Allocator + Copy> Dialogue<A> {
         clock: u64,
     ) -> Result<Step<'m, A>, OutOfMemory>
         requires { clock ≤ moment_limit }
-        ensures ok { IfOk result (λ s. stepped s self.new ≡ outcome (ended_by self.old (PortionVerdict.normal (option_copied context.entry) info.now) (walked_in clock self.old components.now))) }
+        ensures ok { IfOk result (λ s. stepped s self.new ≡ outcome (ended_by self.old (normal (option_copied context.entry) info.now) (walked_in clock self.old components.now))) }
         ensures err { OnErr result (self.new ≡ self.old) }
         ensures kept { self.new.standing.identifier ≡ self.old.standing.identifier }
         ensures place { (portion : Option Slice) → HeldIn 0x61 context.entry info.entry portion → IfOk result (λ s. AllInPlace portion components.entry s.outputs.items) }
@@ -183,7 +185,7 @@ impl<A: Allocator + Copy> Dialogue<A> {
         ensures ok { IfOk result (λ s. stepped s self.new ≡ outcome (framed (at_clock clock) self.old (message frame.now))) }
         ensures err { OnErr result (self.new ≡ self.old) }
         ensures kept { self.new.standing.identifier ≡ self.old.standing.identifier }
-        ensures place { IfOk result (λ s. FrameTold frame.now s.outputs.items) }
+        ensures place { (other : Slice) → IfOk result (λ s. AllInPlace (dialogue_slice frame.now) (unwrap_or (components_slice frame.now) other) s.outputs.items) }
     {
         match frame {
             Frame::Continue {
@@ -221,7 +223,7 @@ impl<A: Allocator + Copy> Dialogue<A> {
         // The identifier stays, also of one that is over.
         ensures kept { self.new.standing.identifier ≡ self.old.standing.identifier }
         // The slices that are told are the parts of the message, and no equal octets elsewhere.
-        ensures place { IfOk result (λ s. FrameTold frame.now s.outputs.items) }
+        ensures place { (other : Slice) → IfOk result (λ s. AllInPlace (dialogue_slice frame.now) (unwrap_or (components_slice frame.now) other) s.outputs.items) }
     {
         self.receive_message(frame, clock)
     }
@@ -231,7 +233,7 @@ impl<A: Allocator + Copy> Dialogue<A> {
     #[tactic(auto, unfolding(tcap_model::specs::Table::TableMove::table_move))]
     pub fn take_fault<'m>(&mut self, cause: u8) -> Result<Step<'m, A>, OutOfMemory>
         // What is told; the dialogue is over.
-        ensures ok { IfOk result (λ s. stepped s self.new ≡ outcome (table_move (at_clock 0) self.old (DialogueEvent.fault cause))) }
+        ensures ok { (around : Setting) → IfOk result (λ s. stepped s self.new ≡ outcome (table_move around self.old (DialogueEvent.fault cause))) }
         ensures err { OnErr result (self.new ≡ self.old) }
         // The identifier stays, also of one that is over.
         ensures kept { self.new.standing.identifier ≡ self.old.standing.identifier }
