@@ -20,6 +20,7 @@ use Rattle.tcap_dialogue.specs.ComponentRefusals.{spelling_fault, queue_fault, a
 use Rattle.tcap_dialogue.specs.FaultViews.{RefusedBy}
 use Rattle.tcap_dialogue.specs.StepViews.{outcome, asked, requested}
 use Rattle.tcap_dialogue.proofs.RefusalLemmas.{refused}
+use Rattle.tcap_dialogue.proofs.RoomLemmas.{queued_by}
 
 -- No user information is user information.
 pub information-none : is_information [] ≡ true
@@ -30,9 +31,6 @@ information-none = refl
 
 abbrev spelled_by : (code parameter : Bool) → Option Fault
 spelled_by code parameter = if code then (if parameter then None else Some Fault.bad_parameter) else Some Fault.bad_oid
-
-abbrev queued_by : (code parameter room : Bool) → Option Fault
-queued_by code parameter room = if code then (if parameter then (if room then None else Some Fault.too_long) else Some Fault.bad_parameter) else Some Fault.bad_oid
 
 abbrev checked_by : (timely code parameter used : Bool) → Option Fault
 checked_by timely code parameter used =
@@ -80,6 +78,7 @@ due_late true true true false spent false e s = rw (information-none, s) refl
 -- ---- an Invoke
 
 module _ (number : ℕ) (d : Dialogue) (id : ℤ) (class : Class) (code : CodeParts) (parameter : Option (List ℕ)) (linked : Option ℤ) (timeout : ℕ) where
+  -- TC-INVOKE.
   abbrev pub invoking : Request
   invoking = Request.component (ComponentRequest.invoke id class code parameter linked timeout)
 

@@ -29,11 +29,8 @@ long-full queue c e = let above = ltb-true length_limit (length c.octets) e in g
 abbrev written_by : (code parameter long : Bool) → Option WriteFault
 written_by code parameter long = if code then (if parameter then (if long then Some TooLong else None) else Some BadParameter) else Some BadOid
 
-abbrev queued_by : (code parameter room : Bool) → Option Fault
+abbrev pub queued_by : (code parameter room : Bool) → Option Fault
 queued_by code parameter room = if code then (if parameter then (if room then None else Some Fault.too_long) else Some Fault.bad_parameter) else Some Fault.bad_oid
-
-abbrev spelled_by : (code parameter : Bool) → Option Fault
-spelled_by code parameter = if code then (if parameter then None else Some Fault.bad_parameter) else Some Fault.bad_oid
 
 same_fault : (f g : WriteFault) → Some f ≡ Some g → Some (written_fault f) ≡ Some (written_fault g)
 same_fault f g e = ap (λ (x : WriteFault). Some (written_fault x)) (some_is f g e)

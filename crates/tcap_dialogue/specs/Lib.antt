@@ -1,5 +1,6 @@
 pub mod AbortViews
 pub mod Aborting
+pub mod AskViews
 pub mod Beginning
 pub mod ComponentRefusals
 pub mod ControlViews

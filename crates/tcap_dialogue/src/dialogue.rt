@@ -1,3 +1,4 @@
+pub(crate) mod ask;
 pub(crate) mod component_requests;
 pub(crate) mod control_changes;
 pub(crate) mod control_faults;

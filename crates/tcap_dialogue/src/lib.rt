@@ -21,6 +21,7 @@ mod sending;
 mod state;
 
 pub use dialogue::beginning::take_uni;
+pub use dialogue::ask::Asked;
 pub use dialogue::{Dialogue, Step};
 pub use fault::Fault;
 pub use output::{By, DropWhy, Output, Why};

@@ -1,0 +1,105 @@
+//! Any request on a dialogue.
+
+ghost use Rattle.std.specs.Prelude.{◌≡◌, ◌≤◌};
+ghost use Rattle.tcap_dialogue.specs.AskViews.{IsNumbered, Asks};
+ghost use Rattle.tcap_dialogue.specs.FaultViews.{Answers, Steps, numbered, queued_done, gave_up};
+ghost use Rattle.tcap_dialogue.specs.RequestViews.{request_view};
+ghost use Rattle.tcap_dialogue.specs.StepViews.{Outcome, outcome, asked};
+ghost use Rattle.tcap_invocation.specs.Stage.{moment_limit};
+ghost use Rattle.tcap_model.specs.Table.Dialogue as model;
+ghost use Rattle.tcap_model.specs.Table.TableMove.{DialogueEvent, table_move};
+
+use super::{Dialogue, Step};
+use crate::fault::Fault;
+use crate::request::Request;
+use std::alloc::{Allocator, Global};
+
+/// What is answered to a request.
+#[derive(Debug, Drop, PartialEq, Eq)]
+pub enum Asked<'m, A: Allocator = Global> {
+    /// TC-INVOKE: the number of the invocation.
+    Number(u64),
+    /// A component was queued.
+    Done,
+    /// TC-U-CANCEL: the number of the invocation that was given up.
+    GivenUp(u64),
+    /// A request of dialogue handling: what is sent and told.
+    Step(Step<'m, A>),
+}
+
+impl<A: Allocator + Copy> Dialogue<A> {
+    /// Any request, at this moment of the caller's clock, in milliseconds, at most 2^62. `number` is what
+    /// an Invoke gets.
+    #[tactic(auto, unfolding(tcap_model::specs::Table::TableMove::table_move))]
+    pub fn ask<'m>(
+        &mut self,
+        clock: u64,
+        number: u64,
+        request: &Request<'_>,
+    ) -> Result<Asked<'m, A>, Fault>
+        requires clock { clock ≤ moment_limit }
+        requires number { IsNumbered number self.old.invocations.rows (request_view request.now) }
+        ensures answer { Asks result (outcome (table_move (asked clock number) self.old (DialogueEvent.request (request_view request.now)))) self.old self.new }
+        ensures kept { self.new.standing.identifier ≡ self.old.standing.identifier }
+    {
+        match *request {
+            Request::Invoke {
+                id,
+                class,
+                code,
+                parameter,
+                linked,
+                timeout_ms,
+            } => of_number(self.invoke(number, id, class, code, parameter, linked, timeout_ms)),
+            Request::ResultLast { id, body } => of_queued(self.result_last(id, body)),
+            Request::ResultMore { id, body } => of_queued(self.result_more(id, body)),
+            Request::ErrorBack {
+                id,
+                code,
+                parameter,
+            } => of_queued(self.error_back(id, code, parameter)),
+            Request::Reject { id, problem } => of_queued(self.u_reject(id, problem)),
+            Request::Cancel { id } => of_cancel(self.u_cancel(id)),
+            Request::Uni { context, info } => of_step(self.uni(context, info)),
+            Request::Begin { context, info } => of_step(self.begin(context, info, clock)),
+            Request::Continue { context, info } => of_step(self.go_on(context, info, clock)),
+            Request::End {
+                ending,
+                context,
+                info,
+            } => of_step(self.finish(ending, context, info)),
+            Request::Abort { why, info } => of_step(self.u_abort(why, info)),
+        }
+    }
+}
+
+/// The answer to TC-INVOKE.
+fn of_number<'m, A: Allocator + Copy>(answer: Result<u64, Fault>) -> Result<Asked<'m, A>, Fault>
+    ensures { (o : Outcome) (old new : model.Dialogue) → Answers numbered answer o old new → Asks result o old new }
+{
+    Ok(Asked::Number(answer?))
+}
+
+/// The answer where a component is queued.
+fn of_queued<'m, A: Allocator + Copy>(answer: Result<(), Fault>) -> Result<Asked<'m, A>, Fault>
+    ensures { (o : Outcome) (old new : model.Dialogue) → Answers queued_done answer o old new → Asks result o old new }
+{
+    answer?;
+    Ok(Asked::Done)
+}
+
+/// The answer to TC-U-CANCEL.
+fn of_cancel<'m, A: Allocator + Copy>(answer: Result<u64, Fault>) -> Result<Asked<'m, A>, Fault>
+    ensures { (o : Outcome) (old new : model.Dialogue) → Answers gave_up answer o old new → Asks result o old new }
+{
+    Ok(Asked::GivenUp(answer?))
+}
+
+/// The answer to a request of dialogue handling.
+fn of_step<'m, A: Allocator + Copy>(
+    answer: Result<Step<'m, A>, Fault>,
+) -> Result<Asked<'m, A>, Fault>
+    ensures { (o : Outcome) (old new : model.Dialogue) → Steps answer.entry o old new → Asks result o old new }
+{
+    Ok(Asked::Step(answer?))
+}
