@@ -1,4 +1,5 @@
 pub mod AbortLemmas
+pub mod AskedLemmas
 pub mod CancelLemmas
 pub mod ComponentRequestLemmas
 pub mod ControlLemmas

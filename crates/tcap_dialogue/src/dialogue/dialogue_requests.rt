@@ -1,6 +1,6 @@
 //! The requests of dialogue handling.
 
-ghost use Rattle.std.specs.Prelude.{◌≡◌, ◌≤◌, option_copied};
+ghost use Rattle.std.specs.Prelude.{◌≡◌, ◌≤◌, ℕ, option_copied};
 ghost use Rattle.tcap_dialogue.specs.ControlViews.{control_view};
 ghost use Rattle.tcap_dialogue.specs.FaultViews.{Steps};
 ghost use Rattle.tcap_dialogue.specs.RequestViews.{ending_view, reason_view};
@@ -16,9 +16,16 @@ use std::alloc::Allocator;
 
 impl<A: Allocator + Copy> Dialogue<A> {
     /// A request of dialogue handling at this moment: the first due fault, or it goes through.
-    fn control<'m>(&mut self, control: &Control<'_>, clock: u64) -> Result<Step<'m, A>, Fault>
+    #[tactic(auto, using(crate::proofs::AskedLemmas::any_number))]
+    pub(super) fn control<'m>(
+        &mut self,
+        control: &Control<'_>,
+        clock: u64,
+    ) -> Result<Step<'m, A>, Fault>
         requires { clock ≤ moment_limit }
         ensures step { Steps result (requested clock 0 self.old (Request.dialogue (control_view control.now))) self.old self.new }
+        // Whatever number an invocation would get.
+        ensures any { (number : ℕ) → Steps result (requested clock number self.old (Request.dialogue (control_view control.now))) self.old self.new }
         ensures kept { self.new.standing.identifier ≡ self.old.standing.identifier }
     {
         if let Some(fault) = self.control_fault(control) {
