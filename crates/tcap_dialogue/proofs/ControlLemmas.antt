@@ -1,5 +1,5 @@
 -- The first due fault of a request of dialogue handling, and what it gives.
-use Rattle.std.proofs.Common.{◌≡◌, ◌&&◌, Bool, true, false, not, List, [], ◌∷◌, Option, Some, None, refl}
+use Rattle.std.proofs.Common.{◌≡◌, ◌&&◌, Bool, true, false, not, List, [], ◌∷◌, Some, refl}
 use Rattle.tcap_model.specs.Words.Fault.{Fault}
 use Rattle.tcap_model.specs.Procedures.Refusals.{Situation, can_name, context_given, due_on, first_that, has_bad_oid, has_bad_parameter, holds, information_given}
 use Rattle.tcap_model.specs.Words.Request.{DialogueRequest, Request}

@@ -1,10 +1,9 @@
 -- The message of a request: whether it is above the limit, by the length of its dialogue portion.
-use Rattle.std.proofs.Common.{◌≡◌, ◌≢◌, ℕ, zero, suc, ◌<◌, ◌≤◌, Bool, true, false, not, nat_lt, nat_le, IsTrue, ◌↔◌, List, [], ◌∷◌, length, Option, Some, None, Result, Ok, Err, unwrap_or, option_map, if◌then◌else◌, refl, sym, ap, ◌∙◌, arith}
+use Rattle.std.proofs.Common.{◌≡◌, ◌≢◌, ℕ, ◌<◌, ◌≤◌, Bool, true, false, not, nat_lt, IsTrue, ◌↔◌, List, [], ◌∷◌, length, Option, Some, None, Ok, option_map, refl, sym, ap, ◌∙◌, arith}
 use Rattle.std.specs.Result.{result_ok}
 use Rattle.std.proofs.lemmas.Bool.{ltb-true}
 use Rattle.std.proofs.lemmas.Bool.Decides.{nat_tests}
 use Rattle.tcap_pdu.specs.declared.fault.PduFault.{PduFault}
-use Rattle.tcap_pdu.specs.declared.fault.PduFault.TheVariants.{TooLong}
 use Rattle.tcap_pdu.specs.DialogueDue.{content_fault, due_fault, length_at, or_long, unless}
 use Rattle.tcap_pdu.specs.DialogueSpelling.{PduValue}
 use Rattle.ber_core.specs.ElementReading.{element_at}

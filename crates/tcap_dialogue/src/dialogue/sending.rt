@@ -76,11 +76,7 @@ impl<A: Allocator + Copy> Dialogue<A> {
     }
 
     /// The End with the queue, once the peer is known.
-    fn end_sending<'a>(
-        &'a self,
-        context: Option<&'a [u8]>,
-        info: &'a [u8],
-    ) -> Option<Sending<'a>>
+    fn end_sending<'a>(&'a self, context: Option<&'a [u8]>, info: &'a [u8]) -> Option<Sending<'a>>
         ensures message { option_map sending_view result ≡ end_message self.now.standing self.now.standing.state (answer_portion self.now.standing.state self.now.standing.context (option_copied context.entry) info.now) }
         ensures sound { CanBear (option_copied context.entry) info.now result }
     {

@@ -1,4 +1,4 @@
-use Rattle.std.proofs.Common.{rules, arith, ◌≡◌, ◌<◌, ◌∙◌, ap, length}
+use Rattle.std.proofs.Common.{rules, ◌<◌, ◌∙◌, length}
 use Rattle.tcap_dialogue.proofs.CutLemmas.{alone-filled}
 use Rattle.tcap_dialogue.proofs.queue.Queue.can_go_alone.Goals as goal
 

@@ -1,4 +1,4 @@
-use Rattle.std.proofs.Common.{◌≡◌, ◌∙◌, sym, ap, Option, Some, None, IfSome, not}
+use Rattle.std.proofs.Common.{◌≡◌, ◌∙◌, sym, ap, Option, Some, None}
 use Rattle.tcap_pdu.specs.declared.dialogue_pdu.DialoguePdu.{DialoguePdu}
 use Rattle.tcap_pdu.specs.DialogueDue.{content_fault}
 use Rattle.tcap_pdu.specs.DialogueViews.{pdu_value}
