@@ -27,8 +27,17 @@ response_counts : (context : List ℕ) → length context ≤ 255 → portion_le
 unfolding portion_length
 response_counts context most =
     let n = length context in
-    omega (arith, most, external_most (opening_length n + answer_length + 0), element_most 2, element_most n, element_most (element_length n),
-        element_most 1, element_most (element_length 1), element_most (element_length (element_length 1)))
+    omega (
+      arith,
+      most,
+      external_most (opening_length n + answer_length + 0),
+      element_most 2,
+      element_most n,
+      element_most (element_length n),
+      element_most 1,
+      element_most (element_length 1),
+      element_most (element_length (element_length 1)),
+    )
 
 -- An AARE that names the context of an AARQ has at most 1,000 octets.
 pub response_short : (context : List ℕ) → IsObjectIdentifier context → length (written_dialogue (aare true context false (Source.provider 2) [])) ≤ 1000

@@ -1,19 +1,15 @@
+pub(crate) mod abort;
 pub(crate) mod ask;
+pub(crate) mod beginning;
 pub(crate) mod component_requests;
 pub(crate) mod control_changes;
 pub(crate) mod control_faults;
 pub(crate) mod dialogue_requests;
-pub(crate) mod abort;
-pub(crate) mod beginning;
 pub(crate) mod ending;
 pub(crate) mod judging;
-pub(crate) mod control_changes;
-pub(crate) mod control_faults;
-pub(crate) mod dialogue_requests;
-pub(crate) mod ending;
 pub(crate) mod opening;
-pub(crate) mod sending;
 pub(crate) mod reception;
+pub(crate) mod sending;
 pub(crate) mod timers;
 
 use crate::context::Context;

@@ -14,8 +14,10 @@ use ber_core::OutOfMemory;
 use std::alloc::Allocator;
 use tcap_pdu::dialogue_tag::NO_COMMON_DIALOGUE_PORTION;
 use tcap_pdu::tag::{RESOURCE_LIMITATION, UNRECOGNIZED_TRANSACTION_ID};
-use tcap_pdu::{AbortPart, Diagnostic, DialoguePdu, Frame, FrameFault, PduFault, TransId};
-use tcap_pdu::{write_dialogue, write_frame};
+use tcap_pdu::{
+    AbortPart, Diagnostic, DialoguePdu, Frame, FrameFault, PduFault, TransId, write_dialogue,
+    write_frame,
+};
 
 /// Why the provider aborts by a P-Abort cause (Q.773, P-Abort cause).
 #[derive(Clone, Copy, Debug, PartialEq, Eq)]
@@ -121,7 +123,10 @@ fn write_any<A: Allocator + Copy>(alloc: A, abort: &Abort<'_>) -> Result<Vec<u8,
 
 /// Writes an Abort as it is sent. The context of one for a wrong version is an object identifier, as the
 /// AARQ has it.
-pub fn write_abort<A: Allocator + Copy>(alloc: A, abort: &Abort<'_>) -> Result<Vec<u8, A>, OutOfMemory>
+pub fn write_abort<A: Allocator + Copy>(
+    alloc: A,
+    abort: &Abort<'_>,
+) -> Result<Vec<u8, A>, OutOfMemory>
     requires { CanWriteAbort abort.now }
     ensures { IfOk result (λ octets. Output.send octets.items ≡ abort_sent abort.now) }
 {
