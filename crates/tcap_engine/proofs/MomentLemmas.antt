@@ -117,13 +117,6 @@ dialogues-at now (p ∷ ps) = ap (λ (ds : List Dialogue). at_moment now p.1 ∷
 
 -- ---- the move
 
-pub advanced-by : (w : World) (now : ℕ) → now ≤ moment_limit → w.clock ≤ now → engine_move w (Event.moment now) ≡ advanced w now
-unfolding engine_move
-advanced-by w now late up =
-    let in-time : nat_lt moment_limit now ≡ false = grind (arith, tests, late) in
-    let rising : nat_lt now w.clock ≡ false = grind (arith, tests, up) in
-    rw (in-time, rising) refl
-
 pub some-told : (os : List Output) → 0 < length os → takes_memory (Answer.outputs os) ≡ true
 some-told [] h = absurd (omega (arith, h))
 some-told (o ∷ os) h = refl

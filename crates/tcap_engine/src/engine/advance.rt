@@ -1,9 +1,10 @@
 //! Time.
 
-ghost use Rattle.std.specs.Prelude.{◌≡◌, OnErr};
+ghost use Rattle.std.specs.Prelude.{◌≡◌, ◌≤◌, OnErr};
 ghost use Rattle.tcap_engine.specs.Answering.{EngineAnswers, outputs_answer};
 ghost use Rattle.tcap_engine.specs.HistoryForm.{Stands};
-ghost use Rattle.tcap_model.specs.Table.EngineMove.{engine_move};
+ghost use Rattle.tcap_invocation.specs.Stage.{moment_limit};
+ghost use Rattle.tcap_model.specs.Table.EngineMove.{engine_move, advanced};
 ghost use Rattle.tcap_model.specs.Words.Event.{Event};
 
 use super::Engine;
@@ -35,14 +36,24 @@ impl<A: Allocator + Copy> Engine<A> {
         ensures moves { EngineAnswers outputs_answer result (engine_move self.old (Event.moment now)) self.old self.new }
         ensures err { OnErr result (self.new ≡ self.old) }
     {
-        let alloc = *self.table.allocator();
         if now > MAX_MOMENT {
             return Err(Fault::MomentTooLate);
         }
         if now < self.clock {
-            return Ok(Vec::new(alloc));
+            return Ok(Vec::new(*self.table.allocator()));
         }
-        let mut outputs = Vec::with_capacity(alloc, due_count(&self.table, now))?;
+        self.pass(now)
+    }
+
+    /// The clock moves on to this moment.
+    fn pass<'m>(&mut self, now: u64) -> Result<Vec<Output<'m, A>, A>, Fault>
+        requires late { now ≤ moment_limit }
+        requires up { self.old.clock ≤ now }
+        ensures moves { EngineAnswers outputs_answer result (advanced self.old now) self.old self.new }
+        ensures err { OnErr result (self.new ≡ self.old) }
+    {
+        let count = due_count(&self.table, now);
+        let mut outputs = Vec::with_capacity(*self.table.allocator(), count)?;
         tell_due(&mut self.table, now, &mut outputs);
         free_due(&mut self.table, now);
         self.clock = now;

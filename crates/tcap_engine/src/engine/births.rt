@@ -1,12 +1,13 @@
 //! Dialogues that are born.
 
-ghost use Rattle.std.specs.Prelude.{◌≡◌, OnErr};
+ghost use Rattle.std.specs.Prelude.{◌≡◌, ◌<◌, ◌+◌, OnErr};
 ghost use Rattle.std.specs.Option.{option_map};
 ghost use Rattle.tcap_dialogue.specs.FaultViews.{fault_view};
 ghost use Rattle.tcap_engine.specs.Answering.{EngineAnswers, birth_answer};
 ghost use Rattle.tcap_engine.specs.HistoryForm.{Stands};
 ghost use Rattle.tcap_model.specs.Table.EngineMove.{engine_move, birth_fault_in};
 ghost use Rattle.tcap_model.specs.Words.Event.{Event};
+ghost use Rattle.tcap_model.specs.Words.Identifiers.{last_dialogue};
 
 use super::Engine;
 use std::alloc::Allocator;
@@ -36,9 +37,10 @@ impl<A: Allocator + Copy> Engine<A> {
         }
         self.table.reserve(1)?;
         let identifier = self.next_dialogue;
+        let following = next_identifier(identifier);
         let fresh = Dialogue::fresh(*self.table.allocator(), identifier, self.limits.reject_ms);
         self.table.insert(identifier, fresh).unwrap();
-        self.next_dialogue = identifier + 1;
+        self.next_dialogue = following;
         Ok(identifier)
     }
 
@@ -54,4 +56,12 @@ impl<A: Allocator + Copy> Engine<A> {
             None
         }
     }
+}
+
+/// The identifier that is drawn after this one: no identifier is drawn twice.
+fn next_identifier(identifier: u32) -> u32
+    requires { identifier < last_dialogue }
+    ensures { result ≡ identifier + 1 }
+{
+    identifier + 1
 }

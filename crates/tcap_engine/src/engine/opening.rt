@@ -1,8 +1,9 @@
 //! A new engine, and what is seen of one.
 
-ghost use Rattle.std.specs.Prelude.{◌≡◌, []};
+ghost use Rattle.std.specs.Prelude.{◌≡◌, [], option_copied};
 ghost use Rattle.tcap_engine.specs.Limits.{AreLimits};
 ghost use Rattle.tcap_engine.specs.StateOf.{state_in};
+ghost use Rattle.tcap_model.specs.Table.EngineMove.{dialogue_in};
 ghost use Rattle.tcap_model.specs.Table.World.{first_world};
 
 use super::Engine;
@@ -46,6 +47,13 @@ impl<A: Allocator + Copy> Engine<A> {
     pub fn state_of(&self, d: u32) -> Option<State>
         ensures { result ≡ state_in self.now d }
     {
-        self.table.get(&d).map(Dialogue::state)
+        self.dialogue_at(d).map(Dialogue::state)
+    }
+
+    /// The dialogue with this identifier, if it stands.
+    pub(super) fn dialogue_at(&self, d: u32) -> Option<&Dialogue<A>>
+        ensures { option_copied result ≡ dialogue_in d self.now.dialogues }
+    {
+        self.table.get(&d)
     }
 }

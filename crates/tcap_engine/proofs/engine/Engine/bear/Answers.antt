@@ -1,4 +1,4 @@
-use Rattle.std.proofs.Common.{rules, arith, refl, sym, ap, ◌≡◌, ◌∙◌, ◌+◌, ◌++◌, [], ◌∷◌, None, List, length, nat_eq, ◌<◌}
+use Rattle.std.proofs.Common.{rules, arith, refl, sym, ap, ◌≡◌, ◌∙◌, ◌+◌, ◌++◌, [], ◌∷◌, None, List, ℕ, length, nat_eq, ◌<◌}
 use Rattle.std.proofs.lemmas.List.{length-append, length-map}
 use Rattle.indexmap.specs.IndexMap.{get}
 use Rattle.indexmap.proofs.CallerLemmas.{insert_entry-new}
@@ -22,7 +22,7 @@ invariant_of-self-2 g c =
     let due : birth_fault_in c.args.self.now ≡ None = search rules in
     let free : length (dialogues_of ps) < c.self.inside.limits.max_dialogues = rw (sym c.self.view_is) at (room-to-be-born c.args.self.now due) in
     let many = length-map ps (λ (p : Place). p.1) in
-    rw new (record {
+    rw (new, c.next_identifier-following.ensures) (record {
       limited = c.self.invariant.limited;
       time = c.self.invariant.time;
       from = from-push 0 ps (d, fresh) (omega arith) refl c.self.invariant.drawn c.self.invariant.from;
@@ -43,6 +43,6 @@ returns-clause-moves g c =
     ap dialogues_of (put ∙ ap (λ (qs : List Place). qs ++ (d, fresh) ∷ []) same) ∙ dialogues-push ps (d, fresh) in
     let due : birth_fault_in c.args.self.now ≡ None = search rules in
     let born : World → EngineMoved = λ w. born_in w (Answer.new_dialogue w.next_dialogue) (fresh_dialogue w.next_dialogue w.reject_ms) in
-    let whole : List Dialogue → World = λ ds. record { max_dialogues = c.self.inside.limits.max_dialogues; reject_ms = c.self.inside.limits.reject_ms; next_dialogue = d + 1; next_number = c.self.inside.next_number; clock = c.self.inside.clock; dialogues = ds } in
+    let whole : ℕ → List Dialogue → World = λ n ds. record { max_dialogues = c.self.inside.limits.max_dialogues; reject_ms = c.self.inside.limits.reject_ms; next_dialogue = n; next_number = c.self.inside.next_number; clock = c.self.inside.clock; dialogues = ds } in
     rw (born-by c.args.self.now due)
-    (ap (λ (w : World). (born w).answer) c.self.view_is, ap whole new ∙ ap (λ (w : World). (born w).after) c.self.view_is)
+    (ap (λ (w : World). (born w).answer) c.self.view_is, ap (λ n. whole n (dialogues_of c.insert.new.self.entries)) c.next_identifier-following.ensures ∙ ap (whole (d + 1)) new ∙ ap (λ (w : World). (born w).after) c.self.view_is)
