@@ -1,7 +1,9 @@
 pub mod BirthLemmas
 pub mod DueLemmas
+pub mod KeptLemmas
 pub mod LeastLemmas
 pub mod MomentLemmas
 pub mod OrderLemmas
+pub mod PlaceLemmas
 pub mod TableLemmas
 pub mod StandingLemmas

@@ -1,5 +1,6 @@
 -- The table of dialogues by identifier, and what an engine keeps of it.
-use Rattle.std.specs.Prelude.{◌≡◌, ℕ, ◌<◌, ◌≤◌, ◌+◌, List, [], ◌∷◌, map, length}
+use Rattle.std.specs.Prelude.{◌≡◌, ℕ, ◌<◌, ◌≤◌, ◌+◌, nat_eq, Option, Some, None, List, [], ◌∷◌, map, length}
+use Rattle.std.specs.Map.{set_value, remove_entry}
 use Rattle.tcap_engine.specs.declared.limits.Limits.{Limits}
 use Rattle.tcap_engine.specs.Limits.{AreLimits}
 use Rattle.tcap_invocation.specs.Invocations.{AllBelow}
@@ -13,6 +14,11 @@ Place = ℕ × Dialogue
 -- The dialogues (own).
 abbrev pub dialogues_of : List Place → List Dialogue
 dialogues_of ps = map (λ p. p.1) ps
+
+-- The places after the dialogue of an identifier became another one, or is over (own).
+abbrev pub places_with : ℕ → Option Dialogue → List Place → List Place
+places_with d None ps = remove_entry (nat_eq d) ps
+places_with d (Some after) ps = set_value (nat_eq d) ps after
 
 -- Each dialogue stands under its identifier, and the identifiers rise from this one on (own).
 abbrev pub AreFrom : ℕ → List Place → Type 0

@@ -54,8 +54,7 @@ returns-clause-moves g c =
     let table : dialogues_of c.free_due.new.table.entries ≡ dialogues_of (map (place_at now) ps) = ap dialogues_of (c.free_due.ensures ∙ c.tell_due.ensures.rest) in
     let empty : c.in_ok-outputs.outputs.items ≡ [] = search rules in
     let told : all_shown c.tell_due.new.outputs.items ≡ all_told now (dialogues_of ps) = c.tell_due.ensures.told ∙ ap (λ xs. all_shown xs ++ all_told now (dialogues_of ps)) empty in
-    let whole : List Dialogue → World = λ ds. record { max_dialogues = c.self.inside.limits.max_dialogues; reject_ms = c.self.inside.limits.reject_ms; next_dialogue = c.self.inside.next_dialogue; next_number = c.self.inside.next_number; clock = now; dialogues = ds } in
-    (
+    let whole : List Dialogue → World = λ ds. record { max_dialogues = c.self.inside.limits.max_dialogues; reject_ms = c.self.inside.limits.reject_ms; next_dialogue = c.self.inside.next_dialogue; next_number = c.self.inside.next_number; clock = now; dialogues = ds } in (
       ap Answer.outputs told ∙ ap (λ (w : World). (advanced w now).answer) c.self.view_is,
       ap whole (table ∙ dialogues-at now ps) ∙ ap (λ (w : World). (advanced w now).after) c.self.view_is,
     )
