@@ -1,5 +1,5 @@
 -- What becomes of received bytes, as a contract sees it.
-use Rattle.std.specs.Prelude.{◌≡◌, ℕ, List, [], Option, Some, None, IfSome}
+use Rattle.std.specs.Prelude.{◌≡◌, ℕ, Bool, false, List, [], Option, Some, None, IfSome}
 use Rattle.ber_core.specs.ObjectIdentifier.{IsObjectIdentifier}
 use Rattle.ber_core.specs.Place.{Slice}
 use Rattle.tcap_dialogue.specs.AbortViews.{CanWriteAbort, abort_sent}
@@ -60,6 +60,15 @@ IsOf named (reception.Unidirectional request components) = Unit {0}
 IsOf named (reception.Begun origin request components) = Unit {0}
 IsOf named (reception.Taken dialogue frame) = named ≡ Some dialogue
 IsOf named (reception.Broken dialogue origin fault) = named ≡ Some dialogue
+
+-- No dialogue is born where none can be (own).
+abbrev pub CanBear : Bool → Reception → Type 0
+CanBear is_full (reception.Dropped why) = Unit {0}
+CanBear is_full (reception.Aborted abort) = Unit {0}
+CanBear is_full (reception.Unidirectional request components) = Unit {0}
+CanBear is_full (reception.Begun origin request components) = is_full ≡ false
+CanBear is_full (reception.Taken dialogue frame) = Unit {0}
+CanBear is_full (reception.Broken dialogue origin fault) = Unit {0}
 
 -- The dialogue that a message reaches, if it reaches one (own).
 abbrev pub reached : Reception → Option ℕ

@@ -1,11 +1,12 @@
 -- The table of dialogues by identifier, and what an engine keeps of it.
-use Rattle.std.specs.Prelude.{◌≡◌, ℕ, ◌<◌, ◌≤◌, ◌+◌, nat_eq, Option, Some, None, List, [], ◌∷◌, map, length}
+use Rattle.std.specs.Prelude.{◌≡◌, ℕ, ◌<◌, ◌≤◌, ◌+◌, nat_eq, Option, Some, None, List, [], ◌∷◌, ◌++◌, map, length}
 use Rattle.std.specs.Map.{set_value, remove_entry}
 use Rattle.tcap_engine.specs.declared.limits.Limits.{Limits}
 use Rattle.tcap_engine.specs.Limits.{AreLimits}
 use Rattle.tcap_invocation.specs.Invocations.{AllBelow}
 use Rattle.tcap_invocation.specs.Stage.{moment_limit}
 use Rattle.tcap_model.specs.Table.Dialogue.{Dialogue}
+use Rattle.tcap_model.specs.Table.World.{World}
 
 -- An identifier and its dialogue (own).
 abbrev pub Place : Type 0
@@ -48,3 +49,7 @@ pub record IsSound (limits : Limits) (next_dialogue next_number clock : ℕ) (pl
   pub drawn : AreDrawn next_dialogue places
   pub within : AreWithin limits.reject_ms next_number places
   pub room : length places ≤ limits.max_dialogues
+
+-- The engine with one dialogue more, born under the next identifier (own).
+abbrev pub with_born : World → Dialogue → World
+with_born w d = record w { next_dialogue = w.next_dialogue + 1; dialogues = w.dialogues ++ d ∷ [] }

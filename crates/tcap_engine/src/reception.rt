@@ -1,7 +1,7 @@
 //! What becomes of received bytes, before anything is done.
 
 ghost use Rattle.std.specs.Prelude.{◌≡◌, Bool, ℕ, Option, Some, option_copied};
-ghost use Rattle.tcap_engine.specs.ReceptionViews.{CanRun, IsAddressed, IsOf, reception_view};
+ghost use Rattle.tcap_engine.specs.ReceptionViews.{CanBear, CanRun, IsAddressed, IsOf, reception_view};
 ghost use Rattle.tcap_dialogue.specs.AbortViews.{cause_number};
 ghost use Rattle.tcap_model.specs.Procedures.AbortRules.{abort_with};
 ghost use Rattle.tcap_model.specs.Procedures.Destination.{destination};
@@ -12,7 +12,7 @@ ghost use Rattle.tcap_pdu.specs.FrameSpelling.{Message};
 ghost use Rattle.tcap_pdu.specs.FrameViews.{message};
 ghost use Rattle.tcap_pdu.specs.Front.{front_at};
 
-use tcap_dialogue::{Abort, BeginVerdict, Cause, DropWhy, UniVerdict, judge_begin, judge_uni};
+use tcap_dialogue::{Abort, BeginVerdict, Cause, DropWhy, PortionVerdict, judge_begin, judge_uni};
 use tcap_pdu::tag::{ABORT, CONTINUE, END, UNIDIRECTIONAL};
 use tcap_pdu::{Frame, FrameFault, TransId};
 
@@ -56,15 +56,18 @@ fn hear_uni<'m>(dialogue: Option<&'m [u8]>, components: &'m [u8]) -> Reception<'
     ensures of { (named : Option ℕ) → IsOf named result }
 {
     match judge_uni(dialogue) {
-        UniVerdict::Plain => Reception::Unidirectional {
-            request: None,
-            components,
-        },
-        UniVerdict::Context { context, info } => Reception::Unidirectional {
+        PortionVerdict::Normal {
+            context: Some(context),
+            info,
+        } => Reception::Unidirectional {
             request: Some((context, info)),
             components,
         },
-        UniVerdict::Abnormal => Reception::Dropped(DropWhy::BadDialogue),
+        PortionVerdict::Normal { context: None, .. } => Reception::Unidirectional {
+            request: None,
+            components,
+        },
+        PortionVerdict::Abnormal => Reception::Dropped(DropWhy::BadDialogue),
     }
 }
 
@@ -102,6 +105,7 @@ fn aborted_by<'m>(peer: TransId, cause: Cause) -> Reception<'m>
     ensures value { reception_view result ≡ model.Reception.aborted (abort_with (cause_number cause) peer) }
     ensures can { CanRun result }
     ensures of { (named : Option ℕ) → IsOf named result }
+    ensures born { (is_full : Bool) → CanBear is_full result }
 {
     Reception::Aborted(Abort::Cause { peer, cause })
 }
@@ -126,6 +130,7 @@ pub fn hear_message<'m>(frame: Frame<'m>, named: Option<u32>, is_full: bool) -> 
     ensures value { (is_live : ℕ → Bool) → named ≡ addressed_if_any is_live (destination (message frame.entry)) → reception_view result ≡ message_by is_live is_full (message frame.entry) }
     ensures can { CanRun result }
     ensures of { IsOf named result }
+    ensures born { CanBear is_full result }
 {
     match frame {
         Frame::Uni {
@@ -184,6 +189,7 @@ fn refuse<'m>(origin: Option<TransId>, fault: FrameFault) -> Reception<'m>
     ensures value { reception_view result ≡ aborted_or_dropped (fault_abort fault origin) }
     ensures can { CanRun result }
     ensures of { (named : Option ℕ) → IsOf named result }
+    ensures born { (is_full : Bool) → CanBear is_full result }
 {
     match origin {
         Some(peer) => aborted_by(peer, Cause::Faulty(fault)),
@@ -196,6 +202,7 @@ fn break_continue<'m>(named: Option<u32>, origin: Option<TransId>, fault: FrameF
     ensures value { reception_view result ≡ faulty_continue named (fault_abort fault origin) fault }
     ensures can { CanRun result }
     ensures of { IsOf named result }
+    ensures born { (is_full : Bool) → CanBear is_full result }
 {
     match named {
         Some(dialogue) => Reception::Broken {
@@ -213,6 +220,7 @@ fn break_last<'m>(named: Option<u32>, fault: FrameFault) -> Reception<'m>
     ensures value { reception_view result ≡ faulty_last named fault }
     ensures can { CanRun result }
     ensures of { IsOf named result }
+    ensures born { (is_full : Bool) → CanBear is_full result }
 {
     match named {
         Some(dialogue) => Reception::Broken {
@@ -235,6 +243,7 @@ fn hear_fault_by<'m>(
     ensures value { reception_view result ≡ fault_by first named (fault_abort fault origin) fault }
     ensures can { CanRun result }
     ensures of { IsOf named result }
+    ensures born { (is_full : Bool) → CanBear is_full result }
 {
     match first {
         UNIDIRECTIONAL => Reception::Dropped(DropWhy::BadMessage),
@@ -255,6 +264,7 @@ pub fn hear_fault<'m>(
     ensures value { (is_live : ℕ → Bool) → named ≡ addressed_if_any is_live (front_at bytes.now).1 → origin ≡ (front_at bytes.now).0 → reception_view result ≡ faulty is_live bytes.now fault }
     ensures can { CanRun result }
     ensures of { IsOf named result }
+    ensures born { (is_full : Bool) → CanBear is_full result }
 {
     match bytes {
         [] => Reception::Dropped(DropWhy::BadMessage),

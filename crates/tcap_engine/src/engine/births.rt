@@ -1,15 +1,17 @@
 //! Dialogues that are born.
 
-ghost use Rattle.std.specs.Prelude.{◌≡◌, ◌<◌, ◌+◌, OnErr};
+ghost use Rattle.std.specs.Prelude.{◌≡◌, None, OnErr, OnOk};
 ghost use Rattle.std.specs.Option.{option_map};
 ghost use Rattle.tcap_dialogue.specs.FaultViews.{fault_view};
 ghost use Rattle.tcap_engine.specs.Answering.{EngineAnswers, birth_answer};
 ghost use Rattle.tcap_engine.specs.HistoryForm.{Stands};
+ghost use Rattle.tcap_engine.specs.Table.{IsWithin, with_born};
 ghost use Rattle.tcap_model.specs.Table.EngineMove.{engine_move, birth_fault_in};
 ghost use Rattle.tcap_model.specs.Words.Event.{Event};
 ghost use Rattle.tcap_model.specs.Words.Identifiers.{last_dialogue};
 
 use super::Engine;
+use ber_core::OutOfMemory;
 use std::alloc::Allocator;
 use tcap_dialogue::{Dialogue, Fault};
 
@@ -27,7 +29,7 @@ impl<A: Allocator + Copy> Engine<A> {
     }
 
     /// The same, by the engine's move.
-    #[tactic(auto, unfolding(tcap_model::specs::Table::EngineMove::engine_move))]
+    #[tactic(auto, using(crate::proofs::BirthLemmas::born_by), unfolding(tcap_model::specs::Table::EngineMove::engine_move))]
     fn bear(&mut self) -> Result<u32, Fault>
         ensures moves { EngineAnswers birth_answer result (engine_move self.old Event.new_dialogue) self.old self.new }
         ensures err { OnErr result (self.new ≡ self.old) }
@@ -35,13 +37,25 @@ impl<A: Allocator + Copy> Engine<A> {
         if let Some(fault) = self.birth_fault() {
             return Err(fault);
         }
+        let identifier = self.next_dialogue;
+        let alloc = *self.table.allocator();
+        self.keep(Dialogue::fresh(alloc, identifier, self.limits.reject_ms))?;
+        Ok(identifier)
+    }
+
+    /// Takes in a dialogue that is born under the next identifier, which is drawn then.
+    fn keep(&mut self, dialogue: Dialogue<A>) -> Result<(), OutOfMemory>
+        requires free { birth_fault_in self.old ≡ None }
+        requires next { dialogue.standing.identifier ≡ self.old.next_dialogue }
+        requires within { IsWithin self.old.reject_ms self.old.next_number dialogue }
+        ensures ok { OnOk result (self.new ≡ with_born self.old dialogue) }
+        ensures err { OnErr result (self.new ≡ self.old) }
+    {
         self.table.reserve(1)?;
         let identifier = self.next_dialogue;
-        let following = next_identifier(identifier);
-        let fresh = Dialogue::fresh(*self.table.allocator(), identifier, self.limits.reject_ms);
-        self.table.insert(identifier, fresh).unwrap();
-        self.next_dialogue = following;
-        Ok(identifier)
+        self.table.insert(identifier, dialogue).unwrap();
+        self.next_dialogue = identifier + 1;
+        Ok(())
     }
 
     /// Why no dialogue can be born, the first that holds.

@@ -1,7 +1,7 @@
 //! Bytes that were received.
 
 ghost use Rattle.std.specs.Prelude.{◌≡◌, Bool, ℕ, is_some, option_copied, true, IfSome};
-ghost use Rattle.tcap_engine.specs.ReceptionViews.{CanRun, reached, reception_view};
+ghost use Rattle.tcap_engine.specs.ReceptionViews.{CanBear, CanRun, reached, reception_view};
 ghost use Rattle.tcap_model.specs.Procedures.Destination.{destination};
 ghost use Rattle.tcap_model.specs.Procedures.Reception.{addressed_if_any, reception};
 ghost use Rattle.tcap_model.specs.Table.EngineMove.{birth_fault_in, is_live_in};
@@ -50,6 +50,7 @@ impl<A: Allocator + Copy> Engine<A> {
         ensures value { reception_view result ≡ reception (is_live_in self.now.dialogues) (is_some (birth_fault_in self.now)) bytes.now }
         ensures can { CanRun result }
         ensures live { IfSome (reached result) (λ d. is_live_in self.now.dialogues d ≡ true) }
+        ensures born { CanBear (is_some (birth_fault_in self.now)) result }
     {
         if bytes.len() > MAX_MESSAGE {
             return Reception::Dropped(DropWhy::TooLong);

@@ -1,0 +1,42 @@
+use Rattle.std.proofs.Common.{rules, arith, refl, sym, ap, ◌≡◌, ◌∙◌, ◌+◌, ◌++◌, [], ◌∷◌, None, List, ℕ, length, nat_eq, ◌<◌}
+use Rattle.std.proofs.lemmas.List.{length-append, length-map}
+use Rattle.indexmap.specs.IndexMap.{get}
+use Rattle.indexmap.proofs.CallerLemmas.{insert_entry-new}
+use Rattle.tcap_model.specs.Table.Dialogue.{Dialogue}
+use Rattle.tcap_model.specs.Table.World.{World}
+use Rattle.tcap_engine.specs.Table.{IsWithin, Place, dialogues_of, with_born}
+use Rattle.tcap_engine.proofs.BirthLemmas.{absent-drawn, from-push, drawn-push, within-push, dialogues-push, room-to-be-born}
+use Rattle.tcap_engine.proofs.engine.Engine.keep.Goals as goal
+
+pub invariant_of-self-2 : goal.invariant_of-self-2
+invariant_of-self-2 g c =
+    let d = c.self.inside.next_dialogue in
+    let ps : List Place = c.self.inside.table.entries in
+    let same : c.reserve.new.self.entries ≡ ps = c.reserve.ensures.entries in
+    let none : get nat_eq c.reserve.new.self d ≡ None = rw same (absent-drawn d ps c.self.invariant.drawn) in
+    let put : c.insert.new.self.entries ≡ c.reserve.new.self.entries ++ (d, c.args.dialogue) ∷ [] = search (rules, insert_entry-new nat_eq c.reserve.new.self d c.args.dialogue none) in
+    let new : c.insert.new.self.entries ≡ ps ++ (d, c.args.dialogue) ∷ [] = put ∙ ap (λ (qs : List Place). qs ++ (d, c.args.dialogue) ∷ []) same in
+    let free : length (dialogues_of ps) < c.self.inside.limits.max_dialogues = rw (sym c.self.view_is) at (room-to-be-born c.args.self.now c.requires.free) in
+    let many = length-map ps (λ (p : Place). p.1) in
+    let next : c.args.dialogue.standing.identifier ≡ d = rw (sym c.self.view_is) at c.requires.next in
+    let within : IsWithin c.self.inside.limits.reject_ms c.self.inside.next_number c.args.dialogue = rw (sym c.self.view_is) at c.requires.within in
+    rw new (record {
+      limited = c.self.invariant.limited;
+      time = c.self.invariant.time;
+      from = from-push 0 ps (d, c.args.dialogue) (omega arith) next c.self.invariant.drawn c.self.invariant.from;
+      drawn = drawn-push d c.args.dialogue ps c.self.invariant.drawn;
+      within = within-push c.self.inside.limits.reject_ms c.self.inside.next_number ps (d, c.args.dialogue) within c.self.invariant.within;
+      room = let sum = length-append ps ((d, c.args.dialogue) ∷ []) in omega (arith, sum, many, free);
+    })
+
+pub returns-clause-ok : goal.returns-clause-ok
+returns-clause-ok g c =
+    let d = c.self.inside.next_dialogue in
+    let ps : List Place = c.self.inside.table.entries in
+    let same : c.reserve.new.self.entries ≡ ps = c.reserve.ensures.entries in
+    let none : get nat_eq c.reserve.new.self d ≡ None = rw same (absent-drawn d ps c.self.invariant.drawn) in
+    let put : c.insert.new.self.entries ≡ c.reserve.new.self.entries ++ (d, c.args.dialogue) ∷ [] = search (rules, insert_entry-new nat_eq c.reserve.new.self d c.args.dialogue none) in
+    let new : dialogues_of c.insert.new.self.entries ≡ dialogues_of ps ++ c.args.dialogue ∷ [] =
+    ap dialogues_of (put ∙ ap (λ (qs : List Place). qs ++ (d, c.args.dialogue) ∷ []) same) ∙ dialogues-push ps (d, c.args.dialogue) in
+    let whole : List Dialogue → World = λ ds. record { max_dialogues = c.self.inside.limits.max_dialogues; reject_ms = c.self.inside.limits.reject_ms; next_dialogue = d + 1; next_number = c.self.inside.next_number; clock = c.self.inside.clock; dialogues = ds } in
+    ap whole new ∙ ap (λ (w : World). with_born w c.args.dialogue) c.self.view_is
