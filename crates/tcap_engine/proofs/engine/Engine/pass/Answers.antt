@@ -12,12 +12,7 @@ use Rattle.tcap_model.specs.Table.DueLapses.{all_told}
 use Rattle.tcap_model.specs.Table.EngineMove.{advanced}
 use Rattle.tcap_model.specs.Table.World.{World}
 use Rattle.tcap_model.specs.Words.Answer.{Answer}
-<<<<<<<< HEAD:crates/tcap_engine/proofs/engine/Engine/go_to/Answers.antt
-use Rattle.tcap_model.specs.Words.Event.{Event}
-use Rattle.tcap_engine.proofs.engine.Engine.go_to.Goals as goal
-========
 use Rattle.tcap_engine.proofs.engine.Engine.pass.Goals as goal
->>>>>>>> 3dcddc0 (Turn the meaning of each call of the engine once):crates/tcap_engine/proofs/engine/Engine/pass/Answers.antt
 
 pub returns-in_err-outputs-clause-moves : goal.returns-in_err-outputs-clause-moves
 returns-in_err-outputs-clause-moves g c =
