@@ -44,12 +44,13 @@ impl<A: Allocator + Copy> Dialogue<A> {
         ) {
             return Err(fault);
         }
-        let octets = self.queue.make_room(&Component::Invoke {
+        let component = Component::Invoke {
             id,
             linked,
             code,
             parameter,
-        })?;
+        };
+        let octets = self.queue.make_room(&component)?;
         if self.invocations.add(id, number, class, timeout_ms).is_err() {
             return Err(Fault::OutOfMemory);
         }
@@ -83,11 +84,12 @@ impl<A: Allocator + Copy> Dialogue<A> {
         ensures answer { Answers queued_done result (requested 0 0 self.old (Request.component (error_back id (code_parts code.entry) (option_copied parameter.entry)))) self.old self.new }
         ensures kept { self.new.standing.identifier ≡ self.old.standing.identifier }
     {
-        self.queue_answer(&Component::ErrorBack {
+        let component = Component::ErrorBack {
             id,
             code,
             parameter,
-        })
+        };
+        self.queue_answer(&component)
     }
 
     /// TC-U-REJECT request. A Reject of a result or an error frees the identifier that waits for it.
