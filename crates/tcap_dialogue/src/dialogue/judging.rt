@@ -8,6 +8,7 @@ ghost use Rattle.tcap_dialogue.specs.FaultViews.{fault_view};
 ghost use Rattle.tcap_dialogue.specs.StateViews.{phase_view};
 ghost use Rattle.tcap_dialogue.specs.StepViews.{asked};
 ghost use Rattle.tcap_invocation.specs.declared.class.Class.{Class};
+ghost use Rattle.tcap_invocation.specs.Stage.{moment_limit};
 ghost use Rattle.tcap_model.specs.Procedures.Refusals.{due_on, invoke_fault};
 ghost use Rattle.tcap_model.specs.Procedures.States.{has_peer};
 ghost use Rattle.tcap_model.specs.Table.TableMove.{situation};
@@ -33,7 +34,7 @@ fn has_peer(phase: &Phase) -> bool
 
 /// Whether a timeout is neither 0 nor above the limit.
 fn is_timeout(timeout_ms: u64) -> bool
-    ensures { result ≡ (nat_lt 0 timeout_ms && nat_le timeout_ms (2 ^ 62)) }
+    ensures { result ≡ (nat_lt 0 timeout_ms && nat_le timeout_ms moment_limit) }
 {
     0 < timeout_ms && timeout_ms <= MAX_MOMENT
 }
