@@ -4,11 +4,13 @@ ghost use Rattle.std.specs.Prelude.{◌≡◌, ◌<◌, ◌∷◌, [], true, Som
 ghost use Rattle.ber_core.specs.Place.{Slice};
 ghost use Rattle.tcap_dialogue.specs.Aborting.{abnormal_over, provider_told};
 ghost use Rattle.tcap_dialogue.specs.OutputViews.{shown, cause_view};
-ghost use Rattle.tcap_dialogue.specs.Slices.{AllInPlace, LieIn, slices_of};
+ghost use Rattle.tcap_dialogue.specs.Slices.{Slices, AllInPlace, LieIn, slices_of};
 ghost use Rattle.tcap_dialogue.specs.StateViews.{phase_view};
 ghost use Rattle.tcap_model.specs.Procedures.AbortRules.{abort_told, portion_told, is_no_common};
 ghost use Rattle.tcap_dialogue.specs.StepViews.{outcome, stepped};
 ghost use Rattle.tcap_model.specs.Table.TableMove.{over_with};
+ghost use Rattle.tcap_model.specs.Words.Output as model;
+ghost use Rattle.tcap_model.specs.Words.Output.{DialogueIndication};
 ghost use Rattle.tcap_model.specs.Words.State.{peer_by};
 ghost use Rattle.tcap_pdu.specs.DialoguePlace.{PduInPlace};
 ghost use Rattle.tcap_pdu.specs.DialogueReading.{dialogue_at};
@@ -81,10 +83,7 @@ fn pdu_told<'m, A: Allocator>(dialogue: u32, pdu: DialoguePdu<'m>) -> Output<'m,
             ..
         } => {
             if is_no_common(diagnostic) {
-                Output::PAbort {
-                    dialogue,
-                    why: Why::NoCommon,
-                }
+                provider_told(dialogue, Why::NoCommon)
             } else {
                 Output::UAbort {
                     dialogue,
@@ -98,11 +97,16 @@ fn pdu_told<'m, A: Allocator>(dialogue: u32, pdu: DialoguePdu<'m>) -> Output<'m,
             ..
         }
         | DialoguePdu::Aarq { .. }
-        | DialoguePdu::Audt { .. } => Output::PAbort {
-            dialogue,
-            why: Why::Abnormal,
-        },
+        | DialoguePdu::Audt { .. } => provider_told(dialogue, Why::Abnormal),
     }
+}
+
+/// TC-P-ABORT for this reason.
+fn provider_told<'m, A: Allocator>(dialogue: u32, why: Why) -> Output<'m, A>
+    ensures told { shown result ≡ model.Output.dialogue (DialogueIndication.p_abort dialogue (cause_view why)) }
+    ensures slices { slices_of result ≡ Slices.none }
+{
+    Output::PAbort { dialogue, why }
 }
 
 /// Whether a diagnostic is "no common dialogue portion" by the provider.
