@@ -54,7 +54,7 @@ module _ (reject_ms next : ℕ) where
   fit-item clock list (Ok (reject_back (Some id) problem)) h = fit-freed list id _ h
   fit-item clock list (Err f) h = h
 
-  fit-walked : (dialogue clock : ℕ) (list : InvocationList) (items : List Item) → Fit reject_ms next list → Fit reject_ms next (walked dialogue clock list items).invocations
+  pub fit-walked : (dialogue clock : ℕ) (list : InvocationList) (items : List Item) → Fit reject_ms next list → Fit reject_ms next (walked dialogue clock list items).invocations
   fit-walked dialogue clock list [] h = h
   fit-walked dialogue clock list (item ∷ items) h = fit-walked dialogue clock (after_item clock list item) items (fit-item clock list item h)
 

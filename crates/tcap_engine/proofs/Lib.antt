@@ -1,3 +1,4 @@
+pub mod BeginLemmas
 pub mod BirthLemmas
 pub mod DueLemmas
 pub mod KeptLemmas
@@ -5,5 +6,5 @@ pub mod LeastLemmas
 pub mod MomentLemmas
 pub mod OrderLemmas
 pub mod PlaceLemmas
-pub mod TableLemmas
 pub mod StandingLemmas
+pub mod TableLemmas

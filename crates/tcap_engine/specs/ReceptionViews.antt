@@ -2,6 +2,7 @@
 use Rattle.std.specs.Prelude.{◌≡◌, ℕ, Bool, false, List, [], Option, Some, None, IfSome}
 use Rattle.ber_core.specs.ObjectIdentifier.{IsObjectIdentifier}
 use Rattle.ber_core.specs.Place.{Slice}
+use Rattle.tcap_dialogue.specs.Beginning.{context_given, info_given}
 use Rattle.tcap_dialogue.specs.AbortViews.{CanWriteAbort, abort_sent}
 use Rattle.tcap_dialogue.specs.OutputViews.{drop_view}
 use Rattle.tcap_model.specs.Procedures.AbortRules.{fault_cause}
@@ -12,24 +13,14 @@ use Rattle.tcap_pdu.specs.FrameViews.{message}
 use Rattle.tcap_engine.specs.declared.reception.Reception.{Reception}
 use Rattle.tcap_engine.specs.declared.reception.Reception.TheVariants as reception
 
--- The context of an AARQ or an AUDT, if there is one (Q.773, Dialogue portion).
-abbrev pub context_asked : Option (Slice × Slice) → Option (List ℕ)
-context_asked None = None
-context_asked (Some request) = Some request.0.now
-
--- Its user information, empty where there is none (Q.773, Dialogue portion).
-abbrev pub information_asked : Option (Slice × Slice) → List ℕ
-information_asked None = []
-information_asked (Some request) = request.1.now
-
 -- What becomes of received bytes (own).
 abbrev pub reception_view : Reception → model.Reception
 reception_view (reception.Dropped why) = model.Reception.dropped (drop_view why)
 reception_view (reception.Aborted abort) = model.Reception.aborted (abort_sent abort)
 reception_view (reception.Unidirectional request components) =
-    model.Reception.unidirectional (context_asked request) (information_asked request) components.now
+    model.Reception.unidirectional (context_given request) (info_given request) components.now
 reception_view (reception.Begun origin request components) =
-    model.Reception.begun origin (context_asked request) (information_asked request) components.now
+    model.Reception.begun origin (context_given request) (info_given request) components.now
 reception_view (reception.Taken dialogue frame) = model.Reception.taken dialogue (message frame)
 reception_view (reception.Broken dialogue origin fault) =
     model.Reception.broken dialogue (fault_abort fault origin) (fault_cause fault)

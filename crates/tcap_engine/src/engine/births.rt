@@ -1,19 +1,24 @@
 //! Dialogues that are born.
 
-ghost use Rattle.std.specs.Prelude.{◌≡◌, None, OnErr, OnOk};
+ghost use Rattle.std.specs.Prelude.{◌≡◌, None, OnErr, OnOk, IfOk, IfSome};
 ghost use Rattle.std.specs.Option.{option_map};
+ghost use Rattle.ber_core.specs.ObjectIdentifier.{IsObjectIdentifier};
+ghost use Rattle.tcap_dialogue.specs.Beginning.{context_given, info_given};
 ghost use Rattle.tcap_dialogue.specs.FaultViews.{fault_view};
-ghost use Rattle.tcap_engine.specs.Answering.{EngineAnswers, birth_answer};
+ghost use Rattle.tcap_engine.specs.Answering.{EngineAnswers, Moves, birth_answer, outputs_answer};
 ghost use Rattle.tcap_engine.specs.HistoryForm.{Stands};
 ghost use Rattle.tcap_engine.specs.Table.{IsWithin, with_born};
-ghost use Rattle.tcap_model.specs.Table.EngineMove.{engine_move, birth_fault_in};
+ghost use Rattle.tcap_model.specs.Table.EngineMove.{engine_move, begun_in, birth_fault_in, setting_in};
+ghost use Rattle.tcap_model.specs.Table.TableMove.{born};
 ghost use Rattle.tcap_model.specs.Words.Event.{Event};
 ghost use Rattle.tcap_model.specs.Words.Identifiers.{last_dialogue};
 
 use super::Engine;
+use crate::reception::Request;
 use ber_core::OutOfMemory;
 use std::alloc::Allocator;
-use tcap_dialogue::{Dialogue, Fault};
+use tcap_dialogue::{Dialogue, Fault, Output};
+use tcap_pdu::TransId;
 
 impl<A: Allocator + Copy> Engine<A> {
     /// A new dialogue, in which nothing has happened: its identifier. Faults: `DialoguesFull`,
@@ -41,6 +46,32 @@ impl<A: Allocator + Copy> Engine<A> {
         let alloc = *self.table.allocator();
         self.keep(Dialogue::fresh(alloc, identifier, self.limits.reject_ms))?;
         Ok(identifier)
+    }
+
+    /// A Begin gives birth to a dialogue: what is told (Q.774, Dialogue begin).
+    #[tactic(auto, using(crate::proofs::BeginLemmas::kept_born))]
+    pub(super) fn begin<'m>(
+        &mut self,
+        origin: &TransId,
+        request: Request<'m>,
+        components: &'m [u8],
+    ) -> Result<Vec<Output<'m, A>, A>, OutOfMemory>
+        requires free { birth_fault_in self.old ≡ None }
+        requires named { IfSome request (λ r. IsObjectIdentifier r.0.now) }
+        ensures ok { IfOk result (λ os. Moves (begun_in self.old (born (setting_in self.old) self.old.next_dialogue self.old.reject_ms origin.now (context_given request.entry) (info_given request.entry) components.now)) (outputs_answer os) self.new) }
+        ensures err { OnErr result (self.new ≡ self.old) }
+    {
+        let (dialogue, outputs) = Dialogue::accept(
+            *self.table.allocator(),
+            self.next_dialogue,
+            self.limits.reject_ms,
+            origin,
+            request,
+            components,
+            self.clock,
+        )?;
+        self.keep(dialogue)?;
+        Ok(outputs)
     }
 
     /// Takes in a dialogue that is born under the next identifier, which is drawn then.
