@@ -1,3 +1,4 @@
+pub mod AskLemmas
 pub mod BeginLemmas
 pub mod BirthLemmas
 pub mod DueLemmas

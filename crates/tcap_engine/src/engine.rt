@@ -2,6 +2,7 @@ pub(crate) mod advance;
 pub(crate) mod births;
 pub(crate) mod moment;
 pub(crate) mod opening;
+pub(crate) mod reaching;
 pub(crate) mod receiving;
 
 use crate::limits::Limits;

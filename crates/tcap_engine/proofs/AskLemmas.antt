@@ -1,0 +1,61 @@
+-- The table after one of its dialogues was asked.
+use Rattle.std.proofs.Common.{◌≡◌, ℕ, true, false, nat_eq, List, Option, Some, None, refl, ap, sym, ◌∙◌, if◌then◌else◌}
+use Rattle.std.proofs.lemmas.Map.Steps.{set_value_same}
+use Rattle.std.specs.Map.{lookup, set_value, remove_entry}
+use Rattle.tcap_dialogue.specs.declared.dialogue.ask.Asked.{Asked}
+use Rattle.tcap_dialogue.specs.declared.dialogue.ask.Asked.TheVariants as asked
+use Rattle.tcap_dialogue.specs.AskViews.{asked_view}
+use Rattle.tcap_dialogue.specs.FaultViews.{RefusedBy}
+use Rattle.tcap_dialogue.specs.StepViews.{Outcome}
+use Rattle.tcap_engine.specs.Asking.{asked_answer, ends_dialogue, PlacesMove, PlacesRefuse}
+use Rattle.tcap_engine.specs.Table.{Place, places_with}
+use Rattle.tcap_engine.proofs.TableLemmas.{removed-set}
+use Rattle.tcap_model.specs.Table.Dialogue.{Dialogue}
+use Rattle.tcap_model.specs.Words.Answer.{Answer}
+use Rattle.tcap_model.specs.Words.Fault as model
+
+-- A refusal, where the dialogue was written back.
+module _ (o : Outcome) (old new : Dialogue) (d : ℕ) (ps : List Place) (found : lookup (nat_eq d) ps ≡ Some old) where
+  moved : (answer : Answer) → o ≡ (answer, Some new) → PlacesMove o d answer ps (set_value (nat_eq d) ps new)
+  moved answer e = (sym (ap (λ (x : Outcome). x.0) e), ap (λ (x : Outcome). places_with d x.1 ps) (sym e))
+
+  pub refused-placed : (f : model.Fault) → RefusedBy f o old new → PlacesRefuse f o d ps (set_value (nat_eq d) ps new)
+  refused-placed model.Fault.out_of_memory r = (ap (set_value (nat_eq d) ps) r.0 ∙ set_value_same (nat_eq d) ps old found, r.1)
+  refused-placed model.Fault.unknown_dialogue r = moved _ r
+  refused-placed model.Fault.wrong_state r = moved _ r
+  refused-placed model.Fault.invoke_id_in_use r = moved _ r
+  refused-placed model.Fault.no_such_invocation r = moved _ r
+  refused-placed model.Fault.bad_timeout r = moved _ r
+  refused-placed model.Fault.too_long r = moved _ r
+  refused-placed model.Fault.dialogues_full r = moved _ r
+  refused-placed model.Fault.dialogue_ids_spent r = moved _ r
+  refused-placed model.Fault.numbers_spent r = moved _ r
+  refused-placed model.Fault.bad_oid r = moved _ r
+  refused-placed model.Fault.bad_parameter r = moved _ r
+  refused-placed model.Fault.not_class_four r = moved _ r
+  refused-placed model.Fault.moment_too_late r = moved _ r
+  refused-placed model.Fault.no_context r = moved _ r
+
+-- An answer, where the dialogue was written back or is taken out.
+module _ {A : Type 0} (new : Dialogue) (d : ℕ) (ps : List Place) where
+  answered : (a : Asked A) → (asked_view a new).0 ≡ asked_answer a
+  answered (asked.Number number) = refl
+  answered asked.Done = refl
+  answered (asked.GivenUp number) = refl
+  answered (asked.Step step) = refl
+
+  standing : (a : Asked A) → (asked_view a new).1 ≡ (if ends_dialogue a then None else Some new)
+  standing (asked.Number number) = refl
+  standing asked.Done = refl
+  standing (asked.GivenUp number) = refl
+  standing (asked.Step step) = refl
+
+  pub kept-placed : (a : Asked A) (o : Outcome) → asked_view a new ≡ o → ends_dialogue a ≡ false → PlacesMove o d (asked_answer a) ps (set_value (nat_eq d) ps new)
+  kept-placed a o e is =
+      let left : o.1 ≡ Some new = sym (ap (λ (x : Outcome). x.1) e) ∙ standing a ∙ rw is refl in
+      (sym (answered a) ∙ ap (λ (x : Outcome). x.0) e, ap (λ (x : Option Dialogue). places_with d x ps) (sym left))
+
+  pub gone-placed : (a : Asked A) (o : Outcome) → asked_view a new ≡ o → ends_dialogue a ≡ true → PlacesMove o d (asked_answer a) ps (remove_entry (nat_eq d) (set_value (nat_eq d) ps new))
+  gone-placed a o e is =
+      let left : o.1 ≡ None = sym (ap (λ (x : Outcome). x.1) e) ∙ standing a ∙ rw is refl in
+      (sym (answered a) ∙ ap (λ (x : Outcome). x.0) e, removed-set d new ps ∙ ap (λ (x : Option Dialogue). places_with d x ps) (sym left))
