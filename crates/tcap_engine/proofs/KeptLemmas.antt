@@ -1,6 +1,6 @@
 -- What a dialogue keeps where it moves: its identifier, how long an identifier waits, and that the
 -- numbers of its invocations were drawn.
-use Rattle.std.proofs.Common.{◌≡◌, ℕ, ℤ, ◌+◌, ◌≤◌, Bool, true, false, List, [], ◌∷◌, Option, Some, None, Result, Ok, Err, refl, arith}
+use Rattle.std.proofs.Common.{◌≡◌, ℕ, ℤ, ◌+◌, Bool, true, false, List, [], ◌∷◌, Option, Some, None, Ok, Err, refl, arith}
 use Rattle.tcap_component.specs.ComponentReading.{components_of}
 use Rattle.tcap_component.specs.Component.ComponentParts.{invoke, result_last, error_back, reject_back, result_more}
 use Rattle.tcap_component.specs.declared.problem.Kind.{Kind}
@@ -15,8 +15,7 @@ use Rattle.tcap_model.specs.Procedures.PortionRules.{PortionVerdict, portion_ver
 use Rattle.tcap_model.specs.Procedures.QueueRules.{Queued}
 use Rattle.tcap_model.specs.Table.Dialogue.{Dialogue, with_invocations}
 use Rattle.tcap_model.specs.Table.EngineMove.{number_after}
-use Rattle.tcap_model.specs.Table.TableMove.{Setting, Moved, Walked, after_item, walked, walked_in, with_queued, freed_by, giving_up, accepted, requested_by, framed, continued_by, ended_by, over_with}
-use Rattle.tcap_model.specs.Words.Answer.{Answer}
+use Rattle.tcap_model.specs.Table.TableMove.{Setting, Walked, after_item, walked, walked_in, with_queued, freed_by, giving_up, accepted, requested_by, framed, continued_by, ended_by, over_with}
 use Rattle.tcap_model.specs.Words.Fault.{Fault}
 use Rattle.tcap_model.specs.Words.Output.{Output}
 use Rattle.tcap_model.specs.Words.Request.{Request, ComponentRequest, DialogueRequest}

@@ -1,4 +1,5 @@
 pub mod AskLemmas
+pub mod AskedEngine
 pub mod BeginLemmas
 pub mod BirthLemmas
 pub mod DueLemmas
@@ -7,5 +8,6 @@ pub mod LeastLemmas
 pub mod MomentLemmas
 pub mod OrderLemmas
 pub mod PlaceLemmas
+pub mod SpentLemmas
 pub mod StandingLemmas
 pub mod TableLemmas

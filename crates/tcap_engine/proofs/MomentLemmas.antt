@@ -1,5 +1,5 @@
 -- What a moment leaves of the table, and what is due in the places from one on.
-use Rattle.std.proofs.Common.{◌≡◌, ℕ, zero, suc, ◌+◌, ◌<◌, ◌≤◌, Bool, true, false, cond, nat_eq, List, [], ◌∷◌, ◌++◌, length, map, drop, slice_get, Option, Some, refl, ap, sym, subst, ◌∙◌, arith, tests, nat_lt, add-one}
+use Rattle.std.proofs.Common.{◌≡◌, ℕ, zero, suc, ◌+◌, ◌<◌, ◌≤◌, Bool, true, false, cond, nat_eq, List, [], ◌∷◌, ◌++◌, length, map, drop, slice_get, Option, Some, refl, ap, sym, subst, ◌∙◌, arith, add-one}
 use Rattle.std.proofs.Math.Seq.{drop-cons}
 use Rattle.std.proofs.lemmas.List.{length-append, length-map}
 use Rattle.std.proofs.lemmas.Option.{get_or_from_slice_get, slice_get_within}
@@ -17,10 +17,7 @@ use Rattle.tcap_invocation.proofs.CallerLemmas.{AllBelow-after_lapse, after_laps
 use Rattle.tcap_dialogue.specs.FaultViews.{takes_memory}
 use Rattle.tcap_model.specs.Table.Dialogue.{Dialogue, with_invocations}
 use Rattle.tcap_model.specs.Table.DueLapses.{DueLapse, due_in, all_due, at_moment}
-use Rattle.tcap_model.specs.Table.EngineMove.{engine_move, advanced}
-use Rattle.tcap_model.specs.Table.World.{World}
 use Rattle.tcap_model.specs.Words.Answer.{Answer}
-use Rattle.tcap_model.specs.Words.Event.{Event}
 use Rattle.tcap_model.specs.Words.Output.{Output}
 
 -- ---- from one place on

@@ -1,7 +1,6 @@
 -- The table and the engine after the dialogue of an identifier moved.
 use Rattle.std.proofs.Common.{◌≡◌, ℕ, ◌≤◌, Bool, true, false, cond, nat_eq, List, [], ◌∷◌, length, Option, Some, None, refl, subst, arith}
 use Rattle.std.specs.Map.{lookup, set_value, remove_entry}
-use Rattle.tcap_engine.specs.Limits.{AreLimits}
 use Rattle.tcap_engine.specs.Table.{Place, AreFrom, AreDrawn, AreWithin, IsWithin, IsSound, dialogues_of, places_with}
 use Rattle.tcap_engine.specs.declared.limits.Limits.{Limits}
 use Rattle.tcap_engine.proofs.KeptLemmas.{IsKept}

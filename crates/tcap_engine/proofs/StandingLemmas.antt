@@ -1,19 +1,19 @@
 -- From the engine's move to any history at which the engine stands.
-use Rattle.std.proofs.Common.{◌≡◌, ℕ, sym, subst, ◌∙◌, Result, Ok, Err}
+use Rattle.std.proofs.Common.{sym, subst, ◌∙◌, Result, Ok, Err}
 use Rattle.tcap_dialogue.specs.declared.fault.Fault.{Fault}
 use Rattle.tcap_dialogue.specs.FaultViews.{fault_view}
 use Rattle.tcap_laws.proofs.CallerLemmas.{moves-alike, closings_are, outcome_told, counted, dialogues-bounded, identifiers-bounded, queues-bounded}
 use Rattle.tcap_model.specs.Histories.History.{History}
 use Rattle.tcap_model.specs.Replies.Legal.{IsLegal}
 use Rattle.tcap_model.specs.Statements.EngineMoves.{MovesAlike, with_pair}
-use Rattle.tcap_model.specs.Table.EngineMove.{EngineMoved, engine_move}
+use Rattle.tcap_model.specs.Table.EngineMove.{engine_move}
 use Rattle.tcap_model.specs.Table.World.{World, StandsAt}
 use Rattle.tcap_model.specs.Words.Answer.{Answer}
 use Rattle.tcap_model.specs.Words.Event.{Event}
 use Rattle.tcap_model.specs.Words.Fault as model
 use Rattle.tcap_model.specs.Words.InRange.{InRange}
 use Rattle.tcap_engine.specs.Answering.{Moves, EngineRefuses, EngineAnswers}
-use Rattle.tcap_engine.specs.HistoryForm.{Headline, StandsOn, StandsRefused, StandsAfter, Stands}
+use Rattle.tcap_engine.specs.HistoryForm.{Headline, StandsOn, StandsRefused, Stands}
 
 -- The headline holds at every legal history.
 pub headline : (h : History) → IsLegal h → Headline h

@@ -1,9 +1,11 @@
 pub(crate) mod advance;
+pub(crate) mod asking;
 pub(crate) mod births;
 pub(crate) mod moment;
 pub(crate) mod opening;
 pub(crate) mod reaching;
 pub(crate) mod receiving;
+pub(crate) mod requests;
 
 use crate::limits::Limits;
 use indexmap::IndexMap;

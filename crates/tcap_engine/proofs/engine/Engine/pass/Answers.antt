@@ -1,4 +1,4 @@
-use Rattle.std.proofs.Common.{rules, arith, sym, ap, refl, ◌≡◌, ◌∙◌, ◌<◌, ◌≤◌, List, [], ◌++◌, length, map}
+use Rattle.std.proofs.Common.{rules, arith, sym, ap, refl, ◌≡◌, ◌∙◌, ◌<◌, List, [], ◌++◌, length, map}
 use Rattle.std.proofs.lemmas.Result.{err_from_is_err_and}
 use Rattle.std.specs.Prelude.{IsTrue}
 use Rattle.tcap_dialogue.specs.FaultViews.{takes_memory}

@@ -1,0 +1,36 @@
+//! Requests on a dialogue.
+
+ghost use Rattle.std.specs.Prelude.{◌≡◌};
+ghost use Rattle.tcap_dialogue.specs.RequestViews.{request_view};
+ghost use Rattle.tcap_engine.specs.Answering.{EngineAnswers};
+ghost use Rattle.tcap_engine.specs.Asking.{IsLeft, asked_answer};
+ghost use Rattle.tcap_model.specs.Table.EngineMove.{engine_move, number_after};
+ghost use Rattle.tcap_model.specs.Words.Event.{Event};
+
+use super::Engine;
+use super::asking::ask_in;
+use std::alloc::Allocator;
+use tcap_dialogue::{Asked, Fault, Request};
+
+/// The number of the next invocation: one that was answered is drawn.
+fn next_number<A: Allocator + Copy>(asked: &Asked<'_, A>, next: u64) -> u64
+    requires { IsLeft (asked_answer asked.now) next }
+    ensures { result ≡ number_after (asked_answer asked.now) next }
+{
+    match asked {
+        Asked::Number(_) => next + 1,
+        Asked::Done | Asked::GivenUp(_) | Asked::Step(_) => next,
+    }
+}
+
+impl<A: Allocator + Copy> Engine<A> {
+    /// Any request on the dialogue with this identifier.
+    pub(super) fn ask<'m>(&mut self, d: u32, request: &Request<'_>) -> Result<Asked<'m, A>, Fault>
+        ensures { EngineAnswers asked_answer result (engine_move self.old (Event.on_dialogue d (request_view request.now))) self.old self.new }
+    {
+        let asked = ask_in(&mut self.table, d, self.clock, self.next_number, request)?;
+        let next = next_number(&asked, self.next_number);
+        self.next_number = next;
+        Ok(asked)
+    }
+}
