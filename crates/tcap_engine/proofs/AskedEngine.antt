@@ -35,7 +35,7 @@ counted (Answer.given_up number) next = omega arith
 counted (Answer.outputs outputs) next = omega arith
 counted (Answer.refused fault) next = omega arith
 
-kept-left : (identifier reject_ms next : ℕ) (m : Moved) → IsKept identifier reject_ms next m.after → AreKept identifier reject_ms next (left_standing m)
+pub kept-left : (identifier reject_ms next : ℕ) (m : Moved) → IsKept identifier reject_ms next m.after → AreKept identifier reject_ms next (left_standing m)
 kept-left identifier reject_ms next m h = elim m.is_over as (λ b. AreKept identifier reject_ms next (if b then None else Some m.after)) [ true ↦ tt | false ↦ h ]
 
 kept-moved : (reject_ms clock number : ℕ) (x : Dialogue) (r : Request) → AllBelow number x.invocations.rows → x.invocations.reject_ms ≡ reject_ms

@@ -8,6 +8,7 @@ pub mod LeastLemmas
 pub mod MomentLemmas
 pub mod OrderLemmas
 pub mod PlaceLemmas
+pub mod ReachedEngine
 pub mod SpentLemmas
 pub mod StandingLemmas
 pub mod TableLemmas

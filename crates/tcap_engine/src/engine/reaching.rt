@@ -1,15 +1,16 @@
 //! Messages that reach a dialogue of the table, and faulty ones.
 
-ghost use Rattle.std.specs.Prelude.{◌≡◌, ◌≤◌, ◌<◌, nat_eq, IfOk, IsSome, vec_len, vec_capacity};
+ghost use Rattle.std.specs.Prelude.{◌≡◌, ◌≤◌, ◌<◌, nat_eq, None, IfOk, OnErr, IsSome, vec_len, vec_capacity};
 ghost use Rattle.std.specs.Map.{lookup};
 ghost use Rattle.tcap_dialogue.specs.StepViews.{at_clock, outcome};
-ghost use Rattle.tcap_engine.specs.Answering.{outputs_answer};
+ghost use Rattle.tcap_engine.specs.Answering.{Moves, outputs_answer};
 ghost use Rattle.tcap_engine.specs.Asking.{ReachesIn};
 ghost use Rattle.tcap_invocation.specs.Stage.{moment_limit};
+ghost use Rattle.tcap_model.specs.Table.EngineMove.{dialogue_in, reached_in};
 ghost use Rattle.tcap_model.specs.Table.TableMove.{DialogueEvent, table_move};
 ghost use Rattle.tcap_pdu.specs.FrameViews.{message};
 
-use super::Table;
+use super::{Engine, Table};
 use ber_core::OutOfMemory;
 use std::alloc::Allocator;
 use tcap_dialogue::Output;
@@ -56,4 +57,18 @@ pub(super) fn break_in<'m, A: Allocator + Copy>(
         table.shift_remove(&d);
     }
     Ok(step.outputs)
+}
+
+impl<A: Allocator + Copy> Engine<A> {
+    /// A live dialogue takes a Continue, an End or an Abort (Q.774, Transaction sublayer procedures).
+    pub(super) fn reach<'m>(
+        &mut self,
+        d: u32,
+        frame: &Frame<'m>,
+    ) -> Result<Vec<Output<'m, A>, A>, OutOfMemory>
+        ensures ok { IfOk result (λ os. Moves (reached_in self.old d None (DialogueEvent.frame (message frame.now)) (dialogue_in d self.old.dialogues)) (outputs_answer os) self.new) }
+        ensures err { OnErr result (self.new ≡ self.old) }
+    {
+        take_in(&mut self.table, d, self.clock, frame)
+    }
 }

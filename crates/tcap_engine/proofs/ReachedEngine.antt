@@ -1,0 +1,127 @@
+-- The engine after a message, or a faulty one, reached one of its dialogues.
+use Rattle.std.proofs.Common.{◌≡◌, ℕ, ◌≤◌, ◌++◌, true, false, nat_eq, List, [], Option, Some, None, Ok, Err, refl, ap, sym, ◌∙◌, subst, arith}
+use Rattle.std.specs.Prelude.{option_to_list, IfOk, Result}
+use Rattle.std.specs.Map.{lookup}
+use Rattle.ber_core.specs.declared.fault.OutOfMemory.{OutOfMemory}
+use Rattle.tcap_dialogue.specs.StepViews.{Outcome, asked, at_clock, outcome}
+use Rattle.tcap_engine.specs.Answering.{Moves}
+use Rattle.tcap_engine.specs.Asking.{PlacesMove, ReachesIn}
+use Rattle.tcap_engine.specs.Table.{Place, IsSound, IsWithin, dialogues_of, places_with}
+use Rattle.tcap_engine.specs.declared.limits.Limits.{Limits}
+use Rattle.tcap_engine.proofs.AskedEngine.{kept-left}
+use Rattle.tcap_engine.proofs.KeptLemmas.{IsKept, kept-framed}
+use Rattle.tcap_engine.proofs.PlaceLemmas.{dialogues-with, sound-with, found-within}
+use Rattle.tcap_engine.proofs.TableLemmas.{found-in, found-own}
+use Rattle.tcap_model.specs.Procedures.PortionRules.{PortionVerdict, portion_verdict}
+use Rattle.tcap_model.specs.Table.Dialogue.{Dialogue}
+use Rattle.tcap_model.specs.Table.EngineMove.{EngineMoved, dialogue_in, reached_in, aborting, moved_in, with_dialogue, number_after}
+use Rattle.tcap_model.specs.Table.TableMove.{Moved, Walked, DialogueEvent, table_move, continued_by, walked_in, left_standing}
+use Rattle.tcap_model.specs.Table.World.{World}
+use Rattle.tcap_model.specs.Words.Answer.{Answer}
+use Rattle.tcap_model.specs.Words.Output.{Output}
+use Rattle.tcap_pdu.specs.FrameSpelling.{Message}
+
+-- ---- a message draws no number
+
+continued-alike : (clock number : ℕ) (d : Dialogue) (origin : List ℕ) (v : PortionVerdict) (w : Walked)
+    → continued_by (asked clock number) d origin v w ≡ continued_by (at_clock clock) d origin v w
+continued-alike clock number d origin (PortionVerdict.normal context info) w = refl
+continued-alike clock number d origin PortionVerdict.abnormal w = refl
+
+pub framed-alike : (clock number : ℕ) (d : Dialogue) (m : Message)
+    → table_move (asked clock number) d (DialogueEvent.frame m) ≡ table_move (at_clock clock) d (DialogueEvent.frame m)
+unfolding table_move
+framed-alike clock number d (Message.unidirectional portion components) = refl
+framed-alike clock number d (Message.begin origin portion components) = refl
+framed-alike clock number d (Message.go_on origin to portion components) =
+    continued-alike clock number d origin (portion_verdict d.standing.state d.standing.context portion) (walked_in clock d components)
+framed-alike clock number d (Message.end to portion components) = refl
+framed-alike clock number d (Message.abort to reason) = refl
+
+pub fault-alike : (clock number : ℕ) (d : Dialogue) (cause : ℕ)
+    → table_move (asked clock number) d (DialogueEvent.fault cause) ≡ table_move (at_clock 0) d (DialogueEvent.fault cause)
+unfolding table_move
+fault-alike clock number d cause = refl
+
+pub kept-frame : (reject_ms next clock : ℕ) (d : Dialogue) (m : Message) → IsWithin reject_ms next d
+    → IsKept d.standing.identifier reject_ms next (table_move (at_clock clock) d (DialogueEvent.frame m)).after
+unfolding table_move
+kept-frame reject_ms next clock d m h = kept-framed reject_ms next (at_clock clock) d m h
+
+pub kept-fault : (reject_ms next : ℕ) (d : Dialogue) (cause : ℕ) → IsWithin reject_ms next d
+    → IsKept d.standing.identifier reject_ms next (table_move (at_clock 0) d (DialogueEvent.fault cause)).after
+unfolding table_move
+kept-fault reject_ms next d cause h = (refl, (h.0, tt))
+
+-- ---- the engine
+
+module _ (limits : Limits) (next_dialogue number clock d : ℕ) (ps : List Place) (sound : IsSound limits next_dialogue number clock ps)
+    (event : DialogueEvent) (move : Dialogue → Moved)
+    (alike : (x : Dialogue) → table_move (asked clock number) x event ≡ move x)
+    (keeps : (x : Dialogue) → IsWithin limits.reject_ms number x → IsKept x.standing.identifier limits.reject_ms number (move x).after) where
+  -- the engine with other places
+  abbrev pub engine_of : List Place → World
+  engine_of qs = record { max_dialogues = limits.max_dialogues; reject_ms = limits.reject_ms; next_dialogue = next_dialogue; next_number = number; clock = clock; dialogues = dialogues_of qs }
+
+  reached-engine : (x : Dialogue) (abort : Option Output) (told : List Output) (qs : List Place) → lookup (nat_eq d) ps ≡ Some x
+      → PlacesMove (outcome (move x)) d (Answer.outputs told) ps qs
+      → Moves (moved_in (engine_of ps) d (aborting abort (move x))) (Answer.outputs (option_to_list abort ++ told)) (engine_of qs)
+  reached-engine x abort told qs found p =
+      let m : Moved = move x in
+      let is : m.answer ≡ Answer.outputs told = sym p.0 in
+      let whole : List Dialogue → World = λ ds. record { max_dialogues = limits.max_dialogues; reject_ms = limits.reject_ms; next_dialogue = next_dialogue; next_number = number; clock = clock; dialogues = ds } in
+      let table : dialogues_of qs ≡ with_dialogue d (left_standing m) (dialogues_of ps) = ap dialogues_of p.1 ∙ dialogues-with d (left_standing m) ps sound.from in
+      let moves : Answer → EngineMoved = λ a. moved_in (engine_of ps) d (aborting abort (record m { answer = a })) in
+      subst (λ (a : Answer). Moves (moves a) (Answer.outputs (option_to_list abort ++ told)) (engine_of qs)) (sym is) (refl, ap whole table)
+
+  pub reached-sound : (x : Dialogue) (told : List Output) (qs : List Place) → lookup (nat_eq d) ps ≡ Some x
+      → PlacesMove (outcome (move x)) d (Answer.outputs told) ps qs → IsSound limits next_dialogue number clock qs
+  reached-sound x told qs found p =
+      let m : Moved = move x in
+      let own : x.standing.identifier ≡ d = found-own d 0 x ps sound.from found in
+      let kept : IsKept d limits.reject_ms number m.after = subst (λ i. IsKept i limits.reject_ms number m.after) own (keeps x (found-within d limits.reject_ms number x ps found sound.within)) in
+      let all : IsSound limits next_dialogue number clock (places_with d (left_standing m) ps) =
+      sound-with limits next_dialogue number number clock d (left_standing m) ps (omega arith) (kept-left d limits.reject_ms number m kept) sound in
+      subst (λ (qs : List Place). IsSound limits next_dialogue number clock qs) (sym p.1) all
+
+  move-of : (abort : Option Output) (x : Dialogue) → lookup (nat_eq d) ps ≡ Some x
+      → reached_in (engine_of ps) d abort event (dialogue_in d (dialogues_of ps)) ≡ moved_in (engine_of ps) d (aborting abort (move x))
+  move-of abort x found =
+      ap (reached_in (engine_of ps) d abort event) (found-in d 0 ps sound.from ∙ found)
+      ∙ ap (λ (m : Moved). moved_in (engine_of ps) d (aborting abort m)) (alike x)
+
+  -- What the engine tells and is then, where the dialogue stands.
+  pub reached-some : (x : Dialogue) (abort : Option Output) (told : List Output) (qs : List Place) → lookup (nat_eq d) ps ≡ Some x
+      → PlacesMove (outcome (move x)) d (Answer.outputs told) ps qs
+      → Moves (reached_in (engine_of ps) d abort event (dialogue_in d (dialogues_of ps))) (Answer.outputs (option_to_list abort ++ told)) (engine_of qs)
+  reached-some x abort told qs found p =
+      subst (λ (v : EngineMoved). Moves v (Answer.outputs (option_to_list abort ++ told)) (engine_of qs)) (sym (move-of abort x found)) (reached-engine x abort told qs found p)
+
+  -- The same, whether it stands or not.
+  pub reached-ok : {T : Type 0} (view : T → List Output) (outputs : T) (qs : List Place)
+      → ReachesIn (λ (t : T). Answer.outputs (view t)) (Ok outputs) (λ x. outcome (move x)) d (lookup (nat_eq d) ps) ps qs
+      → Moves (reached_in (engine_of ps) d None event (dialogue_in d (dialogues_of ps))) (Answer.outputs (view outputs)) (engine_of qs)
+  reached-ok {T} view outputs qs h = go (lookup (nat_eq d) ps) refl h
+    where
+      go : (o : Option Dialogue) → lookup (nat_eq d) ps ≡ o → ReachesIn (λ (t : T). Answer.outputs (view t)) (Ok outputs) (λ x. outcome (move x)) d o ps qs
+          → Moves (reached_in (engine_of ps) d None event (dialogue_in d (dialogues_of ps))) (Answer.outputs (view outputs)) (engine_of qs)
+      go None e p =
+          let absent : dialogue_in d (dialogues_of ps) ≡ None = found-in d 0 ps sound.from ∙ e in
+          subst (λ (o : Option Dialogue). Moves (reached_in (engine_of ps) d None event o) (Answer.outputs (view outputs)) (engine_of qs)) (sym absent) (p.0, ap engine_of p.1)
+      go (Some x) e p = reached-some x None (view outputs) qs e p
+
+  pub sound-reached : {T : Type 0} (view : T → List Output) (result : Result T OutOfMemory) (qs : List Place)
+      → ReachesIn (λ (t : T). Answer.outputs (view t)) result (λ x. outcome (move x)) d (lookup (nat_eq d) ps) ps qs → IsSound limits next_dialogue number clock qs
+  sound-reached {T} view (Err f) qs h = subst (λ (qs : List Place). IsSound limits next_dialogue number clock qs) (sym h) sound
+  sound-reached {T} view (Ok outputs) qs h = go (lookup (nat_eq d) ps) refl h
+    where
+      go : (o : Option Dialogue) → lookup (nat_eq d) ps ≡ o → ReachesIn (λ (t : T). Answer.outputs (view t)) (Ok outputs) (λ x. outcome (move x)) d o ps qs → IsSound limits next_dialogue number clock qs
+      go None e p = subst (λ (qs : List Place). IsSound limits next_dialogue number clock qs) (sym p.1) sound
+      go (Some x) e p = reached-sound x (view outputs) qs e p
+
+  -- What was told, if memory wasn't refused.
+  pub reached-if : {T : Type 0} (view : T → List Output) (result : Result T OutOfMemory) (qs : List Place)
+      → ReachesIn (λ (t : T). Answer.outputs (view t)) result (λ x. outcome (move x)) d (lookup (nat_eq d) ps) ps qs
+      → IfOk result (λ t. Moves (reached_in (engine_of ps) d None event (dialogue_in d (dialogues_of ps))) (Answer.outputs (view t)) (engine_of qs))
+  reached-if {T} view (Ok t) qs h = reached-ok view t qs h
+  reached-if {T} view (Err f) qs h = tt
