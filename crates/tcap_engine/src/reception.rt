@@ -38,7 +38,10 @@ pub enum Reception<'m> {
         components: &'m [u8],
     },
     /// A dialogue that is live takes a Continue, an End or an Abort.
-    Taken { dialogue: u32, frame: Frame<'m> },
+    Taken {
+        dialogue: u32,
+        frame: Frame<'m>,
+    },
     /// A faulty message ends a dialogue that is live; an Abort goes to the originator, if it is known.
     Broken {
         dialogue: u32,
@@ -198,7 +201,11 @@ fn refuse<'m>(origin: Option<TransId>, fault: FrameFault) -> Reception<'m>
 }
 
 /// A faulty Continue ends the live dialogue that it names, and is aborted (our own).
-fn break_continue<'m>(named: Option<u32>, origin: Option<TransId>, fault: FrameFault) -> Reception<'m>
+fn break_continue<'m>(
+    named: Option<u32>,
+    origin: Option<TransId>,
+    fault: FrameFault,
+) -> Reception<'m>
     ensures value { reception_view result ≡ faulty_continue named (fault_abort fault origin) fault }
     ensures can { CanRun result }
     ensures of { IsOf named result }

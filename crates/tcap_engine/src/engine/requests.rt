@@ -4,11 +4,13 @@ ghost use Rattle.std.specs.Prelude.{◌≡◌};
 ghost use Rattle.tcap_dialogue.specs.RequestViews.{request_view};
 ghost use Rattle.tcap_engine.specs.Answering.{EngineAnswers};
 ghost use Rattle.tcap_engine.specs.Asking.{IsLeft, asked_answer};
+ghost use Rattle.tcap_engine.specs.HistoryForm.{Stands};
 ghost use Rattle.tcap_model.specs.Table.EngineMove.{engine_move, number_after};
 ghost use Rattle.tcap_model.specs.Words.Event.{Event};
 
 use super::Engine;
 use super::asking::ask_in;
+use crate::ranges;
 use std::alloc::Allocator;
 use tcap_dialogue::{Asked, Fault, Request};
 
@@ -24,7 +26,20 @@ fn next_number<A: Allocator + Copy>(asked: &Asked<'_, A>, next: u64) -> u64
 }
 
 impl<A: Allocator + Copy> Engine<A> {
-    /// Any request on the dialogue with this identifier.
+    /// Any request on the dialogue with this identifier; the calls of their own names are the same. Faults:
+    /// `UnknownDialogue`, and those of the request.
+    #[tactic(auto, using(crate::proofs::StandingLemmas::stands_after))]
+    pub fn request<'m>(&mut self, d: u32, request: &Request<'_>) -> Result<Asked<'m, A>, Fault>
+        ensures moves { EngineAnswers asked_answer result (engine_move self.old (Event.on_dialogue d (request_view request.now))) self.old self.new }
+        // Whatever legal history the engine stood at: the reply, and the history that it stands at then.
+        ensures stands { Stands asked_answer result (Event.on_dialogue d (request_view request.now)) self.old self.new }
+    {
+        ranges::short(d);
+        ranges::request(request);
+        self.ask(d, request)
+    }
+
+    /// The same, by the engine's move.
     pub(super) fn ask<'m>(&mut self, d: u32, request: &Request<'_>) -> Result<Asked<'m, A>, Fault>
         ensures { EngineAnswers asked_answer result (engine_move self.old (Event.on_dialogue d (request_view request.now))) self.old self.new }
     {
