@@ -1,6 +1,6 @@
 //! Dialogues that are born.
 
-ghost use Rattle.std.specs.Prelude.{◌≡◌, None, OnErr, OnOk, IfOk, IfSome};
+ghost use Rattle.std.specs.Prelude.{◌≡◌, ◌<◌, ◌+◌, None, OnErr, OnOk, IfOk, IfSome};
 ghost use Rattle.std.specs.Option.{option_map};
 ghost use Rattle.ber_core.specs.ObjectIdentifier.{IsObjectIdentifier};
 ghost use Rattle.tcap_dialogue.specs.Beginning.{context_given, info_given};
@@ -84,8 +84,9 @@ impl<A: Allocator + Copy> Engine<A> {
     {
         self.table.reserve(1)?;
         let identifier = self.next_dialogue;
+        let following = next_identifier(identifier);
         self.table.insert(identifier, dialogue).unwrap();
-        self.next_dialogue = identifier + 1;
+        self.next_dialogue = following;
         Ok(())
     }
 

@@ -20,7 +20,7 @@ invariant_of-self-2 g c =
     let many = length-map ps (λ (p : Place). p.1) in
     let next : c.args.dialogue.standing.identifier ≡ d = rw (sym c.self.view_is) at c.requires.next in
     let within : IsWithin c.self.inside.limits.reject_ms c.self.inside.next_number c.args.dialogue = rw (sym c.self.view_is) at c.requires.within in
-    rw new (record {
+    rw (new, c.next_identifier-following.ensures) (record {
       limited = c.self.invariant.limited;
       time = c.self.invariant.time;
       from = from-push 0 ps (d, c.args.dialogue) (omega arith) next c.self.invariant.drawn c.self.invariant.from;
@@ -38,5 +38,5 @@ returns-clause-ok g c =
     let put : c.insert.new.self.entries ≡ c.reserve.new.self.entries ++ (d, c.args.dialogue) ∷ [] = search (rules, insert_entry-new nat_eq c.reserve.new.self d c.args.dialogue none) in
     let new : dialogues_of c.insert.new.self.entries ≡ dialogues_of ps ++ c.args.dialogue ∷ [] =
     ap dialogues_of (put ∙ ap (λ (qs : List Place). qs ++ (d, c.args.dialogue) ∷ []) same) ∙ dialogues-push ps (d, c.args.dialogue) in
-    let whole : List Dialogue → World = λ ds. record { max_dialogues = c.self.inside.limits.max_dialogues; reject_ms = c.self.inside.limits.reject_ms; next_dialogue = d + 1; next_number = c.self.inside.next_number; clock = c.self.inside.clock; dialogues = ds } in
-    ap whole new ∙ ap (λ (w : World). with_born w c.args.dialogue) c.self.view_is
+    let whole : ℕ → List Dialogue → World = λ n ds. record { max_dialogues = c.self.inside.limits.max_dialogues; reject_ms = c.self.inside.limits.reject_ms; next_dialogue = n; next_number = c.self.inside.next_number; clock = c.self.inside.clock; dialogues = ds } in
+    ap (λ n. whole n (dialogues_of c.insert.new.self.entries)) c.next_identifier-following.ensures ∙ ap (whole (d + 1)) new ∙ ap (λ (w : World). with_born w c.args.dialogue) c.self.view_is
