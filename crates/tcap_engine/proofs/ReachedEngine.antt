@@ -1,12 +1,12 @@
 -- The engine after a message, or a faulty one, reached one of its dialogues.
 use Rattle.std.proofs.Common.{◌≡◌, ℕ, ◌≤◌, ◌++◌, true, false, nat_eq, List, [], Option, Some, None, Ok, Err, refl, ap, sym, ◌∙◌, subst, arith}
-use Rattle.std.specs.Prelude.{option_to_list, IfOk, Result}
+use Rattle.std.specs.Prelude.{option_to_list, IfOk, IsSome, Result}
 use Rattle.std.specs.Map.{lookup}
 use Rattle.ber_core.specs.declared.fault.OutOfMemory.{OutOfMemory}
 use Rattle.tcap_dialogue.specs.StepViews.{Outcome, asked, at_clock, outcome}
 use Rattle.tcap_engine.specs.Answering.{Moves}
 use Rattle.tcap_engine.specs.Asking.{PlacesMove, ReachesIn}
-use Rattle.tcap_engine.specs.Table.{Place, IsSound, IsWithin, dialogues_of, places_with}
+use Rattle.tcap_engine.specs.Table.{Place, AreFrom, IsSound, IsWithin, dialogues_of, places_with}
 use Rattle.tcap_engine.specs.declared.limits.Limits.{Limits}
 use Rattle.tcap_engine.proofs.AskedEngine.{kept-left}
 use Rattle.tcap_engine.proofs.KeptLemmas.{IsKept, kept-framed}
@@ -14,7 +14,7 @@ use Rattle.tcap_engine.proofs.PlaceLemmas.{dialogues-with, sound-with, found-wit
 use Rattle.tcap_engine.proofs.TableLemmas.{found-in, found-own}
 use Rattle.tcap_model.specs.Procedures.PortionRules.{PortionVerdict, portion_verdict}
 use Rattle.tcap_model.specs.Table.Dialogue.{Dialogue}
-use Rattle.tcap_model.specs.Table.EngineMove.{EngineMoved, dialogue_in, reached_in, aborting, moved_in, with_dialogue, number_after}
+use Rattle.tcap_model.specs.Table.EngineMove.{EngineMoved, dialogue_in, is_live_in, is_live_if_any, reached_in, aborting, moved_in, with_dialogue, number_after}
 use Rattle.tcap_model.specs.Table.TableMove.{Moved, Walked, DialogueEvent, table_move, continued_by, walked_in, left_standing}
 use Rattle.tcap_model.specs.Table.World.{World}
 use Rattle.tcap_model.specs.Words.Answer.{Answer}
@@ -125,3 +125,24 @@ module _ (limits : Limits) (next_dialogue number clock d : ℕ) (ps : List Place
       → IfOk result (λ t. Moves (reached_in (engine_of ps) d None event (dialogue_in d (dialogues_of ps))) (Answer.outputs (view t)) (engine_of qs))
   reached-if {T} view (Ok t) qs h = reached-ok view t qs h
   reached-if {T} view (Err f) qs h = tt
+
+  -- The same of a dialogue that stands, where an Abort goes out first, if there is one.
+  pub reached-aborting : {T : Type 0} (view : T → List Output) (abort : Option Output) (result : Result T OutOfMemory) (qs : List Place)
+      → IsSome (lookup (nat_eq d) ps)
+      → ReachesIn (λ (t : T). Answer.outputs (view t)) result (λ x. outcome (move x)) d (lookup (nat_eq d) ps) ps qs
+      → IfOk result (λ t. Moves (reached_in (engine_of ps) d abort event (dialogue_in d (dialogues_of ps))) (Answer.outputs (option_to_list abort ++ view t)) (engine_of qs))
+  reached-aborting {T} view abort (Err f) qs there h = tt
+  reached-aborting {T} view abort (Ok t) qs there h = go (lookup (nat_eq d) ps) refl there h
+    where
+      go : (o : Option Dialogue) → lookup (nat_eq d) ps ≡ o → IsSome o → ReachesIn (λ (t : T). Answer.outputs (view t)) (Ok t) (λ x. outcome (move x)) d o ps qs
+          → Moves (reached_in (engine_of ps) d abort event (dialogue_in d (dialogues_of ps))) (Answer.outputs (option_to_list abort ++ view t)) (engine_of qs)
+      go None e missing p = absurd cc
+      go (Some x) e there p = reached-some x abort (view t) qs e p
+
+-- A dialogue that is live stands.
+pub live-found : (d : ℕ) (ps : List Place) → AreFrom 0 ps → is_live_in (dialogues_of ps) d ≡ true → IsSome (lookup (nat_eq d) ps)
+live-found d ps from live = go (lookup (nat_eq d) ps) (sym (ap is_live_if_any (found-in d 0 ps from)) ∙ live)
+  where
+    go : (o : Option Dialogue) → is_live_if_any o ≡ true → IsSome o
+    go None e = absurd cc
+    go (Some x) e = refl

@@ -1,20 +1,23 @@
 //! Messages that reach a dialogue of the table, and faulty ones.
 
-ghost use Rattle.std.specs.Prelude.{◌≡◌, ◌≤◌, ◌<◌, nat_eq, None, IfOk, OnErr, IsSome, vec_len, vec_capacity};
+ghost use Rattle.std.specs.Prelude.{◌≡◌, ◌≤◌, ◌<◌, nat_eq, true, Some, None, IfOk, OnErr, IsSome, vec_len, vec_capacity};
 ghost use Rattle.std.specs.Map.{lookup};
+ghost use Rattle.tcap_dialogue.specs.AbortViews.{cause_number};
 ghost use Rattle.tcap_dialogue.specs.StepViews.{at_clock, outcome};
 ghost use Rattle.tcap_engine.specs.Answering.{Moves, outputs_answer};
 ghost use Rattle.tcap_engine.specs.Asking.{ReachesIn};
 ghost use Rattle.tcap_invocation.specs.Stage.{moment_limit};
-ghost use Rattle.tcap_model.specs.Table.EngineMove.{dialogue_in, reached_in};
+ghost use Rattle.tcap_model.specs.Procedures.AbortRules.{fault_cause};
+ghost use Rattle.tcap_model.specs.Procedures.Reception.{fault_abort};
+ghost use Rattle.tcap_model.specs.Table.EngineMove.{dialogue_in, is_live_in, reached_in};
 ghost use Rattle.tcap_model.specs.Table.TableMove.{DialogueEvent, table_move};
 ghost use Rattle.tcap_pdu.specs.FrameViews.{message};
 
 use super::{Engine, Table};
 use ber_core::OutOfMemory;
 use std::alloc::Allocator;
-use tcap_dialogue::Output;
-use tcap_pdu::Frame;
+use tcap_dialogue::{Abort, Cause, Output, write_abort};
+use tcap_pdu::{Frame, FrameFault, TransId};
 
 /// A message to the dialogue of an identifier, which is taken out where it is over.
 pub(super) fn take_in<'m, A: Allocator + Copy>(
@@ -42,17 +45,17 @@ pub(super) fn take_in<'m, A: Allocator + Copy>(
 pub(super) fn break_in<'m, A: Allocator + Copy>(
     table: &mut Table<A>,
     d: u32,
-    cause: u8,
+    cause: Cause,
 ) -> Result<Vec<Output<'m, A>, A>, OutOfMemory>
     requires { IsSome (lookup (nat_eq d) table.old.entries) }
-    ensures reached { ReachesIn outputs_answer result (λ x. outcome (table_move (at_clock 0) x (DialogueEvent.fault cause))) d (lookup (nat_eq d) table.old.entries) table.old.entries table.new.entries }
+    ensures reached { ReachesIn outputs_answer result (λ x. outcome (table_move (at_clock 0) x (DialogueEvent.fault (cause_number cause)))) d (lookup (nat_eq d) table.old.entries) table.old.entries table.new.entries }
     ensures room { IfOk result (λ os. vec_len os < vec_capacity os) }
 {
     let alloc = *table.allocator();
     let Some(dialogue) = table.get_mut(&d) else {
         return Ok(Vec::new(alloc));
     };
-    let step = dialogue.take_fault(cause)?;
+    let step = dialogue.take_fault(cause.number())?;
     if step.over {
         table.shift_remove(&d);
     }
@@ -70,5 +73,41 @@ impl<A: Allocator + Copy> Engine<A> {
         ensures err { OnErr result (self.new ≡ self.old) }
     {
         take_in(&mut self.table, d, self.clock, frame)
+    }
+
+    /// A faulty message ends a live dialogue; an Abort with the fault's cause goes to the originator first, if it
+    /// is known (our own, after Q.774, Abnormal procedures).
+    pub(super) fn break_off<'m>(
+        &mut self,
+        d: u32,
+        origin: Option<TransId>,
+        fault: FrameFault,
+    ) -> Result<Vec<Output<'m, A>, A>, OutOfMemory>
+        requires { is_live_in self.old.dialogues d ≡ true }
+        ensures ok { IfOk result (λ os. Moves (reached_in self.old d (fault_abort fault origin) (DialogueEvent.fault (fault_cause fault)) (dialogue_in d self.old.dialogues)) (outputs_answer os) self.new) }
+        ensures err { OnErr result (self.new ≡ self.old) }
+    {
+        match origin {
+            None => break_in(&mut self.table, d, Cause::Faulty(fault)),
+            Some(peer) => self.break_aborting(d, peer, fault),
+        }
+    }
+
+    /// The same, where the originator is known.
+    fn break_aborting<'m>(
+        &mut self,
+        d: u32,
+        peer: TransId,
+        fault: FrameFault,
+    ) -> Result<Vec<Output<'m, A>, A>, OutOfMemory>
+        requires { is_live_in self.old.dialogues d ≡ true }
+        ensures ok { IfOk result (λ os. Moves (reached_in self.old d (fault_abort fault (Some peer)) (DialogueEvent.fault (fault_cause fault)) (dialogue_in d self.old.dialogues)) (outputs_answer os) self.new) }
+        ensures err { OnErr result (self.new ≡ self.old) }
+    {
+        let cause = Cause::Faulty(fault);
+        let octets = write_abort(*self.table.allocator(), &Abort::Cause { peer, cause })?;
+        let mut outputs = break_in(&mut self.table, d, cause)?;
+        outputs.insert(0, Output::Send(octets)).unwrap();
+        Ok(outputs)
     }
 }
