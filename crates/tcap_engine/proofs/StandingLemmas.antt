@@ -1,5 +1,6 @@
 -- From the engine's move to any history at which the engine stands.
 use Rattle.std.proofs.Common.{sym, subst, ◌∙◌, Result, Ok, Err}
+use Rattle.ber_core.specs.declared.fault.OutOfMemory.{OutOfMemory}
 use Rattle.tcap_dialogue.specs.declared.fault.Fault.{Fault}
 use Rattle.tcap_dialogue.specs.FaultViews.{fault_view}
 use Rattle.tcap_laws.proofs.CallerLemmas.{moves-alike, closings_are, outcome_told, counted, dialogues-bounded, identifiers-bounded, queues-bounded}
@@ -12,8 +13,8 @@ use Rattle.tcap_model.specs.Words.Answer.{Answer}
 use Rattle.tcap_model.specs.Words.Event.{Event}
 use Rattle.tcap_model.specs.Words.Fault as model
 use Rattle.tcap_model.specs.Words.InRange.{InRange}
-use Rattle.tcap_engine.specs.Answering.{Moves, EngineRefuses, EngineAnswers}
-use Rattle.tcap_engine.specs.HistoryForm.{Headline, StandsOn, StandsRefused, Stands}
+use Rattle.tcap_engine.specs.Answering.{Moves, EngineRefuses, EngineAnswers, EngineHears}
+use Rattle.tcap_engine.specs.HistoryForm.{Headline, StandsOn, StandsRefused, Stands, StandsHeard}
 
 -- The headline holds at every legal history.
 pub headline : (h : History) → IsLegal h → Headline h
@@ -58,3 +59,9 @@ pub stands_after : {T : Type 0} → (view : T → Answer) (result : Result T Fau
     → EngineAnswers view result (engine_move old event) old new → Stands view result event old new
 stands_after view (Ok x) event old new within answers = λ h at. moved h event old new (view x) within at answers
 stands_after view (Err f) event old new within answers = λ h at. refused (fault_view f) h event old new within at answers
+
+-- The same of bytes.
+pub stands_heard : {T : Type 0} → (view : T → Answer) (result : Result T OutOfMemory) (event : Event) (old new : World) → InRange event
+    → EngineHears view result (engine_move old event) old new → StandsHeard view result event old new
+stands_heard view (Ok x) event old new within hears = λ h at. moved h event old new (view x) within at hears
+stands_heard view (Err refused) event old new within hears = λ h at. subst (StandsAt h) (sym hears) at

@@ -1,5 +1,6 @@
 -- What a call of the engine answers, beside what the engine's move says.
 use Rattle.std.specs.Prelude.{◌≡◌, ℕ, Result, Ok, Err, IsTrue}
+use Rattle.ber_core.specs.declared.fault.OutOfMemory.{OutOfMemory}
 use Rattle.tcap_dialogue.specs.declared.fault.Fault.{Fault}
 use Rattle.tcap_dialogue.specs.FaultViews.{fault_view, takes_memory}
 use Rattle.tcap_dialogue.specs.declared.output.Output.{Output}
@@ -32,3 +33,8 @@ birth_answer dialogue = Answer.new_dialogue dialogue
 -- Outputs are told (own).
 abbrev pub outputs_answer : {A : Type 0} → Vec (Output A) A → Answer
 outputs_answer told = Answer.outputs (all_shown told.items)
+
+-- What bytes are answered is what the move says; where memory was refused the engine is as it was (own).
+abbrev pub EngineHears : {T : Type 0} → (T → Answer) → Result T OutOfMemory → EngineMoved → World → World → Type 0
+EngineHears view (Ok x) m old new = Moves m (view x) new
+EngineHears view (Err refused) m old new = new ≡ old

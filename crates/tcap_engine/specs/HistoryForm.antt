@@ -1,5 +1,6 @@
 -- What a call of an engine says of any history at which the engine stands.
 use Rattle.std.specs.Prelude.{◌≡◌, ℕ, Result, Ok, Err}
+use Rattle.ber_core.specs.declared.fault.OutOfMemory.{OutOfMemory}
 use Rattle.tcap_dialogue.specs.declared.fault.Fault.{Fault}
 use Rattle.tcap_dialogue.specs.FaultViews.{fault_view}
 use Rattle.tcap_model.specs.Histories.History.{History}
@@ -41,3 +42,13 @@ StandsAfter view (Err f) h event engine = StandsRefused (fault_view f) h event e
 -- Whatever history an engine stood at, it stands so after a call (own).
 abbrev pub Stands : {T : Type 0} → (T → Answer) → Result T Fault → Event → World → World → Type 0
 Stands view result event old new = (h : History) → StandsAt h old → StandsAfter view result h event new
+
+-- The same of bytes, which are never refused; where memory was, the engine stands at the history still
+-- (own).
+abbrev pub HeardOn : {T : Type 0} → (T → Answer) → Result T OutOfMemory → History → Event → World → Type 0
+HeardOn view (Ok x) h event engine = StandsOn h event (view x) engine
+HeardOn view (Err refused) h event engine = StandsAt h engine
+
+-- Whatever history an engine stood at, it stands so after bytes were received (own).
+abbrev pub StandsHeard : {T : Type 0} → (T → Answer) → Result T OutOfMemory → Event → World → World → Type 0
+StandsHeard view result event old new = (h : History) → StandsAt h old → HeardOn view result h event new
