@@ -7,6 +7,7 @@
 #![tactic(auto)]
 
 mod engine;
+pub mod laws;
 mod limits;
 mod ranges;
 mod reception;

@@ -1,0 +1,5 @@
+use Rattle.tcap_engine.proofs.StandingLemmas.{headline}
+use Rattle.tcap_engine.proofs.laws.decided.Goals as goal
+
+pub returns : goal.returns
+returns c = λ h n legal. (headline h legal).decided n
