@@ -1,6 +1,7 @@
 //! What no clause says, run; and what the definitions print, computed.
 
 mod caller;
+mod dialogues;
 mod examples;
 mod growths;
 mod limits;
