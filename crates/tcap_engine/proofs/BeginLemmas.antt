@@ -1,5 +1,5 @@
 -- A dialogue that a Begin gives birth to is one that an engine may keep.
-use Rattle.std.proofs.Common.{◌≡◌, ℕ, List, [], Option, refl}
+use Rattle.std.proofs.Common.{ℕ, List, Option, refl}
 use Rattle.tcap_component.specs.ComponentReading.{components_of}
 use Rattle.tcap_model.specs.Table.Dialogue.{fresh_dialogue}
 use Rattle.tcap_model.specs.Table.TableMove.{Setting, born}

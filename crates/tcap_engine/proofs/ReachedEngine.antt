@@ -1,9 +1,9 @@
 -- The engine after a message, or a faulty one, reached one of its dialogues.
-use Rattle.std.proofs.Common.{◌≡◌, ℕ, ◌≤◌, ◌++◌, true, false, nat_eq, List, [], Option, Some, None, Ok, Err, refl, ap, sym, ◌∙◌, subst, arith}
+use Rattle.std.proofs.Common.{◌≡◌, ℕ, ◌++◌, true, nat_eq, List, Option, Some, None, Ok, Err, refl, ap, sym, ◌∙◌, subst, arith}
 use Rattle.std.specs.Prelude.{option_to_list, IfOk, IsSome, Result}
 use Rattle.std.specs.Map.{lookup}
 use Rattle.ber_core.specs.declared.fault.OutOfMemory.{OutOfMemory}
-use Rattle.tcap_dialogue.specs.StepViews.{Outcome, asked, at_clock, outcome}
+use Rattle.tcap_dialogue.specs.StepViews.{asked, at_clock, outcome}
 use Rattle.tcap_engine.specs.Answering.{Moves}
 use Rattle.tcap_engine.specs.Asking.{PlacesMove, ReachesIn}
 use Rattle.tcap_engine.specs.Table.{Place, AreFrom, IsSound, IsWithin, dialogues_of, places_with}
@@ -14,7 +14,7 @@ use Rattle.tcap_engine.proofs.PlaceLemmas.{dialogues-with, sound-with, found-wit
 use Rattle.tcap_engine.proofs.TableLemmas.{found-in, found-own}
 use Rattle.tcap_model.specs.Procedures.PortionRules.{PortionVerdict, portion_verdict}
 use Rattle.tcap_model.specs.Table.Dialogue.{Dialogue}
-use Rattle.tcap_model.specs.Table.EngineMove.{EngineMoved, dialogue_in, is_live_in, is_live_if_any, reached_in, aborting, moved_in, with_dialogue, number_after}
+use Rattle.tcap_model.specs.Table.EngineMove.{EngineMoved, dialogue_in, is_live_in, is_live_if_any, reached_in, aborting, moved_in, with_dialogue}
 use Rattle.tcap_model.specs.Table.TableMove.{Moved, Walked, DialogueEvent, table_move, continued_by, walked_in, left_standing}
 use Rattle.tcap_model.specs.Table.World.{World}
 use Rattle.tcap_model.specs.Words.Answer.{Answer}

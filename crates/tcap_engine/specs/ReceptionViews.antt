@@ -1,7 +1,6 @@
 -- What becomes of received bytes, as a contract sees it.
-use Rattle.std.specs.Prelude.{◌≡◌, ℕ, Bool, false, List, [], Option, Some, None, IfSome}
+use Rattle.std.specs.Prelude.{◌≡◌, ℕ, Bool, false, Option, Some, None, IfSome}
 use Rattle.ber_core.specs.ObjectIdentifier.{IsObjectIdentifier}
-use Rattle.ber_core.specs.Place.{Slice}
 use Rattle.tcap_dialogue.specs.Beginning.{context_given, info_given}
 use Rattle.tcap_dialogue.specs.AbortViews.{CanWriteAbort, abort_sent}
 use Rattle.tcap_dialogue.specs.OutputViews.{drop_view}

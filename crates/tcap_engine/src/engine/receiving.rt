@@ -94,10 +94,7 @@ impl<A: Allocator + Copy> Engine<A> {
 
     /// Does what becomes of received bytes.
     #[tactic(auto, using(crate::proofs::BirthLemmas::can_be_born))]
-    fn take<'m>(
-        &mut self,
-        reception: Reception<'m>,
-    ) -> Result<Vec<Output<'m, A>, A>, OutOfMemory>
+    fn take<'m>(&mut self, reception: Reception<'m>) -> Result<Vec<Output<'m, A>, A>, OutOfMemory>
         requires can { CanRun reception }
         requires live { IfSome (reached reception) (λ d. is_live_in self.old.dialogues d ≡ true) }
         requires born { CanBear (is_some (birth_fault_in self.old)) reception }
@@ -128,10 +125,7 @@ impl<A: Allocator + Copy> Engine<A> {
     /// refused, and something is always told of them; those above 65,535 are dropped. The only error is that
     /// memory was refused, and then nothing has changed.
     #[tactic(auto, using(crate::proofs::StandingLemmas::stands_heard))]
-    pub fn receive<'m>(
-        &mut self,
-        bytes: &'m [u8],
-    ) -> Result<Vec<Output<'m, A>, A>, OutOfMemory>
+    pub fn receive<'m>(&mut self, bytes: &'m [u8]) -> Result<Vec<Output<'m, A>, A>, OutOfMemory>
         ensures moves { EngineHears outputs_answer result (engine_move self.old (Event.received bytes.now)) self.old self.new }
         // Whatever legal history the engine stood at: the reply, and the history that it stands at then.
         ensures stands { StandsHeard outputs_answer result (Event.received bytes.now) self.old self.new }
@@ -142,10 +136,7 @@ impl<A: Allocator + Copy> Engine<A> {
 
     /// The same, by the engine's move.
     #[tactic(auto, unfolding(tcap_model::specs::Table::EngineMove::engine_move))]
-    fn hear_and_take<'m>(
-        &mut self,
-        bytes: &'m [u8],
-    ) -> Result<Vec<Output<'m, A>, A>, OutOfMemory>
+    fn hear_and_take<'m>(&mut self, bytes: &'m [u8]) -> Result<Vec<Output<'m, A>, A>, OutOfMemory>
         ensures { EngineHears outputs_answer result (engine_move self.old (Event.received bytes.now)) self.old self.new }
     {
         let reception = self.hear(bytes);

@@ -1,4 +1,4 @@
-use Rattle.std.proofs.Common.{◌≡◌, ◌∙◌, sym, ap, true, None}
+use Rattle.std.proofs.Common.{◌≡◌, ◌∙◌, ap, true, None}
 use Rattle.tcap_dialogue.specs.OutputViews.{all_shown}
 use Rattle.tcap_dialogue.specs.StepViews.{at_clock}
 use Rattle.tcap_model.specs.Procedures.AbortRules.{fault_cause}

@@ -1,4 +1,4 @@
-use Rattle.std.proofs.Common.{rules, arith, refl, sym, ap, ◌≡◌, ◌∙◌, ◌+◌, ◌++◌, [], ◌∷◌, None, List, ℕ, length, nat_eq, ◌<◌}
+use Rattle.std.proofs.Common.{rules, arith, sym, ap, ◌≡◌, ◌∙◌, ◌+◌, ◌++◌, [], ◌∷◌, None, List, ℕ, length, nat_eq, ◌<◌}
 use Rattle.std.proofs.lemmas.List.{length-append, length-map}
 use Rattle.indexmap.specs.IndexMap.{get}
 use Rattle.indexmap.proofs.CallerLemmas.{insert_entry-new}

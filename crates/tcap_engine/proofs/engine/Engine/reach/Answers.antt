@@ -1,5 +1,3 @@
-use Rattle.std.proofs.Common.{◌≡◌, ◌∙◌, sym, ap, subst}
-use Rattle.std.specs.Prelude.{None, IfOk}
 use Rattle.tcap_dialogue.specs.OutputViews.{all_shown}
 use Rattle.tcap_dialogue.specs.StepViews.{at_clock}
 use Rattle.tcap_model.specs.Table.TableMove.{DialogueEvent, table_move}
