@@ -1,9 +1,9 @@
 -- The Aborts of the provider fit into any message.
-use Rattle.std.proofs.Common.{◌≡◌, ℕ, ◌+◌, ◌≤◌, List, [], length, refl, true, false, arith}
+use Rattle.std.proofs.Common.{ℕ, ◌+◌, ◌≤◌, List, [], length, refl, true, false, arith}
 use Rattle.ber_core.specs.ObjectIdentifier.{IsObjectIdentifier}
 use Rattle.ber_core.specs.WrittenLength.{element_length}
-use Rattle.tcap_pdu.specs.DialogueDue.{portion_length, external_length, opening_length, answer_length}
-use Rattle.tcap_pdu.specs.DialogueSpelling.{PduValue, Source, IsInformation}
+use Rattle.tcap_pdu.specs.DialogueDue.{portion_length, opening_length, answer_length}
+use Rattle.tcap_pdu.specs.DialogueSpelling.{Source, IsInformation}
 use Rattle.tcap_pdu.specs.DialogueSpelling.PduValue.{aare, abrt}
 use Rattle.tcap_pdu.specs.DialogueWritten.{IsWritable, written_dialogue}
 use Rattle.tcap_pdu.proofs.CallerLemmas.{element_most, external_most, length-dialogue}

@@ -1,18 +1,15 @@
 -- The slices of what the components tell lie in place.
-use Rattle.std.proofs.Common.{◌≡◌, ℕ, List, [], ◌∷◌, ◌++◌, Option, Some, None, Result, Ok, Err, refl, sym, ap, subst, ◌∙◌, append_assoc, ◌+◌}
-use Rattle.std.specs.List.{AllByRecursion}
+use Rattle.std.proofs.Common.{◌≡◌, List, [], ◌∷◌, ◌++◌, Option, Some, Result, Ok, Err, refl, sym, ap, subst, ◌∙◌, append_assoc}
 use Rattle.ber_core.specs.Place.{Slice, AtEnd}
 use Rattle.tcap_component.specs.declared.component.Component.{Component}
 use Rattle.tcap_component.specs.declared.components.Components.{Components}
 use Rattle.tcap_component.specs.declared.fault.ComponentFault.{ComponentFault}
-use Rattle.tcap_component.specs.Component.{ComponentParts}
-use Rattle.tcap_component.specs.ComponentFault.{FaultParts}
 use Rattle.tcap_component.specs.ComponentReading.{components_of}
-use Rattle.tcap_component.specs.Place.{ItemInPlace, StepsInPlace, bytes_left, components_steps}
-use Rattle.tcap_component.specs.Views.{item_view, components_left}
+use Rattle.tcap_component.specs.Place.{ItemInPlace, bytes_left, components_steps}
+use Rattle.tcap_component.specs.Views.{item_view}
 use Rattle.tcap_model.specs.Procedures.ComponentHandling.{Item}
 use Rattle.tcap_dialogue.specs.declared.output.Output.{Output}
-use Rattle.tcap_dialogue.specs.Slices.{Slices, IsLeftOf, StandsIn, AreOf, AreOfItem, LieIn, AllInPlace, slices_of}
+use Rattle.tcap_dialogue.specs.Slices.{Slices, IsLeftOf, StandsIn, AreOfItem, LieIn, AllInPlace, slices_of}
 
 -- All is left of a component portion of which nothing was read.
 pub left_self : (portion : Slice) → IsLeftOf portion portion

@@ -14,7 +14,7 @@ use Rattle.tcap_dialogue.specs.declared.output.Output.TheVariants as output
 use Rattle.tcap_invocation.specs.Invocations.{InvocationList}
 use Rattle.tcap_dialogue.specs.declared.output.Output as code
 use Rattle.tcap_dialogue.specs.OutputViews.{all_shown, shown}
-use Rattle.tcap_dialogue.specs.Walking.{Told, told_by, told_from, Done, done_by, done_from, with_reject}
+use Rattle.tcap_dialogue.specs.Walking.{Told, told_from, Done, done_by, done_from, with_reject}
 
 rejects_each : (queue : List Queued) (reject : Option ComponentParts) (rejects : List Queued) →
     queue_each queue_limit (with_reject queue reject) rejects ≡ queue_each queue_limit queue (reject_queued reject ++ rejects)

@@ -1,5 +1,5 @@
 -- What a Begin or a Unidirectional brings, and what is told of it.
-use Rattle.std.specs.Prelude.{◌≡◌, ℕ, List, [], ◌∷◌, Option, Some, None, false}
+use Rattle.std.specs.Prelude.{ℕ, List, [], ◌∷◌, Option, Some, None, false}
 use Rattle.ber_core.specs.Place.{Slice}
 use Rattle.tcap_model.specs.Procedures.QueueRules.{queue_limit, queue_each}
 use Rattle.tcap_model.specs.Table.Dialogue as model

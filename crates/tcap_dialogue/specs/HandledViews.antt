@@ -1,5 +1,4 @@
 -- What a component comes to, as a contract sees it.
-use Rattle.std.specs.Prelude.{Option}
 use Rattle.std.specs.Option.{option_map}
 use Rattle.tcap_component.specs.Component.{ComponentParts}
 use Rattle.tcap_component.specs.Component.ComponentParts.{reject_back}

@@ -1,5 +1,5 @@
 -- Outputs as a contract sees them.
-use Rattle.std.specs.Prelude.{option_copied, List, map, Option}
+use Rattle.std.specs.Prelude.{option_copied, List, map}
 use Rattle.std.specs.Option.{option_map}
 use Rattle.tcap_component.specs.Views.{code_parts, body_parts, problem_parts}
 use Rattle.tcap_pdu.specs.DialogueViews.{pdu_value}

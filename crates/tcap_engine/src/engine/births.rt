@@ -50,7 +50,7 @@ impl<A: Allocator + Copy> Engine<A> {
 
     /// A Begin gives birth to a dialogue: what is told (Q.774, Dialogue begin).
     #[tactic(auto, using(crate::proofs::BeginLemmas::kept_born))]
-    pub(super) fn begin<'m>(
+    pub(super) fn accept_begin<'m>(
         &mut self,
         origin: &TransId,
         request: Request<'m>,

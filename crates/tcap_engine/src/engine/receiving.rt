@@ -111,7 +111,7 @@ impl<A: Allocator + Copy> Engine<A> {
                 origin,
                 request,
                 components,
-            } => self.begin(&origin, request, components),
+            } => self.accept_begin(&origin, request, components),
             Reception::Taken { dialogue, frame } => self.reach(dialogue, &frame),
             Reception::Broken {
                 dialogue,

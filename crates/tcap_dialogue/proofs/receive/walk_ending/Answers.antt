@@ -1,4 +1,4 @@
-use Rattle.std.proofs.Common.{rules, ◌≡◌, Option, Some, refl, sym, ap, subst, ◌∙◌}
+use Rattle.std.proofs.Common.{rules, ◌≡◌, Some, sym, subst, ◌∙◌}
 use Rattle.ber_core.specs.Place.{Slice}
 use Rattle.tcap_component.specs.Place.{bytes_left, components_steps}
 use Rattle.tcap_component.specs.Views.{components_left, item_view}

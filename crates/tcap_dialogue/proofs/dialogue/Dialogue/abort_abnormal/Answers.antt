@@ -1,4 +1,3 @@
-use Rattle.std.proofs.Common.{◌≡◌}
 use Rattle.tcap_dialogue.proofs.PlaceLemmas.{all_first, all_next}
 use Rattle.tcap_dialogue.proofs.dialogue.Dialogue.abort_abnormal.Goals as goal
 

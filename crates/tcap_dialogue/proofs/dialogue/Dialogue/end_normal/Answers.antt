@@ -1,4 +1,3 @@
-use Rattle.std.proofs.Common.{◌≡◌}
 use Rattle.tcap_dialogue.proofs.PlaceLemmas.{all_first}
 use Rattle.tcap_dialogue.proofs.dialogue.Dialogue.end_normal.Goals as goal
 

@@ -1,5 +1,3 @@
-use Rattle.std.proofs.Common.{rules, ◌≡◌, sym, subst}
-use Rattle.tcap_dialogue.specs.Slices.{AllInPlace}
 use Rattle.tcap_pdu.specs.FramePortions.{reason_slice}
 use Rattle.tcap_dialogue.proofs.dialogue.Dialogue.receive_abort.Goals as goal
 

@@ -1,4 +1,3 @@
-use Rattle.std.proofs.Common.{◌≡◌}
 use Rattle.tcap_dialogue.proofs.dialogue.abort.abort_told.Goals as goal
 
 pub returns-in-Dialogue-clause-place : goal.returns-in-Dialogue-clause-place

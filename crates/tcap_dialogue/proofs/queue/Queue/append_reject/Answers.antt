@@ -1,4 +1,4 @@
-use Rattle.std.proofs.Common.{◌≡◌, ◌+◌, ◌≤◌, ◌<◌, ◌++◌, ◌∷◌, [], List, ℕ, length, ap, ◌∙◌, sym, arith, None}
+use Rattle.std.proofs.Common.{◌≡◌, ◌++◌, ◌∷◌, [], List, ℕ, length, ap, ◌∙◌, sym, arith, None}
 use Rattle.tcap_component.specs.Component.ComponentParts.{reject_back}
 use Rattle.tcap_component.specs.Views.{problem_parts}
 use Rattle.tcap_model.specs.Procedures.QueueRules.{Queued, queued}

@@ -5,7 +5,7 @@ use Rattle.tcap_engine.proofs.BeginLemmas.{kept_born}
 use Rattle.tcap_engine.specs.Table.{IsWithin}
 use Rattle.tcap_model.specs.Table.TableMove.{Moved, born}
 use Rattle.tcap_model.specs.Table.World.{World}
-use Rattle.tcap_engine.proofs.engine.Engine.begin.Goals as goal
+use Rattle.tcap_engine.proofs.engine.Engine.accept_begin.Goals as goal
 
 pub keep-requires-clause-within : goal.keep-requires-clause-within
 keep-requires-clause-within g c =
