@@ -4,6 +4,7 @@ pub mod BeginLemmas
 pub mod BirthLemmas
 pub mod DueLemmas
 pub mod KeptLemmas
+pub mod KindLemmas
 pub mod LeastLemmas
 pub mod MomentLemmas
 pub mod OrderLemmas

@@ -1,4 +1,5 @@
 pub mod Answering
+pub mod AskedKinds
 pub mod Asking
 pub mod HistoryForm
 pub mod Lapsing

@@ -1,6 +1,9 @@
 pub(crate) mod advance;
 pub(crate) mod asking;
 pub(crate) mod births;
+pub(crate) mod component_requests;
+pub(crate) mod dialogue_requests;
+pub(crate) mod kinds;
 pub(crate) mod moment;
 pub(crate) mod opening;
 pub(crate) mod reaching;
@@ -19,8 +22,10 @@ pub(crate) type Table<A> = IndexMap<u32, Dialogue<A>, BuildHasherDefault<FoldHas
 
 /// The engine (Q.774, Transaction sublayer procedures; Q.774, Component handling).
 ///
-/// - Requests of the TC-user: `new_dialogue`.
-/// - Events from outside: time.
+/// - Requests of the TC-user: `new_dialogue`; `invoke`, `result_last`, `result_more`, `error_back`,
+///   `u_reject` and `u_cancel` of component handling; `uni`, `begin_request`, `go_on`, `finish` and
+///   `u_abort` of dialogue handling; `request`, any of these eleven as a value.
+/// - Events from outside: `receive`, for messages; `advance`, for time.
 /// - Getters: `now`, `state_of`.
 ///
 /// Moments are in milliseconds by the caller's clock, at most 2^62. A contract sees the limits, the

@@ -14,3 +14,4 @@ mod reception;
 
 pub use engine::Engine;
 pub use limits::Limits;
+pub use tcap_dialogue::{AbortWhy, Asked, By, DropWhy, Ending, Fault, Output, Request, State, Why};

@@ -1,8 +1,9 @@
 //! Requests on a dialogue.
 
-ghost use Rattle.std.specs.Prelude.{◌≡◌};
+ghost use Rattle.std.specs.Prelude.{◌≡◌, IfOk};
 ghost use Rattle.tcap_dialogue.specs.RequestViews.{request_view};
 ghost use Rattle.tcap_engine.specs.Answering.{EngineAnswers};
+ghost use Rattle.tcap_engine.specs.AskedKinds.{MayAnswer, kind_of};
 ghost use Rattle.tcap_engine.specs.Asking.{IsLeft, asked_answer};
 ghost use Rattle.tcap_engine.specs.HistoryForm.{Stands};
 ghost use Rattle.tcap_model.specs.Table.EngineMove.{engine_move, number_after};
@@ -31,6 +32,8 @@ impl<A: Allocator + Copy> Engine<A> {
     #[tactic(auto, using(crate::proofs::StandingLemmas::stands_after))]
     pub fn request<'m>(&mut self, d: u32, request: &Request<'_>) -> Result<Asked<'m, A>, Fault>
         ensures moves { EngineAnswers asked_answer result (engine_move self.old (Event.on_dialogue d (request_view request.now))) self.old self.new }
+        // The answer is of the request's kind.
+        ensures kind { IfOk result (λ asked. MayAnswer (kind_of (request_view request.now)) (asked_answer asked)) }
         // Whatever legal history the engine stood at: the reply, and the history that it stands at then.
         ensures stands { Stands asked_answer result (Event.on_dialogue d (request_view request.now)) self.old self.new }
     {

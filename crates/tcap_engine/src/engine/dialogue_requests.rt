@@ -1,0 +1,101 @@
+//! The requests of dialogue handling (Q.771, Dialogue handling).
+
+ghost use Rattle.std.specs.Prelude.{option_copied};
+ghost use Rattle.tcap_dialogue.specs.RequestViews.{ending_view, reason_view};
+ghost use Rattle.tcap_engine.specs.Answering.{EngineAnswers, outputs_answer};
+ghost use Rattle.tcap_engine.specs.HistoryForm.{Stands};
+ghost use Rattle.tcap_model.specs.Table.EngineMove.{engine_move};
+ghost use Rattle.tcap_model.specs.Words.Event.{Event};
+ghost use Rattle.tcap_model.specs.Words.Request as model;
+ghost use Rattle.tcap_model.specs.Words.Request.{DialogueRequest};
+
+use super::Engine;
+use super::kinds::outputs_of;
+use std::alloc::Allocator;
+use tcap_dialogue::{AbortWhy, Ending, Fault, Output, Request};
+
+/// In all of these `context` is the contents octets of the application context name, and `info` the user
+/// information: EXTERNALs one after the other, empty where there is none.
+impl<A: Allocator + Copy> Engine<A> {
+    /// TC-UNI request: the queue goes out in a Unidirectional, and the dialogue is over. Faults:
+    /// `UnknownDialogue`, `WrongState` unless Fresh, `BadOid`, `BadParameter`, `NoContext` for information
+    /// without a context, `NotClassFour`, `TooLong`, `OutOfMemory` (Q.774, Unstructured dialogue).
+    pub fn uni<'m>(
+        &mut self,
+        d: u32,
+        context: Option<&[u8]>,
+        info: &[u8],
+    ) -> Result<Vec<Output<'m, A>, A>, Fault>
+        ensures moves { EngineAnswers outputs_answer result (engine_move self.old (Event.on_dialogue d (model.Request.dialogue (DialogueRequest.uni (option_copied context.entry) info.now)))) self.old self.new }
+        ensures stands { Stands outputs_answer result (Event.on_dialogue d (model.Request.dialogue (DialogueRequest.uni (option_copied context.entry) info.now))) self.old self.new }
+    {
+        outputs_of(self.request(d, &Request::Uni { context, info }))
+    }
+
+    /// TC-BEGIN request: the queue goes out in a Begin, with an AARQ where there is a context, and the
+    /// dialogue is Sent. Faults: `UnknownDialogue`, `WrongState` unless Fresh, `BadOid`, `BadParameter`,
+    /// `NoContext` for information without a context, `TooLong`, `OutOfMemory` (Q.774, Dialogue begin).
+    pub fn begin_request<'m>(
+        &mut self,
+        d: u32,
+        context: Option<&[u8]>,
+        info: &[u8],
+    ) -> Result<Vec<Output<'m, A>, A>, Fault>
+        ensures moves { EngineAnswers outputs_answer result (engine_move self.old (Event.on_dialogue d (model.Request.dialogue (DialogueRequest.begin (option_copied context.entry) info.now)))) self.old self.new }
+        ensures stands { Stands outputs_answer result (Event.on_dialogue d (model.Request.dialogue (DialogueRequest.begin (option_copied context.entry) info.now))) self.old self.new }
+    {
+        outputs_of(self.request(d, &Request::Begin { context, info }))
+    }
+
+    /// TC-CONTINUE request: the queue goes out in a Continue. In Received an AARQ is answered, with the
+    /// context given or else its own. Faults: `UnknownDialogue`, `WrongState` unless Received or Active,
+    /// `BadOid`, `BadParameter`, `NoContext` for a context or information where no AARQ is answered,
+    /// `TooLong`, `OutOfMemory` (Q.774, Dialogue continuation).
+    pub fn go_on<'m>(
+        &mut self,
+        d: u32,
+        context: Option<&[u8]>,
+        info: &[u8],
+    ) -> Result<Vec<Output<'m, A>, A>, Fault>
+        ensures moves { EngineAnswers outputs_answer result (engine_move self.old (Event.on_dialogue d (model.Request.dialogue (DialogueRequest.go_on (option_copied context.entry) info.now)))) self.old self.new }
+        ensures stands { Stands outputs_answer result (Event.on_dialogue d (model.Request.dialogue (DialogueRequest.go_on (option_copied context.entry) info.now))) self.old self.new }
+    {
+        outputs_of(self.request(d, &Request::Continue { context, info }))
+    }
+
+    /// TC-END request: a basic end sends the queue in an End, a prearranged one nothing; the dialogue is
+    /// over, and each invocation that is left is told as ended. Faults: `UnknownDialogue`, `WrongState`,
+    /// `BadOid`, `BadParameter`, `NoContext`, `TooLong`, `OutOfMemory` (Q.774, Dialogue end).
+    pub fn finish<'m>(
+        &mut self,
+        d: u32,
+        ending: Ending,
+        context: Option<&[u8]>,
+        info: &[u8],
+    ) -> Result<Vec<Output<'m, A>, A>, Fault>
+        ensures moves { EngineAnswers outputs_answer result (engine_move self.old (Event.on_dialogue d (model.Request.dialogue (DialogueRequest.finish (ending_view ending) (option_copied context.entry) info.now)))) self.old self.new }
+        ensures stands { Stands outputs_answer result (Event.on_dialogue d (model.Request.dialogue (DialogueRequest.finish (ending_view ending) (option_copied context.entry) info.now))) self.old self.new }
+    {
+        let request = Request::End {
+            ending,
+            context,
+            info,
+        };
+        outputs_of(self.request(d, &request))
+    }
+
+    /// TC-U-ABORT request: an Abort goes out to the peer, if it knows the dialogue; this is over, and each
+    /// invocation that is left is told as ended. Faults: `UnknownDialogue`, `WrongState`, `BadParameter`,
+    /// `NoContext`, `TooLong`, `OutOfMemory` (Q.774, Dialogue abort).
+    pub fn u_abort<'m>(
+        &mut self,
+        d: u32,
+        why: AbortWhy,
+        info: &[u8],
+    ) -> Result<Vec<Output<'m, A>, A>, Fault>
+        ensures moves { EngineAnswers outputs_answer result (engine_move self.old (Event.on_dialogue d (model.Request.dialogue (DialogueRequest.u_abort (reason_view why) info.now)))) self.old self.new }
+        ensures stands { Stands outputs_answer result (Event.on_dialogue d (model.Request.dialogue (DialogueRequest.u_abort (reason_view why) info.now))) self.old self.new }
+    {
+        outputs_of(self.request(d, &Request::Abort { why, info }))
+    }
+}

@@ -1,0 +1,71 @@
+//! The answer of a request, by its kind.
+
+ghost use Rattle.std.specs.Prelude.{IfOk};
+ghost use Rattle.tcap_dialogue.specs.FaultViews.{numbered, queued_done, gave_up};
+ghost use Rattle.tcap_engine.specs.Answering.{EngineAnswers, outputs_answer};
+ghost use Rattle.tcap_engine.specs.AskedKinds.{AnswerKind, MayAnswer};
+ghost use Rattle.tcap_engine.specs.Asking.{asked_answer};
+ghost use Rattle.tcap_engine.specs.HistoryForm.{StandsAfter};
+ghost use Rattle.tcap_model.specs.Histories.History.{History};
+ghost use Rattle.tcap_model.specs.Table.EngineMove.{EngineMoved};
+ghost use Rattle.tcap_model.specs.Table.World.{World};
+ghost use Rattle.tcap_model.specs.Words.Event.{Event};
+
+use std::alloc::Allocator;
+use tcap_dialogue::{Asked, Fault, Output};
+
+/// The number of a new invocation.
+pub(super) fn number_of<A: Allocator + Copy>(
+    asked: Result<Asked<'_, A>, Fault>,
+) -> Result<u64, Fault>
+    requires { IfOk asked (λ a. MayAnswer AnswerKind.number (asked_answer a)) }
+    ensures moves { (m : EngineMoved) (old new : World) → EngineAnswers asked_answer asked.entry m old new → EngineAnswers numbered result m old new }
+    ensures stands { (h : History) (event : Event) (new : World) → StandsAfter asked_answer asked.entry h event new → StandsAfter numbered result h event new }
+{
+    match asked? {
+        Asked::Number(number) => Ok(number),
+        Asked::Done | Asked::GivenUp(_) | Asked::Step(_) => unreachable!(),
+    }
+}
+
+/// A component was queued.
+pub(super) fn queued_of<A: Allocator + Copy>(
+    asked: Result<Asked<'_, A>, Fault>,
+) -> Result<(), Fault>
+    requires { IfOk asked (λ a. MayAnswer AnswerKind.queued (asked_answer a)) }
+    ensures moves { (m : EngineMoved) (old new : World) → EngineAnswers asked_answer asked.entry m old new → EngineAnswers queued_done result m old new }
+    ensures stands { (h : History) (event : Event) (new : World) → StandsAfter asked_answer asked.entry h event new → StandsAfter queued_done result h event new }
+{
+    match asked? {
+        Asked::Done => Ok(()),
+        Asked::Number(_) | Asked::GivenUp(_) | Asked::Step(_) => unreachable!(),
+    }
+}
+
+/// The number of the invocation that was given up.
+pub(super) fn given_up_of<A: Allocator + Copy>(
+    asked: Result<Asked<'_, A>, Fault>,
+) -> Result<u64, Fault>
+    requires { IfOk asked (λ a. MayAnswer AnswerKind.given_up (asked_answer a)) }
+    ensures moves { (m : EngineMoved) (old new : World) → EngineAnswers asked_answer asked.entry m old new → EngineAnswers gave_up result m old new }
+    ensures stands { (h : History) (event : Event) (new : World) → StandsAfter asked_answer asked.entry h event new → StandsAfter gave_up result h event new }
+{
+    match asked? {
+        Asked::GivenUp(number) => Ok(number),
+        Asked::Number(_) | Asked::Done | Asked::Step(_) => unreachable!(),
+    }
+}
+
+/// What is sent and told.
+pub(super) fn outputs_of<'m, A: Allocator + Copy>(
+    asked: Result<Asked<'m, A>, Fault>,
+) -> Result<Vec<Output<'m, A>, A>, Fault>
+    requires { IfOk asked (λ a. MayAnswer AnswerKind.outputs (asked_answer a)) }
+    ensures moves { (m : EngineMoved) (old new : World) → EngineAnswers asked_answer asked.entry m old new → EngineAnswers outputs_answer result m old new }
+    ensures stands { (h : History) (event : Event) (new : World) → StandsAfter asked_answer asked.entry h event new → StandsAfter outputs_answer result h event new }
+{
+    match asked? {
+        Asked::Step(step) => Ok(step.outputs),
+        Asked::Number(_) | Asked::Done | Asked::GivenUp(_) => unreachable!(),
+    }
+}
