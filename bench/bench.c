@@ -8,7 +8,9 @@
  * MODE read, write, rewrite, element: SIZE is a line of data/messages.txt, counted from 1. MODE invokes: reads a
  * Begin of SIZE Invokes. MODE nested: reads one element of SIZE indefinite elements one in another,
  * with 60,000 bytes inside. MODE inside: reads a Begin, all of indefinite form, with SIZE of them in
- * the parameter of its Invoke.
+ * the parameter of its Invoke. MODE dialogue, ending: a dialogue is taken SIZE steps far, 1 the Invoke,
+ * 2 the Begin, 3 the Continue (ending: the End) with its result, 4 a result queued, 5 the Continue sent.
+ * MODE answer: reads that message, SIZE 1 the Continue, 2 the End.
  */
 #include <stdint.h>
 #include <stdio.h>
@@ -32,6 +34,7 @@ size_t tcap_bench_write_continue(uint32_t otid, uint32_t dtid, const uint8_t *co
                                  size_t context_length, int8_t id, uint8_t *room,
                                  size_t room_length);
 size_t tcap_bench_rewrite(const uint8_t *bytes, size_t length, uint8_t *room, size_t room_length);
+uint64_t tcap_bench_dialogue(uint8_t steps, const uint8_t *bytes, size_t length);
 
 /* Where the program's memory is a buffer (buffer.c), all that a call took is given back behind it. */
 size_t memory_used(void) __attribute__((weak));
@@ -113,6 +116,14 @@ static void make_inside(unsigned depth) {
   add("\0\0\0\0\0\0", 6);
 }
 
+/* The peer's answer to a Begin with Invoke 1: its result, in an End or in a Continue. */
+static void make_answer(int last) {
+  length = 0;
+  if (last) add("\x64\x0d\x49\x04\0\0\0\1", 8);
+  else add("\x65\x13\x48\x04\0\0\0\5\x49\x04\0\0\0\1", 14);
+  add("\x6c\x05\xa2\x03\x02\x01\x01", 7);
+}
+
 static void make_values(const struct values *v) {
   for (unsigned i = 0; i < v->invokes; i++) {
     uint32_t start = v->first + 16 * i;
@@ -132,6 +143,9 @@ static void make(const char *mode, unsigned size) {
   if (!strcmp(mode, "invokes")) make_invokes(size);
   else if (!strcmp(mode, "nested")) length = 0, add_nested(size);
   else if (!strcmp(mode, "inside")) make_inside(size);
+  else if (!strcmp(mode, "dialogue")) make_answer(0);
+  else if (!strcmp(mode, "ending")) make_answer(1);
+  else if (!strcmp(mode, "answer")) make_answer(size == 2);
   else if (size < 1 || size > MESSAGES) stop("no such message");
   else read_line(size), make_values(&values[size - 1]);
 }
@@ -151,8 +165,12 @@ static uint64_t repeat(const char *mode, unsigned size, long count) {
     }
   else if (!strcmp(mode, "element") || !strcmp(mode, "nested"))
     for (long i = 0; i < count; i++) sum += tcap_bench_element(message, length);
-  else if (!strcmp(mode, "read") || !strcmp(mode, "invokes") || !strcmp(mode, "inside"))
+  else if (!strcmp(mode, "read") || !strcmp(mode, "invokes") || !strcmp(mode, "inside") ||
+           !strcmp(mode, "answer"))
     for (long i = 0; i < count; i++) sum += tcap_bench_read(message, length);
+  else if (!strcmp(mode, "dialogue") || !strcmp(mode, "ending"))
+    for (long i = 0; i < count; i++) /* before the Begin there is no output */
+      sum += tcap_bench_dialogue((uint8_t)size, message, length) + (size < 2);
   else
     stop("no such mode");
   if (count && !sum) stop("the message can't be read or written");

@@ -4,12 +4,13 @@
 //! Begin at `tcap_bench_read`. What it answers stands in specs/Checksum.antt.
 #![tactic(auto)]
 
-ghost use Rattle.std.specs.Prelude.{◌≡◌};
+ghost use Rattle.std.specs.Prelude.{◌≡◌, ◌<◌};
 ghost use Rattle.tcap_bench.specs.Checksum.{element_checksum, message_checksum};
 ghost use Rattle.tcap_bench.specs.Messages.{begin_of, continue_of, IsPut};
 ghost use Rattle.tcap_bench.specs.Rewritten.{rewritten};
 
 mod component_sum;
+mod dialogue_steps;
 mod message_sum;
 mod rewritten;
 mod sum;
@@ -79,4 +80,15 @@ pub extern "C" fn tcap_bench_rewrite(alloc: Global, bytes: &[u8], room: &mut [u8
     ensures { IsPut (rewritten bytes.now) result room.new }
 {
     rewritten::put_rewritten(alloc, bytes, room)
+}
+
+/// Makes a dialogue and takes it so many steps far, and answers how many outputs were given in all:
+/// 1: an Invoke; 2: the Begin; 3: the message is read and taken; 4: a result is queued; 5: the Continue
+/// with it. It answers 0 where memory is wanting or the message can't be read (own).
+#[unsafe(no_mangle)]
+pub extern "C" fn tcap_bench_dialogue(alloc: Global, steps: u8, message: &[u8]) -> u64
+    // Before the Begin nothing is sent or told.
+    ensures { (steps < 2) → (result ≡ 0) }
+{
+    dialogue_steps::count_outputs(alloc, steps, message)
 }
