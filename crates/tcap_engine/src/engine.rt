@@ -23,7 +23,7 @@ pub(crate) type Table<A> = IndexMap<u32, Dialogue<A>, BuildHasherDefault<FoldHas
 /// The engine (Q.774, Transaction sublayer procedures; Q.774, Component handling).
 ///
 /// - Requests of the TC-user: `new_dialogue`; `invoke`, `result_last`, `result_more`, `error_back`,
-///   `u_reject` and `u_cancel` of component handling; `uni`, `begin_request`, `go_on`, `finish` and
+///   `u_reject` and `u_cancel` of component handling; `uni`, `begin`, `go_on`, `finish` and
 ///   `u_abort` of dialogue handling; `request`, any of these eleven as a value.
 /// - Events from outside: `receive`, for messages; `advance`, for time.
 /// - Getters: `now`, `state_of`.

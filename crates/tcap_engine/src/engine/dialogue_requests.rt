@@ -35,7 +35,7 @@ impl<A: Allocator + Copy> Engine<A> {
     /// TC-BEGIN request: the queue goes out in a Begin, with an AARQ where there is a context, and the
     /// dialogue is Sent. Faults: `UnknownDialogue`, `WrongState` unless Fresh, `BadOid`, `BadParameter`,
     /// `NoContext` for information without a context, `TooLong`, `OutOfMemory` (Q.774, Dialogue begin).
-    pub fn begin_request<'m>(
+    pub fn begin<'m>(
         &mut self,
         d: u32,
         context: Option<&[u8]>,
