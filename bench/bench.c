@@ -1,6 +1,7 @@
 /* Calls the codec, by crates/tcap_bench, over and over on one message.
  *
- *   bench test                      whether each message is written, and rewritten, as it stands
+ *   bench test                      whether each message is written, and rewritten, as it stands,
+ *                                   and how many outputs a dialogue gives
  *   bench call MODE SIZE COUNT      COUNT calls; prints nothing
  *   bench time MODE SIZE COUNT      the same; prints the nanoseconds of one, least of five rounds
  *   bench length MODE SIZE          the bytes of the message
@@ -192,6 +193,14 @@ static int test(void) {
       fprintf(stderr, "bench: message %u is not written as it stands\n", i);
       return 1;
     }
+  }
+  /* Send, Continue, ResultLast, Send; and Send, End, ResultLast. */
+  make("dialogue", 5);
+  uint64_t outputs = tcap_bench_dialogue(5, message, length);
+  make("ending", 3);
+  if (outputs != 4 || tcap_bench_dialogue(3, message, length) != 3) {
+    fprintf(stderr, "bench: a dialogue doesn't make each of its steps\n");
+    return 1;
   }
   return 0;
 }

@@ -117,16 +117,18 @@ fn wanted(alloc: Global, call: Call) -> Option<String> {
     printed(alloc, &Step { outputs, over }).ok()
 }
 
-/// A new dialogue with the invocation, and how often memory was refused before.
-fn invoked<A: Allocator + Copy>(heap: A) -> Option<(Dialogue<A>, u64)> {
+/// A new dialogue with the invocation, and how often memory was refused before, as `made` counts it.
+fn invoked<A: Allocator + Copy + Debug>(alloc: Global, heap: A) -> Option<(Dialogue<A>, u64)> {
     let mut dialogue = Dialogue::fresh(heap, 1, 1000);
+    let before = printed(alloc, &dialogue).ok()?;
     match dialogue.invoke(1, 1, Class::One, Code::Local(10), None, None, 1000) {
         Ok(_) => Some((dialogue, 0)),
         Err(Fault::OutOfMemory) => {
+            let is_same = printed(alloc, &dialogue).ok()? == before;
             dialogue
                 .invoke(1, 1, Class::One, Code::Local(10), None, None, 1000)
                 .ok()?;
-            Some((dialogue, 1))
+            is_same.then_some((dialogue, 1))
         }
         Err(_) => None,
     }
@@ -153,7 +155,7 @@ fn made<A: Allocator + Copy + Debug>(
 
 /// How often memory was refused in all; nothing where a call doesn't answer what it has to.
 fn refusals<A: Allocator + Copy + Debug>(alloc: Global, heap: A) -> Option<u64> {
-    let (mut dialogue, mut count) = invoked(heap)?;
+    let (mut dialogue, mut count) = invoked(alloc, heap)?;
     for call in [
         Call::Begin,
         Call::TakeResult,
