@@ -10,6 +10,7 @@ pub mod MomentLemmas
 pub mod OrderLemmas
 pub mod PlaceLemmas
 pub mod ReachedEngine
+pub mod RefusedEngine
 pub mod SpentLemmas
 pub mod StandingLemmas
 pub mod TableLemmas

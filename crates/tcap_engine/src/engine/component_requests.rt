@@ -1,6 +1,6 @@
 //! The requests of component handling (Q.771, Component handling).
 
-ghost use Rattle.std.specs.Prelude.{option_copied};
+ghost use Rattle.std.specs.Prelude.{◌≡◌, option_copied, OnErr};
 ghost use Rattle.std.specs.Option.{option_map};
 ghost use Rattle.tcap_component.specs.Views.{body_parts, code_parts, problem_parts};
 ghost use Rattle.tcap_dialogue.specs.FaultViews.{gave_up, numbered, queued_done};
@@ -35,6 +35,7 @@ impl<A: Allocator + Copy> Engine<A> {
     ) -> Result<u64, Fault>
         ensures moves { EngineAnswers numbered result (engine_move self.old (Event.on_dialogue d (model.Request.component (ComponentRequest.invoke id class (code_parts code.entry) (option_copied parameter.entry) linked timeout_ms)))) self.old self.new }
         ensures stands { Stands numbered result (Event.on_dialogue d (model.Request.component (ComponentRequest.invoke id class (code_parts code.entry) (option_copied parameter.entry) linked timeout_ms))) self.old self.new }
+        ensures err { OnErr result (self.new ≡ self.old) }
     {
         let request = Request::Invoke {
             id,
@@ -52,6 +53,7 @@ impl<A: Allocator + Copy> Engine<A> {
     pub fn result_last(&mut self, d: u32, id: i8, body: Option<Body<'_>>) -> Result<(), Fault>
         ensures moves { EngineAnswers queued_done result (engine_move self.old (Event.on_dialogue d (model.Request.component (ComponentRequest.result_last id (option_map body_parts body.entry))))) self.old self.new }
         ensures stands { Stands queued_done result (Event.on_dialogue d (model.Request.component (ComponentRequest.result_last id (option_map body_parts body.entry)))) self.old self.new }
+        ensures err { OnErr result (self.new ≡ self.old) }
     {
         queued_of(self.request(d, &Request::ResultLast { id, body }))
     }
@@ -61,6 +63,7 @@ impl<A: Allocator + Copy> Engine<A> {
     pub fn result_more(&mut self, d: u32, id: i8, body: Option<Body<'_>>) -> Result<(), Fault>
         ensures moves { EngineAnswers queued_done result (engine_move self.old (Event.on_dialogue d (model.Request.component (ComponentRequest.result_more id (option_map body_parts body.entry))))) self.old self.new }
         ensures stands { Stands queued_done result (Event.on_dialogue d (model.Request.component (ComponentRequest.result_more id (option_map body_parts body.entry)))) self.old self.new }
+        ensures err { OnErr result (self.new ≡ self.old) }
     {
         queued_of(self.request(d, &Request::ResultMore { id, body }))
     }
@@ -76,6 +79,7 @@ impl<A: Allocator + Copy> Engine<A> {
     ) -> Result<(), Fault>
         ensures moves { EngineAnswers queued_done result (engine_move self.old (Event.on_dialogue d (model.Request.component (ComponentRequest.error_back id (code_parts code.entry) (option_copied parameter.entry))))) self.old self.new }
         ensures stands { Stands queued_done result (Event.on_dialogue d (model.Request.component (ComponentRequest.error_back id (code_parts code.entry) (option_copied parameter.entry)))) self.old self.new }
+        ensures err { OnErr result (self.new ≡ self.old) }
     {
         let request = Request::ErrorBack {
             id,
@@ -90,6 +94,7 @@ impl<A: Allocator + Copy> Engine<A> {
     pub fn u_reject(&mut self, d: u32, id: Option<i8>, problem: Problem) -> Result<(), Fault>
         ensures moves { EngineAnswers queued_done result (engine_move self.old (Event.on_dialogue d (model.Request.component (ComponentRequest.u_reject id (problem_parts problem))))) self.old self.new }
         ensures stands { Stands queued_done result (Event.on_dialogue d (model.Request.component (ComponentRequest.u_reject id (problem_parts problem)))) self.old self.new }
+        ensures err { OnErr result (self.new ≡ self.old) }
     {
         queued_of(self.request(d, &Request::Reject { id, problem }))
     }
@@ -99,6 +104,7 @@ impl<A: Allocator + Copy> Engine<A> {
     pub fn u_cancel(&mut self, d: u32, id: i8) -> Result<u64, Fault>
         ensures moves { EngineAnswers gave_up result (engine_move self.old (Event.on_dialogue d (model.Request.component (ComponentRequest.u_cancel id)))) self.old self.new }
         ensures stands { Stands gave_up result (Event.on_dialogue d (model.Request.component (ComponentRequest.u_cancel id))) self.old self.new }
+        ensures err { OnErr result (self.new ≡ self.old) }
     {
         given_up_of(self.request(d, &Request::Cancel { id }))
     }

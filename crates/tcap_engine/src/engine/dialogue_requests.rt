@@ -1,6 +1,6 @@
 //! The requests of dialogue handling (Q.771, Dialogue handling).
 
-ghost use Rattle.std.specs.Prelude.{option_copied};
+ghost use Rattle.std.specs.Prelude.{◌≡◌, option_copied, OnErr};
 ghost use Rattle.tcap_dialogue.specs.RequestViews.{ending_view, reason_view};
 ghost use Rattle.tcap_engine.specs.Answering.{EngineAnswers, outputs_answer};
 ghost use Rattle.tcap_engine.specs.HistoryForm.{Stands};
@@ -28,6 +28,7 @@ impl<A: Allocator + Copy> Engine<A> {
     ) -> Result<Vec<Output<'m, A>, A>, Fault>
         ensures moves { EngineAnswers outputs_answer result (engine_move self.old (Event.on_dialogue d (model.Request.dialogue (DialogueRequest.uni (option_copied context.entry) info.now)))) self.old self.new }
         ensures stands { Stands outputs_answer result (Event.on_dialogue d (model.Request.dialogue (DialogueRequest.uni (option_copied context.entry) info.now))) self.old self.new }
+        ensures err { OnErr result (self.new ≡ self.old) }
     {
         outputs_of(self.request(d, &Request::Uni { context, info }))
     }
@@ -43,6 +44,7 @@ impl<A: Allocator + Copy> Engine<A> {
     ) -> Result<Vec<Output<'m, A>, A>, Fault>
         ensures moves { EngineAnswers outputs_answer result (engine_move self.old (Event.on_dialogue d (model.Request.dialogue (DialogueRequest.begin (option_copied context.entry) info.now)))) self.old self.new }
         ensures stands { Stands outputs_answer result (Event.on_dialogue d (model.Request.dialogue (DialogueRequest.begin (option_copied context.entry) info.now))) self.old self.new }
+        ensures err { OnErr result (self.new ≡ self.old) }
     {
         outputs_of(self.request(d, &Request::Begin { context, info }))
     }
@@ -59,6 +61,7 @@ impl<A: Allocator + Copy> Engine<A> {
     ) -> Result<Vec<Output<'m, A>, A>, Fault>
         ensures moves { EngineAnswers outputs_answer result (engine_move self.old (Event.on_dialogue d (model.Request.dialogue (DialogueRequest.go_on (option_copied context.entry) info.now)))) self.old self.new }
         ensures stands { Stands outputs_answer result (Event.on_dialogue d (model.Request.dialogue (DialogueRequest.go_on (option_copied context.entry) info.now))) self.old self.new }
+        ensures err { OnErr result (self.new ≡ self.old) }
     {
         outputs_of(self.request(d, &Request::Continue { context, info }))
     }
@@ -75,6 +78,7 @@ impl<A: Allocator + Copy> Engine<A> {
     ) -> Result<Vec<Output<'m, A>, A>, Fault>
         ensures moves { EngineAnswers outputs_answer result (engine_move self.old (Event.on_dialogue d (model.Request.dialogue (DialogueRequest.finish (ending_view ending) (option_copied context.entry) info.now)))) self.old self.new }
         ensures stands { Stands outputs_answer result (Event.on_dialogue d (model.Request.dialogue (DialogueRequest.finish (ending_view ending) (option_copied context.entry) info.now))) self.old self.new }
+        ensures err { OnErr result (self.new ≡ self.old) }
     {
         let request = Request::End {
             ending,
@@ -95,6 +99,7 @@ impl<A: Allocator + Copy> Engine<A> {
     ) -> Result<Vec<Output<'m, A>, A>, Fault>
         ensures moves { EngineAnswers outputs_answer result (engine_move self.old (Event.on_dialogue d (model.Request.dialogue (DialogueRequest.u_abort (reason_view why) info.now)))) self.old self.new }
         ensures stands { Stands outputs_answer result (Event.on_dialogue d (model.Request.dialogue (DialogueRequest.u_abort (reason_view why) info.now))) self.old self.new }
+        ensures err { OnErr result (self.new ≡ self.old) }
     {
         outputs_of(self.request(d, &Request::Abort { why, info }))
     }

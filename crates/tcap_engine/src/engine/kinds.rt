@@ -1,6 +1,6 @@
 //! The answer of a request, by its kind.
 
-ghost use Rattle.std.specs.Prelude.{IfOk};
+ghost use Rattle.std.specs.Prelude.{◌≡◌, IfOk, OnErr};
 ghost use Rattle.tcap_dialogue.specs.FaultViews.{numbered, queued_done, gave_up};
 ghost use Rattle.tcap_engine.specs.Answering.{EngineAnswers, outputs_answer};
 ghost use Rattle.tcap_engine.specs.AskedKinds.{AnswerKind, MayAnswer};
@@ -21,6 +21,7 @@ pub(super) fn number_of<A: Allocator + Copy>(
     requires { IfOk asked (λ a. MayAnswer AnswerKind.number (asked_answer a)) }
     ensures moves { (m : EngineMoved) (old new : World) → EngineAnswers asked_answer asked.entry m old new → EngineAnswers numbered result m old new }
     ensures stands { (h : History) (event : Event) (new : World) → StandsAfter asked_answer asked.entry h event new → StandsAfter numbered result h event new }
+    ensures err { (old new : World) → OnErr asked.entry (new ≡ old) → OnErr result (new ≡ old) }
 {
     match asked? {
         Asked::Number(number) => Ok(number),
@@ -35,6 +36,7 @@ pub(super) fn queued_of<A: Allocator + Copy>(
     requires { IfOk asked (λ a. MayAnswer AnswerKind.queued (asked_answer a)) }
     ensures moves { (m : EngineMoved) (old new : World) → EngineAnswers asked_answer asked.entry m old new → EngineAnswers queued_done result m old new }
     ensures stands { (h : History) (event : Event) (new : World) → StandsAfter asked_answer asked.entry h event new → StandsAfter queued_done result h event new }
+    ensures err { (old new : World) → OnErr asked.entry (new ≡ old) → OnErr result (new ≡ old) }
 {
     match asked? {
         Asked::Done => Ok(()),
@@ -49,6 +51,7 @@ pub(super) fn given_up_of<A: Allocator + Copy>(
     requires { IfOk asked (λ a. MayAnswer AnswerKind.given_up (asked_answer a)) }
     ensures moves { (m : EngineMoved) (old new : World) → EngineAnswers asked_answer asked.entry m old new → EngineAnswers gave_up result m old new }
     ensures stands { (h : History) (event : Event) (new : World) → StandsAfter asked_answer asked.entry h event new → StandsAfter gave_up result h event new }
+    ensures err { (old new : World) → OnErr asked.entry (new ≡ old) → OnErr result (new ≡ old) }
 {
     match asked? {
         Asked::GivenUp(number) => Ok(number),
@@ -63,6 +66,7 @@ pub(super) fn outputs_of<'m, A: Allocator + Copy>(
     requires { IfOk asked (λ a. MayAnswer AnswerKind.outputs (asked_answer a)) }
     ensures moves { (m : EngineMoved) (old new : World) → EngineAnswers asked_answer asked.entry m old new → EngineAnswers outputs_answer result m old new }
     ensures stands { (h : History) (event : Event) (new : World) → StandsAfter asked_answer asked.entry h event new → StandsAfter outputs_answer result h event new }
+    ensures err { (old new : World) → OnErr asked.entry (new ≡ old) → OnErr result (new ≡ old) }
 {
     match asked? {
         Asked::Step(step) => Ok(step.outputs),

@@ -1,6 +1,6 @@
 //! Requests on a dialogue.
 
-ghost use Rattle.std.specs.Prelude.{◌≡◌, IfOk};
+ghost use Rattle.std.specs.Prelude.{◌≡◌, IfOk, OnErr};
 ghost use Rattle.tcap_dialogue.specs.RequestViews.{request_view};
 ghost use Rattle.tcap_engine.specs.Answering.{EngineAnswers};
 ghost use Rattle.tcap_engine.specs.AskedKinds.{MayAnswer, kind_of};
@@ -36,6 +36,8 @@ impl<A: Allocator + Copy> Engine<A> {
         ensures kind { IfOk result (λ asked. MayAnswer (kind_of (request_view request.now)) (asked_answer asked)) }
         // Whatever legal history the engine stood at: the reply, and the history that it stands at then.
         ensures stands { Stands asked_answer result (Event.on_dialogue d (request_view request.now)) self.old self.new }
+        // A refusal changes nothing.
+        ensures err { OnErr result (self.new ≡ self.old) }
     {
         ranges::short(d);
         ranges::request(request);
@@ -44,7 +46,8 @@ impl<A: Allocator + Copy> Engine<A> {
 
     /// The same, by the engine's move.
     pub(super) fn ask<'m>(&mut self, d: u32, request: &Request<'_>) -> Result<Asked<'m, A>, Fault>
-        ensures { EngineAnswers asked_answer result (engine_move self.old (Event.on_dialogue d (request_view request.now))) self.old self.new }
+        ensures moves { EngineAnswers asked_answer result (engine_move self.old (Event.on_dialogue d (request_view request.now))) self.old self.new }
+        ensures err { OnErr result (self.new ≡ self.old) }
     {
         let asked = ask_in(&mut self.table, d, self.clock, self.next_number, request)?;
         let next = next_number(&asked, self.next_number);

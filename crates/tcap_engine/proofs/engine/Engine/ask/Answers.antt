@@ -1,7 +1,9 @@
 use Rattle.std.proofs.Common.{rules, arith, Fits, w64, ◌≡◌, Err, ◌≤◌}
 use Rattle.tcap_dialogue.specs.RequestViews.{request_view}
+use Rattle.tcap_dialogue.specs.StepViews.{asked}
 use Rattle.tcap_model.specs.Words.Identifiers.{last_number}
 use Rattle.tcap_engine.proofs.AskedEngine.{found-below, asked-ok, asked-err, sound-ok, sound-err, left-ok}
+use Rattle.tcap_engine.proofs.RefusedEngine.{table-still}
 use Rattle.tcap_engine.proofs.engine.Engine.ask.Goals as goal
 
 pub ask_in-requires-clause-number : goal.ask_in-requires-clause-number
@@ -12,8 +14,8 @@ invariant_of-self g c =
     let s = c.self.inside in
     sound-err s.limits s.next_dialogue s.next_number s.clock c.args.d s.table.entries (request_view c.args.request.now) c.self.invariant _ c.in_err-asked.field-0.0 c.ask_in.new.table.entries c.in_err-asked.ensures
 
-pub returns-in_err-asked : goal.returns-in_err-asked
-returns-in_err-asked g c =
+pub returns-in_err-asked-clause-moves : goal.returns-in_err-asked-clause-moves
+returns-in_err-asked-clause-moves g c =
     let s = c.self.inside in
     let is : c.from_residual.result ≡ Err c.in_err-asked.field-0.0 = search rules in
     rw (is, ← c.self.view_is)
@@ -32,8 +34,15 @@ invariant_of-self-2 g c =
     rw c.next_number-next.ensures
     (sound-ok s.limits s.next_dialogue s.next_number s.clock c.args.d s.table.entries (request_view c.args.request.now) c.self.invariant c.in_ok-asked.asked c.ask_in.new.table.entries c.in_ok-asked.ensures)
 
-pub returns : goal.returns
-returns g c =
+pub returns-clause-moves : goal.returns-clause-moves
+returns-clause-moves g c =
     let s = c.self.inside in
     rw (c.next_number-next.ensures, ← c.self.view_is)
     (asked-ok s.limits s.next_dialogue s.next_number s.clock c.args.d s.table.entries (request_view c.args.request.now) c.self.invariant c.in_ok-asked.asked c.ask_in.new.table.entries c.in_ok-asked.ensures)
+
+pub returns-in_err-asked-clause-err : goal.returns-in_err-asked-clause-err
+returns-in_err-asked-clause-err g c =
+    let s = c.self.inside in
+    let is : c.from_residual.result ≡ Err c.in_err-asked.field-0.0 = search rules in
+    let same : c.ask_in.new.table.entries ≡ s.table.entries = table-still (asked s.clock s.next_number) (request_view c.args.request.now) c.args.d s.table.entries c.ask_in.new.table.entries _ c.in_err-asked.field-0.0 c.in_err-asked.ensures in
+    rw (is, same) c.self.view_is

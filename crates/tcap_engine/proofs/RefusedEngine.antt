@@ -1,0 +1,89 @@
+-- A refused request leaves all as it was.
+use Rattle.std.proofs.Common.{◌≡◌, ℕ, ℤ, nat_eq, List, Option, Some, None, Err, refl, ap, sym, subst, ◌∙◌}
+use Rattle.std.proofs.lemmas.Map.Steps.{set_value_same}
+use Rattle.std.specs.Map.{lookup}
+use Rattle.tcap_dialogue.specs.declared.fault.Fault.{Fault}
+use Rattle.tcap_dialogue.specs.FaultViews.{fault_view}
+use Rattle.tcap_dialogue.specs.StepViews.{Outcome, outcome}
+use Rattle.tcap_engine.specs.Asking.{AsksIn, PlacesMove, PlacesRefuse}
+use Rattle.tcap_engine.specs.Table.{Place, places_with}
+use Rattle.tcap_invocation.specs.Closing.{given_up_at}
+use Rattle.tcap_model.specs.Procedures.Refusals.{due_on}
+use Rattle.tcap_model.specs.Table.Dialogue.{Dialogue}
+use Rattle.tcap_model.specs.Table.TableMove.{Setting, Moved, DialogueEvent, table_move, requested_by, situation, accepted, giving_up, left_standing}
+use Rattle.tcap_model.specs.Words.Answer.{Answer}
+use Rattle.tcap_model.specs.Words.Fault as model
+use Rattle.tcap_model.specs.Words.Request.{Request, ComponentRequest, DialogueRequest}
+
+-- Where the answer is a refusal, the dialogue stands as it was.
+abbrev StandsIfRefused : Dialogue → Option Dialogue → Answer → Type 0
+StandsIfRefused d after (Answer.new_dialogue dialogue) = Unit {0}
+StandsIfRefused d after (Answer.number number) = Unit {0}
+StandsIfRefused d after Answer.done = Unit {0}
+StandsIfRefused d after (Answer.given_up number) = Unit {0}
+StandsIfRefused d after (Answer.outputs outputs) = Unit {0}
+StandsIfRefused d after (Answer.refused f) = after ≡ Some d
+
+-- The same of a move.
+abbrev IsStill : Dialogue → Moved → Type 0
+IsStill d m = StandsIfRefused d (left_standing m) m.answer
+
+given-still : (d : Dialogue) (id : ℤ) (o : Option ℕ) → IsStill d (giving_up d id o)
+given-still d id None = refl
+given-still d id (Some number) = tt
+
+accepted-still : (s : Setting) (d : Dialogue) (r : Request) → IsStill d (accepted s d r)
+accepted-still s d (Request.component (ComponentRequest.invoke id class code parameter linked timeout)) = tt
+accepted-still s d (Request.component (ComponentRequest.result_last id body)) = tt
+accepted-still s d (Request.component (ComponentRequest.result_more id body)) = tt
+accepted-still s d (Request.component (ComponentRequest.error_back id code parameter)) = tt
+accepted-still s d (Request.component (ComponentRequest.u_reject id problem)) = tt
+accepted-still s d (Request.component (ComponentRequest.u_cancel id)) = given-still d id (given_up_at d.invocations.rows id)
+accepted-still s d (Request.dialogue (DialogueRequest.uni context info)) = tt
+accepted-still s d (Request.dialogue (DialogueRequest.begin context info)) = tt
+accepted-still s d (Request.dialogue (DialogueRequest.go_on context info)) = tt
+accepted-still s d (Request.dialogue (DialogueRequest.finish ending context info)) = tt
+accepted-still s d (Request.dialogue (DialogueRequest.u_abort why info)) = tt
+
+requested-still : (s : Setting) (d : Dialogue) (r : Request) (due : Option model.Fault) → IsStill d (requested_by s d r due)
+requested-still s d r (Some f) = refl
+requested-still s d r None = accepted-still s d r
+
+moved-still : (s : Setting) (d : Dialogue) (r : Request) → IsStill d (table_move s d (DialogueEvent.request r))
+unfolding table_move
+moved-still s d r = requested-still s d r (due_on (situation s d r) r)
+
+module _ (s : Setting) (r : Request) (d : ℕ) (ps qs : List Place) where
+  abbrev says : Dialogue → Outcome
+  says x = outcome (table_move s x (DialogueEvent.request r))
+
+  -- the dialogue was written back as it was
+  same : (f : model.Fault) (x : Dialogue) → lookup (nat_eq d) ps ≡ Some x → PlacesMove (says x) d (Answer.refused f) ps qs → qs ≡ ps
+  same f x found p =
+      let stands : (says x).1 ≡ Some x = subst (StandsIfRefused x (says x).1) (sym p.0) (moved-still s x r) in
+      p.1 ∙ ap (λ (after : Option Dialogue). places_with d after ps) stands ∙ set_value_same (nat_eq d) ps x found
+
+  refused : (f : model.Fault) (x : Dialogue) → lookup (nat_eq d) ps ≡ Some x → PlacesRefuse f (says x) d ps qs → qs ≡ ps
+  refused model.Fault.out_of_memory x found p = p.0
+  refused model.Fault.unknown_dialogue x found p = same _ x found p
+  refused model.Fault.wrong_state x found p = same _ x found p
+  refused model.Fault.invoke_id_in_use x found p = same _ x found p
+  refused model.Fault.no_such_invocation x found p = same _ x found p
+  refused model.Fault.bad_timeout x found p = same _ x found p
+  refused model.Fault.too_long x found p = same _ x found p
+  refused model.Fault.dialogues_full x found p = same _ x found p
+  refused model.Fault.dialogue_ids_spent x found p = same _ x found p
+  refused model.Fault.numbers_spent x found p = same _ x found p
+  refused model.Fault.bad_oid x found p = same _ x found p
+  refused model.Fault.bad_parameter x found p = same _ x found p
+  refused model.Fault.not_class_four x found p = same _ x found p
+  refused model.Fault.moment_too_late x found p = same _ x found p
+  refused model.Fault.no_context x found p = same _ x found p
+
+  -- After a refusal the table is as it was.
+  pub table-still : (A : Type 0) (f : Fault) → AsksIn {A = A} (Err f) says d (lookup (nat_eq d) ps) ps qs → qs ≡ ps
+  table-still A f h = go (lookup (nat_eq d) ps) refl h
+    where
+      go : (o : Option Dialogue) → lookup (nat_eq d) ps ≡ o → AsksIn {A = A} (Err f) says d o ps qs → qs ≡ ps
+      go None e p = p.1
+      go (Some x) e p = refused (fault_view f) x e p
