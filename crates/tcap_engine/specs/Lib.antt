@@ -1,9 +1,11 @@
 pub mod Answering
 pub mod AskedKinds
 pub mod Asking
+pub mod EventViews
 pub mod HistoryForm
 pub mod Lapsing
 pub mod Limits
 pub mod ReceptionViews
+pub mod Running
 pub mod StateOf
 pub mod Table

@@ -3,6 +3,7 @@ pub(crate) mod asking;
 pub(crate) mod births;
 pub(crate) mod component_requests;
 pub(crate) mod dialogue_requests;
+pub(crate) mod handling;
 pub(crate) mod kinds;
 pub(crate) mod moment;
 pub(crate) mod opening;

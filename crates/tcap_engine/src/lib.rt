@@ -7,11 +7,13 @@
 #![tactic(auto)]
 
 mod engine;
+mod event;
 pub mod laws;
 mod limits;
 mod ranges;
 mod reception;
 
 pub use engine::Engine;
+pub use event::{Answer, Event};
 pub use limits::Limits;
 pub use tcap_dialogue::{AbortWhy, Asked, By, DropWhy, Ending, Fault, Output, Request, State, Why};

@@ -1,0 +1,35 @@
+-- Events and answers as a contract sees them.
+use Rattle.std.specs.Prelude.{List, map}
+use Rattle.tcap_dialogue.specs.FaultViews.{fault_view}
+use Rattle.tcap_dialogue.specs.OutputViews.{all_shown}
+use Rattle.tcap_dialogue.specs.RequestViews.{request_view}
+use Rattle.tcap_engine.specs.declared.event.Answer.{Answer}
+use Rattle.tcap_engine.specs.declared.event.Answer.TheVariants as answer
+use Rattle.tcap_engine.specs.declared.event.Event.{Event}
+use Rattle.tcap_engine.specs.declared.event.Event.TheVariants as event
+use Rattle.tcap_model.specs.Words.Answer as model_answer
+use Rattle.tcap_model.specs.Words.Event as model
+
+-- What comes to an engine (own).
+abbrev pub event_view : Event → model.Event
+event_view event.NewDialogue = model.Event.new_dialogue
+event_view (event.On dialogue request) = model.Event.on_dialogue dialogue (request_view request)
+event_view (event.Bytes bytes) = model.Event.received bytes.now
+event_view (event.Moment now) = model.Event.moment now
+
+-- Events, one after the other (own).
+abbrev pub events_view : List Event → List model.Event
+events_view events = map event_view events
+
+-- What an engine answers (own).
+abbrev pub answer_view : {A : Type 0} → Answer A → model_answer.Answer
+answer_view (answer.NewDialogue dialogue) = model_answer.Answer.new_dialogue dialogue
+answer_view (answer.Number number) = model_answer.Answer.number number
+answer_view answer.Done = model_answer.Answer.done
+answer_view (answer.GivenUp number) = model_answer.Answer.given_up number
+answer_view (answer.Outputs outputs) = model_answer.Answer.outputs (all_shown outputs.items)
+answer_view (answer.Refused fault) = model_answer.Answer.refused (fault_view fault)
+
+-- Answers, one after the other (own).
+abbrev pub answers_view : {A : Type 0} → List (Answer A) → List model_answer.Answer
+answers_view answers = map answer_view answers
