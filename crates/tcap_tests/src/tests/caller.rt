@@ -1,5 +1,6 @@
-use crate::first_operation;
+use crate::{clock_after, first_operation, hear_at};
 use std::test::Fail;
+use tcap_engine::{DropWhy, Engine, Fault, Limits, Output};
 
 #[test]
 fn operations_of_messages(rt: HostRuntime) -> Result<(), Fail> {
@@ -14,5 +15,30 @@ fn operations_of_messages(rt: HostRuntime) -> Result<(), Fail> {
         let bytes = hex::decode(rt.alloc(), hex)?;
         assert_eq!(rt; first_operation(bytes.as_slice()), operation, "at {hex}");
     }
+    Ok(())
+}
+
+#[test]
+fn clocks_and_histories_of_an_engine(rt: HostRuntime) -> Result<(), Fail> {
+    let limits = Limits {
+        max_dialogues: 1,
+        reject_ms: 0,
+    };
+    let mut engine = Engine::new(rt.alloc(), limits);
+    assert_eq!(rt; clock_after(&mut engine, 5), Ok(5));
+    assert_eq!(rt; clock_after(&mut engine, 4), Ok(5));
+    assert_eq!(rt;
+        clock_after(&mut engine, u64::MAX),
+        Err(Fault::MomentTooLate)
+    );
+    let (heard, lapsed) = hear_at(&mut engine, &[], 7);
+    let heard = heard.map_err(|_| "no memory")?;
+    let lapsed = lapsed.map_err(|_| "not advanced")?;
+    assert_eq!(rt;
+        heard.as_slice(),
+        [Output::Dropped(DropWhy::BadMessage)].as_slice()
+    );
+    assert!(rt; lapsed.is_empty());
+    assert_eq!(rt; engine.now(), 7);
     Ok(())
 }
