@@ -2,6 +2,7 @@
 
 mod caller;
 mod dialogues;
+mod engines;
 mod examples;
 mod growths;
 mod limits;
