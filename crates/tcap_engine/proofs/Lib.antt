@@ -11,6 +11,7 @@ pub mod OrderLemmas
 pub mod PlaceLemmas
 pub mod ReachedEngine
 pub mod RefusedEngine
+pub mod RunLemmas
 pub mod SpentLemmas
 pub mod StandingLemmas
 pub mod TableLemmas

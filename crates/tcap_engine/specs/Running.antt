@@ -1,6 +1,12 @@
 -- What an engine answers to events, one after the other.
-use Rattle.std.specs.Prelude.{IsTrue}
+use Rattle.std.specs.Prelude.{◌≡◌, ◌-◌, List, [], ◌∷◌, ◌++◌, length, take, IsTrue}
 use Rattle.tcap_dialogue.specs.FaultViews.{takes_memory}
+use Rattle.tcap_engine.specs.HistoryForm.{Headline}
+use Rattle.tcap_model.specs.Histories.History.{History}
+use Rattle.tcap_model.specs.Replies.Reply.{reply}
+use Rattle.tcap_model.specs.Statements.EngineMoves.{with_pair}
+use Rattle.tcap_model.specs.Table.EngineMove.{engine_move}
+use Rattle.tcap_model.specs.Table.World.{World, StandsAt}
 use Rattle.tcap_model.specs.Words.Answer.{Answer}
 use Rattle.tcap_model.specs.Words.Event.{Event}
 
@@ -10,3 +16,49 @@ MayWant Event.new_dialogue answer = IsTrue (takes_memory answer)
 MayWant (Event.on_dialogue dialogue request) answer = IsTrue (takes_memory answer)
 MayWant (Event.received bytes) answer = Unit {0}
 MayWant (Event.moment now) answer = IsTrue (takes_memory answer)
+
+-- The events that were done: each has left one answer more (own).
+abbrev pub done : {X : Type 0} → List X → List X → List Event → List Event
+done old new events = take (length new - length old) events
+
+-- ---- step form
+
+-- The answers to events, one for each, and the engine after them (own).
+pub record EngineRan : Type 0 where
+  pub answers : List Answer
+  pub after : World
+
+-- An answer, and those to the events that follow (own).
+abbrev pub answered_first : Answer → EngineRan → EngineRan
+answered_first answer ran = record { answers = answer ∷ ran.answers; after = ran.after }
+
+-- What an engine answers to events, one after the other, and what it is after them (own).
+abbrev pub engine_run : World → List Event → EngineRan
+engine_run w [] = record { answers = []; after = w }
+engine_run w (event ∷ events) =
+    answered_first (engine_move w event).answer (engine_run (engine_move w event).after events)
+
+-- These events were done: their answers stand after those that stood there, and the engine is what it is
+-- after them (own).
+pub record Runs (old : World) (events : List Event) (new : World) (before after : List Answer) : Type 0 where
+  pub answered : after ≡ before ++ (engine_run old events).answers
+  pub moved : new ≡ (engine_run old events).after
+
+-- ---- history form
+
+-- A history with events more, each with the answer that is due to it (own).
+abbrev pub after_events : History → List Event → History
+after_events h [] = h
+after_events h (event ∷ events) = after_events (with_pair h event) events
+
+-- What is answered to events after a history (own).
+abbrev pub replies : History → List Event → List Answer
+replies h [] = []
+replies h (event ∷ events) = reply h event ∷ replies (with_pair h event) events
+
+-- These events were done after a history: the answers that are new are the replies; the engine then
+-- stands at the history with the events' pairs, and the headline holds there (own).
+pub record StandsThrough (h : History) (events : List Event) (new : World) (before after : List Answer) : Type 0 where
+  pub are_replies : after ≡ before ++ replies h events
+  pub stands : StandsAt (after_events h events) new
+  pub headline : Headline (after_events h events)

@@ -12,8 +12,10 @@ pub mod laws;
 mod limits;
 mod ranges;
 mod reception;
+mod runs;
 
 pub use engine::Engine;
 pub use event::{Answer, Event};
 pub use limits::Limits;
+pub use runs::run;
 pub use tcap_dialogue::{AbortWhy, Asked, By, DropWhy, Ending, Fault, Output, Request, State, Why};

@@ -1,0 +1,51 @@
+//! Events, one after the other.
+
+ghost use Rattle.std.specs.Prelude.{◌≡◌, ◌<◌, ◌+◌, ◌∷◌, [], length, OnErr, OnOk};
+ghost use Rattle.tcap_engine.specs.EventViews.{answers_view, event_view, events_view};
+ghost use Rattle.tcap_engine.specs.Running.{Runs, StandsThrough, done};
+ghost use Rattle.tcap_model.specs.Histories.History.{History};
+ghost use Rattle.tcap_model.specs.Table.World.{StandsAt};
+
+use crate::engine::Engine;
+use crate::event::{Answer, Event};
+use ber_core::OutOfMemory;
+use std::alloc::Allocator;
+
+/// Hands the events to the engine, one after the other, and appends their answers: one for each event,
+/// whose place is made before the event. At the first event to which memory was refused it ends, with the
+/// engine and the answers as they were before that event.
+pub fn run<'m, A: Allocator + Copy>(
+    engine: &mut Engine<A>,
+    events: &[Event<'m>],
+    answers: &mut Vec<Answer<'m, A>, A>,
+) -> Result<(), OutOfMemory>
+    // How many events were done: all of them, or not the one to which memory was refused.
+    ensures ok { OnOk result (length answers.new.items ≡ length answers.old.items + length events.now) }
+    ensures err { OnErr result (length answers.new.items < length answers.old.items + length events.now) }
+    ensures moves { Runs engine.old (done answers.old.items answers.new.items (events_view events.now)) engine.new (answers_view answers.old.items) (answers_view answers.new.items) }
+    // Whatever legal history the engine stood at: the replies, and the history that it stands at then.
+    ensures stands { (h : History) → StandsAt h engine.old → StandsThrough h (done answers.old.items answers.new.items (events_view events.now)) engine.new (answers_view answers.old.items) (answers_view answers.new.items) }
+{
+    for event in events {
+        answer_one(engine, event, answers)?;
+    }
+    Ok(())
+}
+
+/// Hands one event to the engine and appends its answer, whose place is made first.
+fn answer_one<'m, A: Allocator + Copy>(
+    engine: &mut Engine<A>,
+    event: &Event<'m>,
+    answers: &mut Vec<Answer<'m, A>, A>,
+) -> Result<(), OutOfMemory>
+    ensures ok { OnOk result (length answers.new.items ≡ length answers.old.items + 1) }
+    ensures moves { OnOk result (Runs engine.old (event_view event.now ∷ []) engine.new (answers_view answers.old.items) (answers_view answers.new.items)) }
+    ensures stands { OnOk result ((h : History) → StandsAt h engine.old → StandsThrough h (event_view event.now ∷ []) engine.new (answers_view answers.old.items) (answers_view answers.new.items)) }
+    ensures engine { OnErr result (engine.new ≡ engine.old) }
+    ensures answers { OnErr result (answers.new.items ≡ answers.old.items) }
+{
+    answers.reserve(1)?;
+    let answer = engine.handle(event)?;
+    answers.push_reserved(answer);
+    Ok(())
+}
