@@ -34,10 +34,7 @@ fn clocks_and_histories_of_an_engine(rt: HostRuntime) -> Result<(), Fail> {
     let (heard, lapsed) = hear_at(&mut engine, &[], 7);
     let heard = heard.map_err(|_| "no memory")?;
     let lapsed = lapsed.map_err(|_| "not advanced")?;
-    assert_eq!(rt;
-        heard.as_slice(),
-        [Output::Dropped(DropWhy::BadMessage)].as_slice()
-    );
+    assert!(rt; matches!(heard.as_slice(), [Output::Dropped(DropWhy::BadMessage)]));
     assert!(rt; lapsed.is_empty());
     assert_eq!(rt; engine.now(), 7);
     Ok(())
