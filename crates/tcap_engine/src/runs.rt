@@ -2,7 +2,8 @@
 
 ghost use Rattle.std.specs.Prelude.{◌≡◌, ◌<◌, ◌+◌, ◌∷◌, [], length, OnErr, OnOk};
 ghost use Rattle.tcap_engine.specs.EventViews.{answers_view, event_view, events_view};
-ghost use Rattle.tcap_engine.specs.Running.{Runs, StandsThrough, done};
+ghost use Rattle.tcap_engine.specs.HistoryForm.{Headline};
+ghost use Rattle.tcap_engine.specs.Running.{Runs, StandsThrough, after_events, done};
 ghost use Rattle.tcap_model.specs.Histories.History.{History};
 ghost use Rattle.tcap_model.specs.Table.World.{StandsAt};
 
@@ -15,6 +16,26 @@ use std::alloc::Allocator;
 /// whose place is made before the event. At the first event to which memory was refused it ends, with the
 /// engine and the answers as they were before that event.
 pub fn run<'m, A: Allocator + Copy>(
+    engine: &mut Engine<A>,
+    events: &[Event<'m>],
+    answers: &mut Vec<Answer<'m, A>, A>,
+) -> Result<(), OutOfMemory>
+    // How many events were done: all of them, or not the one to which memory was refused.
+    ensures ok { OnOk result (length answers.new.items ≡ length answers.old.items + length events.now) }
+    ensures err { OnErr result (length answers.new.items < length answers.old.items + length events.now) }
+    ensures moves { Runs engine.old (done answers.old.items answers.new.items (events_view events.now)) engine.new (answers_view answers.old.items) (answers_view answers.new.items) }
+    // Whatever legal history the engine stood at: the replies, and the history that it stands at then.
+    ensures stands { (h : History) → StandsAt h engine.old → StandsThrough h (done answers.old.items answers.new.items (events_view events.now)) engine.new (answers_view answers.old.items) (answers_view answers.new.items) }
+    // And of every number the headline holds there, whether all events were done or not: its closing
+    // indications are those that its decision asks for, with the outcome's contents, at most one, and
+    // exactly one after its deadline or the end of its dialogue.
+    ensures headline { (h : History) → StandsAt h engine.old → Headline (after_events h (done answers.old.items answers.new.items (events_view events.now))) }
+{
+    run_each(engine, events, answers)
+}
+
+/// The same, event by event.
+fn run_each<'m, A: Allocator + Copy>(
     engine: &mut Engine<A>,
     events: &[Event<'m>],
     answers: &mut Vec<Answer<'m, A>, A>,

@@ -3,7 +3,7 @@ use Rattle.tcap_engine.specs.EventViews.{answers_view, events_view}
 use Rattle.tcap_engine.specs.Running.{Runs, StandsThrough}
 use Rattle.tcap_model.specs.Histories.History.{History}
 use Rattle.tcap_model.specs.Table.World.{StandsAt}
-use Rattle.tcap_engine.proofs.runs.run.Given as goal
+use Rattle.tcap_engine.proofs.runs.run_each.Given as goal
 
 abbrev pub invariant-loop-event : goal.invariant-loop-event
 invariant-loop-event g l = record {
