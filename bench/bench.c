@@ -11,7 +11,8 @@
  * with 60,000 bytes inside. MODE inside: reads a Begin, all of indefinite form, with SIZE of them in
  * the parameter of its Invoke. MODE dialogue, ending: a dialogue is taken SIZE steps far, 1 the Invoke,
  * 2 the Begin, 3 the Continue (ending: the End) with its result, 4 a result queued, 5 the Continue sent.
- * MODE answer: reads that message, SIZE 1 the Continue, 2 the End.
+ * MODE answer: reads that message, SIZE 1 the Continue, 2 the End. MODE engine1 to engine4: an engine
+ * with SIZE dialogues open does COUNT laps of SIZE steps of that kind (engine4: of none).
  */
 #include <stdint.h>
 #include <stdio.h>
@@ -36,6 +37,7 @@ size_t tcap_bench_write_continue(uint32_t otid, uint32_t dtid, const uint8_t *co
                                  size_t room_length);
 size_t tcap_bench_rewrite(const uint8_t *bytes, size_t length, uint8_t *room, size_t room_length);
 uint64_t tcap_bench_dialogue(uint8_t steps, const uint8_t *bytes, size_t length);
+uint64_t tcap_bench_engine(uint8_t step, uint16_t dialogues, uint32_t laps);
 
 /* Where the program's memory is a buffer (buffer.c), all that a call took is given back behind it. */
 size_t memory_used(void) __attribute__((weak));
@@ -140,7 +142,14 @@ static size_t write_message(const struct values *v) {
                                 v->invokes, message, length, room, sizeof room);
 }
 
+/* The kind of step of engine1 to engine4; 0 of any other mode. */
+static unsigned engine_step(const char *mode) {
+  unsigned step;
+  return sscanf(mode, "engine%1u", &step) == 1 && step >= 1 && step <= 4 ? step : 0;
+}
+
 static void make(const char *mode, unsigned size) {
+  if (engine_step(mode)) return;
   if (!strcmp(mode, "invokes")) make_invokes(size);
   else if (!strcmp(mode, "nested")) length = 0, add_nested(size);
   else if (!strcmp(mode, "inside")) make_inside(size);
@@ -151,7 +160,14 @@ static void make(const char *mode, unsigned size) {
   else read_line(size), make_values(&values[size - 1]);
 }
 
+/* Each step sends one output and tells two; the fourth kind is no step. */
+static void run_engine(unsigned step, unsigned size, long laps) {
+  uint64_t given = tcap_bench_engine((uint8_t)step, (uint16_t)size, (uint32_t)laps);
+  if (given != (step < 4 ? 3 * (uint64_t)size * (uint64_t)laps : 0)) stop("the engine gave other outputs");
+}
+
 static uint64_t repeat(const char *mode, unsigned size, long count) {
+  if (engine_step(mode)) return run_engine(engine_step(mode), size, count), 1;
   uint64_t sum = 0;
   size_t mark = memory_used ? memory_used() : 0;
   if (!strcmp(mode, "write"))

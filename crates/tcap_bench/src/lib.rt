@@ -11,6 +11,7 @@ ghost use Rattle.tcap_bench.specs.Rewritten.{rewritten};
 
 mod component_sum;
 mod dialogue_steps;
+mod engine_steps;
 mod message_sum;
 mod rewritten;
 mod sum;
@@ -91,4 +92,19 @@ pub extern "C" fn tcap_bench_dialogue(alloc: Global, steps: u8, message: &[u8]) 
     ensures { (steps < 2) → (result ≡ 0) }
 {
     dialogue_steps::count_outputs(alloc, steps, message)
+}
+
+/// Makes an engine with so many dialogues open, and takes it so many laps far: in a lap as many steps as
+/// there are dialogues, each on a dialogue drawn by lot, and answers how many outputs the steps gave in
+/// all. A step is, 1: a dialogue is begun with an Invoke, and the drawn one ended by the peer with its
+/// result; 2: a Begin with an Invoke is received, and the drawn dialogue answered by a result and a
+/// basic end; 3: a Continue with a result is received, and a Continue with an Invoke sent, and after each
+/// lap a moment is handed in; 4: nothing, but the moments as of 3. It answers 0 where memory is wanting
+/// (own).
+#[unsafe(no_mangle)]
+pub extern "C" fn tcap_bench_engine(alloc: Global, step: u8, dialogues: u16, laps: u32) -> u64
+    // The dialogues that are opened first are no step: in no laps nothing is given.
+    ensures { (laps ≡ 0) → (result ≡ 0) }
+{
+    engine_steps::count_engine(alloc, step, dialogues, laps)
 }

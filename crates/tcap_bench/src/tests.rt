@@ -1,4 +1,7 @@
-use crate::{Invocation, tcap_bench_rewrite, tcap_bench_write_begin, tcap_bench_write_continue};
+use crate::{
+    Invocation, tcap_bench_engine, tcap_bench_rewrite, tcap_bench_write_begin,
+    tcap_bench_write_continue,
+};
 use std::alloc::Global;
 use std::test::Fail;
 
@@ -49,5 +52,15 @@ fn messages_are_put(rt: HostRuntime) -> Result<(), Fail> {
     // The room is one octet too short.
     let mut room = [0u8; 17];
     assert_eq!(rt; tcap_bench_rewrite(rt.alloc(), &BEGIN, &mut room), 0);
+    Ok(())
+}
+
+/// Each step sends one message and tells two indications; two laps of three steps are made.
+#[test]
+fn each_step_gives_three_outputs(rt: HostRuntime) -> Result<(), Fail> {
+    for step in 1..4u8 {
+        assert_eq!(rt; tcap_bench_engine(rt.alloc(), step, 3, 2), 18);
+    }
+    assert_eq!(rt; tcap_bench_engine(rt.alloc(), 4, 3, 2), 0);
     Ok(())
 }

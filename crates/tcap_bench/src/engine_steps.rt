@@ -1,0 +1,192 @@
+//! An engine with many dialogues open, taken through one step over and over.
+
+ghost use Rattle.std.specs.Prelude.{◌≡◌, IfSome};
+
+use std::alloc::Global;
+use tcap_component::Code;
+use tcap_engine::{Ending, Engine, Limits, Output};
+use tcap_invocation::Class;
+
+/// A dialogue that stands, and the identifier of the invocation that is under way in it.
+#[derive(Drop)]
+struct Open {
+    dialogue: u32,
+    id: i8,
+}
+
+/// A Begin of the peer with Invoke 1.
+const BEGIN: [u8; 18] = [
+    0x62, 0x10, 0x48, 0x04, 0x00, 0x00, 0x00, 0x05, 0x6c, 0x08, 0xa1, 0x06, 0x02, 0x01, 0x01, 0x02,
+    0x01, 0x0a,
+];
+
+/// How long an invocation may take, in milliseconds: longer than any run.
+const TIMEOUT_MS: u64 = 1 << 40;
+
+/// An End to a dialogue with the result of an invocation.
+fn end_to(open: &Open) -> [u8; 15] {
+    let [a, b, c, d] = open.dialogue.to_be_bytes();
+    let [id] = open.id.to_be_bytes();
+    [
+        0x64, 0x0d, 0x49, 0x04, a, b, c, d, 0x6c, 0x05, 0xa2, 0x03, 0x02, 0x01, id,
+    ]
+}
+
+/// A Continue to a dialogue with the result of an invocation.
+fn continue_to(open: &Open) -> [u8; 21] {
+    let [a, b, c, d] = open.dialogue.to_be_bytes();
+    let [id] = open.id.to_be_bytes();
+    [
+        0x65, 0x13, 0x48, 0x04, 0x00, 0x00, 0x00, 0x05, 0x49, 0x04, a, b, c, d, 0x6c, 0x05, 0xa2,
+        0x03, 0x02, 0x01, id,
+    ]
+}
+
+/// A dialogue is begun with an Invoke: the dialogue, and how many outputs that gives.
+fn begin_one(engine: &mut Engine) -> Option<(Open, u64)> {
+    let dialogue = engine.new_dialogue().ok()?;
+    let operation = Code::Local(10);
+    engine
+        .invoke(dialogue, 1, Class::One, operation, None, None, TIMEOUT_MS)
+        .ok()?;
+    let sent = engine.begin(dialogue, None, &[]).ok()?;
+    Some((Open { dialogue, id: 1 }, sent.len() as u64))
+}
+
+/// A Begin with an Invoke is received: the dialogue, and how many outputs that gives.
+fn receive_one(engine: &mut Engine) -> Option<(Open, u64)> {
+    let told = engine.receive(&BEGIN).ok()?;
+    let Output::Begin { dialogue, .. } = *told.first()? else {
+        return None;
+    };
+    Some((Open { dialogue, id: 1 }, told.len() as u64))
+}
+
+/// One dialogue is begun, and another one ended by the peer with its result.
+fn begin_and_end(engine: &mut Engine, open: &mut Open) -> Option<u64> {
+    let (begun, sent) = begin_one(engine)?;
+    let told = engine.receive(&end_to(open)).ok()?.len() as u64;
+    *open = begun;
+    Some(sent.saturating_add(told))
+}
+
+/// One dialogue is begun by the peer, and another one answered by a result and a basic end.
+fn receive_and_answer(engine: &mut Engine, open: &mut Open) -> Option<u64> {
+    let (begun, told) = receive_one(engine)?;
+    engine.result_last(open.dialogue, open.id, None).ok()?;
+    let sent = engine
+        .finish(open.dialogue, Ending::Basic, None, &[])
+        .ok()?
+        .len() as u64;
+    *open = begun;
+    Some(told.saturating_add(sent))
+}
+
+/// The peer goes on with a result, and so does this side with the next invocation.
+fn go_on(engine: &mut Engine, open: &mut Open) -> Option<u64> {
+    let told = engine.receive(&continue_to(open)).ok()?.len() as u64;
+    let id = open.id.wrapping_add(1);
+    let operation = Code::Local(10);
+    engine
+        .invoke(
+            open.dialogue,
+            id,
+            Class::One,
+            operation,
+            None,
+            None,
+            TIMEOUT_MS,
+        )
+        .ok()?;
+    let sent = engine.go_on(open.dialogue, None, &[]).ok()?.len() as u64;
+    open.id = id;
+    Some(told.saturating_add(sent))
+}
+
+/// One step on a dialogue: how many outputs it gives.
+fn step_once(engine: &mut Engine, step: u8, open: &mut Open) -> Option<u64> {
+    match step {
+        1 => begin_and_end(engine, open),
+        2 => receive_and_answer(engine, open),
+        3 => go_on(engine, open),
+        _ => Some(0),
+    }
+}
+
+/// A dialogue as the step finds it: for the third it is Active.
+fn open_one(engine: &mut Engine, step: u8) -> Option<Open> {
+    if step == 2 {
+        return Some(receive_one(engine)?.0);
+    }
+    let (mut open, _) = begin_one(engine)?;
+    if step == 3 {
+        go_on(engine, &mut open)?;
+    }
+    Some(open)
+}
+
+/// So many dialogues.
+fn open_all(alloc: Global, engine: &mut Engine, step: u8, dialogues: u16) -> Option<Vec<Open>> {
+    let mut all = Vec::with_capacity(alloc, dialogues as usize).ok()?;
+    for _ in 0..dialogues {
+        let open = open_one(engine, step)?;
+        all.push(open).ok()?;
+    }
+    Some(all)
+}
+
+/// The next of a row of numbers that look drawn by lot.
+fn next_seed(seed: u32) -> u32 {
+    seed.wrapping_mul(1_664_525).wrapping_add(1_013_904_223)
+}
+
+/// The dialogue that a number draws.
+fn drawn(all: &mut [Open], seed: u32) -> Option<&mut Open> {
+    let at = ((seed >> 16) as usize).wrapping_mul(all.len()) >> 16;
+    all.get_mut(at)
+}
+
+/// As many steps as there are dialogues, each on one drawn by lot, from the third kind on with a moment
+/// behind them, at which each identifier that waited is free: how many outputs the steps give.
+fn count_lap(engine: &mut Engine, step: u8, all: &mut [Open], seed: &mut u32) -> Option<u64> {
+    let mut count = 0u64;
+    for _ in 0..all.len() {
+        *seed = next_seed(*seed);
+        let given = step_once(engine, step, drawn(all, *seed)?)?;
+        count = count.saturating_add(given);
+    }
+    if step > 2 {
+        let moment = engine.now().saturating_add(1);
+        engine.advance(moment).ok()?;
+    }
+    Some(count)
+}
+
+/// So many laps on an engine with so many dialogues; nothing where memory is wanting.
+fn count_laps(alloc: Global, step: u8, dialogues: u16, laps: u32) -> Option<u64>
+    ensures { (laps ≡ 0) → IfSome result (λ count. count ≡ 0) }
+{
+    let limits = Limits {
+        max_dialogues: 65_535,
+        reject_ms: 0,
+    };
+    let mut engine = Engine::new(alloc, limits);
+    let mut all = open_all(alloc, &mut engine, step, dialogues)?;
+    let mut seed = 1u32;
+    let mut count = 0u64;
+    for _ in 0..laps {
+        let given = count_lap(&mut engine, step, &mut all, &mut seed)?;
+        count = count.saturating_add(given);
+    }
+    Some(count)
+}
+
+/// How many outputs the laps give; 0 where memory is wanting.
+pub fn count_engine(alloc: Global, step: u8, dialogues: u16, laps: u32) -> u64
+    ensures { (laps ≡ 0) → (result ≡ 0) }
+{
+    match count_laps(alloc, step, dialogues, laps) {
+        Some(count) => count,
+        None => 0,
+    }
+}
