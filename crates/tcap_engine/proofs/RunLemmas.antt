@@ -54,13 +54,17 @@ replies-append h (e ∷ es) fs = ap (λ (xs : List Answer). reply h e ∷ xs) (r
 pub none-through : (h : History) (w : World) (before : List Answer) → StandsAt h w → StandsThrough h [] w before before
 none-through h w before at = record { are_replies = sym (append-nil before); stands = at; headline = headline h at.is_legal }
 
-pub one-through : (h : History) (e : Event) (answer : Answer) (new : World) (before after : List Answer)
-    → after ≡ before ++ answer ∷ [] → StandsOn h e answer new → StandsThrough h (e ∷ []) new before after
-one-through h e answer new before after is s = record {
-  are_replies = is ∙ ap (λ (a : Answer). before ++ a ∷ []) s.is_reply;
-  stands = s.stands;
-  headline = s.headline;
-}
+-- One event, whose answer is appended where room was made.
+pub one-through : {X : Type 0} → (view : X → Answer) (e : Event) (x : X) (old new : World) (before between after : List X)
+    → between ≡ before → after ≡ between ++ x ∷ [] → ((h : History) → StandsAt h old → StandsOn h e (view x) new)
+    → (h : History) → StandsAt h old → StandsThrough h (e ∷ []) new (map view before) (map view after)
+one-through view e x old new before between after room pushed s h at =
+    let is : after ≡ before ++ x ∷ [] = pushed ∙ ap (λ xs. xs ++ x ∷ []) room in
+    record {
+      are_replies = ap (map view) is ∙ map-append view before (x ∷ []) ∙ ap (λ (a : Answer). map view before ++ a ∷ []) (s h at).is_reply;
+      stands = (s h at).stands;
+      headline = (s h at).headline;
+    }
 
 pub through-more : (h : History) (es fs : List Event) (middle new : World) (before between after : List Answer)
     → StandsThrough h es middle before between → StandsThrough (after_events h es) fs new between after
