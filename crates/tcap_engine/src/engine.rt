@@ -26,7 +26,7 @@ pub(crate) type Table<A> = IndexMap<u32, Dialogue<A>, BuildHasherDefault<FoldHas
 /// - Requests of the TC-user: `new_dialogue`; `invoke`, `result_last`, `result_more`, `error_back`,
 ///   `u_reject` and `u_cancel` of component handling; `uni`, `begin`, `go_on`, `finish` and
 ///   `u_abort` of dialogue handling; `request`, any of these eleven as a value.
-/// - Events from outside: `receive`, for messages; `advance`, for time.
+/// - Events from outside: `receive`, for messages; `advance`, for time; `handle`, any event as a value.
 /// - Getters: `now`, `state_of`.
 ///
 /// Moments are in milliseconds by the caller's clock, at most 2^62. A contract sees the limits, the
