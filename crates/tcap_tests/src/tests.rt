@@ -8,5 +8,6 @@ mod growths;
 mod limits;
 mod outputs;
 mod printed;
+mod runs;
 mod words;
 mod writers;
