@@ -20,6 +20,8 @@ pub mod PlainElement
 pub mod OptionSteps
 pub mod PlaceSteps
 pub mod ResultSteps
+pub mod ScannerLengths
+pub mod ScannerSteps
 pub mod SequenceGrammar
 pub mod WaySteps
 pub mod WrittenGrammar

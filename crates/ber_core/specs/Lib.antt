@@ -1,8 +1,10 @@
+pub mod Due
 pub mod Element
 pub mod ElementList
 pub mod ElementReading
 pub mod Fault
 pub mod FaultText
+pub mod Feeding
 pub mod Head
 pub mod HeadReading
 pub mod Integer
@@ -14,6 +16,8 @@ pub mod Place
 pub mod Results
 pub mod Sequence
 pub mod SequenceReading
+pub mod Scanning
+pub mod Stream
 pub mod Tag
 pub mod Views
 pub mod Way

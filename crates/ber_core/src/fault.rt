@@ -1,3 +1,5 @@
+ghost use Rattle.std.specs.Prelude.{◌≡◌};
+
 use std::alloc::AllocError;
 use std::error::Error;
 use std::fmt;
@@ -69,3 +71,66 @@ impl fmt::Display for OutOfMemory {
 }
 
 impl Error for OutOfMemory {}
+
+/// Why a feed gives no messages (our own).
+#[derive(Clone, Copy, Debug, PartialEq, Eq)]
+pub enum FeedFault {
+    /// Memory was refused: the feed has taken nothing of the piece.
+    OutOfMemory,
+    /// No element can follow the messages before, for this reason; it is never `Short`.
+    Ber(BerFault),
+    /// An element would be longer than 65,535 octets.
+    TooLong,
+}
+
+impl FeedFault {
+    ghost use Rattle.ber_core.specs.FaultText.{feed_fault_number};
+
+    /// Its number, 1 to 3.
+    pub fn number(self) -> u8
+        ensures { result ≡ feed_fault_number self }
+    {
+        match self {
+            FeedFault::OutOfMemory => 1,
+            FeedFault::Ber(_) => 2,
+            FeedFault::TooLong => 3,
+        }
+    }
+}
+
+impl From<BerFault> for FeedFault {
+    ghost use Rattle.ber_core.specs.declared.fault.FeedFault.TheVariants.{Ber};
+
+    ghost from_gives = { λ why fault. fault ≡ Ber why };
+
+    fn from(why: BerFault) -> FeedFault {
+        FeedFault::Ber(why)
+    }
+}
+
+impl From<OutOfMemory> for FeedFault {
+    ghost use Rattle.ber_core.specs.declared.fault.FeedFault.TheVariants as feed_fault;
+
+    ghost from_gives = { λ _ fault. fault ≡ feed_fault.OutOfMemory };
+
+    fn from(_refused: OutOfMemory) -> FeedFault {
+        FeedFault::OutOfMemory
+    }
+}
+
+impl fmt::Display for FeedFault {
+    ghost use Rattle.std.specs.Prelude.{Some};
+    ghost use Rattle.ber_core.specs.FaultText.{feed_fault_text};
+
+    ghost output = { λ fault. Some (feed_fault_text fault) };
+
+    fn fmt<W: fmt::Write>(&self, f: &mut fmt::Formatter<W>) -> fmt::Result {
+        match self {
+            FeedFault::OutOfMemory => f.write_str("out of memory"),
+            FeedFault::Ber(why) => why.fmt(f),
+            FeedFault::TooLong => f.write_str("the element is too long"),
+        }
+    }
+}
+
+impl Error for FeedFault {}

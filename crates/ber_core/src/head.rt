@@ -13,7 +13,7 @@ use crate::fault::BerFault;
 pub const MAX_LENGTH: usize = 65_535;
 
 /// How many octets a tag may have behind its first: 4 (our own).
-const MAX_FURTHER: usize = 4;
+pub const MAX_FURTHER: usize = 4;
 
 /// The tag and the length of an element, and all that follows them (X.690, Structure of an encoding).
 #[derive(Clone, Copy, Debug, PartialEq, Eq)]

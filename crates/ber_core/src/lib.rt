@@ -13,13 +13,14 @@ mod integer;
 pub mod laws;
 mod object_identifier;
 mod scan;
+mod scanner;
 mod sequence;
 mod write;
 mod written_len;
 
 pub use element::{Element, read_element};
 pub use elements::{Elements, is_element_list};
-pub use fault::{BerFault, OutOfMemory};
+pub use fault::{BerFault, FeedFault, OutOfMemory};
 pub use head::{Head, MAX_LENGTH, read_head};
 pub use integer::{read_int, write_int};
 pub use object_identifier::is_oid;

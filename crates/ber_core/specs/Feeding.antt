@@ -1,0 +1,44 @@
+-- A feed: what it holds of the stream behind which it stands, and what a push does.
+use Rattle.std.specs.Prelude.{◌≡◌, ◌≢◌, ℕ, ◌⊎◌, List, [], ◌∷◌, ◌++◌, Option, Some, None, Result, Ok, Err}
+use Rattle.ber_core.specs.declared.fault.BerFault.{BerFault}
+use Rattle.ber_core.specs.declared.fault.FeedFault.{FeedFault}
+use Rattle.ber_core.specs.declared.fault.FeedFault.TheVariants.{OutOfMemory, Ber, TooLong}
+use Rattle.ber_core.specs.Stream.{Cut, cut_of}
+
+-- What a feed holds: the octets that no message has yet, and the fault that stands (own).
+pub record Left : Type 0 where
+  pub rest : List ℕ
+  pub fault : Option FeedFault
+
+-- The same of a stream with this rest and fault: once a fault stands, no octets are held (own).
+abbrev pub left_by : Option FeedFault → List ℕ → Left
+left_by None rest = record { rest = rest; fault = None }
+left_by (Some fault) rest = record { rest = []; fault = Some fault }
+
+-- The same of a stream that was cut (own).
+abbrev pub left_of : Cut → Left
+left_of cut = left_by cut.fault cut.rest
+
+-- The feed has taken this stream, in whatever pieces: it holds what the cut of the whole stream
+-- leaves (own).
+abbrev pub StandsBehind : List ℕ → Left → Type 0
+StandsBehind stream left = left ≡ left_of (cut_of stream)
+
+-- The piece completes these messages of the stream and no others, and the feed stands behind the
+-- longer stream (own).
+pub record Takes (stream piece : List ℕ) (completed : List (List ℕ)) (new : Left) : Type 0 where
+  pub messages : (cut_of (stream ++ piece)).messages ≡ (cut_of stream).messages ++ completed
+  pub stands : StandsBehind (stream ++ piece) new
+
+-- Memory is wanted: the piece completes a message, or it leaves octets to be held (own).
+abbrev pub WantsMemory : List ℕ → List ℕ → Type 0
+WantsMemory stream piece = ((cut_of (stream ++ piece)).messages ≢ (cut_of stream).messages)
+    ⊎ ((piece ≢ []) × ((cut_of (stream ++ piece)).fault ≡ None))
+
+-- What a push answers behind a stream: the messages that the piece completes; where it completes
+-- none, the fault that stands; where memory is refused, nothing is taken (own).
+abbrev pub Pushes : List ℕ → List ℕ → Left → Result (List (List ℕ)) FeedFault → Left → Type 0
+Pushes stream piece old (Ok completed) new = Takes stream piece completed new × (completed ≡ [] → new.fault ≡ None)
+Pushes stream piece old (Err OutOfMemory) new = (new ≡ old) × WantsMemory stream piece
+Pushes stream piece old (Err (Ber why)) new = Takes stream piece [] new × (new.fault ≡ Some (Ber why))
+Pushes stream piece old (Err TooLong) new = Takes stream piece [] new × (new.fault ≡ Some TooLong)
