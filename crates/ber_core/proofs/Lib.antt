@@ -2,10 +2,13 @@ pub mod Agreement
 pub mod AloneGrammar
 pub mod CallerLemmas
 pub mod Contents
+pub mod CutGrammar
 pub mod ElementFaults
 pub mod ElementsRoad
 pub mod ElementGrammar
 pub mod FaultAgain
+pub mod FaultStays
+pub mod FeedSteps
 pub mod HeadAgreement
 pub mod HeadFaults
 pub mod HeadGrammar
@@ -18,7 +21,9 @@ pub mod ObjectIdentifierGrammar
 pub mod Octets
 pub mod PlainElement
 pub mod OptionSteps
+pub mod PieceSteps
 pub mod PlaceSteps
+pub mod PushSteps
 pub mod ResultSteps
 pub mod ScannerLengths
 pub mod ScannerSteps

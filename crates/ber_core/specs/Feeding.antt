@@ -1,5 +1,5 @@
 -- A feed: what it holds of the stream behind which it stands, and what a push does.
-use Rattle.std.specs.Prelude.{◌≡◌, ◌≢◌, ℕ, ◌⊎◌, List, [], ◌∷◌, ◌++◌, Option, Some, None, Result, Ok, Err}
+use Rattle.std.specs.Prelude.{◌≡◌, ◌≢◌, ℕ, ◌⊎◌, List, [], ◌∷◌, ◌++◌, Option, Some, None}
 use Rattle.ber_core.specs.declared.fault.BerFault.{BerFault}
 use Rattle.ber_core.specs.declared.fault.FeedFault.{FeedFault}
 use Rattle.ber_core.specs.declared.fault.FeedFault.TheVariants.{OutOfMemory, Ber, TooLong}
@@ -35,10 +35,14 @@ abbrev pub WantsMemory : List ℕ → List ℕ → Type 0
 WantsMemory stream piece = ((cut_of (stream ++ piece)).messages ≢ (cut_of stream).messages)
     ⊎ ((piece ≢ []) × ((cut_of (stream ++ piece)).fault ≡ None))
 
--- What a push answers behind a stream: the messages that the piece completes; where it completes
--- none, the fault that stands; where memory is refused, nothing is taken (own).
-abbrev pub Pushes : List ℕ → List ℕ → Left → Result (List (List ℕ)) FeedFault → Left → Type 0
-Pushes stream piece old (Ok completed) new = Takes stream piece completed new × (completed ≡ [] → new.fault ≡ None)
-Pushes stream piece old (Err OutOfMemory) new = (new ≡ old) × WantsMemory stream piece
-Pushes stream piece old (Err (Ber why)) new = Takes stream piece [] new × (new.fault ≡ Some (Ber why))
-Pushes stream piece old (Err TooLong) new = Takes stream piece [] new × (new.fault ≡ Some TooLong)
+-- A push answers these messages: the piece completes them; where there are none, no fault stands
+-- (own).
+abbrev pub Gives : List ℕ → List ℕ → List (List ℕ) → Left → Type 0
+Gives stream piece completed new = Takes stream piece completed new × (completed ≡ [] → new.fault ≡ None)
+
+-- A push answers this fault: it completes no message, and the fault stands; where memory is refused,
+-- nothing is taken, and memory was wanted (own).
+abbrev pub Fails : List ℕ → List ℕ → Left → FeedFault → Left → Type 0
+Fails stream piece old OutOfMemory new = (new ≡ old) × WantsMemory stream piece
+Fails stream piece old (Ber why) new = Takes stream piece [] new × (new.fault ≡ Some (Ber why))
+Fails stream piece old TooLong new = Takes stream piece [] new × (new.fault ≡ Some TooLong)

@@ -4,6 +4,7 @@ pub mod ElementList
 pub mod ElementReading
 pub mod Fault
 pub mod FaultText
+pub mod FeedViews
 pub mod Feeding
 pub mod Head
 pub mod HeadReading
@@ -12,6 +13,7 @@ pub mod Length
 pub mod ListReading
 pub mod ObjectIdentifier
 pub mod Options
+pub mod Pieces
 pub mod Place
 pub mod Results
 pub mod Sequence

@@ -9,6 +9,7 @@ ghost use Rattle.ber_core.specs.Tag.{IsTag};
 ghost use Rattle.ber_core.specs.Length.{length_limit, IsLength};
 ghost use Rattle.ber_core.specs.Element.{Parts, IsElement, depth_limit};
 ghost use Rattle.ber_core.specs.ElementReading.{element_at};
+ghost use Rattle.ber_core.specs.Stream.{Cut, IsCut, cut_of};
 ghost use Rattle.ber_core.specs.Written.{length_octets, written_head, written, written_parts};
 
 /// Bytes spell at most one element, and no element's whole is a proper prefix of another's: where two
@@ -35,4 +36,10 @@ pub fn written_element()
 pub fn written_head()
     ensures spelled { (tag : List ℕ) (len : ℕ) → IsTag tag → len ≤ length_limit → BeginsWithHead tag (Some len) [] (written_head tag len) }
     ensures shortest { (len : ℕ) (octets : List ℕ) → AllByRecursion (λ b. b < 0x100) octets → IsLength octets len → length (length_octets len) ≤ length octets }
+{}
+
+/// A stream has one cut: it is what the definition says, and nothing else is (our own).
+pub fn one_cut()
+    ensures is { (stream : List ℕ) → IsCut (cut_of stream) stream }
+    ensures one { (stream : List ℕ) (cut : Cut) → IsCut cut stream → cut ≡ cut_of stream }
 {}

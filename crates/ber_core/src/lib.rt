@@ -8,6 +8,7 @@
 mod element;
 mod elements;
 mod fault;
+mod feed;
 mod head;
 mod integer;
 pub mod laws;
@@ -20,6 +21,7 @@ mod written_len;
 
 pub use element::{Element, read_element};
 pub use elements::{Elements, is_element_list};
+pub use feed::Feed;
 pub use fault::{BerFault, FeedFault, OutOfMemory};
 pub use head::{Head, MAX_LENGTH, read_head};
 pub use integer::{read_int, write_int};

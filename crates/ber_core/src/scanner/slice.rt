@@ -1,6 +1,6 @@
 //! The octets of a slice.
 
-ghost use Rattle.std.specs.Prelude.{◌≡◌, ◌<◌, ◌≤◌, ◌+◌, [], ◌∷◌, ◌++◌, false, length, List, ℕ, IfOk, IfErr, IfSome, Err};
+ghost use Rattle.std.specs.Prelude.{◌≡◌, ◌<◌, ◌≤◌, ◌+◌, [], ◌∷◌, ◌++◌, false, length, List, ℕ, IfOk, IfErr, IfSome, IfNone, Err};
 ghost use Rattle.ber_core.specs.Scanning.{goes_on, goes_on_or, at_due};
 ghost use Rattle.ber_core.specs.Element.{depth_limit};
 ghost use Rattle.ber_core.specs.ElementReading.{after_at};
@@ -61,6 +61,7 @@ impl Scanner {
         ensures ok { IfOk result (λ r. (more : List ℕ) → goes_on_or r.0 (r.1.now ++ more) ≡ goes_on self (bytes.now ++ more)) }
         ensures err { IfErr result (λ f. (is_short f ≡ false) × ((more : List ℕ) → goes_on self (bytes.now ++ more) ≡ Err f)) }
         ensures shorter { IfOk result (λ r. length r.1.now ≤ length bytes.now) }
+        ensures whole { IfOk result (λ r. IfNone r.0 (length r.1.now < length bytes.now)) }
         ensures all { IfOk result (λ r. IfSome r.0 (λ s. r.1.now ≡ [])) }
     {
         let mut scanner = self;
