@@ -14,9 +14,10 @@ use Rattle.ber_core.specs.Due.{CanBeDue}
 use Rattle.ber_core.specs.Element.{Parts, IsElement}
 use Rattle.ber_core.specs.Fault.{ElementFault}
 use Rattle.ber_core.specs.HeadReading.{further_at, tag_at, length_at, head_at}
-use Rattle.ber_core.specs.ElementReading.{contents_by, after_at}
+use Rattle.ber_core.specs.ElementReading.{contents_by, after_at, element_at}
 use Rattle.ber_core.specs.Scanning.{outer_at, at_due, goes_on}
-use Rattle.ber_core.specs.Stream.{Cut, is_short, rest_fault, cut_into, with_message, cut_of}
+use Rattle.ber_core.specs.Stream.{Cut, is_short, rest_fault, cut_into, with_message, cut_by, cut_of}
+use Rattle.ber_core.specs.Feeding.{StandsBehind}
 use Rattle.ber_core.specs.Pieces.{IsBehind, IsUnderWay}
 use Rattle.ber_core.proofs.ResultSteps.{read, refused}
 use Rattle.ber_core.proofs.ElementFaults.{after_fails}
@@ -107,3 +108,12 @@ under_way-whole s begun piece window after n h is on le n-is =
     let size : length e.whole ≤ 65535 = omega (arith, ap length parts.0, length-append begun (take (length window - length after) window), length-take (length window - length after) window, room, h.1) in
     let split : begun ++ piece ≡ e.whole ++ drop n piece = ap (λ (w : List ℕ). begun ++ w) (sym (take-append-drop n piece)) ∙ (sym (append_assoc begun (take n piece) (drop n piece)) ∙ ap (λ (w : List ℕ). w ++ drop n piece) (sym whole)) in
     ap cut_of split ∙ (cut-message e (drop n piece) (f.1, size) ∙ ap (λ (w : List ℕ). with_message w (cut_of (drop n piece))) whole)
+
+-- ---- nothing has come
+
+pub nothing_under_way : (s : Scanner) (octets : List ℕ) → octets ≡ [] → ((more : List ℕ) → goes_on s more ≡ after_at 32 more) → IsUnderWay s octets
+nothing_under_way s octets e h = rw e (h, omega arith)
+
+pub nothing_left : (rest : List ℕ) → rest ≡ [] → StandsBehind [] (record { rest = rest; fault = None })
+unfolding cut_by element_at after_at head_at tag_at
+nothing_left rest e = rw e refl

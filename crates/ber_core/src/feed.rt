@@ -1,4 +1,4 @@
-ghost use Rattle.std.specs.Prelude.{◌≡◌, ◌≢◌, ◌++◌, [], length, map, List, ℕ, OnOk, OnErr, IfOk, IfErr, IsErrOf, if◌then◌else◌};
+ghost use Rattle.std.specs.Prelude.{◌≡◌, ◌≢◌, ◌++◌, [], length, map, List, ℕ, OnOk, OnErr, IfOk, IfErr, IsErrOf, Some, if◌then◌else◌};
 ghost use Rattle.ber_core.specs.Feeding.{StandsBehind, Gives, Fails};
 
 mod pieces;
@@ -41,6 +41,7 @@ impl<A: Allocator + Copy> Model for Feed<A> {
 
 impl<A: Allocator + Copy> Feed<A> {
     /// A feed that has taken nothing. It takes no memory until octets have to be kept.
+    #[tactic(auto, using(crate::proofs::FeedSteps::nothing_left, crate::proofs::FeedSteps::nothing_under_way))]
     pub fn new(alloc: A) -> Self
         ensures { StandsBehind [] result }
     {
@@ -91,8 +92,7 @@ impl<A: Allocator + Copy> Feed<A> {
                 Ok(messages)
             }
             End::Fault(fault) => {
-                self.fault = Some(fault);
-                self.rest.clear();
+                stand(&mut self.fault, &mut self.rest, fault);
                 if messages.is_empty() {
                     return Err(fault);
                 }
@@ -120,4 +120,17 @@ fn hold<A: Allocator + Copy>(
     rest.clear();
     rest.extend_from_slice(octets)?;
     Ok(())
+}
+
+/// From now on the fault stands, and no octets are held.
+fn stand<A: Allocator + Copy>(
+    standing: &mut Option<FeedFault>,
+    rest: &mut Vec<u8, A>,
+    fault: FeedFault,
+)
+    ensures fault { standing.new ≡ Some fault }
+    ensures rest { rest.new.items ≡ [] }
+{
+    *standing = Some(fault);
+    rest.clear();
 }

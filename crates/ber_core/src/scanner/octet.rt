@@ -1,6 +1,6 @@
 //! One octet of a head, or of an end.
 
-ghost use Rattle.std.specs.Prelude.{◌≡◌, ◌<◌, ◌≤◌, ◌+◌, [], ◌∷◌, List, ℕ, Some, None};
+ghost use Rattle.std.specs.Prelude.{◌≡◌, ◌<◌, ◌≤◌, ◌+◌, ◌*◌, [], ◌∷◌, List, ℕ, Some, None};
 ghost use Rattle.ber_core.specs.Scanning.{Leads, goes_on, goes_on_or, outer_at, at_tag, at_element, at_end, at_body, at_length, at_long, behind_further, at_due};
 ghost use Rattle.ber_core.specs.HeadReading.{all_further_at, further_at};
 ghost use Rattle.ber_core.specs.Length.{length_limit};
@@ -157,6 +157,15 @@ fn take_length(nested: u8, constructed: bool, octet: u8) -> Result<Option<Scanne
     Ok(due_at(Due::LongLength(octet - 0x80, 0), nested))
 }
 
+/// The number that an octet more spells, most significant first.
+#[inline(always)]
+fn with_octet(value: u32, octet: u8) -> u32
+    requires { value ≤ length_limit + 1 }
+    ensures { result ≡ value * 256 + octet }
+{
+    value * 256 + octet as u32
+}
+
 /// One of so many octets of a long length; those before it spell `value`, or a number above the limit.
 #[inline(always)]
 fn take_long_length(
@@ -170,7 +179,7 @@ fn take_long_length(
     requires nested { nested ≤ depth_limit }
     ensures { Leads (λ rest. at_long nested left value (octet ∷ rest)) result }
 {
-    let value = value * 256 + octet as u32;
+    let value = with_octet(value, octet);
     let above = value > MAX_LENGTH as u32;
     if left > 1 {
         let value = if above { MAX_LENGTH as u32 + 1 } else { value };

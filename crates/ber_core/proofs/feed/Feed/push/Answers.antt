@@ -40,7 +40,7 @@ returns-else-is_empty-clause-ok g c = λ stream h.
     let none = none-of c.self.inside.fault c.in_default.not-Some in
     let old-is : left_by None begun ≡ c.args.self.now = left-is c.self.inside.fault c.self.inside.rest.items begun none (sym c.as_slice.ensures.value) ∙ c.self.view_is in
     let ends = (rw c.in-Fault.is at c.in_ok-messages.ensures.ok) in
-    rw c.clear.ensures.items (gives-fault stream c.args.piece.now begun (subst (StandsBehind stream) (sym old-is) h) _ ends.0 c.in-Fault.fault (map-some (λ message. message.items) messages.items _ messages.ok.0 (eqb-false _ 0 (sym c.is_empty-in-Fault.ensures ∙ c.if-is_empty.false))) ends.1)
+    rw (c.stand.ensures.fault, c.stand.ensures.rest) (gives-fault stream c.args.piece.now begun (subst (StandsBehind stream) (sym old-is) h) _ ends.0 c.in-Fault.fault (map-some (λ message. message.items) messages.items _ messages.ok.0 (eqb-false _ 0 (sym c.is_empty-in-Fault.ensures ∙ c.if-is_empty.false))) ends.1)
 
 pub returns-then-is_empty-clause-err : goal.returns-then-is_empty-clause-err
 returns-then-is_empty-clause-err g c = λ stream h.
@@ -49,7 +49,7 @@ returns-then-is_empty-clause-err g c = λ stream h.
     let none = none-of c.self.inside.fault c.in_default.not-Some in
     let old-is : left_by None begun ≡ c.args.self.now = left-is c.self.inside.fault c.self.inside.rest.items begun none (sym c.as_slice.ensures.value) ∙ c.self.view_is in
     let ends = (rw c.in-Fault.is at c.in_ok-messages.ensures.ok) in
-    rw c.clear.ensures.items (fails-fault stream c.args.piece.now begun (subst (StandsBehind stream) (sym old-is) h) _ ends.0 c.in-Fault.fault c.args.self.now (map-none (λ message. message.items) messages.items _ messages.ok.0 (eqb-true _ 0 (sym c.is_empty-in-Fault.ensures ∙ c.if-is_empty.true))) ends.1)
+    rw (c.stand.ensures.fault, c.stand.ensures.rest) (fails-fault stream c.args.piece.now begun (subst (StandsBehind stream) (sym old-is) h) _ ends.0 c.in-Fault.fault c.args.self.now (map-none (λ message. message.items) messages.items _ messages.ok.0 (eqb-true _ 0 (sym c.is_empty-in-Fault.ensures ∙ c.if-is_empty.true))) ends.1)
 
 pub returns-then-is_empty-clause-refused : goal.returns-then-is_empty-clause-refused
 returns-then-is_empty-clause-refused g c = λ refused.
