@@ -1,7 +1,8 @@
 -- What a push makes of the stream behind which a feed stands.
-use Rattle.std.proofs.Common.{◌≡◌, ◌≢◌, ℕ, ◌+◌, ◌<◌, ◌≤◌, Bool, true, false, cond, eqb, ltb, List, [], ◌∷◌, ◌++◌, length, map, Option, Some, None, refl, sym, ap, subst, ◌∙◌, ◌⊎◌, inl, inr, arith}
+use Rattle.std.proofs.Common.{◌≡◌, ◌≢◌, ℕ, ◌+◌, ◌<◌, ◌≤◌, Bool, true, false, cond, eqb, ltb, List, [], ◌∷◌, ◌++◌, length, map, Option, Some, None, Result, Ok, Err, refl, sym, ap, subst, ◌∙◌, ◌⊎◌, inl, inr, arith}
 use Rattle.std.proofs.lemmas.Bool.{ne_eqb}
 use Rattle.std.proofs.lemmas.List.{append-nil, length-append}
+use Rattle.std.specs.Prelude.{IfOk, IfErr}
 use Rattle.ber_core.specs.declared.fault.BerFault.{BerFault}
 use Rattle.ber_core.specs.declared.fault.FeedFault.{FeedFault}
 use Rattle.ber_core.specs.declared.fault.FeedFault.TheVariants.{OutOfMemory, Ber, TooLong}
@@ -113,10 +114,17 @@ pub held-is : {X : Type 0} (f : X → List ℕ) (items : List X) (n : ℕ) (none
 held-is f [] n none begun e is = rw (is, e) refl
 held-is f (x ∷ xs) n none begun e is = rw (is, ne_eqb n 0 (λ q. absurd (omega (arith, e)))) refl
 
-pub map-none : {X : Type 0} (f : X → List ℕ) (items : List X) (n : ℕ) → n ≡ length items → n ≡ 0 → map f items ≡ []
-map-none f [] n e is = refl
-map-none f (x ∷ xs) n e is = absurd (omega arith)
+pub map-filled : {X : Type 0} (f : X → List ℕ) (items : List X) → items ≢ [] → map f items ≢ []
+map-filled f [] some e = some refl
+map-filled f (x ∷ xs) some e = absurd cc
 
-pub map-some : {X : Type 0} (f : X → List ℕ) (items : List X) (n : ℕ) → n ≡ length items → n ≢ 0 → map f items ≢ []
-map-some f [] n e is none = is e
-map-some f (x ∷ xs) n e is none = absurd cc
+-- ---- what is answered
+
+module _ {R Y : Type 0} (told : List Y) where
+  pub ended-gives : (of : R → List Y) (view : List Y → List (List ℕ)) (P : List (List ℕ) → Type 0) (r : Result R FeedFault) → IfOk r (λ all. (of all ≡ told) × (told ≢ [])) → (told ≢ [] → P (view told)) → IfOk r (λ all. P (view (of all)))
+  ended-gives of view P (Ok all) h p = subst (λ (w : List Y). P (view w)) (sym h.0) (p h.1)
+  ended-gives of view P (Err f) h p = tt
+
+  pub ended-fails : (P : FeedFault → Type 0) (fault : FeedFault) (r : Result R FeedFault) → IfErr r (λ f. (f ≡ fault) × (told ≡ [])) → (told ≡ [] → P fault) → IfErr r P
+  ended-fails P fault (Ok all) h p = tt
+  ended-fails P fault (Err f) h p = subst P (sym h.0) (p h.1)

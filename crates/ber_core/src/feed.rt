@@ -91,13 +91,7 @@ impl<A: Allocator + Copy> Feed<A> {
                 self.scanner = scanner;
                 Ok(messages)
             }
-            End::Fault(fault) => {
-                stand(&mut self.fault, &mut self.rest, fault);
-                if messages.is_empty() {
-                    return Err(fault);
-                }
-                Ok(messages)
-            }
+            End::Fault(fault) => end_with(&mut self.fault, &mut self.rest, messages, fault),
         }
     }
 }
@@ -122,15 +116,23 @@ fn hold<A: Allocator + Copy>(
     Ok(())
 }
 
-/// From now on the fault stands, and no octets are held.
-fn stand<A: Allocator + Copy>(
+/// From now on the fault stands and no octets are held; the fault is answered where there are no
+/// messages to give.
+fn end_with<A: Allocator + Copy>(
     standing: &mut Option<FeedFault>,
     rest: &mut Vec<u8, A>,
+    messages: Vec<Vec<u8, A>, A>,
     fault: FeedFault,
-)
-    ensures fault { standing.new ≡ Some fault }
+) -> Result<Vec<Vec<u8, A>, A>, FeedFault>
+    ensures stands { standing.new ≡ Some fault }
     ensures rest { rest.new.items ≡ [] }
+    ensures ok { IfOk result (λ all. (all.items ≡ messages.items) × (messages.items ≢ [])) }
+    ensures err { IfErr result (λ f. (f ≡ fault) × (messages.items ≡ [])) }
 {
     *standing = Some(fault);
     rest.clear();
+    if messages.is_empty() {
+        return Err(fault);
+    }
+    Ok(messages)
 }

@@ -1,11 +1,9 @@
 use Rattle.std.proofs.Common.{◌≡◌, ◌≢◌, ℕ, cond, List, [], ◌++◌, map, Some, None, refl, sym, ap, subst, ◌∙◌}
 use Rattle.std.proofs.lemmas.Result.{err_from_is_err_and}
-use Rattle.std.proofs.lemmas.Bool.{eqb-true, eqb-false}
 use Rattle.ber_core.specs.declared.fault.FeedFault.{FeedFault}
 use Rattle.ber_core.specs.Stream.{Cut}
 use Rattle.ber_core.specs.Feeding.{Left, left_by, StandsBehind, Gives, Fails}
-use Rattle.ber_core.proofs.ResultSteps.{refused_is}
-use Rattle.ber_core.proofs.PushSteps.{faulty-push, cut-real, none-of, left-is, held-is, map-none, map-some, gives-open, gives-fault, fails-fault, wants-message, wants-octets}
+use Rattle.ber_core.proofs.PushSteps.{faulty-push, cut-real, none-of, left-is, held-is, map-filled, ended-gives, ended-fails, gives-open, gives-fault, fails-fault, wants-message, wants-octets}
 use Rattle.ber_core.proofs.feed.Feed.push.Goals as goal
 
 pub returns-in-Some-clause-err : goal.returns-in-Some-clause-err
@@ -33,28 +31,31 @@ invariant_of-self-in-Open g c =
     let is = c.in_ok-hold-in-Open.ensures.ok ∙ ap (λ (w : List ℕ). w ++ c.in-Open.octets.now) (ap (λ (w : List ℕ). cond c.is_empty.result w []) (sym c.as_slice.ensures.value) ∙ held) in
     rw (none, is) ends.1
 
-pub returns-else-is_empty-clause-ok : goal.returns-else-is_empty-clause-ok
-returns-else-is_empty-clause-ok g c = λ stream h.
+pub returns-in-Fault-clause-ok : goal.returns-in-Fault-clause-ok
+returns-in-Fault-clause-ok g c = λ stream h.
     let begun = c.as_slice.result.now in
-    let messages = c.in_ok-messages.messages in
+    let told = c.in_ok-messages.messages.items in
     let none = none-of c.self.inside.fault c.in_default.not-Some in
     let old-is : left_by None begun ≡ c.args.self.now = left-is c.self.inside.fault c.self.inside.rest.items begun none (sym c.as_slice.ensures.value) ∙ c.self.view_is in
     let ends = (rw c.in-Fault.is at c.in_ok-messages.ensures.ok) in
-    rw (c.stand.ensures.fault, c.stand.ensures.rest) (gives-fault stream c.args.piece.now begun (subst (StandsBehind stream) (sym old-is) h) _ ends.0 c.in-Fault.fault (map-some (λ message. message.items) messages.items _ messages.ok.0 (eqb-false _ 0 (sym c.is_empty-in-Fault.ensures ∙ c.if-is_empty.false))) ends.1)
+    rw (c.end_with.ensures.stands, c.end_with.ensures.rest) (ended-gives told (λ all. all.items) (map (λ message. message.items)) (λ (w : List (List ℕ)). Gives stream c.args.piece.now w (left_by (Some c.in-Fault.fault) [])) c.end_with.result c.end_with.ensures.ok (λ some.
+    gives-fault stream c.args.piece.now begun (subst (StandsBehind stream) (sym old-is) h) _ ends.0 c.in-Fault.fault (map-filled (λ message. message.items) told some) ends.1))
 
-pub returns-then-is_empty-clause-err : goal.returns-then-is_empty-clause-err
-returns-then-is_empty-clause-err g c = λ stream h.
+pub returns-in-Fault-clause-err : goal.returns-in-Fault-clause-err
+returns-in-Fault-clause-err g c = λ stream h.
     let begun = c.as_slice.result.now in
-    let messages = c.in_ok-messages.messages in
+    let told = c.in_ok-messages.messages.items in
     let none = none-of c.self.inside.fault c.in_default.not-Some in
     let old-is : left_by None begun ≡ c.args.self.now = left-is c.self.inside.fault c.self.inside.rest.items begun none (sym c.as_slice.ensures.value) ∙ c.self.view_is in
     let ends = (rw c.in-Fault.is at c.in_ok-messages.ensures.ok) in
-    rw (c.stand.ensures.fault, c.stand.ensures.rest) (fails-fault stream c.args.piece.now begun (subst (StandsBehind stream) (sym old-is) h) _ ends.0 c.in-Fault.fault c.args.self.now (map-none (λ message. message.items) messages.items _ messages.ok.0 (eqb-true _ 0 (sym c.is_empty-in-Fault.ensures ∙ c.if-is_empty.true))) ends.1)
+    rw (c.end_with.ensures.stands, c.end_with.ensures.rest) (ended-fails told (λ (f : FeedFault). Fails stream c.args.piece.now c.args.self.now f (left_by (Some c.in-Fault.fault) [])) c.in-Fault.fault c.end_with.result c.end_with.ensures.err (λ empty.
+    fails-fault stream c.args.piece.now begun (subst (StandsBehind stream) (sym old-is) h) _ ends.0 c.in-Fault.fault c.args.self.now (ap (map (λ message. message.items)) empty) ends.1))
 
-pub returns-then-is_empty-clause-refused : goal.returns-then-is_empty-clause-refused
-returns-then-is_empty-clause-refused g c = λ refused.
+pub returns-in-Fault-clause-refused : goal.returns-in-Fault-clause-refused
+returns-in-Fault-clause-refused g c = λ refused.
     let ends = (rw c.in-Fault.is at c.in_ok-messages.ensures.ok) in
-    absurd (cut-real (c.as_slice.result.now ++ c.args.piece.now) (ap (λ (cut : Cut). cut.fault) ends.1 ∙ ap (λ (f : FeedFault). Some f) (refused_is c.in-Fault.fault _ refused)))
+    let told = (rw refused at c.end_with.ensures.err) in
+    absurd (cut-real (c.as_slice.result.now ++ c.args.piece.now) (ap (λ (cut : Cut). cut.fault) ends.1 ∙ ap (λ (f : FeedFault). Some f) (sym told.0)))
 
 pub returns-in_err-messages-clause-err : goal.returns-in_err-messages-clause-err
 returns-in_err-messages-clause-err g c = λ stream h.
