@@ -1,7 +1,9 @@
+pub mod Computing
 pub mod Due
 pub mod Element
 pub mod ElementList
 pub mod ElementReading
+pub mod Examples
 pub mod Fault
 pub mod FaultText
 pub mod FeedViews

@@ -7,6 +7,7 @@
 
 mod element;
 mod elements;
+pub mod examples;
 mod fault;
 mod feed;
 mod head;

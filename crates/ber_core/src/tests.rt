@@ -1,5 +1,7 @@
+ghost use Rattle.std.specs.Prelude.{◌≤◌, length};
+
 use crate::{
-    BerFault, Elements, MAX_DEPTH, OutOfMemory, is_element_list, is_oid, read_alone, read_element,
+    BerFault, Elements, Feed, FeedFault, MAX_DEPTH, OutOfMemory, is_element_list, is_oid, read_alone, read_element,
     read_head, take_any, take_content, take_only, take_tagged, write_element, write_head,
 };
 use std::alloc::Global;
@@ -162,5 +164,61 @@ fn heads_and_elements_written(rt: HostRuntime) -> Result<(), Fail> {
     write_head(&mut bytes, &[0x62], 65_531)?;
     let wanted = [0x6c, 0x81, 0xc8, 0x04, 0x01, 0xaa, 0x62, 0x82, 0xff, 0xfb];
     assert_eq!(rt; bytes.as_slice(), wanted.as_slice());
+    Ok(())
+}
+
+/// How many messages each of two pieces of a stream completes, and how many octets are left.
+fn cut_once(
+    alloc: Global,
+    stream: &[u8],
+    at: usize,
+) -> Result<(usize, usize, usize), FeedFault>
+    requires { at ≤ length stream.now }
+{
+    let (first, second) = stream.split_at(at);
+    let mut feed = Feed::new(alloc);
+    let before = feed.push(first)?.len();
+    let after = feed.push(second)?.len();
+    Ok((before, after, feed.rest_len()))
+}
+
+#[test]
+fn stream_in_two_pieces(rt: HostRuntime) -> Result<(), Fail> {
+    // an indefinite element of 10 octets, a definite one of 3, and a tag
+    let stream = [
+        0x62, 0x80, 0x48, 0x04, 0x00, 0x00, 0x00, 0x01, 0x00, 0x00, 0x04, 0x01, 0xaa, 0x05,
+    ];
+    for at in 0..stream.len() + 1 {
+        let before = if at < 10 { 0 } else if at < 13 { 1 } else { 2 };
+        let told = cut_once(rt.alloc(), &stream, at);
+        assert_eq!(rt; told, Ok((before, 2 - before, 1)));
+    }
+    Ok(())
+}
+
+#[test]
+fn fault_behind_a_message(rt: HostRuntime) -> Result<(), Fail> {
+    let mut feed = Feed::new(rt.alloc());
+    assert_eq!(rt; feed.push(&[0x62, 0x06])?.len(), 0);
+    assert_eq!(rt; feed.rest_len(), 2);
+    let told = feed.push(&[0x48, 0x04, 0x00, 0x00, 0x00, 0x01, 0x00])?;
+    assert_eq!(rt; told.len(), 1);
+    assert_eq!(rt; feed.fault(), Some(FeedFault::Ber(BerFault::BadTag)));
+    assert_eq!(rt; feed.rest_len(), 0);
+    assert_eq!(rt; feed.push(&[]).err(), Some(FeedFault::Ber(BerFault::BadTag)));
+    Ok(())
+}
+
+#[test]
+fn feed_at_its_limit(rt: HostRuntime) -> Result<(), Fail> {
+    let content = vec![in rt.alloc(); 0u8; 65_531]?;
+    let mut feed = Feed::new(rt.alloc());
+    assert_eq!(rt; feed.push(&[0x62, 0x82, 0xff, 0xff])?.len(), 0);
+    assert_eq!(rt; feed.push(content.as_slice())?.len(), 0);
+    assert_eq!(rt; feed.rest_len(), 65_535);
+    assert_eq!(rt; feed.push(&[0x00]).err(), Some(FeedFault::TooLong));
+    let mut feed = Feed::new(rt.alloc());
+    assert_eq!(rt; feed.push(&[0x62, 0x82, 0xff, 0xfb])?.len(), 0);
+    assert_eq!(rt; feed.push(content.as_slice())?.len(), 1);
     Ok(())
 }
