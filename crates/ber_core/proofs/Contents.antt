@@ -33,23 +33,7 @@ body_at-short depth n o body is lt = rw (is, lt-ltb (length body) n lt) refl
 pub body_at-definite : (depth n : ℕ) (o : Option ℕ) (body : List ℕ) → o ≡ Some n → n ≤ length body → body_at depth o body ≡ Ok (drop n body)
 body_at-definite depth n o body is le = rw (is, le-ltb (length body) n le) refl
 
-pub body_at-none : (depth : ℕ) (o : Option ℕ) (body : List ℕ) → o ≡ None → depth ≡ 0 → body_at depth o body ≡ Err TooDeep
-body_at-none depth o body is e = rw (is, e) refl
-
-pub body_at-indefinite : (depth : ℕ) (o : Option ℕ) (body : List ℕ) → o ≡ None → 0 < depth → body_at depth o body ≡ contents_at (depth - 1) body
-body_at-indefinite depth o body is h = rw is (inner_at-some depth body h)
-
 -- ---- contents
-
--- reading on from rest gives what reading from bytes gives
-pub record IsLeft (depth : ℕ) (bytes rest : List ℕ) : Type 0 where
-  pub fuel : ℕ
-  pub enough : length rest ≤ fuel
-  pub same : contents_by (after_at depth) fuel rest ≡ contents_at depth bytes
-  pub shorter : length rest ≤ length bytes
-
-pub IsLeft-first : (depth : ℕ) (bytes : List ℕ) → IsLeft depth bytes bytes
-IsLeft-first depth bytes = record { fuel = length bytes; enough = omega arith; same = refl; shorter = omega arith }
 
 -- one turn: with no fuel left there are no octets left
 pub turn : (next : List ℕ → Result (List ℕ) BerFault) (fuel : ℕ) (rest : List ℕ) → length rest ≤ fuel → contents_by next fuel rest ≡ (end_at rest >>= end_or (next rest >>= contents_by next (fuel - 1)))
@@ -57,24 +41,3 @@ unfolding contents_by end_at
 turn next zero [] h = refl
 turn next zero (a ∷ rest) h = absurd (omega arith)
 turn next (suc fuel) rest h = let e : suc fuel - 1 ≡ fuel = omega arith in rw e refl
-
-module _ (depth : ℕ) (bytes rest : List ℕ) (left : IsLeft depth bytes rest) where
-  now : contents_at depth bytes ≡ (end_at rest >>= end_or (after_at depth rest >>= contents_by (after_at depth) (left.fuel - 1)))
-  now = sym left.same ∙ turn (after_at depth) left.fuel rest left.enough
-
-  pub contents_at-fault : (f : BerFault) → end_at rest ≡ Err f → contents_at depth bytes ≡ Err f
-  contents_at-fault f e = rw (now, e) refl
-
-  pub contents_at-end : (after : List ℕ) → end_at rest ≡ Ok (Some after) → contents_at depth bytes ≡ Ok after
-  contents_at-end after e = rw (now, e) refl
-
-  pub contents_at-failed : (f : BerFault) → end_at rest ≡ Ok None → after_at depth rest ≡ Err f → contents_at depth bytes ≡ Err f
-  contents_at-failed f e g = rw (now, e, g) refl
-
-  pub IsLeft-next : (after : List ℕ) → end_at rest ≡ Ok None → after_at depth rest ≡ Ok after → length after < length rest → IsLeft depth bytes after
-  IsLeft-next after e g lt = record {
-    fuel = left.fuel - 1;
-    enough = omega (arith, left.enough);
-    same = let same = now in sym (rw (e, g) at same);
-    shorter = omega (arith, left.shorter);
-  }

@@ -19,28 +19,11 @@ use Rattle.ber_core.specs.Scanning.{outer_at, at_due, goes_on}
 use Rattle.ber_core.specs.Stream.{Cut, is_short, rest_fault, cut_into, with_message, cut_by, cut_of}
 use Rattle.ber_core.specs.Feeding.{StandsBehind}
 use Rattle.ber_core.specs.Pieces.{IsBehind, IsUnderWay}
+use Rattle.ber_core.proofs.ScanSteps.{scanner-short}
 use Rattle.ber_core.proofs.ResultSteps.{read, refused}
 use Rattle.ber_core.proofs.ElementFaults.{after_fails}
 use Rattle.ber_core.proofs.ElementGrammar.{after_takes}
 use Rattle.ber_core.proofs.CutGrammar.{cut-message, cut-stops}
-
--- ---- no octet more
-
-due-none : (d : Due) (n : ℕ) → CanBeDue d n → at_due d n [] ≡ Err Short
-unfolding outer_at contents_by after_at head_at tag_at further_at length_at
-due-none due.Tag zero h = refl
-due-none due.Tag (suc n) h = refl
-due-none due.End n h = refl
-due-none (due.FirstFurther c) n h = refl
-due-none (due.Further c zero) n h = absurd (omega (arith, h.0))
-due-none (due.Further c (suc left)) n h = refl
-due-none (due.Length c) n h = refl
-due-none (due.LongLength left value) n h = rw (lt-ltb 0 left h.0.0) refl
-due-none (due.Content left) n h = rw (lt-ltb 0 left h.0) refl
-
--- a scanner's element isn't whole
-pub scanner-short : (s : Scanner) → goes_on s [] ≡ Err Short
-scanner-short s = due-none s.due s.nested s.can_be
 
 behind-short : (s : Scanner) (octets : List ℕ) → IsBehind s octets → after_at 32 octets ≡ Err Short
 behind-short s octets h = ap (after_at 32) (sym (append-nil octets)) ∙ (sym (h []) ∙ scanner-short s)

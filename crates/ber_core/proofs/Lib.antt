@@ -25,6 +25,7 @@ pub mod PieceSteps
 pub mod PlaceSteps
 pub mod PushSteps
 pub mod ResultSteps
+pub mod ScanSteps
 pub mod ScannerLengths
 pub mod ScannerSteps
 pub mod SequenceGrammar

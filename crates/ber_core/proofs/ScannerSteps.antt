@@ -63,7 +63,7 @@ pub tag-nested : (n : ℕ) (rest : List ℕ) → (n ≡ 0 → ⊥) → at_tag n 
 tag-nested zero rest h = absurd (h refl)
 tag-nested (suc n) rest h = refl
 
-bind-none : (r : After) → r ≡ (r >>= outer_at 0)
+pub bind-none : (r : After) → r ≡ (r >>= outer_at 0)
 unfolding outer_at
 bind-none (Ok rest) = refl
 bind-none (Err e) = refl

@@ -10,17 +10,16 @@ ghost use Rattle.ber_core.specs.Views.{parts, InPlace};
 use crate::element::Element;
 use crate::fault::BerFault;
 use crate::head::read_head;
-use crate::scan::{MAX_DEPTH, split_body};
+use crate::scan::split_body;
 
-/// The first element, in which `depth` indefinite elements may stand one in another, and what follows
-/// it.
+/// The first element, part by part, and what follows it.
 #[inline(always)]
-fn split_within<'a>(bytes: &'a [u8], depth: u8) -> Result<(Element<'a>, &'a [u8]), BerFault>
-    ensures value { Gives (λ r. (parts r.0, r.1.now)) result (element_at depth bytes.now) }
+fn split_parts<'a>(bytes: &'a [u8]) -> Result<(Element<'a>, &'a [u8]), BerFault>
+    ensures value { Gives (λ r. (parts r.0, r.1.now)) result (element_at depth_limit bytes.now) }
     ensures place { IfOk result (λ r. InPlace r.0 bytes.entry × AtEnd r.1 bytes.entry) }
 {
     let head = read_head(bytes)?;
-    let (content, rest) = split_body(head.length, head.rest, depth)?;
+    let (content, rest) = split_body(head.length, head.rest)?;
     let end = bytes.len() - rest.len();
     let element = Element {
         tag: head.tag,
@@ -37,7 +36,7 @@ fn split_element<'a>(bytes: &'a [u8]) -> Result<(Element<'a>, &'a [u8]), BerFaul
     ensures value { Gives (λ r. (parts r.0, r.1.now)) result (element_at depth_limit bytes.now) }
     ensures place { IfOk result (λ r. InPlace r.0 bytes.entry × AtEnd r.1 bytes.entry) }
 {
-    split_within(bytes, MAX_DEPTH)
+    split_parts(bytes)
 }
 
 /// Reads the first element, and gives what follows it.

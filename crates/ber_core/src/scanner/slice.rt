@@ -1,7 +1,7 @@
 //! The octets of a slice.
 
 ghost use Rattle.std.specs.Prelude.{◌≡◌, ◌<◌, ◌≤◌, ◌+◌, [], ◌∷◌, ◌++◌, false, length, List, ℕ, IfOk, IfErr, IfSome, IfNone, Err};
-ghost use Rattle.ber_core.specs.Scanning.{goes_on, goes_on_or, at_due};
+ghost use Rattle.ber_core.specs.Scanning.{goes_on, goes_on_or, at_due, outer_at};
 ghost use Rattle.ber_core.specs.Element.{depth_limit};
 ghost use Rattle.ber_core.specs.ElementReading.{after_at};
 ghost use Rattle.ber_core.specs.Stream.{is_short};
@@ -36,6 +36,17 @@ impl Scanner {
         Scanner {
             due: Due::Tag,
             nested: 0,
+        }
+    }
+
+    /// Behind the head of an indefinite element.
+    #[inline(always)]
+    pub fn inside() -> Scanner
+        ensures { (rest : List ℕ) → goes_on result rest ≡ outer_at 1 rest }
+    {
+        Scanner {
+            due: Due::Tag,
+            nested: 1,
         }
     }
 
