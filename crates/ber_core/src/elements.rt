@@ -9,6 +9,7 @@ ghost use Rattle.ber_core.specs.Views.{item_view, ItemInPlace};
 
 use crate::element::{Element, read_element};
 use crate::fault::BerFault;
+use crate::head::is_plain;
 
 /// The elements of a list, one after the other; after a fault it ends (X.690, Contents octets).
 #[derive(Clone, Copy, Debug)]
@@ -73,14 +74,6 @@ fn split_item<'a>(bytes: &'a [u8]) -> (Option<Result<Element<'a>, BerFault>>, &'
         Ok((element, rest)) => (Some(Ok(element)), rest),
         Err(fault) => (Some(Err(fault)), &bytes[bytes.len()..]),
     }
-}
-
-/// Whether an element begins with a tag of this one octet and a length of this one octet.
-#[inline(always)]
-fn is_plain(tag: u8, length: u8) -> bool
-    ensures { IsTrue result ↔ ((tag ≢ 0x00) × (bit_and tag 0x1f == 0x1f ≡ false) × (length < 0x80)) }
-{
-    tag != 0x00 && tag & 0x1f != 0x1f && length < 0x80
 }
 
 /// What follows the first element. One with a tag and a length of one octet each is passed over at

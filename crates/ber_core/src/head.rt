@@ -1,4 +1,4 @@
-ghost use Rattle.std.specs.Prelude.{◌≡◌, ℕ, List, ◌<◌, ◌≤◌, length, Option, IfOk, IfErr, IsOkAnd, Ok};
+ghost use Rattle.std.specs.Prelude.{◌≡◌, ◌≢◌, ◌↔◌, ◌==◌, ℕ, bit_and, false, List, ◌<◌, ◌≤◌, length, Option, IfOk, IfErr, IsOkAnd, IsTrue, Ok};
 ghost use Rattle.ber_core.specs.Results.{Gives};
 ghost use Rattle.ber_core.specs.Tag.{is_constructor};
 ghost use Rattle.ber_core.specs.Head.{BeginsWithHead};
@@ -147,4 +147,12 @@ pub fn read_head<'a>(bytes: &'a [u8]) -> Result<Head<'a>, BerFault>
     ensures exact { Gives head_fields result (head_at bytes.now) }
 {
     split_head(bytes)
+}
+
+/// Whether an element begins with a tag of this one octet and a length of this one octet.
+#[inline(always)]
+pub fn is_plain(tag: u8, length: u8) -> bool
+    ensures { IsTrue result ↔ ((tag ≢ 0x00) × (bit_and tag 0x1f == 0x1f ≡ false) × (length < 0x80)) }
+{
+    tag != 0x00 && tag & 0x1f != 0x1f && length < 0x80
 }

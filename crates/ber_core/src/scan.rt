@@ -14,6 +14,7 @@ use crate::scanner::Scanner;
 pub const MAX_DEPTH: u8 = 32;
 
 /// What follows the elements of an indefinite element and their end.
+#[inline(never)]
 fn skip_contents(bytes: &[u8]) -> Result<&[u8], BerFault>
     ensures value { Gives (λ rest. rest.now) result (inner_at depth_limit bytes.now) }
     ensures shorter { IfOk result (λ rest. length rest.now + 2 ≤ length bytes.now) }

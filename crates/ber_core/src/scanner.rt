@@ -2,6 +2,7 @@ ghost use Rattle.ber_core.specs.Due.{CanBeDue, CanBeDue-prop};
 
 pub mod due;
 mod octet;
+mod skim;
 mod slice;
 
 use due::Due;

@@ -206,6 +206,7 @@ fn take_content(nested: u8, left: u16) -> Option<Scanner>
 
 impl Scanner {
     /// Takes the next octet; `None` where the element ends with it.
+    #[inline(always)]
     pub fn take(self, octet: u8) -> Result<Option<Scanner>, BerFault>
         ensures { Leads (λ rest. goes_on self (octet ∷ rest)) result }
     {

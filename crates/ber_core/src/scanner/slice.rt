@@ -77,7 +77,11 @@ impl Scanner {
     {
         let mut scanner = self;
         let mut rest = bytes;
-        while let [octet, after @ ..] = rest {
+        loop {
+            (scanner, rest) = scanner.skim(rest);
+            let [octet, after @ ..] = rest else {
+                return Ok((Some(scanner), rest));
+            };
             let (next, after) = scanner.advance(*octet, after)?;
             rest = after;
             match next {
@@ -85,6 +89,5 @@ impl Scanner {
                 None => return Ok((None, rest)),
             }
         }
-        Ok((Some(scanner), rest))
     }
 }
