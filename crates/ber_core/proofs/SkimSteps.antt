@@ -9,24 +9,22 @@ use Rattle.ber_core.proofs.ScannerSteps.{tag-nested, tag-element, tag-end, eleme
 use Rattle.ber_core.proofs.ScannerLengths.{length-short_form, length-indefinite, body-nested, skip-passed, skip-none}
 
 -- a tag of one octet
-outer-tag : (n tag : ℕ) (rest : List ℕ) → 0 < n → tag ≢ 0 → eqb (bit_and tag 31) 31 ≡ false → outer_at n (tag ∷ rest) ≡ at_length (not (eqb (bit_and tag 32) 0)) n rest
-outer-tag n tag rest h filled low =
-    sym (tag-nested n (tag ∷ rest) (λ e. absurd (omega (arith, h, e))))
-    ∙ (tag-element n tag rest (inr filled) ∙ element-short_tag n tag rest filled (eqb-false (bit_and tag 31) 31 low))
+at_tag-short : (n tag : ℕ) (rest : List ℕ) → tag ≢ 0 → eqb (bit_and tag 31) 31 ≡ false → at_tag n (tag ∷ rest) ≡ at_length (not (eqb (bit_and tag 32) 0)) n rest
+at_tag-short n tag rest filled low = tag-element n tag rest (inr filled) ∙ element-short_tag n tag rest filled (eqb-false (bit_and tag 31) 31 low)
 
-pub skim-element : (n tag len : ℕ) (body : List ℕ) → 0 < n → tag ≢ 0 → eqb (bit_and tag 31) 31 ≡ false → len < 128 → len ≤ length body → (more : List ℕ) → outer_at n (drop len body ++ more) ≡ outer_at n (tag ∷ len ∷ (body ++ more))
-skim-element n tag len body h filled low short enough more =
+pub skim-element : (n tag len : ℕ) (body : List ℕ) → tag ≢ 0 → eqb (bit_and tag 31) 31 ≡ false → len < 128 → len ≤ length body → (more : List ℕ) → outer_at n (drop len body ++ more) ≡ at_tag n (tag ∷ len ∷ (body ++ more))
+skim-element n tag len body filled low short enough more =
     let count : length (take len body) ≡ len = omega (arith, length-take len body, enough) in
     let parts : body ++ more ≡ take len body ++ (drop len body ++ more) = ap (λ (w : List ℕ). w ++ more) (sym (take-append-drop len body)) ∙ append_assoc (take len body) (drop len body) more in
     let none : len - length (take len body) ≡ 0 = omega (arith, count) in
     let passed : skip_at (body ++ more) len ≡ Ok (drop len body ++ more) = ap (λ (w : List ℕ). skip_at w len) parts ∙ (skip-passed len (take len body) (drop len body ++ more) (omega (arith, count)) ∙ (ap (skip_at (drop len body ++ more)) none ∙ skip-none (drop len body ++ more))) in
-    sym (outer-tag n tag (len ∷ (body ++ more)) h filled low ∙ (length-short_form (not (eqb (bit_and tag 32) 0)) n len (body ++ more) short ∙ (rw passed refl)))
+    sym (at_tag-short n tag (len ∷ (body ++ more)) filled low ∙ (length-short_form (not (eqb (bit_and tag 32) 0)) n len (body ++ more) short ∙ (rw passed refl)))
 
-pub skim-opens : (n tag len : ℕ) (rest : List ℕ) → 0 < n → n < 32 → tag ≢ 0 → eqb (bit_and tag 31) 31 ≡ false → eqb (bit_and tag 32) 0 ≡ false → len ≡ 128 → outer_at (n + 1) rest ≡ outer_at n (tag ∷ len ∷ rest)
-skim-opens n tag len rest h lt filled low constructed is =
+pub skim-opens : (n tag len : ℕ) (rest : List ℕ) → n < 32 → tag ≢ 0 → eqb (bit_and tag 31) 31 ≡ false → eqb (bit_and tag 32) 0 ≡ false → len ≡ 128 → outer_at (n + 1) rest ≡ at_tag n (tag ∷ len ∷ rest)
+skim-opens n tag len rest lt filled low constructed is =
     let c : not (eqb (bit_and tag 32) 0) ≡ true = rw constructed refl in
     sym (tag-nested (n + 1) rest (λ e. absurd (omega (arith, e))))
-    ∙ (body-nested n rest lt ∙ sym (outer-tag n tag (len ∷ rest) h filled low ∙ length-indefinite (not (eqb (bit_and tag 32) 0)) n len rest is c))
+    ∙ (body-nested n rest lt ∙ sym (at_tag-short n tag (len ∷ rest) filled low ∙ length-indefinite (not (eqb (bit_and tag 32) 0)) n len rest is c))
 
-pub skim-end : (n : ℕ) (rest : List ℕ) → 0 < n → outer_at (n - 1) rest ≡ outer_at n (0 ∷ 0 ∷ rest)
-skim-end n rest h = sym (sym (tag-nested n (0 ∷ 0 ∷ rest) (λ e. absurd (omega (arith, h, e)))) ∙ tag-end n (0 ∷ rest) h)
+pub skim-end : (n : ℕ) (rest : List ℕ) → 0 < n → outer_at (n - 1) rest ≡ at_tag n (0 ∷ 0 ∷ rest)
+skim-end n rest h = sym (tag-end n (0 ∷ rest) h)

@@ -1,12 +1,12 @@
-//! Heads, ends and elements that stand whole and plain in the octets of an indefinite element: each is
-//! passed over at once.
+//! Heads, ends and elements that stand whole and plain in the octets: each is passed over at once.
 
-ghost use Rattle.std.specs.Prelude.{◌≡◌, ◌≢◌, ◌==◌, ◌↔◌, ◌<◌, ◌≤◌, ◌++◌, ◌∷◌, bit_and, true, false, length, List, ℕ, IsTrue, IfSome};
+ghost use Rattle.std.specs.Prelude.{◌≡◌, ◌≢◌, ◌==◌, ◌↔◌, ◌<◌, ◌≤◌, ◌++◌, ◌∷◌, bit_and, true, false, length, List, ℕ, IsTrue, IfSome, IfNone};
 ghost use Rattle.ber_core.specs.Element.{depth_limit};
-ghost use Rattle.ber_core.specs.Scanning.{goes_on, outer_at};
+ghost use Rattle.ber_core.specs.Scanning.{goes_on, goes_on_or, outer_at, at_tag};
 
 use super::Scanner;
 use super::due::Due;
+use super::octet::behind_element;
 use crate::head::is_plain;
 use crate::scan::MAX_DEPTH;
 
@@ -22,17 +22,15 @@ fn opens(tag: u8, length: u8) -> bool
 /// gives how many are open then, and what follows.
 #[inline(always)]
 fn skim_one(nested: u8, tag: u8, len: u8, body: &[u8]) -> Option<(u8, &[u8])>
-    requires least { 0 < nested }
-    requires most { nested ≤ depth_limit }
-    ensures value { IfSome result (λ r. (more : List ℕ) → outer_at r.0 (r.1.now ++ more) ≡ outer_at nested (tag ∷ len ∷ (body.now ++ more))) }
-    ensures least { IfSome result (λ r. 0 < r.0) }
+    requires { nested ≤ depth_limit }
+    ensures value { IfSome result (λ r. (more : List ℕ) → outer_at r.0 (r.1.now ++ more) ≡ at_tag nested (tag ∷ len ∷ (body.now ++ more))) }
     ensures most { IfSome result (λ r. r.0 ≤ depth_limit) }
     ensures shorter { IfSome result (λ r. length r.1.now ≤ length body.now) }
 {
     if is_plain(tag, len) && len as usize <= body.len() {
         return Some((nested, &body[len as usize..]));
     }
-    if tag == 0 && len == 0 && nested > 1 {
+    if tag == 0 && len == 0 && nested > 0 {
         return Some((nested - 1, body));
     }
     if opens(tag, len) && nested < MAX_DEPTH {
@@ -41,46 +39,45 @@ fn skim_one(nested: u8, tag: u8, len: u8, body: &[u8]) -> Option<(u8, &[u8])>
     None
 }
 
-/// Passes over what is plain, up to the end of the outermost element that is open: gives how many are
-/// open then, and what follows.
+/// Passes over what is plain: gives the scanner behind it, `None` where the outermost element ends, and
+/// what follows.
 #[inline(always)]
-fn skim(nested: u8, bytes: &[u8]) -> (u8, &[u8])
-    requires least { 0 < nested }
-    requires most { nested ≤ depth_limit }
-    ensures value { (more : List ℕ) → outer_at result.0 (result.1.now ++ more) ≡ outer_at nested (bytes.now ++ more) }
-    ensures least { 0 < result.0 }
-    ensures most { result.0 ≤ depth_limit }
+fn skim(nested: u8, bytes: &[u8]) -> (Option<Scanner>, &[u8])
+    requires { nested ≤ depth_limit }
+    ensures value { (more : List ℕ) → goes_on_or result.0 (result.1.now ++ more) ≡ at_tag nested (bytes.now ++ more) }
     ensures shorter { length result.1.now ≤ length bytes.now }
+    ensures whole { IfNone result.0 (length result.1.now < length bytes.now) }
 {
     let mut nested = nested;
     let mut rest = bytes;
     while let [tag, len, body @ ..] = rest {
         let Some((left, after)) = skim_one(nested, *tag, *len, body) else {
-            return (nested, rest);
+            break;
         };
+        if left == 0 {
+            return (behind_element(left), after);
+        }
         nested = left;
         rest = after;
     }
-    (nested, rest)
+    let scanner = Scanner {
+        due: Due::Tag,
+        nested,
+    };
+    (Some(scanner), rest)
 }
 
 impl Scanner {
-    /// Passes over what is plain inside an indefinite element.
+    /// Passes over what is plain; `None` where the element ends, and what follows.
     #[inline(always)]
-    pub fn skim(self, bytes: &[u8]) -> (Scanner, &[u8])
-        ensures value { (more : List ℕ) → goes_on result.0 (result.1.now ++ more) ≡ goes_on self (bytes.now ++ more) }
+    pub fn skim(self, bytes: &[u8]) -> (Option<Scanner>, &[u8])
+        ensures value { (more : List ℕ) → goes_on_or result.0 (result.1.now ++ more) ≡ goes_on self (bytes.now ++ more) }
         ensures shorter { length result.1.now ≤ length bytes.now }
+        ensures whole { IfNone result.0 (length result.1.now < length bytes.now) }
     {
         match self.due {
-            Due::Tag if self.nested > 0 => {
-                let (nested, rest) = skim(self.nested, bytes);
-                let scanner = Scanner {
-                    due: Due::Tag,
-                    nested,
-                };
-                (scanner, rest)
-            }
-            _ => (self, bytes),
+            Due::Tag => skim(self.nested, bytes),
+            _ => (Some(self), bytes),
         }
     }
 }

@@ -78,7 +78,12 @@ impl Scanner {
         let mut scanner = self;
         let mut rest = bytes;
         loop {
-            (scanner, rest) = scanner.skim(rest);
+            let (next, after) = scanner.skim(rest);
+            rest = after;
+            let Some(next) = next else {
+                return Ok((None, rest));
+            };
+            scanner = next;
             let [octet, after @ ..] = rest else {
                 return Ok((Some(scanner), rest));
             };
