@@ -1,8 +1,8 @@
 -- Steps through an element, and through the contents of an indefinite one.
-use Rattle.std.proofs.Common.{◌≡◌, ℕ, zero, suc, ◌-◌, ◌<◌, ◌≤◌, Bool, List, [], ◌∷◌, length, drop, Option, Some, None, Ok, Err, Result, refl, sym, ◌∙◌, arith}
+use Rattle.std.proofs.Common.{◌≡◌, ℕ, zero, suc, ◌-◌, ◌<◌, ◌≤◌, Bool, List, [], ◌∷◌, length, drop, Option, Some, Ok, Err, Result, refl, arith}
 use Rattle.std.proofs.lemmas.Bool.{lt-ltb, le-ltb}
 use Rattle.ber_core.specs.declared.fault.BerFault.{BerFault}
-use Rattle.ber_core.specs.declared.fault.BerFault.TheVariants.{Short, TooDeep}
+use Rattle.ber_core.specs.declared.fault.BerFault.TheVariants.{Short}
 use Rattle.ber_core.specs.Results.{◌>>=◌}
 use Rattle.ber_core.specs.HeadReading.{head_at}
 use Rattle.ber_core.specs.ElementReading.{end_at, end_or, body_by, contents_by, contents_at, after_at, inner_at, body_at}

@@ -1,8 +1,8 @@
 -- The cut of a stream is its messages, its rest and its fault, and there is no other.
-use Rattle.std.proofs.Common.{◌≡◌, ℕ, zero, suc, ◌+◌, ◌-◌, ◌<◌, ◌≤◌, Bool, true, false, cond, ltb, List, [], ◌∷◌, ◌++◌, length, map, take, drop, Option, Some, None, Ok, Err, Result, refl, sym, ap, subst, ◌∙◌, ◌⊎◌, inl, inr, arith, append_assoc}
+use Rattle.std.proofs.Common.{◌≡◌, ℕ, zero, suc, ◌+◌, ◌-◌, ◌<◌, ◌≤◌, Bool, true, false, cond, List, [], ◌∷◌, ◌++◌, length, map, take, drop, Option, Some, None, Ok, Err, Result, refl, sym, ap, subst, ◌∙◌, inl, inr, arith, append_assoc}
 use Rattle.std.proofs.lemmas.Bool.{cases_lt, lt-ltb, le-ltb}
-use Rattle.std.proofs.lemmas.List.{take-append-drop, take_at, drop_at, length-append, length-take, length-drop, append-nil, take_all, take-append-le}
-use Rattle.std.proofs.Math.Seq.{take-append-add, drop-append_seam}
+use Rattle.std.proofs.lemmas.List.{take-append-drop, drop_at, length-append, length-take, length-drop, append-nil, take_all, take-append-le}
+use Rattle.std.proofs.Math.Seq.{take-append-add}
 use Rattle.std.specs.List.{AllByRecursion}
 use Rattle.ber_core.specs.declared.fault.BerFault.{BerFault}
 use Rattle.ber_core.specs.declared.fault.BerFault.TheVariants.{Short}
@@ -15,7 +15,7 @@ use Rattle.ber_core.specs.Fault.ElementFault.{in_head}
 use Rattle.ber_core.specs.HeadReading.{tag_at, head_at}
 use Rattle.ber_core.specs.ElementReading.{after_at, element_at}
 use Rattle.ber_core.specs.Stream.{Cut, IsCut, IsMessage, is_short, rest_fault, cut_into, with_message, cut_from, cut_by, cut_of}
-use Rattle.ber_core.proofs.ResultSteps.{read, refused, read_is, refused_is, not_read, by_result}
+use Rattle.ber_core.proofs.ResultSteps.{refused, refused_is, not_read, by_result}
 use Rattle.ber_core.proofs.ElementGrammar.{element_takes, element_again, after_again, IsElement-longer}
 use Rattle.ber_core.proofs.FaultAgain.{fault_told}
 use Rattle.ber_core.proofs.Agreement.{element_fails}
@@ -166,13 +166,14 @@ fault-longer why rest piece f h is =
           cut-stops (rest ++ piece) why (subst (λ (w : List ℕ). ElementFault 32 w why) (sym same) h) ∙ ap (cut_into [] (rest ++ piece)) (told ∙ is)
       | inr le ↦ within why rest piece f h is le (is_short why) refl
     ]
-  where within : (why : BerFault) (rest piece : List ℕ) (f : FeedFault) → ElementFault 32 (front rest) why → rest_fault why rest ≡ Some f → length rest ≤ 65535 → (t : Bool) → is_short why ≡ t → cut_of (rest ++ piece) ≡ cut_into [] (rest ++ piece) (Some f)
-        within why rest piece f h is le true e = absurd (let none : None ≡ Some f = rw (e, le-ltb 65535 (length rest) le) at is in cc)
-        within why rest piece f h is le false e =
-            let told : Some (Ber why) ≡ Some f = rw e at is in
-            let fronts : front (rest ++ piece) ≡ front rest ++ take (65535 - length rest) piece = front-whole rest piece le ∙ ap (λ (w : List ℕ). w ++ take (65535 - length rest) piece) (sym (take_all 65535 rest le)) in
-            let stays = fault_stays 32 (front rest) (take (65535 - length rest) piece) why h e in
-            cut-stops (rest ++ piece) why (subst (λ (w : List ℕ). ElementFault 32 w why) (sym fronts) stays) ∙ ap (cut_into [] (rest ++ piece)) (rw e told)
+  where
+    within : (why : BerFault) (rest piece : List ℕ) (f : FeedFault) → ElementFault 32 (front rest) why → rest_fault why rest ≡ Some f → length rest ≤ 65535 → (t : Bool) → is_short why ≡ t → cut_of (rest ++ piece) ≡ cut_into [] (rest ++ piece) (Some f)
+    within why rest piece f h is le true e = absurd (let none : None ≡ Some f = rw (e, le-ltb 65535 (length rest) le) at is in cc)
+    within why rest piece f h is le false e =
+        let told : Some (Ber why) ≡ Some f = rw e at is in
+        let fronts : front (rest ++ piece) ≡ front rest ++ take (65535 - length rest) piece = front-whole rest piece le ∙ ap (λ (w : List ℕ). w ++ take (65535 - length rest) piece) (sym (take_all 65535 rest le)) in
+        let stays = fault_stays 32 (front rest) (take (65535 - length rest) piece) why h e in
+        cut-stops (rest ++ piece) why (subst (λ (w : List ℕ). ElementFault 32 w why) (sym fronts) stays) ∙ ap (cut_into [] (rest ++ piece)) (rw e told)
 
 -- a fault that stands stays
 pub cut-faulty : (stream piece : List ℕ) (f : FeedFault) → (cut_of stream).fault ≡ Some f → cut_of (stream ++ piece) ≡ cut_into (cut_of stream).messages ((cut_of stream).rest ++ piece) (Some f)

@@ -1,26 +1,20 @@
 -- What a piece makes of the cut of a stream.
-use Rattle.std.proofs.Common.{◌≡◌, ◌≢◌, ℕ, zero, suc, ◌+◌, ◌-◌, ◌<◌, ◌≤◌, Bool, true, false, cond, ltb, List, [], ◌∷◌, ◌++◌, length, map, take, drop, Option, Some, None, Ok, Err, Result, refl, sym, ap, subst, ◌∙◌, ◌⊎◌, inl, inr, arith, append_assoc}
+use Rattle.std.proofs.Common.{◌≡◌, ℕ, ◌+◌, ◌-◌, ◌<◌, ◌≤◌, false, List, [], ◌++◌, length, take, drop, Some, None, Ok, Err, refl, sym, ap, ◌∙◌, arith, append_assoc}
 use Rattle.std.proofs.lemmas.Bool.{lt-ltb, le-ltb}
 use Rattle.std.proofs.lemmas.List.{take-append-drop, take_at, drop_at, length-append, length-take, append-nil, take_all, take-take}
 use Rattle.std.proofs.Math.Seq.{take-append-add}
 use Rattle.ber_core.specs.declared.fault.BerFault.{BerFault}
 use Rattle.ber_core.specs.declared.fault.BerFault.TheVariants.{Short}
-use Rattle.ber_core.specs.declared.fault.FeedFault.{FeedFault}
 use Rattle.ber_core.specs.declared.fault.FeedFault.TheVariants.{Ber, TooLong}
-use Rattle.ber_core.specs.declared.scanner.due.Due.{Due}
-use Rattle.ber_core.specs.declared.scanner.due.Due.TheVariants as due
 use Rattle.ber_core.specs.declared.scanner.Scanner.{Scanner}
-use Rattle.ber_core.specs.Due.{CanBeDue}
-use Rattle.ber_core.specs.Element.{Parts, IsElement}
-use Rattle.ber_core.specs.Fault.{ElementFault}
-use Rattle.ber_core.specs.HeadReading.{further_at, tag_at, length_at, head_at}
-use Rattle.ber_core.specs.ElementReading.{contents_by, after_at, element_at}
-use Rattle.ber_core.specs.Scanning.{outer_at, at_due, goes_on}
-use Rattle.ber_core.specs.Stream.{Cut, is_short, rest_fault, cut_into, with_message, cut_by, cut_of}
+use Rattle.ber_core.specs.HeadReading.{tag_at, head_at}
+use Rattle.ber_core.specs.ElementReading.{after_at, element_at}
+use Rattle.ber_core.specs.Scanning.{goes_on}
+use Rattle.ber_core.specs.Stream.{is_short, cut_into, with_message, cut_by, cut_of}
 use Rattle.ber_core.specs.Feeding.{StandsBehind}
 use Rattle.ber_core.specs.Pieces.{IsBehind, IsUnderWay}
 use Rattle.ber_core.proofs.ScanSteps.{scanner-short}
-use Rattle.ber_core.proofs.ResultSteps.{read, refused}
+use Rattle.ber_core.proofs.ResultSteps.{read}
 use Rattle.ber_core.proofs.ElementFaults.{after_fails}
 use Rattle.ber_core.proofs.ElementGrammar.{after_takes}
 use Rattle.ber_core.proofs.CutGrammar.{cut-message, cut-stops}
@@ -67,8 +61,7 @@ front-of whole after begun window e le =
     let sizes : length whole + length after ≡ length begun + length window = sym (length-append whole after) ∙ (ap length e ∙ length-append begun window) in
     let cut : begun ++ window ≡ (begun ++ take n window) ++ drop n window = ap (λ (w : List ℕ). begun ++ w) (sym (take-append-drop n window)) ∙ sym (append_assoc begun (take n window) (drop n window)) in
     let size : length (begun ++ take n window) ≡ length whole = omega (arith, sizes, length-append begun (take n window), length-take n window) in
-    let same : whole ++ after ≡ (begun ++ take n window) ++ drop n window = e ∙ cut in
-    (
+    let same : whole ++ after ≡ (begun ++ take n window) ++ drop n window = e ∙ cut in (
       sym (take_at whole after (length whole) refl) ∙ (ap (take (length whole)) same ∙ take_at (begun ++ take n window) (drop n window) (length whole) size),
       sym (drop_at whole after (length whole) refl) ∙ (ap (drop (length whole)) same ∙ drop_at (begun ++ take n window) (drop n window) (length whole) size),
     )
@@ -80,7 +73,7 @@ front-part piece window room m n is same le = rw (is, same) (take-take m room pi
 pub under_way-whole : (s : Scanner) (begun piece window after : List ℕ) (n : ℕ) → IsUnderWay s begun → window ≡ take (65535 - length begun) piece → ((more : List ℕ) → read (after ++ more) ≡ goes_on s (window ++ more)) → length after ≤ length window → n ≡ length window - length after → cut_of (begun ++ piece) ≡ with_message (begun ++ take n piece) (cut_of (drop n piece))
 under_way-whole s begun piece window after n h is on le n-is =
     let taken : after_at 32 (begun ++ window) ≡ Ok after =
-        ap (after_at 32) (ap (λ (w : List ℕ). begun ++ w) (sym (append-nil window))) ∙ (sym (h.0 (window ++ [])) ∙ (sym (on []) ∙ ap (λ (w : List ℕ). read w) (append-nil after))) in
+    ap (after_at 32) (ap (λ (w : List ℕ). begun ++ w) (sym (append-nil window))) ∙ (sym (h.0 (window ++ [])) ∙ (sym (on []) ∙ ap (λ (w : List ℕ). read w) (append-nil after))) in
     let f = after_takes 32 (begun ++ window) after taken in
     let e = f.0 in
     let parts = front-of e.whole after begun window (sym f.2) le in

@@ -1,5 +1,5 @@
 -- What a push makes of the stream behind which a feed stands.
-use Rattle.std.proofs.Common.{◌≡◌, ◌≢◌, ℕ, ◌+◌, ◌<◌, ◌≤◌, Bool, true, false, cond, eqb, ltb, List, [], ◌∷◌, ◌++◌, length, map, Option, Some, None, Result, Ok, Err, refl, sym, ap, subst, ◌∙◌, ◌⊎◌, inl, inr, arith}
+use Rattle.std.proofs.Common.{◌≡◌, ◌≢◌, ℕ, Bool, true, false, cond, eqb, ltb, List, [], ◌∷◌, ◌++◌, length, map, Option, Some, None, Result, Ok, Err, refl, sym, ap, subst, ◌∙◌, inl, inr, arith}
 use Rattle.std.proofs.lemmas.Bool.{ne_eqb}
 use Rattle.std.proofs.lemmas.List.{append-nil, length-append}
 use Rattle.std.specs.Prelude.{IfOk, IfErr}
@@ -7,7 +7,7 @@ use Rattle.ber_core.specs.declared.fault.BerFault.{BerFault}
 use Rattle.ber_core.specs.declared.fault.FeedFault.{FeedFault}
 use Rattle.ber_core.specs.declared.fault.FeedFault.TheVariants.{OutOfMemory, Ber, TooLong}
 use Rattle.ber_core.specs.declared.scanner.Scanner.{Scanner}
-use Rattle.ber_core.specs.Stream.{Cut, is_short, rest_fault, cut_into, cut_of}
+use Rattle.ber_core.specs.Stream.{Cut, is_short, cut_into, cut_of}
 use Rattle.ber_core.specs.Feeding.{Left, left_by, left_of, StandsBehind, Takes, WantsMemory, Gives, Fails}
 use Rattle.ber_core.specs.Pieces.{IsUnderWay, still_begun}
 use Rattle.ber_core.proofs.CutGrammar.{cut_takes, cut-longer, cut-faulty, after_messages}
@@ -96,10 +96,13 @@ module _ (stream piece begun : List ℕ) (h : StandsBehind stream (left_by None 
   pub wants-octets : (told : List (List ℕ)) (octets : List ℕ) (s : Scanner) → IsUnderWay s begun → cut_of (begun ++ piece) ≡ cut_into told (still_begun told begun ++ octets) None → octets ≢ [] → WantsMemory stream piece
   wants-octets told octets s u e some =
       let fault : (cut_of (stream ++ piece)).fault ≡ None = ap (λ (c : Cut). c.fault) (longer ∙ ap (after_messages (cut_of stream).messages) e) in
-      inr (λ none.
-      let still : cut_into [] begun None ≡ cut_into told (still_begun told begun ++ octets) None = sym (under_way-cut s begun u) ∙ (ap cut_of (sym (append-nil begun) ∙ ap (λ (w : List ℕ). begun ++ w) (sym none)) ∙ e) in
-      let no_told : told ≡ [] = sym (ap (λ (c : Cut). c.messages) still) in
-      some (append-more begun octets (ap (λ (c : Cut). c.rest) still ∙ ap (λ (ms : List (List ℕ)). still_begun ms begun ++ octets) no_told)), fault)
+      inr (
+        λ none.
+            let still : cut_into [] begun None ≡ cut_into told (still_begun told begun ++ octets) None = sym (under_way-cut s begun u) ∙ (ap cut_of (sym (append-nil begun) ∙ ap (λ (w : List ℕ). begun ++ w) (sym none)) ∙ e) in
+            let no_told : told ≡ [] = sym (ap (λ (c : Cut). c.messages) still) in
+            some (append-more begun octets (ap (λ (c : Cut). c.rest) still ∙ ap (λ (ms : List (List ℕ)). still_begun ms begun ++ octets) no_told)),
+        fault,
+      )
 
 -- ---- what is held
 

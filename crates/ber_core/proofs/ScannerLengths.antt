@@ -1,12 +1,12 @@
 -- What an octet makes of what reading gives: the length and the content.
-use Rattle.std.proofs.Common.{◌≡◌, ◌≢◌, ℕ, zero, suc, ◌+◌, ◌-◌, ◌*◌, ◌<◌, ◌≤◌, Bool, true, false, cond, ltb, eqb, List, [], ◌∷◌, ◌++◌, length, take, drop, Option, Some, None, Ok, Err, Result, refl, sym, ap, ◌∙◌, ◌⊎◌, inl, inr, arith, add-one}
-use Rattle.std.proofs.lemmas.Bool.{cases_lt, lt-ltb, le-ltb, ne_eqb, eq-eqb}
+use Rattle.std.proofs.Common.{◌≡◌, ◌≢◌, ℕ, zero, suc, ◌+◌, ◌-◌, ◌*◌, ◌<◌, ◌≤◌, Bool, true, false, cond, ltb, List, [], ◌∷◌, ◌++◌, length, take, drop, Option, Some, None, Ok, Err, Result, refl, sym, ap, ◌∙◌, inl, inr, arith}
+use Rattle.std.proofs.lemmas.Bool.{cases_lt, lt-ltb, le-ltb, ne_eqb}
 use Rattle.ber_core.specs.declared.fault.BerFault.{BerFault}
-use Rattle.ber_core.specs.declared.fault.BerFault.TheVariants.{Short, BadTag, BadLength, IndefinitePrimitive, TooDeep}
+use Rattle.ber_core.specs.declared.fault.BerFault.TheVariants.{Short, BadLength, IndefinitePrimitive, TooDeep}
 use Rattle.ber_core.specs.Results.{◌>>=◌}
 use Rattle.ber_core.specs.Length.{number_after}
-use Rattle.ber_core.specs.HeadReading.{number_at, length_at}
-use Rattle.ber_core.specs.ElementReading.{contents_at, after_at, inner_at, body_at, skip_at}
+use Rattle.ber_core.specs.HeadReading.{length_at}
+use Rattle.ber_core.specs.ElementReading.{skip_at}
 use Rattle.ber_core.specs.Scanning.{outer_at, at_tag, at_body, at_length, long_at, at_long}
 use Rattle.ber_core.proofs.ResultSteps.{read, refused}
 use Rattle.ber_core.proofs.Contents.{inner_at-some}

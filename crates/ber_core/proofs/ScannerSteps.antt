@@ -1,14 +1,13 @@
 -- What an octet makes of what reading gives: the tag, the end and the length.
-use Rattle.std.proofs.Common.{◌≡◌, ◌≢◌, ℕ, zero, suc, ◌+◌, ◌-◌, ◌*◌, ◌<◌, ◌≤◌, Bool, true, false, not, cond, ltb, eqb, bit_and, List, [], ◌∷◌, length, take, drop, Option, Some, None, Ok, Err, Result, refl, sym, ap, ◌∙◌, ◌⊎◌, inl, inr, arith, add-one}
-use Rattle.std.proofs.lemmas.Bool.{cases_lt, lt-ltb, le-ltb, ne_eqb, eq-eqb}
+use Rattle.std.proofs.Common.{◌≡◌, ◌≢◌, ℕ, zero, suc, ◌+◌, ◌-◌, ◌<◌, ◌≤◌, Bool, true, false, not, cond, eqb, bit_and, List, [], ◌∷◌, length, take, drop, Option, Some, Ok, Err, Result, refl, sym, ap, ◌∙◌, ◌⊎◌, inl, inr, arith}
+use Rattle.std.proofs.lemmas.Bool.{lt-ltb, le-ltb, ne_eqb, eq-eqb}
 use Rattle.ber_core.specs.declared.fault.BerFault.{BerFault}
-use Rattle.ber_core.specs.declared.fault.BerFault.TheVariants.{Short, BadTag, BadLength, IndefinitePrimitive, TooDeep}
+use Rattle.ber_core.specs.declared.fault.BerFault.TheVariants.{Short, BadTag}
 use Rattle.ber_core.specs.Results.{◌>>=◌}
-use Rattle.ber_core.specs.Length.{number_after}
-use Rattle.ber_core.specs.HeadReading.{further_at, all_further_at, tag_at, number_at, length_at, head_at}
-use Rattle.ber_core.specs.ElementReading.{end_at, end_or, contents_by, contents_at, after_at, inner_at, body_at, body_by, skip_at}
+use Rattle.ber_core.specs.HeadReading.{further_at, all_further_at, tag_at, length_at, head_at}
+use Rattle.ber_core.specs.ElementReading.{end_at, end_or, contents_by, contents_at, after_at, inner_at, body_by}
 use Rattle.ber_core.specs.declared.scanner.Scanner.{Scanner}
-use Rattle.ber_core.specs.Scanning.{Leads, outer_at, at_tag, at_element, at_end, at_body, at_length, behind_further, long_at, at_long}
+use Rattle.ber_core.specs.Scanning.{Leads, outer_at, at_tag, at_element, at_end, at_body, at_length, behind_further}
 use Rattle.ber_core.proofs.ResultSteps.{read, refused}
 use Rattle.ber_core.proofs.ElementGrammar.{after_takes, IsElement-longer}
 use Rattle.ber_core.proofs.Contents.{turn, after_at-is, HeadRead}

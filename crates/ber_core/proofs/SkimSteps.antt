@@ -1,10 +1,9 @@
 -- What a plain head, end or element makes of what reading gives inside an indefinite element.
-use Rattle.std.proofs.Common.{◌≡◌, ◌≢◌, ℕ, zero, suc, ◌+◌, ◌-◌, ◌<◌, ◌≤◌, not, eqb, bit_and, true, false, List, [], ◌∷◌, ◌++◌, length, take, drop, Some, None, Ok, refl, sym, ap, ◌∙◌, inr, arith, append_assoc}
+use Rattle.std.proofs.Common.{◌≡◌, ◌≢◌, ℕ, ◌+◌, ◌-◌, ◌<◌, ◌≤◌, not, eqb, bit_and, true, false, List, ◌∷◌, ◌++◌, length, take, drop, Ok, refl, sym, ap, ◌∙◌, inr, arith, append_assoc}
 use Rattle.std.proofs.lemmas.Bool.{eqb-false}
 use Rattle.std.proofs.lemmas.List.{take-append-drop, length-take}
-use Rattle.ber_core.specs.Results.{◌>>=◌}
 use Rattle.ber_core.specs.ElementReading.{skip_at}
-use Rattle.ber_core.specs.Scanning.{outer_at, at_tag, at_element, at_length, at_body}
+use Rattle.ber_core.specs.Scanning.{outer_at, at_tag, at_length}
 use Rattle.ber_core.proofs.ScannerSteps.{tag-nested, tag-element, tag-end, element-short_tag}
 use Rattle.ber_core.proofs.ScannerLengths.{length-short_form, length-indefinite, body-nested, skip-passed, skip-none}
 

@@ -1,5 +1,5 @@
 -- Octets of the worked examples.
-use Rattle.std.specs.Prelude.{ℕ, List, [], ◌∷◌, map, take, Option, None}
+use Rattle.std.specs.Prelude.{ℕ, List, [], ◌∷◌, map, take, None}
 use Rattle.std.specs.List.{range_with_len}
 use Rattle.ber_core.specs.Stream.{Cut, cut_of, cut_into}
 

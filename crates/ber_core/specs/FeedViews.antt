@@ -1,5 +1,5 @@
 -- A feed as a contract sees it.
-use Rattle.std.specs.Prelude.{◌≡◌, ℕ, List, [], map, Option, Some, None}
+use Rattle.std.specs.Prelude.{◌≡◌, ℕ, List, [], Option, Some, None}
 use Rattle.ber_core.specs.declared.fault.FeedFault.{FeedFault}
 use Rattle.ber_core.specs.declared.scanner.Scanner.{Scanner}
 use Rattle.ber_core.specs.Pieces.{IsUnderWay}

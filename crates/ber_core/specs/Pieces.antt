@@ -1,6 +1,5 @@
 -- What a feed finds in one piece: the messages that it completes, and how it ends.
-use Rattle.std.specs.Prelude.{◌≡◌, ◌≢◌, ℕ, ◌<◌, ◌≤◌, ◌⊎◌, List, [], ◌∷◌, ◌++◌, length, Option, Some, None, Result, Ok, Err}
-use Rattle.ber_core.specs.declared.fault.BerFault.{BerFault}
+use Rattle.std.specs.Prelude.{◌≡◌, ℕ, ◌<◌, ◌≤◌, List, [], ◌∷◌, ◌++◌, length, Some, None, Result, Ok, Err}
 use Rattle.ber_core.specs.declared.fault.FeedFault.{FeedFault}
 use Rattle.ber_core.specs.declared.scanner.Scanner.{Scanner}
 use Rattle.ber_core.specs.declared.feed.pieces.Split.{Split}
@@ -11,7 +10,7 @@ use Rattle.ber_core.specs.Element.{depth_limit}
 use Rattle.ber_core.specs.ElementReading.{after_at}
 use Rattle.ber_core.specs.Length.{length_limit}
 use Rattle.ber_core.specs.Scanning.{goes_on}
-use Rattle.ber_core.specs.Stream.{Cut, cut_into, with_message, cut_of}
+use Rattle.ber_core.specs.Stream.{cut_into, with_message, cut_of}
 
 -- The scanner has taken these octets from the first of an element on (own).
 abbrev pub IsBehind : Scanner → List ℕ → Type 0

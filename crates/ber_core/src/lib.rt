@@ -1,8 +1,10 @@
-//! BER elements (X.690): reading and writing heads, elements, lists of elements and listed sequences.
+//! BER elements (X.690): reading and writing heads, elements, lists of elements and listed sequences,
+//! and a stream of elements that comes in pieces.
 //!
 //! Stands on no other crate of this repository. Begin at `read_element`; what an element is stands in
-//! specs/Element.antt, which faults there are in specs/Fault.antt. Readers take no memory and copy
-//! nothing; writers append the shortest definite form or nothing.
+//! specs/Element.antt, which faults there are in specs/Fault.antt, what a stream is cut into in
+//! specs/Stream.antt. Readers take no memory and copy nothing; writers append the shortest definite form
+//! or nothing.
 #![tactic(auto)]
 
 mod element;
@@ -22,8 +24,8 @@ mod written_len;
 
 pub use element::{Element, read_element};
 pub use elements::{Elements, is_element_list};
-pub use feed::Feed;
 pub use fault::{BerFault, FeedFault, OutOfMemory};
+pub use feed::Feed;
 pub use head::{Head, MAX_LENGTH, read_head};
 pub use integer::{read_int, write_int};
 pub use object_identifier::is_oid;

@@ -1,8 +1,9 @@
 ghost use Rattle.std.specs.Prelude.{◌≤◌, length};
 
 use crate::{
-    BerFault, Elements, Feed, FeedFault, MAX_DEPTH, OutOfMemory, is_element_list, is_oid, read_alone, read_element,
-    read_head, take_any, take_content, take_only, take_tagged, write_element, write_head,
+    BerFault, Elements, Feed, FeedFault, MAX_DEPTH, OutOfMemory, is_element_list, is_oid,
+    read_alone, read_element, read_head, take_any, take_content, take_only, take_tagged,
+    write_element, write_head,
 };
 use std::alloc::Global;
 use std::test::Fail;
@@ -168,11 +169,7 @@ fn heads_and_elements_written(rt: HostRuntime) -> Result<(), Fail> {
 }
 
 /// How many messages each of two pieces of a stream completes, and how many octets are left.
-fn cut_once(
-    alloc: Global,
-    stream: &[u8],
-    at: usize,
-) -> Result<(usize, usize, usize), FeedFault>
+fn cut_once(alloc: Global, stream: &[u8], at: usize) -> Result<(usize, usize, usize), FeedFault>
     requires { at ≤ length stream.now }
 {
     let (first, second) = stream.split_at(at);
@@ -189,7 +186,13 @@ fn stream_in_two_pieces(rt: HostRuntime) -> Result<(), Fail> {
         0x62, 0x80, 0x48, 0x04, 0x00, 0x00, 0x00, 0x01, 0x00, 0x00, 0x04, 0x01, 0xaa, 0x05,
     ];
     for at in 0..stream.len() + 1 {
-        let before = if at < 10 { 0 } else if at < 13 { 1 } else { 2 };
+        let before = if at < 10 {
+            0
+        } else if at < 13 {
+            1
+        } else {
+            2
+        };
         let told = cut_once(rt.alloc(), &stream, at);
         assert_eq!(rt; told, Ok((before, 2 - before, 1)));
     }
@@ -205,7 +208,10 @@ fn fault_behind_a_message(rt: HostRuntime) -> Result<(), Fail> {
     assert_eq!(rt; told.len(), 1);
     assert_eq!(rt; feed.fault(), Some(FeedFault::Ber(BerFault::BadTag)));
     assert_eq!(rt; feed.rest_len(), 0);
-    assert_eq!(rt; feed.push(&[]).err(), Some(FeedFault::Ber(BerFault::BadTag)));
+    assert_eq!(rt;
+        feed.push(&[]).err(),
+        Some(FeedFault::Ber(BerFault::BadTag))
+    );
     Ok(())
 }
 

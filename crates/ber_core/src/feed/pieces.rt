@@ -40,11 +40,7 @@ fn window<'p>(begun: usize, piece: &'p [u8]) -> &'p [u8]
 }
 
 /// Takes a piece up to the end of the element that is under way, of which these octets have come.
-fn split_piece<'p>(
-    scanner: Scanner,
-    begun: &[u8],
-    piece: &'p [u8],
-) -> Result<Split<'p>, FeedFault>
+fn split_piece<'p>(scanner: Scanner, begun: &[u8], piece: &'p [u8]) -> Result<Split<'p>, FeedFault>
     requires { IsUnderWay scanner begun.now }
     ensures { SplitsInto begun.now piece.now result }
 {
@@ -62,11 +58,7 @@ fn split_piece<'p>(
 
 /// The two parts of a message one after the other.
 #[inline(always)]
-fn join<A: Allocator + Copy>(
-    alloc: A,
-    begun: &[u8],
-    last: &[u8],
-) -> Result<Vec<u8, A>, OutOfMemory>
+fn join<A: Allocator + Copy>(alloc: A, begun: &[u8], last: &[u8]) -> Result<Vec<u8, A>, OutOfMemory>
     requires { length begun.now ≤ length_limit }
     ensures ok { IfOk result (λ v. v.items ≡ begun.now ++ last.now) }
 {

@@ -122,11 +122,7 @@ fn take_further(
 
 /// The second octet of a tag.
 #[inline(always)]
-fn take_first_further(
-    nested: u8,
-    constructed: bool,
-    octet: u8,
-) -> Result<Option<Scanner>, BerFault>
+fn take_first_further(nested: u8, constructed: bool, octet: u8) -> Result<Option<Scanner>, BerFault>
     requires { nested ≤ depth_limit }
     ensures { Leads (λ rest. behind_further constructed nested (octet ∷ rest) (all_further_at (octet ∷ rest))) result }
 {

@@ -58,10 +58,12 @@ impl Scanner {
         ensures shorter { IfOk result (λ r. length r.1.now ≤ length bytes.now) }
     {
         match self.take(octet)? {
-            Some(Scanner {
-                due: Due::Content(left),
-                nested,
-            }) => Ok(pass(nested, left, bytes)),
+            Some(
+                Scanner {
+                    due: Due::Content(left),
+                    nested,
+                },
+            ) => Ok(pass(nested, left, bytes)),
             next => Ok((next, bytes)),
         }
     }

@@ -1,10 +1,10 @@
-use Rattle.std.proofs.Common.{◌≡◌, ◌≢◌, ℕ, ◌+◌, ◌<◌, ◌≤◌, List, [], ◌∷◌, ◌++◌, length, take, Some, None, refl, sym, ap, subst, ◌∙◌, inl, inr, arith}
+use Rattle.std.proofs.Common.{◌≡◌, ℕ, ◌+◌, ◌<◌, ◌≤◌, List, [], ◌∷◌, length, take, refl, sym, ap, subst, ◌∙◌, inl, inr, arith}
 use Rattle.std.proofs.lemmas.Bool.{lt-ltb, le-ltb}
 use Rattle.std.proofs.lemmas.List.{append-nil, take_all, length-take}
 use Rattle.ber_core.specs.declared.fault.BerFault.TheVariants.{Short}
 use Rattle.ber_core.specs.Length.{IsLength, number_after}
 use Rattle.ber_core.specs.Tag.{IsTag}
-use Rattle.ber_core.specs.Element.{Parts, IsDefinite, IsElement}
+use Rattle.ber_core.specs.Element.{Parts, IsElement}
 use Rattle.ber_core.specs.Fault.{ElementFault}
 use Rattle.ber_core.specs.Fault.ElementFault.{in_content}
 use Rattle.ber_core.specs.Stream.{IsMessage, cut_into, cut_by, cut_of}

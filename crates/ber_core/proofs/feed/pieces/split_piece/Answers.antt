@@ -1,8 +1,7 @@
-use Rattle.std.proofs.Common.{◌≡◌, ℕ, ◌-◌, ◌<◌, ◌≤◌, ◌++◌, List, length, take, drop, refl, sym, ap, ◌∙◌, arith}
+use Rattle.std.proofs.Common.{◌≡◌, ℕ, ◌-◌, ◌<◌, ◌≤◌, ◌++◌, List, length, refl, ap, arith}
 use Rattle.std.proofs.lemmas.Result.{err_from_is_err_and}
 use Rattle.std.proofs.lemmas.List.{take_rest, length-drop, length-take}
 use Rattle.ber_core.specs.Scanning.{goes_on}
-use Rattle.ber_core.specs.Stream.{with_message, cut_of}
 use Rattle.ber_core.proofs.FeedSteps.{under_way-fault, under_way-whole, under_way-long, behind-on}
 use Rattle.ber_core.proofs.feed.pieces.split_piece.Goals as goal
 

@@ -1,5 +1,4 @@
-use Rattle.std.proofs.Common.{◌∙◌}
-use Rattle.ber_core.proofs.ScannerSteps.{outer-none, tag-nested}
+use Rattle.ber_core.proofs.ScannerSteps.{outer-none}
 use Rattle.ber_core.proofs.scanner.octet.behind_element.Goals as goal
 
 pub returns-then-nested-eq0 : goal.returns-then-nested-eq0

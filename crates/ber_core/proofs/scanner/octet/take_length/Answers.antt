@@ -1,4 +1,4 @@
-use Rattle.std.proofs.Common.{◌∷◌, List, ℕ, None, refl, sym, ◌∙◌}
+use Rattle.std.proofs.Common.{◌∷◌, None, refl, sym, ◌∙◌}
 use Rattle.ber_core.specs.Scanning.{at_length, at_body}
 use Rattle.ber_core.proofs.ScannerSteps.{leads_as}
 use Rattle.ber_core.proofs.ScannerLengths.{length-primitive, length-indefinite, length-reserved, length-short_form, length-long_form}

@@ -1,4 +1,4 @@
-use Rattle.std.proofs.Common.{◌∷◌, ◌+◌, ◌-◌, ◌*◌, refl, sym, ◌∙◌, arith}
+use Rattle.std.proofs.Common.{◌+◌, ◌-◌, ◌*◌, refl, sym, ◌∙◌, arith}
 use Rattle.ber_core.proofs.ScannerLengths.{long-more, long-above, long-spent, long-last}
 use Rattle.ber_core.proofs.scanner.octet.take_long_length.Goals as goal
 use Rattle.ber_core.proofs.scanner.octet.take_long_length.Goals.{then-above, else-above}

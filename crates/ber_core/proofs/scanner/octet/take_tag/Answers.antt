@@ -1,4 +1,4 @@
-use Rattle.std.proofs.Common.{◌∷◌, inl, inr, refl, sym, ◌∙◌, arith}
+use Rattle.std.proofs.Common.{◌∷◌, inl, inr, sym, ◌∙◌, arith}
 use Rattle.ber_core.specs.Scanning.{at_tag, at_element}
 use Rattle.ber_core.proofs.ScannerSteps.{leads_as, tag-end, tag-element}
 use Rattle.ber_core.proofs.scanner.octet.take_tag.Goals as goal

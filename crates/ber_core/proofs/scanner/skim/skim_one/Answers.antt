@@ -1,4 +1,4 @@
-use Rattle.std.proofs.Common.{◌≡◌, ◌++◌, sym, ◌∙◌, arith}
+use Rattle.std.proofs.Common.{◌++◌}
 use Rattle.std.proofs.lemmas.List.{take_rest}
 use Rattle.ber_core.proofs.SkimSteps.{skim-element, skim-opens, skim-end}
 use Rattle.ber_core.proofs.scanner.skim.skim_one.Goals as goal

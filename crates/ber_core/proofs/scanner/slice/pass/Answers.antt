@@ -1,4 +1,4 @@
-use Rattle.std.proofs.Common.{◌≡◌, ◌-◌, ◌++◌, length, sym, ◌∙◌, arith}
+use Rattle.std.proofs.Common.{◌≡◌, ◌-◌, length, arith}
 use Rattle.ber_core.proofs.ScannerLengths.{skip-passed}
 use Rattle.ber_core.proofs.scanner.slice.pass.Goals as goal
 
