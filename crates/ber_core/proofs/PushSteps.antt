@@ -8,7 +8,7 @@ use Rattle.ber_core.specs.declared.fault.FeedFault.{FeedFault}
 use Rattle.ber_core.specs.declared.fault.FeedFault.TheVariants.{OutOfMemory, Ber, TooLong}
 use Rattle.ber_core.specs.declared.scanner.Scanner.{Scanner}
 use Rattle.ber_core.specs.Stream.{Cut, is_short, cut_into, cut_of}
-use Rattle.ber_core.specs.Feeding.{Left, left_by, left_of, StandsBehind, Takes, WantsMemory, Gives, Fails}
+use Rattle.ber_core.specs.Feeding.{Left, left_by, left_of, StandsBehind, Takes, WantsMemory, Completes, Fails}
 use Rattle.ber_core.specs.Pieces.{IsUnderWay, still_begun}
 use Rattle.ber_core.proofs.CutGrammar.{cut_takes, cut-longer, cut-faulty, after_messages}
 use Rattle.ber_core.proofs.FeedSteps.{under_way-cut}
@@ -79,10 +79,10 @@ module _ (stream piece begun : List ℕ) (h : StandsBehind stream (left_by None 
       let all : cut_of (stream ++ piece) ≡ after_messages (cut_of stream).messages (cut_into told rest fault) = longer ∙ ap (after_messages (cut_of stream).messages) e in
       record { messages = ap (λ (c : Cut). c.messages) all; stands = sym (ap left_of all) }
 
-  pub gives-open : (told : List (List ℕ)) (rest : List ℕ) → cut_of (begun ++ piece) ≡ cut_into told rest None → Gives stream piece told (left_by None rest)
+  pub gives-open : (told : List (List ℕ)) (rest : List ℕ) → cut_of (begun ++ piece) ≡ cut_into told rest None → Completes stream piece told (left_by None rest)
   gives-open told rest e = (takes_on told rest None e, λ none. refl)
 
-  pub gives-fault : (told : List (List ℕ)) (rest : List ℕ) (f : FeedFault) → told ≢ [] → cut_of (begun ++ piece) ≡ cut_into told rest (Some f) → Gives stream piece told (left_by (Some f) rest)
+  pub gives-fault : (told : List (List ℕ)) (rest : List ℕ) (f : FeedFault) → told ≢ [] → cut_of (begun ++ piece) ≡ cut_into told rest (Some f) → Completes stream piece told (left_by (Some f) rest)
   gives-fault told rest f some e = (takes_on told rest (Some f) e, λ none. absurd (some none))
 
   pub fails-fault : (told : List (List ℕ)) (rest : List ℕ) (f : FeedFault) (old : Left) → told ≡ [] → cut_of (begun ++ piece) ≡ cut_into told rest (Some f) → Fails stream piece old f (left_by (Some f) rest)

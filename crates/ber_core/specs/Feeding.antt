@@ -36,8 +36,8 @@ WantsMemory stream piece = ((cut_of (stream ++ piece)).messages ≢ (cut_of stre
 
 -- A push answers these messages: the piece completes them; where there are none, no fault stands
 -- (own).
-abbrev pub Gives : List ℕ → List ℕ → List (List ℕ) → Left → Type 0
-Gives stream piece completed new = Takes stream piece completed new × (completed ≡ [] → new.fault ≡ None)
+abbrev pub Completes : List ℕ → List ℕ → List (List ℕ) → Left → Type 0
+Completes stream piece completed new = Takes stream piece completed new × (completed ≡ [] → new.fault ≡ None)
 
 -- A push answers this fault: it completes no message, and the fault stands; where memory is refused,
 -- nothing is taken, and memory was wanted (own).

@@ -1,5 +1,5 @@
 ghost use Rattle.std.specs.Prelude.{◌≡◌, ◌≢◌, ◌++◌, [], length, map, List, ℕ, OnOk, OnErr, IfOk, IfErr, IsErrOf, Some, if◌then◌else◌};
-ghost use Rattle.ber_core.specs.Feeding.{StandsBehind, Gives, Fails};
+ghost use Rattle.ber_core.specs.Feeding.{StandsBehind, Completes, Fails};
 
 mod pieces;
 
@@ -74,7 +74,7 @@ impl<A: Allocator + Copy> Feed<A> {
     pub fn push(&mut self, piece: &[u8]) -> Result<Vec<Vec<u8, A>, A>, FeedFault>
         // The messages are those that the piece completes, whatever stream came before.
         ensures ok { (stream : List ℕ) → StandsBehind stream self.old →
-            IfOk result (λ all. Gives stream piece.now (map (λ message. message.items) all.items) self.new) }
+            IfOk result (λ all. Completes stream piece.now (map (λ message. message.items) all.items) self.new) }
         // A fault stands, or memory is refused where it is wanted.
         ensures err { (stream : List ℕ) → StandsBehind stream self.old →
             IfErr result (λ fault. Fails stream piece.now self.old fault self.new) }

@@ -2,7 +2,7 @@ use Rattle.std.proofs.Common.{◌≡◌, ℕ, cond, List, [], ◌++◌, map, Som
 use Rattle.std.proofs.lemmas.Result.{err_from_is_err_and}
 use Rattle.ber_core.specs.declared.fault.FeedFault.{FeedFault}
 use Rattle.ber_core.specs.Stream.{Cut}
-use Rattle.ber_core.specs.Feeding.{Left, left_by, StandsBehind, Gives, Fails}
+use Rattle.ber_core.specs.Feeding.{Left, left_by, StandsBehind, Completes, Fails}
 use Rattle.ber_core.proofs.PushSteps.{faulty-push, cut-real, none-of, left-is, held-is, map-filled, ended-gives, ended-fails, gives-open, gives-fault, fails-fault, wants-message, wants-octets}
 use Rattle.ber_core.proofs.feed.Feed.push.Goals as goal
 
@@ -17,7 +17,7 @@ returns-in_ok-hold-in-Open-clause-ok g c = λ stream h.
     let old-is : left_by None begun ≡ c.args.self.now = left-is c.self.inside.fault c.self.inside.rest.items begun none (sym c.as_slice.ensures.value) ∙ c.self.view_is in
     let ends = (rw c.in-Open.is at c.in_ok-messages.ensures.ok) in
     let held = held-is (λ message. message.items) messages.items _ c.is_empty.result begun messages.ok.0 c.is_empty.ensures in
-    subst (Gives stream c.args.piece.now (map (λ message. message.items) messages.items))
+    subst (Completes stream c.args.piece.now (map (λ message. message.items) messages.items))
     (left-is c.self.inside.fault c.hold.new.rest.items _ none (c.in_ok-hold-in-Open.ensures.ok ∙ ap (λ (w : List ℕ). w ++ c.in-Open.octets.now) (ap (λ (w : List ℕ). cond c.is_empty.result w []) (sym c.as_slice.ensures.value) ∙ held)))
     (gives-open stream c.args.piece.now begun (subst (StandsBehind stream) (sym old-is) h) _ _ ends.0)
 
@@ -38,7 +38,7 @@ returns-in-Fault-clause-ok g c = λ stream h.
     let none = none-of c.self.inside.fault c.in_default.not-Some in
     let old-is : left_by None begun ≡ c.args.self.now = left-is c.self.inside.fault c.self.inside.rest.items begun none (sym c.as_slice.ensures.value) ∙ c.self.view_is in
     let ends = (rw c.in-Fault.is at c.in_ok-messages.ensures.ok) in
-    rw (c.end_with.ensures.stands, c.end_with.ensures.rest) (ended-gives told (λ all. all.items) (map (λ message. message.items)) (λ (w : List (List ℕ)). Gives stream c.args.piece.now w (left_by (Some c.in-Fault.fault) [])) c.end_with.result c.end_with.ensures.ok (λ some.
+    rw (c.end_with.ensures.stands, c.end_with.ensures.rest) (ended-gives told (λ all. all.items) (map (λ message. message.items)) (λ (w : List (List ℕ)). Completes stream c.args.piece.now w (left_by (Some c.in-Fault.fault) [])) c.end_with.result c.end_with.ensures.ok (λ some.
     gives-fault stream c.args.piece.now begun (subst (StandsBehind stream) (sym old-is) h) _ ends.0 c.in-Fault.fault (map-filled (λ message. message.items) told some) ends.1))
 
 pub returns-in-Fault-clause-err : goal.returns-in-Fault-clause-err
