@@ -2,6 +2,11 @@
 //! one.
 
 ghost use Rattle.tcap_model.specs.Statements.Headline.{EachHasOutcome, EachIsBounded, EachIsCounted, EachIsDecided};
+ghost use Rattle.tcap_model.specs.Statements.Isolation.{EachIsAlone};
+ghost use Rattle.tcap_model.specs.Statements.SentFrom.{EachIsSentFrom};
+ghost use Rattle.tcap_model.specs.Statements.SentInOrder.{EachIsSentInOrder};
+ghost use Rattle.tcap_model.specs.Statements.ToldFrom.{EachIsToldFrom};
+ghost use Rattle.tcap_model.specs.Statements.TwoEnds.{EachIsTwoEnded};
 
 /// The closing indications of an invocation number are those that its decision asks for: none before its
 /// outcome, and then the one, in the answer to the event that decided it (Q.774, Invocation state machine).
@@ -25,4 +30,36 @@ pub fn counting()
 /// within its limit (our own).
 pub fn bound()
     ensures { EachIsBounded }
+{}
+
+/// No dialogue sees another: the answer to an event that names a dialogue is the one that the dialogue's own
+/// history gives, but for the number that an invoke draws; of a moment the outputs of the dialogue are
+/// compared. An invoke that is refused since no number is left is left out (our own).
+pub fn isolation()
+    ensures { EachIsAlone }
+{}
+
+/// Each component that the octets of a Send have is that of an earlier accepted request of the same
+/// dialogue, or a Reject that was formed there (our own).
+pub fn sent_from()
+    ensures { EachIsSentFrom }
+{}
+
+/// Each ResultLast, ResultMore, ErrorBack, Invoked and Rejected by the remote user stands for a component of
+/// the bytes whose answer holds it (our own).
+pub fn told_from()
+    ensures { EachIsToldFrom }
+{}
+
+/// Each component that is submitted for a dialogue is sent once and in order, up to each request that sends
+/// components, and nothing else that is sent has any (Q.774, Component handling).
+pub fn sent_once()
+    ensures { EachIsSentInOrder }
+{}
+
+/// What both users may rely on whose engines hear one another and nobody else: each answer to an invocation
+/// comes from a request of the far user; under the three premises it was asked for after the Invoke was
+/// sent; at most one closes the invocation; and each Invoke that is told was asked for (our own).
+pub fn two_ends()
+    ensures { EachIsTwoEnded }
 {}

@@ -45,6 +45,7 @@ pub use Rattle.tcap_laws.proofs.Receptions.SentMessages.{sent_message, sent_for_
 pub use Rattle.tcap_laws.proofs.Spans.SpanSteps.{span_new, span_grows, span_stays, reused_new, reused_step}
 pub use Rattle.tcap_laws.proofs.Births.StartCounters.{start_dialogue-within, start_number-within}
 pub use Rattle.tcap_laws.proofs.Spans.SupersededInvocations.{reused_of_number, decided_if_superseded, decided_if_reused, latest_if_open}
+pub use Rattle.tcap_laws.proofs.Submission.SentOnce.{sent-once}
 pub use Rattle.tcap_laws.proofs.Receptions.ToldFromOctets.{told-from}
 pub use Rattle.tcap_laws.proofs.Engine.EngineMoves.{moves-alike, move-is-said, clock-within}
 pub use Rattle.tcap_laws.proofs.Engine.DialoguesFound.{looked-up, live-alike, births-alike}
