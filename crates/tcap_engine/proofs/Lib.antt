@@ -1,3 +1,4 @@
+pub mod AloneLemmas
 pub mod AskLemmas
 pub mod AskedEngine
 pub mod BeginLemmas
@@ -15,3 +16,4 @@ pub mod RunLemmas
 pub mod SpentLemmas
 pub mod StandingLemmas
 pub mod TableLemmas
+pub mod TwoEndsLemmas

@@ -1,3 +1,4 @@
+pub mod Alone
 pub mod Answering
 pub mod AskedKinds
 pub mod Asking
@@ -9,3 +10,4 @@ pub mod ReceptionViews
 pub mod Running
 pub mod StateOf
 pub mod Table
+pub mod TwoEnds

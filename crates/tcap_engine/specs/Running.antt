@@ -1,5 +1,5 @@
 -- What an engine answers to events, one after the other.
-use Rattle.std.specs.Prelude.{◌≡◌, ◌-◌, List, [], ◌∷◌, ◌++◌, length, take, IsTrue}
+use Rattle.std.specs.Prelude.{◌≡◌, ◌-◌, List, [], ◌∷◌, ◌++◌, length, take, drop, IsTrue}
 use Rattle.tcap_dialogue.specs.FaultViews.{takes_memory}
 use Rattle.tcap_engine.specs.HistoryForm.{Headline}
 use Rattle.tcap_model.specs.Histories.History.{History}
@@ -20,6 +20,10 @@ MayWant (Event.moment now) answer = IsTrue (takes_memory answer)
 -- The events that were done: each has left one answer more (own).
 abbrev pub done : {X : Type 0} → List X → List X → List Event → List Event
 done old new events = take (length new - length old) events
+
+-- The answers that were appended to some (own).
+abbrev pub new_answers : List Answer → List Answer → List Answer
+new_answers before after = drop (length before) after
 
 -- ---- step form
 

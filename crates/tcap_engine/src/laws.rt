@@ -1,6 +1,8 @@
 //! What holds at every history at which an engine stands: the laws that the contract of each call gives on, one by
 //! one.
 
+ghost use Rattle.tcap_engine.specs.Alone.{EachAnswerIsAlone, EachRunIsAlone};
+ghost use Rattle.tcap_engine.specs.TwoEnds.{EachBothRely, EachCallIsHeard, EachRunIsHeard, EachSendIsSent, EachSendStays, NewOnesHear};
 ghost use Rattle.tcap_model.specs.Statements.Headline.{EachHasOutcome, EachIsBounded, EachIsCounted, EachIsDecided};
 ghost use Rattle.tcap_model.specs.Statements.Isolation.{EachIsAlone};
 ghost use Rattle.tcap_model.specs.Statements.SentFrom.{EachIsSentFrom};
@@ -36,7 +38,10 @@ pub fn bound()
 /// history gives, but for the number that an invoke draws; of a moment the outputs of the dialogue are
 /// compared. An invoke that is refused since no number is left is left out (our own).
 pub fn isolation()
-    ensures { EachIsAlone }
+    ensures history { EachIsAlone }
+    // So it is of what an engine answers to one event, and to those of a run.
+    ensures answer { EachAnswerIsAlone }
+    ensures run { EachRunIsAlone }
 {}
 
 /// Each component that the octets of a Send have is that of an earlier accepted request of the same
@@ -62,4 +67,18 @@ pub fn sent_once()
 /// sent; at most one closes the invocation; and each Invoke that is told was asked for (our own).
 pub fn two_ends()
     ensures { EachIsTwoEnded }
+{}
+
+/// The same for whoever runs two engines, where each byte string that one receives was sent by the other: at any
+/// time later, in any order, any number of times, or never. From two new engines on, call by call or run by
+/// run, both stand at one list of their events and answers in time (our own).
+pub fn two_engines()
+    ensures begin { NewOnesHear }
+    ensures call { EachCallIsHeard }
+    ensures run { EachRunIsHeard }
+    // What the other may receive then: each Send in the answers of a run, and what was sent before.
+    ensures sent { EachSendIsSent }
+    ensures kept { EachSendStays }
+    // At each such list both users may rely on the answers in it as `two_ends` says.
+    ensures rely { EachBothRely }
 {}

@@ -1,4 +1,4 @@
-use Rattle.std.proofs.Common.{rules, arith, ◌≡◌, ◌+◌, ◌++◌, ◌∷◌, [], length, take, List, subst, sym}
+use Rattle.std.proofs.Common.{rules, arith, ◌≡◌, ◌+◌, ◌++◌, ◌∷◌, [], take, List, subst, sym}
 use Rattle.tcap_engine.specs.EventViews.{answers_view, event_view, events_view}
 use Rattle.tcap_engine.specs.Running.{Runs, StandsThrough, after_events}
 use Rattle.tcap_engine.proofs.RunLemmas.{none-run, none-through, runs-more, through-more, through-so-far, one-more}

@@ -1,0 +1,173 @@
+-- Two engines that hear one another, followed from run to run.
+use Rattle.std.proofs.Common.{◌≡◌, ◌+◌, refl, sym, ap, subst, ◌∙◌, ℕ, List, [], ◌∷◌, true, IsTrue, inl, inr}
+use Rattle.std.proofs.Math.Nat.{add-zero}
+use Rattle.std.specs.List.{list_any}
+use Rattle.std.proofs.lemmas.Bool.{or_cases, or_right}
+use Rattle.tcap_engine.proofs.AloneLemmas.{added}
+use Rattle.tcap_engine.specs.Running.{after_events, replies}
+use Rattle.tcap_engine.specs.TwoEnds.{happened, net_after, AreCarried, HearOneAnother, NewOnesHear, EachCallIsHeard, EachRunIsHeard, EachSendIsSent, EachSendStays, EachBothRely}
+use Rattle.tcap_laws.proofs.CallerLemmas.{two_ends}
+use Rattle.tcap_model.specs.Histories.History.{History, Start}
+use Rattle.tcap_model.specs.Histories.Pair.{Pair}
+use Rattle.tcap_model.specs.Replies.Reply.{reply}
+use Rattle.tcap_model.specs.Statements.EngineMoves.{with_pair}
+use Rattle.tcap_model.specs.Statements.Net.{Engine, far, Trace, Net, side, answer_sends, was_sent, IsCarried, IsNet, history_in}
+use Rattle.tcap_model.specs.Table.World.{World, StandsAt, world_of, first_world}
+use Rattle.tcap_model.specs.Words.Answer.{Answer}
+use Rattle.tcap_model.specs.Words.Event.{Event}
+
+-- ---- the histories of both
+
+-- The history of one of two engines, at a list of what happened to both.
+abbrev at : Start → Engine → Trace → History
+at start engine trace = record { start = start; pairs = side engine trace }
+
+-- An event that came to one of them, with the reply that is due to it.
+abbrev replied : Start → Engine → Event → Trace → Trace
+replied start engine event trace = record {
+  engine = engine;
+  pair = record { event = event; answer = reply (at start engine trace) event };
+} ∷ trace
+
+-- The engine's own history has the events, each with the reply.
+own : (start : Start) (engine : Engine) (events : List Event) (trace : Trace)
+    → at start engine (happened engine events (replies (at start engine trace) events) trace)
+    ≡ after_events (at start engine trace) events
+own start engine [] trace = refl
+own start Engine.a (event ∷ events) trace = own start Engine.a events (replied start Engine.a event trace)
+own start Engine.b (event ∷ events) trace = own start Engine.b events (replied start Engine.b event trace)
+
+-- That of the other engine stays.
+others : (engine : Engine) (events : List Event) (answers : List Answer) (trace : Trace)
+    → side (far engine) (happened engine events answers trace) ≡ side (far engine) trace
+others engine [] answers trace = refl
+others engine (event ∷ events) [] trace = refl
+others Engine.a (event ∷ events) (answer ∷ answers) trace = others Engine.a events answers (_ ∷ trace)
+others Engine.b (event ∷ events) (answer ∷ answers) trace = others Engine.b events answers (_ ∷ trace)
+
+-- ---- what is received
+
+-- What one engine did is not needed for what it may receive.
+carried-later : (engine : Engine) (events : List Event) (event : Event) (answer : Answer) (trace : Trace)
+    → AreCarried engine events trace
+    → AreCarried engine events (record { engine = engine; pair = record { event = event; answer = answer } } ∷ trace)
+carried-later engine [] event answer trace c = tt
+carried-later engine (Event.new_dialogue ∷ events) event answer trace c = (tt, carried-later engine events event answer trace c.1)
+carried-later engine (Event.on_dialogue dialogue request ∷ events) event answer trace c = (tt, carried-later engine events event answer trace c.1)
+carried-later Engine.a (Event.received bytes ∷ events) event answer trace c = (c.0, carried-later Engine.a events event answer trace c.1)
+carried-later Engine.b (Event.received bytes ∷ events) event answer trace c = (c.0, carried-later Engine.b events event answer trace c.1)
+carried-later engine (Event.moment now ∷ events) event answer trace c = (tt, carried-later engine events event answer trace c.1)
+
+carried : (engine : Engine) (events : List Event) (answers : List Answer) (trace : Trace)
+    → AreCarried engine events trace → IsCarried trace → IsCarried (happened engine events answers trace)
+carried engine [] answers trace c all = all
+carried engine (event ∷ events) [] trace c all = all
+carried engine (event ∷ events) (answer ∷ answers) trace c all =
+    carried engine events answers (_ ∷ trace) (carried-later engine events event answer trace c.1) (c.0, all)
+
+-- ---- both engines
+
+-- Two engines at what happened to both.
+abbrev BothAt : (Engine → Start) → Trace → (Engine → World) → Type 0
+BothAt start trace engines = (engine : Engine) → StandsAt (at (start engine) engine trace) (engines engine)
+
+-- A run of one of them, whose history is this one now, and that leaves the other.
+both-at : (start : Engine → Start) (trace later : Trace) (old new : Engine → World) (engine : Engine)
+    → BothAt start trace old → StandsAt (at (start engine) engine later) (new engine)
+    → side (far engine) later ≡ side (far engine) trace → new (far engine) ≡ old (far engine)
+    → BothAt start later new
+both-at start trace later old new Engine.a stood stands same still Engine.a = stands
+both-at start trace later old new Engine.a stood stands same still Engine.b =
+    rw (same, still) (stood Engine.b)
+both-at start trace later old new Engine.b stood stands same still Engine.a =
+    rw (same, still) (stood Engine.a)
+both-at start trace later old new Engine.b stood stands same still Engine.b = stands
+
+-- The net after a run whose answers are the replies.
+heard : (net : Net) (old new : Engine → World) (engine : Engine) (events : List Event)
+    → HearOneAnother net old → AreCarried engine events net.trace
+    → StandsAt (after_events (history_in net engine net.trace) events) (new engine) → new (far engine) ≡ old (far engine)
+    → HearOneAnother (net_after engine events (replies (history_in net engine net.trace) events) net) new
+heard net old new engine events hear c stands still =
+    let answers : List Answer = replies (history_in net engine net.trace) events in
+    record {
+      stands =
+          both-at net.start net.trace (happened engine events answers net.trace) old new engine hear.stands
+          (subst (λ (h : History). StandsAt h (new engine)) (sym (own (net.start engine) engine events net.trace)) stands)
+          (others engine events answers net.trace) still;
+      is_carried = carried engine events answers net.trace c hear.is_carried;
+    }
+
+-- An engine with these counters, and nothing else but its limits.
+abbrev with_counters : Start → ℕ → ℕ → World
+with_counters start dialogue number = record (first_world start) { next_dialogue = dialogue; next_number = number }
+
+new-world : (start : Start) → first_world start ≡ world_of (record { start = start; pairs = [] })
+new-world start =
+    ap (λ (n : ℕ). with_counters start n start.next_number) (sym (add-zero start.next_dialogue))
+    ∙ ap (λ (n : ℕ). with_counters start (start.next_dialogue + 0) n) (sym (add-zero start.next_number))
+
+pub new-hear : NewOnesHear
+new-hear start engines starts new = record {
+  stands = λ engine. record { is_legal = (starts engine, tt); is_world = new engine ∙ new-world (start engine) };
+  is_carried = tt;
+}
+
+pub run-heard : EachRunIsHeard
+run-heard net old new engine events before after hear c s still =
+    rw (added (history_in net engine net.trace) events (new engine) before after s)
+    (heard net old new engine events hear c s.stands still)
+
+pub call-heard : EachCallIsHeard
+call-heard net old new engine event answer hear c s still =
+    rw s.is_reply (heard net old new engine (event ∷ []) hear (c, tt) s.stands still)
+
+pub both-rely : EachBothRely
+both-rely net engines hear =
+    let is : IsNet net = record { is_legal = λ engine. (hear.stands engine).is_legal; is_carried = hear.is_carried } in
+    record { is_net = is; two_ends = two_ends net is }
+
+-- ---- what was sent
+
+-- One pair more of either engine takes nothing away.
+stays-once : (bytes : List ℕ) (engine other : Engine) (pair : Pair) (trace : Trace)
+    → was_sent bytes (side engine trace) ≡ true
+    → was_sent bytes (side engine (record { engine = other; pair = pair } ∷ trace)) ≡ true
+stays-once bytes Engine.a Engine.a pair trace e = or_right (answer_sends bytes pair.answer) _ e
+stays-once bytes Engine.a Engine.b pair trace e = e
+stays-once bytes Engine.b Engine.a pair trace e = e
+stays-once bytes Engine.b Engine.b pair trace e = or_right (answer_sends bytes pair.answer) _ e
+
+stays : (bytes : List ℕ) (engine other : Engine) (events : List Event) (answers : List Answer) (trace : Trace)
+    → was_sent bytes (side engine trace) ≡ true
+    → was_sent bytes (side engine (happened other events answers trace)) ≡ true
+stays bytes engine other [] answers trace e = e
+stays bytes engine other (event ∷ events) [] trace e = e
+stays bytes engine other (event ∷ events) (answer ∷ answers) trace e =
+    stays bytes engine other events answers (_ ∷ trace) (stays-once bytes engine other _ trace e)
+
+-- A Send in the answer of the newest pair was sent.
+sent-now : (bytes : List ℕ) (engine : Engine) (pair : Pair) (trace : Trace) → answer_sends bytes pair.answer ≡ true
+    → was_sent bytes (side engine (record { engine = engine; pair = pair } ∷ trace)) ≡ true
+sent-now bytes Engine.a pair trace e = rw e refl
+sent-now bytes Engine.b pair trace e = rw e refl
+
+sent-among : (bytes : List ℕ) (h : History) (engine : Engine) (events : List Event) (trace : Trace)
+    → list_any (answer_sends bytes) (replies h events) ≡ true
+    → was_sent bytes (side engine (happened engine events (replies h events) trace)) ≡ true
+sent-among bytes h engine [] trace e = absurd cc
+sent-among bytes h engine (event ∷ events) trace e =
+    elim (or_cases (answer_sends bytes (reply h event)) _ e) [
+      | inl here ↦
+          stays bytes engine engine events (replies (with_pair h event) events) (_ ∷ trace)
+          (sent-now bytes engine (record { event = event; answer = reply h event }) trace here)
+      | inr later ↦ sent-among bytes (with_pair h event) engine events (_ ∷ trace) later
+    ]
+
+pub send-sent : EachSendIsSent
+send-sent h trace engine events world before after bytes s sends =
+    let is = added h events world before after s in
+    rw is (sent-among bytes h engine events trace (subst (λ (xs : List Answer). IsTrue (list_any (answer_sends bytes) xs)) is sends))
+
+pub send-stays : EachSendStays
+send-stays trace engine other events answers bytes sent = stays bytes engine other events answers trace sent

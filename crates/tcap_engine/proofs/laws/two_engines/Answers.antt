@@ -1,0 +1,20 @@
+use Rattle.tcap_engine.proofs.TwoEndsLemmas.{new-hear, call-heard, run-heard, send-sent, send-stays, both-rely}
+use Rattle.tcap_engine.proofs.laws.two_engines.Goals as goal
+
+pub returns-clause-begin : goal.returns-clause-begin
+returns-clause-begin c = new-hear
+
+pub returns-clause-call : goal.returns-clause-call
+returns-clause-call c = call-heard
+
+pub returns-clause-run : goal.returns-clause-run
+returns-clause-run c = run-heard
+
+pub returns-clause-sent : goal.returns-clause-sent
+returns-clause-sent c = send-sent
+
+pub returns-clause-kept : goal.returns-clause-kept
+returns-clause-kept c = send-stays
+
+pub returns-clause-rely : goal.returns-clause-rely
+returns-clause-rely c = both-rely

@@ -1,0 +1,96 @@
+-- Two engines that hear one another and nobody else, for whoever runs both.
+use Rattle.std.specs.Prelude.{◌≡◌, ℕ, List, [], ◌∷◌, IsTrue}
+use Rattle.std.specs.List.{list_any}
+use Rattle.tcap_engine.specs.HistoryForm.{StandsOn}
+use Rattle.tcap_engine.specs.Running.{StandsThrough, new_answers}
+use Rattle.tcap_model.specs.Histories.History.{History, Start}
+use Rattle.tcap_model.specs.Replies.Legal.{is_start}
+use Rattle.tcap_model.specs.Statements.Net.{Engine, far, Trace, Net, side, answer_sends, was_sent, IsCarriedTo, IsCarried, IsNet, history_in}
+use Rattle.tcap_model.specs.Statements.TwoEnds.{TwoEnds}
+use Rattle.tcap_model.specs.Table.World.{World, StandsAt, first_world}
+use Rattle.tcap_model.specs.Words.Answer.{Answer}
+use Rattle.tcap_model.specs.Words.Event.{Event}
+
+-- ---- what happened
+
+-- What happened to two engines, where some events came to one of them and were answered so, in order of
+-- time, after what happened before (own).
+abbrev pub happened : Engine → List Event → List Answer → Trace → Trace
+happened engine [] answers trace = trace
+happened engine (event ∷ events) [] trace = trace
+happened engine (event ∷ events) (answer ∷ answers) trace =
+    happened engine events answers (record { engine = engine; pair = record { event = event; answer = answer } } ∷ trace)
+
+-- The same, with what both engines started with (own).
+abbrev pub net_after : Engine → List Event → List Answer → Net → Net
+net_after engine events answers net = record net { trace = happened engine events answers net.trace }
+
+-- What one engine receives among some events is a Send in an earlier answer of the other (own).
+abbrev pub AreCarried : Engine → List Event → Trace → Type 0
+AreCarried engine [] trace = Unit {0}
+AreCarried engine (event ∷ events) trace = IsCarriedTo engine event trace × AreCarried engine events trace
+
+-- ---- both engines
+
+-- One of two, by its name (own).
+abbrev pub both : World → World → Engine → World
+both a b Engine.a = a
+both a b Engine.b = b
+
+-- Two engines hear one another and nobody else: in one list of their pairs in time, each stands at the
+-- history of its own pairs, and what one received is a Send in an earlier answer of the other (own).
+pub record HearOneAnother (net : Net) (engines : Engine → World) : Type 0 where
+  pub stands : (engine : Engine) → StandsAt (history_in net engine net.trace) (engines engine)
+  pub is_carried : IsCarried net.trace
+
+-- ---- what follows
+
+-- Two engines to which nothing has come yet do (own).
+abbrev pub NewOnesHear : Type 0
+NewOnesHear =
+    (start : Engine → Start) (engines : Engine → World) → ((engine : Engine) → IsTrue (is_start (start engine))) →
+    ((engine : Engine) → engines engine ≡ first_world (start engine)) →
+    HearOneAnother (record { start = start; trace = [] }) engines
+
+-- Where they do, an event comes to one of them, and the other stays as it is, they do then (own).
+abbrev pub EachCallIsHeard : Type 0
+EachCallIsHeard =
+    (net : Net) (old new : Engine → World) (engine : Engine) (event : Event) (answer : Answer) →
+    HearOneAnother net old → IsCarriedTo engine event net.trace →
+    StandsOn (history_in net engine net.trace) event answer (new engine) → new (far engine) ≡ old (far engine) →
+    HearOneAnother (net_after engine (event ∷ []) (answer ∷ []) net) new
+
+-- The same of a run over events (own).
+abbrev pub EachRunIsHeard : Type 0
+EachRunIsHeard =
+    (net : Net) (old new : Engine → World) (engine : Engine) (events : List Event) (before after : List Answer) →
+    HearOneAnother net old → AreCarried engine events net.trace →
+    StandsThrough (history_in net engine net.trace) events (new engine) before after →
+    new (far engine) ≡ old (far engine) →
+    HearOneAnother (net_after engine events (new_answers before after) net) new
+
+-- Each Send in an answer that a run adds was sent by then, and may be received (own).
+abbrev pub EachSendIsSent : Type 0
+EachSendIsSent =
+    (h : History) (trace : Trace) (engine : Engine) (events : List Event) (world : World)
+    (before after : List Answer) (bytes : List ℕ) → StandsThrough h events world before after →
+    IsTrue (list_any (answer_sends bytes) (new_answers before after)) →
+    IsTrue (was_sent bytes (side engine (happened engine events (new_answers before after) trace)))
+
+-- What was sent before may be received after a run of either engine too (own).
+abbrev pub EachSendStays : Type 0
+EachSendStays =
+    (trace : Trace) (engine other : Engine) (events : List Event) (answers : List Answer) (bytes : List ℕ) →
+    IsTrue (was_sent bytes (side engine trace)) →
+    IsTrue (was_sent bytes (side engine (happened other events answers trace)))
+
+-- What happened to two engines that hear one another meets Net, and of their answers both users may rely
+-- on the origin of each answer, that it comes after the Invoke, that one closes at most, and on the
+-- operations (own).
+pub record RelyOnBoth (net : Net) : Type 0 where
+  pub is_net : IsNet net
+  pub two_ends : TwoEnds net.trace
+
+-- It holds of any two engines that hear one another (own).
+abbrev pub EachBothRely : Type 0
+EachBothRely = (net : Net) (engines : Engine → World) → HearOneAnother net engines → RelyOnBoth net
