@@ -1,17 +1,17 @@
 -- Two engines that hear one another, followed from run to run.
-use Rattle.std.proofs.Common.{◌≡◌, ◌+◌, refl, sym, ap, subst, ◌∙◌, ℕ, List, [], ◌∷◌, true, IsTrue, inl, inr}
+use Rattle.std.proofs.Common.{◌≡◌, ◌+◌, refl, sym, ap, subst, ◌∙◌, ℕ, zero, suc, List, [], ◌∷◌, ◌++◌, take, append_assoc, true, IsTrue, inl, inr}
 use Rattle.std.proofs.Math.Nat.{add-zero}
 use Rattle.std.specs.List.{list_any}
 use Rattle.std.proofs.lemmas.Bool.{or_cases, or_right}
 use Rattle.tcap_engine.proofs.AloneLemmas.{added}
 use Rattle.tcap_engine.specs.Running.{after_events, replies}
-use Rattle.tcap_engine.specs.TwoEnds.{happened, net_after, AreCarried, HearOneAnother, NewOnesHear, EachCallIsHeard, EachRunIsHeard, EachSendIsSent, EachSendStays, EachBothRely}
+use Rattle.tcap_engine.specs.TwoEnds.{happened, net_after, AreCarried, HearOneAnother, NewOnesHear, IsGiven, EachAnswerIsGiven, EachCallIsHeard, EachRunIsHeard, EachSendIsSent, EachSendStays, EachBothRely}
 use Rattle.tcap_laws.proofs.CallerLemmas.{two_ends}
 use Rattle.tcap_model.specs.Histories.History.{History, Start}
 use Rattle.tcap_model.specs.Histories.Pair.{Pair}
 use Rattle.tcap_model.specs.Replies.Reply.{reply}
 use Rattle.tcap_model.specs.Statements.EngineMoves.{with_pair}
-use Rattle.tcap_model.specs.Statements.Net.{Engine, far, Trace, Net, side, answer_sends, was_sent, IsCarried, IsNet, history_in}
+use Rattle.tcap_model.specs.Statements.Net.{Engine, far, Marked, Trace, Net, side, answer_sends, was_sent, IsCarried, IsNet, history_in}
 use Rattle.tcap_model.specs.Table.World.{World, StandsAt, world_of, first_world}
 use Rattle.tcap_model.specs.Words.Answer.{Answer}
 use Rattle.tcap_model.specs.Words.Event.{Event}
@@ -113,10 +113,18 @@ new-hear start engines starts new = record {
   is_carried = tt;
 }
 
+-- What the first of some events bring was sent too.
+carried-front : (engine : Engine) (count : ℕ) (events : List Event) (trace : Trace)
+    → AreCarried engine events trace → AreCarried engine (take count events) trace
+carried-front engine zero events trace c = tt
+carried-front engine (suc count) [] trace c = tt
+carried-front engine (suc count) (event ∷ events) trace c = (c.0, carried-front engine count events trace c.1)
+
 pub run-heard : EachRunIsHeard
-run-heard net old new engine events before after hear c s still =
-    rw (added (history_in net engine net.trace) events (new engine) before after s)
-    (heard net old new engine events hear c s.stands still)
+run-heard net old new engine events count before after hear c s still =
+    let front = take count events in
+    rw (added (history_in net engine net.trace) front (new engine) before after s)
+    (heard net old new engine front hear (carried-front engine count events net.trace c) s.stands still)
 
 pub call-heard : EachCallIsHeard
 call-heard net old new engine event answer hear c s still =
@@ -171,3 +179,34 @@ send-sent h trace engine events world before after bytes s sends =
 
 pub send-stays : EachSendStays
 send-stays trace engine other events answers bytes sent = stays bytes engine other events answers trace sent
+
+-- ---- what was answered
+
+-- What happened before stays.
+adds : (engine : Engine) (events : List Event) (answers : List Answer) (trace : Trace)
+    → (later : Trace) × (happened engine events answers trace ≡ later ++ trace)
+adds engine [] answers trace = ([], refl)
+adds engine (event ∷ events) [] trace = ([], refl)
+adds engine (event ∷ events) (answer ∷ answers) trace =
+    let here : Trace = record { engine = engine; pair = record { event = event; answer = answer } } ∷ [] in
+    let more = adds engine events answers (here ++ trace) in
+    (more.0 ++ here, more.1 ∙ sym (append_assoc more.0 here trace))
+
+given : (h : History) (engine : Engine) (events : List Event) (earlier later : List Answer) (answer : Answer) (trace : Trace)
+    → replies h events ≡ earlier ++ answer ∷ later
+    → IsGiven engine answer (happened engine events (replies h events) trace)
+given h engine [] [] later answer trace e = absurd cc
+given h engine [] (other ∷ earlier) later answer trace e = absurd cc
+given h engine (event ∷ events) [] later answer trace e =
+    let is : reply h event ≡ answer = cc in
+    let first : Marked = record { engine = engine; pair = record { event = event; answer = reply h event } } in
+    let more = adds engine events (replies (with_pair h event) events) (first ∷ trace) in
+    subst (λ (x : Answer). IsGiven engine x (happened engine (event ∷ events) (replies h (event ∷ events)) trace)) is
+    (record { event = event; before = trace; happens = record { later = more.0; is_trace = more.1 } })
+given h engine (event ∷ events) (other ∷ earlier) later answer trace e =
+    given (with_pair h event) engine events earlier later answer (_ ∷ trace) cc
+
+pub answer-given : EachAnswerIsGiven
+answer-given h trace engine events world before after earlier later answer s e =
+    let is = added h events world before after s in
+    rw is (given h engine events earlier later answer trace (sym is ∙ e))

@@ -1,10 +1,11 @@
 -- Two engines that hear one another and nobody else, for whoever runs both.
-use Rattle.std.specs.Prelude.{◌≡◌, ℕ, List, [], ◌∷◌, IsTrue}
+use Rattle.std.specs.Prelude.{◌≡◌, ℕ, List, [], ◌∷◌, ◌++◌, take, IsTrue}
 use Rattle.std.specs.List.{list_any}
 use Rattle.tcap_engine.specs.HistoryForm.{StandsOn}
 use Rattle.tcap_engine.specs.Running.{StandsThrough, new_answers}
 use Rattle.tcap_model.specs.Histories.History.{History, Start}
 use Rattle.tcap_model.specs.Replies.Legal.{is_start}
+use Rattle.tcap_model.specs.Statements.FarAnswer.{Happens}
 use Rattle.tcap_model.specs.Statements.Net.{Engine, far, Trace, Net, side, answer_sends, was_sent, IsCarriedTo, IsCarried, IsNet, history_in}
 use Rattle.tcap_model.specs.Statements.TwoEnds.{TwoEnds}
 use Rattle.tcap_model.specs.Table.World.{World, StandsAt, first_world}
@@ -60,14 +61,14 @@ EachCallIsHeard =
     StandsOn (history_in net engine net.trace) event answer (new engine) → new (far engine) ≡ old (far engine) →
     HearOneAnother (net_after engine (event ∷ []) (answer ∷ []) net) new
 
--- The same of a run over events (own).
+-- The same of a run over events, of which so many were done (own).
 abbrev pub EachRunIsHeard : Type 0
 EachRunIsHeard =
-    (net : Net) (old new : Engine → World) (engine : Engine) (events : List Event) (before after : List Answer) →
-    HearOneAnother net old → AreCarried engine events net.trace →
-    StandsThrough (history_in net engine net.trace) events (new engine) before after →
+    (net : Net) (old new : Engine → World) (engine : Engine) (events : List Event) (count : ℕ)
+    (before after : List Answer) → HearOneAnother net old → AreCarried engine events net.trace →
+    StandsThrough (history_in net engine net.trace) (take count events) (new engine) before after →
     new (far engine) ≡ old (far engine) →
-    HearOneAnother (net_after engine events (new_answers before after) net) new
+    HearOneAnother (net_after engine (take count events) (new_answers before after) net) new
 
 -- Each Send in an answer that a run adds was sent by then, and may be received (own).
 abbrev pub EachSendIsSent : Type 0
@@ -83,6 +84,20 @@ EachSendStays =
     (trace : Trace) (engine other : Engine) (events : List Event) (answers : List Answer) (bytes : List ℕ) →
     IsTrue (was_sent bytes (side engine trace)) →
     IsTrue (was_sent bytes (side engine (happened other events answers trace)))
+
+-- An engine gave an answer: it is that of a pair in the list of what happened to both (own).
+pub record IsGiven (engine : Engine) (answer : Answer) (trace : Trace) : Type 0 where
+  pub event : Event
+  pub before : Trace
+  pub happens : Happens engine (record { event = event; answer = answer }) before trace
+
+-- Each answer that a run adds is (own).
+abbrev pub EachAnswerIsGiven : Type 0
+EachAnswerIsGiven =
+    (h : History) (trace : Trace) (engine : Engine) (events : List Event) (world : World)
+    (before after earlier later : List Answer) (answer : Answer) → StandsThrough h events world before after →
+    new_answers before after ≡ earlier ++ answer ∷ later →
+    IsGiven engine answer (happened engine events (new_answers before after) trace)
 
 -- What happened to two engines that hear one another meets Net, and of their answers both users may rely
 -- on the origin of each answer, that it comes after the Invoke, that one closes at most, and on the

@@ -2,7 +2,7 @@
 //! one.
 
 ghost use Rattle.tcap_engine.specs.Alone.{EachAnswerIsAlone, EachRunIsAlone};
-ghost use Rattle.tcap_engine.specs.TwoEnds.{EachBothRely, EachCallIsHeard, EachRunIsHeard, EachSendIsSent, EachSendStays, NewOnesHear};
+ghost use Rattle.tcap_engine.specs.TwoEnds.{EachAnswerIsGiven, EachBothRely, EachCallIsHeard, EachRunIsHeard, EachSendIsSent, EachSendStays, NewOnesHear};
 ghost use Rattle.tcap_model.specs.Statements.Headline.{EachHasOutcome, EachIsBounded, EachIsCounted, EachIsDecided};
 ghost use Rattle.tcap_model.specs.Statements.Isolation.{EachIsAlone};
 ghost use Rattle.tcap_model.specs.Statements.SentFrom.{EachIsSentFrom};
@@ -79,6 +79,8 @@ pub fn two_engines()
     // What the other may receive then: each Send in the answers of a run, and what was sent before.
     ensures sent { EachSendIsSent }
     ensures kept { EachSendStays }
+    // Each answer of a run stands in the list.
+    ensures given { EachAnswerIsGiven }
     // At each such list both users may rely on the answers in it as `two_ends` says.
     ensures rely { EachBothRely }
 {}

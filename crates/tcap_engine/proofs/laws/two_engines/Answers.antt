@@ -1,4 +1,4 @@
-use Rattle.tcap_engine.proofs.TwoEndsLemmas.{new-hear, call-heard, run-heard, send-sent, send-stays, both-rely}
+use Rattle.tcap_engine.proofs.TwoEndsLemmas.{new-hear, call-heard, run-heard, send-sent, send-stays, answer-given, both-rely}
 use Rattle.tcap_engine.proofs.laws.two_engines.Goals as goal
 
 pub returns-clause-begin : goal.returns-clause-begin
@@ -18,3 +18,6 @@ returns-clause-kept c = send-stays
 
 pub returns-clause-rely : goal.returns-clause-rely
 returns-clause-rely c = both-rely
+
+pub returns-clause-given : goal.returns-clause-given
+returns-clause-given c = answer-given
