@@ -1,1 +1,2 @@
+pub mod BothLemmas
 pub mod TwoCalls

@@ -1,3 +1,4 @@
 pub mod Computing
 pub mod Operation
 pub mod Printed
+pub mod TwoEngines

@@ -7,9 +7,11 @@
 
 mod engine_callers;
 mod operation;
+mod two_engines;
 
 pub use engine_callers::{clock_after, hear_at};
 pub use operation::{first_operation, local_number};
+pub use two_engines::operate;
 
 #[cfg(test)]
 mod tests;

@@ -1,4 +1,4 @@
-use crate::{clock_after, first_operation, hear_at};
+use crate::{clock_after, first_operation, hear_at, operate};
 use std::test::Fail;
 use tcap_engine::{DropWhy, Engine, Fault, Limits, Output};
 
@@ -37,5 +37,11 @@ fn clocks_and_histories_of_an_engine(rt: HostRuntime) -> Result<(), Fail> {
     assert!(rt; matches!(heard.as_slice(), [Output::Dropped(DropWhy::BadMessage)]));
     assert!(rt; lapsed.is_empty());
     assert_eq!(rt; engine.now(), 7);
+    Ok(())
+}
+
+#[test]
+fn an_operation_between_two_engines(rt: HostRuntime) -> Result<(), Fail> {
+    assert_eq!(rt; operate(rt.alloc()), Some((1, 1)));
     Ok(())
 }
