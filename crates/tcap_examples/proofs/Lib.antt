@@ -10,6 +10,7 @@ mod GrammarWorks
 mod HeadlineWorks
 mod IsolationWorks
 mod LastMessages
+mod OriginsMissing
 mod PlaceLemmas
 mod PlainlyDecided
 mod RepeatedBegin

@@ -1,3 +1,4 @@
 pub mod Loss
 pub mod Play
 pub mod PlayedNets
+pub mod WrongNets

@@ -7,3 +7,4 @@ pub mod headline;
 pub mod isolation;
 pub mod sending;
 pub mod two_ends;
+pub mod wrong_nets;
