@@ -1,5 +1,5 @@
-//! What holds at every history at which an engine stands: the laws that the contract of each call gives on, one by
-//! one.
+//! What holds at every history at which an engine stands: the headline's laws, which the contract of each call
+//! gives on, isolation and where components come from; and what holds of two engines.
 
 ghost use Rattle.tcap_engine.specs.Alone.{EachAnswerIsAlone, EachRunIsAlone};
 ghost use Rattle.tcap_engine.specs.TwoEnds.{EachAnswerIsGiven, EachBothRely, EachCallIsHeard, EachRunIsHeard, EachSendIsSent, EachSendStays, NewOnesHear};
