@@ -1,14 +1,14 @@
 -- What a run of the command gives: the text asked for and its verdict, or why it came to none.
-use Rattle.std.specs.Prelude.{◌≡◌, ◌<◌, ◌%◌, ◌++◌, ℕ, Bool, true, false, List, length, Option, Result, Ok, Err, MatchResult}
+use Rattle.std.specs.Prelude.{◌≡◌, ℕ, Bool, true, false, List, Option, Some, Result, Ok, Err, MatchResult}
 use Rattle.std.specs.Io.KnownBytes.{Appends, Keeps}
-use Rattle.std.specs.List.{AllPass}
-use Rattle.hex.specs.Hex.{decode_of, is_hex_digit}
 use Rattle.clap.specs.Words.{Text}
 use Rattle.tcap_cmd.specs.declared.refusal.Refusal.{Refusal}
 use Rattle.tcap_cmd.specs.declared.refusal.Refusal.TheVariants.{BadCommand, BadHex, OutOfMemory, WriteFailed}
 use Rattle.tcap_cmd.specs.CommandLine.{Asked, show, check, canon, Ask, AskNothing}
-use Rattle.tcap_cmd.specs.Canonical.{canon_text_of, canon_is_good}
-use Rattle.tcap_cmd.specs.Show.{show_text_of, check_text_of, show_is_good}
+use Rattle.tcap_text.specs.Canonical.{canon_text_of, canon_is_good}
+use Rattle.tcap_text.specs.Show.{show_text_of, check_text_of, show_is_good}
+use Rattle.tcap_text.specs.Spelling.{spelled_by}
+use Rattle.tcap_text.specs.Writing.{IsFront}
 
 -- HEX of what is asked for (own).
 abbrev pub hex_of : Asked → List ℕ
@@ -28,49 +28,37 @@ is_good_of (show hex) bytes = show_is_good bytes
 is_good_of (check hex) bytes = show_is_good bytes
 is_good_of (canon hex) bytes = canon_is_good bytes
 
--- HEX is hexadecimal: an even number of digits, of both cases (own).
-abbrev pub IsHex : List ℕ → Type 0
-IsHex hex = (length hex % 2 ≡ 0) × AllPass is_hex_digit hex
-
 -- Why there are no bytes of HEX, and so no text: it spells none, or it spells some and memory is wanting
 -- (own).
 abbrev pub IsUnspelled : List ℕ → Refusal → Type 0
 IsUnspelled hex BadCommand = ⊥
-IsUnspelled hex BadHex = (bytes : List ℕ) → decode_of hex ≡ Ok bytes → ⊥
-IsUnspelled hex OutOfMemory = (bytes : List ℕ) × (decode_of hex ≡ Ok bytes)
+IsUnspelled hex BadHex = (bytes : List ℕ) → spelled_by hex ≡ Some bytes → ⊥
+IsUnspelled hex OutOfMemory = (bytes : List ℕ) × (spelled_by hex ≡ Some bytes)
 IsUnspelled hex WriteFailed = ⊥
 
 -- HEX spells bytes, of which this is the text that is asked for and its verdict (own).
 pub record IsTextOf (asked : Asked) (text : List ℕ) (good : Bool) : Type 0 where
   pub bytes : List ℕ
-  pub spelled : decode_of (hex_of asked) ≡ Ok bytes
+  pub spelled : spelled_by (hex_of asked) ≡ Some bytes
   pub is_text : text ≡ text_of asked bytes
   pub verdict : good ≡ is_good_of asked bytes
 
 -- HEX spells bytes, their text was written behind what the writer held, and this is its verdict (own).
 pub record IsAnswered (asked : Asked) (old new : Option (List ℕ)) (good : Bool) : Type 0 where
   pub bytes : List ℕ
-  pub spelled : decode_of (hex_of asked) ≡ Ok bytes
+  pub spelled : spelled_by (hex_of asked) ≡ Some bytes
   pub written : Appends old new (text_of asked bytes)
   pub verdict : good ≡ is_good_of asked bytes
 
 -- HEX spells bytes (own).
 abbrev pub SpellsBytes : Asked → Type 0
-SpellsBytes asked = (bytes : List ℕ) × (decode_of (hex_of asked) ≡ Ok bytes)
-
--- A front of a text, but not all of it, was written behind what the writer held (own).
-pub record IsFront (text : List ℕ) (old new : Option (List ℕ)) : Type 0 where
-  pub front : List ℕ
-  pub rest : List ℕ
-  pub is_text : text ≡ front ++ rest
-  pub is_cut : 0 < length rest
-  pub written : Appends old new front
+SpellsBytes asked = (bytes : List ℕ) × (spelled_by (hex_of asked) ≡ Some bytes)
 
 -- HEX spells bytes, and a front of their text, never all of it, was written behind what the writer held
 -- (own).
 pub record IsCut (asked : Asked) (old new : Option (List ℕ)) : Type 0 where
   pub bytes : List ℕ
-  pub spelled : decode_of (hex_of asked) ≡ Ok bytes
+  pub spelled : spelled_by (hex_of asked) ≡ Some bytes
   pub written : IsFront (text_of asked bytes) old new
 
 -- When a run that asks for something may be refused, and what it wrote: nothing where HEX spells no

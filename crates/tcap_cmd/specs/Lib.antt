@@ -1,9 +1,3 @@
-pub mod Canonical
 pub mod Command
 pub mod CommandLine
-pub mod ComponentText
-pub mod DialogueText
 pub mod Refusal
-pub mod Show
-pub mod Text
-pub mod Verdict

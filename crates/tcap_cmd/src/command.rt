@@ -1,17 +1,14 @@
-ghost use Rattle.std.specs.Prelude.{◌≡◌, ◌≤◌, ◌↔◌, Bool, length, take, unwrap_or, IsTrue, IfSome, Result, map, MatchResult};
-ghost use Rattle.std.specs.Io.KnownBytes.{Appends};
-ghost use Rattle.hex.specs.Hex.{decode_of, is_hex_digit};
+ghost use Rattle.std.specs.Prelude.{◌≡◌, Bool, Some, Result, map, MatchResult};
+ghost use Rattle.tcap_text.specs.Spelling.{spelled_by};
 ghost use Rattle.tcap_cmd.specs.CommandLine.{asked};
-ghost use Rattle.tcap_cmd.specs.Command.{IsHex, hex_of, IsUnspelled, IsTextOf, IsAnswered, IsFront, IsRefused, Gave, status_of};
+ghost use Rattle.tcap_cmd.specs.Command.{hex_of, IsUnspelled, IsTextOf, IsAnswered, IsRefused, Gave, status_of};
 
-use crate::canon::canon_text;
 use crate::refusal::Refusal;
 use crate::request::Request;
-use crate::show::{check_text, show_text};
-use crate::shown::Shown;
 use crate::words::read_words;
 use std::alloc::{Allocator, Global};
-use std::io::{ErrorKind, Read, Write};
+use std::io::{Read, Write};
+use tcap_text::{Shown, canon_text, check_text, hex_octets, show_text, write_text};
 
 /// The status of a good verdict.
 const GOOD: u8 = 0;
@@ -20,31 +17,11 @@ const FAULTY: u8 = 1;
 /// The status of a run that came to no verdict.
 const REFUSED: u8 = 2;
 
-/// Whether this octet is a hexadecimal digit, of either case.
-fn is_digit(octet: u8) -> bool
-    ensures { result ≡ is_hex_digit octet }
-{
-    matches!(octet, b'0'..=b'9' | b'A'..=b'F' | b'a'..=b'f')
-}
-
-/// Whether HEX spells bytes: an even number of hexadecimal digits. It takes no memory.
-fn is_hex(hex: &str) -> bool
-    ensures { IsTrue result ↔ IsHex hex.now }
-{
-    hex.len() % 2 == 0 && hex.bytes().all(is_digit)
-}
-
 /// The bytes that HEX spells. Its digits are judged before memory is asked for.
-fn bytes_of<A: Allocator + Copy>(heap: A, hex: &str) -> Result<Vec<u8, A>, Refusal>
-    ensures { MatchResult result (λ bytes. decode_of hex.now ≡ Ok bytes.items) (λ refusal. IsUnspelled hex.now refusal) }
+fn bytes_of<A: Allocator>(heap: A, hex: &str) -> Result<Vec<u8, A>, Refusal>
+    ensures { MatchResult result (λ bytes. spelled_by hex.now ≡ Some bytes.items) (λ refusal. IsUnspelled hex.now refusal) }
 {
-    if !is_hex(hex) {
-        return Err(Refusal::BadHex);
-    }
-    match hex::decode(heap, hex) {
-        Ok(bytes) => Ok(bytes),
-        Err(_) => Err(Refusal::OutOfMemory),
-    }
+    hex_octets(heap, hex)?.ok_or(Refusal::BadHex)
 }
 
 /// The text that is asked for, and its verdict.
@@ -57,43 +34,6 @@ fn text_of<A: Allocator + Copy>(heap: A, request: Request<'_>) -> Result<Shown<A
         Request::Canon(hex) => canon_text(heap, bytes_of(heap, hex)?.as_slice())?,
     };
     Ok(shown)
-}
-
-/// Writes a front of the text by one write, and tells its length, 0 where the write was interrupted;
-/// None where it failed.
-fn write_front<W: Write>(out: &mut W, text: &[u8]) -> Option<usize>
-    ensures bound { IfSome result (λ count. count ≤ length text.now) }
-    ensures written { Appends (W.contents out.old) (W.contents out.new) (take (unwrap_or result 0) text.now) }
-{
-    match out.write(text) {
-        Ok(0) => None,
-        Ok(count) => Some(count),
-        Err(error) if error.kind() == ErrorKind::Interrupted => Some(0),
-        Err(_) => None,
-    }
-}
-
-/// Writes the text; where a write fails, a front of it was written, and never all of it.
-fn write_text<W: Write>(out: &mut W, text: &[u8]) -> Result<(), Refusal>
-    ensures { MatchResult result
-        (λ _. Appends (W.contents out.old) (W.contents out.new) text.now)
-        (λ refusal. (refusal ≡ Refusal.WriteFailed) × IsFront text.now (W.contents out.old) (W.contents out.new)) }
-{
-    let mut rest = text;
-    for _ in 0..u64::MAX {
-        if rest.is_empty() {
-            break;
-        }
-        let Some(count) = write_front(out, rest) else {
-            break;
-        };
-        rest = &rest[count..];
-    }
-    if rest.is_empty() {
-        Ok(())
-    } else {
-        Err(Refusal::WriteFailed)
-    }
 }
 
 /// Writes the text that is asked for, and tells its verdict.

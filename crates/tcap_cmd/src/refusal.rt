@@ -1,4 +1,5 @@
 use ber_core::OutOfMemory;
+use tcap_text::WriteFailed;
 
 /// Why a run of the command came to no verdict: the line on standard error, and status 2.
 #[derive(Clone, Copy, Debug, PartialEq, Eq)]
@@ -38,5 +39,16 @@ impl From<OutOfMemory> for Refusal {
 
     fn from(_error: OutOfMemory) -> Refusal {
         Refusal::OutOfMemory
+    }
+}
+
+impl From<WriteFailed> for Refusal {
+    ghost use Rattle.std.specs.Prelude.{◌≡◌};
+    ghost use Rattle.tcap_cmd.specs.declared.refusal.Refusal.TheVariants as refusal;
+
+    ghost from_gives = { λ _ r. r ≡ refusal.WriteFailed };
+
+    fn from(_error: WriteFailed) -> Refusal {
+        Refusal::WriteFailed
     }
 }

@@ -1,0 +1,9 @@
+pub mod CanonicalComponents
+pub mod CanonicalFaults
+pub mod CanonicalFrame
+pub mod CanonicalTwice
+pub mod ItemLines
+pub mod MessageSteps
+pub mod PrintedHex
+pub mod TextSteps
+pub mod WrittenFronts

@@ -1,0 +1,9 @@
+use Rattle.std.proofs.lemmas.Result.{err_from_is_err_and}
+use Rattle.tcap_pdu.specs.FrameViews.{message}
+use Rattle.tcap_text.proofs.CanonicalFrame.{components_fault}
+use Rattle.tcap_text.proofs.canon.rewrite_frame.Goals as goal
+
+pub returns-in_err-components-clause-err : goal.returns-in_err-components-clause-err
+returns-in_err-components-clause-err g c =
+    let p = err_from_is_err_and c.from_residual-in_err-components.result c.from_residual-in_err-components.ensures.1 in
+    rw (p.1, p.2) (components_fault (message c.args.frame) c.components.result.now c.in_err-components.field-0.0 c.components.ensures.exact c.in_err-components.ensures.err)

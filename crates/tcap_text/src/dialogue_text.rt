@@ -1,0 +1,107 @@
+ghost use Rattle.std.specs.Prelude.{◌≡◌, ◌++◌, OnOk, IfOk, string_bytes};
+ghost use Rattle.tcap_pdu.specs.DialogueViews.{pdu_value, source};
+ghost use Rattle.tcap_text.specs.Text.{inner_line};
+ghost use Rattle.tcap_text.specs.DialogueText.{request_words, diagnostic_words, pdu_words, portion_words};
+
+use crate::text::{octets_or_dash, yes_or_no};
+use ber_core::OutOfMemory;
+use std::alloc::Allocator;
+use tcap_pdu::{Diagnostic, DialoguePdu, read_dialogue};
+
+/// The words of an AARQ or an AUDT behind its name.
+fn request_text<A: Allocator + Copy>(
+    alloc: A,
+    version1: bool,
+    context: &[u8],
+    info: &[u8],
+) -> Result<String<A>, OutOfMemory>
+    ensures { IfOk result (λ words. string_bytes words ≡ request_words version1 context.now info.now) }
+{
+    let version = yes_or_no(version1);
+    let context = hex::encode(alloc, context)?;
+    let info = octets_or_dash(alloc, info)?;
+    Ok(format!(in alloc; " version {version} context {context} info {info}")?)
+}
+
+/// The words of a diagnostic.
+fn diagnostic_text<A: Allocator + Copy>(
+    alloc: A,
+    diagnostic: Diagnostic,
+) -> Result<String<A>, OutOfMemory>
+    ensures { IfOk result (λ words. string_bytes words ≡ diagnostic_words (source diagnostic)) }
+{
+    match diagnostic {
+        Diagnostic::User(number) => Ok(format!(in alloc; "user {number}")?),
+        Diagnostic::Provider(number) => Ok(format!(in alloc; "provider {number}")?),
+    }
+}
+
+/// The words of a dialogue PDU.
+pub fn pdu_text<A: Allocator + Copy>(
+    alloc: A,
+    pdu: &DialoguePdu<'_>,
+) -> Result<String<A>, OutOfMemory>
+    ensures { IfOk result (λ words. string_bytes words ≡ pdu_words (pdu_value pdu.now)) }
+{
+    match pdu {
+        DialoguePdu::Aarq {
+            version1,
+            context,
+            info,
+        } => {
+            let request = request_text(alloc, *version1, context, info)?;
+            Ok(format!(in alloc; "aarq{request}")?)
+        }
+        DialoguePdu::Audt {
+            version1,
+            context,
+            info,
+        } => {
+            let request = request_text(alloc, *version1, context, info)?;
+            Ok(format!(in alloc; "audt{request}")?)
+        }
+        DialoguePdu::Aare {
+            version1,
+            context,
+            accepted,
+            diagnostic,
+            info,
+        } => {
+            let version = yes_or_no(*version1);
+            let context = hex::encode(alloc, *context)?;
+            let answer: u8 = if *accepted { 0 } else { 1 };
+            let diagnostic = diagnostic_text(alloc, *diagnostic)?;
+            let info = octets_or_dash(alloc, info)?;
+            Ok(format!(in alloc;
+                "aare version {version} context {context} result {answer} {diagnostic} info {info}"
+            )?)
+        }
+        DialoguePdu::Abrt { by_provider, info } => {
+            let by = if *by_provider { "provider" } else { "user" };
+            let info = octets_or_dash(alloc, info)?;
+            Ok(format!(in alloc; "abrt {by} info {info}")?)
+        }
+        DialoguePdu::Foreign { external } => {
+            let external = hex::encode(alloc, *external)?;
+            Ok(format!(in alloc; "foreign {external}")?)
+        }
+    }
+}
+
+/// Adds the line under a dialogue portion with these contents.
+pub fn add_portion<A: Allocator + Copy>(
+    alloc: A,
+    text: &mut String<A>,
+    content: &[u8],
+) -> Result<(), OutOfMemory>
+    ensures { OnOk result (string_bytes text.new ≡ string_bytes text.old ++ inner_line (portion_words content.now)) }
+{
+    match read_dialogue(content) {
+        Ok(pdu) => {
+            let words = pdu_text(alloc, &pdu)?;
+            write!(text, "    {words}\n")?;
+        }
+        Err(_) => write!(text, "    faulty\n")?,
+    }
+    Ok(())
+}
