@@ -1,0 +1,5 @@
+//! Play: two engines, and the messages between them.
+//!
+//! Stands on `tcap_engine` and all below it, on `tcap_text` for the words of its texts, and on `hex`.
+#![tactic(auto)]
+
