@@ -5,5 +5,6 @@ pub mod CanonicalTwice
 pub mod ItemLines
 pub mod MessageSteps
 pub mod PrintedHex
+pub mod SpelledWords
 pub mod TextSteps
 pub mod WrittenFronts
