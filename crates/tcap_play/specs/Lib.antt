@@ -1,0 +1,4 @@
+pub mod AnswerText
+pub mod OutputParts
+pub mod OutputText
+pub mod SideView

@@ -3,3 +3,6 @@
 //! Stands on `tcap_engine` and all below it, on `tcap_text` for the words of its texts, and on `hex`.
 #![tactic(auto)]
 
+mod answer_text;
+mod output_text;
+mod side;

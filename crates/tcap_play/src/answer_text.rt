@@ -1,0 +1,73 @@
+//! The lines of an answer.
+
+ghost use Rattle.std.specs.Prelude.{◌≡◌, ◌≤◌, ◌++◌, [], ◌∷◌, OnOk, string_bytes};
+ghost use Rattle.tcap_dialogue.specs.OutputViews.{shown, all_shown};
+ghost use Rattle.tcap_engine.specs.EventViews.{answer_view};
+ghost use Rattle.tcap_play.specs.AnswerText.{sends_in, output_lines, answer_lines};
+ghost use Rattle.tcap_play.specs.SideView.{side_view};
+
+use crate::output_text::{add_line, add_output};
+use crate::side::Side;
+use ber_core::OutOfMemory;
+use std::alloc::Allocator;
+use tcap_engine::{Answer, Output};
+
+/// How many messages an output sends, one or none.
+fn sends<A: Allocator + Copy>(output: &Output<'_, A>) -> u128
+    ensures sends { result ≡ sends_in (shown output.now ∷ []) }
+    ensures few { result ≤ 1 }
+{
+    match output {
+        Output::Send(_) => 1,
+        Output::Uni { .. } | Output::Begin { .. } | Output::Continue { .. } => 0,
+        Output::End { .. } | Output::UAbort { .. } | Output::PAbort { .. } => 0,
+        Output::Invoked { .. } | Output::ResultMore { .. } | Output::ResultLast { .. } => 0,
+        Output::LocalReject { .. } | Output::RemoteReject { .. } | Output::Rejected { .. } => 0,
+        Output::ErrorBack { .. } | Output::Lapsed { .. } | Output::Ended { .. } => 0,
+        Output::Dropped(_) => 0,
+    }
+}
+
+/// Adds the lines of the outputs of a side that has sent so many messages before them.
+fn add_outputs<A: Allocator + Copy>(
+    alloc: A,
+    text: &mut String<A>,
+    side: Side,
+    sent: usize,
+    outputs: &[Output<'_, A>],
+) -> Result<(), OutOfMemory>
+    ensures { OnOk result (string_bytes text.new ≡ string_bytes text.old ++ output_lines (side_view side) sent (all_shown outputs.now)) }
+{
+    // The number of a message is above a usize where `sent` is the highest.
+    let mut count = sent as u128;
+    for output in outputs {
+        add_output(alloc, text, side, count + 1, output)?;
+        count += sends(output);
+    }
+    Ok(())
+}
+
+/// Adds the lines of an answer of a side that has sent so many messages before it: its outputs one by
+/// one, every other answer in one line.
+pub fn add_answer<A: Allocator + Copy>(
+    alloc: A,
+    text: &mut String<A>,
+    side: Side,
+    sent: usize,
+    answer: &Answer<'_, A>,
+) -> Result<(), OutOfMemory>
+    ensures { OnOk result (string_bytes text.new ≡ string_bytes text.old ++ answer_lines (side_view side) sent (answer_view answer.now)) }
+{
+    let words = match answer {
+        Answer::NewDialogue(dialogue) => format!(in alloc; "new {dialogue}")?,
+        Answer::Number(number) => format!(in alloc; "number {number}")?,
+        Answer::Done => format!(in alloc; "done")?,
+        Answer::GivenUp(number) => format!(in alloc; "givenup {number}")?,
+        Answer::Outputs(outputs) => return add_outputs(alloc, text, side, sent, outputs),
+        Answer::Refused(fault) => {
+            let number = fault.number();
+            format!(in alloc; "refused {number}")?
+        }
+    };
+    add_line(text, side, &words)
+}
