@@ -21,7 +21,7 @@ const REFUSED: u8 = 2;
 fn bytes_of<A: Allocator>(heap: A, hex: &str) -> Result<Vec<u8, A>, Refusal>
     ensures { MatchResult result (λ bytes. spelled_by hex.now ≡ Some bytes.items) (λ refusal. IsUnspelled hex.now refusal) }
 {
-    hex_octets(heap, hex)?.ok_or(Refusal::BadHex)
+    hex_octets(heap, hex.as_bytes())?.ok_or(Refusal::BadHex)
 }
 
 /// The text that is asked for, and its verdict.

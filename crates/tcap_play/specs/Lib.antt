@@ -1,4 +1,9 @@
 pub mod AnswerText
+pub mod LineViews
+pub mod Numbers
 pub mod OutputParts
 pub mod OutputText
+pub mod Pieces
+pub mod ScriptLine
+pub mod ScriptWords
 pub mod SideView

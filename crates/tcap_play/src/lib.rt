@@ -4,5 +4,8 @@
 #![tactic(auto)]
 
 mod answer_text;
+mod numbers;
 mod output_text;
+mod pieces;
+mod script;
 mod side;

@@ -13,16 +13,16 @@ fn is_digit(octet: u8) -> bool
 }
 
 /// Whether the word spells octets: an even number of hexadecimal digits. It takes no memory.
-fn is_hex(hex: &str) -> bool
+fn is_hex(hex: &[u8]) -> bool
     ensures { IsTrue result ↔ IsHex hex.now }
 {
-    hex.len() % 2 == 0 && hex.bytes().all(is_digit)
+    hex.len() % 2 == 0 && hex.iter().copied().all(is_digit)
 }
 
 /// The octets that a word of hexadecimal spells, None where it spells none: where it has another
 /// character than the digits, of either case, or an odd number of them. Its digits are judged before
 /// memory is asked for, so want of memory is answered only for a word that spells octets.
-pub fn hex_octets<A: Allocator>(alloc: A, hex: &str) -> Result<Option<Vec<u8, A>>, OutOfMemory>
+pub fn hex_octets<A: Allocator>(alloc: A, hex: &[u8]) -> Result<Option<Vec<u8, A>>, OutOfMemory>
     ensures value { IfOk result (λ octets. option_map (λ o. o.items) octets ≡ spelled_by hex.now) }
     ensures err { OnErr result (is_some (spelled_by hex.now) ≡ true) }
 {
