@@ -25,6 +25,16 @@ abbrev pub output_lines : Engine → ℕ → List Output → List ℕ
 output_lines engine sent [] = []
 output_lines engine sent (output ∷ outputs) = output_line engine (sent + 1) output ++ output_lines engine (sent + sends_in (output ∷ [])) outputs
 
+-- Whether an answer prints nothing: it has no outputs (own).
+abbrev pub prints_nothing : Answer → Bool
+prints_nothing (Answer.new_dialogue dialogue) = false
+prints_nothing (Answer.number number) = false
+prints_nothing Answer.done = false
+prints_nothing (Answer.given_up number) = false
+prints_nothing (Answer.outputs []) = true
+prints_nothing (Answer.outputs (output ∷ outputs)) = false
+prints_nothing (Answer.refused fault) = false
+
 -- The lines of an answer of an engine that has sent so many messages before it: its outputs one by one,
 -- and every other answer in one line (own).
 abbrev pub answer_lines : Engine → ℕ → Answer → List ℕ

@@ -1,9 +1,10 @@
 //! The lines of an answer.
 
-ghost use Rattle.std.specs.Prelude.{◌≡◌, ◌≤◌, ◌++◌, [], ◌∷◌, OnOk, string_bytes};
+ghost use Rattle.std.specs.Prelude.{◌≡◌, ◌≤◌, false, ◌++◌, [], ◌∷◌, OnOk, OnErr, string_bytes};
 ghost use Rattle.tcap_dialogue.specs.OutputViews.{shown, all_shown};
 ghost use Rattle.tcap_engine.specs.EventViews.{answer_view};
-ghost use Rattle.tcap_play.specs.AnswerText.{sends_in, output_lines, answer_lines};
+ghost use Rattle.tcap_model.specs.Words.Answer as model;
+ghost use Rattle.tcap_play.specs.AnswerText.{prints_nothing, sends_in, output_lines, answer_lines};
 ghost use Rattle.tcap_play.specs.SideView.{side_view};
 
 use crate::output_text::{add_line, add_output};
@@ -36,7 +37,8 @@ fn add_outputs<A: Allocator + Copy>(
     sent: usize,
     outputs: &[Output<'_, A>],
 ) -> Result<(), OutOfMemory>
-    ensures { OnOk result (string_bytes text.new ≡ string_bytes text.old ++ output_lines (side_view side) sent (all_shown outputs.now)) }
+    ensures lines { OnOk result (string_bytes text.new ≡ string_bytes text.old ++ output_lines (side_view side) sent (all_shown outputs.now)) }
+    ensures err { OnErr result (prints_nothing (model.Answer.outputs (all_shown outputs.now)) ≡ false) }
 {
     // The number of a message is above a usize where `sent` is the highest.
     let mut count = sent as u128;
@@ -56,7 +58,9 @@ pub fn add_answer<A: Allocator + Copy>(
     sent: usize,
     answer: &Answer<'_, A>,
 ) -> Result<(), OutOfMemory>
-    ensures { OnOk result (string_bytes text.new ≡ string_bytes text.old ++ answer_lines (side_view side) sent (answer_view answer.now)) }
+    ensures lines { OnOk result (string_bytes text.new ≡ string_bytes text.old ++ answer_lines (side_view side) sent (answer_view answer.now)) }
+    // Memory is wanting only where something is printed.
+    ensures err { OnErr result (prints_nothing (answer_view answer.now) ≡ false) }
 {
     let words = match answer {
         Answer::NewDialogue(dialogue) => format!(in alloc; "new {dialogue}")?,
