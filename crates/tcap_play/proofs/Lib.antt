@@ -1,0 +1,3 @@
+pub mod FirstPieces
+pub mod Numerals
+pub mod WordCounts

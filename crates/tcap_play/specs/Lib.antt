@@ -3,6 +3,7 @@ pub mod LineViews
 pub mod Numbers
 pub mod OutputParts
 pub mod OutputText
+pub mod Play
 pub mod Pieces
 pub mod ScriptLine
 pub mod ScriptWords

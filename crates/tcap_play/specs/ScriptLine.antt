@@ -1,5 +1,6 @@
 -- What the lines of a script ask for.
 use Rattle.std.specs.Prelude.{ℕ, ◌==◌, Bool, false, List, [], ◌∷◌, Option, Some, None, codes, bytes_eq, if◌then◌else◌}
+use Rattle.std.specs.Option.{option_map}
 use Rattle.ber_core.specs.Options.{◌>>=◌}
 use Rattle.tcap_model.specs.Statements.Net.{Engine}
 use Rattle.tcap_model.specs.Words.Event.{Event}
@@ -21,6 +22,10 @@ called_on side event = do
   engine ← engine_of side
   Some (ScriptLine.call engine event)
 
+-- Octets that the engine of a letter receives (own).
+abbrev pub received_on : List ℕ → List ℕ → Option ScriptLine
+received_on side octets = called_on side (Event.received octets)
+
 -- A request on a dialogue of the engine of a letter (own).
 abbrev pub asked_on : List ℕ → List ℕ → Request → Option ScriptLine
 asked_on side dialogue request = do
@@ -30,16 +35,22 @@ asked_on side dialogue request = do
 
 -- ---- requests
 
+-- The request of dialogue handling of this name (own).
+abbrev pub portion_request_named : List ℕ → Option (List ℕ) → List ℕ → Option DialogueRequest
+portion_request_named name context information =
+    if bytes_eq name (codes "uni") then Some (DialogueRequest.uni context information)
+    else if bytes_eq name (codes "begin") then Some (DialogueRequest.begin context information)
+    else if bytes_eq name (codes "continue") then Some (DialogueRequest.go_on context information)
+    else if bytes_eq name (codes "end") then Some (DialogueRequest.finish Ending.basic context information)
+    else None
+
 -- A request of dialogue handling with a context and user information (own).
 abbrev pub portion_request_of : List ℕ → List ℕ → List ℕ → Option Request
 portion_request_of name context information = do
   context ← optional_octets_of context
   information ← octets_of information
-  if bytes_eq name (codes "uni") then Some (Request.dialogue (DialogueRequest.uni context information))
-  else if bytes_eq name (codes "begin") then Some (Request.dialogue (DialogueRequest.begin context information))
-  else if bytes_eq name (codes "continue") then Some (Request.dialogue (DialogueRequest.go_on context information))
-  else if bytes_eq name (codes "end") then Some (Request.dialogue (DialogueRequest.finish Ending.basic context information))
-  else None
+  request ← portion_request_named name context information
+  Some (Request.dialogue request)
 
 -- A request to abort, for a reason (own).
 abbrev pub abort_request_of : List ℕ → List ℕ → Option Request
@@ -48,13 +59,25 @@ abort_request_of reason information = do
   information ← octets_of information
   Some (Request.dialogue (DialogueRequest.u_abort reason information))
 
--- A result, the last or not, with a body or none (own).
-abbrev pub result_request_of : List ℕ → List ℕ → List ℕ → List ℕ → Option Request
-result_request_of name id code parameter = do
+-- The last result, with a body or none (own).
+abbrev pub last_request_of : List ℕ → List ℕ → List ℕ → Option Request
+last_request_of id code parameter = do
   id ← identifier_of id
   body ← body_of code parameter
-  if bytes_eq name (codes "last") then Some (Request.component (ComponentRequest.result_last id body))
-  else Some (Request.component (ComponentRequest.result_more id body))
+  Some (Request.component (ComponentRequest.result_last id body))
+
+-- A result that isn't the last, with a body or none (own).
+abbrev pub more_request_of : List ℕ → List ℕ → List ℕ → Option Request
+more_request_of id code parameter = do
+  id ← identifier_of id
+  body ← body_of code parameter
+  Some (Request.component (ComponentRequest.result_more id body))
+
+-- That the user gives an invocation up (own).
+abbrev pub cancel_request_of : List ℕ → Option Request
+cancel_request_of id = do
+  id ← identifier_of id
+  Some (Request.component (ComponentRequest.u_cancel id))
 
 -- An error (own).
 abbrev pub error_request_of : List ℕ → List ℕ → List ℕ → Option Request
@@ -87,17 +110,17 @@ invoke_request_of id class code timeout linked parameter = do
 -- `S new`, `deliver M`, `again M`, `lose M`, `advance MS` (own).
 abbrev pub line_of_two : List ℕ → List ℕ → Option ScriptLine
 line_of_two first second =
-    if bytes_eq first (codes "deliver") then name_of second >>= λ name. Some (ScriptLine.deliver name)
-    else if bytes_eq first (codes "again") then name_of second >>= λ name. Some (ScriptLine.again name)
-    else if bytes_eq first (codes "lose") then name_of second >>= λ name. Some (ScriptLine.lose name)
-    else if bytes_eq first (codes "advance") then milliseconds_of second >>= λ now. Some (ScriptLine.advance now)
+    if bytes_eq first (codes "deliver") then option_map (λ name. ScriptLine.deliver name) (name_of second)
+    else if bytes_eq first (codes "again") then option_map (λ name. ScriptLine.again name) (name_of second)
+    else if bytes_eq first (codes "lose") then option_map (λ name. ScriptLine.lose name) (name_of second)
+    else if bytes_eq first (codes "advance") then option_map (λ now. ScriptLine.advance now) (milliseconds_of second)
     else if bytes_eq second (codes "new") then called_on first Event.new_dialogue
     else None
 
 -- `S raw HEX`, `S prearranged D` (own).
 abbrev pub line_of_three : List ℕ → List ℕ → List ℕ → Option ScriptLine
 line_of_three side name word =
-    if bytes_eq name (codes "raw") then octets_of word >>= λ octets. called_on side (Event.received octets)
+    if bytes_eq name (codes "raw") then octets_of word >>= received_on side
     else if bytes_eq name (codes "prearranged")
         then asked_on side word (Request.dialogue (DialogueRequest.finish Ending.prearranged None []))
     else None
@@ -106,7 +129,7 @@ line_of_three side name word =
 abbrev pub line_of_four : List ℕ → List ℕ → List ℕ → List ℕ → Option ScriptLine
 line_of_four side name dialogue id =
     if bytes_eq name (codes "cancel")
-        then identifier_of id >>= λ id. asked_on side dialogue (Request.component (ComponentRequest.u_cancel id))
+        then cancel_request_of id >>= asked_on side dialogue
     else None
 
 -- `S begin D CONTEXT INFO`, and `uni`, `continue`, `end`; `S abort D user INFO`, `S abort D unsupported INFO`
@@ -120,11 +143,16 @@ line_of_five side name dialogue word information =
 -- (own).
 abbrev pub line_of_six : List ℕ → List ℕ → List ℕ → List ℕ → List ℕ → List ℕ → Option ScriptLine
 line_of_six side name dialogue id word last =
-    if bytes_eq name (codes "last") then result_request_of name id word last >>= asked_on side dialogue
-    else if bytes_eq name (codes "more") then result_request_of name id word last >>= asked_on side dialogue
+    if bytes_eq name (codes "last") then last_request_of id word last >>= asked_on side dialogue
+    else if bytes_eq name (codes "more") then more_request_of id word last >>= asked_on side dialogue
     else if bytes_eq name (codes "error") then error_request_of id word last >>= asked_on side dialogue
     else if bytes_eq name (codes "reject") then reject_request_of id word last >>= asked_on side dialogue
     else None
+
+-- `S invoke D ID CLASS CODE TIMEOUT LINKED PARAM`, whose last six words ask for this request (own).
+abbrev pub line_of_nine : List ℕ → List ℕ → List ℕ → Option Request → Option ScriptLine
+line_of_nine side name dialogue request =
+    if bytes_eq name (codes "invoke") then request >>= asked_on side dialogue else None
 
 -- What the words of a line ask for; none where they have no form of a script (own).
 abbrev pub line_of : List (List ℕ) → Option ScriptLine
@@ -134,7 +162,5 @@ line_of (side ∷ name ∷ dialogue ∷ id ∷ []) = line_of_four side name dial
 line_of (side ∷ name ∷ dialogue ∷ word ∷ information ∷ []) = line_of_five side name dialogue word information
 line_of (side ∷ name ∷ dialogue ∷ id ∷ word ∷ last ∷ []) = line_of_six side name dialogue id word last
 line_of (side ∷ name ∷ dialogue ∷ id ∷ class ∷ code ∷ timeout ∷ linked ∷ parameter ∷ []) =
-    if bytes_eq name (codes "invoke")
-        then invoke_request_of id class code timeout linked parameter >>= asked_on side dialogue
-    else None
+    line_of_nine side name dialogue (invoke_request_of id class code timeout linked parameter)
 line_of words = None

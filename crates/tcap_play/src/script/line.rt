@@ -4,12 +4,13 @@ ghost use Rattle.std.specs.Prelude.{◌≡◌, option_map};
 ghost use Rattle.tcap_dialogue.specs.RequestViews.{request_view};
 ghost use Rattle.tcap_engine.specs.EventViews.{event_view};
 ghost use Rattle.tcap_play.specs.LineViews.{line_view, text_of, texts_of};
-ghost use Rattle.tcap_play.specs.ScriptLine.{called_on, asked_on, line_of_two, line_of_three, line_of_four, line_of_five, line_of_six, line_of};
+ghost use Rattle.tcap_play.specs.ScriptLine.{called_on, asked_on, line_of_two, line_of_three, line_of_four, line_of_five, line_of_six, line_of_nine, line_of};
 
 use crate::script::requests::{
-    abort_request, error_request, invoke_request, portion_request, reject_request, result_request,
+    abort_request, cancel_request, error_request, invoke_request, last_request, more_request,
+    portion_request, reject_request,
 };
-use crate::script::values::{Name, dialogue, identifier, milliseconds, name, octets, side};
+use crate::script::values::{Name, dialogue, is, message_name, milliseconds, octets, side};
 use crate::script::word::Word;
 use crate::side::Side;
 use std::alloc::Allocator;
@@ -33,7 +34,7 @@ pub(crate) enum Line<'w> {
 
 /// A call on the engine of a letter.
 fn called_on<'w>(side_word: &[u8], event: Event<'w>) -> Option<Line<'w>>
-    ensures { option_map line_view result ≡ called_on side_word.now (event_view event) }
+    ensures { option_map line_view result ≡ called_on side_word.now (event_view event.entry) }
 {
     Some(Line::Call(side(side_word)?, event))
 }
@@ -44,7 +45,7 @@ fn asked_on<'w>(
     dialogue_word: &[u8],
     request: Request<'w>,
 ) -> Option<Line<'w>>
-    ensures { option_map line_view result ≡ asked_on side_word.now dialogue_word.now (request_view request) }
+    ensures { option_map line_view result ≡ asked_on side_word.now dialogue_word.now (request_view request.entry) }
 {
     let side = side(side_word)?;
     let dialogue = dialogue(dialogue_word)?;
@@ -55,13 +56,18 @@ fn asked_on<'w>(
 fn line_of_two<'w>(first: &[u8], second: &[u8]) -> Option<Line<'w>>
     ensures { option_map line_view result ≡ line_of_two first.now second.now }
 {
-    match (first, second) {
-        (b"deliver", _) => Some(Line::Deliver(name(second)?)),
-        (b"again", _) => Some(Line::Again(name(second)?)),
-        (b"lose", _) => Some(Line::Lose(name(second)?)),
-        (b"advance", _) => Some(Line::Advance(milliseconds(second)?)),
-        (_, b"new") => called_on(first, Event::NewDialogue),
-        _ => None,
+    if is(first, "deliver") {
+        Some(Line::Deliver(message_name(second)?))
+    } else if is(first, "again") {
+        Some(Line::Again(message_name(second)?))
+    } else if is(first, "lose") {
+        Some(Line::Lose(message_name(second)?))
+    } else if is(first, "advance") {
+        Some(Line::Advance(milliseconds(second)?))
+    } else if is(second, "new") {
+        called_on(first, Event::NewDialogue)
+    } else {
+        None
     }
 }
 
@@ -73,17 +79,17 @@ fn line_of_three<'w, A: Allocator>(
 ) -> Option<Line<'w>>
     ensures { option_map line_view result ≡ line_of_three side.now name.now (text_of word.entry.now) }
 {
-    match name {
-        b"raw" => called_on(side, Event::Bytes(octets(word)?)),
-        b"prearranged" => {
-            let request = Request::End {
-                ending: Ending::Prearranged,
-                context: None,
-                info: &[],
-            };
-            asked_on(side, word.text, request)
-        }
-        _ => None,
+    if is(name, "raw") {
+        called_on(side, Event::Bytes(octets(word)?))
+    } else if is(name, "prearranged") {
+        let request = Request::End {
+            ending: Ending::Prearranged,
+            context: None,
+            info: &[],
+        };
+        asked_on(side, word.text, request)
+    } else {
+        None
     }
 }
 
@@ -91,12 +97,10 @@ fn line_of_three<'w, A: Allocator>(
 fn line_of_four<'w>(side: &[u8], name: &[u8], dialogue: &[u8], id: &[u8]) -> Option<Line<'w>>
     ensures { option_map line_view result ≡ line_of_four side.now name.now dialogue.now id.now }
 {
-    match name {
-        b"cancel" => {
-            let id = identifier(id)?;
-            asked_on(side, dialogue, Request::Cancel { id })
-        }
-        _ => None,
+    if is(name, "cancel") {
+        asked_on(side, dialogue, cancel_request(id)?)
+    } else {
+        None
     }
 }
 
@@ -111,9 +115,10 @@ fn line_of_five<'w, A: Allocator>(
 ) -> Option<Line<'w>>
     ensures { option_map line_view result ≡ line_of_five side.now name.now dialogue.now (text_of word.entry.now) (text_of information.entry.now) }
 {
-    let request = match name {
-        b"abort" => abort_request(word.text, information)?,
-        _ => portion_request(name, word, information)?,
+    let request = if is(name, "abort") {
+        abort_request(word.text, information)?
+    } else {
+        portion_request(name, word, information)?
     };
     asked_on(side, dialogue, request)
 }
@@ -130,46 +135,59 @@ fn line_of_six<'w, A: Allocator>(
 ) -> Option<Line<'w>>
     ensures { option_map line_view result ≡ line_of_six side.now name.now dialogue.now id.now (text_of word.entry.now) (text_of last.entry.now) }
 {
-    let request = match name {
-        b"last" => result_request(name, id, word, last)?,
-        b"more" => result_request(name, id, word, last)?,
-        b"error" => error_request(id, word.text, last)?,
-        b"reject" => reject_request(id, word.text, last.text)?,
-        _ => return None,
+    let request = if is(name, "last") {
+        last_request(id, word, last)?
+    } else if is(name, "more") {
+        more_request(id, word, last)?
+    } else if is(name, "error") {
+        error_request(id, word.text, last)?
+    } else if is(name, "reject") {
+        reject_request(id, word.text, last.text)?
+    } else {
+        return None;
     };
     asked_on(side, dialogue, request)
+}
+
+/// `S invoke D ID CLASS CODE TIMEOUT LINKED PARAM`, whose last six words ask for this request.
+fn line_of_nine<'w>(
+    side: &[u8],
+    name: &[u8],
+    dialogue: &[u8],
+    request: Option<Request<'w>>,
+) -> Option<Line<'w>>
+    ensures { option_map line_view result ≡ line_of_nine side.now name.now dialogue.now (option_map request_view request.entry) }
+{
+    if is(name, "invoke") {
+        asked_on(side, dialogue, request?)
+    } else {
+        None
+    }
 }
 
 /// What the words of a line ask for; None where they have no form of a script.
 pub(crate) fn line_of<'w, A: Allocator>(words: &'w [Word<'_, A>]) -> Option<Line<'w>>
     ensures { option_map line_view result ≡ line_of (texts_of words.entry.now) }
 {
-    match words {
-        [first, second] => line_of_two(first.text, second.text),
-        [side, name, word] => line_of_three(side.text, name.text, word),
-        [side, name, dialogue, id] => {
-            line_of_four(side.text, name.text, dialogue.text, id.text)
-        }
-        [side, name, dialogue, word, information] => {
-            line_of_five(side.text, name.text, dialogue.text, word, information)
-        }
-        [side, name, dialogue, id, word, last] => {
-            line_of_six(side.text, name.text, dialogue.text, id.text, word, last)
-        }
-        [side, name, dialogue, id, class, code, timeout, linked, parameter] => match name.text {
-            b"invoke" => {
-                let request = invoke_request(
-                    id.text,
-                    class.text,
-                    code.text,
-                    timeout.text,
-                    linked.text,
-                    parameter,
-                )?;
-                asked_on(side.text, dialogue.text, request)
-            }
-            _ => None,
-        },
-        _ => None,
+    let count = words.len();
+    if count == 2 {
+        line_of_two(words[0].text, words[1].text)
+    } else if count == 3 {
+        line_of_three(words[0].text, words[1].text, &words[2])
+    } else if count == 4 {
+        line_of_four(words[0].text, words[1].text, words[2].text, words[3].text)
+    } else if count == 5 {
+        let (side, name, dialogue) = (words[0].text, words[1].text, words[2].text);
+        line_of_five(side, name, dialogue, &words[3], &words[4])
+    } else if count == 6 {
+        let (side, name, dialogue) = (words[0].text, words[1].text, words[2].text);
+        line_of_six(side, name, dialogue, words[3].text, &words[4], &words[5])
+    } else if count == 9 {
+        let (id, class, code) = (words[3].text, words[4].text, words[5].text);
+        let (timeout, linked) = (words[6].text, words[7].text);
+        let request = invoke_request(id, class, code, timeout, linked, &words[8]);
+        line_of_nine(words[0].text, words[1].text, words[2].text, request)
+    } else {
+        None
     }
 }

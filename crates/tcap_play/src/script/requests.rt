@@ -3,10 +3,10 @@
 ghost use Rattle.std.specs.Prelude.{◌≡◌, option_map};
 ghost use Rattle.tcap_dialogue.specs.RequestViews.{request_view};
 ghost use Rattle.tcap_play.specs.LineViews.{text_of};
-ghost use Rattle.tcap_play.specs.ScriptLine.{portion_request_of, abort_request_of, result_request_of, error_request_of, reject_request_of, invoke_request_of};
+ghost use Rattle.tcap_play.specs.ScriptLine.{portion_request_of, abort_request_of, last_request_of, more_request_of, cancel_request_of, error_request_of, reject_request_of, invoke_request_of};
 
 use crate::script::values::{
-    body, class, code, identifier, milliseconds, octets, optional_identifier, optional_octets,
+    body, class, code, identifier, is, milliseconds, octets, optional_identifier, optional_octets,
     problem, reason,
 };
 use crate::script::word::Word;
@@ -23,16 +23,17 @@ pub(crate) fn portion_request<'w, A: Allocator>(
 {
     let context = optional_octets(context)?;
     let info = octets(information)?;
-    match name {
-        b"uni" => Some(Request::Uni { context, info }),
-        b"begin" => Some(Request::Begin { context, info }),
-        b"continue" => Some(Request::Continue { context, info }),
-        b"end" => Some(Request::End {
-            ending: Ending::Basic,
-            context,
-            info,
-        }),
-        _ => None,
+    if is(name, "uni") {
+        Some(Request::Uni { context, info })
+    } else if is(name, "begin") {
+        Some(Request::Begin { context, info })
+    } else if is(name, "continue") {
+        Some(Request::Continue { context, info })
+    } else if is(name, "end") {
+        let ending = Ending::Basic;
+        Some(Request::End { ending, context, info })
+    } else {
+        None
     }
 }
 
@@ -49,21 +50,38 @@ pub(crate) fn abort_request<'w, A: Allocator>(
     })
 }
 
-/// A result, the last or not, with a body or none.
-pub(crate) fn result_request<'w, A: Allocator>(
-    name: &[u8],
+/// The last result, with a body or none.
+pub(crate) fn last_request<'w, A: Allocator>(
     id: &[u8],
     code: &'w Word<'_, A>,
     parameter: &'w Word<'_, A>,
 ) -> Option<Request<'w>>
-    ensures { option_map request_view result ≡ result_request_of name.now id.now (text_of code.entry.now) (text_of parameter.entry.now) }
+    ensures { option_map request_view result ≡ last_request_of id.now (text_of code.entry.now) (text_of parameter.entry.now) }
 {
     let id = identifier(id)?;
     let body = body(code, parameter)?;
-    match name {
-        b"last" => Some(Request::ResultLast { id, body }),
-        _ => Some(Request::ResultMore { id, body }),
-    }
+    Some(Request::ResultLast { id, body })
+}
+
+/// A result that isn't the last, with a body or none.
+pub(crate) fn more_request<'w, A: Allocator>(
+    id: &[u8],
+    code: &'w Word<'_, A>,
+    parameter: &'w Word<'_, A>,
+) -> Option<Request<'w>>
+    ensures { option_map request_view result ≡ more_request_of id.now (text_of code.entry.now) (text_of parameter.entry.now) }
+{
+    let id = identifier(id)?;
+    let body = body(code, parameter)?;
+    Some(Request::ResultMore { id, body })
+}
+
+/// That the user gives an invocation up.
+pub(crate) fn cancel_request<'w>(id: &[u8]) -> Option<Request<'w>>
+    ensures { option_map request_view result ≡ cancel_request_of id.now }
+{
+    let id = identifier(id)?;
+    Some(Request::Cancel { id })
 }
 
 /// An error.

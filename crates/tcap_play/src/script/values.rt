@@ -1,6 +1,6 @@
 //! What words stand for.
 
-ghost use Rattle.std.specs.Prelude.{◌≡◌, option_map, option_copied};
+ghost use Rattle.std.specs.Prelude.{◌≡◌, bytes_eq, option_map, option_copied};
 ghost use Rattle.tcap_component.specs.Views.{body_parts, code_parts, problem_parts};
 ghost use Rattle.tcap_dialogue.specs.RequestViews.{reason_view};
 ghost use Rattle.tcap_play.specs.LineViews.{name_view, text_of};
@@ -23,6 +23,13 @@ pub(crate) struct Name {
     pub(crate) number: u64,
 }
 
+/// Whether the word is this one.
+pub(crate) fn is(word: &[u8], name: &str) -> bool
+    ensures { result ≡ bytes_eq word.now name.now }
+{
+    word == name.as_bytes()
+}
+
 /// The side of a letter.
 pub(crate) fn side(word: &[u8]) -> Option<Side>
     ensures { option_map side_view result ≡ engine_of word.now }
@@ -35,7 +42,7 @@ pub(crate) fn side(word: &[u8]) -> Option<Side>
 }
 
 /// The name of a message: its side's letter and its number.
-pub(crate) fn name(word: &[u8]) -> Option<Name>
+pub(crate) fn message_name(word: &[u8]) -> Option<Name>
     ensures { option_map name_view result ≡ name_of word.now }
 {
     let (letter, digits) = word.split_at_checked(1)?;
@@ -146,12 +153,16 @@ pub(crate) fn body<'w, A: Allocator>(
 fn kind(word: &[u8]) -> Option<Kind>
     ensures { result ≡ kind_of word.now }
 {
-    match word {
-        b"general" => Some(Kind::General),
-        b"invoke" => Some(Kind::Invoke),
-        b"result" => Some(Kind::Result),
-        b"error" => Some(Kind::Error),
-        _ => None,
+    if is(word, "general") {
+        Some(Kind::General)
+    } else if is(word, "invoke") {
+        Some(Kind::Invoke)
+    } else if is(word, "result") {
+        Some(Kind::Result)
+    } else if is(word, "error") {
+        Some(Kind::Error)
+    } else {
+        None
     }
 }
 
@@ -167,9 +178,11 @@ pub(crate) fn problem(kind_word: &[u8], code: &[u8]) -> Option<Problem>
 pub(crate) fn reason(word: &[u8]) -> Option<AbortWhy>
     ensures { option_map reason_view result ≡ reason_of word.now }
 {
-    match word {
-        b"user" => Some(AbortWhy::User),
-        b"unsupported" => Some(AbortWhy::NotSupported),
-        _ => None,
+    if is(word, "user") {
+        Some(AbortWhy::User)
+    } else if is(word, "unsupported") {
+        Some(AbortWhy::NotSupported)
+    } else {
+        None
     }
 }
