@@ -4,6 +4,7 @@ pub mod Numbers
 pub mod OutputParts
 pub mod OutputText
 pub mod Play
+pub mod PlayViews
 pub mod Pieces
 pub mod ScriptLine
 pub mod ScriptWords

@@ -4,8 +4,13 @@
 #![tactic(auto)]
 
 mod answer_text;
+mod message;
 mod numbers;
 mod output_text;
 mod pieces;
+mod play;
 mod script;
 mod side;
+mod station;
+
+pub use play::play_text;

@@ -1,8 +1,245 @@
-//! The text of a script.
+//! The play of a script.
 
-ghost use Rattle.std.specs.Prelude.{◌≡◌, IfOk};
-ghost use Rattle.tcap_play.specs.Play.{play_text_of, play_is_good};
+ghost use Rattle.std.specs.Prelude.{◌≡◌, ℕ, List, [], IfOk, OnOk, string_bytes, option_map};
+ghost use Rattle.tcap_engine.specs.EventViews.{event_view};
+ghost use Rattle.tcap_model.specs.Statements.Net.{Engine as Which};
+ghost use Rattle.tcap_model.specs.Table.World.{first_world};
+ghost use Rattle.tcap_model.specs.Words.Event.{Event as Happened};
+ghost use Rattle.tcap_play.specs.LineViews.{line_view, name_view};
+ghost use Rattle.tcap_play.specs.Pieces.{lines_of};
+ghost use Rattle.tcap_play.specs.Play.{Fate as Became, Played, behind, followed, handed, is_skipped, lost_from, octets_at, play_is_good, play_start, play_text_of, printed_from, received_from, sent_by, step, step_by};
+ghost use Rattle.tcap_play.specs.PlayViews.{Does, GoesOn, HasStepped, IsAt, Loses, Receives, fate_view, messages_view};
+ghost use Rattle.tcap_play.specs.SideView.{side_view};
 
+use crate::message::{Fate, octets_if, set_fate};
+use crate::pieces::first_piece;
+use crate::script::line::{Line, line_of};
+use crate::script::values::Name;
+use crate::script::words::words_of;
+use crate::side::Side;
+use crate::station::{Station, hand};
 use ber_core::OutOfMemory;
 use std::alloc::Allocator;
+use tcap_engine::{Engine, Event, Limits};
 use tcap_text::Shown;
+
+/// Hands an event to the engine of a side.
+fn call<A: Allocator + Copy>(
+    alloc: A,
+    side: Side,
+    event: Event<'_>,
+    a: &mut Station<A>,
+    b: &mut Station<A>,
+    text: &mut String<A>,
+) -> Result<(), OutOfMemory>
+    ensures { OnOk result ((p : Played) → IsAt p a.old b.old → HasStepped (handed (side_view side) (event_view event.entry) p) a.new b.new (string_bytes text.old) (string_bytes text.new)) }
+{
+    match side {
+        Side::A => hand(alloc, side, a, event, text),
+        Side::B => hand(alloc, side, b, event, text),
+    }
+}
+
+/// Hands the message with this number, if it is in this state, to the engine of the other side, and
+/// tells whether it did.
+fn receive_from<A: Allocator + Copy>(
+    alloc: A,
+    from: &mut Station<A>,
+    number: u64,
+    fate: Fate,
+    side: Side,
+    to: &mut Station<A>,
+    text: &mut String<A>,
+) -> Result<bool, OutOfMemory>
+    ensures done { IfOk result (λ done. Receives (octets_at (fate_view fate) number (messages_view from.old.sent.items)) number (side_view side) done from.old.sent.items from.new.sent.items to.old to.new (string_bytes text.old) (string_bytes text.new)) }
+    ensures engine { from.new.engine ≡ from.old.engine }
+{
+    let Some(octets) = octets_if(&from.sent, number, fate) else {
+        return Ok(false);
+    };
+    hand(alloc, side, to, Event::Bytes(octets), text)?;
+    set_fate(&mut from.sent, number, Fate::Delivered);
+    Ok(true)
+}
+
+/// Hands the message of this name, if it is in this state, to the engine of the other side, and tells
+/// whether it did.
+fn receive<A: Allocator + Copy>(
+    alloc: A,
+    name: Name,
+    fate: Fate,
+    a: &mut Station<A>,
+    b: &mut Station<A>,
+    text: &mut String<A>,
+) -> Result<bool, OutOfMemory>
+    ensures { IfOk result (λ done. (p : Played) → IsAt p a.old b.old → Does (option_map (received_from (name_view name) Became.delivered p) (octets_at (fate_view fate) name.number (sent_by (side_view name.side) p))) done a.new b.new (string_bytes text.old) (string_bytes text.new)) }
+{
+    let number = name.number;
+    match name.side {
+        Side::A => receive_from(alloc, a, number, fate, Side::B, b, text),
+        Side::B => receive_from(alloc, b, number, fate, Side::A, a, text),
+    }
+}
+
+/// Loses the message with this number, if it waits, and tells whether it did.
+fn lose_from<A: Allocator + Copy>(from: &mut Station<A>, number: u64) -> bool
+    ensures lost { Loses (octets_at Became.waiting number (messages_view from.old.sent.items)) number result from.old.sent.items from.new.sent.items }
+    ensures engine { from.new.engine ≡ from.old.engine }
+{
+    if octets_if(&from.sent, number, Fate::Waiting).is_none() {
+        return false;
+    }
+    set_fate(&mut from.sent, number, Fate::Lost);
+    true
+}
+
+/// Loses the message of this name, if it waits, and tells whether it did.
+fn lose<A: Allocator + Copy>(name: Name, a: &mut Station<A>, b: &mut Station<A>) -> bool
+    ensures { (p : Played) (text : List ℕ) → IsAt p a.old b.old → Does (option_map (lost_from (name_view name) p) (octets_at Became.waiting name.number (sent_by (side_view name.side) p))) result a.new b.new text text }
+{
+    match name.side {
+        Side::A => lose_from(a, name.number),
+        Side::B => lose_from(b, name.number),
+    }
+}
+
+/// Hands the moment to both engines, to A first.
+fn advance<A: Allocator + Copy>(
+    alloc: A,
+    now: u64,
+    a: &mut Station<A>,
+    b: &mut Station<A>,
+    text: &mut String<A>,
+) -> Result<(), OutOfMemory>
+    ensures { OnOk result ((p : Played) → IsAt p a.old b.old → HasStepped (followed (handed Which.a (Happened.moment now) p) (handed Which.b (Happened.moment now))) a.new b.new (string_bytes text.old) (string_bytes text.new)) }
+{
+    call(alloc, Side::A, Event::Moment(now), a, b, text)?;
+    call(alloc, Side::B, Event::Moment(now), a, b, text)
+}
+
+/// Does what a line asks for, and tells whether it could be done.
+fn act<A: Allocator + Copy>(
+    alloc: A,
+    line: Line<'_>,
+    a: &mut Station<A>,
+    b: &mut Station<A>,
+    text: &mut String<A>,
+) -> Result<bool, OutOfMemory>
+    ensures { IfOk result (λ done. (p : Played) → IsAt p a.old b.old → Does (step p (line_view line.entry)) done a.new b.new (string_bytes text.old) (string_bytes text.new)) }
+{
+    match line {
+        Line::Call(side, event) => call(alloc, side, event, a, b, text)?,
+        Line::Deliver(name) => return receive(alloc, name, Fate::Waiting, a, b, text),
+        Line::Again(name) => return receive(alloc, name, Fate::Delivered, a, b, text),
+        Line::Lose(name) => return Ok(lose(name, a, b)),
+        Line::Advance(now) => advance(alloc, now, a, b, text)?,
+    }
+    Ok(true)
+}
+
+/// Does what the line of these octets asks for, and tells whether it could be done.
+fn act_by<A: Allocator + Copy>(
+    alloc: A,
+    line: &[u8],
+    a: &mut Station<A>,
+    b: &mut Station<A>,
+    text: &mut String<A>,
+) -> Result<bool, OutOfMemory>
+    ensures { IfOk result (λ done. (p : Played) → IsAt p a.old b.old → Does (step_by p line.now) done a.new b.new (string_bytes text.old) (string_bytes text.new)) }
+{
+    let words = words_of(alloc, line)?;
+    match line_of(&words) {
+        Some(line) => act(alloc, line, a, b, text),
+        None => Ok(false),
+    }
+}
+
+/// Whether a line is skipped: it is empty or begins with `#`.
+fn is_skipped(line: &[u8]) -> bool
+    ensures { result ≡ is_skipped line.now }
+{
+    matches!(line, [] | [b'#', ..])
+}
+
+/// A side before the first line.
+fn begun<A: Allocator + Copy>(alloc: A) -> Station<A>
+    ensures engine { result.engine ≡ first_world play_start }
+    ensures sent { result.sent.items ≡ [] }
+{
+    let limits = Limits {
+        max_dialogues: 16,
+        reject_ms: 1_000,
+    };
+    Station {
+        engine: Engine::new(alloc, limits),
+        sent: Vec::new(alloc),
+    }
+}
+
+/// Does what a line asks for, whose number this is, and tells whether the play goes on: a bad line is
+/// told of and ends it.
+fn go_on<A: Allocator + Copy>(
+    alloc: A,
+    number: u64,
+    line: &[u8],
+    a: &mut Station<A>,
+    b: &mut Station<A>,
+    text: &mut String<A>,
+) -> Result<bool, OutOfMemory>
+    ensures { IfOk result (λ going. (p : Played) → IsAt p a.old b.old → GoesOn number line.now p going a.new b.new (string_bytes text.old) (string_bytes text.new)) }
+{
+    if is_skipped(line) {
+        return Ok(true);
+    }
+    if act_by(alloc, line, a, b, text)? {
+        return Ok(true);
+    }
+    write!(text, "line {number} bad\n")?;
+    Ok(false)
+}
+
+/// Does what the lines of a script ask for, and tells whether all of them could be done.
+fn play_lines<A: Allocator + Copy>(
+    alloc: A,
+    script: &[u8],
+    a: &mut Station<A>,
+    b: &mut Station<A>,
+    text: &mut String<A>,
+) -> Result<bool, OutOfMemory>
+    ensures { IfOk result (λ good. (p : Played) → IsAt p a.old b.old → behind (string_bytes text.old) (printed_from 1 p (lines_of script.now)) ≡ record { text = string_bytes text.new; good = good }) }
+{
+    let mut number = 0u64;
+    let mut rest = Some(script);
+    while let Some(lines) = rest {
+        let (line, more) = first_piece(lines, b'\n');
+        number += 1;
+        if !go_on(alloc, number, line, a, b, text)? {
+            return Ok(false);
+        }
+        rest = more;
+    }
+    Ok(true)
+}
+
+/// The text of a script, and whether it is good: two engines, A and B, are handed what its lines ask for,
+/// and their answers are printed. A line that has no form of a script, or that names a message which
+/// can't be so treated, ends the play, which isn't good then.
+///
+/// ```rust
+/// let played = tcap_play::play_text(rt.alloc(), b"A new\nA new 1\n")?;
+/// assert_eq!(rt; played.text.as_slice(), b"A new 1\nline 2 bad\n".as_slice());
+/// assert!(rt; !played.good);
+/// ```
+pub fn play_text<A: Allocator + Copy>(alloc: A, script: &[u8]) -> Result<Shown<A>, OutOfMemory>
+    ensures text { IfOk result (λ shown. shown.text.items ≡ play_text_of script.now) }
+    ensures good { IfOk result (λ shown. shown.good ≡ play_is_good script.now) }
+{
+    let mut a = begun(alloc);
+    let mut b = begun(alloc);
+    let mut text = String::new(alloc);
+    let good = play_lines(alloc, script, &mut a, &mut b, &mut text)?;
+    Ok(Shown {
+        text: text.into_bytes(),
+        good,
+    })
+}

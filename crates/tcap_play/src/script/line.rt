@@ -183,9 +183,14 @@ pub(crate) fn line_of<'w, A: Allocator>(words: &'w [Word<'_, A>]) -> Option<Line
         let (side, name, dialogue) = (words[0].text, words[1].text, words[2].text);
         line_of_six(side, name, dialogue, words[3].text, &words[4], &words[5])
     } else if count == 9 {
-        let (id, class, code) = (words[3].text, words[4].text, words[5].text);
-        let (timeout, linked) = (words[6].text, words[7].text);
-        let request = invoke_request(id, class, code, timeout, linked, &words[8]);
+        let request = invoke_request(
+            words[3].text,
+            words[4].text,
+            words[5].text,
+            words[6].text,
+            words[7].text,
+            &words[8],
+        );
         line_of_nine(words[0].text, words[1].text, words[2].text, request)
     } else {
         None

@@ -1,0 +1,85 @@
+-- Messages by their numbers, and what becomes of them.
+use Rattle.std.proofs.Common.{◌≡◌, ◌==◌, ◌<◌, ◌≤◌, ◌+◌, ◌-◌, ◌⊎◌, ℕ, Bool, true, false, List, map, Option, Some, None, refl, sym, ap, ◌∙◌, length, arith, slice_index_or, slice_set, set, inl, inr, if◌then◌else◌, Bor, is_none, option_copied}
+use Rattle.std.specs.Prelude.{slice_get}
+use Rattle.std.specs.Option.{option_map, option_and_then}
+use Rattle.std.proofs.lemmas.List.{map-set}
+use Rattle.std.proofs.lemmas.Option.{slice_get_past, slice_get-get_or, slice_get-map}
+use Rattle.tcap_play.specs.Play as play
+use Rattle.tcap_play.specs.Play.{has_fate, message_at, octets_at, octets_if, with_fate}
+use Rattle.tcap_play.specs.PlayViews.{Hands, IsThere, Loses, Receives, fate_view, message_view, messages_view}
+use Rattle.tcap_play.specs.declared.message.Fate.{Fate}
+use Rattle.tcap_play.specs.declared.message.Fate.TheVariants as fate
+use Rattle.tcap_play.specs.declared.message.Message.{Message}
+use Rattle.tcap_play.specs.declared.station.Station.{Station}
+use Rattle.tcap_model.specs.Histories.History.{History}
+use Rattle.tcap_model.specs.Statements.Net.{Engine}
+use Rattle.tcap_model.specs.Table.World.{StandsAt}
+use Rattle.tcap_model.specs.Words.Event.{Event}
+
+-- the message with a number stands at the place before it
+at_place : (messages : List play.Message) (number place : ℕ) → number ≡ place + 1 → message_at number messages ≡ slice_get messages place
+at_place messages number place e =
+    let first : (number == 0) ≡ false = grind (arith, e) in
+    let before : number - 1 ≡ place = omega (arith, e) in
+    rw (first, before) refl
+
+-- there is none with a number that is 0 or above their count
+pub beyond : (fate : play.Fate) (number : ℕ) (messages : List play.Message) → (number ≡ 0) ⊎ (length messages < number) → octets_at fate number messages ≡ None
+beyond fate number messages (inl none) = rw none refl
+beyond fate number messages (inr above) =
+    let first : (number == 0) ≡ false = grind (arith, above) in
+    rw (first, slice_get_past messages (number - 1) (omega (arith, above))) refl
+
+-- the octets of a message that was found are those at its place
+octets_are : (before : play.Fate) (message : play.Message) (octets : List ℕ) → octets_if before message ≡ Some octets → message.octets ≡ octets
+octets_are before message octets is = go (has_fate before message.fate) is where
+  go : (b : Bool) → (if b then Some message.octets else None) ≡ Some octets → message.octets ≡ octets
+  go true e = cc
+  go false e = absurd cc
+
+abbrev some_message : play.Message → Option play.Message
+some_message m = Some m
+
+module _ {A : Type 0} where
+  -- the message with a number, where it is within
+  found : (messages : List (Message A)) (number place : ℕ) (d : Message A) → number ≡ place + 1 → place < length messages
+      → message_at number (messages_view messages) ≡ Some (message_view (slice_index_or messages place d))
+  found messages number place d e within =
+      at_place (messages_view messages) number place e
+      ∙ slice_get-map message_view messages place
+      ∙ ap (option_map message_view) (slice_get-get_or messages place d within)
+
+  -- its octets, where it is in the state
+  pub octets_there : (fate : play.Fate) (number : ℕ) (messages : List (Message A)) (place : ℕ) → IsThere fate number messages place → (d : Message A)
+      → octets_at fate number (messages_view messages) ≡ Some (slice_index_or messages place d).octets.items
+  octets_there fate number messages place there d = rw (found messages number place d there.is_number there.within, there.is_fate d) refl
+
+  -- none, where it is in another
+  pub octets_elsewhere : (fate : play.Fate) (number : ℕ) (messages : List (Message A)) (place : ℕ) (d : Message A) → number ≡ place + 1 → place < length messages
+      → has_fate fate (fate_view (slice_index_or messages place d).fate) ≡ false → octets_at fate number (messages_view messages) ≡ None
+  octets_elsewhere fate number messages place d e within other = rw (found messages number place d e within, other) refl
+
+  -- the messages with one that was found in another state
+  pub marked : (before : play.Fate) (number : ℕ) (messages : List (Message A)) (place : ℕ) (m : Message A) (fate : Fate) (octets : List ℕ) → number ≡ place + 1 → place < length messages
+      → m ≡ slice_index_or messages place m → octets_at before number (messages_view messages) ≡ Some octets
+      → messages_view (slice_set messages place (record { octets = m.octets; fate = fate })) ≡ with_fate (fate_view fate) number octets (messages_view messages)
+  marked before number messages place m fate octets e within here is =
+      let at : message_at number (messages_view messages) ≡ Some (message_view m) = found messages number place m e within ∙ ap (λ (x : Message A). some_message (message_view x)) (sym here) in
+      let same : m.octets.items ≡ octets = octets_are before (message_view m) octets (sym (ap (option_and_then (octets_if before)) at) ∙ is) in
+      let low : number - 1 ≡ place = omega (arith, e) in
+      rw (low, sym same) (map-set message_view messages place (record { octets = m.octets; fate = fate }))
+
+  -- a message that was found is lost
+  pub lost : (number : ℕ) (sent sent_now : List (Message A)) (read : Option (Bor (List ℕ))) → option_copied read ≡ octets_at play.Fate.waiting number (messages_view sent) → is_none read ≡ false
+      → ((before : play.Fate) (octets : List ℕ) → octets_at before number (messages_view sent) ≡ Some octets → messages_view sent_now ≡ with_fate play.Fate.lost number octets (messages_view sent))
+      → Loses (octets_at play.Fate.waiting number (messages_view sent)) number true sent sent_now
+  lost number sent sent_now None is some marks = absurd cc
+  lost number sent sent_now (Some octets) is some marks = rw (sym is) (refl, marks play.Fate.waiting octets.now (sym is))
+
+  -- a message that was found is received
+  pub received : (fate : play.Fate) (number : ℕ) (engine : Engine) (sent sent_now : List (Message A)) (old new : Station A) (before after : List ℕ) (octets : List ℕ)
+      → Some octets ≡ octets_at fate number (messages_view sent)
+      → ((was : play.Fate) (octets : List ℕ) → octets_at was number (messages_view sent) ≡ Some octets → messages_view sent_now ≡ with_fate play.Fate.delivered number octets (messages_view sent))
+      → ((h : History) → StandsAt h old.engine → Hands h engine (Event.received octets) old new before after)
+      → Receives (octets_at fate number (messages_view sent)) number engine true sent sent_now old new before after
+  received fate number engine sent sent_now old new before after octets is marks hands = rw (sym is) (refl, marks fate octets (sym is), hands)
