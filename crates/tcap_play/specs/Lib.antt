@@ -3,9 +3,10 @@ pub mod LineViews
 pub mod Numbers
 pub mod OutputParts
 pub mod OutputText
+pub mod Pieces
 pub mod Play
 pub mod PlayViews
-pub mod Pieces
+pub mod Run
 pub mod ScriptLine
 pub mod ScriptWords
 pub mod SideView

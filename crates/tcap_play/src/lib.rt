@@ -1,16 +1,21 @@
 //! Play: two engines, and the messages between them.
 //!
-//! Stands on `tcap_engine` and all below it, on `tcap_text` for the words of its texts, and on `hex`.
+//! Stands on `tcap_engine` and all below it, on `tcap_text` for the words of its texts, on `hex`, and on
+//! `thiserror`. Begin at `play_text`.
 #![tactic(auto)]
 
 mod answer_text;
+mod fault;
 mod message;
 mod numbers;
 mod output_text;
 mod pieces;
 mod play;
+mod run;
 mod script;
 mod side;
 mod station;
 
+pub use fault::PlayFault;
 pub use play::play_text;
+pub use run::run_play;
