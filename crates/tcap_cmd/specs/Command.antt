@@ -3,30 +3,32 @@ use Rattle.std.specs.Prelude.{◌≡◌, ℕ, Bool, true, false, List, Option, S
 use Rattle.std.specs.Io.KnownBytes.{Appends, Keeps}
 use Rattle.clap.specs.Words.{Text}
 use Rattle.tcap_cmd.specs.declared.refusal.Refusal.{Refusal}
-use Rattle.tcap_cmd.specs.declared.refusal.Refusal.TheVariants.{BadCommand, BadHex, OutOfMemory, WriteFailed}
-use Rattle.tcap_cmd.specs.CommandLine.{Asked, show, check, canon, Ask, AskNothing}
+use Rattle.tcap_cmd.specs.declared.refusal.Refusal.TheVariants.{BadCommand, BadHex, OutOfMemory, WriteFailed, ReadFailed, InputTooLong}
+use Rattle.tcap_cmd.specs.CommandLine.{Asked, show, check, canon, play, Ask, AskNothing}
+use Rattle.tcap_play.specs.Play.{play_text_of, play_is_good}
+use Rattle.tcap_play.specs.Run.{IsScript, IsLeft, IsPast}
 use Rattle.tcap_text.specs.Canonical.{canon_text_of, canon_is_good}
 use Rattle.tcap_text.specs.Show.{show_text_of, check_text_of, show_is_good}
 use Rattle.tcap_text.specs.Spelling.{spelled_by}
 use Rattle.tcap_text.specs.Writing.{IsFront}
 
--- HEX of what is asked for (own).
-abbrev pub hex_of : Asked → List ℕ
-hex_of (show hex) = hex
-hex_of (check hex) = hex
-hex_of (canon hex) = hex
-
--- The text that is asked for, of a message's bytes (own).
+-- The text that is asked for, of a message's bytes or of a script (own).
 abbrev pub text_of : Asked → List ℕ → List ℕ
 text_of (show hex) bytes = show_text_of bytes
 text_of (check hex) bytes = check_text_of bytes
 text_of (canon hex) bytes = canon_text_of bytes
+text_of play script = play_text_of script
 
 -- Whether the verdict of that text is good (own).
 abbrev pub is_good_of : Asked → List ℕ → Bool
 is_good_of (show hex) bytes = show_is_good bytes
 is_good_of (check hex) bytes = show_is_good bytes
 is_good_of (canon hex) bytes = canon_is_good bytes
+is_good_of play script = play_is_good script
+
+-- HEX spells bytes (own).
+abbrev pub SpellsBytes : List ℕ → Type 0
+SpellsBytes hex = (bytes : List ℕ) × (spelled_by hex ≡ Some bytes)
 
 -- Why there are no bytes of HEX, and so no text: it spells none, or it spells some and memory is wanting
 -- (own).
@@ -35,48 +37,69 @@ IsUnspelled hex BadCommand = ⊥
 IsUnspelled hex BadHex = (bytes : List ℕ) → spelled_by hex ≡ Some bytes → ⊥
 IsUnspelled hex OutOfMemory = (bytes : List ℕ) × (spelled_by hex ≡ Some bytes)
 IsUnspelled hex WriteFailed = ⊥
+IsUnspelled hex ReadFailed = ⊥
+IsUnspelled hex InputTooLong = ⊥
 
--- HEX spells bytes, of which this is the text that is asked for and its verdict (own).
-pub record IsTextOf (asked : Asked) (text : List ℕ) (good : Bool) : Type 0 where
-  pub bytes : List ℕ
-  pub spelled : spelled_by (hex_of asked) ≡ Some bytes
-  pub is_text : text ≡ text_of asked bytes
-  pub verdict : good ≡ is_good_of asked bytes
+-- The bytes whose text is asked for: those that HEX spells, or the script that the reader gave up to its
+-- end (own).
+abbrev pub IsInput : Asked → Option (List ℕ) → Option (List ℕ) → List ℕ → Type 0
+IsInput (show hex) had left bytes = spelled_by hex ≡ Some bytes
+IsInput (check hex) had left bytes = spelled_by hex ≡ Some bytes
+IsInput (canon hex) had left bytes = spelled_by hex ≡ Some bytes
+IsInput play had left script = IsScript had left script
 
--- HEX spells bytes, their text was written behind what the writer held, and this is its verdict (own).
-pub record IsAnswered (asked : Asked) (old new : Option (List ℕ)) (good : Bool) : Type 0 where
+-- There are bytes, their text was written behind what the writer held, and this is its verdict (own).
+pub record IsAnswered (asked : Asked) (had left old new : Option (List ℕ)) (good : Bool) : Type 0 where
   pub bytes : List ℕ
-  pub spelled : spelled_by (hex_of asked) ≡ Some bytes
+  pub is_input : IsInput asked had left bytes
   pub written : Appends old new (text_of asked bytes)
   pub verdict : good ≡ is_good_of asked bytes
 
--- HEX spells bytes (own).
-abbrev pub SpellsBytes : Asked → Type 0
-SpellsBytes asked = (bytes : List ℕ) × (spelled_by (hex_of asked) ≡ Some bytes)
-
--- HEX spells bytes, and a front of their text, never all of it, was written behind what the writer held
+-- There are bytes, and a front of their text, never all of it, was written behind what the writer held
 -- (own).
-pub record IsCut (asked : Asked) (old new : Option (List ℕ)) : Type 0 where
+pub record IsCut (asked : Asked) (had left old new : Option (List ℕ)) : Type 0 where
   pub bytes : List ℕ
-  pub spelled : spelled_by (hex_of asked) ≡ Some bytes
+  pub is_input : IsInput asked had left bytes
   pub written : IsFront (text_of asked bytes) old new
 
--- When a run that asks for something may be refused, and what it wrote: nothing where HEX spells no
--- bytes; nothing where it spells bytes but memory is wanting; a front of their text where a write fails
--- (own).
-abbrev pub IsRefused : Asked → Refusal → Option (List ℕ) → Option (List ℕ) → Type 0
-IsRefused asked BadCommand old new = ⊥
-IsRefused asked BadHex old new = (SpellsBytes asked → ⊥) × Keeps old new
-IsRefused asked OutOfMemory old new = SpellsBytes asked × Keeps old new
-IsRefused asked WriteFailed old new = IsCut asked old new
+-- HEX is asked about, and it spells no bytes (own).
+abbrev pub IsBadHex : Asked → Type 0
+IsBadHex (show hex) = SpellsBytes hex → ⊥
+IsBadHex (check hex) = SpellsBytes hex → ⊥
+IsBadHex (canon hex) = SpellsBytes hex → ⊥
+IsBadHex play = ⊥
 
--- When a run for these words may be refused, and what it wrote: memory may be wanting while they are
--- read, whatever they ask for (own).
-abbrev pub IsRefusal : List Text → Refusal → Option (List ℕ) → Option (List ℕ) → Type 0
-IsRefusal words BadCommand old new = AskNothing words × Keeps old new
-IsRefusal words BadHex old new = (asked : Asked) × Ask words asked × IsRefused asked BadHex old new
-IsRefusal words OutOfMemory old new = Keeps old new
-IsRefusal words WriteFailed old new = (asked : Asked) × Ask words asked × IsRefused asked WriteFailed old new
+-- Where memory may be wanting: HEX spells bytes, or the reader gave no more than a script may have (own).
+abbrev pub IsShort : Asked → Option (List ℕ) → Option (List ℕ) → Type 0
+IsShort (show hex) had left = SpellsBytes hex
+IsShort (check hex) had left = SpellsBytes hex
+IsShort (canon hex) had left = SpellsBytes hex
+IsShort play had left = IsLeft had left
+
+-- When a run that asks for something may be refused, and what it read and wrote: nothing is written where
+-- HEX spells no bytes, where memory is wanting, and where a script isn't read; a front of the text where a
+-- write fails (own).
+abbrev pub IsRefused : Asked → Refusal → Option (List ℕ) → Option (List ℕ) → Option (List ℕ) → Option (List ℕ) → Type 0
+IsRefused asked BadCommand had left old new = ⊥
+IsRefused asked BadHex had left old new = IsBadHex asked × Keeps old new
+IsRefused asked OutOfMemory had left old new = IsShort asked had left × Keeps old new
+IsRefused asked WriteFailed had left old new = IsCut asked had left old new
+IsRefused asked ReadFailed had left old new = (asked ≡ play) × IsLeft had left × Keeps old new
+IsRefused asked InputTooLong had left old new = (asked ≡ play) × IsPast had left × Keeps old new
+
+-- The words ask for something, of which a run is so refused (own).
+abbrev pub IsAskedRefused : List Text → Refusal → Option (List ℕ) → Option (List ℕ) → Option (List ℕ) → Option (List ℕ) → Type 0
+IsAskedRefused words refusal had left old new = (asked : Asked) × Ask words asked × IsRefused asked refusal had left old new
+
+-- When a run for these words may be refused, and what it read and wrote: memory may be wanting while they
+-- are read, whatever they ask for (own).
+abbrev pub IsRefusal : List Text → Refusal → Option (List ℕ) → Option (List ℕ) → Option (List ℕ) → Option (List ℕ) → Type 0
+IsRefusal words BadCommand had left old new = AskNothing words × Keeps old new
+IsRefusal words BadHex had left old new = IsAskedRefused words BadHex had left old new
+IsRefusal words OutOfMemory had left old new = Keeps old new
+IsRefusal words WriteFailed had left old new = IsAskedRefused words WriteFailed had left old new
+IsRefusal words ReadFailed had left old new = IsAskedRefused words ReadFailed had left old new
+IsRefusal words InputTooLong had left old new = IsAskedRefused words InputTooLong had left old new
 
 -- The status: 0 good, 1 not good, 2 refused (own).
 abbrev pub status_of : Result Bool Refusal → ℕ
@@ -84,8 +107,8 @@ status_of (Ok true) = 0
 status_of (Ok false) = 1
 status_of (Err refusal) = 2
 
--- What a run for these words gives, and what the writer held before and after (own).
-abbrev pub Gave : List Text → Option (List ℕ) → Option (List ℕ) → Result Bool Refusal → Type 0
-Gave words old new answer = MatchResult answer
-    (λ good. (asked : Asked) × Ask words asked × IsAnswered asked old new good)
-    (λ refusal. IsRefusal words refusal old new)
+-- What a run for these words gives, what the reader had before and after, and what the writer held (own).
+abbrev pub Gave : List Text → Option (List ℕ) → Option (List ℕ) → Option (List ℕ) → Option (List ℕ) → Result Bool Refusal → Type 0
+Gave words had left old new answer = MatchResult answer
+    (λ good. (asked : Asked) × Ask words asked × IsAnswered asked had left old new good)
+    (λ refusal. IsRefusal words refusal had left old new)

@@ -21,9 +21,13 @@ with_hex name = with_rule (without_help (new_app name)) hex_rule
 abbrev pub bare_app : App
 bare_app = record (new_app (codes "tcap")) { top = record (new_app (codes "tcap")).top { disable_help_flag = true; disable_help_subcommand = true; subcommand_required = true; no_binary_name = true } }
 
--- The command `tcap` with its subcommands (own).
+-- The command `tcap` with the subcommands that have HEX (own).
+abbrev pub app_of_hex : App
+app_of_hex = with_subcommand (with_subcommand (with_subcommand bare_app (with_hex (codes "show")).top) (with_hex (codes "check")).top) (with_hex (codes "canon")).top
+
+-- The command `tcap` with its subcommands; `play` has no argument (own).
 abbrev pub tcap_app : App
-tcap_app = with_subcommand (with_subcommand (with_subcommand bare_app (with_hex (codes "show")).top) (with_hex (codes "check")).top) (with_hex (codes "canon")).top
+tcap_app = with_subcommand app_of_hex (without_help (new_app (codes "play"))).top
 
 -- What words ask for, by their octets (own).
 pub data Asked : Type 0 where
@@ -33,6 +37,8 @@ pub data Asked : Type 0 where
   check : (hex : List ℕ) → Asked
   -- the canonical form of the message that HEX spells
   canon : (hex : List ℕ) → Asked
+  -- the play of the script on standard input
+  play : Asked
 
 -- What a subcommand and its arguments ask for (own).
 abbrev pub asked_by : Text × List Row → Option Asked
@@ -40,6 +46,7 @@ asked_by p =
     if bytes_eq p.0 (codes "show") then option_map (λ hex. show hex) (first_of (codes "hex") p.1)
     else if bytes_eq p.0 (codes "check") then option_map (λ hex. check hex) (first_of (codes "hex") p.1)
     else if bytes_eq p.0 (codes "canon") then option_map (λ hex. canon hex) (first_of (codes "hex") p.1)
+    else if bytes_eq p.0 (codes "play") then Some play
     else None
 
 -- What the words ask for (own).
@@ -59,3 +66,4 @@ abbrev pub asked : Request → Asked
 asked (request.Show hex) = show hex.now
 asked (request.Check hex) = check hex.now
 asked (request.Canon hex) = canon hex.now
+asked request.Play = play

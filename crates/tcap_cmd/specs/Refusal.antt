@@ -1,7 +1,9 @@
--- The words of a refusal.
+-- The words of a refusal, and how a fault of a play is told.
 use Rattle.std.specs.Prelude.{ℕ, List, codes}
 use Rattle.tcap_cmd.specs.declared.refusal.Refusal.{Refusal}
-use Rattle.tcap_cmd.specs.declared.refusal.Refusal.TheVariants.{BadCommand, BadHex, OutOfMemory, WriteFailed}
+use Rattle.tcap_cmd.specs.declared.refusal.Refusal.TheVariants.{BadCommand, BadHex, OutOfMemory, WriteFailed, ReadFailed, InputTooLong}
+use Rattle.tcap_play.specs.declared.fault.PlayFault.{PlayFault}
+use Rattle.tcap_play.specs.declared.fault.PlayFault.TheVariants as fault
 
 -- The words of the line on standard error (own).
 abbrev pub refusal_words : Refusal → List ℕ
@@ -9,3 +11,12 @@ refusal_words BadCommand = codes "bad command"
 refusal_words BadHex = codes "bad hex"
 refusal_words OutOfMemory = codes "out of memory"
 refusal_words WriteFailed = codes "write failed"
+refusal_words ReadFailed = codes "read failed"
+refusal_words InputTooLong = codes "input too long"
+
+-- The refusal that tells a fault of a play (own).
+abbrev pub refusal_of : PlayFault → Refusal
+refusal_of fault.OutOfMemory = OutOfMemory
+refusal_of fault.Read = ReadFailed
+refusal_of fault.Write = WriteFailed
+refusal_of fault.TooLong = InputTooLong

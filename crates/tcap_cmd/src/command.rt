@@ -1,14 +1,15 @@
 ghost use Rattle.std.specs.Prelude.{◌≡◌, Bool, Some, Result, map, MatchResult};
 ghost use Rattle.tcap_text.specs.Spelling.{spelled_by};
-ghost use Rattle.tcap_cmd.specs.CommandLine.{asked};
-ghost use Rattle.tcap_cmd.specs.Command.{hex_of, IsUnspelled, IsTextOf, IsAnswered, IsRefused, Gave, status_of};
+ghost use Rattle.tcap_cmd.specs.CommandLine.{asked, Ask, Asked};
+ghost use Rattle.tcap_cmd.specs.Command.{IsUnspelled, IsAnswered, IsRefused, Gave, status_of};
 
 use crate::refusal::Refusal;
 use crate::request::Request;
 use crate::words::read_words;
 use std::alloc::{Allocator, Global};
 use std::io::{Read, Write};
-use tcap_text::{Shown, canon_text, check_text, hex_octets, show_text, write_text};
+use tcap_play::run_play;
+use tcap_text::{canon_text, check_text, hex_octets, show_text, write_text};
 
 /// The status of a good verdict.
 const GOOD: u8 = 0;
@@ -24,44 +25,55 @@ fn bytes_of<A: Allocator>(heap: A, hex: &str) -> Result<Vec<u8, A>, Refusal>
     hex_octets(heap, hex.as_bytes())?.ok_or(Refusal::BadHex)
 }
 
-/// The text that is asked for, and its verdict.
-fn text_of<A: Allocator + Copy>(heap: A, request: Request<'_>) -> Result<Shown<A>, Refusal>
-    ensures { MatchResult result (λ shown. IsTextOf (asked request.entry) shown.text.items shown.good) (λ refusal. IsUnspelled (hex_of (asked request.entry)) refusal) }
+/// Plays the script on standard input.
+fn play<A: Allocator + Copy, R: Read, W: Write>(
+    heap: A,
+    reader: &mut R,
+    out: &mut W,
+) -> Result<bool, Refusal>
+    ensures { MatchResult result
+        (λ good. IsAnswered Asked.play (R.remaining reader.old) (R.remaining reader.new) (W.contents out.old) (W.contents out.new) good)
+        (λ refusal. IsRefused Asked.play refusal (R.remaining reader.old) (R.remaining reader.new) (W.contents out.old) (W.contents out.new)) }
+{
+    let good = run_play(heap, reader, out)?;
+    Ok(good)
+}
+
+/// Writes the text that is asked for, and tells its verdict. Only a play reads.
+pub fn answer<A: Allocator + Copy, R: Read, W: Write>(
+    heap: A,
+    request: Request<'_>,
+    reader: &mut R,
+    out: &mut W,
+) -> Result<bool, Refusal>
+    ensures answered { MatchResult result
+        (λ good. IsAnswered (asked request.entry) (R.remaining reader.old) (R.remaining reader.new) (W.contents out.old) (W.contents out.new) good)
+        (λ refusal. IsRefused (asked request.entry) refusal (R.remaining reader.old) (R.remaining reader.new) (W.contents out.old) (W.contents out.new)) }
+    ensures reader { ¬ (asked request.entry ≡ Asked.play) → reader.new ≡ reader.old }
 {
     let shown = match request {
         Request::Show(hex) => show_text(heap, bytes_of(heap, hex)?.as_slice())?,
         Request::Check(hex) => check_text(heap, bytes_of(heap, hex)?.as_slice())?,
         Request::Canon(hex) => canon_text(heap, bytes_of(heap, hex)?.as_slice())?,
+        Request::Play => return play(heap, reader, out),
     };
-    Ok(shown)
-}
-
-/// Writes the text that is asked for, and tells its verdict.
-pub fn answer<A: Allocator + Copy, W: Write>(
-    heap: A,
-    request: Request<'_>,
-    out: &mut W,
-) -> Result<bool, Refusal>
-    ensures { MatchResult result
-        (λ good. IsAnswered (asked request.entry) (W.contents out.old) (W.contents out.new) good)
-        (λ refusal. IsRefused (asked request.entry) refusal (W.contents out.old) (W.contents out.new)) }
-{
-    let shown = text_of(heap, request)?;
     write_text(out, shown.text.as_slice())?;
     Ok(shown.good)
 }
 
 /// Answers the words after the program's name.
-fn respond<A: Allocator + Copy, W: Write>(
+fn respond<A: Allocator + Copy, R: Read, W: Write>(
     alloc: Global,
     heap: A,
     words: &[&str],
+    reader: &mut R,
     out: &mut W,
 ) -> Result<bool, Refusal>
-    ensures { Gave (map (λ w. w.now) words.now) (W.contents out.old) (W.contents out.new) result }
+    ensures gave { Gave (map (λ w. w.now) words.now) (R.remaining reader.old) (R.remaining reader.new) (W.contents out.old) (W.contents out.new) result }
+    ensures reader { ¬ (Ask (map (λ w. w.now) words.now) Asked.play) → reader.new ≡ reader.old }
 {
     let request = read_words(alloc, words)?;
-    answer(heap, request, out)
+    answer(heap, request, reader, out)
 }
 
 /// Tells a refusal on standard error, a failing write passed over, and gives the status.
@@ -74,7 +86,7 @@ pub fn report<E: Write>(err: &mut E, refusal: Refusal) -> u8
 
 /// The whole program for the words after its name: writes to `out` what they ask for, and gives the
 /// status, 0 where the verdict is good, 1 where it isn't, 2 where there is none; why there is none is
-/// told on `err`. `clap` takes its memory from `alloc`, all else from `heap`. Nothing is read from
+/// told on `err`. `clap` takes its memory from `alloc`, all else from `heap`. Only `play` reads from
 /// `reader`.
 ///
 /// ```rust
@@ -90,12 +102,11 @@ pub fn run_command<A: Allocator + Copy, R: Read, W: Write, E: Write>(
     out: &mut W,
     err: &mut E,
 ) -> u8
-    ensures reader { reader.new ≡ reader.old }
+    ensures reader { ¬ (Ask (map (λ w. w.now) words.now) Asked.play) → reader.new ≡ reader.old }
     ensures gave { (answer : Result Bool Refusal) × (result ≡ status_of answer)
-        × Gave (map (λ w. w.now) words.now) (W.contents out.old) (W.contents out.new) answer }
+        × Gave (map (λ w. w.now) words.now) (R.remaining reader.old) (R.remaining reader.new) (W.contents out.old) (W.contents out.new) answer }
 {
-    let _ = reader;
-    match respond(alloc, heap, words, out) {
+    match respond(alloc, heap, words, reader, out) {
         Ok(true) => GOOD,
         Ok(false) => FAULTY,
         Err(refusal) => report(err, refusal),

@@ -1,4 +1,5 @@
 use ber_core::OutOfMemory;
+use tcap_play::PlayFault;
 use tcap_text::WriteFailed;
 
 /// Why a run of the command came to no verdict: the line on standard error, and status 2.
@@ -12,6 +13,10 @@ pub enum Refusal {
     OutOfMemory,
     /// A write to standard output failed.
     WriteFailed,
+    /// A read of standard input failed.
+    ReadFailed,
+    /// Standard input is too long for a script.
+    InputTooLong,
 }
 
 impl Refusal {
@@ -27,6 +32,8 @@ impl Refusal {
             Refusal::BadHex => "bad hex",
             Refusal::OutOfMemory => "out of memory",
             Refusal::WriteFailed => "write failed",
+            Refusal::ReadFailed => "read failed",
+            Refusal::InputTooLong => "input too long",
         }
     }
 }
@@ -50,5 +57,21 @@ impl From<WriteFailed> for Refusal {
 
     fn from(_error: WriteFailed) -> Refusal {
         Refusal::WriteFailed
+    }
+}
+
+impl From<PlayFault> for Refusal {
+    ghost use Rattle.std.specs.Prelude.{◌≡◌};
+    ghost use Rattle.tcap_cmd.specs.Refusal.{refusal_of};
+
+    ghost from_gives = { λ fault r. r ≡ refusal_of fault };
+
+    fn from(fault: PlayFault) -> Refusal {
+        match fault {
+            PlayFault::OutOfMemory => Refusal::OutOfMemory,
+            PlayFault::Read => Refusal::ReadFailed,
+            PlayFault::Write => Refusal::WriteFailed,
+            PlayFault::TooLong => Refusal::InputTooLong,
+        }
     }
 }

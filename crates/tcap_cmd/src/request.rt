@@ -7,4 +7,6 @@ pub enum Request<'a> {
     Check(&'a str),
     /// `canon HEX`: the canonical form of the message that HEX spells.
     Canon(&'a str),
+    /// `play`: the play of the script on standard input.
+    Play,
 }

@@ -29,12 +29,16 @@ fn tcap_command<'a>(alloc: Global) -> Result<Command<'a>, AllocError>
     let canon = Command::new(alloc, "canon")
         .disable_help_flag(true)
         .arg(hex_argument(alloc))?;
+    let play = Command::new(alloc, "play").disable_help_flag(true);
     let tcap = Command::new(alloc, "tcap")
         .no_binary_name(true)
         .disable_help_flag(true)
         .disable_help_subcommand(true)
         .subcommand_required(true);
-    tcap.subcommand(show)?.subcommand(check)?.subcommand(canon)
+    tcap.subcommand(show)?
+        .subcommand(check)?
+        .subcommand(canon)?
+        .subcommand(play)
 }
 
 /// What the subcommand that was found asks for.
@@ -46,6 +50,7 @@ fn request_of<'a>(matches: &ArgMatches<'a>) -> Option<Request<'a>>
         "show" => Some(Request::Show(inner.get_str("hex")?)),
         "check" => Some(Request::Check(inner.get_str("hex")?)),
         "canon" => Some(Request::Canon(inner.get_str("hex")?)),
+        "play" => Some(Request::Play),
         _ => None,
     }
 }

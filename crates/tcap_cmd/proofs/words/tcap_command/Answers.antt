@@ -1,7 +1,7 @@
 use Rattle.std.proofs.Common.{rules, ap, ap₂, codes, ◌≡◌, ◌∙◌}
 use Rattle.std.proofs.lemmas.Result.{IfOk-weaker}
 use Rattle.clap.specs.Words.{App, app_of, with_subcommand, with_rule, new_app}
-use Rattle.tcap_cmd.specs.CommandLine.{bare_app, with_hex, without_help}
+use Rattle.tcap_cmd.specs.CommandLine.{bare_app, app_of_hex, with_hex, without_help}
 use Rattle.tcap_cmd.proofs.words.tcap_command.Goals as goal
 
 pub returns : goal.returns
@@ -15,4 +15,6 @@ returns c =
     let two : app_of c.in_ok-subcommand-2.field-0 ≡ with_subcommand (with_subcommand bare_app (with_hex (codes "show")).top) (with_hex (codes "check")).top = c.in_ok-subcommand-2.ensures.shape (search (rules, c.new-2.ensures.local, c.disable_help_flag-2.ensures, c.in_ok-check.ensures.globals, c.hex_argument-2.ensures.global)) ∙ ap₂ with_subcommand one (ap (λ (a : App). a.top) check_is) in
     let bare_canon : app_of c.disable_help_flag-3.result ≡ without_help (new_app (codes "canon")) = search (rules, c.new-3.ensures.app, c.disable_help_flag-3.ensures) in
     let canon_is : app_of c.in_ok-canon.canon ≡ with_hex (codes "canon") = c.in_ok-canon.ensures.shape c.hex_argument-3.ensures.global ∙ ap₂ with_rule bare_canon c.hex_argument-3.ensures.rule in
-    IfOk-weaker c.subcommand-3.result _ _ (λ m h. h.shape (search (rules, c.new-3.ensures.local, c.disable_help_flag-3.ensures, c.in_ok-canon.ensures.globals, c.hex_argument-3.ensures.global)) ∙ ap₂ with_subcommand two (ap (λ (a : App). a.top) canon_is)) c.subcommand-3.ensures
+    let three : app_of c.in_ok-subcommand-3.field-0 ≡ app_of_hex = c.in_ok-subcommand-3.ensures.shape (search (rules, c.new-3.ensures.local, c.disable_help_flag-3.ensures, c.in_ok-canon.ensures.globals, c.hex_argument-3.ensures.global)) ∙ ap₂ with_subcommand two (ap (λ (a : App). a.top) canon_is) in
+    let play_is : app_of c.disable_help_flag-play.result ≡ without_help (new_app (codes "play")) = search (rules, c.new-4.ensures.app, c.disable_help_flag-play.ensures) in
+    IfOk-weaker c.subcommand-4.result _ _ (λ m h. h.shape (search (rules, c.new-4.ensures.local, c.disable_help_flag-play.ensures)) ∙ ap₂ with_subcommand three (ap (λ (a : App). a.top) play_is)) c.subcommand-4.ensures

@@ -1,0 +1,27 @@
+-- A text that is asked for, written whole or cut.
+use Rattle.std.proofs.Common.{◌≡◌, ℕ, Bool, true, List, Option, Some, None, refl, subst}
+use Rattle.std.specs.Option.{is_some}
+use Rattle.std.specs.Io.KnownBytes.{Appends}
+use Rattle.tcap_cmd.specs.Command.{text_of, is_good_of, IsInput, IsAnswered, IsCut}
+use Rattle.tcap_cmd.specs.CommandLine.{Asked}
+use Rattle.tcap_text.specs.Writing.{IsFront}
+
+-- there are bytes, whose text and verdict these are
+pub record IsText (asked : Asked) (had left : Option (List ℕ)) (text : List ℕ) (good : Bool) : Type 0 where
+  pub bytes : List ℕ
+  pub is_input : IsInput asked had left bytes
+  pub is_text : text ≡ text_of asked bytes
+  pub verdict : good ≡ is_good_of asked bytes
+
+-- a text that was written answers
+pub text_answers : (asked : Asked) (had left old new : Option (List ℕ)) (text : List ℕ) (good : Bool) → IsText asked had left text good → Appends old new text → IsAnswered asked had left old new good
+text_answers asked had left old new text good t written = record { bytes = t.bytes; is_input = t.is_input; written = subst (Appends old new) t.is_text written; verdict = t.verdict }
+
+-- a text of which a front was written is cut
+pub text_cut : (asked : Asked) (had left old new : Option (List ℕ)) (text : List ℕ) (good : Bool) → IsText asked had left text good → IsFront text old new → IsCut asked had left old new
+text_cut asked had left old new text good t written = record { bytes = t.bytes; is_input = t.is_input; written = subst (λ w. IsFront w old new) t.is_text written }
+
+-- what is there is something
+pub some_of : (o : Option (List ℕ)) → is_some o ≡ true → (bytes : List ℕ) × (o ≡ Some bytes)
+some_of None h = absurd cc
+some_of (Some bytes) h = (bytes, refl)

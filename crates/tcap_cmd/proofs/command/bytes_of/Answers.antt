@@ -1,0 +1,11 @@
+use Rattle.std.proofs.Common.{◌∙◌, ap, sym}
+use Rattle.std.specs.Option.{is_some}
+use Rattle.tcap_text.specs.Spelling.{spelled_by}
+use Rattle.tcap_cmd.proofs.Answering.{some_of}
+use Rattle.std.proofs.lemmas.Result.{err_from_is_err_and}
+use Rattle.tcap_cmd.proofs.command.bytes_of.Goals as goal
+
+pub returns-in_err-hex_octets : goal.returns-in_err-hex_octets
+returns-in_err-hex_octets g c =
+    let p = err_from_is_err_and c.from_residual.result c.from_residual.ensures.1 in
+    rw (p.1, p.2) (some_of (spelled_by c.args.hex.now) (ap (λ o. is_some (spelled_by o)) (sym c.as_bytes.ensures.value) ∙ c.in_err-hex_octets.ensures.err))
