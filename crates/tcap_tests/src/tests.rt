@@ -7,6 +7,7 @@ mod examples;
 mod growths;
 mod limits;
 mod outputs;
+mod plays;
 mod printed;
 mod runs;
 mod words;

@@ -6,9 +6,9 @@ use tcap_cmd::run_command;
 
 /// A writer that takes two octets at a time and is interrupted before each, until its room is used up.
 #[derive(Drop)]
-struct Narrow {
+pub(super) struct Narrow {
     /// What it took.
-    taken: Vec<u8>,
+    pub(super) taken: Vec<u8>,
     /// How many octets it still takes.
     room: usize,
     /// Whether the next write is interrupted.
@@ -16,7 +16,7 @@ struct Narrow {
 }
 
 impl Narrow {
-    fn new(alloc: Global, room: usize) -> Narrow {
+    pub(super) fn new(alloc: Global, room: usize) -> Narrow {
         Narrow {
             taken: Vec::new(alloc),
             room,

@@ -1,0 +1,141 @@
+use super::outputs::Narrow;
+use std::io;
+use std::io::{ErrorKind, Read};
+use std::test::Fail;
+use tcap_cmd::{PlayFault, run_command, run_play};
+
+/// A reader of line feeds, which may fail on the way.
+#[derive(Drop)]
+struct LineFeeds {
+    /// How many it still gives before its end.
+    left: usize,
+    /// How many it gives in a read.
+    width: usize,
+    /// The number of the read that fails, from 1, or 0.
+    failing: u64,
+    /// How it fails.
+    kind: ErrorKind,
+    /// How many reads were made.
+    reads: u64,
+}
+
+impl LineFeeds {
+    fn new(left: usize, width: usize, failing: u64, kind: ErrorKind) -> LineFeeds {
+        LineFeeds {
+            left,
+            width,
+            failing,
+            kind,
+            reads: 0,
+        }
+    }
+}
+
+impl Read for LineFeeds {
+    fn read(&mut self, buf: &mut [u8]) -> io::Result<usize> {
+        self.reads = self.reads.saturating_add(1);
+        if self.reads == self.failing {
+            return Err(io::Error::from(self.kind));
+        }
+        let count = buf.len().min(self.width).min(self.left);
+        buf[..count].fill(b'\n');
+        self.left -= count;
+        Ok(count)
+    }
+}
+
+#[test]
+fn reads_of_a_play(rt: HostRuntime) -> Result<(), Fail> {
+    let alloc = rt.alloc();
+    let other = ErrorKind::Other;
+    let rows = [
+        // How many line feeds, how many a read, the read that fails and how; the answer, the reads made.
+        (0, 1, 0, other, Ok(true), 1),
+        (3, 1, 0, other, Ok(true), 4),
+        (3, 1, 1, other, Err(PlayFault::Read), 1),
+        (3, 1, 4, other, Err(PlayFault::Read), 4),
+        (3, 1, 2, ErrorKind::Interrupted, Err(PlayFault::Read), 2),
+        // Each read asks for 4,096 octets.
+        (1_048_576, 5_000, 0, other, Ok(true), 257),
+        (1_048_576, 5_000, 257, other, Err(PlayFault::Read), 257),
+        (1_048_577, 5_000, 0, other, Err(PlayFault::TooLong), 257),
+        (1_048_577, 5_000, 258, other, Err(PlayFault::TooLong), 257),
+        // The read that finds the end counts.
+        (999_999, 1, 0, other, Ok(true), 1_000_000),
+        (1_000_000, 1, 0, other, Err(PlayFault::TooLong), 1_000_000),
+        (usize::MAX, 1, 0, other, Err(PlayFault::TooLong), 1_000_000),
+    ];
+    for (left, width, failing, kind, answer, reads) in rows {
+        let mut reader = LineFeeds::new(left, width, failing, kind);
+        // No line asks for anything, so nothing is written, and this writer isn't called.
+        let mut out = Narrow::new(alloc, 0);
+        let ran = run_play(alloc, &mut reader, &mut out);
+        assert_eq!(rt; ran, answer, "at {left}, {width}, {failing}");
+        assert_eq!(rt; reader.reads, reads, "at {left}, {width}, {failing}");
+    }
+    Ok(())
+}
+
+#[test]
+fn plays_of_the_command(rt: HostRuntime) -> Result<(), Fail> {
+    let alloc = rt.alloc();
+    let failed = "tcap: write failed\n";
+    let rows = [
+        // The script, the octets that the output takes, the status, what is written, and what is told.
+        ("A new\n", 99, 0, "A new 1\n", ""),
+        ("A new", 99, 0, "A new 1\n", ""),
+        ("# two\n\nB new\nA new\n", 99, 0, "B new 1\nA new 1\n", ""),
+        ("A new\nA knew\nB new\n", 99, 1, "A new 1\nline 2 bad\n", ""),
+        ("A new\n", 3, 2, "A n", failed),
+        ("A knew\n", 0, 2, "", failed),
+        ("\n# none\n", 0, 0, "", ""),
+    ];
+    for (script, room, status, written, told) in rows {
+        let mut input = script.as_bytes();
+        let mut out = Narrow::new(alloc, room);
+        let mut err = Vec::new(alloc);
+        let ran = run_command(alloc, alloc, &["play"], &mut input, &mut out, &mut err);
+        assert_eq!(rt; ran, status, "at {script}");
+        assert_eq!(rt; out.taken.as_slice(), written.as_bytes(), "at {script}");
+        assert_eq!(rt; err.as_slice(), told.as_bytes(), "at {script}");
+    }
+    Ok(())
+}
+
+#[test]
+fn inputs_of_the_command(rt: HostRuntime) -> Result<(), Fail> {
+    let alloc = rt.alloc();
+    let rows: [(&[&str], usize, u64, u8, &str, u64); 5] = [
+        // The words, how many line feeds, the read that fails; the status, what is told, the reads made.
+        (&["play"], 3, 1, 2, "tcap: read failed\n", 1),
+        (&["play"], 1_048_577, 0, 2, "tcap: input too long\n", 257),
+        (&["play"], 3, 0, 0, "", 2),
+        (&["play", "62"], 3, 1, 2, "tcap: bad command\n", 0),
+        (&["check", "6206480400000001"], 3, 1, 0, "", 0),
+    ];
+    for (words, left, failing, status, told, reads) in rows {
+        let mut reader = LineFeeds::new(left, 5_000, failing, ErrorKind::Other);
+        let mut out = Vec::new(alloc);
+        let mut err = Vec::new(alloc);
+        let ran = run_command(alloc, alloc, words, &mut reader, &mut out, &mut err);
+        assert_eq!(rt; ran, status, "at {words:?}");
+        assert_eq!(rt; err.as_slice(), told.as_bytes(), "at {words:?}");
+        assert_eq!(rt; reader.reads, reads, "at {words:?}");
+    }
+    Ok(())
+}
+
+#[test]
+fn texts_of_the_faults(rt: HostRuntime) -> Result<(), Fail> {
+    let rows = [
+        (PlayFault::OutOfMemory, "out of memory"),
+        (PlayFault::Read, "read failed"),
+        (PlayFault::Write, "write failed"),
+        (PlayFault::TooLong, "input too long"),
+    ];
+    for (fault, text) in rows {
+        let shown = format!(in rt.alloc(); "{}", fault)?;
+        assert_eq!(rt; shown.as_str(), text);
+    }
+    Ok(())
+}
