@@ -1,8 +1,8 @@
 -- The first piece of a list, and those behind it.
-use Rattle.std.proofs.Common.{◌≡◌, ◌==◌, ◌<◌, ◌≤◌, ◌+◌, ◌-◌, ℕ, zero, suc, Bool, true, false, List, [], ◌∷◌, refl, sym, ap, ◌∙◌, length, take, drop, slice_index, arith, if◌then◌else◌, Option, Some, None, Bor}
+use Rattle.std.proofs.Common.{◌≡◌, ◌<◌, ◌+◌, ◌-◌, ℕ, zero, suc, List, [], ◌∷◌, refl, sym, ap, ◌∙◌, length, take, drop, slice_index, arith, Option, Some, None, Bor}
 use Rattle.std.proofs.Math.Seq.{take-length}
 use Rattle.std.proofs.lemmas.List.{length-drop}
-use Rattle.tcap_play.specs.Pieces.{pieces, with_octet}
+use Rattle.tcap_play.specs.Pieces.{pieces}
 
 -- a list without the mark is one piece
 pub one_piece : (mark : ℕ) (octets : List ℕ) → ((k : ℕ) → k < length octets → slice_index octets k ≡ mark → ⊥) → pieces mark octets ≡ octets ∷ []

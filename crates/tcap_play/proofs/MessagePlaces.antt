@@ -1,5 +1,5 @@
 -- Messages by their numbers, and what becomes of them.
-use Rattle.std.proofs.Common.{◌≡◌, ◌==◌, ◌<◌, ◌≤◌, ◌+◌, ◌-◌, ◌⊎◌, ℕ, Bool, true, false, List, map, Option, Some, None, refl, sym, ap, ◌∙◌, length, arith, slice_index_or, slice_set, set, inl, inr, if◌then◌else◌, Bor, is_none, option_copied}
+use Rattle.std.proofs.Common.{◌≡◌, ◌==◌, ◌<◌, ◌+◌, ◌-◌, ◌⊎◌, ℕ, Bool, true, false, List, Option, Some, None, refl, sym, ap, ◌∙◌, length, arith, slice_index_or, slice_set, inl, inr, if◌then◌else◌, Bor, is_none, option_copied}
 use Rattle.std.specs.Prelude.{slice_get}
 use Rattle.std.specs.Option.{option_map, option_and_then}
 use Rattle.std.proofs.lemmas.List.{map-set}
@@ -8,7 +8,6 @@ use Rattle.tcap_play.specs.Play as play
 use Rattle.tcap_play.specs.Play.{has_fate, message_at, octets_at, octets_if, with_fate}
 use Rattle.tcap_play.specs.PlayViews.{Hands, IsThere, Loses, Receives, fate_view, message_view, messages_view}
 use Rattle.tcap_play.specs.declared.message.Fate.{Fate}
-use Rattle.tcap_play.specs.declared.message.Fate.TheVariants as fate
 use Rattle.tcap_play.specs.declared.message.Message.{Message}
 use Rattle.tcap_play.specs.declared.station.Station.{Station}
 use Rattle.tcap_model.specs.Histories.History.{History}

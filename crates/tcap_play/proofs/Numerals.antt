@@ -1,14 +1,12 @@
 -- What the library reads as a number, and what a script writes as one.
-use Rattle.std.proofs.Common.{◌≡◌, ◌==◌, ◌&&◌, ◌<◌, ◌≤◌, ◌^◌, ◌⊎◌, not, ℕ, ◌+◌, ◌*◌, nat_le, nat_lt, Bool, true, false, List, [], ◌∷◌, Option, Some, None, Result, Ok, Err, refl, sym, ap, ◌∙◌, length, slice_index, get_or, MatchResult, arith, zero, suc, ℤ, pos, neg_ℤ, if◌then◌else◌, drop}
+use Rattle.std.proofs.Common.{◌≡◌, ◌&&◌, ◌<◌, ◌≤◌, ◌^◌, ℕ, nat_le, nat_lt, Bool, true, false, List, [], ◌∷◌, Option, Some, None, Result, Ok, Err, refl, sym, ap, ◌∙◌, length, slice_index, MatchResult, arith, zero, suc, ℤ, pos, neg_ℤ, if◌then◌else◌, drop}
 use Rattle.std.specs.Prelude.{int_le}
-use Rattle.std.specs.Char.{is_digit, digit_value}
-use Rattle.std.specs.List.{list_all}
 use Rattle.std.specs.Str.{IsUtf8, IsAscii}
 use Rattle.std.proofs.lemmas.Str.{IsUtf8-from_ascii}
 use Rattle.std.specs.Str.Parse.{AllDigits, IsNumeral, ParsesUnsigned, digits_value, without_leading_plus}
-use Rattle.std.specs.Option.{option_map, option_and_then}
+use Rattle.std.specs.Option.{option_and_then}
 use Rattle.std.specs.Result.{result_ok}
-use Rattle.tcap_play.specs.Numbers.{are_digits, is_padded, is_number, number, at_most, number_up_to, negative, between, signed_number, number_between}
+use Rattle.tcap_play.specs.Numbers.{are_digits, is_padded, number, at_most, number_up_to, negative, between, signed_number, number_between}
 
 -- digits are digits
 pub all_digits : (word : List ℕ) → are_digits word ≡ true → AllDigits 10 word
@@ -85,6 +83,7 @@ narrower word n is = rw is (go (signed_number word)) where
   in_range : (m : ℤ) (b : Bool) → (int_le (neg_ℤ (pos 2147483648)) m && int_le m (pos 2147483647)) ≡ b → option_and_then (between (neg_ℤ (pos 128)) (pos 127)) (if b then Some m else None) ≡ between (neg_ℤ (pos 128)) (pos 127) m
   in_range m true h = refl
   in_range m false h = grind (arith, h)
+
   go : (m : Option ℤ) → option_and_then (between (neg_ℤ (pos 128)) (pos 127)) (option_and_then (between (neg_ℤ (pos 2147483648)) (pos 2147483647)) m) ≡ option_and_then (between (neg_ℤ (pos 128)) (pos 127)) m
   go None = refl
   go (Some m) = in_range m (int_le (neg_ℤ (pos 2147483648)) m && int_le m (pos 2147483647)) refl
@@ -95,6 +94,7 @@ number_found word n is = go (number word) refl is where
   low : (m : ℕ) (b : Bool) → nat_le m 18446744073709551615 ≡ b → some_of n ≡ (if b then Some m else None) → some_of m ≡ Some n
   low m true h e = sym e
   low m false h e = absurd cc
+
   go : (m : Option ℕ) → number word ≡ m → some_of n ≡ option_and_then (at_most 18446744073709551615) m → m ≡ Some n
   go None h e = absurd cc
   go (Some m) h e = low m (nat_le m 18446744073709551615) refl e

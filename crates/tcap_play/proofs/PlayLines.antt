@@ -44,9 +44,13 @@ module _ {A : Type 0} where
   goes number line p a b old new is does = go (step_by p line) refl does where
     go : (did : Option Stepped) → step_by p line ≡ did → Does did true a b old new → GoesOn number line p true a b old new
     go None e does = absurd cc
-    go (Some stepped) e does = (stepped.after, does.1.is_at, λ lines.
-      ap (behind old) (from_step number p line lines is ∙ ap (printed_by number (λ q. printed_from (number + 1) q lines)) e)
-      ∙ joined old stepped.text new (printed_from (number + 1) stepped.after lines) does.1.is_text)
+    go (Some stepped) e does = (
+      stepped.after,
+      does.1.is_at,
+      λ lines.
+          ap (behind old) (from_step number p line lines is ∙ ap (printed_by number (λ q. printed_from (number + 1) q lines)) e)
+          ∙ joined old stepped.text new (printed_from (number + 1) stepped.after lines) does.1.is_text,
+    )
 
   -- one that can't be done ends it
   pub ends : (number : ℕ) (line : List ℕ) (p : Played) (a b : Station A) (old mid new : List ℕ) → is_skipped line ≡ false → Does (step_by p line) false a b old mid → new ≡ mid ++ bad_line number
@@ -54,6 +58,6 @@ module _ {A : Type 0} where
   ends number line p a b old mid new is does told lines = go (step_by p line) refl does where
     go : (did : Option Stepped) → step_by p line ≡ did → Does did false a b old mid → behind old (printed_from number p (line ∷ lines)) ≡ record { text = new; good = false }
     go None e does =
-      ap (behind old) (from_step number p line lines is ∙ ap (printed_by number (λ q. printed_from (number + 1) q lines)) e)
-      ∙ ap (λ t. printed_bad t) (sym (told ∙ ap (λ t. t ++ bad_line number) does.1))
+        ap (behind old) (from_step number p line lines is ∙ ap (printed_by number (λ q. printed_from (number + 1) q lines)) e)
+        ∙ ap (λ t. printed_bad t) (sym (told ∙ ap (λ t. t ++ bad_line number) does.1))
     go (Some stepped) e does = absurd cc

@@ -1,5 +1,5 @@
 -- What a line asks for, by the number of its words.
-use Rattle.std.proofs.Common.{◌≡◌, ◌<◌, ◌≤◌, ◌+◌, ℕ, List, [], ◌∷◌, None, refl, length, slice_index_or, arith}
+use Rattle.std.proofs.Common.{◌≡◌, List, [], ◌∷◌, None, refl, length, slice_index_or, arith}
 use Rattle.tcap_play.specs.LineViews.{text_of, texts_of}
 use Rattle.tcap_play.specs.ScriptLine.{line_of, line_of_nine, invoke_request_of}
 use Rattle.tcap_play.specs.declared.script.word.Word.{Word}

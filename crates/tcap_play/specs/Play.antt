@@ -4,7 +4,7 @@ use Rattle.std.specs.Fmt.{decimal}
 use Rattle.std.specs.Option.{option_map, option_and_then}
 use Rattle.tcap_model.specs.Histories.History.{History, Start}
 use Rattle.tcap_model.specs.Replies.Reply.{reply}
-use Rattle.tcap_model.specs.Statements.Net.{Engine, Marked, Trace, far, side}
+use Rattle.tcap_model.specs.Statements.Net.{Engine, Trace, far, side}
 use Rattle.tcap_model.specs.Words.Answer.{Answer}
 use Rattle.tcap_model.specs.Words.Event.{Event}
 use Rattle.tcap_model.specs.Words.Output.{Output}
@@ -112,7 +112,7 @@ with_fate fate number octets messages = set messages (number - 1) (record { octe
 abbrev pub answered : Engine → Event → Answer → Played → Stepped
 answered engine event answer p = record {
   text = answer_lines engine (length (sent_by engine p)) answer;
-  after = with_sent engine (sent_by engine p ++ messages_in answer) (record p { trace = record { engine = engine; pair = record { event = event; answer = answer } } ∷ p.trace })
+  after = with_sent engine (sent_by engine p ++ messages_in answer) (record p { trace = record { engine = engine; pair = record { event = event; answer = answer } } ∷ p.trace });
 }
 
 -- An engine is handed an event; its answer is the reply after all that was handed to it before (own).
@@ -128,7 +128,7 @@ received_from name fate p octets = handed (far name.engine) (Event.received octe
 abbrev pub lost_from : MessageName → Played → List ℕ → Stepped
 lost_from name p octets = record {
   text = [];
-  after = with_sent name.engine (with_fate Fate.lost name.number octets (sent_by name.engine p)) p
+  after = with_sent name.engine (with_fate Fate.lost name.number octets (sent_by name.engine p)) p;
 }
 
 -- One step, and another after it (own).

@@ -1,5 +1,5 @@
 -- What the lines of a script ask for.
-use Rattle.std.specs.Prelude.{ℕ, ◌==◌, Bool, false, List, [], ◌∷◌, Option, Some, None, codes, bytes_eq, if◌then◌else◌}
+use Rattle.std.specs.Prelude.{ℕ, List, [], ◌∷◌, Option, Some, None, codes, bytes_eq, if◌then◌else◌}
 use Rattle.std.specs.Option.{option_map}
 use Rattle.ber_core.specs.Options.{◌>>=◌}
 use Rattle.tcap_model.specs.Statements.Net.{Engine}
@@ -122,14 +122,14 @@ abbrev pub line_of_three : List ℕ → List ℕ → List ℕ → Option ScriptL
 line_of_three side name word =
     if bytes_eq name (codes "raw") then octets_of word >>= received_on side
     else if bytes_eq name (codes "prearranged")
-        then asked_on side word (Request.dialogue (DialogueRequest.finish Ending.prearranged None []))
+    then asked_on side word (Request.dialogue (DialogueRequest.finish Ending.prearranged None []))
     else None
 
 -- `S cancel D ID` (own).
 abbrev pub line_of_four : List ℕ → List ℕ → List ℕ → List ℕ → Option ScriptLine
 line_of_four side name dialogue id =
     if bytes_eq name (codes "cancel")
-        then cancel_request_of id >>= asked_on side dialogue
+    then cancel_request_of id >>= asked_on side dialogue
     else None
 
 -- `S begin D CONTEXT INFO`, and `uni`, `continue`, `end`; `S abort D user INFO`, `S abort D unsupported INFO`

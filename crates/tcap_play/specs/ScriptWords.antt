@@ -1,5 +1,5 @@
 -- What the words of a script's lines stand for.
-use Rattle.std.specs.Prelude.{ℕ, ℤ, pos, neg_ℤ, Bool, List, [], ◌∷◌, Option, Some, None, codes, bytes_eq, if◌then◌else◌}
+use Rattle.std.specs.Prelude.{ℕ, ℤ, pos, neg_ℤ, List, [], ◌∷◌, Option, Some, None, codes, bytes_eq, if◌then◌else◌}
 use Rattle.std.specs.Option.{option_map}
 use Rattle.ber_core.specs.Options.{◌>>=◌}
 use Rattle.tcap_component.specs.declared.problem.Kind.{Kind}

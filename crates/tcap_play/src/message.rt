@@ -42,19 +42,11 @@ fn place_among(number: u64, count: usize) -> Option<usize>
     ensures { MatchOption result ((number ≡ 0) ⊎ (count < number)) (λ place. (number ≡ place + 1) × (place < count)) }
 {
     let place = usize::try_from(number.checked_sub(1)?).ok()?;
-    if place < count {
-        Some(place)
-    } else {
-        None
-    }
+    if place < count { Some(place) } else { None }
 }
 
 /// The place of the message with this number, from 1, if it is in this state.
-fn place_of<A: Allocator>(
-    sent: &[Message<A>],
-    number: u64,
-    fate: Fate,
-) -> Option<usize>
+fn place_of<A: Allocator>(sent: &[Message<A>], number: u64, fate: Fate) -> Option<usize>
     ensures { MatchOption result
         (octets_at (fate_view fate) number (messages_view sent.now) ≡ None)
         (λ place. IsThere (fate_view fate) number sent.now place) }

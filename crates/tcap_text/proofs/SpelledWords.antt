@@ -1,6 +1,5 @@
 -- Words that spell octets, and words that don't.
-use Rattle.std.proofs.Common.{◌≡◌, ℕ, List, Option, Some, None, Result, Ok, Err, true, is_some, refl, ap, ◌∙◌}
-use Rattle.hex.specs.Hex.{decode_of}
+use Rattle.std.proofs.Common.{◌≡◌, ℕ, List, None, Result, Ok, Err, true, is_some, refl, ap}
 use Rattle.hex.specs.declared.error.FromHexError.{FromHexError}
 use Rattle.hex.proofs.HexLemmas.{decode_of-ok, decode_of-digits}
 use Rattle.tcap_text.specs.Spelling.{IsHex, octets_if_read, spelled_by}

@@ -8,7 +8,10 @@ use std::alloc::Allocator;
 use tcap_component::{Body, Code, Component, ComponentFault, Kind, Problem};
 
 /// An identifier, or `-` where there is none.
-pub fn identifier_text<A: Allocator + Copy>(alloc: A, id: Option<i8>) -> Result<String<A>, OutOfMemory>
+pub fn identifier_text<A: Allocator + Copy>(
+    alloc: A,
+    id: Option<i8>,
+) -> Result<String<A>, OutOfMemory>
     ensures { IfOk result (λ words. string_bytes words ≡ identifier_words id) }
 {
     match id {
@@ -69,7 +72,10 @@ fn kind_text(kind: Kind) -> &'static str
 }
 
 /// The words of a problem: its kind and its code.
-pub fn problem_text<A: Allocator + Copy>(alloc: A, problem: Problem) -> Result<String<A>, OutOfMemory>
+pub fn problem_text<A: Allocator + Copy>(
+    alloc: A,
+    problem: Problem,
+) -> Result<String<A>, OutOfMemory>
     ensures { IfOk result (λ words. string_bytes words ≡ problem_words (problem_parts problem)) }
 {
     let kind = kind_text(problem.kind());

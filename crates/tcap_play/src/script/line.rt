@@ -40,11 +40,7 @@ fn called_on<'w>(side_word: &[u8], event: Event<'w>) -> Option<Line<'w>>
 }
 
 /// A request on a dialogue of the engine of a letter.
-fn asked_on<'w>(
-    side_word: &[u8],
-    dialogue_word: &[u8],
-    request: Request<'w>,
-) -> Option<Line<'w>>
+fn asked_on<'w>(side_word: &[u8], dialogue_word: &[u8], request: Request<'w>) -> Option<Line<'w>>
     ensures { option_map line_view result ≡ asked_on side_word.now dialogue_word.now (request_view request.entry) }
 {
     let side = side(side_word)?;

@@ -31,7 +31,11 @@ pub(crate) fn portion_request<'w, A: Allocator>(
         Some(Request::Continue { context, info })
     } else if is(name, "end") {
         let ending = Ending::Basic;
-        Some(Request::End { ending, context, info })
+        Some(Request::End {
+            ending,
+            context,
+            info,
+        })
     } else {
         None
     }

@@ -1,4 +1,4 @@
-use Rattle.std.proofs.Common.{◌≡◌, ◌∙◌, sym, ap, List, ℕ, Option, Some}
+use Rattle.std.proofs.Common.{◌∙◌, sym, ap, List, ℕ, Option, Some}
 use Rattle.tcap_play.proofs.MessagePlaces.{octets_there}
 use Rattle.tcap_play.proofs.message.octets_if.Goals as goal
 

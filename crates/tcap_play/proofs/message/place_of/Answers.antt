@@ -1,4 +1,4 @@
-use Rattle.std.proofs.Common.{◌≡◌, ◌∙◌, sym}
+use Rattle.std.proofs.Common.{◌∙◌, sym}
 use Rattle.tcap_play.proofs.MessagePlaces.{octets_elsewhere}
 use Rattle.tcap_play.proofs.message.place_of.Goals as goal
 

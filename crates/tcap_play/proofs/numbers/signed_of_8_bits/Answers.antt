@@ -1,5 +1,4 @@
-use Rattle.std.proofs.Common.{◌≡◌, ◌∙◌, rules, sym, pos, neg_ℤ, Some}
-use Rattle.std.specs.Option.{option_and_then}
+use Rattle.std.proofs.Common.{◌≡◌, ◌∙◌, rules, pos, neg_ℤ, Some}
 use Rattle.std.specs.Result.{result_ok}
 use Rattle.tcap_play.specs.Numbers.{between}
 use Rattle.tcap_play.proofs.Numerals.{narrower}

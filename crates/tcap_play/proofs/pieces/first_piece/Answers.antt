@@ -1,4 +1,4 @@
-use Rattle.std.proofs.Common.{rules, ◌≡◌, ◌∙◌, ap, sym, ◌∷◌, List, ℕ, take}
+use Rattle.std.proofs.Common.{rules, ◌∙◌, ap, sym, ◌∷◌, List, ℕ, take}
 use Rattle.tcap_play.specs.Pieces.{pieces}
 use Rattle.tcap_play.proofs.FirstPieces.{one_piece, cut_piece, rest_behind}
 use Rattle.tcap_play.proofs.pieces.first_piece.Goals as goal

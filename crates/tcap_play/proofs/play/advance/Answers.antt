@@ -1,4 +1,3 @@
-use Rattle.std.proofs.Common.{◌≡◌, ◌++◌, ◌∙◌, ap, sym}
 use Rattle.std.proofs.lemmas.Result.{on_ok_weaker}
 use Rattle.tcap_play.proofs.PlaySteps.{after_both}
 use Rattle.tcap_play.proofs.play.advance.Goals as goal

@@ -1,4 +1,4 @@
-use Rattle.std.proofs.Common.{rules, ◌≡◌, ◌∙◌, sym, ap, false, is_none, option_copied}
+use Rattle.std.proofs.Common.{rules, ◌≡◌, ◌∙◌, ap, false, is_none, option_copied}
 use Rattle.tcap_play.specs.Play as play
 use Rattle.tcap_play.specs.Play.{octets_at}
 use Rattle.tcap_play.specs.PlayViews.{messages_view}

@@ -1,4 +1,4 @@
-use Rattle.std.proofs.Common.{◌≡◌, ◌∙◌, ◌+◌, ap, string_bytes}
+use Rattle.std.proofs.Common.{◌∙◌, ◌+◌, ap, string_bytes}
 use Rattle.tcap_play.specs.Play.{behind, printed_from}
 use Rattle.tcap_play.proofs.FirstPieces.{pieces_left}
 use Rattle.tcap_play.proofs.PlayLines.{ended}

@@ -8,7 +8,7 @@ use Rattle.tcap_play.proofs.play.play_lines.Given as goal
 abbrev pub invariant-loop-rest : goal.invariant-loop-rest
 invariant-loop-rest g l =
     ((p : Played) → IsAt p l.fn.a l.fn.b → (q : Played) × IsAt q l.a l.b
-        × (behind (string_bytes l.fn.text) (printed_from 1 p (lines_of l.script)) ≡ behind (string_bytes l.text) (printed_from (l.number + 1) q (pieces_left 10 l.rest))))
+    × (behind (string_bytes l.fn.text) (printed_from 1 p (lines_of l.script)) ≡ behind (string_bytes l.text) (printed_from (l.number + 1) q (pieces_left 10 l.rest))))
     × (l.number + left l.rest ≤ length l.script + 1)
 
 abbrev pub decreases-loop-rest : goal.decreases-loop-rest

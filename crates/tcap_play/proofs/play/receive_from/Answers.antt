@@ -1,4 +1,4 @@
-use Rattle.std.proofs.Common.{rules, ◌≡◌, ◌∙◌, sym, ap, Some, option_copied}
+use Rattle.std.proofs.Common.{◌≡◌, ◌∙◌, ap, Some}
 use Rattle.tcap_play.specs.Play.{octets_at}
 use Rattle.tcap_play.specs.PlayViews.{fate_view, messages_view}
 use Rattle.tcap_play.proofs.MessagePlaces.{received}

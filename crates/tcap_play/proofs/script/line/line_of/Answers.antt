@@ -9,9 +9,9 @@ use Rattle.tcap_play.proofs.script.line.line_of.Goals as goal
 pub returns-then-count-eq9 : goal.returns-then-count-eq9
 returns-then-count-eq9 g c =
     let is = nine_words c.args.words.now _ _ _ _ _ _ _ _ _ c.if-count-eq9.true
-        c.index-words-0-then-count-eq9.is c.index-words-1-then-count-eq9.is c.index-words-2-then-count-eq9.is
-        c.index-words-3-then-count-eq9.is c.index-words-4-then-count-eq9.is c.index-words-5-then-count-eq9.is
-        c.index-words-6.is c.index-words-7.is c.index-words-8.is in
+    c.index-words-0-then-count-eq9.is c.index-words-1-then-count-eq9.is c.index-words-2-then-count-eq9.is
+    c.index-words-3-then-count-eq9.is c.index-words-4-then-count-eq9.is c.index-words-5-then-count-eq9.is
+    c.index-words-6.is c.index-words-7.is c.index-words-8.is in
     let request : option_map request_view c.invoke_request-request.result ≡ invoke_request_of (text_of c.index-words-3-then-count-eq9.result) (text_of c.index-words-4-then-count-eq9.result) (text_of c.index-words-5-then-count-eq9.result) (text_of c.index-words-6.result) (text_of c.index-words-7.result) (text_of c.index-words-8.result) = search rules in
     let whole : option_map line_view c.line_of_nine.result ≡ line_of_nine (text_of c.index-words-0-then-count-eq9.result) (text_of c.index-words-1-then-count-eq9.result) (text_of c.index-words-2-then-count-eq9.result) (option_map request_view c.invoke_request-request.result) = search rules in
     whole

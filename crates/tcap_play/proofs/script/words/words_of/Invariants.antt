@@ -1,4 +1,4 @@
-use Rattle.std.proofs.Common.{◌≡◌, ◌++◌, ℕ, List, Option, Some, None, [], length, ◌+◌}
+use Rattle.std.proofs.Common.{◌≡◌, ◌++◌}
 use Rattle.tcap_play.specs.LineViews.{texts_of}
 use Rattle.tcap_play.specs.Pieces.{words_of}
 use Rattle.tcap_play.proofs.FirstPieces.{pieces_left, left}
