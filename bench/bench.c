@@ -12,7 +12,8 @@
  * the parameter of its Invoke. MODE dialogue, ending: a dialogue is taken SIZE steps far, 1 the Invoke,
  * 2 the Begin, 3 the Continue (ending: the End) with its result, 4 a result queued, 5 the Continue sent.
  * MODE answer: reads that message, SIZE 1 the Continue, 2 the End. MODE engine1 to engine4: an engine
- * with SIZE dialogues open does COUNT laps of SIZE steps of that kind (engine4: of none).
+ * with SIZE dialogues open does COUNT laps of SIZE steps of that kind (engine4: of none). MODE
+ * invocations1 to invocations3: a dialogue with SIZE invocations Sent does COUNT laps of SIZE steps.
  */
 #include <stdint.h>
 #include <stdio.h>
@@ -38,6 +39,7 @@ size_t tcap_bench_write_continue(uint32_t otid, uint32_t dtid, const uint8_t *co
 size_t tcap_bench_rewrite(const uint8_t *bytes, size_t length, uint8_t *room, size_t room_length);
 uint64_t tcap_bench_dialogue(uint8_t steps, const uint8_t *bytes, size_t length);
 uint64_t tcap_bench_engine(uint8_t step, uint16_t dialogues, uint32_t laps);
+uint64_t tcap_bench_invocations(uint8_t step, uint16_t invocations, uint32_t laps);
 
 /* Where the program's memory is a buffer (buffer.c), all that a call took is given back behind it. */
 size_t memory_used(void) __attribute__((weak));
@@ -148,8 +150,14 @@ static unsigned engine_step(const char *mode) {
   return sscanf(mode, "engine%1u", &step) == 1 && step >= 1 && step <= 4 ? step : 0;
 }
 
+/* The kind of step of invocations1 to invocations3; 0 of any other mode. */
+static unsigned invocation_step(const char *mode) {
+  unsigned step;
+  return sscanf(mode, "invocations%1u", &step) == 1 && step >= 1 && step <= 3 ? step : 0;
+}
+
 static void make(const char *mode, unsigned size) {
-  if (engine_step(mode)) return;
+  if (engine_step(mode) || invocation_step(mode)) return;
   if (!strcmp(mode, "invokes")) make_invokes(size);
   else if (!strcmp(mode, "nested")) length = 0, add_nested(size);
   else if (!strcmp(mode, "inside")) make_inside(size);
@@ -166,8 +174,16 @@ static void run_engine(unsigned step, unsigned size, long laps) {
   if (given != (step < 4 ? 3 * (uint64_t)size * (uint64_t)laps : 0)) stop("the engine gave other outputs");
 }
 
+/* A result is told in a Continue and a Continue sent; a lapse is told and a Continue sent; nothing. */
+static void run_invocations(unsigned step, unsigned size, long laps) {
+  static const uint64_t outputs[] = {3, 2, 0};
+  uint64_t given = tcap_bench_invocations((uint8_t)step, (uint16_t)size, (uint32_t)laps);
+  if (given != outputs[step - 1] * size * (uint64_t)laps) stop("the dialogue gave other outputs");
+}
+
 static uint64_t repeat(const char *mode, unsigned size, long count) {
   if (engine_step(mode)) return run_engine(engine_step(mode), size, count), 1;
+  if (invocation_step(mode)) return run_invocations(invocation_step(mode), size, count), 1;
   uint64_t sum = 0;
   size_t mark = memory_used ? memory_used() : 0;
   if (!strcmp(mode, "write"))

@@ -33,9 +33,9 @@ fn end_to(open: &Open) -> [u8; 15] {
 }
 
 /// A Continue to a dialogue with the result of an invocation.
-fn continue_to(open: &Open) -> [u8; 21] {
-    let [a, b, c, d] = open.dialogue.to_be_bytes();
-    let [id] = open.id.to_be_bytes();
+pub(crate) fn result_to(dialogue: u32, id: i8) -> [u8; 21] {
+    let [a, b, c, d] = dialogue.to_be_bytes();
+    let [id] = id.to_be_bytes();
     [
         0x65, 0x13, 0x48, 0x04, 0x00, 0x00, 0x00, 0x05, 0x49, 0x04, a, b, c, d, 0x6c, 0x05, 0xa2,
         0x03, 0x02, 0x01, id,
@@ -84,7 +84,10 @@ fn receive_and_answer(engine: &mut Engine, open: &mut Open) -> Option<u64> {
 
 /// The peer goes on with a result, and so does this side with the next invocation.
 fn go_on(engine: &mut Engine, open: &mut Open) -> Option<u64> {
-    let told = engine.receive(&continue_to(open)).ok()?.len() as u64;
+    let told = engine
+        .receive(&result_to(open.dialogue, open.id))
+        .ok()?
+        .len() as u64;
     let id = open.id.wrapping_add(1);
     let operation = Code::Local(10);
     engine
@@ -136,7 +139,7 @@ fn open_all(alloc: Global, engine: &mut Engine, step: u8, dialogues: u16) -> Opt
 }
 
 /// The next of a row of numbers that look drawn by lot.
-fn next_seed(seed: u32) -> u32 {
+pub(crate) fn next_seed(seed: u32) -> u32 {
     seed.wrapping_mul(1_664_525).wrapping_add(1_013_904_223)
 }
 

@@ -12,6 +12,7 @@ ghost use Rattle.tcap_bench.specs.Rewritten.{rewritten};
 mod component_sum;
 mod dialogue_steps;
 mod engine_steps;
+mod invocation_steps;
 mod message_sum;
 mod rewritten;
 mod sum;
@@ -107,4 +108,23 @@ pub extern "C" fn tcap_bench_engine(alloc: Global, step: u8, dialogues: u16, lap
     ensures { (laps ≡ 0) → (result ≡ 0) }
 {
     engine_steps::count_engine(alloc, step, dialogues, laps)
+}
+
+/// Makes a dialogue with so many invocations Sent, and takes it so many laps far: in a lap as many steps
+/// as there are invocations, each at the next moment, and answers how many outputs the steps gave in
+/// all. A step is, 1: the result of one drawn by lot is received in a Continue, its identifier is free
+/// after the moment, and a Continue with it invoked again is sent; 2: the oldest lapses at the moment,
+/// and such a Continue is sent; 3: the moment alone, at which nothing is due. It answers 0 where memory
+/// is wanting (own).
+#[unsafe(no_mangle)]
+pub extern "C" fn tcap_bench_invocations(
+    alloc: Global,
+    step: u8,
+    invocations: u16,
+    laps: u32,
+) -> u64
+    // The dialogue that is opened first is no step: in no laps nothing is given.
+    ensures { (laps ≡ 0) → (result ≡ 0) }
+{
+    invocation_steps::count_invocations(alloc, step, invocations, laps)
 }

@@ -1,6 +1,6 @@
 use crate::{
-    Invocation, tcap_bench_engine, tcap_bench_rewrite, tcap_bench_write_begin,
-    tcap_bench_write_continue,
+    Invocation, tcap_bench_engine, tcap_bench_invocations, tcap_bench_rewrite,
+    tcap_bench_write_begin, tcap_bench_write_continue,
 };
 use std::alloc::Global;
 use std::test::Fail;
@@ -62,5 +62,15 @@ fn each_step_gives_three_outputs(rt: HostRuntime) -> Result<(), Fail> {
         assert_eq!(rt; tcap_bench_engine(rt.alloc(), step, 3, 2), 18);
     }
     assert_eq!(rt; tcap_bench_engine(rt.alloc(), 4, 3, 2), 0);
+    Ok(())
+}
+
+/// A result is told in a Continue and a Continue sent; a lapse is told and a Continue sent; a moment
+/// tells nothing. Two laps of three steps are made.
+#[test]
+fn each_step_of_a_dialogue_gives_its_outputs(rt: HostRuntime) -> Result<(), Fail> {
+    for (step, given) in [(1u8, 18u64), (2, 12), (3, 0)] {
+        assert_eq!(rt; tcap_bench_invocations(rt.alloc(), step, 3, 2), given);
+    }
     Ok(())
 }

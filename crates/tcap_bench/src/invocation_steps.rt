@@ -1,0 +1,147 @@
+//! A dialogue with many invocations under way, taken through one step over and over.
+
+ghost use Rattle.std.specs.Prelude.{◌≡◌, IfSome};
+
+use crate::engine_steps::{next_seed, result_to};
+use std::alloc::Global;
+use tcap_component::Code;
+use tcap_engine::{Engine, Limits};
+use tcap_invocation::Class;
+
+/// How long an invocation may take, in milliseconds, where none is to lapse: longer than any run.
+const TIMEOUT_MS: u64 = 1 << 40;
+
+/// A Continue without components to a dialogue.
+fn continue_to(dialogue: u32) -> [u8; 14] {
+    let [a, b, c, d] = dialogue.to_be_bytes();
+    [
+        0x65, 0x0c, 0x48, 0x04, 0x00, 0x00, 0x00, 0x05, 0x49, 0x04, a, b, c, d,
+    ]
+}
+
+/// The identifier of this place, from 0 on.
+fn id_at(place: u64) -> i8 {
+    place.to_be_bytes()[7].cast_signed()
+}
+
+/// An invocation is queued.
+fn invoke(engine: &mut Engine, dialogue: u32, id: i8, timeout_ms: u64) -> Option<u64> {
+    let operation = Code::Local(10);
+    engine
+        .invoke(dialogue, id, Class::One, operation, None, None, timeout_ms)
+        .ok()
+}
+
+/// An Active dialogue with so many invocations Sent. For the second kind of step one lapses at each
+/// moment from 1 on, in order of their identifiers' places.
+fn open_dialogue(engine: &mut Engine, step: u8, invocations: u16) -> Option<u32> {
+    let dialogue = engine.new_dialogue().ok()?;
+    for place in 0..invocations as u64 {
+        let timeout_ms = if step == 2 {
+            place.saturating_add(1)
+        } else {
+            TIMEOUT_MS
+        };
+        invoke(engine, dialogue, id_at(place), timeout_ms)?;
+    }
+    engine.begin(dialogue, None, &[]).ok()?;
+    engine.receive(&continue_to(dialogue)).ok()?;
+    Some(dialogue)
+}
+
+/// The invocation of this identifier lapsed or got its result and is free: it is made again.
+fn invoke_again(engine: &mut Engine, dialogue: u32, id: i8, timeout_ms: u64) -> Option<u64> {
+    invoke(engine, dialogue, id, timeout_ms)?;
+    let sent = engine.go_on(dialogue, None, &[]).ok()?;
+    Some(sent.len() as u64)
+}
+
+/// The result of an invocation is received, a moment frees its identifier, and it is made again.
+fn answer_one(engine: &mut Engine, dialogue: u32, id: i8, moment: u64) -> Option<u64> {
+    let told = engine.receive(&result_to(dialogue, id)).ok()?.len() as u64;
+    engine.advance(moment).ok()?;
+    let sent = invoke_again(engine, dialogue, id, TIMEOUT_MS)?;
+    Some(told.saturating_add(sent))
+}
+
+/// An invocation lapses, and is made again with so long a timeout.
+fn lapse_one(
+    engine: &mut Engine,
+    dialogue: u32,
+    id: i8,
+    moment: u64,
+    timeout_ms: u64,
+) -> Option<u64> {
+    let told = engine.advance(moment).ok()?.len() as u64;
+    let sent = invoke_again(engine, dialogue, id, timeout_ms)?;
+    Some(told.saturating_add(sent))
+}
+
+/// One step, at the moment after the last: how many outputs it gives.
+fn step_once(
+    engine: &mut Engine,
+    step: u8,
+    dialogue: u32,
+    invocations: u16,
+    seed: u32,
+) -> Option<u64> {
+    let moment = engine.now().saturating_add(1);
+    let all = invocations as u64;
+    match step {
+        1 => {
+            let drawn = (seed as u64 >> 16).wrapping_mul(all) >> 16;
+            answer_one(engine, dialogue, id_at(drawn), moment)
+        }
+        2 => {
+            let due = (moment.saturating_sub(1)).checked_rem(all)?;
+            lapse_one(engine, dialogue, id_at(due), moment, all)
+        }
+        _ => Some(engine.advance(moment).ok()?.len() as u64),
+    }
+}
+
+/// As many steps as there are invocations: how many outputs they give.
+fn count_lap(
+    engine: &mut Engine,
+    step: u8,
+    dialogue: u32,
+    invocations: u16,
+    seed: &mut u32,
+) -> Option<u64> {
+    let mut count = 0u64;
+    for _ in 0..invocations {
+        *seed = next_seed(*seed);
+        let given = step_once(engine, step, dialogue, invocations, *seed)?;
+        count = count.saturating_add(given);
+    }
+    Some(count)
+}
+
+/// So many laps on a dialogue with so many invocations; nothing where memory is wanting.
+fn count_laps(alloc: Global, step: u8, invocations: u16, laps: u32) -> Option<u64>
+    ensures { (laps ≡ 0) → IfSome result (λ count. count ≡ 0) }
+{
+    let limits = Limits {
+        max_dialogues: 1,
+        reject_ms: 0,
+    };
+    let mut engine = Engine::new(alloc, limits);
+    let dialogue = open_dialogue(&mut engine, step, invocations)?;
+    let mut seed = 1u32;
+    let mut count = 0u64;
+    for _ in 0..laps {
+        let given = count_lap(&mut engine, step, dialogue, invocations, &mut seed)?;
+        count = count.saturating_add(given);
+    }
+    Some(count)
+}
+
+/// How many outputs the laps give; 0 where memory is wanting.
+pub fn count_invocations(alloc: Global, step: u8, invocations: u16, laps: u32) -> u64
+    ensures { (laps ≡ 0) → (result ≡ 0) }
+{
+    match count_laps(alloc, step, invocations, laps) {
+        Some(count) => count,
+        None => 0,
+    }
+}
