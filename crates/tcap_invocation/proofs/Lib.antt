@@ -5,4 +5,6 @@ pub mod LapseLemmas
 mod ListLemmas
 pub mod OrderLemmas
 pub mod RemovalLemmas
+mod SortLemmas
 pub mod TellingLemmas
+mod TimerLemmas

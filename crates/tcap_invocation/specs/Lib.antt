@@ -7,3 +7,5 @@ pub mod Invocations
 pub mod Lapses
 pub mod Order
 pub mod Stage
+pub mod TimerList
+pub mod Timers

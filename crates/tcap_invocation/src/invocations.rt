@@ -5,6 +5,7 @@ ghost use Rattle.tcap_invocation.specs.Stage.{moment_limit, IsTimeout, IsTimely,
 pub(crate) mod answers;
 pub(crate) mod closing;
 pub(crate) mod lapse;
+mod timers;
 
 use crate::class::Class;
 use crate::fault::AddFault;

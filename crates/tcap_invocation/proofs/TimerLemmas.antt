@@ -1,0 +1,72 @@
+-- The order of timers, and what is due of timers in order.
+use Rattle.std.proofs.Common.{◌≡◌, ℕ, zero, suc, ◌+◌, ◌<◌, Bool, true, false, cond, List, [], ◌∷◌, length, insert, remove, take, filter, Option, Some, None, refl, ap, sym, subst, ◌∙◌, arith, tests, nat_lt, nat_le, ◌&&◌, slice_index_or, if◌then◌else◌}
+use Rattle.std.specs.Prelude.{filter_map}
+use Rattle.std.specs.List.{cons_option}
+use Rattle.std.specs.List.Sorted.{IsPartitionedBy, IsPartitionPoint}
+use Rattle.std.specs.List.{AllWithin}
+use Rattle.tcap_invocation.specs.declared.invocations.lapse.Lapse.{Lapse}
+use Rattle.tcap_invocation.specs.declared.invocations.timers.Timer.{Timer}
+use Rattle.tcap_invocation.specs.Order.{put_by, in_order_by}
+use Rattle.tcap_invocation.specs.TimerList.{is_earlier, IsInOrder, told_of_timer}
+use Rattle.tcap_invocation.proofs.InsertionLemmas.{Ahead, Ordered, ordered_put, ordered_in_order}
+use Rattle.tcap_invocation.proofs.SortLemmas.{in_order-fixed, IsPartitionedBy-ordered, IsPartitionedBy-before, ordered_filter, ordered_remove, put_put}
+
+pub earlier_once : (a b : Timer) → is_earlier a b ≡ true → is_earlier b a ≡ false
+earlier_once a b h = grind (arith, tests, h)
+
+pub not_earlier : (a b c : Timer) → is_earlier b a ≡ false → is_earlier c b ≡ false → is_earlier c a ≡ false
+not_earlier a b c h k = grind (arith, tests, h, k)
+
+pub earlier_never : (a : Timer) → is_earlier a a ≡ false
+earlier_never a = grind (arith, tests)
+
+-- two timers of different numbers are put in either order
+pub put-swapped : (a b : Timer) (ts : List Timer) → a.number < b.number → put_by is_earlier a (put_by is_earlier b ts) ≡ put_by is_earlier b (put_by is_earlier a ts)
+put-swapped a b ts less = go (is_earlier a b) refl
+  where
+    go : (c : Bool) → is_earlier a b ≡ c → put_by is_earlier a (put_by is_earlier b ts) ≡ put_by is_earlier b (put_by is_earlier a ts)
+    go true e = put_put is_earlier earlier_once not_earlier a b ts e
+    go false e = let other : is_earlier b a ≡ true = grind (arith, tests, less, e) in sym (put_put is_earlier earlier_once not_earlier b a ts other)
+
+-- ---- in order
+
+pub ordered : (ts : List Timer) → IsInOrder ts → Ordered is_earlier ts
+ordered ts o = subst (Ordered is_earlier) o (ordered_in_order is_earlier earlier_once not_earlier ts)
+
+pub IsInOrder-put : (t : Timer) (ts : List Timer) → IsInOrder ts → IsInOrder (put_by is_earlier t ts)
+IsInOrder-put t ts o = in_order-fixed is_earlier (put_by is_earlier t ts) (ordered_put is_earlier earlier_once not_earlier t ts (ordered ts o))
+
+pub IsInOrder-filter : (p : Timer → Bool) (ts : List Timer) → IsInOrder ts → IsInOrder (filter p ts)
+IsInOrder-filter p ts o = in_order-fixed is_earlier (filter p ts) (ordered_filter is_earlier p ts (ordered ts o))
+
+pub IsInOrder-remove : (ts : List Timer) (i : ℕ) → IsInOrder ts → IsInOrder (remove ts i)
+IsInOrder-remove ts i o = in_order-fixed is_earlier (remove ts i) (ordered_remove is_earlier ts i (ordered ts o))
+
+pub IsPartitionedBy-timer : (ts : List Timer) (t : Timer) → IsInOrder ts → IsPartitionedBy (λ y. is_earlier y t) ts
+IsPartitionedBy-timer ts t o = IsPartitionedBy-before is_earlier earlier_once not_earlier ts t (ordered ts o)
+
+pub IsPartitionedBy-clock : (ts : List Timer) (clock : ℕ) → IsInOrder ts → IsPartitionedBy (λ y. nat_le y.time clock) ts
+IsPartitionedBy-clock ts clock o = IsPartitionedBy-ordered is_earlier (λ y. nat_le y.time clock) (λ x y e p. grind (arith, tests, e, p)) ts (ordered ts o)
+
+-- ---- what is due
+
+abbrev lapse_at_time : Timer → Lapse
+lapse_at_time t = record { deadline = t.time; number = t.number; id = t.id }
+
+untold : (clock : ℕ) (t : Timer) → nat_le t.time clock ≡ false → told_of_timer clock t ≡ None
+untold clock t late = go t.lapses (nat_le t.time clock) late
+  where
+    go : (b c : Bool) → c ≡ false → cond (b && c) (Some (lapse_at_time t)) None ≡ None
+    go true true e = absurd cc
+    go true false e = refl
+    go false c e = refl
+
+-- what stands behind those whose time has come isn't told
+pub told-front : (clock : ℕ) (ts : List Timer) (i : ℕ) → AllWithin (λ t. nat_le t.time clock ≡ false) ts i (length ts) → filter_map (told_of_timer clock) (take i ts) ≡ filter_map (told_of_timer clock) ts
+told-front clock [] zero a = refl
+told-front clock [] (suc i) a = refl
+told-front clock (t ∷ ts) zero a =
+    let first = untold clock t (a 0 t (omega arith) (omega arith)) in
+    let rest = told-front clock ts zero (λ k d low high. a (suc k) d (omega arith) (omega (arith, high))) in
+    rw first rest
+told-front clock (t ∷ ts) (suc i) a = ap (cons_option (told_of_timer clock t)) (told-front clock ts i (λ k d low high. a (suc k) d (omega (arith, low)) (omega (arith, high))))

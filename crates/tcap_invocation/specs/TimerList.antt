@@ -1,0 +1,58 @@
+-- The timers that are kept beside the rows: one for each Sent or Waiting row, by time, then number.
+use Rattle.std.specs.Prelude.{◌≡◌, ℕ, ℤ, ◌≤◌, ◌==◌, ◌&&◌, ◌||◌, Bool, true, false, nat_lt, nat_le, List, length, filter_map, Option, Some, None, if◌then◌else◌}
+use Rattle.std.specs.List.Sorted.{IsPartitionPoint}
+use Rattle.tcap_invocation.specs.declared.invocations.lapse.Lapse.{Lapse}
+use Rattle.tcap_invocation.specs.declared.invocations.timers.Timer.{Timer}
+use Rattle.tcap_invocation.specs.declared.stage.Stage.{Stage}
+use Rattle.tcap_invocation.specs.declared.stage.Stage.TheVariants.{Queued, Sent, Waiting}
+use Rattle.tcap_invocation.specs.Order.{in_order_by}
+use Rattle.tcap_invocation.specs.Invocations.{Row}
+
+-- What a contract sees of the timers: the list, and for how many there is room (own).
+pub record TimerList : Type 0 where
+  pub timers : List Timer
+  pub room : ℕ
+
+-- Timers stand by time, then by number (own).
+abbrev pub is_earlier : Timer → Timer → Bool
+is_earlier a b = nat_lt a.time b.time || ((a.time == b.time) && nat_lt a.number b.number)
+
+-- The list stands in this order: sorting changes nothing (own).
+abbrev pub IsInOrder : List Timer → Type 0
+IsInOrder timers = in_order_by is_earlier timers ≡ timers
+
+-- The timers before this place are earlier than the timer, those from it on aren't (own).
+abbrev pub IsPlace : Timer → List Timer → ℕ → Type 0
+IsPlace timer timers place = IsPartitionPoint (λ t. is_earlier t timer ≡ true) (λ t. is_earlier t timer ≡ false) timers place
+
+-- The timer of an invocation: its deadline where it is Sent, the end of its wait where it is Waiting (own).
+abbrev pub timer_with : ℤ → ℕ → Stage → Option Timer
+timer_with id number (Queued timeout) = None
+timer_with id number (Sent deadline) = Some (record { time = deadline; number = number; id = id; lapses = true })
+timer_with id number (Waiting until) = Some (record { time = until; number = number; id = id; lapses = false })
+
+-- The timer of a row (own).
+abbrev pub timer_of : Row → Option Timer
+timer_of r = timer_with r.0 r.1.number r.1.stage
+
+-- The timers of all rows, in order (own).
+abbrev pub timers_at : List Row → List Timer
+timers_at rows = in_order_by is_earlier (filter_map timer_of rows)
+
+-- What is told at the clock of an invocation with this timer (own).
+abbrev pub told_of_timer : ℕ → Timer → Option Lapse
+told_of_timer clock t =
+    if t.lapses && nat_le t.time clock then Some (record { deadline = t.time; number = t.number; id = t.id }) else None
+
+-- The time hasn't come at the clock (own).
+abbrev pub is_later : ℕ → Timer → Bool
+is_later clock t = nat_lt clock t.time
+
+-- The timer isn't that of a wait which is over at the clock (own).
+abbrev pub is_kept : ℕ → Timer → Bool
+is_kept clock t = t.lapses || nat_lt clock t.time
+
+-- What ties the timers to the rows: they are those of the rows, and there is room for one of each row (own).
+pub record IsTimed (rows : List Row) (list : TimerList) : Type 0 where
+  pub timers : list.timers ≡ timers_at rows
+  pub room : length rows ≤ list.room
