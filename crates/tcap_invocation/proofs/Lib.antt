@@ -7,4 +7,7 @@ pub mod OrderLemmas
 pub mod RemovalLemmas
 mod SortLemmas
 pub mod TellingLemmas
+mod TiedLemmas
+mod TimedLemmas
+mod TimelyLemmas
 mod TimerLemmas

@@ -92,6 +92,83 @@ module _ {A : Type 0} (before : A → A → Bool) where
   ordered_remove (x ∷ xs) zero o = o.1
   ordered_remove (x ∷ xs) (suc i) o = (ahead_remove x xs i o.0, ordered_remove xs i o.1)
 
+  -- ---- what is told of the elements
+
+  module _ {B : Type 0} (after : B → B → Bool) (f : A → Option B) (same : (x y : A) (u v : B) → f x ≡ Some u → f y ≡ Some v → before x y ≡ after u v) where
+    abbrev put_told : Option B → List B → List B
+    put_told None us = us
+    put_told (Some u) us = put_by after u us
+
+    ahead_told : (x : A) (u : B) (ys : List A) → f x ≡ Some u → Ahead before x ys → Ahead after u (filter_map f ys)
+    ahead_told x u [] e a = tt
+    ahead_told x u (y ∷ ys) e a = go (f y) refl (ahead_told x u ys e a.1)
+      where
+        go : (o : Option B) → f y ≡ o → Ahead after u (filter_map f ys) → Ahead after u (cons_option o (filter_map f ys))
+        go None q rest = rest
+        go (Some v) q rest = (sym (same y x v u q e) ∙ a.0, rest)
+
+    module _ (behind : (a b c : A) → before b a ≡ false → before c b ≡ false → before c a ≡ false) (once : (a b : A) → before a b ≡ true → before b a ≡ false) where
+      told_put : (x : A) (ys : List A) → Ordered before ys → filter_map f (put_by before x ys) ≡ put_told (f x) (filter_map f ys)
+      told_put x [] o = alone (f x)
+        where
+          alone : (p : Option B) → cons_option p [] ≡ put_told p []
+          alone None = refl
+          alone (Some u) = refl
+      told_put x (y ∷ ys) o = go (before y x) refl (told_put x ys o.1)
+        where
+          later : (p q : Option B) → f x ≡ p → f y ≡ q → before y x ≡ true → cons_option q (put_told p (filter_map f ys)) ≡ put_told p (cons_option q (filter_map f ys))
+          later None q d e b = refl
+          later (Some u) None d e b = refl
+          later (Some u) (Some v) d e b = rw (sym (same y x v u e d) ∙ b) refl
+
+          first : (p : Option B) → f x ≡ p → before y x ≡ false → cons_option p (filter_map f (y ∷ ys)) ≡ put_told p (filter_map f (y ∷ ys))
+          first None d b = refl
+          first (Some u) d b = sym (put_first u (filter_map f (y ∷ ys)) (ahead_told x u (y ∷ ys) d (b, ahead_later before once behind x y ys b o.0)))
+            where
+              put_first : (u : B) (us : List B) → Ahead after u us → put_by after u us ≡ u ∷ us
+              put_first u [] a = refl
+              put_first u (v ∷ vs) a = rw a.0 refl
+
+          go : (b : Bool) → before y x ≡ b → filter_map f (put_by before x ys) ≡ put_told (f x) (filter_map f ys)
+              → filter_map f (cond b (y ∷ put_by before x ys) (x ∷ y ∷ ys)) ≡ put_told (f x) (filter_map f (y ∷ ys))
+          go true b rest = ap (cons_option (f y)) rest ∙ later (f x) (f y) refl refl b
+          go false b rest = first (f x) refl b
+
+      -- what is told of the sorted elements is what is told of them, sorted
+      pub told_in_order : (xs : List A) → filter_map f (in_order_by before xs) ≡ in_order_by after (filter_map f xs)
+      told_in_order [] = refl
+      told_in_order (x ∷ xs) = told_put x (in_order_by before xs) (ordered_in_order before once behind xs) ∙ go (f x) (told_in_order xs)
+        where
+          go : (o : Option B) → filter_map f (in_order_by before xs) ≡ in_order_by after (filter_map f xs) → put_told o (filter_map f (in_order_by before xs)) ≡ in_order_by after (cons_option o (filter_map f xs))
+          go None e = e
+          go (Some u) e = ap (put_by after u) e
+
+  -- elements that pass a test, as what is told
+  abbrev only : (A → Bool) → A → Option A
+  only p x = if p x then Some x else None
+
+  only-is : (p : A → Bool) (x u : A) → only p x ≡ Some u → x ≡ u
+  only-is p x u = go (p x)
+    where
+      go : (b : Bool) → (if b then Some x else None) ≡ Some u → x ≡ u
+      go true e = cc
+      go false e = absurd cc
+
+  filter_only : (p : A → Bool) (xs : List A) → filter_map (only p) xs ≡ filter p xs
+  filter_only p [] = refl
+  filter_only p (x ∷ xs) = go (p x) (filter_only p xs)
+    where
+      go : (b : Bool) → filter_map (only p) xs ≡ filter p xs → cons_option (if b then Some x else None) (filter_map (only p) xs) ≡ cond b (x ∷ filter p xs) (filter p xs)
+      go true e = ap (λ l. x ∷ l) e
+      go false e = e
+
+  module _ (once : (a b : A) → before a b ≡ true → before b a ≡ false) (behind : (a b c : A) → before b a ≡ false → before c b ≡ false → before c a ≡ false) where
+    pub filter_in_order : (p : A → Bool) (xs : List A) → filter p (in_order_by before xs) ≡ in_order_by before (filter p xs)
+    filter_in_order p xs =
+        sym (filter_only p (in_order_by before xs))
+        ∙ told_in_order before (only p) (λ x y u v d e. let k = only-is p x u d in let l = only-is p y v e in (λ j. before (k j) (l j))) behind once xs
+        ∙ ap (in_order_by before) (filter_only p xs)
+
   -- ---- what a binary search finds
 
   abbrev pub IsAt : A → List A → ℕ → Type 0

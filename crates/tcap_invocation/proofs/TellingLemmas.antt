@@ -164,4 +164,16 @@ ended_at-first list sound = go (first_ended_at list.rows) refl
     go None e = tt
     go (Some one) e = ended_at-after_close_one list one sound.distinct e
 
+-- what is told first is told of an invocation
+pub first_ended-entry : (rows : List Row) (e : ℕ × ℤ) → IsDistinct int_eq (keys_of rows) → first_ended_at rows ≡ Some e → entry_at rows e.1 ≡ None → ⊥
+first_ended-entry rows e distinct first none = go (ended_at rows) (told-own ended_of (λ (p : ℕ × ℤ). p.1) ended-named rows distinct) first
+  where
+    go : (es : List (ℕ × ℤ)) → AllByRecursion (λ (p : ℕ × ℤ). told_of ended_of (λ (p : ℕ × ℤ). p.1) ended-named p.1 (lookup (int_eq p.1) rows) ≡ Some p) es → first_of es ≡ Some e → ⊥
+    go [] own h = absurd cc
+    go (x ∷ xs) own h =
+        let same : x ≡ e = cc in
+        let mine = subst (λ (p : ℕ × ℤ). told_of ended_of (λ (p : ℕ × ℤ). p.1) ended-named p.1 (lookup (int_eq p.1) rows) ≡ Some p) same own.0 in
+        let bad : None ≡ Some e = rw none at mine in
+        absurd cc
+
 pub ruleset lapse_rules = (after_lapse-after_lapse_one)

@@ -50,7 +50,7 @@ IsPartitionedBy-clock ts clock o = IsPartitionedBy-ordered is_earlier (λ y. nat
 
 -- ---- what is due
 
-abbrev lapse_at_time : Timer → Lapse
+abbrev pub lapse_at_time : Timer → Lapse
 lapse_at_time t = record { deadline = t.time; number = t.number; id = t.id }
 
 untold : (clock : ℕ) (t : Timer) → nat_le t.time clock ≡ false → told_of_timer clock t ≡ None

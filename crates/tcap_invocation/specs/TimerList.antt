@@ -1,12 +1,12 @@
 -- The timers that are kept beside the rows: one for each Sent or Waiting row, by time, then number.
-use Rattle.std.specs.Prelude.{◌≡◌, ℕ, ℤ, ◌≤◌, ◌==◌, ◌&&◌, ◌||◌, Bool, true, false, nat_lt, nat_le, List, length, filter_map, Option, Some, None, if◌then◌else◌}
+use Rattle.std.specs.Prelude.{◌≡◌, ℕ, zero, suc, ℤ, ◌≤◌, ◌==◌, ◌&&◌, ◌||◌, Bool, true, false, nat_lt, nat_le, List, [], ◌∷◌, length, filter_map, Option, Some, None, if◌then◌else◌}
 use Rattle.std.specs.List.Sorted.{IsPartitionPoint}
 use Rattle.tcap_invocation.specs.declared.invocations.lapse.Lapse.{Lapse}
 use Rattle.tcap_invocation.specs.declared.invocations.timers.Timer.{Timer}
 use Rattle.tcap_invocation.specs.declared.stage.Stage.{Stage}
 use Rattle.tcap_invocation.specs.declared.stage.Stage.TheVariants.{Queued, Sent, Waiting}
-use Rattle.tcap_invocation.specs.Order.{in_order_by}
-use Rattle.tcap_invocation.specs.Invocations.{Row}
+use Rattle.tcap_invocation.specs.Order.{put_by, in_order_by}
+use Rattle.tcap_invocation.specs.Invocations.{Row, sent_entry}
 
 -- What a contract sees of the timers: the list, and for how many there is room (own).
 pub record TimerList : Type 0 where
@@ -39,6 +39,11 @@ timer_of r = timer_with r.0 r.1.number r.1.stage
 abbrev pub timers_at : List Row → List Timer
 timers_at rows = in_order_by is_earlier (filter_map timer_of rows)
 
+-- The list with a timer more, if there is one (own).
+abbrev pub put_timer : Option Timer → List Timer → List Timer
+put_timer None timers = timers
+put_timer (Some timer) timers = put_by is_earlier timer timers
+
 -- What is told at the clock of an invocation with this timer (own).
 abbrev pub told_of_timer : ℕ → Timer → Option Lapse
 told_of_timer clock t =
@@ -51,6 +56,22 @@ is_later clock t = nat_lt clock t.time
 -- The timer isn't that of a wait which is over at the clock (own).
 abbrev pub is_kept : ℕ → Timer → Bool
 is_kept clock t = t.lapses || nat_lt clock t.time
+
+-- The time of a timer, if there is one, has come at the clock (own).
+abbrev pub has_come : ℕ → Option Timer → Bool
+has_come clock None = false
+has_come clock (Some timer) = nat_le timer.time clock
+
+-- The rows, with the one at this place sent (own).
+abbrev pub sent_place : ℕ → ℕ → List Row → List Row
+sent_place clock place [] = []
+sent_place clock zero (r ∷ rs) = (r.0, sent_entry clock r.1) ∷ rs
+sent_place clock (suc place) (r ∷ rs) = r ∷ sent_place clock place rs
+
+-- The rows, with those before this place sent (own).
+abbrev pub sent_below : ℕ → ℕ → List Row → List Row
+sent_below clock zero rows = rows
+sent_below clock (suc place) rows = sent_place clock place (sent_below clock place rows)
 
 -- What ties the timers to the rows: they are those of the rows, and there is room for one of each row (own).
 pub record IsTimed (rows : List Row) (list : TimerList) : Type 0 where

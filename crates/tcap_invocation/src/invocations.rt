@@ -1,10 +1,12 @@
 ghost use Rattle.std.specs.Prelude.{◌≡◌, ◌↔◌, ◌≤◌, [], is_some, IsSome, IfSome, IfNone, OnOk, OnErr, IsErrOf, IsOkUnless, IsTrue, true, Err};
-ghost use Rattle.tcap_invocation.specs.Invocations.{InvocationList, AllBelow, IsSound, entry_at, passing, sent_at, add_fault, added, after_sent, sent_entry};
-ghost use Rattle.tcap_invocation.specs.Stage.{moment_limit, IsTimeout, IsTimely, is_sent};
+ghost use Rattle.tcap_invocation.specs.Invocations.{InvocationList, AllBelow, IsSound, entry_at, passing, sent_at, add_fault, added, after_sent};
+ghost use Rattle.tcap_invocation.specs.Stage.{moment_limit, IsTimeout};
+ghost use Rattle.tcap_invocation.specs.Timers.{next_timer_at};
 
 pub(crate) mod answers;
 pub(crate) mod closing;
 pub(crate) mod lapse;
+mod timed;
 mod timers;
 
 use crate::class::Class;
@@ -14,6 +16,8 @@ use indexmap::IndexMap;
 use std::alloc::{Allocator, Global};
 use std::hash::{BuildHasherDefault, FoldHasher};
 use std::marker::Model;
+use timed::send_queued;
+use timers::Timers;
 
 /// What is known of an invoke identifier that is in use.
 #[derive(Clone, Copy, Debug, PartialEq, Eq)]
@@ -31,25 +35,29 @@ type Entries<A> = IndexMap<i8, Invocation, BuildHasherDefault<FoldHasher>, A>;
 /// - Requests of the TC-user and of the dialogue: `add`, `sent`, `give_up`, `free_wait`, `close_all`, or
 ///   one by one `open_count` and `close_one`.
 /// - Answers that were received: `on_result`, `on_error`, `on_reject`.
-/// - Time: `lapse`, or one by one `due_count`, `first_due`, `lapse_one` and `free_due`.
+/// - Time: `lapse`, or one by one `due_count`, `first_due`, `lapse_one` and `free_due`; `next_timer` tells
+///   when it next changes something.
 /// - Getters: `is_open`, `in_use`, `is_above_all`.
 ///
 /// Moments and lengths of time are in milliseconds by the caller's clock. A contract sees the length of
-/// the wait and the rows, and forgets how much room the table has.
+/// the wait and the rows, and forgets the timers, which are those of the rows, and how much room there is.
 #[derive(Debug, Drop)]
 pub struct Invocations<A: Allocator + Copy = Global> {
     entries: Entries<A>,
+    /// Of each Sent or Waiting entry, with room for one of each entry.
+    timers: Timers<A>,
     reject_ms: u64,
 }
 
 impl<A: Allocator + Copy> Model for Invocations<A> {
     ghost use Rattle.tcap_invocation.specs.Invocations.{InvocationList, IsSound};
+    ghost use Rattle.tcap_invocation.specs.TimerList.{IsTimed};
 
     ghost Value = { InvocationList };
 
     ghost view = { λ v. record { reject_ms = v.reject_ms; rows = v.entries.entries } };
 
-    ghost invariant = { λ v. IsSound (record { reject_ms = v.reject_ms; rows = v.entries.entries }) };
+    ghost invariant = { λ v. IsSound (record { reject_ms = v.reject_ms; rows = v.entries.entries }) × IsTimed v.entries.entries v.timers };
 }
 
 impl<A: Allocator + Copy> Invocations<A> {
@@ -61,6 +69,7 @@ impl<A: Allocator + Copy> Invocations<A> {
     {
         Invocations {
             entries: IndexMap::new(alloc),
+            timers: Timers::new(alloc),
             reject_ms,
         }
     }
@@ -115,6 +124,9 @@ impl<A: Allocator + Copy> Invocations<A> {
             class,
             stage: Stage::Queued(timeout),
         };
+        if self.timers.reserve(self.entries.len() + 1).is_err() {
+            return Err(AddFault::OutOfMemory);
+        }
         self.entries.insert(id, entry)?;
         Ok(())
     }
@@ -124,14 +136,17 @@ impl<A: Allocator + Copy> Invocations<A> {
         requires { clock ≤ moment_limit }
         ensures { self.new ≡ after_sent self.old clock }
     {
-        self.entries.retain(
-            |_id: &i8, entry: &mut Invocation| -> bool
-                ensures { (result ≡ true) × (clock ≤ moment_limit → IsTimely entry.old.stage → entry.new ≡ sent_entry clock entry.old) }
-            {
-                entry.stage = entry.stage.sent(clock);
-                true
-            },
-        );
+        send_queued(&mut self.entries, &mut self.timers, clock);
+    }
+
+    /// The moment at which time next changes something: the least deadline of a Sent invocation or end of
+    /// the wait of an identifier, in milliseconds, at most 2^63. Nothing where there is none. It takes no
+    /// memory (own).
+    #[tactic(auto, using(crate::proofs::TimelyLemmas::timely_rules))]
+    pub fn next_timer(&self) -> Option<u64>
+        ensures { result ≡ next_timer_at self.now.rows }
+    {
+        Some(self.timers.first()?.time)
     }
 }
 

@@ -1,5 +1,4 @@
-ghost use Rattle.std.specs.Prelude.{◌≡◌, ◌≤◌};
-ghost use Rattle.tcap_invocation.specs.Stage.{IsTimely, moment_limit, sent_stage};
+ghost use Rattle.std.specs.Prelude.{◌≡◌};
 ghost use Rattle.tcap_invocation.specs.Lapses.{is_held, stays, due_deadline};
 
 /// The latest moment of the clock and the longest timeout, in milliseconds: 2^62 (our own).
@@ -35,18 +34,6 @@ pub enum Stage {
 }
 
 impl Stage {
-    /// The stage once the message with the Invoke went out at this moment, at most 2^62.
-    pub(crate) fn sent(self, clock: u64) -> Stage
-        ensures { clock ≤ moment_limit → IsTimely self → result ≡ sent_stage clock self }
-    {
-        match self {
-            // The sum fits: a closure, which calls this for each entry, can't require it.
-            Stage::Queued(timeout) => Stage::Sent(clock.saturating_add(timeout)),
-            Stage::Sent(deadline) => Stage::Sent(deadline),
-            Stage::Waiting(until) => Stage::Waiting(until),
-        }
-    }
-
     /// The deadline, if it is at most the clock.
     pub(crate) fn due_deadline(self, clock: u64) -> Option<u64>
         ensures { result ≡ due_deadline clock self }

@@ -1,16 +1,11 @@
-ghost use Rattle.std.specs.List.{IsDistinct};
-ghost use Rattle.std.specs.Map.{keys_of};
-ghost use Rattle.std.specs.Ordering.{int_eq};
 ghost use Rattle.std.specs.Prelude.{◌≡◌, ◌≤◌};
 ghost use Rattle.tcap_invocation.specs.Class.{return_result};
 ghost use Rattle.tcap_invocation.specs.Class.Received.{return_error};
 ghost use Rattle.tcap_invocation.specs.Answers.{verdict_on, after_received, rejected_at, after_reject};
-ghost use Rattle.tcap_invocation.specs.Invocations.{at_stage};
 ghost use Rattle.tcap_invocation.specs.Stage.{moment_limit};
-ghost use Rattle.tcap_invocation.specs.declared.stage.Stage.TheVariants.{Waiting};
 
-use super::{Entries, Invocation, Invocations, sent_at};
-use crate::stage::Stage;
+use super::timed::{take_out, wait};
+use super::{Invocations, sent_at};
 use std::alloc::Allocator;
 use tcap_component::Kind;
 
@@ -36,11 +31,12 @@ impl<A: Allocator + Copy> Invocations<A> {
             return Verdict::Unknown;
         };
         if !entry.class.reports_success() {
-            self.entries.shift_remove(&id);
+            take_out(&mut self.entries, &mut self.timers, &id, &entry);
             return Verdict::Unexpected(entry.number);
         }
         if last {
-            wait(&mut self.entries, &id, entry, clock + self.reject_ms);
+            let until = clock + self.reject_ms;
+            wait(&mut self.entries, &mut self.timers, &id, entry, until);
         }
         Verdict::Good(entry.number)
     }
@@ -55,10 +51,11 @@ impl<A: Allocator + Copy> Invocations<A> {
             return Verdict::Unknown;
         };
         if !entry.class.reports_failure() {
-            self.entries.shift_remove(&id);
+            take_out(&mut self.entries, &mut self.timers, &id, &entry);
             return Verdict::Unexpected(entry.number);
         }
-        wait(&mut self.entries, &id, entry, clock + self.reject_ms);
+        let until = clock + self.reject_ms;
+        wait(&mut self.entries, &mut self.timers, &id, entry, until);
         Verdict::Good(entry.number)
     }
 
@@ -71,23 +68,10 @@ impl<A: Allocator + Copy> Invocations<A> {
         let entry = sent_at(&self.entries, &id)?;
         match kind {
             Kind::General | Kind::Invoke => {
-                self.entries.shift_remove(&id);
+                take_out(&mut self.entries, &mut self.timers, &id, &entry);
                 Some(entry.number)
             }
             Kind::Result | Kind::Error => None,
         }
-    }
-}
-
-/// The identifier of an invocation that a result or an error closed waits for a Reject.
-fn wait<A: Allocator + Copy>(entries: &mut Entries<A>, id: &i8, entry: Invocation, until: u64)
-    ensures rows { entries.new.entries ≡ at_stage entries.old.entries id.now entry (Waiting until) }
-    ensures distinct { IsDistinct int_eq (keys_of entries.new.entries) }
-{
-    if let Some(place) = entries.get_mut(id) {
-        *place = Invocation {
-            stage: Stage::Waiting(until),
-            ..entry
-        };
     }
 }

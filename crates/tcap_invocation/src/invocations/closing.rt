@@ -3,6 +3,7 @@ ghost use Rattle.tcap_invocation.specs.Invocations.{IsSound, entry_at, passing};
 ghost use Rattle.tcap_invocation.specs.Stage.{is_waiting};
 ghost use Rattle.tcap_invocation.specs.Closing.{given_up_at, after_give_up, after_free_wait, ended_of, ended_at, first_ended_at, after_close_one, after_close};
 
+use super::timed::take_out;
 use super::{Entries, Invocation, Invocations};
 use crate::stage::Stage;
 use ber_core::OutOfMemory;
@@ -18,7 +19,7 @@ impl<A: Allocator + Copy> Invocations<A> {
         let entry = *self.entries.get(&id)?;
         match entry.stage {
             Stage::Queued(_) | Stage::Sent(_) => {
-                self.entries.shift_remove(&id);
+                take_out(&mut self.entries, &mut self.timers, &id, &entry);
                 Some(entry.number)
             }
             Stage::Waiting(_) => None,
@@ -36,7 +37,7 @@ impl<A: Allocator + Copy> Invocations<A> {
         };
         match entry.stage {
             Stage::Waiting(_) => {
-                self.entries.shift_remove(&id);
+                take_out(&mut self.entries, &mut self.timers, &id, &entry);
                 true
             }
             Stage::Queued(_) | Stage::Sent(_) => false,
@@ -52,6 +53,7 @@ impl<A: Allocator + Copy> Invocations<A> {
         ensures memory { OnErr result (ended_at self.old.rows ≢ []) }
     {
         let ended = ended_at(*self.entries.allocator(), &self.entries)?;
+        self.timers.clear();
         self.entries.clear();
         Ok(ended)
     }
@@ -81,7 +83,8 @@ impl<A: Allocator + Copy> Invocations<A> {
         ensures sound { IsSound self.old }
     {
         let (number, id) = first_ended(&self.entries)?;
-        self.entries.shift_remove(&id);
+        let entry = *self.entries.get(&id)?;
+        take_out(&mut self.entries, &mut self.timers, &id, &entry);
         Some((number, id))
     }
 }

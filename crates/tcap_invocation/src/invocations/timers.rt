@@ -1,7 +1,7 @@
 ghost use Rattle.std.specs.Prelude.{◌≡◌, ◌<◌, ◌≤◌, [], List, length, filter, filter_map, nat_le, IfOk, OnOk, OnErr};
 ghost use Rattle.tcap_invocation.specs.declared.invocations.timers.Timer.{Timer};
 ghost use Rattle.tcap_invocation.specs.Order.{put_by, first_of};
-ghost use Rattle.tcap_invocation.specs.TimerList.{IsInOrder, IsPlace, is_earlier, told_of_timer, is_later, is_kept};
+ghost use Rattle.tcap_invocation.specs.TimerList.{IsInOrder, IsPlace, is_earlier, told_of_timer, is_later, is_kept, has_come};
 
 use super::lapse::Lapse;
 use ber_core::OutOfMemory;
@@ -53,6 +53,16 @@ impl<A: Allocator + Copy> Timers<A> {
         ensures { result ≡ first_of self.now.timers }
     {
         self.list.first().copied()
+    }
+
+    /// Whether the time of the first has come at the clock.
+    pub(super) fn is_due(&self, clock: u64) -> bool
+        ensures { result ≡ has_come clock (first_of self.now.timers) }
+    {
+        match self.first() {
+            Some(timer) => timer.time <= clock,
+            None => false,
+        }
     }
 
     /// Makes room for so many in all.

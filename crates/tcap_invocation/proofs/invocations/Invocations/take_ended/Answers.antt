@@ -1,10 +1,19 @@
-use Rattle.tcap_invocation.proofs.OrderLemmas.{AreInOrder-remove_entry}
+use Rattle.std.proofs.Common.{◌≡◌, ◌∙◌, sym, rules, Some, None}
+use Rattle.std.proofs.lemmas.Int.{to_z-of_z}
+use Rattle.std.specs.Int.{w8}
+use Rattle.tcap_invocation.specs.Closing.{first_ended_at}
+use Rattle.tcap_invocation.specs.Invocations.{entry_at}
+use Rattle.tcap_invocation.proofs.TellingLemmas.{first_ended-entry}
 use Rattle.tcap_invocation.proofs.invocations.Invocations.take_ended.Goals as goal
 
-pub invariant_of-self : goal.invariant_of-self
-invariant_of-self g c =
-    record {
-      in_order = rw c.shift_remove.ensures.entries (AreInOrder-remove_entry _ _ c.self.invariant.in_order);
-      distinct = c.shift_remove.ensures.unique;
-      wait = c.self.invariant.wait;
-    }
+pub returns-in_err-entry-clause-told : goal.returns-in_err-entry-clause-told
+returns-in_err-entry-clause-told g c =
+    let first : first_ended_at c.self.inside.entries.entries ≡ Some (c.in_ok-number.number, c.in_ok-number.id) = search rules in
+    let none : entry_at c.self.inside.entries.entries c.in_ok-number.id ≡ None = search rules in
+    absurd (first_ended-entry c.self.inside.entries.entries (c.in_ok-number.number, c.in_ok-number.id) c.self.invariant.0.distinct first none)
+
+pub returns-in_err-entry-clause-list : goal.returns-in_err-entry-clause-list
+returns-in_err-entry-clause-list g c =
+    let first : first_ended_at c.self.inside.entries.entries ≡ Some (c.in_ok-number.number, c.in_ok-number.id) = search rules in
+    let none : entry_at c.self.inside.entries.entries c.in_ok-number.id ≡ None = search rules in
+    absurd (first_ended-entry c.self.inside.entries.entries (c.in_ok-number.number, c.in_ok-number.id) c.self.invariant.0.distinct first none)

@@ -1,0 +1,9 @@
+use Rattle.std.proofs.Common.{◌∙◌, arith, length}
+use Rattle.tcap_invocation.proofs.TimedLemmas.{sent_below-all}
+use Rattle.tcap_invocation.proofs.invocations.timed.send_queued.Goals as goal
+
+pub returns-clause-rows : goal.returns-clause-rows
+returns-clause-rows g c =
+    let long = c.len-place-end.ensures.len in
+    let past = c.loop-place-test.false in
+    c.loop-place.invariant.rows ∙ sent_below-all c.args.clock c.loop-place.place c.args.entries.now.entries (omega (arith, long, past))

@@ -1,0 +1,149 @@
+ghost use Rattle.std.specs.List.{IsDistinct};
+ghost use Rattle.std.specs.Map.{keys_of};
+ghost use Rattle.std.specs.Ordering.{int_eq};
+ghost use Rattle.std.specs.Prelude.{◌≡◌, ◌<◌, ◌≤◌, ◌*◌, List, length, Some};
+ghost use Rattle.tcap_invocation.specs.declared.invocations.timers.Timer.{Timer};
+ghost use Rattle.tcap_invocation.specs.declared.stage.Stage.TheVariants.{Waiting};
+ghost use Rattle.tcap_invocation.specs.Invocations.{AreInOrder, entry_at, sent_at, without, at_stage, sent_rows};
+ghost use Rattle.tcap_invocation.specs.Stage.{moment_limit};
+ghost use Rattle.tcap_invocation.specs.TimerList.{IsTimed, timer_of, put_timer, sent_place};
+
+use super::timers::{Timer, Timers};
+use super::{Entries, Invocation};
+use crate::stage::Stage;
+use std::alloc::Allocator;
+
+/// The timer of an invocation; there is none while it is Queued.
+fn timer_of(id: &i8, entry: &Invocation) -> Option<Timer>
+    ensures { result ≡ timer_of (id.now, entry.now) }
+{
+    let (time, lapses) = match entry.stage {
+        Stage::Queued(_) => return None,
+        Stage::Sent(deadline) => (deadline, true),
+        Stage::Waiting(until) => (until, false),
+    };
+    Some(Timer {
+        time,
+        number: entry.number,
+        id: *id,
+        lapses,
+    })
+}
+
+/// Takes the timer of an invocation out of the list, if it has one.
+fn drop_timer<A: Allocator + Copy>(timers: &mut Timers<A>, id: &i8, entry: &Invocation)
+    ensures timers { (rest : List Timer) → timers.old.timers ≡ put_timer (timer_of (id.now, entry.now)) rest → timers.new.timers ≡ rest }
+    ensures room { timers.new.room ≡ timers.old.room }
+{
+    if let Some(timer) = timer_of(id, entry) {
+        timers.remove(timer);
+    }
+}
+
+/// Puts the timer of an invocation into the list, if it has one, in room that is there.
+fn put_timer<A: Allocator + Copy>(timers: &mut Timers<A>, id: &i8, entry: &Invocation)
+    requires { length timers.old.timers < timers.old.room }
+    ensures timers { timers.new.timers ≡ put_timer (timer_of (id.now, entry.now)) timers.old.timers }
+    ensures room { timers.old.room ≤ timers.new.room }
+{
+    if let Some(timer) = timer_of(id, entry) {
+        timers.insert(timer);
+    }
+}
+
+/// Takes an invocation out, with its timer.
+pub(super) fn take_out<A: Allocator + Copy>(
+    entries: &mut Entries<A>,
+    timers: &mut Timers<A>,
+    id: &i8,
+    entry: &Invocation,
+)
+    requires found { entry_at entries.old.entries id.now ≡ Some entry.now }
+    requires order { AreInOrder entries.old.entries }
+    requires timed { IsTimed entries.old.entries timers.old }
+    ensures rows { entries.new.entries ≡ without entries.old.entries id.now }
+    ensures order { AreInOrder entries.new.entries }
+    ensures distinct { IsDistinct int_eq (keys_of entries.new.entries) }
+    ensures timed { IsTimed entries.new.entries timers.new }
+{
+    drop_timer(timers, id, entry);
+    entries.shift_remove(id);
+}
+
+/// The identifier of an invocation that a result or an error closed waits for a Reject.
+pub(super) fn wait<A: Allocator + Copy>(
+    entries: &mut Entries<A>,
+    timers: &mut Timers<A>,
+    id: &i8,
+    entry: Invocation,
+    until: u64,
+)
+    requires until { until ≤ 2 * moment_limit }
+    requires found { sent_at entries.old.entries id.now ≡ Some entry }
+    requires order { AreInOrder entries.old.entries }
+    requires timed { IsTimed entries.old.entries timers.old }
+    ensures rows { entries.new.entries ≡ at_stage entries.old.entries id.now entry (Waiting until) }
+    ensures order { AreInOrder entries.new.entries }
+    ensures distinct { IsDistinct int_eq (keys_of entries.new.entries) }
+    ensures timed { IsTimed entries.new.entries timers.new }
+{
+    drop_timer(timers, id, &entry);
+    let waiting = Invocation {
+        stage: Stage::Waiting(until),
+        ..entry
+    };
+    put_timer(timers, id, &waiting);
+    if let Some(place) = entries.get_mut(id) {
+        *place = waiting;
+    }
+}
+
+/// The message with the queued Invokes goes out at this moment: each gets its deadline.
+pub(super) fn send_queued<A: Allocator + Copy>(
+    entries: &mut Entries<A>,
+    timers: &mut Timers<A>,
+    clock: u64,
+)
+    requires clock { clock ≤ moment_limit }
+    requires order { AreInOrder entries.old.entries }
+    requires distinct { IsDistinct int_eq (keys_of entries.old.entries) }
+    requires timed { IsTimed entries.old.entries timers.old }
+    ensures rows { entries.new.entries ≡ sent_rows clock entries.old.entries }
+    ensures order { AreInOrder entries.new.entries }
+    ensures distinct { IsDistinct int_eq (keys_of entries.new.entries) }
+    ensures timed { IsTimed entries.new.entries timers.new }
+{
+    for place in 0..entries.len() {
+        send_at(entries, timers, place, clock);
+    }
+}
+
+/// The one at this place is sent, if it is Queued.
+fn send_at<A: Allocator + Copy>(
+    entries: &mut Entries<A>,
+    timers: &mut Timers<A>,
+    place: usize,
+    clock: u64,
+)
+    requires clock { clock ≤ moment_limit }
+    requires order { AreInOrder entries.old.entries }
+    requires distinct { IsDistinct int_eq (keys_of entries.old.entries) }
+    requires timed { IsTimed entries.old.entries timers.old }
+    ensures rows { entries.new.entries ≡ sent_place clock place entries.old.entries }
+    ensures order { AreInOrder entries.new.entries }
+    ensures distinct { IsDistinct int_eq (keys_of entries.new.entries) }
+    ensures timed { IsTimed entries.new.entries timers.new }
+{
+    let Some((id, entry)) = entries.get_index(place) else {
+        return;
+    };
+    let Stage::Queued(timeout) = entry.stage else {
+        return;
+    };
+    let sent = Invocation {
+        stage: Stage::Sent(clock + timeout),
+        ..*entry
+    };
+    put_timer(timers, id, &sent);
+    entries[place] = sent;
+}
