@@ -35,7 +35,7 @@ pub struct Step<'m, A: Allocator = Global> {
 ///   `u_cancel`; `uni`, `begin`, `go_on`, `finish`, `u_abort`; or any of them by `ask`.
 /// - Events from outside: `accept`, which makes the dialogue of a Begin, `take_frame`, `take_fault`;
 ///   time: `lapse`, or one by one `due_count`, `first_due`, `lapse_one` and `free_due`.
-/// - Getters: `identifier`, `state`, `peer`, `check_invoke`.
+/// - Getters: `identifier`, `state`, `peer`, `check_invoke`, `next_timer`.
 ///
 /// Moments are in milliseconds by the caller's clock, at most 2^62. A contract sees the identifier,
 /// state, context, queue and invocations, and forgets how much room they have.

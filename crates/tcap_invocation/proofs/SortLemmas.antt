@@ -7,8 +7,16 @@ use Rattle.std.specs.List.Sorted.{IsPartitionedBy, IsPartitionPoint}
 use Rattle.tcap_invocation.specs.Order.{put_by, in_order_by}
 use Rattle.tcap_invocation.proofs.InsertionLemmas.{Ahead, Ordered, ahead_later, ordered_in_order}
 
+-- whether the first passes the test
+module _ {A : Type 0} (p : A → Bool) (x : A) (xs : List A) where
+  pub filter-kept : p x ≡ true → filter p (x ∷ xs) ≡ x ∷ filter p xs
+  filter-kept e = rw e refl
+
+  pub filter-dropped : p x ≡ false → filter p (x ∷ xs) ≡ filter p xs
+  filter-dropped e = rw e refl
+
 module _ {A : Type 0} (before : A → A → Bool) where
-  put_ahead : (x : A) (ys : List A) → Ahead before x ys → put_by before x ys ≡ x ∷ ys
+  pub put_ahead : (x : A) (ys : List A) → Ahead before x ys → put_by before x ys ≡ x ∷ ys
   put_ahead x [] a = refl
   put_ahead x (y ∷ ys) a = rw a.0 refl
 

@@ -2,6 +2,7 @@
 
 ghost use Rattle.std.specs.Prelude.{◌≡◌, ◌≢◌, [], ◌∷◌, length, IfSome, IfOk, OnOk, OnErr};
 ghost use Rattle.tcap_invocation.specs.Lapses.{due_at, told_at, first_due_at, lapse_at, after_lapse, after_lapse_one, after_free_due};
+ghost use Rattle.tcap_invocation.specs.Timers.{next_timer_at};
 ghost use Rattle.tcap_model.specs.Table.Dialogue.{with_invocations};
 
 use super::Dialogue;
@@ -20,6 +21,15 @@ impl<A: Allocator + Copy> Dialogue<A> {
         ensures memory { OnErr result (told_at clock self.old.invocations.rows ≢ []) }
     {
         self.invocations.lapse(clock)
+    }
+
+    /// The moment at which time next changes something: the least deadline of a Sent invocation or end of
+    /// the wait of an identifier, in milliseconds, at most 2^63. Nothing where there is none. It takes no
+    /// memory (own).
+    pub fn next_timer(&self) -> Option<u64>
+        ensures { result ≡ next_timer_at self.now.invocations.rows }
+    {
+        self.invocations.next_timer()
     }
 
     /// How many Sent invocations have a deadline at most the clock.

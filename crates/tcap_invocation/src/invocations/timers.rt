@@ -1,12 +1,17 @@
-ghost use Rattle.std.specs.Prelude.{◌≡◌, ◌<◌, ◌≤◌, [], List, length, filter, filter_map, nat_le, IfOk, OnOk, OnErr};
+ghost use Rattle.std.specs.Prelude.{◌≡◌, ◌<◌, ◌≤◌, [], List, length, filter, filter_map, IfOk, OnOk, OnErr};
 ghost use Rattle.tcap_invocation.specs.declared.invocations.timers.Timer.{Timer};
 ghost use Rattle.tcap_invocation.specs.Order.{put_by, first_of};
-ghost use Rattle.tcap_invocation.specs.TimerList.{IsInOrder, IsPlace, is_earlier, told_of_timer, is_later, is_kept, has_come};
+ghost use Rattle.tcap_invocation.specs.TimerList.{is_earlier, told_of_timer, is_later, is_kept, has_come};
+
+mod sorted;
+mod telling;
 
 use super::lapse::Lapse;
 use ber_core::OutOfMemory;
+use sorted::{is_earlier, put, take, take_first};
 use std::alloc::{AllocError, Allocator};
 use std::marker::Model;
+use telling::{due, due_count, first_due, push_due, told_first};
 
 /// When an invocation lapses, or when the wait of its identifier ends.
 #[derive(Clone, Copy, Debug, PartialEq, Eq)]
@@ -21,21 +26,40 @@ pub(super) struct Timer {
     pub(super) lapses: bool,
 }
 
-/// Timers by time, then number. A contract sees the list, and for how many there is room.
+impl Timer {
+    /// Whether its time hasn't come at the clock.
+    fn is_later(&self, clock: u64) -> bool
+        ensures { result ≡ is_later clock self.now }
+    {
+        clock < self.time
+    }
+
+    /// Whether it isn't that of a wait which is over at the clock.
+    fn is_kept(&self, clock: u64) -> bool
+        ensures { result ≡ is_kept clock self.now }
+    {
+        self.lapses || clock < self.time
+    }
+}
+
+/// Timers by time, then number. The first stands apart, so that one alone takes no memory. A contract sees
+/// the list, and for how many there is room.
 #[derive(Debug, Drop)]
 pub(super) struct Timers<A: Allocator + Copy> {
-    list: Vec<Timer, A>,
+    first: Option<Timer>,
+    rest: Vec<Timer, A>,
 }
 
 impl<A: Allocator + Copy> Model for Timers<A> {
-    ghost use Rattle.std.specs.Prelude.{vec_capacity};
-    ghost use Rattle.tcap_invocation.specs.TimerList.{TimerList, IsInOrder};
+    ghost use Rattle.std.specs.List.{cons_option};
+    ghost use Rattle.std.specs.Prelude.{◌+◌, vec_capacity};
+    ghost use Rattle.tcap_invocation.specs.TimerList.{TimerList, IsInOrder, IsFilled};
 
     ghost Value = { TimerList };
 
-    ghost view = { λ v. record { timers = v.list.items; room = vec_capacity v.list } };
+    ghost view = { λ v. record { timers = cons_option v.first v.rest.items; room = vec_capacity v.rest + 1 } };
 
-    ghost invariant = { λ v. IsInOrder v.list.items };
+    ghost invariant = { λ v. IsInOrder (cons_option v.first v.rest.items) × IsFilled v.first v.rest.items };
 }
 
 impl<A: Allocator + Copy> Timers<A> {
@@ -44,7 +68,8 @@ impl<A: Allocator + Copy> Timers<A> {
         ensures { result.timers ≡ [] }
     {
         Timers {
-            list: Vec::new(alloc),
+            first: None,
+            rest: Vec::new(alloc),
         }
     }
 
@@ -52,7 +77,7 @@ impl<A: Allocator + Copy> Timers<A> {
     pub(super) fn first(&self) -> Option<Timer>
         ensures { result ≡ first_of self.now.timers }
     {
-        self.list.first().copied()
+        self.first
     }
 
     /// Whether the time of the first has come at the clock.
@@ -71,7 +96,8 @@ impl<A: Allocator + Copy> Timers<A> {
         ensures more { self.old.room ≤ self.new.room }
         ensures kept { self.new.timers ≡ self.old.timers }
     {
-        self.list.reserve(count.saturating_sub(self.list.len()))
+        let behind = count.saturating_sub(1);
+        self.rest.reserve(behind.saturating_sub(self.rest.len()))
     }
 
     /// Puts a timer in its place, in room that is there.
@@ -80,26 +106,40 @@ impl<A: Allocator + Copy> Timers<A> {
         ensures timers { self.new.timers ≡ put_by is_earlier timer self.old.timers }
         ensures room { self.old.room ≤ self.new.room }
     {
-        let at = place_of(self.list.as_slice(), timer);
-        self.list.insert(at, timer).unwrap();
+        let Some(first) = self.first else {
+            self.first = Some(timer);
+            return;
+        };
+        if is_earlier(first, timer) {
+            put(&mut self.rest, timer);
+        } else {
+            put(&mut self.rest, first);
+            self.first = Some(timer);
+        }
     }
 
     /// Takes a timer out of the list.
     pub(super) fn remove(&mut self, timer: Timer)
-        ensures timers { (rest : List Timer) → self.old.timers ≡ put_by is_earlier timer rest → self.new.timers ≡ rest }
+        ensures timers { (left : List Timer) → self.old.timers ≡ put_by is_earlier timer left → self.new.timers ≡ left }
         ensures room { self.new.room ≡ self.old.room }
     {
-        let at = place_of(self.list.as_slice(), timer);
-        if at < self.list.len() {
-            self.list.remove(at);
+        let Some(first) = self.first else {
+            return;
+        };
+        if is_earlier(first, timer) {
+            take(&mut self.rest, timer);
+        } else {
+            self.first = take_first(&mut self.rest);
         }
     }
 
     /// Takes each timer out.
     pub(super) fn clear(&mut self)
         ensures timers { self.new.timers ≡ [] }
+        ensures room { self.new.room ≡ self.old.room }
     {
-        self.list.clear();
+        self.first = None;
+        self.rest.clear();
     }
 
     /// Takes out each timer whose time has come at the clock.
@@ -107,11 +147,17 @@ impl<A: Allocator + Copy> Timers<A> {
         ensures timers { self.new.timers ≡ filter (is_later clock) self.old.timers }
         ensures room { self.new.room ≡ self.old.room }
     {
-        self.list.retain(
+        let Some(first) = self.first else {
+            return;
+        };
+        self.rest.retain(
             |timer: &Timer| -> bool
                 ensures { result ≡ is_later clock timer.now }
-            { clock < timer.time },
+            { timer.is_later(clock) },
         );
+        if !first.is_later(clock) {
+            self.first = take_first(&mut self.rest);
+        }
     }
 
     /// Takes out each timer of a wait that is over at the clock.
@@ -119,25 +165,38 @@ impl<A: Allocator + Copy> Timers<A> {
         ensures timers { self.new.timers ≡ filter (is_kept clock) self.old.timers }
         ensures room { self.new.room ≡ self.old.room }
     {
-        self.list.retain(
+        let Some(first) = self.first else {
+            return;
+        };
+        self.rest.retain(
             |timer: &Timer| -> bool
                 ensures { result ≡ is_kept clock timer.now }
-            { timer.lapses || clock < timer.time },
+            { timer.is_kept(clock) },
         );
+        if !first.is_kept(clock) {
+            self.first = take_first(&mut self.rest);
+        }
     }
 
     /// How many are of invocations that lapse by the clock.
     pub(super) fn due_count(&self, clock: u64) -> usize
         ensures { result ≡ length (filter_map (told_of_timer clock) self.now.timers) }
     {
-        due_count(due(self.list.as_slice(), clock), clock)
+        let behind = due_count(due(self.rest.as_slice(), clock), clock);
+        match told_first(self.first, clock) {
+            Some(_) => behind + 1,
+            None => behind,
+        }
     }
 
     /// What is told first of what lapses by the clock.
     pub(super) fn first_due(&self, clock: u64) -> Option<Lapse>
         ensures { result ≡ first_of (filter_map (told_of_timer clock) self.now.timers) }
     {
-        first_due(due(self.list.as_slice(), clock), clock)
+        match told_first(self.first, clock) {
+            Some(lapse) => Some(lapse),
+            None => first_due(due(self.rest.as_slice(), clock), clock),
+        }
     }
 
     /// All that is told of what lapses by the clock, with all room found first.
@@ -145,94 +204,11 @@ impl<A: Allocator + Copy> Timers<A> {
         ensures told { IfOk result (λ v. v.items ≡ filter_map (told_of_timer clock) self.now.timers) }
         ensures memory { OnErr result (0 < length (filter_map (told_of_timer clock) self.now.timers)) }
     {
-        due_lapses(*self.list.allocator(), due(self.list.as_slice(), clock), clock)
-    }
-}
-
-/// Whether a timer stands before another: by time, then number.
-fn is_earlier(a: Timer, b: Timer) -> bool
-    ensures { result ≡ is_earlier a b }
-{
-    a.time < b.time || (a.time == b.time && a.number < b.number)
-}
-
-/// The place where a timer stands, or where it is to be put.
-fn place_of(timers: &[Timer], timer: Timer) -> usize
-    requires { IsInOrder timers.now }
-    ensures bound { result ≤ length timers.now }
-    ensures place { IsPlace timer timers.now result }
-{
-    timers.partition_point(
-        |other: &Timer| -> bool
-            ensures { result ≡ is_earlier other.now timer }
-        { is_earlier(*other, timer) },
-    )
-}
-
-/// What is told of an invocation with this timer, if it lapses by the clock.
-fn told(timer: &Timer, clock: u64) -> Option<Lapse>
-    ensures { result ≡ told_of_timer clock timer.now }
-{
-    if timer.lapses && timer.time <= clock {
-        Some(Lapse {
-            deadline: timer.time,
-            number: timer.number,
-            id: timer.id,
-        })
-    } else {
-        None
-    }
-}
-
-/// The front of the list: those whose time has come at the clock.
-fn due(timers: &[Timer], clock: u64) -> &[Timer]
-    requires { IsInOrder timers.now }
-    ensures { filter_map (told_of_timer clock) result.now ≡ filter_map (told_of_timer clock) timers.now }
-{
-    let count = timers.partition_point(
-        |timer: &Timer| -> bool
-            ensures { result ≡ nat_le timer.now.time clock }
-        { timer.time <= clock },
-    );
-    timers.split_at(count).0
-}
-
-/// How many of them are of invocations that lapse by the clock.
-fn due_count(timers: &[Timer], clock: u64) -> usize
-    ensures { result ≡ length (filter_map (told_of_timer clock) timers.now) }
-{
-    timers
-        .iter()
-        .filter_map(|timer| told(timer, clock))
-        .count()
-}
-
-/// What is told of the first of these.
-fn first_due(timers: &[Timer], clock: u64) -> Option<Lapse>
-    ensures { result ≡ first_of (filter_map (told_of_timer clock) timers.now) }
-{
-    for timer in timers.iter() {
-        if let Some(lapse) = told(timer, clock) {
-            return Some(lapse);
-        }
-    }
-    None
-}
-
-/// What is told of all of these, with all room found first.
-fn due_lapses<A: Allocator + Copy>(
-    alloc: A,
-    timers: &[Timer],
-    clock: u64,
-) -> Result<Vec<Lapse, A>, OutOfMemory>
-    ensures told { IfOk result (λ v. v.items ≡ filter_map (told_of_timer clock) timers.now) }
-    ensures memory { OnErr result (0 < length (filter_map (told_of_timer clock) timers.now)) }
-{
-    let mut lapses = Vec::with_capacity(alloc, due_count(timers, clock))?;
-    for timer in timers.iter() {
-        if let Some(lapse) = told(timer, clock) {
+        let mut lapses = Vec::with_capacity(*self.rest.allocator(), self.due_count(clock))?;
+        if let Some(lapse) = told_first(self.first, clock) {
             lapses.push_reserved(lapse);
         }
+        push_due(&mut lapses, due(self.rest.as_slice(), clock), clock);
+        Ok(lapses)
     }
-    Ok(lapses)
 }

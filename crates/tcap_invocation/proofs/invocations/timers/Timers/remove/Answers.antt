@@ -1,25 +1,35 @@
-use Rattle.std.proofs.Common.{rules, arith, ◌≡◌, ◌∙◌, ◌<◌, remove, length, List, subst, sym, ap}
+use Rattle.std.proofs.Common.{◌≡◌, ◌∙◌, ◌∷◌, [], ap, sym, subst, rules, tests, true, false, List, Option, None}
+use Rattle.std.specs.List.{cons_option}
 use Rattle.tcap_invocation.specs.declared.invocations.timers.Timer.{Timer}
 use Rattle.tcap_invocation.specs.Order.{put_by}
-use Rattle.tcap_invocation.specs.TimerList.{IsPlace, is_earlier}
-use Rattle.tcap_invocation.proofs.SortLemmas.{remove-put}
-use Rattle.tcap_invocation.proofs.TimerLemmas.{earlier_never, IsInOrder-remove}
+use Rattle.tcap_invocation.specs.TimerList.{IsInOrder, IsFilled, is_earlier}
+use Rattle.tcap_invocation.proofs.TimerLemmas.{IsInOrder-rest, put-some, taken-behind, taken-first}
 use Rattle.tcap_invocation.proofs.invocations.timers.Timers.remove.Goals as goal
 
-pub invariant_of-self : goal.invariant_of-self
-invariant_of-self g c = rw c.remove.ensures.items (IsInOrder-remove c.self.inside.list.items c.place_of-at.result c.self.invariant)
+pub returns-in_default-clause-timers : goal.returns-in_default-clause-timers
+returns-in_default-clause-timers g c = λ left is.
+    let none : c.self.inside.rest.items ≡ [] = subst (λ (o : Option Timer). IsFilled o c.self.inside.rest.items) c.in_default.is c.self.invariant.1 in
+    let whole : cons_option c.self.inside.first c.self.inside.rest.items ≡ put_by is_earlier c.args.timer left = search (rules, is) in
+    absurd (put-some c.args.timer left (sym none ∙ sym (ap (λ (o : Option Timer). cons_option o c.self.inside.rest.items) c.in_default.is) ∙ whole))
 
-pub returns-then-at-len-clause-timers : goal.returns-then-at-len-clause-timers
-returns-then-at-len-clause-timers g c = λ rest is.
-    let items : c.self.inside.list.items ≡ put_by is_earlier c.args.timer rest = search (rules, is) in
-    let place : IsPlace c.args.timer c.self.inside.list.items c.place_of-at.result = search rules in
-    let found = remove-put is_earlier c.args.timer rest c.place_of-at.result (earlier_never c.args.timer) (subst (λ (ts : List Timer). IsPlace c.args.timer ts c.place_of-at.result) items place) in
-    c.remove.ensures.items ∙ ap (λ (ts : List Timer). remove ts c.place_of-at.result) items ∙ found.1
+pub take-requires : goal.take-requires
+take-requires g c =
+    record { order = IsInOrder-rest c.self.inside.first c.self.inside.rest.items c.self.invariant.0 }
 
-pub returns-else-at-len-clause-timers : goal.returns-else-at-len-clause-timers
-returns-else-at-len-clause-timers g c = λ rest is.
-    let items : c.self.inside.list.items ≡ put_by is_earlier c.args.timer rest = search (rules, is) in
-    let place : IsPlace c.args.timer c.self.inside.list.items c.place_of-at.result = search rules in
-    let found = remove-put is_earlier c.args.timer rest c.place_of-at.result (earlier_never c.args.timer) (subst (λ (ts : List Timer). IsPlace c.args.timer ts c.place_of-at.result) items place) in
-    let within : c.place_of-at.result < length c.self.inside.list.items = subst (λ (ts : List Timer). c.place_of-at.result < length ts) (sym items) found.0 in
-    absurd (let past = c.if-at-len.false in let long = c.len.ensures in let all = c.self.inside.list.ok.0 in omega (arith, within, past, long, all))
+pub invariant_of-self-else-is_earlier : goal.invariant_of-self-else-is_earlier
+invariant_of-self-else-is_earlier g c =
+    let rest = IsInOrder-rest c.self.inside.first c.self.inside.rest.items c.self.invariant.0 in
+    (subst IsInOrder c.take_first-self-inside.ensures.timers rest, c.take_first-self-inside.ensures.filled)
+
+pub returns-then-is_earlier-clause-timers : goal.returns-then-is_earlier-clause-timers
+returns-then-is_earlier-clause-timers g c = λ left is.
+    let early : is_earlier c.in-Some.first c.args.timer ≡ true = search (rules, tests) in
+    let whole : cons_option c.self.inside.first c.self.inside.rest.items ≡ put_by is_earlier c.args.timer left = search (rules, is) in
+    let t = taken-behind c.in-Some.first c.args.timer c.self.inside.rest.items left early (sym (ap (λ (o : Option Timer). cons_option o c.self.inside.rest.items) c.in-Some.is) ∙ whole) in
+    rw c.in-Some.is (ap (λ (l : List Timer). c.in-Some.first ∷ l) (c.take.ensures.timers t.0 t.2) ∙ sym t.1)
+
+pub returns-else-is_earlier-clause-timers : goal.returns-else-is_earlier-clause-timers
+returns-else-is_earlier-clause-timers g c = λ left is.
+    let late : is_earlier c.in-Some.first c.args.timer ≡ false = search (rules, tests) in
+    let whole : cons_option c.self.inside.first c.self.inside.rest.items ≡ put_by is_earlier c.args.timer left = search (rules, is) in
+    sym c.take_first-self-inside.ensures.timers ∙ taken-first c.in-Some.first c.args.timer c.self.inside.rest.items left late (sym (ap (λ (o : Option Timer). cons_option o c.self.inside.rest.items) c.in-Some.is) ∙ whole)

@@ -2,7 +2,7 @@ use Rattle.std.proofs.Common.{rules, tests}
 use Rattle.std.proofs.lemmas.List.Sorted.{IsPartitionPoint-from_clause}
 use Rattle.tcap_invocation.specs.TimerList.{is_earlier}
 use Rattle.tcap_invocation.proofs.TimerLemmas.{IsPartitionedBy-timer}
-use Rattle.tcap_invocation.proofs.invocations.timers.place_of.Goals as goal
+use Rattle.tcap_invocation.proofs.invocations.timers.sorted.place_of.Goals as goal
 
 pub returns-clause-place : goal.returns-clause-place
 returns-clause-place c =

@@ -4,7 +4,7 @@ use Rattle.std.specs.List.Sorted.{IsPartitionPoint}
 use Rattle.std.proofs.lemmas.List.Sorted.{IsPartitionPoint-from_clause}
 use Rattle.tcap_invocation.specs.TimerList.{told_of_timer}
 use Rattle.tcap_invocation.proofs.TimerLemmas.{IsPartitionedBy-clock, told-front}
-use Rattle.tcap_invocation.proofs.invocations.timers.due.Goals as goal
+use Rattle.tcap_invocation.proofs.invocations.timers.telling.due.Goals as goal
 
 pub returns : goal.returns
 returns c =
