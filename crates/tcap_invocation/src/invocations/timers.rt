@@ -1,4 +1,4 @@
-ghost use Rattle.std.specs.Prelude.{◌≡◌, ◌<◌, ◌≤◌, [], List, length, filter, filter_map, IfOk, OnOk, OnErr};
+ghost use Rattle.std.specs.Prelude.{◌≡◌, ◌<◌, ◌≤◌, [], List, length, filter, filter_map, option_copied, IfOk, OnOk, OnErr};
 ghost use Rattle.tcap_invocation.specs.declared.invocations.timers.Timer.{Timer};
 ghost use Rattle.tcap_invocation.specs.Order.{put_by, first_of};
 ghost use Rattle.tcap_invocation.specs.TimerList.{is_earlier, told_of_timer, is_later, is_kept, has_come};
@@ -74,10 +74,10 @@ impl<A: Allocator + Copy> Timers<A> {
     }
 
     /// The first.
-    pub(super) fn first(&self) -> Option<Timer>
-        ensures { result ≡ first_of self.now.timers }
+    pub(super) fn first(&self) -> Option<&Timer>
+        ensures { option_copied result ≡ first_of self.now.timers }
     {
-        self.first
+        self.first.as_ref()
     }
 
     /// Whether the time of the first has come at the clock.
