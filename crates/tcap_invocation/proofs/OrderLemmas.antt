@@ -117,17 +117,6 @@ pub AreInOrder-push : (rows : List Row) (r : Row) → IsTimely r.1.stage → All
 AreInOrder-push [] r timely below h = (timely, tt, tt)
 AreInOrder-push (x ∷ xs) r timely below h = (h.0, AllAbove-push x.1.number xs r below.0 h.1, AreInOrder-push xs r timely below.1 h.2)
 
--- a `retain` whose closure sends each entry leaves the sent rows
-module _ {F : Type 0} (T : F → ℤ → Invocation → Bool → Invocation → F → Type 0) (f : F) (clock : ℕ)
-    (says : (k : ℤ) (v : Invocation) (b : Bool) (w : Invocation) (g : F) → T f k v b w g → (b ≡ true) × (clock ≤ moment_limit → IsTimely v.stage → w ≡ sent_entry clock v) × (g ≡ f)) (late : clock ≤ moment_limit) where
-  pub sent_rows-RetainsPairs : (es kept : List Row) → AreInOrder es → RetainsPairs T f es kept → kept ≡ sent_rows clock es
-  sent_rows-RetainsPairs [] kept order h = h
-  sent_rows-RetainsPairs (e ∷ es) kept order h =
-      let s = says e.0 e.1 h.0 h.1 h.2 h.4 in
-      let rest = sent_rows-RetainsPairs es h.3 order.2 (subst (λ g. RetainsPairs T g es h.3) s.2 h.5) in
-      let wrote = s.1 late order.0 in
-      h.6 ∙ (λ j. cond (s.0 j) ((e.0, wrote j) ∷ rest j) (rest j))
-
 -- the numbers of the entries tell what the rows are below
 pub AllBelow-values : (number : ℕ) (rows : List Row) → AllPass (λ (e : Invocation). nat_lt e.number number) (values_of rows) → AllBelow number rows
 AllBelow-values number rows h = below rows (recursion_from_All (λ (e : Invocation). nat_lt e.number number ≡ true) (values_of rows) h)

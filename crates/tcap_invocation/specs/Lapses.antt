@@ -33,10 +33,6 @@ due_at clock rows = filter_map (lapse_of clock) rows
 abbrev pub is_before : Lapse → Lapse → Bool
 is_before a b = nat_lt a.deadline b.deadline || ((a.deadline == b.deadline) && nat_lt a.number b.number)
 
--- The order that the code sorts by: deadline, number, identifier (own).
-abbrev pub derived_cmp : Lapse → Lapse → Ordering
-derived_cmp = then_cmp (on (λ l. l.deadline) nat_cmp) (then_cmp (on (λ l. l.number) nat_cmp) (on (λ l. l.id) int_cmp))
-
 -- Lapses in the order in which they are told (own).
 abbrev pub in_order : List Lapse → List Lapse
 in_order lapses = in_order_by is_before lapses
@@ -44,11 +40,6 @@ in_order lapses = in_order_by is_before lapses
 -- All that is due at the clock, in the order in which it is told (own).
 abbrev pub told_at : ℕ → List Row → List Lapse
 told_at clock rows = in_order (due_at clock rows)
-
--- Of two lapses the one that is told first; the earlier listed one where neither is before (own).
-abbrev pub earlier_of : Option Lapse → Lapse → Lapse
-earlier_of None l = l
-earlier_of (Some best) l = if is_before l best then l else best
 
 -- What is due first at the clock (own).
 abbrev pub first_due_at : ℕ → List Row → Option Lapse

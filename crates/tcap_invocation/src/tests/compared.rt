@@ -52,7 +52,7 @@ fn draw(seed: u32, number: u64, clock: u64) -> Made {
         number,
         class,
         timeout: drawn(more, 16, 16).saturating_add(1) as u64,
-        clock: clock.min(MAX_MOMENT),
+        clock,
     }
 }
 
@@ -86,6 +86,9 @@ fn lapse(alloc: Global, both: &mut Both, clock: u64) -> Result<bool, Fail> {
 
 /// Whether both answer a call alike that answers for an identifier.
 fn ask(both: &mut Both, d: Made) -> bool {
+    if d.clock > MAX_MOMENT {
+        return false;
+    }
     let (list, plain) = (&mut both.list, &mut both.plain);
     match d.kind {
         7 => list.on_result(d.id, true, d.clock) == plain.answer(d.id, false, true, d.clock),
@@ -101,6 +104,9 @@ fn ask(both: &mut Both, d: Made) -> bool {
 
 /// Whether both answer the call alike.
 fn call(alloc: Global, both: &mut Both, d: Made) -> Result<bool, Fail> {
+    if d.clock > MAX_MOMENT {
+        return Ok(false);
+    }
     match d.kind {
         0..=3 => add(both, d),
         4 | 5 => {

@@ -66,6 +66,7 @@ fn each_growth_is_refused_in_turn(rt: HostRuntime) -> Result<(), Fail> {
     let heap = Refusing::new(rt.alloc());
     for (entries, call, growths) in [
         (0, Call::Add, 4u64),
+        (1, Call::Add, 1),
         (4, Call::Lapse, 1),
         (4, Call::CloseAll, 1),
     ] {
