@@ -1,15 +1,14 @@
 -- The rows stay in order through each change: the numbers rise, and the moments are within their bounds.
-use Rattle.std.proofs.Common.{◌≡◌, ℕ, ℤ, ◌<◌, ◌≤◌, Bool, true, false, cond, List, [], ◌∷◌, ◌++◌, filter, Option, Some, None, refl, ap, sym, arith, subst, ◌∙◌, unwrap_or, nat_lt, tests, if◌then◌else◌}
+use Rattle.std.proofs.Common.{◌≡◌, ℕ, ℤ, ◌<◌, ◌≤◌, Bool, true, false, cond, List, [], ◌∷◌, ◌++◌, filter, Option, Some, None, refl, ap, sym, arith, ◌∙◌, unwrap_or, nat_lt, tests, if◌then◌else◌}
 use Rattle.std.specs.Ordering.{int_eq}
 use Rattle.std.specs.List.{AllPass, AllByRecursion}
 use Rattle.std.proofs.lemmas.List.Elements.{recursion_from_All, All-from_recursion}
 use Rattle.std.specs.Map.{values_of, lookup, remove_entry, set_value}
-use Rattle.std.specs.Map.Calls.{RetainsPairs}
 use Rattle.tcap_invocation.specs.declared.invocations.Invocation.{Invocation}
 use Rattle.tcap_invocation.specs.declared.stage.Stage.{Stage}
 use Rattle.tcap_invocation.specs.declared.stage.Stage.TheVariants.{Queued, Sent, Waiting}
 use Rattle.tcap_invocation.specs.Stage.{moment_limit, IsTimely, is_sent, sent_stage}
-use Rattle.tcap_invocation.specs.Invocations.{Row, AllAbove, AllBelow, AreInOrder, entry_at, passing, sent_at, at_stage, sent_entry, sent_rows}
+use Rattle.tcap_invocation.specs.Invocations.{Row, AllAbove, AllBelow, AreInOrder, entry_at, passing, sent_at, at_stage, sent_rows}
 
 -- one row is taken out
 module _ (test : ℤ → Bool) where

@@ -1,6 +1,6 @@
 -- Lists in the order of a test: elements put one after the other, what is told of them in order, and the
 -- place that a binary search finds.
-use Rattle.std.proofs.Common.{◌≡◌, ℕ, zero, suc, ◌+◌, ◌<◌, ◌≤◌, Bool, true, false, cond, List, [], ◌∷◌, length, insert, remove, filter, Option, Some, None, refl, ap, sym, subst, ◌∙◌, arith, slice_index_or, if◌then◌else◌}
+use Rattle.std.proofs.Common.{◌≡◌, ℕ, zero, suc, ◌<◌, ◌≤◌, Bool, true, false, cond, List, [], ◌∷◌, length, insert, remove, filter, Option, Some, None, refl, ap, sym, ◌∙◌, arith, slice_index_or, if◌then◌else◌}
 use Rattle.std.specs.Prelude.{filter_map}
 use Rattle.std.specs.List.{cons_option}
 use Rattle.std.specs.List.Sorted.{IsPartitionedBy, IsPartitionPoint}

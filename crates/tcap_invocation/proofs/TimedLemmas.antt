@@ -1,27 +1,22 @@
 -- The timers of the rows through each change of the rows.
-use Rattle.std.proofs.Common.{◌≡◌, ℕ, zero, suc, ℤ, ◌+◌, ◌<◌, ◌≤◌, Bool, true, false, cond, List, [], ◌∷◌, ◌++◌, length, filter, Option, Some, None, refl, ap, sym, subst, ◌∙◌, arith, tests, nat_lt, nat_le, ◌&&◌, ◌||◌, ◌==◌, unwrap_or, if◌then◌else◌}
-use Rattle.std.specs.Prelude.{filter_map, slice_get, map}
+use Rattle.std.proofs.Common.{◌≡◌, ℕ, zero, suc, ℤ, ◌<◌, ◌≤◌, Bool, true, false, cond, List, [], ◌∷◌, ◌++◌, length, filter, Option, Some, None, refl, ap, sym, subst, ◌∙◌, arith, unwrap_or}
+use Rattle.std.specs.Prelude.{filter_map, slice_get}
 use Rattle.std.specs.List.{cons_option}
-use Rattle.std.specs.Map.{lookup, remove_entry, set_value}
+use Rattle.std.specs.Map.{lookup, set_value}
 use Rattle.indexmap.specs.IndexMap.{IndexMap, with_entries, with_value_at}
-use Rattle.std.specs.Option.{option_map}
 use Rattle.std.specs.Ordering.{int_eq}
 use Rattle.std.proofs.lemmas.Bool.Decides.{Decides-int_eq}
 use Rattle.std.proofs.lemmas.Map.Steps.{set_value_same}
 use Rattle.tcap_invocation.specs.declared.invocations.Invocation.{Invocation}
-use Rattle.tcap_invocation.specs.declared.invocations.lapse.Lapse.{Lapse}
 use Rattle.tcap_invocation.specs.declared.invocations.timers.Timer.{Timer}
 use Rattle.tcap_invocation.specs.declared.stage.Stage.{Stage}
 use Rattle.tcap_invocation.specs.declared.stage.Stage.TheVariants.{Queued, Sent, Waiting}
-use Rattle.tcap_invocation.specs.Order.{put_by, in_order_by, first_of}
+use Rattle.tcap_invocation.specs.Order.{in_order_by}
 use Rattle.tcap_invocation.specs.Stage.{moment_limit, IsTimely, sent_stage}
 use Rattle.tcap_invocation.specs.Invocations.{Row, AllAbove, AreInOrder, without, sent_entry, sent_rows}
-use Rattle.tcap_invocation.specs.Lapses.{is_before, due_at, told_at, lapse_of, lapse_with, due_deadline, is_held, stays}
-use Rattle.tcap_invocation.specs.Timers.{time_of, times_of, next_timer_at}
-use Rattle.tcap_invocation.specs.TimerList.{is_earlier, timer_with, timer_of, timers_at, put_timer, told_of_timer, is_later, is_kept, has_come, sent_place, sent_below}
-use Rattle.tcap_invocation.proofs.InsertionLemmas.{Ahead, Ordered, total, total_in_order, length-in_order, front, first_of-put, ordered_in_order}
-use Rattle.tcap_invocation.proofs.OrderLemmas.{AllAbove-sent_rows, IsTimely-sent_stage}
-use Rattle.tcap_invocation.proofs.SortLemmas.{told_in_order, filter_in_order}
+use Rattle.tcap_invocation.specs.TimerList.{is_earlier, timer_with, timer_of, timers_at, put_timer, sent_place, sent_below}
+use Rattle.tcap_invocation.proofs.OrderLemmas.{IsTimely-sent_stage}
+use Rattle.tcap_invocation.proofs.SortLemmas.{filter_in_order}
 use Rattle.tcap_invocation.proofs.TimerLemmas.{earlier_once, not_earlier, put-swapped}
 
 timer-number : (id : ℤ) (number : ℕ) (s : Stage) (t : Timer) → timer_with id number s ≡ Some t → t.number ≡ number

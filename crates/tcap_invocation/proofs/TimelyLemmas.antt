@@ -1,5 +1,5 @@
 -- What the timers of the rows tell: how many there are, what is due, and when time next changes something.
-use Rattle.std.proofs.Common.{◌≡◌, ℕ, zero, suc, ℤ, ◌+◌, ◌<◌, ◌≤◌, Bool, true, false, cond, List, [], ◌∷◌, length, filter, Option, Some, None, refl, ap, sym, subst, ◌∙◌, arith, tests, nat_lt, nat_le, ◌&&◌, ◌||◌, ◌==◌, if◌then◌else◌}
+use Rattle.std.proofs.Common.{◌≡◌, ℕ, zero, suc, ℤ, ◌+◌, ◌<◌, ◌≤◌, Bool, true, false, cond, List, [], ◌∷◌, length, filter, Option, Some, None, refl, ap, sym, ◌∙◌, arith, tests, nat_lt, nat_le, ◌&&◌, ◌||◌}
 use Rattle.std.specs.Prelude.{filter_map, slice_get, map}
 use Rattle.std.specs.List.{cons_option}
 use Rattle.std.specs.Option.{option_map}
@@ -9,7 +9,7 @@ use Rattle.tcap_invocation.specs.declared.stage.Stage.{Stage}
 use Rattle.tcap_invocation.specs.declared.stage.Stage.TheVariants.{Queued, Sent, Waiting}
 use Rattle.tcap_invocation.specs.Order.{in_order_by, first_of}
 use Rattle.tcap_invocation.specs.Invocations.{Row}
-use Rattle.tcap_invocation.specs.Lapses.{is_before, due_at, told_at, first_due_at, lapse_of, lapse_with, due_deadline, is_held, stays}
+use Rattle.tcap_invocation.specs.Lapses.{is_before, due_at, told_at, first_due_at, lapse_with, due_deadline, is_held, stays}
 use Rattle.tcap_invocation.specs.Timers.{time_of, times_of, next_timer_at}
 use Rattle.tcap_invocation.specs.TimerList.{is_earlier, timer_with, timer_of, timers_at, told_of_timer, is_later, is_kept, has_come}
 use Rattle.tcap_invocation.proofs.InsertionLemmas.{Ahead, Ordered, total, total_in_order, length-in_order, front, first_of-put, ordered_in_order}

@@ -1,14 +1,14 @@
 -- The order of timers, and what is due of timers in order.
-use Rattle.std.proofs.Common.{◌≡◌, ℕ, zero, suc, ◌+◌, ◌<◌, ◌≤◌, Bool, true, false, cond, List, [], ◌∷◌, length, insert, remove, take, filter, Option, Some, None, refl, ap, sym, subst, ◌∙◌, arith, tests, nat_lt, nat_le, ◌&&◌, slice_index_or, if◌then◌else◌}
+use Rattle.std.proofs.Common.{◌≡◌, ℕ, zero, suc, ◌<◌, ◌≤◌, Bool, true, false, cond, List, [], ◌∷◌, length, remove, take, filter, Option, Some, None, refl, ap, sym, subst, arith, tests, nat_le, ◌&&◌}
 use Rattle.std.specs.Prelude.{filter_map}
 use Rattle.std.specs.List.{cons_option}
-use Rattle.std.specs.List.Sorted.{IsPartitionedBy, IsPartitionPoint}
+use Rattle.std.specs.List.Sorted.{IsPartitionedBy}
 use Rattle.std.specs.List.{AllWithin}
 use Rattle.tcap_invocation.specs.declared.invocations.lapse.Lapse.{Lapse}
 use Rattle.tcap_invocation.specs.declared.invocations.timers.Timer.{Timer}
-use Rattle.tcap_invocation.specs.Order.{put_by, in_order_by, first_of}
+use Rattle.tcap_invocation.specs.Order.{put_by, first_of}
 use Rattle.tcap_invocation.specs.TimerList.{is_earlier, IsInOrder, IsFilled, told_of_timer, told_first}
-use Rattle.tcap_invocation.proofs.InsertionLemmas.{Ahead, Ordered, ordered_put, ordered_in_order}
+use Rattle.tcap_invocation.proofs.InsertionLemmas.{Ordered, ordered_put, ordered_in_order}
 use Rattle.tcap_invocation.proofs.SortLemmas.{put_ahead, length-put, in_order-fixed, IsPartitionedBy-ordered, IsPartitionedBy-before, ordered_filter, ordered_remove, put_put}
 
 pub earlier_once : (a b : Timer) → is_earlier a b ≡ true → is_earlier b a ≡ false

@@ -1,8 +1,6 @@
 -- Which invocations lapse at a moment, in which order they are told, and which identifiers are free
 -- after their wait.
 use Rattle.std.specs.Prelude.{ℕ, ℤ, ◌==◌, ◌&&◌, ◌||◌, Bool, true, nat_lt, nat_le, List, filter, filter_map, Option, Some, None, is_some, if◌then◌else◌}
-use Rattle.std.specs.declared.cmp.Ordering.{Ordering}
-use Rattle.std.specs.Ordering.{nat_cmp, int_cmp, then_cmp, on}
 use Rattle.tcap_invocation.specs.declared.invocations.Invocation.{Invocation}
 use Rattle.tcap_invocation.specs.declared.invocations.lapse.Lapse.{Lapse}
 use Rattle.tcap_invocation.specs.declared.stage.Stage.{Stage}

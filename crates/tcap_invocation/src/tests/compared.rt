@@ -33,7 +33,9 @@ fn next_seed(seed: u32) -> u32 {
 
 /// A number below this one, from so many bits of the seed.
 fn drawn(seed: u32, shift: u32, below: u32) -> u32 {
-    (seed.wrapping_shr(shift) & 0xff).checked_rem(below).unwrap_or(0)
+    (seed.wrapping_shr(shift) & 0xff)
+        .checked_rem(below)
+        .unwrap_or(0)
 }
 
 /// The call that a seed draws. There are twenty identifiers, and timeouts of 1 to 16.
@@ -127,10 +129,12 @@ fn call(alloc: Global, both: &mut Both, d: Made) -> Result<bool, Fail> {
 /// Whether both say the same of what they hold.
 fn are_alike(alloc: Global, both: &Both, d: Made) -> Result<bool, Fail> {
     let due = both.plain.due(alloc, d.clock)?;
-    Ok(both.list.next_timer() == both.plain.next_timer()
-        && both.list.due_count(d.clock) == due.len()
-        && both.list.first_due(d.clock) == due.first().copied()
-        && both.list.in_use(d.id) == both.plain.row(d.id).is_some())
+    Ok(
+        both.list.next_timer() == both.plain.next_timer()
+            && both.list.due_count(d.clock) == due.len()
+            && both.list.first_due(d.clock) == due.first().copied()
+            && both.list.in_use(d.id) == both.plain.row(d.id).is_some(),
+    )
 }
 
 #[test]

@@ -47,10 +47,7 @@ pub(super) fn due(timers: &[Timer], clock: u64) -> &[Timer]
 pub(super) fn due_count(timers: &[Timer], clock: u64) -> usize
     ensures { result ≡ length (filter_map (told_of_timer clock) timers.now) }
 {
-    timers
-        .iter()
-        .filter_map(|timer| told(timer, clock))
-        .count()
+    timers.iter().filter_map(|timer| told(timer, clock)).count()
 }
 
 /// What is told of the first of these.
@@ -66,7 +63,11 @@ pub(super) fn first_due(timers: &[Timer], clock: u64) -> Option<Lapse>
 }
 
 /// Tells all of these, in room that is there.
-pub(super) fn push_due<A: Allocator + Copy>(lapses: &mut Vec<Lapse, A>, timers: &[Timer], clock: u64)
+pub(super) fn push_due<A: Allocator + Copy>(
+    lapses: &mut Vec<Lapse, A>,
+    timers: &[Timer],
+    clock: u64,
+)
     requires { vec_len lapses.old + length (filter_map (told_of_timer clock) timers.now) ≤ vec_capacity lapses.old }
     ensures { lapses.new.items ≡ lapses.old.items ++ filter_map (told_of_timer clock) timers.now }
 {

@@ -1,4 +1,4 @@
-use Rattle.std.proofs.Common.{arith, refl, rules, subst, sym, ◌≡◌, ◌∙◌, ◌+◌, ◌≤◌, None, [], ◌++◌, ◌∷◌, length}
+use Rattle.std.proofs.Common.{arith, refl, rules, subst, sym, ◌≡◌, ◌∙◌, ◌+◌, ◌≤◌, None, [], ◌++◌, ◌∷◌}
 use Rattle.std.proofs.lemmas.Int.{to_z-of_z}
 use Rattle.std.specs.Ordering.{int_eq}
 use Rattle.std.specs.Int.{w8}
@@ -18,13 +18,14 @@ invariant_of-self-2 g c =
     let new : c.insert.new.self.entries ≡ c.self.inside.entries.entries ++ (c.args.id, e) ∷ [] =
     rw (to_z-of_z w8 c.args.id c.ranges.id) at c.in_ok-insert.ensures.entries ∙ insert_entry-new int_eq c.self.inside.entries c.args.id e none in
     let room : c.len.result + 1 ≤ c.reserve.new.self.room = search rules in
-    let long = c.len.ensures.len in
-    (record {
-      in_order = rw new (AreInOrder-push c.self.inside.entries.entries (c.args.id, e) (omega arith, omega arith) (subst (λ t. AllBelow c.args.number t.rows) (sym c.self.view_is) c.requires) c.self.invariant.0.in_order);
-      distinct = c.insert.ensures.unique;
-      wait = c.self.invariant.0.wait;
-    },
-    rw new (IsTimed-push c.self.inside.entries.entries c.self.inside.timers c.reserve.new.self c.self.invariant.1 c.reserve.ensures.more (c.args.id, e) refl c.reserve.ensures.kept (omega (arith, room, long))))
+    let long = c.len.ensures.len in (
+      record {
+        in_order = rw new (AreInOrder-push c.self.inside.entries.entries (c.args.id, e) (omega arith, omega arith) (subst (λ t. AllBelow c.args.number t.rows) (sym c.self.view_is) c.requires) c.self.invariant.0.in_order);
+        distinct = c.insert.ensures.unique;
+        wait = c.self.invariant.0.wait;
+      },
+      rw new (IsTimed-push c.self.inside.entries.entries c.self.inside.timers c.reserve.new.self c.self.invariant.1 c.reserve.ensures.more (c.args.id, e) refl c.reserve.ensures.kept (omega (arith, room, long))),
+    )
 
 pub returns-clause-ok : goal.returns-clause-ok
 returns-clause-ok g c =

@@ -13,13 +13,14 @@ use Rattle.tcap_invocation.proofs.invocations.Invocations.lapse.Goals as goal
 pub invariant_of-self : goal.invariant_of-self
 invariant_of-self g c =
     let left : c.retain.new.self.entries ≡ filter (λ r. stays c.args.clock r.1.stage) c.self.inside.entries.entries = filter_same_pairs _ (λ r. stays c.args.clock r.1.stage) _ (λ k v b w g t. search rules) _ _ c.retain.ensures.filtered in
-    let room = c.expire.ensures.room in
-    (record {
-      in_order = rw left (AreInOrder-filter _ _ c.self.invariant.0.in_order);
-      distinct = c.retain.ensures.unique;
-      wait = c.self.invariant.0.wait;
-    },
-    rw left (IsTimed-stays c.self.inside.entries.entries c.self.inside.timers c.expire.new.self c.self.invariant.1 (omega (arith, room)) c.args.clock c.expire.ensures.timers))
+    let room = c.expire.ensures.room in (
+      record {
+        in_order = rw left (AreInOrder-filter _ _ c.self.invariant.0.in_order);
+        distinct = c.retain.ensures.unique;
+        wait = c.self.invariant.0.wait;
+      },
+      rw left (IsTimed-stays c.self.inside.entries.entries c.self.inside.timers c.expire.new.self c.self.invariant.1 (omega (arith, room)) c.args.clock c.expire.ensures.timers),
+    )
 
 pub returns-clause-list : goal.returns-clause-list
 returns-clause-list g c =

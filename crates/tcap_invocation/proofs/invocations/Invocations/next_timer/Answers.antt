@@ -1,9 +1,8 @@
-use Rattle.std.proofs.Common.{◌≡◌, ◌∙◌, ap, sym, rules, Some, None, Option}
+use Rattle.std.proofs.Common.{◌≡◌, ◌∙◌, ap, sym, rules, Some, None}
 use Rattle.std.specs.Prelude.{option_copied}
 use Rattle.std.specs.Option.{option_map}
 use Rattle.tcap_invocation.specs.declared.invocations.timers.Timer.{Timer}
 use Rattle.tcap_invocation.specs.Order.{first_of}
-use Rattle.tcap_invocation.specs.Timers.{next_timer_at}
 use Rattle.tcap_invocation.specs.TimerList.{timers_at}
 use Rattle.tcap_invocation.proofs.TimelyLemmas.{next_timer_at-timers}
 use Rattle.tcap_invocation.proofs.invocations.Invocations.next_timer.Goals as goal

@@ -1,6 +1,4 @@
-use Rattle.std.proofs.Common.{◌≡◌, ◌∙◌, sym, rules, Some, None}
-use Rattle.std.proofs.lemmas.Int.{to_z-of_z}
-use Rattle.std.specs.Int.{w8}
+use Rattle.std.proofs.Common.{◌≡◌, rules, Some, None}
 use Rattle.tcap_invocation.specs.Closing.{first_ended_at}
 use Rattle.tcap_invocation.specs.Invocations.{entry_at}
 use Rattle.tcap_invocation.proofs.TellingLemmas.{first_ended-entry}

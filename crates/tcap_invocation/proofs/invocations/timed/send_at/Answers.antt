@@ -9,8 +9,7 @@ use Rattle.tcap_invocation.specs.declared.invocations.Invocation.{Invocation}
 use Rattle.tcap_invocation.specs.declared.stage.Stage.{Stage}
 use Rattle.tcap_invocation.specs.declared.stage.Stage.TheVariants.{Queued, Sent}
 use Rattle.tcap_invocation.specs.Stage.{moment_limit, IsTimely, sent_stage}
-use Rattle.tcap_invocation.specs.Invocations.{Row, AreInOrder, sent_entry}
-use Rattle.tcap_invocation.specs.TimerList.{IsTimed, sent_place}
+use Rattle.tcap_invocation.specs.Invocations.{Row, sent_entry}
 use Rattle.tcap_invocation.proofs.TimedLemmas.{sent_place-written, sent_place-same, sent_place-past, sent_entry-same, AreInOrder-sent_place, IsTimely-get}
 use Rattle.tcap_invocation.proofs.TiedLemmas.{room-queued, IsTimed-sent_place}
 use Rattle.tcap_invocation.proofs.invocations.timed.send_at.Goals as goal

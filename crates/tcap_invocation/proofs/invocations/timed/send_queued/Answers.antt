@@ -1,4 +1,4 @@
-use Rattle.std.proofs.Common.{◌∙◌, arith, length}
+use Rattle.std.proofs.Common.{◌∙◌, arith}
 use Rattle.tcap_invocation.proofs.TimedLemmas.{sent_below-all}
 use Rattle.tcap_invocation.proofs.invocations.timed.send_queued.Goals as goal
 

@@ -1,6 +1,4 @@
-use Rattle.std.proofs.Common.{ap, ◌≡◌}
 use Rattle.std.specs.Ordering.{int_eq}
-use Rattle.tcap_invocation.specs.Invocations.{without}
 use Rattle.tcap_invocation.proofs.OrderLemmas.{AreInOrder-remove_entry}
 use Rattle.tcap_invocation.proofs.TiedLemmas.{IsTimed-without}
 use Rattle.tcap_invocation.proofs.invocations.timed.take_out.Goals as goal

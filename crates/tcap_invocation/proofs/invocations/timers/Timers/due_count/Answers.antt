@@ -1,6 +1,4 @@
-use Rattle.std.proofs.Common.{arith, ap, length, ◌≤◌, ◌≡◌, ◌∙◌}
-use Rattle.std.specs.Prelude.{filter_map}
-use Rattle.tcap_invocation.specs.TimerList.{told_of_timer}
+use Rattle.std.proofs.Common.{arith, ap, length, ◌∙◌}
 use Rattle.tcap_invocation.proofs.TimerLemmas.{IsInOrder-rest, length-told}
 use Rattle.tcap_invocation.proofs.invocations.timers.Timers.due_count.Goals as goal
 

@@ -1,6 +1,6 @@
-use Rattle.std.proofs.Common.{rules, arith, suc, ◌≡◌, ◌∙◌, ◌<◌, ◌∷◌, remove, length, List, subst, sym, ap}
+use Rattle.std.proofs.Common.{rules, arith, suc, ◌∙◌, ◌<◌, ◌∷◌, remove, length, List, subst, sym, ap}
 use Rattle.tcap_invocation.specs.declared.invocations.timers.Timer.{Timer}
-use Rattle.tcap_invocation.specs.TimerList.{IsPlace, IsInOrder, is_earlier}
+use Rattle.tcap_invocation.specs.TimerList.{IsPlace, is_earlier}
 use Rattle.tcap_invocation.proofs.SortLemmas.{remove-put}
 use Rattle.tcap_invocation.proofs.TimerLemmas.{earlier_never, IsInOrder-remove}
 use Rattle.tcap_invocation.proofs.invocations.timers.sorted.take.Goals as goal

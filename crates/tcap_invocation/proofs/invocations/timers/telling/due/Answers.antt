@@ -10,6 +10,6 @@ pub returns : goal.returns
 returns c =
     let ts = c.args.timers.now in
     let at : IsPartitionPoint (λ y. nat_le y.time c.args.clock ≡ true) (λ y. nat_le y.time c.args.clock ≡ false) ts c.partition_point-count.result =
-        IsPartitionPoint-from_clause (λ y. nat_le y.time c.args.clock) ts c.partition_point-count.result c.partition_point-count.ensures.partitioned (IsPartitionedBy-clock ts c.args.clock c.requires) (λ a r f k. search (rules, tests)) in
+    IsPartitionPoint-from_clause (λ y. nat_le y.time c.args.clock) ts c.partition_point-count.result c.partition_point-count.ensures.partitioned (IsPartitionedBy-clock ts c.args.clock c.requires) (λ a r f k. search (rules, tests)) in
     let front : c.split_at.result.0.now ≡ take c.partition_point-count.result ts = search rules in
     ap (filter_map (told_of_timer c.args.clock)) front ∙ told-front c.args.clock ts c.partition_point-count.result at.1
