@@ -6,9 +6,7 @@ use crate::invocations::lapse::Lapse;
 use std::alloc::Allocator;
 use std::test::Fail;
 
-mod compared;
 mod examples;
-mod plain;
 mod refused;
 
 /// An invocation of class 1 is taken in, where its number is above all.
