@@ -1,4 +1,6 @@
 pub mod AnswerText
+pub mod Computing
+pub mod Examples
 pub mod LineViews
 pub mod Numbers
 pub mod OutputParts

@@ -65,14 +65,19 @@ class_of word =
 abbrev pub code_of : List ℕ → Option CodeParts
 code_of word = option_map (λ number. local number) (number_between (neg_ℤ (pos 2147483648)) (pos 2147483647) word)
 
+-- The octets that a word of hexadecimal spells; an empty one is no word (own).
+abbrev pub spelled_in : List ℕ → Option (List ℕ)
+spelled_in [] = None
+spelled_in (digit ∷ digits) = spelled_by (digit ∷ digits)
+
 -- The octets that a word spells; `-` spells none (own).
 abbrev pub octets_of : List ℕ → Option (List ℕ)
-octets_of word = if bytes_eq word (codes "-") then Some [] else spelled_by word
+octets_of word = if bytes_eq word (codes "-") then Some [] else spelled_in word
 
 -- Octets that may be left out, with `-` (own).
 abbrev pub optional_octets_of : List ℕ → Option (Option (List ℕ))
 optional_octets_of word =
-    if bytes_eq word (codes "-") then Some None else option_map (λ octets. Some octets) (spelled_by word)
+    if bytes_eq word (codes "-") then Some None else option_map (λ octets. Some octets) (spelled_in word)
 
 -- The body that a code and a parameter make (own).
 abbrev pub body_with : List ℕ → List ℕ → Option (Option BodyParts)

@@ -5,6 +5,7 @@
 #![tactic(auto)]
 
 mod answer_text;
+pub mod examples;
 mod fault;
 mod message;
 mod numbers;

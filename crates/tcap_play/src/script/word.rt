@@ -1,6 +1,7 @@
 //! A word, and the octets that it spells.
 
 ghost use Rattle.std.specs.Prelude.{◌≡◌, option_map, option_copied, IfOk};
+ghost use Rattle.tcap_play.specs.ScriptWords.{spelled_in};
 ghost use Rattle.tcap_text.specs.Spelling.{spelled_by};
 
 use ber_core::OutOfMemory;
@@ -24,10 +25,13 @@ impl<'s, A: Allocator> Word<'s, A> {
         Ok(Word { text, octets })
     }
 
-    /// The octets that it spells, None where it isn't hexadecimal.
+    /// The octets that it spells, None where it isn't hexadecimal, or empty.
     pub(crate) fn octets(&self) -> Option<&[u8]>
-        ensures { option_copied result ≡ spelled_by self.now.text.now }
+        ensures { option_copied result ≡ spelled_in self.now.text.now }
     {
+        if self.text.is_empty() {
+            return None;
+        }
         match &self.octets {
             Some(octets) => Some(octets.as_slice()),
             None => None,

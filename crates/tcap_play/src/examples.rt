@@ -1,0 +1,86 @@
+//! Worked plays, by computation.
+#![tactic(auto, unfolding(crate::specs::Computing::computing))]
+
+ghost use Rattle.std.specs.Prelude.{codes, []};
+ghost use Rattle.tcap_play.specs.Examples.{Prints, PrintsUpTo};
+
+/// A Begin that comes twice: the far side has two dialogues, and both answer.
+pub fn repeated_begin()
+    ensures text { Prints (codes "A new\nA invoke 1 1 1 10 1000 - -\nA begin 1 - -\ndeliver A1\nagain A1\nB last 1 1 10 0401AA\nB continue 1 - -\nB last 2 1 10 0401BB\nB continue 2 - -\ndeliver B2\ndeliver B1\nadvance 1000\n") (codes "A new 1\nA number 1\nA send A1 62104804000000016c08a10602010102010a\nB begin 1 context - info -\nB invoked 1 id 1 linked - op local 10 param -\nB begin 2 context - info -\nB invoked 2 id 1 linked - op local 10 param -\nB done\nB send B1 651b4804000000014904000000016c0da20b020101300602010a0401aa\nB done\nB send B2 651b4804000000024904000000016c0da20b020101300602010a0401bb\nA continue 1 context - info -\nA last 1 id 1 number 1 op local 10 param 0401bb\nA continue 1 context - info -\nA localreject 1 id 1 result 0\n") }
+{}
+
+/// An End that is lost: the invocation lapses. A lost message can't be delivered.
+pub fn lost_end()
+    ensures text { Prints (codes "A new\nA invoke 1 1 1 10 5000 - -\nA begin 1 - -\ndeliver A1\nB more 1 1 10 0401AA\nB continue 1 - -\ndeliver B1\nagain B1\nB last 1 1 10 0401BB\nB end 1 - -\nlose B2\nadvance 5000\nA prearranged 1\n") (codes "A new 1\nA number 1\nA send A1 62104804000000016c08a10602010102010a\nB begin 1 context - info -\nB invoked 1 id 1 linked - op local 10 param -\nB done\nB send B1 651b4804000000014904000000016c0da70b020101300602010a0401aa\nA continue 1 context - info -\nA more 1 id 1 number 1 op local 10 param 0401aa\nA continue 1 context - info -\nA more 1 id 1 number 1 op local 10 param 0401aa\nB done\nB send B2 64154904000000016c0da20b020101300602010a0401bb\nA lapsed 1 id 1 number 1\n") }
+    ensures delivered { PrintsUpTo (codes "A new\nA invoke 1 1 1 10 5000 - -\nA begin 1 - -\ndeliver A1\nB more 1 1 10 0401AA\nB continue 1 - -\ndeliver B1\nagain B1\nB last 1 1 10 0401BB\nB end 1 - -\nlose B2\nadvance 5000\nA prearranged 1\ndeliver B2\n") (codes "A new 1\nA number 1\nA send A1 62104804000000016c08a10602010102010a\nB begin 1 context - info -\nB invoked 1 id 1 linked - op local 10 param -\nB done\nB send B1 651b4804000000014904000000016c0da70b020101300602010a0401aa\nA continue 1 context - info -\nA more 1 id 1 number 1 op local 10 param 0401aa\nA continue 1 context - info -\nA more 1 id 1 number 1 op local 10 param 0401aa\nB done\nB send B2 64154904000000016c0da20b020101300602010a0401bb\nA lapsed 1 id 1 number 1\nline 14 bad\n") }
+{}
+
+/// The empty script, and one that ends with a bad line.
+pub fn endings()
+    ensures empty { Prints [] [] }
+    ensures second { PrintsUpTo (codes "A new\nA new 1") (codes "A new 1\nline 2 bad\n") }
+    ensures no_line_feed { Prints (codes "A new") (codes "A new 1\n") }
+{}
+
+/// Refusals are good.
+pub fn refusals()
+    ensures begin { Prints (codes "A begin 9 - -") (codes "A refused 2\n") }
+    ensures dialogue { Prints (codes "A invoke 0 1 1 1 1 - -") (codes "A refused 2\n") }
+    ensures timeout { Prints (codes "A new\nA invoke 1 1 1 1 0 - -") (codes "A new 1\nA refused 6\n") }
+    ensures moment { Prints (codes "advance 4611686018427387905") (codes "A refused 14\nB refused 14\n") }
+    ensures reject { Prints (codes "A reject 1 - general 0") (codes "A refused 2\n") }
+    ensures no_message { Prints (codes "A raw -") (codes "A dropped badmessage\n") }
+{}
+
+/// Numbers have no zero or plus sign before them, and lie in their range.
+pub fn numbers()
+    ensures negative_zero { PrintsUpTo (codes "A cancel 1 -0") (codes "line 1 bad\n") }
+    ensures two_zeros { PrintsUpTo (codes "A prearranged 00") (codes "line 1 bad\n") }
+    ensures zero_before { PrintsUpTo (codes "A prearranged 01") (codes "line 1 bad\n") }
+    ensures plus { PrintsUpTo (codes "A prearranged +1") (codes "line 1 bad\n") }
+    ensures zero { Prints (codes "A prearranged 0") (codes "A refused 2\n") }
+    ensures moment { PrintsUpTo (codes "advance 18446744073709551616") (codes "line 1 bad\n") }
+    ensures dialogue { PrintsUpTo (codes "A prearranged 4294967296") (codes "line 1 bad\n") }
+    ensures identifier { PrintsUpTo (codes "A cancel 1 128") (codes "line 1 bad\n") }
+    ensures least_identifier { Prints (codes "A cancel 1 -128") (codes "A refused 2\n") }
+    ensures below { PrintsUpTo (codes "A cancel 1 -129") (codes "line 1 bad\n") }
+    ensures class { PrintsUpTo (codes "A invoke 1 1 5 1 1 - -") (codes "line 1 bad\n") }
+    ensures code { PrintsUpTo (codes "A reject 1 1 general 128") (codes "line 1 bad\n") }
+{}
+
+/// Words stand one space apart, and are told apart by case.
+pub fn words()
+    ensures two_spaces { PrintsUpTo (codes "A  new") (codes "line 1 bad\n") }
+    ensures space_before { PrintsUpTo (codes " A new") (codes "line 1 bad\n") }
+    ensures space_behind { PrintsUpTo (codes "A new ") (codes "line 1 bad\n") }
+    ensures space_alone { PrintsUpTo (codes " ") (codes "line 1 bad\n") }
+    ensures no_octets { PrintsUpTo (codes "A raw ") (codes "line 1 bad\n") }
+    ensures odd { PrintsUpTo (codes "A raw 123") (codes "line 1 bad\n") }
+    ensures lower_case { PrintsUpTo (codes "a new") (codes "line 1 bad\n") }
+    ensures upper_case { PrintsUpTo (codes "A reject 1 1 General 1") (codes "line 1 bad\n") }
+    ensures tab { PrintsUpTo (codes "Anew") (codes "line 1 bad\n") }
+{}
+
+/// Where `-` stands for something, and where not.
+pub fn dashes()
+    ensures identifier { PrintsUpTo (codes "A cancel 1 -") (codes "line 1 bad\n") }
+    ensures body { PrintsUpTo (codes "A last 1 1 - 0401AA") (codes "line 1 bad\n") }
+    ensures error { PrintsUpTo (codes "A error 1 1 - -") (codes "line 1 bad\n") }
+    ensures operation { PrintsUpTo (codes "A invoke 1 1 1 - 1 - -") (codes "line 1 bad\n") }
+{}
+
+/// Skipped lines are counted.
+pub fn counting()
+    ensures text { PrintsUpTo (codes "# x\n\nA new\n# y\nnew") (codes "A new 1\nline 5 bad\n") }
+{}
+
+/// Messages are numbered from 1; each is received or lost once, and again only where it was received.
+pub fn messages()
+    ensures none { PrintsUpTo (codes "deliver A1") (codes "line 1 bad\n") }
+    ensures zero { PrintsUpTo (codes "deliver A0") (codes "line 1 bad\n") }
+    ensures zero_before { PrintsUpTo (codes "deliver A01") (codes "line 1 bad\n") }
+    ensures lost_twice { PrintsUpTo (codes "A new\nA begin 1 - -\nlose A1\nlose A1") (codes "A new 1\nA send A1 6206480400000001\nline 4 bad\n") }
+    ensures again_first { PrintsUpTo (codes "A new\nA begin 1 - -\nagain A1") (codes "A new 1\nA send A1 6206480400000001\nline 3 bad\n") }
+    ensures delivered_twice { PrintsUpTo (codes "A new\nA begin 1 - -\ndeliver A1\ndeliver A1") (codes "A new 1\nA send A1 6206480400000001\nB begin 1 context - info -\nline 4 bad\n") }
+    ensures lost_late { PrintsUpTo (codes "A new\nA begin 1 - -\ndeliver A1\nlose A1") (codes "A new 1\nA send A1 6206480400000001\nB begin 1 context - info -\nline 4 bad\n") }
+{}
