@@ -3,4 +3,7 @@ pub mod MessagePlaces
 pub mod Numerals
 pub mod PlayLines
 pub mod PlaySteps
+pub mod StreamEnds
+pub mod StreamGoing
+pub mod StreamLines
 pub mod WordCounts

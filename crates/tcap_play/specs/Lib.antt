@@ -12,3 +12,6 @@ pub mod Run
 pub mod ScriptLine
 pub mod ScriptWords
 pub mod SideView
+pub mod StreamRun
+pub mod StreamSteps
+pub mod StreamText

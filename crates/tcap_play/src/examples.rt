@@ -1,8 +1,8 @@
-//! Worked plays, by computation.
+//! Worked plays and streams, by computation.
 #![tactic(auto, unfolding(crate::specs::Computing::computing))]
 
-ghost use Rattle.std.specs.Prelude.{codes, []};
-ghost use Rattle.tcap_play.specs.Examples.{Prints, PrintsUpTo};
+ghost use Rattle.std.specs.Prelude.{codes, true, false, [], ◌∷◌, ◌++◌};
+ghost use Rattle.tcap_play.specs.Examples.{Prints, PrintsUpTo, Streams, shown_begin};
 
 /// A Begin that comes twice: the far side has two dialogues, and both answer.
 pub fn repeated_begin()
@@ -83,4 +83,13 @@ pub fn messages()
     ensures again_first { PrintsUpTo (codes "A new\nA begin 1 - -\nagain A1") (codes "A new 1\nA send A1 6206480400000001\nline 3 bad\n") }
     ensures delivered_twice { PrintsUpTo (codes "A new\nA begin 1 - -\ndeliver A1\ndeliver A1") (codes "A new 1\nA send A1 6206480400000001\nB begin 1 context - info -\nline 4 bad\n") }
     ensures lost_late { PrintsUpTo (codes "A new\nA begin 1 - -\ndeliver A1\nlose A1") (codes "A new 1\nA send A1 6206480400000001\nB begin 1 context - info -\nline 4 bad\n") }
+{}
+
+/// A line for each message, and a last line where the stream ends within one, or can't go on.
+pub fn streams()
+    ensures nothing { Streams [] [] true }
+    ensures message { Streams shown_begin (codes "good\n") true }
+    ensures rest { Streams (shown_begin ++ 0x62 ∷ 0x15 ∷ 0x48 ∷ []) (codes "good\nrest 3\n") false }
+    ensures fault { Streams (0x62 ∷ 0x06 ∷ 0x48 ∷ 0x04 ∷ 0x00 ∷ 0x00 ∷ 0x00 ∷ 0x01 ∷ 0x00 ∷ []) (codes "good\nfault stream ber 2\n") false }
+    ensures faulty { Streams (0x04 ∷ 0x00 ∷ shown_begin) (codes "fault unknown type\ngood\n") false }
 {}

@@ -15,7 +15,7 @@ pub enum PlayFault {
     /// A write failed, and some of the text was not written.
     #[error("write failed")]
     Write = 3,
-    /// The input has more than 1,048,576 octets, or 1,000,000 reads did not find its end.
+    /// A script has more than 1,048,576 octets, or 1,000,000 reads did not find the end of the input.
     #[error("input too long")]
     TooLong = 4,
 }

@@ -1,7 +1,7 @@
-//! Play: two engines, and the messages between them.
+//! Play: two engines, and the messages between them. Streams: the verdict on each of their messages.
 //!
 //! Stands on `tcap_engine` and all below it, on `tcap_text` for the words of its texts, on `hex`, and on
-//! `thiserror`. Begin at `play_text`.
+//! `thiserror`. Begin at `play_text` and `run_stream`.
 #![tactic(auto)]
 
 mod answer_text;
@@ -16,7 +16,10 @@ mod run;
 mod script;
 mod side;
 mod station;
+mod stream;
+mod stream_text;
 
 pub use fault::PlayFault;
 pub use play::play_text;
 pub use run::run_play;
+pub use stream::run_stream;

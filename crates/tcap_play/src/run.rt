@@ -12,9 +12,9 @@ use tcap_text::write_text;
 /// The longest script, in octets.
 const LONGEST: usize = 1_048_576;
 /// The most reads of a run.
-const MOST_READS: u32 = 1_000_000;
+pub(crate) const MOST_READS: u32 = 1_000_000;
 /// The octets that a read asks for.
-const PIECE: usize = 4_096;
+pub(crate) const PIECE: usize = 4_096;
 
 /// Reads all that the reader gives, up to its end. A read that fails isn't tried again.
 fn read_script<A: Allocator, R: Read>(alloc: A, reader: &mut R) -> Result<Vec<u8, A>, PlayFault>
