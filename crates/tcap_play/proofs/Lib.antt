@@ -1,6 +1,7 @@
 pub mod FirstPieces
 pub mod MessagePlaces
 pub mod Numerals
+pub mod Octets
 pub mod PlayLines
 pub mod PlaySteps
 pub mod StreamEnds

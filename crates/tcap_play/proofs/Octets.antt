@@ -1,0 +1,10 @@
+pub mod LifeOctets
+pub mod OctetLists
+pub mod QueueOctets
+pub mod ReadOctets
+pub mod ReceptionOctets
+pub mod ReplyOctets
+pub mod RequestOctets
+pub mod SentOctets
+pub mod WaitingOctets
+pub mod WrittenOctets
