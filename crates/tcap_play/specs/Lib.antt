@@ -7,6 +7,7 @@ pub mod OutputParts
 pub mod OutputText
 pub mod Pieces
 pub mod Play
+pub mod PlayNet
 pub mod PlayViews
 pub mod Run
 pub mod ScriptLine
