@@ -1,5 +1,6 @@
 pub mod FirstPieces
 pub mod MessagePlaces
+pub mod Nets
 pub mod Numerals
 pub mod Octets
 pub mod PlayLines

@@ -7,6 +7,7 @@
 mod answer_text;
 pub mod examples;
 mod fault;
+pub mod laws;
 mod message;
 mod numbers;
 mod output_text;

@@ -1,0 +1,5 @@
+pub mod LineRanges
+pub mod PlayMessages
+pub mod PlayShown
+pub mod SoundPlays
+pub mod WordRanges
