@@ -1,12 +1,14 @@
 //! Worked plays and streams, by computation.
 #![tactic(auto, unfolding(crate::specs::Computing::computing))]
 
-ghost use Rattle.std.specs.Prelude.{codes, true, false, [], ◌∷◌, ◌++◌};
-ghost use Rattle.tcap_play.specs.Examples.{Prints, PrintsUpTo, Streams, shown_begin};
+ghost use Rattle.std.specs.Prelude.{◌≡◌, codes, true, false, [], ◌∷◌, ◌++◌};
+ghost use Rattle.tcap_model.specs.Statements.Net.{IsNet};
+ghost use Rattle.tcap_play.specs.Examples.{Prints, PrintsUpTo, Streams, repeated_begin_script, repeated_begin_text, shown_begin};
+ghost use Rattle.tcap_play.specs.PlayNet.{HasNoRaw, has_no_raw, net_of, played_of, shown_text};
 
 /// A Begin that comes twice: the far side has two dialogues, and both answer.
 pub fn repeated_begin()
-    ensures text { Prints (codes "A new\nA invoke 1 1 1 10 1000 - -\nA begin 1 - -\ndeliver A1\nagain A1\nB last 1 1 10 0401AA\nB continue 1 - -\nB last 2 1 10 0401BB\nB continue 2 - -\ndeliver B2\ndeliver B1\nadvance 1000\n") (codes "A new 1\nA number 1\nA send A1 62104804000000016c08a10602010102010a\nB begin 1 context - info -\nB invoked 1 id 1 linked - op local 10 param -\nB begin 2 context - info -\nB invoked 2 id 1 linked - op local 10 param -\nB done\nB send B1 651b4804000000014904000000016c0da20b020101300602010a0401aa\nB done\nB send B2 651b4804000000024904000000016c0da20b020101300602010a0401bb\nA continue 1 context - info -\nA last 1 id 1 number 1 op local 10 param 0401bb\nA continue 1 context - info -\nA localreject 1 id 1 result 0\n") }
+    ensures text { Prints repeated_begin_script repeated_begin_text }
 {}
 
 /// An End that is lost: the invocation lapses. A lost message can't be delivered.
@@ -83,6 +85,18 @@ pub fn messages()
     ensures again_first { PrintsUpTo (codes "A new\nA begin 1 - -\nagain A1") (codes "A new 1\nA send A1 6206480400000001\nline 3 bad\n") }
     ensures delivered_twice { PrintsUpTo (codes "A new\nA begin 1 - -\ndeliver A1\ndeliver A1") (codes "A new 1\nA send A1 6206480400000001\nB begin 1 context - info -\nline 4 bad\n") }
     ensures lost_late { PrintsUpTo (codes "A new\nA begin 1 - -\ndeliver A1\nlose A1") (codes "A new 1\nA send A1 6206480400000001\nB begin 1 context - info -\nline 4 bad\n") }
+{}
+
+/// Scripts with a `raw` line, and some with none: a line that is skipped or bad isn't one. Octets that nobody
+/// sent don't meet Net. What happens in a play shows the text that it prints.
+pub fn raw_lines()
+    ensures raw { has_no_raw (codes "A new\nA raw -\n") ≡ false }
+    ensures spelled { has_no_raw (codes "B raw 6206480400000001") ≡ false }
+    ensures skipped { HasNoRaw (codes "# A raw -\n#A raw -\nA new") }
+    ensures bad { HasNoRaw (codes "A raw 123\nA raw ") }
+    ensures forged { IsNet (net_of (codes "A raw -")) → ⊥ }
+    ensures repeated_begin { HasNoRaw repeated_begin_script }
+    ensures shown { shown_text (played_of repeated_begin_script).trace ≡ repeated_begin_text }
 {}
 
 /// A line for each message, and a last line where the stream ends within one, or can't go on.
