@@ -2,7 +2,7 @@
 use Rattle.std.proofs.Common.{◌≡◌, ℕ, List, Option, Some, None, refl, sym, ap, ◌∙◌, codes}
 use Rattle.std.specs.Prelude.{option_map, option_and_then}
 use Rattle.clap.specs.Words.{Row, Text, first_of}
-use Rattle.tcap_cmd.specs.CommandLine.{show, check, canon, play, asked_by}
+use Rattle.tcap_cmd.specs.CommandLine.{show, check, canon, play, stream, asked_by}
 
 abbrev some : {A : Type 0} → A → Option A
 some x = Some x
@@ -37,3 +37,7 @@ rewritten_by o name rows hex found named first = rw (found, named, first) refl
 -- `play` asks for the play of the script
 pub played_by : (o : Option (Text × List Row)) (name : Text) (rows : List Row) → o ≡ some (pair name rows) → name ≡ codes "play" → some play ≡ option_and_then asked_by o
 played_by o name rows found named = rw (found, named) refl
+
+-- `stream` asks for the verdicts on the messages of the stream
+pub streamed_by : (o : Option (Text × List Row)) (name : Text) (rows : List Row) → o ≡ some (pair name rows) → name ≡ codes "stream" → some stream ≡ option_and_then asked_by o
+streamed_by o name rows found named = rw (found, named) refl

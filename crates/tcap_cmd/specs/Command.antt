@@ -1,23 +1,26 @@
 -- What a run of the command gives: the text asked for and its verdict, or why it came to none.
-use Rattle.std.specs.Prelude.{◌≡◌, ℕ, Bool, true, false, List, Option, Some, Result, Ok, Err, MatchResult}
+use Rattle.std.specs.Prelude.{◌≡◌, ◌⊎◌, ℕ, Bool, true, false, List, Option, Some, Result, Ok, Err, MatchResult}
 use Rattle.std.specs.Io.KnownBytes.{Appends, Keeps}
 use Rattle.clap.specs.Words.{Text}
 use Rattle.tcap_cmd.specs.declared.refusal.Refusal.{Refusal}
 use Rattle.tcap_cmd.specs.declared.refusal.Refusal.TheVariants.{BadCommand, BadHex, OutOfMemory, WriteFailed, ReadFailed, InputTooLong}
-use Rattle.tcap_cmd.specs.CommandLine.{Asked, show, check, canon, play, Ask, AskNothing}
+use Rattle.tcap_cmd.specs.CommandLine.{Asked, show, check, canon, play, stream, Ask, AskNothing}
 use Rattle.tcap_play.specs.Play.{play_text_of, play_is_good}
 use Rattle.tcap_play.specs.Run.{IsScript, IsLeft, IsPast}
+use Rattle.tcap_play.specs.StreamRun.{IsRead, IsOver, read_of, IsHalted, IsEndless, IsShort, IsStreamCut}
+use Rattle.tcap_play.specs.StreamText.{stream_text_of, stream_is_good}
 use Rattle.tcap_text.specs.Canonical.{canon_text_of, canon_is_good}
 use Rattle.tcap_text.specs.Show.{show_text_of, check_text_of, show_is_good}
 use Rattle.tcap_text.specs.Spelling.{spelled_by}
 use Rattle.tcap_text.specs.Writing.{IsFront}
 
--- The text that is asked for, of a message's bytes or of a script (own).
+-- The text that is asked for, of a message's bytes, of a script or of a stream (own).
 abbrev pub text_of : Asked → List ℕ → List ℕ
 text_of (show hex) bytes = show_text_of bytes
 text_of (check hex) bytes = check_text_of bytes
 text_of (canon hex) bytes = canon_text_of bytes
 text_of play script = play_text_of script
+text_of stream bytes = stream_text_of bytes
 
 -- Whether the verdict of that text is good (own).
 abbrev pub is_good_of : Asked → List ℕ → Bool
@@ -25,6 +28,7 @@ is_good_of (show hex) bytes = show_is_good bytes
 is_good_of (check hex) bytes = show_is_good bytes
 is_good_of (canon hex) bytes = canon_is_good bytes
 is_good_of play script = play_is_good script
+is_good_of stream bytes = stream_is_good bytes
 
 -- HEX spells bytes (own).
 abbrev pub SpellsBytes : List ℕ → Type 0
@@ -40,13 +44,20 @@ IsUnspelled hex WriteFailed = ⊥
 IsUnspelled hex ReadFailed = ⊥
 IsUnspelled hex InputTooLong = ⊥
 
--- The bytes whose text is asked for: those that HEX spells, or the script that the reader gave up to its
--- end (own).
+-- These bytes were read of a stream, up to its end or its fault (own).
+pub record IsStreamRead (had left : Option (List ℕ)) (bytes : List ℕ) : Type 0 where
+  pub read : IsRead had left
+  pub over : IsOver read
+  pub are_bytes : bytes ≡ read_of read
+
+-- The bytes whose text is asked for: those that HEX spells, the script that the reader gave up to its end,
+-- or what it gave of a stream (own).
 abbrev pub IsInput : Asked → Option (List ℕ) → Option (List ℕ) → List ℕ → Type 0
 IsInput (show hex) had left bytes = spelled_by hex ≡ Some bytes
 IsInput (check hex) had left bytes = spelled_by hex ≡ Some bytes
 IsInput (canon hex) had left bytes = spelled_by hex ≡ Some bytes
 IsInput play had left script = IsScript had left script
+IsInput stream had left bytes = IsStreamRead had left bytes
 
 -- There are bytes, their text was written behind what the writer held, and this is its verdict (own).
 pub record IsAnswered (asked : Asked) (had left old new : Option (List ℕ)) (good : Bool) : Type 0 where
@@ -68,35 +79,60 @@ IsBadHex (show hex) = SpellsBytes hex → ⊥
 IsBadHex (check hex) = SpellsBytes hex → ⊥
 IsBadHex (canon hex) = SpellsBytes hex → ⊥
 IsBadHex play = ⊥
+IsBadHex stream = ⊥
 
--- Where memory may be wanting: HEX spells bytes, or the reader gave no more than a script may have (own).
-abbrev pub IsShort : Asked → Option (List ℕ) → Option (List ℕ) → Type 0
-IsShort (show hex) had left = SpellsBytes hex
-IsShort (check hex) had left = SpellsBytes hex
-IsShort (canon hex) had left = SpellsBytes hex
-IsShort play had left = IsLeft had left
+-- Where memory may be wanting: HEX spells bytes, or the reader gave no more than a script may have, and
+-- nothing is written; a stream's lines are written up to there (own).
+abbrev pub IsWanting : Asked → Option (List ℕ) → Option (List ℕ) → Option (List ℕ) → Option (List ℕ) → Type 0
+IsWanting (show hex) had left old new = SpellsBytes hex × Keeps old new
+IsWanting (check hex) had left old new = SpellsBytes hex × Keeps old new
+IsWanting (canon hex) had left old new = SpellsBytes hex × Keeps old new
+IsWanting play had left old new = IsLeft had left × Keeps old new
+IsWanting stream had left old new = IsShort had left old new
 
--- When a run that asks for something may be refused, and what it read and wrote: nothing is written where
--- HEX spells no bytes, where memory is wanting, and where a script isn't read; a front of the text where a
--- write fails (own).
+-- A write failed: a front of the text was written, never all of it (own).
+abbrev pub IsUnwritten : Asked → Option (List ℕ) → Option (List ℕ) → Option (List ℕ) → Option (List ℕ) → Type 0
+IsUnwritten (show hex) had left old new = IsCut (show hex) had left old new
+IsUnwritten (check hex) had left old new = IsCut (check hex) had left old new
+IsUnwritten (canon hex) had left old new = IsCut (canon hex) had left old new
+IsUnwritten play had left old new = IsCut play had left old new
+IsUnwritten stream had left old new = IsStreamCut had left old new
+
+-- A read failed: nothing is written of a script, and of a stream the lines up to there (own).
+abbrev pub IsUnread : Asked → Option (List ℕ) → Option (List ℕ) → Option (List ℕ) → Option (List ℕ) → Type 0
+IsUnread (show hex) had left old new = ⊥
+IsUnread (check hex) had left old new = ⊥
+IsUnread (canon hex) had left old new = ⊥
+IsUnread play had left old new = IsLeft had left × Keeps old new
+IsUnread stream had left old new = IsHalted had left old new
+
+-- The input is too long, with the same written (own).
+abbrev pub IsTooLong : Asked → Option (List ℕ) → Option (List ℕ) → Option (List ℕ) → Option (List ℕ) → Type 0
+IsTooLong (show hex) had left old new = ⊥
+IsTooLong (check hex) had left old new = ⊥
+IsTooLong (canon hex) had left old new = ⊥
+IsTooLong play had left old new = IsPast had left × Keeps old new
+IsTooLong stream had left old new = IsEndless had left old new
+
+-- When a run that asks for something may be refused, and what it read and wrote (own).
 abbrev pub IsRefused : Asked → Refusal → Option (List ℕ) → Option (List ℕ) → Option (List ℕ) → Option (List ℕ) → Type 0
 IsRefused asked BadCommand had left old new = ⊥
 IsRefused asked BadHex had left old new = IsBadHex asked × Keeps old new
-IsRefused asked OutOfMemory had left old new = IsShort asked had left × Keeps old new
-IsRefused asked WriteFailed had left old new = IsCut asked had left old new
-IsRefused asked ReadFailed had left old new = (asked ≡ play) × IsLeft had left × Keeps old new
-IsRefused asked InputTooLong had left old new = (asked ≡ play) × IsPast had left × Keeps old new
+IsRefused asked OutOfMemory had left old new = IsWanting asked had left old new
+IsRefused asked WriteFailed had left old new = IsUnwritten asked had left old new
+IsRefused asked ReadFailed had left old new = IsUnread asked had left old new
+IsRefused asked InputTooLong had left old new = IsTooLong asked had left old new
 
 -- The words ask for something, of which a run is so refused (own).
 abbrev pub IsAskedRefused : List Text → Refusal → Option (List ℕ) → Option (List ℕ) → Option (List ℕ) → Option (List ℕ) → Type 0
 IsAskedRefused words refusal had left old new = (asked : Asked) × Ask words asked × IsRefused asked refusal had left old new
 
 -- When a run for these words may be refused, and what it read and wrote: memory may be wanting while they
--- are read, whatever they ask for (own).
+-- are read, whatever they ask for, and nothing is written then (own).
 abbrev pub IsRefusal : List Text → Refusal → Option (List ℕ) → Option (List ℕ) → Option (List ℕ) → Option (List ℕ) → Type 0
 IsRefusal words BadCommand had left old new = AskNothing words × Keeps old new
 IsRefusal words BadHex had left old new = IsAskedRefused words BadHex had left old new
-IsRefusal words OutOfMemory had left old new = Keeps old new
+IsRefusal words OutOfMemory had left old new = Keeps old new ⊎ IsAskedRefused words OutOfMemory had left old new
 IsRefusal words WriteFailed had left old new = IsAskedRefused words WriteFailed had left old new
 IsRefusal words ReadFailed had left old new = IsAskedRefused words ReadFailed had left old new
 IsRefusal words InputTooLong had left old new = IsAskedRefused words InputTooLong had left old new

@@ -25,9 +25,13 @@ bare_app = record (new_app (codes "tcap")) { top = record (new_app (codes "tcap"
 abbrev pub app_of_hex : App
 app_of_hex = with_subcommand (with_subcommand (with_subcommand bare_app (with_hex (codes "show")).top) (with_hex (codes "check")).top) (with_hex (codes "canon")).top
 
--- The command `tcap` with its subcommands; `play` has no argument (own).
+-- A subcommand that reads standard input: it has no argument (own).
+abbrev pub that_reads : Text → App
+that_reads name = without_help (new_app name)
+
+-- The command `tcap` with its subcommands (own).
 abbrev pub tcap_app : App
-tcap_app = with_subcommand app_of_hex (without_help (new_app (codes "play"))).top
+tcap_app = with_subcommand (with_subcommand app_of_hex (that_reads (codes "play")).top) (that_reads (codes "stream")).top
 
 -- What words ask for, by their octets (own).
 pub data Asked : Type 0 where
@@ -39,6 +43,8 @@ pub data Asked : Type 0 where
   canon : (hex : List ℕ) → Asked
   -- the play of the script on standard input
   play : Asked
+  -- the verdicts on the messages of the stream on standard input
+  stream : Asked
 
 -- What a subcommand and its arguments ask for (own).
 abbrev pub asked_by : Text × List Row → Option Asked
@@ -47,6 +53,7 @@ asked_by p =
     else if bytes_eq p.0 (codes "check") then option_map (λ hex. check hex) (first_of (codes "hex") p.1)
     else if bytes_eq p.0 (codes "canon") then option_map (λ hex. canon hex) (first_of (codes "hex") p.1)
     else if bytes_eq p.0 (codes "play") then Some play
+    else if bytes_eq p.0 (codes "stream") then Some stream
     else None
 
 -- What the words ask for (own).
@@ -56,6 +63,18 @@ asked_of words = option_and_then asked_by (subcommand_of tcap_app words)
 -- `clap` refuses nothing in the words, and this is what they ask for (own).
 abbrev pub Ask : List Text → Asked → Type 0
 Ask words asked = (fault_of tcap_app words ≡ []) × (asked_of words ≡ Some asked)
+
+-- What is asked for is read from standard input (own).
+abbrev pub Reads : Asked → Type 0
+Reads (show hex) = ⊥
+Reads (check hex) = ⊥
+Reads (canon hex) = ⊥
+Reads play = Unit {0}
+Reads stream = Unit {0}
+
+-- The words ask for something that is read from standard input (own).
+abbrev pub AskToRead : List Text → Type 0
+AskToRead words = (asked : Asked) × Ask words asked × Reads asked
 
 -- `clap` refuses something in the words, or they ask for nothing (own).
 abbrev pub AskNothing : List Text → Type 0
@@ -67,3 +86,4 @@ asked (request.Show hex) = show hex.now
 asked (request.Check hex) = check hex.now
 asked (request.Canon hex) = canon hex.now
 asked request.Play = play
+asked request.Stream = stream

@@ -1,6 +1,6 @@
 ghost use Rattle.std.specs.Prelude.{◌≡◌, Bool, Some, Result, map, MatchResult};
 ghost use Rattle.tcap_text.specs.Spelling.{spelled_by};
-ghost use Rattle.tcap_cmd.specs.CommandLine.{asked, Ask, Asked};
+ghost use Rattle.tcap_cmd.specs.CommandLine.{asked, Asked, AskToRead, Reads};
 ghost use Rattle.tcap_cmd.specs.Command.{IsUnspelled, IsAnswered, IsRefused, Gave, status_of};
 
 use crate::refusal::Refusal;
@@ -8,7 +8,7 @@ use crate::request::Request;
 use crate::words::read_words;
 use std::alloc::{Allocator, Global};
 use std::io::{Read, Write};
-use tcap_play::run_play;
+use tcap_play::{run_play, run_stream};
 use tcap_text::{canon_text, check_text, hex_octets, show_text, write_text};
 
 /// The status of a good verdict.
@@ -39,7 +39,21 @@ fn play<A: Allocator + Copy, R: Read, W: Write>(
     Ok(good)
 }
 
-/// Writes the text that is asked for, and tells its verdict. Only a play reads.
+/// Judges the messages of the stream on standard input.
+fn stream<A: Allocator + Copy, R: Read, W: Write>(
+    heap: A,
+    reader: &mut R,
+    out: &mut W,
+) -> Result<bool, Refusal>
+    ensures { MatchResult result
+        (λ good. IsAnswered Asked.stream (R.remaining reader.old) (R.remaining reader.new) (W.contents out.old) (W.contents out.new) good)
+        (λ refusal. IsRefused Asked.stream refusal (R.remaining reader.old) (R.remaining reader.new) (W.contents out.old) (W.contents out.new)) }
+{
+    let good = run_stream(heap, reader, out)?;
+    Ok(good)
+}
+
+/// Writes the text that is asked for, and tells its verdict. Only a play and a stream read.
 pub fn answer<A: Allocator + Copy, R: Read, W: Write>(
     heap: A,
     request: Request<'_>,
@@ -49,13 +63,14 @@ pub fn answer<A: Allocator + Copy, R: Read, W: Write>(
     ensures answered { MatchResult result
         (λ good. IsAnswered (asked request.entry) (R.remaining reader.old) (R.remaining reader.new) (W.contents out.old) (W.contents out.new) good)
         (λ refusal. IsRefused (asked request.entry) refusal (R.remaining reader.old) (R.remaining reader.new) (W.contents out.old) (W.contents out.new)) }
-    ensures reader { ¬ (asked request.entry ≡ Asked.play) → reader.new ≡ reader.old }
+    ensures reader { ¬ (Reads (asked request.entry)) → reader.new ≡ reader.old }
 {
     let shown = match request {
         Request::Show(hex) => show_text(heap, bytes_of(heap, hex)?.as_slice())?,
         Request::Check(hex) => check_text(heap, bytes_of(heap, hex)?.as_slice())?,
         Request::Canon(hex) => canon_text(heap, bytes_of(heap, hex)?.as_slice())?,
         Request::Play => return play(heap, reader, out),
+        Request::Stream => return stream(heap, reader, out),
     };
     write_text(out, shown.text.as_slice())?;
     Ok(shown.good)
@@ -70,7 +85,7 @@ fn respond<A: Allocator + Copy, R: Read, W: Write>(
     out: &mut W,
 ) -> Result<bool, Refusal>
     ensures gave { Gave (map (λ w. w.now) words.now) (R.remaining reader.old) (R.remaining reader.new) (W.contents out.old) (W.contents out.new) result }
-    ensures reader { ¬ (Ask (map (λ w. w.now) words.now) Asked.play) → reader.new ≡ reader.old }
+    ensures reader { ¬ (AskToRead (map (λ w. w.now) words.now)) → reader.new ≡ reader.old }
 {
     let request = read_words(alloc, words)?;
     answer(heap, request, reader, out)
@@ -86,8 +101,8 @@ pub fn report<E: Write>(err: &mut E, refusal: Refusal) -> u8
 
 /// The whole program for the words after its name: writes to `out` what they ask for, and gives the
 /// status, 0 where the verdict is good, 1 where it isn't, 2 where there is none; why there is none is
-/// told on `err`. `clap` takes its memory from `alloc`, all else from `heap`. Only `play` reads from
-/// `reader`.
+/// told on `err`. `clap` takes its memory from `alloc`, all else from `heap`. Only `play` and `stream` read
+/// from `reader`.
 ///
 /// ```rust
 /// let status = run_command(alloc, alloc, &["check", "6203480107"], &mut input, &mut out, &mut err);
@@ -102,7 +117,7 @@ pub fn run_command<A: Allocator + Copy, R: Read, W: Write, E: Write>(
     out: &mut W,
     err: &mut E,
 ) -> u8
-    ensures reader { ¬ (Ask (map (λ w. w.now) words.now) Asked.play) → reader.new ≡ reader.old }
+    ensures reader { ¬ (AskToRead (map (λ w. w.now) words.now)) → reader.new ≡ reader.old }
     ensures gave { (answer : Result Bool Refusal) × (result ≡ status_of answer)
         × Gave (map (λ w. w.now) words.now) (R.remaining reader.old) (R.remaining reader.new) (W.contents out.old) (W.contents out.new) answer }
 {

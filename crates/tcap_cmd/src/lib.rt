@@ -11,5 +11,5 @@ mod words;
 pub use command::{answer, report, run_command};
 pub use refusal::Refusal;
 pub use request::Request;
-pub use tcap_play::{PlayFault, play_text, run_play};
+pub use tcap_play::{PlayFault, play_text, run_play, run_stream};
 pub use tcap_text::{Shown, canon_text, check_text, laws, show_text};

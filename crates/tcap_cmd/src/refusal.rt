@@ -15,7 +15,7 @@ pub enum Refusal {
     WriteFailed,
     /// A read of standard input failed.
     ReadFailed,
-    /// Standard input is too long for a script.
+    /// Standard input is too long for a script, or its end wasn't found.
     InputTooLong,
 }
 

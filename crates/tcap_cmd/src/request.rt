@@ -9,4 +9,6 @@ pub enum Request<'a> {
     Canon(&'a str),
     /// `play`: the play of the script on standard input.
     Play,
+    /// `stream`: the verdict on each message of the stream on standard input.
+    Stream,
 }

@@ -30,6 +30,7 @@ fn tcap_command<'a>(alloc: Global) -> Result<Command<'a>, AllocError>
         .disable_help_flag(true)
         .arg(hex_argument(alloc))?;
     let play = Command::new(alloc, "play").disable_help_flag(true);
+    let stream = Command::new(alloc, "stream").disable_help_flag(true);
     let tcap = Command::new(alloc, "tcap")
         .no_binary_name(true)
         .disable_help_flag(true)
@@ -38,7 +39,8 @@ fn tcap_command<'a>(alloc: Global) -> Result<Command<'a>, AllocError>
     tcap.subcommand(show)?
         .subcommand(check)?
         .subcommand(canon)?
-        .subcommand(play)
+        .subcommand(play)?
+        .subcommand(stream)
 }
 
 /// What the subcommand that was found asks for.
@@ -51,6 +53,7 @@ fn request_of<'a>(matches: &ArgMatches<'a>) -> Option<Request<'a>>
         "check" => Some(Request::Check(inner.get_str("hex")?)),
         "canon" => Some(Request::Canon(inner.get_str("hex")?)),
         "play" => Some(Request::Play),
+        "stream" => Some(Request::Stream),
         _ => None,
     }
 }

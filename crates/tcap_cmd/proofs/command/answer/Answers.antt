@@ -15,18 +15,21 @@ returns-in_err-write_text-clause-answered g c =
     let is_text : IsText (asked c.args.request) had had shown.text.items shown.good =
     elim c.match-request.branch [
       | in-Show+in_ok-bytes_of-in-Show+in_ok-shown-in-Show w ↦ rw (w.in-Show.is, w.shown-is) (record {
+        of_hex = tt;
         bytes = w.in_ok-bytes_of-in-Show.field-0.items;
         is_input = w.in_ok-bytes_of-in-Show.ensures;
         is_text = w.in_ok-shown-in-Show.ensures.text ∙ ap show_text_of w.as_slice.ensures.value;
         verdict = w.in_ok-shown-in-Show.ensures.good ∙ ap show_is_good w.as_slice.ensures.value;
       })
       | in-Check+in_ok-bytes_of-in-Check+in_ok-shown-in-Check w ↦ rw (w.in-Check.is, w.shown-is) (record {
+        of_hex = tt;
         bytes = w.in_ok-bytes_of-in-Check.field-0.items;
         is_input = w.in_ok-bytes_of-in-Check.ensures;
         is_text = w.in_ok-shown-in-Check.ensures.text ∙ ap check_text_of w.as_slice-in-Check.ensures.value;
         verdict = w.in_ok-shown-in-Check.ensures.good ∙ ap show_is_good w.as_slice-in-Check.ensures.value;
       })
       | in-Canon+in_ok-bytes_of-in-Canon+in_ok-shown-in-Canon w ↦ rw (w.in-Canon.is, w.shown-is) (record {
+        of_hex = tt;
         bytes = w.in_ok-bytes_of-in-Canon.field-0.items;
         is_input = w.in_ok-bytes_of-in-Canon.ensures;
         is_text = w.in_ok-shown-in-Canon.ensures.text ∙ ap canon_text_of w.as_slice-in-Canon.ensures.value;
@@ -42,18 +45,21 @@ returns-clause-answered g c =
     let is_text : IsText (asked c.args.request) had had shown.text.items shown.good =
     elim c.match-request.branch [
       | in-Show+in_ok-bytes_of-in-Show+in_ok-shown-in-Show w ↦ rw (w.in-Show.is, w.shown-is) (record {
+        of_hex = tt;
         bytes = w.in_ok-bytes_of-in-Show.field-0.items;
         is_input = w.in_ok-bytes_of-in-Show.ensures;
         is_text = w.in_ok-shown-in-Show.ensures.text ∙ ap show_text_of w.as_slice.ensures.value;
         verdict = w.in_ok-shown-in-Show.ensures.good ∙ ap show_is_good w.as_slice.ensures.value;
       })
       | in-Check+in_ok-bytes_of-in-Check+in_ok-shown-in-Check w ↦ rw (w.in-Check.is, w.shown-is) (record {
+        of_hex = tt;
         bytes = w.in_ok-bytes_of-in-Check.field-0.items;
         is_input = w.in_ok-bytes_of-in-Check.ensures;
         is_text = w.in_ok-shown-in-Check.ensures.text ∙ ap check_text_of w.as_slice-in-Check.ensures.value;
         verdict = w.in_ok-shown-in-Check.ensures.good ∙ ap show_is_good w.as_slice-in-Check.ensures.value;
       })
       | in-Canon+in_ok-bytes_of-in-Canon+in_ok-shown-in-Canon w ↦ rw (w.in-Canon.is, w.shown-is) (record {
+        of_hex = tt;
         bytes = w.in_ok-bytes_of-in-Canon.field-0.items;
         is_input = w.in_ok-bytes_of-in-Canon.ensures;
         is_text = w.in_ok-shown-in-Canon.ensures.text ∙ ap canon_text_of w.as_slice-in-Canon.ensures.value;

@@ -1,7 +1,7 @@
 use Rattle.std.proofs.Common.{◌≡◌, codes, ◌∙◌, Some, None}
 use Rattle.clap.specs.Words.{found_of, rows_of, subcommand_rows_of, first_of}
 use Rattle.clap.proofs.WalkLemmas.{first_value-rows}
-use Rattle.tcap_cmd.proofs.WordRows.{pair_of, shown_by, checked_by, rewritten_by, played_by}
+use Rattle.tcap_cmd.proofs.WordRows.{pair_of, shown_by, checked_by, rewritten_by, played_by, streamed_by}
 use Rattle.tcap_cmd.proofs.words.request_of.Goals as goal
 
 pub returns-in_err-get_str-in-show : goal.returns-in_err-get_str-in-show
@@ -51,3 +51,9 @@ returns-in-play c =
     let rows = rows_of (found_of c.in_ok-name.inner.now) in
     let found : subcommand_rows_of c.args.matches.now ≡ Some (c.in_ok-name.name.now, rows) = pair_of _ _ _ c.in_ok-name.name.now rows c.in_ok-name.ensures.name c.in_ok-name.ensures.rows in
     played_by _ c.in_ok-name.name.now rows found c.in-play.is
+
+pub returns-in-stream : goal.returns-in-stream
+returns-in-stream c =
+    let rows = rows_of (found_of c.in_ok-name.inner.now) in
+    let found : subcommand_rows_of c.args.matches.now ≡ Some (c.in_ok-name.name.now, rows) = pair_of _ _ _ c.in_ok-name.name.now rows c.in_ok-name.ensures.name c.in_ok-name.ensures.rows in
+    streamed_by _ c.in_ok-name.name.now rows found c.in-stream.is

@@ -1,7 +1,7 @@
 use Rattle.std.proofs.Common.{rules, ap, ap₂, codes, ◌≡◌, ◌∙◌}
 use Rattle.std.proofs.lemmas.Result.{IfOk-weaker}
 use Rattle.clap.specs.Words.{App, app_of, with_subcommand, with_rule, new_app}
-use Rattle.tcap_cmd.specs.CommandLine.{bare_app, app_of_hex, with_hex, without_help}
+use Rattle.tcap_cmd.specs.CommandLine.{bare_app, app_of_hex, that_reads, with_hex, without_help}
 use Rattle.tcap_cmd.proofs.words.tcap_command.Goals as goal
 
 pub returns : goal.returns
@@ -16,5 +16,7 @@ returns c =
     let bare_canon : app_of c.disable_help_flag-3.result ≡ without_help (new_app (codes "canon")) = search (rules, c.new-3.ensures.app, c.disable_help_flag-3.ensures) in
     let canon_is : app_of c.in_ok-canon.canon ≡ with_hex (codes "canon") = c.in_ok-canon.ensures.shape c.hex_argument-3.ensures.global ∙ ap₂ with_rule bare_canon c.hex_argument-3.ensures.rule in
     let three : app_of c.in_ok-subcommand-3.field-0 ≡ app_of_hex = c.in_ok-subcommand-3.ensures.shape (search (rules, c.new-3.ensures.local, c.disable_help_flag-3.ensures, c.in_ok-canon.ensures.globals, c.hex_argument-3.ensures.global)) ∙ ap₂ with_subcommand two (ap (λ (a : App). a.top) canon_is) in
-    let play_is : app_of c.disable_help_flag-play.result ≡ without_help (new_app (codes "play")) = search (rules, c.new-4.ensures.app, c.disable_help_flag-play.ensures) in
-    IfOk-weaker c.subcommand-4.result _ _ (λ m h. h.shape (search (rules, c.new-4.ensures.local, c.disable_help_flag-play.ensures)) ∙ ap₂ with_subcommand three (ap (λ (a : App). a.top) play_is)) c.subcommand-4.ensures
+    let play_is : app_of c.disable_help_flag-play.result ≡ that_reads (codes "play") = search (rules, c.new-4.ensures.app, c.disable_help_flag-play.ensures) in
+    let four : app_of c.in_ok-subcommand-4.field-0 ≡ with_subcommand app_of_hex (that_reads (codes "play")).top = c.in_ok-subcommand-4.ensures.shape (search (rules, c.new-4.ensures.local, c.disable_help_flag-play.ensures)) ∙ ap₂ with_subcommand three (ap (λ (a : App). a.top) play_is) in
+    let stream_is : app_of c.disable_help_flag-stream.result ≡ that_reads (codes "stream") = search (rules, c.new-5.ensures.app, c.disable_help_flag-stream.ensures) in
+    IfOk-weaker c.subcommand-5.result _ _ (λ m h. h.shape (search (rules, c.new-5.ensures.local, c.disable_help_flag-stream.ensures)) ∙ ap₂ with_subcommand four (ap (λ (a : App). a.top) stream_is)) c.subcommand-5.ensures
