@@ -10,5 +10,6 @@ mod outputs;
 mod plays;
 mod printed;
 mod runs;
+mod streams;
 mod words;
 mod writers;

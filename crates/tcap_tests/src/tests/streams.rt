@@ -1,0 +1,145 @@
+use super::outputs::Narrow;
+use std::io;
+use std::io::{ErrorKind, Read};
+use std::test::Fail;
+use tcap_cmd::{PlayFault, run_command, run_stream};
+
+/// A Begin, and an octet that no element begins with.
+const BEGIN_AND_END: [u8; 9] = [0x62, 0x06, 0x48, 0x04, 0x00, 0x00, 0x00, 0x01, 0x00];
+
+/// A reader of some octets over and over, which may fail on the way.
+#[derive(Drop)]
+struct Repeated<'a> {
+    /// The octets.
+    octets: &'a [u8],
+    /// Where the next one stands.
+    place: usize,
+    /// How many it still gives before its end.
+    left: usize,
+    /// How many it gives in a read.
+    width: usize,
+    /// The number of the read that fails, from 1, or 0.
+    failing: u64,
+    /// How many reads were made.
+    reads: u64,
+}
+
+impl<'a> Repeated<'a> {
+    fn new(octets: &'a [u8], left: usize, width: usize, failing: u64) -> Repeated<'a> {
+        Repeated {
+            octets,
+            place: 0,
+            left,
+            width,
+            failing,
+            reads: 0,
+        }
+    }
+}
+
+impl Read for Repeated<'_> {
+    fn read(&mut self, buf: &mut [u8]) -> io::Result<usize> {
+        self.reads = self.reads.saturating_add(1);
+        if self.reads == self.failing {
+            return Err(io::Error::from(ErrorKind::Other));
+        }
+        let count = buf.len().min(self.width).min(self.left);
+        for i in 0..count {
+            buf[i] = self.octets.get(self.place).copied().unwrap_or(0);
+            self.place = self.place.saturating_add(1);
+            if self.place >= self.octets.len() {
+                self.place = 0;
+            }
+        }
+        self.left -= count;
+        Ok(count)
+    }
+}
+
+#[test]
+fn reads_of_a_stream(rt: HostRuntime) -> Result<(), Fail> {
+    let alloc = rt.alloc();
+    let begin = &BEGIN_AND_END[..8];
+    let fault = BEGIN_AND_END.as_slice();
+    let long = [0x04, 0x82, 0xff, 0xff];
+    let long = long.as_slice();
+    let rows: [(&[u8], usize, usize, u64, usize, Result<bool, PlayFault>, &str, u64); 14] = [
+        // The octets, how many in all, how many a read, the read that fails, the octets that the output
+        // takes; the answer, what is written, the reads made.
+        (begin, 0, 8, 0, 0, Ok(true), "", 1),
+        (begin, 8, 8, 0, 99, Ok(true), "good\n", 2),
+        (begin, 24, 5_000, 0, 99, Ok(true), "good\ngood\ngood\n", 2),
+        (begin, 24, 1, 0, 99, Ok(true), "good\ngood\ngood\n", 25),
+        (begin, 11, 8, 0, 99, Ok(false), "good\nrest 3\n", 3),
+        // The lines of what was read are written before the next read.
+        (begin, 24, 8, 1, 99, Err(PlayFault::Read), "", 1),
+        (begin, 24, 8, 3, 99, Err(PlayFault::Read), "good\ngood\n", 3),
+        (begin, 24, 9, 2, 99, Err(PlayFault::Read), "good\n", 2),
+        // Nothing is read behind a fault.
+        (fault, 99, 18, 0, 99, Ok(false), "good\nfault stream ber 2\n", 1),
+        (fault, 99, 1, 0, 99, Ok(false), "good\nfault stream ber 2\n", 9),
+        (long, usize::MAX, 5_000, 0, 99, Ok(false), "fault stream too long\n", 16),
+        (begin, 24, 8, 0, 0, Err(PlayFault::Write), "", 1),
+        (begin, 24, 24, 0, 7, Err(PlayFault::Write), "good\ngo", 1),
+        (begin, 11, 11, 0, 7, Err(PlayFault::Write), "good\nre", 2),
+    ];
+    for (octets, left, width, failing, room, answer, written, reads) in rows {
+        let mut reader = Repeated::new(octets, left, width, failing);
+        let mut out = Narrow::new(alloc, room);
+        let ran = run_stream(alloc, &mut reader, &mut out);
+        assert_eq!(rt; ran, answer, "at {left}, {width}, {failing}, {room}");
+        assert_eq!(rt; out.taken.as_slice(), written.as_bytes(), "at {left}, {width}, {failing}, {room}");
+        assert_eq!(rt; reader.reads, reads, "at {left}, {width}, {failing}, {room}");
+    }
+    Ok(())
+}
+
+#[test]
+fn reads_of_a_stream_without_end(rt: HostRuntime) -> Result<(), Fail> {
+    let alloc = rt.alloc();
+    // An element of 60,004 octets, and a message of five.
+    let long = [0x04, 0x82, 0xea, 0x60];
+    let begin = [0x62, 0x03, 0x48, 0x01, 0x07];
+    let too_long = Err(PlayFault::TooLong);
+    let rows: [(&[u8], usize, Result<bool, PlayFault>, usize); 3] = [
+        // The octets, how many in all, one a read; the answer, how many octets are written. The read that
+        // finds the end counts.
+        (long.as_slice(), 999_999, Ok(false), 16 * "fault unknown type\n".len() + "rest 39935\n".len()),
+        (long.as_slice(), 1_000_000, too_long, 16 * "fault unknown type\n".len()),
+        (begin.as_slice(), usize::MAX, too_long, 200_000 * "good\n".len()),
+    ];
+    for (octets, left, answer, written) in rows {
+        let mut reader = Repeated::new(octets, left, 1, 0);
+        let mut out = Vec::new(alloc);
+        let ran = run_stream(alloc, &mut reader, &mut out);
+        assert_eq!(rt; ran, answer, "at {left}");
+        assert_eq!(rt; out.len(), written, "at {left}");
+        assert_eq!(rt; reader.reads, 1_000_000, "at {left}");
+    }
+    Ok(())
+}
+
+#[test]
+fn streams_of_the_command(rt: HostRuntime) -> Result<(), Fail> {
+    let alloc = rt.alloc();
+    let rows: [(&[&str], usize, usize, u64, u8, &str, &str); 6] = [
+        // The words, how many octets, the octets that the output takes, the read that fails; the status,
+        // what is written, what is told.
+        (&["stream"], 8, 99, 0, 0, "good\n", ""),
+        (&["stream"], 7, 99, 0, 1, "rest 7\n", ""),
+        (&["stream"], 9, 99, 0, 1, "good\nfault stream ber 2\n", ""),
+        (&["stream"], 8, 3, 0, 2, "goo", "tcap: write failed\n"),
+        (&["stream"], 9, 99, 1, 2, "", "tcap: read failed\n"),
+        (&["stream", "62"], 9, 99, 1, 2, "", "tcap: bad command\n"),
+    ];
+    for (words, left, room, failing, status, written, told) in rows {
+        let mut reader = Repeated::new(&BEGIN_AND_END, left, 5_000, failing);
+        let mut out = Narrow::new(alloc, room);
+        let mut err = Vec::new(alloc);
+        let ran = run_command(alloc, alloc, words, &mut reader, &mut out, &mut err);
+        assert_eq!(rt; ran, status, "at {words:?}, {left}");
+        assert_eq!(rt; out.taken.as_slice(), written.as_bytes(), "at {words:?}, {left}");
+        assert_eq!(rt; err.as_slice(), told.as_bytes(), "at {words:?}, {left}");
+    }
+    Ok(())
+}
