@@ -11,6 +11,9 @@
  * with 60,000 bytes inside. MODE inside: reads a Begin, all of indefinite form, with SIZE of them in
  * the parameter of its Invoke. MODE dialogue, ending: a dialogue is taken SIZE steps far, 1 the Invoke,
  * 2 the Begin, 3 the Continue (ending: the End) with its result, 4 a result queued, 5 the Continue sent.
+ * MODE feed4096, feed16, feed1: hands the message to a new feed in pieces of so many octets. MODE
+ * stream4096, stream16, stream1: hands 1,000 of it to a new feed. MODE copy: takes memory for the message,
+ * copies it there and gives the memory back.
  * MODE answer: reads that message, SIZE 1 the Continue, 2 the End. MODE engine1 to engine4: an engine
  * with SIZE dialogues open does COUNT laps of SIZE steps of that kind (engine4: of none). MODE
  * invocations1 to invocations3: a dialogue with SIZE invocations Sent does COUNT laps of SIZE steps.
@@ -29,6 +32,7 @@ struct invocation {
 
 uint64_t tcap_bench_read(const uint8_t *bytes, size_t length);
 uint64_t tcap_bench_element(const uint8_t *bytes, size_t length);
+uint64_t tcap_bench_feed(uint32_t width, const uint8_t *bytes, size_t length);
 size_t tcap_bench_write_begin(uint32_t otid, const uint8_t *context, size_t context_length,
                               const struct invocation *invocations, size_t count,
                               const uint8_t *pool, size_t pool_length, uint8_t *room,
@@ -45,7 +49,7 @@ uint64_t tcap_bench_invocations(uint8_t step, uint16_t invocations, uint32_t lap
 size_t memory_used(void) __attribute__((weak));
 void memory_reset(size_t mark) __attribute__((weak));
 
-enum { MOST = 1 << 17, MESSAGES = 6, MOST_INVOKES = 11, ROUNDS = 5 };
+enum { MOST = 1 << 18, STREAM = 1000, MESSAGES = 6, MOST_INVOKES = 11, ROUNDS = 5 };
 
 static uint8_t message[MOST], room[MOST];
 static size_t length;
@@ -156,6 +160,29 @@ static unsigned invocation_step(const char *mode) {
   return sscanf(mode, "invocations%1u", &step) == 1 && step >= 1 && step <= 3 ? step : 0;
 }
 
+/* The octets of a piece of the modes feed and stream; 0 of any other mode. */
+static unsigned piece_width(const char *mode) {
+  unsigned width;
+  if (sscanf(mode, "feed%4u", &width) == 1 || sscanf(mode, "stream%4u", &width) == 1) return width;
+  return 0;
+}
+
+/* The message that was made, a thousand times. */
+static void make_stream(void) {
+  size_t one = length;
+  for (unsigned i = 1; i < STREAM; i++) add((const char *)message, one);
+}
+
+/* Takes memory for the message, copies it and gives the memory back; answers its last octet, and 1. */
+static uint64_t copy_message(void) {
+  uint8_t *volatile copy = malloc(length);
+  if (!copy) stop("no memory");
+  memcpy(copy, message, length);
+  uint64_t last = copy[length - 1] + 1;
+  free(copy);
+  return last;
+}
+
 static void make(const char *mode, unsigned size) {
   if (engine_step(mode) || invocation_step(mode)) return;
   if (!strcmp(mode, "invokes")) make_invokes(size);
@@ -166,6 +193,7 @@ static void make(const char *mode, unsigned size) {
   else if (!strcmp(mode, "answer")) make_answer(size == 2);
   else if (size < 1 || size > MESSAGES) stop("no such message");
   else read_line(size), make_values(&values[size - 1]);
+  if (!strncmp(mode, "stream", 6)) make_stream();
 }
 
 /* Each step sends one output and tells two; the fourth kind is no step. */
@@ -186,7 +214,15 @@ static uint64_t repeat(const char *mode, unsigned size, long count) {
   if (invocation_step(mode)) return run_invocations(invocation_step(mode), size, count), 1;
   uint64_t sum = 0;
   size_t mark = memory_used ? memory_used() : 0;
-  if (!strcmp(mode, "write"))
+  if (piece_width(mode))
+    for (long i = 0; i < count; i++) {
+      uint64_t given = tcap_bench_feed(piece_width(mode), message, length);
+      if (given != length) stop("the feed gave other messages");
+      sum += given;
+    }
+  else if (!strcmp(mode, "copy"))
+    for (long i = 0; i < count; i++) sum += copy_message();
+  else if (!strcmp(mode, "write"))
     for (long i = 0; i < count; i++) {
       sum += write_message(&values[size - 1]);
       if (memory_reset) memory_reset(mark);

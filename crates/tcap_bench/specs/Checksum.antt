@@ -1,10 +1,11 @@
 -- What was read, as numbers, and their checksum: what the benchmark's calls answer.
-use Rattle.std.specs.Prelude.{ℕ, ℤ, ◌+◌, ◌%◌, ◌^◌, Bool, true, false, List, [], ◌∷◌, ◌++◌, length, Option, Some, None, Result, Ok, Err, ◌==◌, if◌then◌else◌}
+use Rattle.std.specs.Prelude.{ℕ, ℤ, ◌+◌, ◌%◌, ◌^◌, Bool, true, false, List, [], ◌∷◌, ◌++◌, length, map, Option, Some, None, Result, Ok, Err, ◌==◌, if◌then◌else◌}
 use Rattle.std.specs.Int.{w8, w32, cast_unsigned, from_be_bytes}
 use Rattle.std.specs.List.{flat_map}
 use Rattle.ber_core.specs.declared.fault.BerFault.{BerFault}
 use Rattle.ber_core.specs.Element.{Parts, depth_limit}
 use Rattle.ber_core.specs.ElementReading.{element_at}
+use Rattle.ber_core.specs.Stream.{cut_of}
 use Rattle.tcap_pdu.specs.declared.fault.DialogueFault.{DialogueFault}
 use Rattle.tcap_pdu.specs.declared.fault.FrameFault.{FrameFault}
 use Rattle.tcap_pdu.specs.FrameSpelling.{Reason, Message}
@@ -40,6 +41,16 @@ element_numbers (Err f) = []
 -- The checksum of the first element (own).
 abbrev pub element_checksum : List ℕ → ℕ
 element_checksum bytes = checksum 0 (element_numbers (element_at depth_limit bytes))
+
+-- ---- a stream
+
+-- The lengths of a stream's messages (own).
+abbrev pub stream_numbers : List ℕ → List ℕ
+stream_numbers stream = map (λ message. length message) (cut_of stream).messages
+
+-- Their checksum (own).
+abbrev pub stream_checksum : List ℕ → ℕ
+stream_checksum stream = checksum 0 (stream_numbers stream)
 
 -- ---- a dialogue PDU
 

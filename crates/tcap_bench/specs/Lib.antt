@@ -1,3 +1,4 @@
 pub mod Checksum
+pub mod Fed
 pub mod Messages
 pub mod Rewritten

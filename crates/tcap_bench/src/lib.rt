@@ -4,14 +4,15 @@
 //! Begin at `tcap_bench_read`. What it answers stands in specs/Checksum.antt.
 #![tactic(auto)]
 
-ghost use Rattle.std.specs.Prelude.{◌≡◌, ◌<◌};
-ghost use Rattle.tcap_bench.specs.Checksum.{element_checksum, message_checksum};
+ghost use Rattle.std.specs.Prelude.{◌≡◌, ◌<◌, ◌⊎◌};
+ghost use Rattle.tcap_bench.specs.Checksum.{element_checksum, message_checksum, stream_checksum};
 ghost use Rattle.tcap_bench.specs.Messages.{begin_of, continue_of, IsPut};
 ghost use Rattle.tcap_bench.specs.Rewritten.{rewritten};
 
 mod component_sum;
 mod dialogue_steps;
 mod engine_steps;
+mod feed_steps;
 mod invocation_steps;
 mod message_sum;
 mod rewritten;
@@ -39,6 +40,15 @@ pub extern "C" fn tcap_bench_element(bytes: &[u8]) -> u64
     ensures { result ≡ element_checksum bytes.now }
 {
     sum::element_sum(bytes)
+}
+
+/// Hands a stream to a new feed in pieces of so many octets, and answers the checksum of the lengths of
+/// the messages that it gives. It answers 0 where memory is wanting, and for pieces of no octets (own).
+#[unsafe(no_mangle)]
+pub extern "C" fn tcap_bench_feed(alloc: Global, width: u32, bytes: &[u8]) -> u64
+    ensures { (result ≡ stream_checksum bytes.now) ⊎ (result ≡ 0) }
+{
+    feed_steps::stream_sum(alloc, width, bytes)
 }
 
 /// Writes a Begin to the front of a room, and answers its length: a dialogue request where the context

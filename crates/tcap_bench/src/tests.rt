@@ -1,5 +1,5 @@
 use crate::{
-    Invocation, tcap_bench_engine, tcap_bench_invocations, tcap_bench_rewrite,
+    Invocation, tcap_bench_engine, tcap_bench_feed, tcap_bench_invocations, tcap_bench_rewrite,
     tcap_bench_write_begin, tcap_bench_write_continue,
 };
 use std::alloc::Global;
@@ -52,6 +52,15 @@ fn messages_are_put(rt: HostRuntime) -> Result<(), Fail> {
     // The room is one octet too short.
     let mut room = [0u8; 17];
     assert_eq!(rt; tcap_bench_rewrite(rt.alloc(), &BEGIN, &mut room), 0);
+    Ok(())
+}
+
+/// A message is given however it is cut, and pieces of no octets give none.
+#[test]
+fn a_feed_gives_its_messages(rt: HostRuntime) -> Result<(), Fail> {
+    for (width, given) in [(0u32, 0u64), (1, 18), (7, 18), (18, 18), (4_096, 18)] {
+        assert_eq!(rt; tcap_bench_feed(rt.alloc(), width, &BEGIN), given);
+    }
     Ok(())
 }
 
