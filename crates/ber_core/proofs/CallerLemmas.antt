@@ -14,3 +14,4 @@ pub use Rattle.ber_core.proofs.IntegerGrammar.{integer_takes, integer_again, int
 pub use Rattle.ber_core.proofs.IntegerOctets.{octet_of-signed_octet, signed_octet-octet_of, octet_of-below, signed_octet-fits, cast_signed-is, cast_unsigned-is}
 pub use Rattle.ber_core.proofs.WaySteps.{goes-all, goes-then, inside-goes, inside-goes-any, way-one, way-one-any, way-in, way-any, element-inside, head_length-whole}
 pub use Rattle.ber_core.proofs.ElementsRoad.{elements-yield}
+pub use Rattle.ber_core.proofs.CutGrammar.{cut-longer}

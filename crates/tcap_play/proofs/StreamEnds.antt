@@ -3,7 +3,7 @@ use Rattle.std.proofs.Common.{◌≡◌, ◌≢◌, ◌⊎◌, ◌++◌, ◌∙�
 use Rattle.std.proofs.KnownBytes.{Appends-trans}
 use Rattle.std.specs.Io.KnownBytes.{Appends, IsAtEnd}
 use Rattle.std.specs.Prelude.{MatchResult}
-use Rattle.ber_core.proofs.CutGrammar.{cut-longer}
+use Rattle.ber_core.proofs.CallerLemmas.{cut-longer}
 use Rattle.ber_core.specs.declared.fault.FeedFault.{FeedFault}
 use Rattle.ber_core.specs.Feeding.{Left, StandsBehind, left_by}
 use Rattle.ber_core.specs.Stream.{Cut, cut_of}

@@ -39,7 +39,7 @@ fn write_verdicts<A: Allocator + Copy, W: Write>(
 ) -> Result<bool, PlayFault>
     ensures { MatchResult result
         (λ good. Appends (W.contents writer.old) (W.contents writer.new) (verdict_lines (map (λ m. m.items) messages.now))
-            × (good ≡ all_good (map (λ m. m.items) messages.now)))
+        × (good ≡ all_good (map (λ m. m.items) messages.now)))
         (λ fault. IsUntold (map (λ m. m.items) messages.now) (W.contents writer.old) (W.contents writer.new) fault) }
 {
     let mut good = true;

@@ -63,7 +63,16 @@ fn reads_of_a_stream(rt: HostRuntime) -> Result<(), Fail> {
     let fault = BEGIN_AND_END.as_slice();
     let long = [0x04, 0x82, 0xff, 0xff];
     let long = long.as_slice();
-    let rows: [(&[u8], usize, usize, u64, usize, Result<bool, PlayFault>, &str, u64); 14] = [
+    let rows: [(
+        &[u8],
+        usize,
+        usize,
+        u64,
+        usize,
+        Result<bool, PlayFault>,
+        &str,
+        u64,
+    ); 14] = [
         // The octets, how many in all, how many a read, the read that fails, the octets that the output
         // takes; the answer, what is written, the reads made.
         (begin, 0, 8, 0, 0, Ok(true), "", 1),
@@ -76,9 +85,36 @@ fn reads_of_a_stream(rt: HostRuntime) -> Result<(), Fail> {
         (begin, 24, 8, 3, 99, Err(PlayFault::Read), "good\ngood\n", 3),
         (begin, 24, 9, 2, 99, Err(PlayFault::Read), "good\n", 2),
         // Nothing is read behind a fault.
-        (fault, 99, 18, 0, 99, Ok(false), "good\nfault stream ber 2\n", 1),
-        (fault, 99, 1, 0, 99, Ok(false), "good\nfault stream ber 2\n", 9),
-        (long, usize::MAX, 5_000, 0, 99, Ok(false), "fault stream too long\n", 16),
+        (
+            fault,
+            99,
+            18,
+            0,
+            99,
+            Ok(false),
+            "good\nfault stream ber 2\n",
+            1,
+        ),
+        (
+            fault,
+            99,
+            1,
+            0,
+            99,
+            Ok(false),
+            "good\nfault stream ber 2\n",
+            9,
+        ),
+        (
+            long,
+            usize::MAX,
+            5_000,
+            0,
+            99,
+            Ok(false),
+            "fault stream too long\n",
+            16,
+        ),
         (begin, 24, 8, 0, 0, Err(PlayFault::Write), "", 1),
         (begin, 24, 24, 0, 7, Err(PlayFault::Write), "good\ngo", 1),
         (begin, 11, 11, 0, 7, Err(PlayFault::Write), "good\nre", 2),
@@ -88,8 +124,16 @@ fn reads_of_a_stream(rt: HostRuntime) -> Result<(), Fail> {
         let mut out = Narrow::new(alloc, room);
         let ran = run_stream(alloc, &mut reader, &mut out);
         assert_eq!(rt; ran, answer, "at {left}, {width}, {failing}, {room}");
-        assert_eq!(rt; out.taken.as_slice(), written.as_bytes(), "at {left}, {width}, {failing}, {room}");
-        assert_eq!(rt; reader.reads, reads, "at {left}, {width}, {failing}, {room}");
+        assert_eq!(rt;
+            out.taken.as_slice(),
+            written.as_bytes(),
+            "at {left}, {width}, {failing}, {room}"
+        );
+        assert_eq!(rt;
+            reader.reads,
+            reads,
+            "at {left}, {width}, {failing}, {room}"
+        );
     }
     Ok(())
 }
@@ -104,9 +148,24 @@ fn reads_of_a_stream_without_end(rt: HostRuntime) -> Result<(), Fail> {
     let rows: [(&[u8], usize, Result<bool, PlayFault>, usize); 3] = [
         // The octets, how many in all, one a read; the answer, how many octets are written. The read that
         // finds the end counts.
-        (long.as_slice(), 999_999, Ok(false), 16 * "fault unknown type\n".len() + "rest 39935\n".len()),
-        (long.as_slice(), 1_000_000, too_long, 16 * "fault unknown type\n".len()),
-        (begin.as_slice(), usize::MAX, too_long, 200_000 * "good\n".len()),
+        (
+            long.as_slice(),
+            999_999,
+            Ok(false),
+            16 * "fault unknown type\n".len() + "rest 39935\n".len(),
+        ),
+        (
+            long.as_slice(),
+            1_000_000,
+            too_long,
+            16 * "fault unknown type\n".len(),
+        ),
+        (
+            begin.as_slice(),
+            usize::MAX,
+            too_long,
+            200_000 * "good\n".len(),
+        ),
     ];
     for (octets, left, answer, written) in rows {
         let mut reader = Repeated::new(octets, left, 1, 0);
@@ -138,7 +197,11 @@ fn streams_of_the_command(rt: HostRuntime) -> Result<(), Fail> {
         let mut err = Vec::new(alloc);
         let ran = run_command(alloc, alloc, words, &mut reader, &mut out, &mut err);
         assert_eq!(rt; ran, status, "at {words:?}, {left}");
-        assert_eq!(rt; out.taken.as_slice(), written.as_bytes(), "at {words:?}, {left}");
+        assert_eq!(rt;
+            out.taken.as_slice(),
+            written.as_bytes(),
+            "at {words:?}, {left}"
+        );
         assert_eq!(rt; err.as_slice(), told.as_bytes(), "at {words:?}, {left}");
     }
     Ok(())
