@@ -214,9 +214,10 @@ static uint64_t repeat(const char *mode, unsigned size, long count) {
   if (invocation_step(mode)) return run_invocations(invocation_step(mode), size, count), 1;
   uint64_t sum = 0;
   size_t mark = memory_used ? memory_used() : 0;
-  if (piece_width(mode))
+  unsigned width = piece_width(mode);
+  if (width)
     for (long i = 0; i < count; i++) {
-      uint64_t given = tcap_bench_feed(piece_width(mode), message, length);
+      uint64_t given = tcap_bench_feed(width, message, length);
       if (given != length) stop("the feed gave other messages");
       sum += given;
     }
