@@ -1,12 +1,14 @@
 //! What no clause says, run; and what the definitions print, computed.
 
 mod caller;
+mod compared;
 mod dialogues;
 mod engines;
 mod examples;
 mod growths;
 mod limits;
 mod outputs;
+mod plain;
 mod plays;
 mod printed;
 mod runs;
