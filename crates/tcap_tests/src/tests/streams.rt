@@ -44,6 +44,7 @@ impl Read for Repeated<'_> {
             return Err(io::Error::from(ErrorKind::Other));
         }
         let count = buf.len().min(self.width).min(self.left);
+        self.left -= count;
         for i in 0..count {
             buf[i] = self.octets.get(self.place).copied().unwrap_or(0);
             self.place = self.place.saturating_add(1);
@@ -51,7 +52,6 @@ impl Read for Repeated<'_> {
                 self.place = 0;
             }
         }
-        self.left -= count;
         Ok(count)
     }
 }
