@@ -1,0 +1,7 @@
+pub mod OrderLemmas
+pub mod SiftLemmas
+pub mod TieLemmas
+pub mod ChangeLemmas
+pub mod WalkLemmas
+pub mod TreeLemmas
+pub mod DueLemmas

@@ -1,0 +1,120 @@
+ghost use Rattle.std.specs.Prelude.{◌≡◌, ◌≢◌, ◌<◌, ◌+◌, ◌*◌, ◌≤◌, ℕ, false, length};
+ghost use Rattle.timer_queue.specs.Order.{comes_before, timer_at};
+ghost use Rattle.timer_queue.specs.Heap.{IsChild, IsOrdered, IsOrderedBut, IsFineBelow, IsFineAbove, IsTied, item_at, key_at, heap_swapped, places_swapped};
+
+use crate::timer::{Timer, comes_before};
+
+/// Whether the item at a place has a timer before that of the item at another.
+#[inline(always)]
+fn is_before(heap: &[usize], timers: &[Option<Timer>], a: usize, b: usize) -> bool
+    requires a { a < length heap.now }
+    requires b { b < length heap.now }
+    requires first { item_at heap.now a < length timers.now }
+    requires second { item_at heap.now b < length timers.now }
+    ensures { result ≡ comes_before (key_at timers.now heap.now a) (key_at timers.now heap.now b) }
+{
+    comes_before(timers[heap[a]], timers[heap[b]])
+}
+
+/// The place above a place.
+#[inline(always)]
+fn parent_of(at: usize) -> usize
+    requires { 0 < at }
+    ensures parent { IsChild at result }
+    ensures lower { result < at }
+{
+    (at - 1) / 2
+}
+
+/// Puts the items at two places into each other's place.
+pub(crate) fn swap_places(heap: &mut [usize], places: &mut [usize], a: usize, b: usize)
+    requires a { a < length heap.old }
+    requires b { b < length heap.old }
+    requires first { item_at heap.old a < length places.old }
+    requires second { item_at heap.old b < length places.old }
+    ensures heap { heap.new ≡ heap_swapped heap.old a b }
+    ensures places { places.new ≡ places_swapped heap.old places.old a b }
+{
+    let one = heap[a];
+    let other = heap[b];
+    heap[a] = other;
+    heap[b] = one;
+    places[other] = a;
+    places[one] = b;
+}
+
+/// Moves the item at a place up, as long as its timer is before that of the place above.
+pub(crate) fn sift_up(heap: &mut [usize], places: &mut [usize], timers: &[Option<Timer>], at: usize)
+    requires at { at < length timers.now }
+    requires tied { IsTied heap.old places.old (length timers.now) }
+    requires but { IsOrderedBut (key_at timers.now heap.old) (length timers.now) at }
+    requires below { IsFineBelow (key_at timers.now heap.old) (length timers.now) at }
+    ensures tied { IsTied heap.new places.new (length timers.now) }
+    ensures ordered { IsOrdered (key_at timers.now heap.new) (length timers.now) }
+{
+    if at > 0 {
+        let parent = parent_of(at);
+        if is_before(heap, timers, at, parent) {
+            swap_places(heap, places, at, parent);
+            sift_up(heap, places, timers, parent);
+        }
+    }
+}
+
+/// Of the two places below a place the one with the earlier timer; the first of them is there.
+fn least_child(heap: &[usize], timers: &[Option<Timer>], at: usize) -> usize
+    requires first { 2 * at + 1 < length timers.now }
+    requires as_many { length heap.now ≡ length timers.now }
+    requires within { (place : ℕ) → place < length timers.now → item_at heap.now place < length timers.now }
+    ensures child { IsChild result at }
+    ensures there { result < length timers.now }
+    ensures least { (child : ℕ) → IsChild child at → child < length timers.now →
+        comes_before (key_at timers.now heap.now child) (key_at timers.now heap.now result) ≡ false }
+{
+    let left = 2 * at + 1;
+    let right = left + 1;
+    if right < heap.len() && is_before(heap, timers, right, left) {
+        right
+    } else {
+        left
+    }
+}
+
+/// Moves the item at a place down, as long as the timer of a place below is before its own.
+pub(crate) fn sift_down(
+    heap: &mut [usize],
+    places: &mut [usize],
+    timers: &[Option<Timer>],
+    at: usize,
+)
+    requires at { at < length timers.now }
+    requires tied { IsTied heap.old places.old (length timers.now) }
+    requires but { IsOrderedBut (key_at timers.now heap.old) (length timers.now) at }
+    requires above { IsFineAbove (key_at timers.now heap.old) at }
+    ensures tied { IsTied heap.new places.new (length timers.now) }
+    ensures ordered { IsOrdered (key_at timers.now heap.new) (length timers.now) }
+{
+    // Half of the places have none below them, and twice a place past those might not fit.
+    if at < heap.len() / 2 {
+        let child = least_child(heap, timers, at);
+        if is_before(heap, timers, child, at) {
+            swap_places(heap, places, at, child);
+            sift_down(heap, places, timers, child);
+        }
+    }
+}
+
+/// Brings the item at a place, whose timer changed, to where it belongs.
+pub(crate) fn sift(heap: &mut [usize], places: &mut [usize], timers: &[Option<Timer>], at: usize)
+    requires at { at < length timers.now }
+    requires tied { IsTied heap.old places.old (length timers.now) }
+    requires but { IsOrderedBut (key_at timers.now heap.old) (length timers.now) at }
+    ensures tied { IsTied heap.new places.new (length timers.now) }
+    ensures ordered { IsOrdered (key_at timers.now heap.new) (length timers.now) }
+{
+    if at > 0 && is_before(heap, timers, at, parent_of(at)) {
+        sift_up(heap, places, timers, at);
+    } else {
+        sift_down(heap, places, timers, at);
+    }
+}

@@ -1,0 +1,31 @@
+ghost use Rattle.std.specs.Prelude.{◌≡◌};
+ghost use Rattle.timer_queue.specs.Order.{comes_before};
+
+/// When something is due for an item: the moment, and the name of the item, which breaks ties.
+#[derive(Clone, Copy, Debug, PartialEq, Eq)]
+pub struct Timer {
+    pub time: u64,
+    pub name: u32,
+}
+
+/// Whether a timer is before another; none comes after each.
+#[inline(always)]
+pub(crate) fn comes_before(a: Option<Timer>, b: Option<Timer>) -> bool
+    ensures { result ≡ comes_before a b }
+{
+    match a {
+        None => false,
+        Some(a) => is_before_next(a, b),
+    }
+}
+
+/// Whether a timer is before one that there may be.
+#[inline(always)]
+fn is_before_next(a: Timer, b: Option<Timer>) -> bool
+    ensures { result ≡ comes_before (Some a) b }
+{
+    match b {
+        None => true,
+        Some(b) => a.time < b.time || (a.time == b.time && a.name < b.name),
+    }
+}
