@@ -8,6 +8,7 @@ use Rattle.timer_queue.specs.declared.timer.Timer.{Timer}
 use Rattle.timer_queue.specs.Order.{comes_before, is_before, timer_at}
 use Rattle.timer_queue.specs.Heap.{IsTied, up_to, IsSound, IsChild, IsOrdered, IsOrderedBut, item_at, place_of, key_at}
 use Rattle.timer_queue.specs.Queue.{HasNoTimer, IsFirst}
+use Rattle.timer_queue.proofs.CallerLemmas.{timer-push}
 use Rattle.timer_queue.proofs.OrderLemmas.{comes_before-through}
 use Rattle.timer_queue.proofs.SiftLemmas.{child_past, first-least}
 
@@ -50,13 +51,6 @@ at-others (y ∷ ys) x d (suc i) lt = at-others ys x d i (omega (arith, lt))
 length-push : {X : Type 0} (xs : List X) (x : X) → length (xs ++ x ∷ []) ≡ length xs + 1
 length-push [] x = refl
 length-push (y ∷ ys) x = omega (arith, length-push ys x)
-
--- No item after the last has a timer, and a None behind the list is none.
-pub timer-push : (timers : List (Option Timer)) (i : ℕ) → timer_at (timers ++ None ∷ []) i ≡ timer_at timers i
-timer-push [] zero = refl
-timer-push [] (suc i) = refl
-timer-push (t ∷ ts) zero = refl
-timer-push (t ∷ ts) (suc i) = timer-push ts i
 
 pushed-last : {X : Type 0} (xs : List X) (n : ℕ) (x d : X) → length xs ≡ n → get_or (xs ++ x ∷ []) n d ≡ x
 pushed-last xs n x d e = ap (λ k. get_or (xs ++ x ∷ []) k d) (sym e) ∙ at-last xs x d

@@ -1,6 +1,6 @@
 -- The walk gives each item that is due once: what any weight sums to over it is what it sums to over the items.
-use Rattle.std.proofs.Common.{◌≡◌, ◌≢◌, ℕ, zero, suc, ◌+◌, ◌<◌, ◌≤◌, ◌⊎◌, inl, inr, List, [], ◌∷◌, length, map, filter, get_or, remove, Bool, true, false, cond, nat_eq, nat_lt, ◌&&◌, Option, Some, None, refl, sym, ap, ◌∙◌, zero-add, arith, rules, tests}
-use Rattle.std.proofs.lemmas.Bool.{cases_eq, cases_lt, cases_Bool}
+use Rattle.std.proofs.Common.{◌≡◌, ◌≢◌, ℕ, zero, suc, ◌+◌, ◌<◌, ◌≤◌, ◌⊎◌, inl, inr, List, [], ◌∷◌, length, map, get_or, remove, Bool, true, false, cond, nat_eq, nat_lt, ◌&&◌, Option, Some, None, refl, sym, ap, ◌∙◌, arith, rules, tests}
+use Rattle.std.proofs.lemmas.Bool.{cases_eq, cases_lt}
 use Rattle.std.proofs.lemmas.List.Sums.{sum_by-cons}
 use Rattle.std.proofs.lemmas.List.Sorted.{IsPermutation-refl, IsPermutation-sym, IsPermutation-trans, IsPermutation-append, IsPermutation-remove, sum_by_popped, sum_by-IsPermutation}
 use Rattle.std.specs.List.{sum_by}
@@ -9,28 +9,10 @@ use Rattle.timer_queue.specs.declared.timer.Timer.{Timer}
 use Rattle.timer_queue.specs.Order.{comes_before, timer_at, is_due}
 use Rattle.timer_queue.specs.Heap.{IsChild, IsSound, item_at, key_at, up_to}
 use Rattle.timer_queue.specs.Due.{due_items, is_due_place, downwards}
+use Rattle.timer_queue.proofs.CallerLemmas.{sum_by-map, sum_by-filter}
 use Rattle.timer_queue.proofs.SiftLemmas.{child_past}
 use Rattle.timer_queue.proofs.TreeLemmas.{total, walk-total}
 use Rattle.timer_queue.proofs.WalkLemmas.{due-within}
-
-sum_by-map : {X Y : Type 0} (f : Y → ℕ) (g : X → Y) (xs : List X) → sum_by f (map g xs) ≡ sum_by (λ x. f (g x)) xs
-sum_by-map f g [] = refl
-sum_by-map f g (x ∷ xs) = sum_by-cons f (g x) (map g xs) ∙ ap (λ n. f (g x) + n) (sum_by-map f g xs) ∙ sym (sum_by-cons (λ y. f (g y)) x xs)
-
-sum_by-filter : {X : Type 0} (f : X → ℕ) (p : X → Bool) (xs : List X) → sum_by f (filter p xs) ≡ sum_by (λ x. cond (p x) (f x) 0) xs
-sum_by-filter f p [] = refl
-sum_by-filter f p (x ∷ xs) = go (cases_Bool (p x)) (sum_by-filter f p xs)
-  where
-    go : (p x ≡ true) ⊎ (p x ≡ false) → sum_by f (filter p xs) ≡ sum_by (λ y. cond (p y) (f y) 0) xs → sum_by f (filter p (x ∷ xs)) ≡ sum_by (λ y. cond (p y) (f y) 0) (x ∷ xs)
-    go (inl e) ih =
-        ap (λ b. sum_by f (cond b (x ∷ filter p xs) (filter p xs))) e
-        ∙ sum_by-cons f x (filter p xs)
-        ∙ ap (λ n. f x + n) ih
-        ∙ sym (sum_by-cons (λ y. cond (p y) (f y) 0) x xs ∙ ap (λ b. cond b (f x) 0 + sum_by (λ y. cond (p y) (f y) 0) xs) e)
-    go (inr e) ih =
-        ap (λ b. sum_by f (cond b (x ∷ filter p xs) (filter p xs))) e
-        ∙ ih
-        ∙ sym (sum_by-cons (λ y. cond (p y) (f y) 0) x xs ∙ ap (λ b. cond b (f x) 0 + sum_by (λ y. cond (p y) (f y) 0) xs) e ∙ zero-add (sum_by (λ y. cond (p y) (f y) 0) xs))
 
 -- Lists that every weight sums to the same over have the same elements.
 count_at : ℕ → ℕ → ℕ

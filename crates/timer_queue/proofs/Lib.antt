@@ -1,3 +1,4 @@
+pub mod CallerLemmas
 pub mod OrderLemmas
 pub mod SiftLemmas
 pub mod TieLemmas
