@@ -1,0 +1,15 @@
+//! A table of values under rising identifiers, with a time beside each, the least of them first.
+//!
+//! Stands on `timer_queue` for the times, on `slab` for the values and on `indexmap` for the identifiers.
+//! Begin at `Table`.
+#![tactic(auto)]
+
+mod changes;
+mod due;
+mod table;
+
+pub use due::DueRows;
+pub use table::Table;
+
+#[cfg(test)]
+mod tests;

@@ -1,0 +1,131 @@
+ghost use Rattle.std.specs.Prelude.{◌≡◌, ◌++◌, ◌∷◌, [], ℕ, nat_eq, length, option_copied, OnOk, OnErr, IfErr, MatchOption};
+ghost use Rattle.std.specs.Map.{lookup, remove_entry};
+ghost use Rattle.timed_table.specs.Row.{AllBelow, HasNoTime, IsFirst, entries_of, row_of, time_in, with_time, without, due_values};
+
+use crate::changes::{insert_row, remove_row, time_row};
+use crate::due::DueRows;
+use indexmap::IndexMap;
+use slab::Slab;
+use std::alloc::{AllocFailed, Allocator, Global};
+use std::hash::{BuildHasherDefault, FoldHasher};
+use std::marker::Model;
+use timer_queue::TimerQueue;
+
+/// The keys of the values by identifier, in no order.
+pub(crate) type Keys<A> = IndexMap<u32, usize, BuildHasherDefault<FoldHasher>, A>;
+
+/// Values under identifiers, which rise as they are inserted; beside each value a time, if it has one.
+#[derive(Debug, Drop)]
+pub struct Table<T: Drop, A: Allocator + Copy = Global> {
+    values: Slab<T, A>,
+    keys: Keys<A>,
+    /// Of each key that was ever in use.
+    timers: TimerQueue<A>,
+}
+
+impl<T: Drop, A: Allocator + Copy> Model for Table<T, A> {
+    ghost use Rattle.std.specs.Prelude.{List};
+    ghost use Rattle.std.specs.Coded.{coded_list};
+    ghost use Rattle.timed_table.specs.Row.{Row, row_code};
+
+    ghost Value = { List (Row T) };
+
+    ghost coded = { coded_list (row_code T.code) };
+
+    ghost use Rattle.timed_table.specs.Tied.{IsSound, all_rows};
+
+    ghost view = { λ t. all_rows t.keys.entries t.values t.timers };
+
+    ghost invariant = { λ t. IsSound t.keys.entries t.values t.timers };
+}
+
+impl<T: Drop, A: Allocator + Copy> Table<T, A> {
+    ghost use Rattle.std.specs.List.{sum_by};
+    ghost use Rattle.timed_table.specs.Due.{due_rows_left};
+
+    /// No rows; takes no memory.
+    pub fn new(alloc: A) -> Self
+        ensures { result ≡ [] }
+    {
+        Table {
+            values: Slab::new(alloc),
+            keys: IndexMap::new(alloc),
+            timers: TimerQueue::new(alloc),
+        }
+    }
+
+    /// How many rows there are.
+    pub fn len(&self) -> usize
+        ensures { result ≡ length self.now }
+    {
+        self.keys.len()
+    }
+
+    /// The value under an identifier.
+    pub fn get(&self, id: u32) -> Option<&T>
+        ensures { option_copied result ≡ lookup (nat_eq id) (entries_of self.now) }
+    {
+        let key = *self.keys.get(&id)?;
+        self.values.get(key)
+    }
+
+    /// The time beside the value of an identifier, if there is one.
+    pub fn time_of(&self, id: u32) -> Option<u64>
+        ensures { result ≡ time_in (row_of id self.now) }
+    {
+        let key = *self.keys.get(&id)?;
+        let timer = self.timers.get(key)?;
+        Some(timer.time)
+    }
+
+    /// Puts a value and its time, if it has one, behind the others. All memory that the row will need is taken
+    /// here; an `Err` has the value back.
+    pub fn insert(&mut self, id: u32, value: T, time: Option<u64>) -> Result<(), AllocFailed<T>>
+        requires { AllBelow id self.old }
+        ensures ok { OnOk result (self.new ≡ self.old ++ record { identifier = id; value = value; time = time } ∷ []) }
+        ensures err { OnErr result (self.new ≡ self.old) }
+        ensures value_returned { IfErr result (λ failed. failed.value ≡ value) }
+    {
+        insert_row(
+            &mut self.values,
+            &mut self.keys,
+            &mut self.timers,
+            id,
+            value,
+            time,
+        )
+    }
+
+    /// Takes out the row of an identifier, and answers its value; takes no memory.
+    pub fn remove(&mut self, id: u32) -> Option<T>
+        ensures value { result ≡ lookup (nat_eq id) (entries_of self.old) }
+        ensures rows { self.new ≡ without id self.old }
+        ensures entries { entries_of self.new ≡ remove_entry (nat_eq id) (entries_of self.old) }
+    {
+        remove_row(&mut self.values, &mut self.keys, &mut self.timers, id)
+    }
+
+    /// Writes the time beside the value of an identifier, if there is one; takes no memory.
+    pub fn set_time(&mut self, id: u32, time: Option<u64>)
+        ensures rows { self.new ≡ with_time id time self.old }
+        ensures entries { entries_of self.new ≡ entries_of self.old }
+    {
+        time_row(&self.values, &self.keys, &mut self.timers, id, time);
+    }
+
+    /// The least time, and of those who share it the least identifier.
+    pub fn first(&self) -> Option<(u64, u32)>
+        ensures { MatchOption result (HasNoTime self.now) (IsFirst self.now) }
+    {
+        let key = self.timers.first()?;
+        let timer = self.timers.get(key)?;
+        Some((timer.time, timer.name))
+    }
+
+    /// The values whose time is at or before a moment, each once, in no order; takes no memory.
+    pub fn due(&self, moment: u64) -> DueRows<'_, T, A>
+        ensures { (weight : T → ℕ) → sum_by weight (due_rows_left result) ≡ sum_by weight (due_values moment self.now) }
+    {
+        DueRows::new(self.timers.due(moment), &self.values)
+    }
+}
