@@ -3,10 +3,10 @@ use Rattle.std.proofs.Common.{◌≡◌, ℕ, ◌+◌, ◌<◌, ◌^◌, List, [
 use Rattle.std.proofs.lemmas.List.{length-append}
 use Rattle.slab.specs.Slab.{Slab, get, Updates as SlabUpdates}
 use Rattle.timer_queue.specs.declared.timer.Timer.{Timer}
-use Rattle.timed_table.specs.Row.{Row, row_of, AllBelow, with_time, without}
+use Rattle.timed_table.specs.Row.{Row, IsWritten, entries_of, row_of, AllBelow, with_time, without}
 use Rattle.timed_table.specs.Tied.{identifier_limit, key_of, row_at, all_rows, timer_named, IsTied, IsSound, IsExtended}
-use Rattle.timed_table.proofs.RowLemmas.{rows-none, length-changed, length-without, lookup-row}
-use Rattle.timed_table.proofs.TiedLemmas.{within_limit, tied-extended, rows-extended, key-above, tied-added, rows-inserted, tied-removed, rows-removed, tied-timed, rows-timed, tied-written, rows-written, value_at, value-is}
+use Rattle.timed_table.proofs.RowLemmas.{rows-none, entries-changed, length-changed, length-without, lookup-row}
+use Rattle.timed_table.proofs.TiedLemmas.{within_limit, tied-extended, rows-extended, key-above, tied-added, rows-inserted, tied-removed, rows-removed, tied-timed, rows-timed, tied-written, rows-written, rows-unwritten, value_at, value-is}
 
 -- A key behind the others is found where none was.
 pub key-pushed : (keys : List (ℕ × ℕ)) (id key q : ℕ) → key_of keys id ≡ None → key_of (keys ++ (id, key) ∷ []) q ≡ cond (nat_eq id q) (Some key) (key_of keys q)
@@ -96,6 +96,18 @@ module _ {T : Type 0} (keys : List (ℕ × ℕ)) (values : Slab T) (timers : Lis
           tied = tied-written keys values timers sound.tied id key at new_values value up;
           as_many = sound.as_many ∙ sym (ap length (rows-written keys values timers sound.tied id key at new_values value up) ∙ length-changed id (λ r. record r { value = value }) (all_rows keys values timers));
         }
+
+    -- The rows have that value.
+    pub written : (new_values : Slab T) (value : T) → SlabUpdates values new_values key (Some value) → IsWritten id value (all_rows keys values timers) (all_rows keys new_values timers)
+    written new_values value up =
+        let rows = rows-written keys values timers sound.tied id key at new_values value up in
+        record { rows = rows; entries = ap entries_of rows ∙ entries-changed id value (all_rows keys values timers) }
+
+  -- Without a key a write changes nothing.
+  pub unwritten : (id : ℕ) (value : T) → key_of keys id ≡ None → IsWritten id value (all_rows keys values timers) (all_rows keys values timers)
+  unwritten id value none =
+      let rows = rows-unwritten keys values timers sound.tied id value none in
+      record { rows = rows; entries = ap entries_of rows ∙ entries-changed id value (all_rows keys values timers) }
 
 -- A table without rows.
 module _ {T : Type 0} (values : Slab T) where

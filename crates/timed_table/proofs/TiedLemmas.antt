@@ -378,6 +378,12 @@ module _ {T : Type 0} where
         here : row_at keys values timers id ≡ option_map (timed time) (row_at keys values timers id)
         here = rw none refl
 
+    pub rows-unwritten : (id : ℕ) (value : T) → key_of keys id ≡ None → all_rows keys values timers ≡ with_value id value (all_rows keys values timers)
+    rows-unwritten id value none = rows-changed (row_at keys values timers) (row-names keys values timers) (row_at keys values timers) id (λ q n. refl) (valued value) here 0 identifier_limit
+      where
+        here : row_at keys values timers id ≡ option_map (valued value) (row_at keys values timers id)
+        here = rw none refl
+
     pub rows-unremoved : (id : ℕ) → key_of keys id ≡ None → all_rows keys values timers ≡ without id (all_rows keys values timers)
     rows-unremoved id none = rows-without (row_at keys values timers) (row-names keys values timers) (row_at keys values timers) id (λ q n. refl) here 0 identifier_limit
       where

@@ -1,5 +1,6 @@
 -- What a contract sees of a table: its rows, by rising identifier.
 use Rattle.std.specs.Prelude.{◌≡◌, ℕ, ◌<◌, ◌||◌, ◌&&◌, ◌==◌, Bool, false, cond, nat_eq, nat_lt, nat_le, List, [], ◌∷◌, Option, None, Some, map, filter, refl}
+use Rattle.std.specs.Map.{set_value}
 use Rattle.std.specs.Coded.{Coded, code_by, coded×, coded_ℕ, coded_option}
 
 -- An identifier, its value, and the time that is kept with it, if there is one (own).
@@ -50,6 +51,11 @@ module _ {T : Type 0} where
   -- The rows, with this value under an identifier that has a row (own).
   abbrev pub with_value : ℕ → T → List (Row T) → List (Row T)
   with_value id value rows = changed id (λ r. record r { value = value }) rows
+
+  -- What a write of the value under an identifier leaves, in rows and in entries (own).
+  pub record IsWritten (id : ℕ) (value : T) (old new : List (Row T)) : Type 0 where
+    pub rows : new ≡ with_value id value old
+    pub entries : entries_of new ≡ set_value (nat_eq id) (entries_of old) value
 
   -- The rows, with this time for an identifier that has a row (own).
   abbrev pub with_time : ℕ → Option ℕ → List (Row T) → List (Row T)

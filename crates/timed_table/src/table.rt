@@ -41,7 +41,11 @@ impl<T: Drop, A: Allocator + Copy> Model for Table<T, A> {
 
 impl<T: Drop, A: Allocator + Copy> Table<T, A> {
     ghost use Rattle.std.specs.List.{sum_by};
+    ghost use Rattle.std.specs.Borrow.{LendsSo, sem};
+    ghost use Rattle.std.specs.Option.{option_copied_mut};
     ghost use Rattle.timed_table.specs.Due.{due_rows_left};
+    ghost use Rattle.timed_table.specs.contracts.table.Table.{the_row};
+    ghost use Rattle.timed_table.specs.Row.{IsWritten};
 
     /// No rows; takes no memory.
     pub fn new(alloc: A) -> Self
@@ -67,6 +71,15 @@ impl<T: Drop, A: Allocator + Copy> Table<T, A> {
     {
         let key = *self.keys.get(&id)?;
         self.values.get(key)
+    }
+
+    /// The value under an identifier, to be written; its row keeps its identifier and its time.
+    pub fn get_mut(&mut self, id: u32) -> Option<&mut T>
+        ensures* writes_back { sem 𝓛 (LendsSo (the_row T.row A.row A.Allocator) T.row self.entry result (λ new w. IsWritten id w self.old new) (λ new. new ≡ self.old)) }
+        ensures value { option_copied_mut result ≡ lookup (nat_eq id) (entries_of self.old) }
+    {
+        let key = *self.keys.get(&id)?;
+        self.values.get_mut(key)
     }
 
     /// The time beside the value of an identifier, if there is one.

@@ -1,3 +1,7 @@
+ghost use Rattle.std.specs.Prelude.{◌≡◌, nat_eq, OnSome, IfNone};
+ghost use Rattle.std.specs.Map.{set_value};
+ghost use Rattle.timed_table.specs.Row.{entries_of, with_value};
+
 use crate::Table;
 use std::test::Fail;
 
@@ -31,6 +35,27 @@ fn finds_what_was_inserted(rt: HostRuntime) -> Result<(), Fail> {
     assert_eq!(rt; table.time_of(3), Some(70));
     assert_eq!(rt; table.time_of(8), None);
     assert_eq!(rt; table.first(), Some((40, 5)));
+    Ok(())
+}
+
+/// Writes the value under an identifier, as a caller learns it.
+fn overwrite(table: &mut Table<u64>, id: u32, value: u64) -> Option<()>
+    ensures rows { OnSome result (table.new ≡ with_value id value table.old) }
+    ensures entries { OnSome result (entries_of table.new ≡ set_value (nat_eq id) (entries_of table.old) value) }
+    ensures none { IfNone result (table.new ≡ table.old) }
+{
+    let slot = table.get_mut(id)?;
+    *slot = value;
+    Some(())
+}
+
+#[test]
+fn writes_a_value_in_its_place(rt: HostRuntime) -> Result<(), Fail> {
+    let mut table = sample(rt.alloc())?;
+    assert_eq!(rt; overwrite(&mut table, 5, 51), Some(()));
+    assert_eq!(rt; overwrite(&mut table, 6, 61), None);
+    assert_eq!(rt; table.get(5).copied(), Some(51));
+    assert_eq!(rt; table.time_of(5), Some(40));
     Ok(())
 }
 
