@@ -6,7 +6,9 @@ use Rattle.timer_queue.specs.declared.timer.Timer.{Timer}
 use Rattle.timed_table.specs.Row.{Row, IsWritten, entries_of, row_of, AllBelow, with_time, without}
 use Rattle.timed_table.specs.Tied.{identifier_limit, key_of, row_at, all_rows, timer_named, IsTied, IsSound, IsExtended}
 use Rattle.timed_table.proofs.RowLemmas.{rows-none, entries-changed, length-changed, length-without, lookup-row}
-use Rattle.timed_table.proofs.TiedLemmas.{within_limit, tied-extended, rows-extended, key-above, tied-added, rows-inserted, tied-removed, rows-removed, tied-timed, rows-timed, tied-written, rows-written, rows-unwritten, value_at, value-is}
+use Rattle.timed_table.proofs.TiedLemmas.{within_limit, tied-extended, rows-extended, key-above, value_at, value-is}
+use Rattle.timed_table.proofs.InsertLemmas.{tied-added, rows-inserted}
+use Rattle.timed_table.proofs.WriteLemmas.{tied-removed, rows-removed, tied-timed, rows-timed, tied-written, rows-written, rows-unwritten}
 
 -- A key behind the others is found where none was.
 pub key-pushed : (keys : List (ℕ × ℕ)) (id key q : ℕ) → key_of keys id ≡ None → key_of (keys ++ (id, key) ∷ []) q ≡ cond (nat_eq id q) (Some key) (key_of keys q)

@@ -1,6 +1,7 @@
 use Rattle.std.proofs.Common.{rules, ◌≡◌, ◌∙◌, ◌+◌, sym, ap, length, None, Some}
 use Rattle.timed_table.specs.Tied.{key_of}
-use Rattle.timed_table.proofs.TiedLemmas.{value_at, value-is, rows-unremoved}
+use Rattle.timed_table.proofs.TiedLemmas.{value_at, value-is}
+use Rattle.timed_table.proofs.WriteLemmas.{rows-unremoved}
 use Rattle.timed_table.proofs.SoundLemmas.{rows-remove, sound-remove}
 use Rattle.timed_table.proofs.changes.remove_row.Goals as goal
 

@@ -1,6 +1,6 @@
 use Rattle.std.proofs.Common.{rules, ◌≡◌, None, Some}
 use Rattle.timed_table.specs.Tied.{key_of}
-use Rattle.timed_table.proofs.TiedLemmas.{rows-untimed}
+use Rattle.timed_table.proofs.WriteLemmas.{rows-untimed}
 use Rattle.timed_table.proofs.SoundLemmas.{rows-time, sound-time}
 use Rattle.timed_table.proofs.changes.time_row.Goals as goal
 
