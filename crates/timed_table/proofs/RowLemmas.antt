@@ -3,7 +3,7 @@ use Rattle.std.proofs.Common.{◌≡◌, ◌≢◌, ℕ, zero, suc, ◌+◌, ◌
 use Rattle.std.proofs.lemmas.Bool.{cases_eq, cases_Bool, eqb-true}
 use Rattle.std.specs.List.{cons_option}
 use Rattle.std.specs.Map.{lookup, set_value, remove_entry}
-use Rattle.timed_table.specs.Row.{Row, entries_of, row_of, changed, without, AllBelow}
+use Rattle.timed_table.specs.Row.{Row, entries_of, row_of, changed, without, AllBelow, IsRising}
 use Rattle.timed_table.specs.Tied.{rows_from}
 
 eq-same : (a : ℕ) → nat_eq a a ≡ true
@@ -111,6 +111,10 @@ module _ {T : Type 0} where
       let rest = rows-none at (low + 1) count (λ id le. none id (omega (arith, le))) in
       ap (λ o. cons_option o (rows_from at (low + 1) count)) (none low (omega arith)) ∙ rest
 
+  rising-lower : (low high : ℕ) (rows : List (Row T)) → low ≤ high → IsRising high rows → IsRising low rows
+  rising-lower low high [] le h = tt
+  rising-lower low high (r ∷ rows) le h = (omega (arith, le, h.0), h.1)
+
   module _ (at : ℕ → Option (Row T)) (names : (id : ℕ) (r : Row T) → at id ≡ Some r → r.identifier ≡ id) where
     -- No row before the first identifier is found.
     row-before : (id low count : ℕ) → id < low → row_of id (rows_from at low count) ≡ None
@@ -135,6 +139,17 @@ module _ {T : Type 0} where
             let name = names low r e in
             let apart : nat_eq id r.identifier ≡ false = eq-apart id r.identifier (λ s. omega (arith, le, name, s)) in
             rw e (rw apart ih)
+
+    -- The identifiers rise.
+    pub rows-rising : (low count : ℕ) → IsRising low (rows_from at low count)
+    rows-rising low zero = tt
+    rows-rising low (suc count) = go (at low) refl (rows-rising (low + 1) count)
+      where
+        go : (o : Option (Row T)) → at low ≡ o → IsRising (low + 1) (rows_from at (low + 1) count) → IsRising low (cons_option (at low) (rows_from at (low + 1) count))
+        go None e ih = rw e (rising-lower low (low + 1) (rows_from at (low + 1) count) (omega arith) ih)
+        go (Some r) e ih =
+            let name = names low r e in
+            rw e (omega (arith, name), subst (λ n. IsRising (n + 1) (rows_from at (low + 1) count)) (sym name) ih)
 
     -- The row of an identifier is found.
     pub row-found : (id low count : ℕ) → low ≤ id → id < low + count → row_of id (rows_from at low count) ≡ at id

@@ -1,5 +1,5 @@
 -- What a contract sees of a table: its rows, by rising identifier.
-use Rattle.std.specs.Prelude.{◌≡◌, ℕ, ◌<◌, ◌||◌, ◌&&◌, ◌==◌, Bool, false, cond, nat_eq, nat_lt, nat_le, List, [], ◌∷◌, Option, None, Some, map, filter, refl}
+use Rattle.std.specs.Prelude.{◌≡◌, ℕ, ◌<◌, ◌+◌, ◌≤◌, ◌||◌, ◌&&◌, ◌==◌, Bool, false, cond, nat_eq, nat_lt, nat_le, List, [], ◌∷◌, Option, None, Some, map, filter, refl}
 use Rattle.std.specs.Map.{set_value}
 use Rattle.std.specs.Coded.{Coded, code_by, coded×, coded_ℕ, coded_option}
 
@@ -65,6 +65,11 @@ module _ {T : Type 0} where
   abbrev pub without : ℕ → List (Row T) → List (Row T)
   without id [] = []
   without id (r ∷ rows) = cond (nat_eq id r.identifier) rows (r ∷ without id rows)
+
+  -- The identifiers rise from this one on (own).
+  abbrev pub IsRising : ℕ → List (Row T) → Type 0
+  IsRising low [] = Unit {0}
+  IsRising low (r ∷ rows) = (low ≤ r.identifier) × IsRising (r.identifier + 1) rows
 
   -- Every identifier is below this one (own).
   abbrev pub AllBelow : ℕ → List (Row T) → Type 0

@@ -1,6 +1,6 @@
 ghost use Rattle.std.specs.Prelude.{◌≡◌, ◌++◌, ◌∷◌, [], ℕ, nat_eq, length, option_copied, OnOk, OnErr, IfErr, MatchOption};
 ghost use Rattle.std.specs.Map.{lookup, remove_entry};
-ghost use Rattle.timed_table.specs.Row.{AllBelow, HasNoTime, IsFirst, entries_of, row_of, time_in, with_time, without, due_values};
+ghost use Rattle.timed_table.specs.Row.{AllBelow, IsRising, HasNoTime, IsFirst, entries_of, row_of, time_in, with_time, without, due_values};
 
 use crate::changes::{insert_row, remove_row, time_row};
 use crate::due::DueRows;
@@ -60,7 +60,9 @@ impl<T: Drop, A: Allocator + Copy> Table<T, A> {
 
     /// How many rows there are.
     pub fn len(&self) -> usize
-        ensures { result ≡ length self.now }
+        ensures value { result ≡ length self.now }
+        // What every table keeps.
+        ensures rising { IsRising 0 self.now }
     {
         self.keys.len()
     }
