@@ -4,6 +4,7 @@
 #![tactic(auto)]
 
 mod command;
+pub mod laws;
 mod refusal;
 mod request;
 mod words;
@@ -12,4 +13,4 @@ pub use command::{answer, report, run_command};
 pub use refusal::Refusal;
 pub use request::Request;
 pub use tcap_play::{PlayFault, play_text, run_play, run_stream};
-pub use tcap_text::{Shown, canon_text, check_text, laws, show_text};
+pub use tcap_text::{Shown, canon_text, check_text, show_text};
