@@ -4,7 +4,9 @@ ghost use Rattle.timer_queue.specs.Order.{comes_before};
 /// When something is due for an item: the moment, and the name of the item, which breaks ties.
 #[derive(Clone, Copy, Debug, PartialEq, Eq)]
 pub struct Timer {
+    /// The moment, in the caller's unit of time; any number.
     pub time: u64,
+    /// The name; any number.
     pub name: u32,
 }
 
