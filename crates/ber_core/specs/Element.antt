@@ -16,7 +16,7 @@ pub record Parts : Type 0 where
   pub whole : List ℕ
 
 -- The definite form: a tag, the octets of the content's length, and the content, which is any
--- octets (X.690, Length octets).
+-- octets (X.690, Length octets; that the content of a constructed encoding is any octets is own).
 pub record IsDefinite (e : Parts) : Type 0 where
   pub octets : List ℕ
   pub is_tag : IsTag e.tag

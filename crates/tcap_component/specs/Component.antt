@@ -64,7 +64,7 @@ body_fields body = code_field body.code ∷ any body.parameter ∷ []
 -- Return Result: 02 identifier, [30];
 -- Return Error: 02 identifier, code, [parameter];
 -- Reject: 02 identifier or 05, then 80, 81, 82 or 83 with the problem's code
--- (Q.773, Component portion).
+-- (Q.773, Component portion; that only a Reject may have 05, and that a linked identifier is never 81, is own).
 abbrev pub fields : ComponentParts → Option (List ℕ) → List Field
 fields (invoke id linked code parameter) inner = must 0x02 (identifier id) ∷ may 0x80 (option_map identifier linked) ∷ code_field code ∷ any parameter ∷ []
 fields (result_last id body) inner = must 0x02 (identifier id) ∷ may 0x30 inner ∷ []
@@ -90,7 +90,8 @@ HoldsBody (Some body) (Some inner) = SpellsSequence (body_fields body) inner
 
 -- ---- the values
 
--- An identifier is a number from -128 to 127 (Q.773, Invoke ID).
+-- An identifier is a number from -128 to 127 (Q.773, Invoke ID; in a component other than an Invoke, and of
+-- a linked one, the range is own).
 abbrev pub IsIdentifier : ℤ → Type 0
 IsIdentifier id = FitsSigned w8 id
 

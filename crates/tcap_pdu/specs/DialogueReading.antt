@@ -19,12 +19,13 @@ request_at bytes = do
   info ← information_at o.2
   Some (opening o.0 o.1 info)
 
--- Whether a result says accepted: 0 is accepted, 1 is reject permanent (Q.773, Dialogue portion).
+-- Whether a result says accepted: 0 is accepted, 1 is reject permanent
+-- (Q.773, Dialogue portion; that there is no other number is own).
 abbrev pub accepted_of : ℕ → Option Bool
 accepted_of n = if n == 0 then Some true else if n == 1 then Some false else None
 
 -- Whether an abort source is the provider: 0 is the user, 1 is the provider
--- (Q.773, Dialogue portion).
+-- (Q.773, Dialogue portion; that there is no other number is own).
 abbrev pub by_provider_of : ℕ → Option Bool
 by_provider_of n = if n == 0 then Some false else if n == 1 then Some true else None
 

@@ -43,13 +43,14 @@ SaysVersion (Some []) version1 = ⊥
 SaysVersion (Some (unused ∷ [])) version1 = (unused ≡ 0) × (version1 ≡ false)
 SaysVersion (Some (unused ∷ bits ∷ more)) version1 = (unused ≤ 7) × (version1 ≡ nat_le 0x80 bits)
 
--- The result of an association: 0 accepted, 1 reject permanent (Q.773, Dialogue portion).
+-- The result of an association: 0 accepted, 1 reject permanent
+-- (Q.773, Dialogue portion; that there is no other number is own).
 abbrev pub result_number : Bool → ℕ
 result_number true = 0
 result_number false = 1
 
 -- The source of an abort: 0 dialogue service user, 1 dialogue service provider
--- (Q.773, Dialogue portion).
+-- (Q.773, Dialogue portion; that there is no other number is own).
 abbrev pub abort_source : Bool → ℕ
 abort_source false = 0
 abort_source true = 1
@@ -70,7 +71,7 @@ abbrev pub IsExternal : Parts → Type 0
 IsExternal e = e.tag ≡ 0x28 ∷ []
 
 -- User information is a list of EXTERNALs, which are not looked into; it may be empty
--- (Q.773, Dialogue portion; that it may be empty is own).
+-- (Q.773, Dialogue portion; that they are not looked into is own).
 pub record IsInformation (info : List ℕ) : Type 0 where
   pub externals : List Parts
   pub is_list : IsList externals info
@@ -116,7 +117,8 @@ pub record SpellsAbort (by_provider : Bool) (info bytes : List ℕ) : Type 0 whe
   pub is_information : IsInformation info
 
 -- A dialogue portion holds one EXTERNAL and nothing after it: the abstract syntax, and A0 with one
--- element, the PDU, whose contents are as `Spells` says (Q.773, Dialogue portion).
+-- element, the PDU, whose contents are as `Spells` says (Q.773, Dialogue portion; that an EXTERNAL with a
+-- dialogue PDU has no other part and no other encoding is own).
 pub record SpellsExternal (syntax : List ℕ) (tag : ℕ) (Spells : List ℕ → Type 0) (bytes : List ℕ) : Type 0 where
   pub external : List ℕ
   pub single : List ℕ
@@ -127,7 +129,8 @@ pub record SpellsExternal (syntax : List ℕ) (tag : ℕ) (Spells : List ℕ →
   pub is_content : Spells content
 
 -- One EXTERNAL whose contents are a list of elements, the first an object identifier other than the
--- two abstract syntaxes (Q.773, Dialogue portion; that what follows is not looked into is own).
+-- two abstract syntaxes (Q.773, Dialogue portion; that the object identifier is there, and that what
+-- follows is not looked into, is own).
 pub record IsForeign (external : List ℕ) : Type 0 where
   pub content : List ℕ
   pub syntax : List ℕ

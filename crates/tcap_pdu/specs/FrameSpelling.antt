@@ -47,12 +47,12 @@ fields (end t d c) = must 0x49 t ∷ may 0x6b d ∷ filled 0x6c c ∷ []
 fields (go_on o t d c) = must 0x48 o ∷ must 0x49 t ∷ may 0x6b d ∷ filled 0x6c c ∷ []
 fields (abort t r) = must 0x49 t ∷ reason_fields r
 
--- The greatest P-Abort cause that is read or written (own).
+-- The greatest P-Abort cause (Q.773, P-Abort cause).
 abbrev pub cause_limit : ℕ
 cause_limit = 0x7f
 
 -- A P-Abort cause is one octet 00 to 7F; 5 to 127 are kept as numbers
--- (Q.773, P-Abort cause; the range is own).
+-- (Q.773, P-Abort cause).
 abbrev pub IsReason : Reason → Type 0
 IsReason nothing = Unit {0}
 IsReason (cause n) = n ≤ cause_limit
@@ -66,7 +66,7 @@ HasIds (end t d c) = IsTransId t
 HasIds (go_on o t d c) = IsTransId o × IsTransId t
 HasIds (abort t r) = IsTransId t
 
--- A P-Abort cause, where there is one, is in its range (Q.773, P-Abort cause; the range is own).
+-- A P-Abort cause, where there is one, is in its range (Q.773, P-Abort cause).
 abbrev pub HasCause : Message → Type 0
 HasCause (unidirectional d c) = Unit {0}
 HasCause (begin o d c) = Unit {0}
