@@ -7,6 +7,7 @@ use crate::due::DueRows;
 use indexmap::IndexMap;
 use slab::Slab;
 use std::alloc::{AllocFailed, Allocator, Global};
+use std::fmt;
 use std::hash::{BuildHasherDefault, FoldHasher};
 use std::marker::Model;
 use timer_queue::TimerQueue;
@@ -15,7 +16,7 @@ use timer_queue::TimerQueue;
 pub(crate) type Keys<A> = IndexMap<u32, usize, BuildHasherDefault<FoldHasher>, A>;
 
 /// Values under identifiers, which rise as they are inserted; beside each value a time, if it has one.
-#[derive(Debug, Drop)]
+#[derive(Drop)]
 pub struct Table<T: Drop, A: Allocator + Copy = Global> {
     values: Slab<T, A>,
     keys: Keys<A>,
@@ -56,6 +57,11 @@ impl<T: Drop, A: Allocator + Copy> Table<T, A> {
             keys: IndexMap::new(alloc),
             timers: TimerQueue::new(alloc),
         }
+    }
+
+    /// What finds the memory for the rows.
+    pub fn allocator(&self) -> &A {
+        self.keys.allocator()
     }
 
     /// How many rows there are.
@@ -130,7 +136,9 @@ impl<T: Drop, A: Allocator + Copy> Table<T, A> {
 
     /// The least time, and of those who share it the least identifier.
     pub fn first(&self) -> Option<(u64, u32)>
-        ensures { MatchOption result (HasNoTime self.now) (IsFirst self.now) }
+        ensures first { MatchOption result (HasNoTime self.now) (IsFirst self.now) }
+        // What every table keeps.
+        ensures rising { IsRising 0 self.now }
     {
         let key = self.timers.first()?;
         let timer = self.timers.get(key)?;
@@ -142,5 +150,18 @@ impl<T: Drop, A: Allocator + Copy> Table<T, A> {
         ensures { (weight : T → ℕ) → sum_by weight (due_rows_left result) ≡ sum_by weight (due_values moment self.now) }
     {
         DueRows::new(self.timers.due(moment), &self.values)
+    }
+}
+
+// By hand, since the room that there is, and the keys, say nothing of the rows.
+impl<T: Drop + fmt::Debug, A: Allocator + Copy> fmt::Debug for Table<T, A> {
+    fn fmt<W: fmt::Write>(&self, f: &mut fmt::Formatter<W>) -> fmt::Result {
+        f.debug_map()
+            .entries(
+                self.keys
+                    .iter()
+                    .map(|(id, key)| (id, self.values.get(*key))),
+            )
+            .finish()
     }
 }

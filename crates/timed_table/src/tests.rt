@@ -83,3 +83,14 @@ fn walks_over_what_is_due(rt: HostRuntime) -> Result<(), Fail> {
     assert_eq!(rt; due_sum(&table, 70), (2, 120));
     Ok(())
 }
+
+#[test]
+fn prints_its_values_by_identifier(rt: HostRuntime) -> Result<(), Fail> {
+    let table = sample(rt.alloc())?;
+    let text = format!(in rt.alloc(); "{table:?}")?;
+    assert_eq!(rt;
+        text.as_str(),
+        "{3: Some(30), 5: Some(50), 8: Some(80), 9: Some(90)}"
+    );
+    Ok(())
+}

@@ -1,8 +1,9 @@
 pub mod CallerLemmas
+pub mod ChangeLemmas
+pub mod DueLemmas
 pub mod OrderLemmas
 pub mod SiftLemmas
 pub mod TieLemmas
-pub mod ChangeLemmas
-pub mod WalkLemmas
+pub mod TimerLemmas
 pub mod TreeLemmas
-pub mod DueLemmas
+pub mod WalkLemmas

@@ -85,11 +85,14 @@ impl<A: Allocator + Copy> TimerQueue<A> {
         }
     }
 
-    /// Gives an item this timer, or none; takes no memory.
+    /// Gives an item this timer, or none; where that is its timer, nothing moves. Takes no memory.
     pub fn set(&mut self, item: usize, timer: Option<Timer>)
         requires { item < length self.old }
         ensures { self.new ≡ slice_set self.old item timer }
     {
+        if self.timers[item] == timer {
+            return;
+        }
         set_timer(
             &mut self.heap,
             &mut self.places,
