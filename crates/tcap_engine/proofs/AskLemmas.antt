@@ -1,5 +1,5 @@
 -- The table after one of its dialogues was asked.
-use Rattle.std.proofs.Common.{◌≡◌, ℕ, true, false, nat_eq, List, Option, Some, None, refl, ap, sym, ◌∙◌, if◌then◌else◌}
+use Rattle.std.proofs.Common.{◌≡◌, ℕ, Bool, true, false, nat_eq, List, Option, Some, None, refl, ap, sym, ◌∙◌, if◌then◌else◌}
 use Rattle.std.proofs.lemmas.Map.Steps.{set_value_same}
 use Rattle.std.specs.Map.{lookup, set_value, remove_entry}
 use Rattle.tcap_dialogue.specs.declared.dialogue.ask.Asked.{Asked}
@@ -59,3 +59,9 @@ module _ {A : Type 0} (new : Dialogue) (d : ℕ) (ps : List Place) where
   gone-placed a o e is =
       let left : o.1 ≡ None = sym (ap (λ (x : Outcome). x.1) e) ∙ standing a ∙ rw is refl in
       (sym (answered a) ∙ ap (λ (x : Outcome). x.0) e, removed-set d new ps ∙ ap (λ (x : Option Dialogue). places_with d x ps) (sym left))
+
+  -- The dialogue was settled: it stands where it isn't over.
+  pub settled-placed : (is_over : Bool) (a : Asked A) (o : Outcome) (qs : List Place) → asked_view a new ≡ o → is_over ≡ ends_dialogue a
+      → qs ≡ (if is_over then remove_entry (nat_eq d) (set_value (nat_eq d) ps new) else set_value (nat_eq d) ps new) → PlacesMove o d (asked_answer a) ps qs
+  settled-placed true a o qs e is q = rw q (gone-placed a o e (sym is))
+  settled-placed false a o qs e is q = rw q (kept-placed a o e (sym is))

@@ -1,75 +1,23 @@
--- The lapse that is told first: it is found in its dialogue, and after it the rest is told.
-use Rattle.std.proofs.Common.{◌≡◌, ℕ, ◌+◌, ◌≤◌, Bool, true, false, cond, nat_eq, List, [], ◌∷◌, length, map, Option, Some, None, refl, ap, sym, subst, ◌∙◌, arith, tests}
+-- The first timer of all runs out: its lapse is told, and after it the rest.
+use Rattle.std.proofs.Common.{◌≡◌, ℕ, ◌+◌, ◌<◌, Bool, true, false, cond, nat_eq, List, [], ◌∷◌, ◌++◌, length, map, Option, Some, None, option_to_list, refl, ap, sym, ◌∙◌, arith, tests}
 use Rattle.std.proofs.lemmas.Bool.{eqb-true}
 use Rattle.std.proofs.lemmas.List.{length-map}
 use Rattle.std.specs.Prelude.{IfSome}
 use Rattle.std.specs.Map.{lookup, set_value}
 use Rattle.std.specs.Option.{option_map}
 use Rattle.tcap_invocation.specs.declared.invocations.lapse.Lapse.{Lapse}
-use Rattle.tcap_invocation.specs.Lapses.{told_at, first_due_at, after_lapse_one, after_lapse}
+use Rattle.tcap_invocation.specs.Lapses.{told_at}
 use Rattle.tcap_invocation.specs.Order.{put_by, first_of}
 use Rattle.tcap_invocation.proofs.CallerLemmas.{length-in_order}
-use Rattle.tcap_model.specs.Table.Dialogue.{Dialogue, with_invocations}
-use Rattle.tcap_model.specs.Table.DueLapses.{DueLapse, all_due, all_told, due_told, at_moment}
-use Rattle.tcap_engine.specs.Lapsing.{IsLapsed}
+use Rattle.tcap_model.specs.Table.Dialogue.{Dialogue}
+use Rattle.tcap_model.specs.Table.DueLapses.{DueLapse, all_due, all_told, due_told}
+use Rattle.tcap_engine.specs.Lapsing.{IsFirstTimer, IsPassed, IsPassedIn, due_from, row_count, timer_of}
 use Rattle.tcap_engine.specs.Table.{Place, AreFrom, dialogues_of}
-use Rattle.tcap_engine.proofs.OrderLemmas.{put_all, put-put, put-first, front_of}
-use Rattle.tcap_engine.proofs.DueLemmas.{is_sooner, sooner-never, sooner-once, sooner-behind, sooner-through, named, told_in, order, order-cons, first_in, first-cons}
+use Rattle.tcap_engine.proofs.OrderLemmas.{put_all, put-put, put-first}
+use Rattle.tcap_engine.proofs.DueLemmas.{is_sooner, sooner-never, sooner-once, sooner-behind, sooner-through, named, told_in, order, order-cons}
+use Rattle.tcap_engine.proofs.FirstLemmas.{first-told}
 use Rattle.tcap_engine.proofs.TableLemmas.{from-set, found-own}
 use Rattle.tcap_engine.proofs.MomentLemmas.{place_at-set_value}
-
--- ---- where the first stands
-
--- The first that is due stands in the dialogue that it names, and is the first there.
-pub record IsFound (now low : ℕ) (ps : List Place) (x : DueLapse) : Type 0 where
-  pub dialogue : Dialogue
-  pub stands : lookup (nat_eq x.dialogue) ps ≡ Some dialogue
-  pub first : first_due_at now dialogue.invocations.rows ≡ Some x.lapse
-  pub above : low ≤ x.dialogue
-
-here : (now low : ℕ) (p : Place) (ps : List Place) (x : DueLapse) → AreFrom low (p ∷ ps) → first_in now p.1 ≡ Some x → IsFound now low (p ∷ ps) x
-here now low p ps x h = go (first_due_at now p.1.invocations.rows) refl
-  where
-    go : (o : Option Lapse) → first_due_at now p.1.invocations.rows ≡ o → option_map (named p.1.standing.identifier) o ≡ Some x → IsFound now low (p ∷ ps) x
-    go None e s = absurd cc
-    go (Some l) e s =
-        let same : named p.1.standing.identifier l ≡ x = cc in
-        let own : x.dialogue ≡ p.0 = ap (λ (y : DueLapse). y.dialogue) (sym same) ∙ h.1 in
-        let equal : nat_eq x.dialogue p.0 ≡ true = grind (arith, tests, own) in
-        let from = h.0 in
-        record {
-          dialogue = p.1;
-          stands = rw equal refl;
-          first = e ∙ ap Some (ap (λ (y : DueLapse). y.lapse) same);
-          above = omega (arith, own, from);
-        }
-
-later : (now low : ℕ) (p : Place) (ps : List Place) (x : DueLapse) → AreFrom low (p ∷ ps) → IsFound now (p.0 + 1) ps x → IsFound now low (p ∷ ps) x
-later now low p ps x h f =
-    let above = f.above in
-    let from = h.0 in
-    let other : nat_eq x.dialogue p.0 ≡ false = grind (arith, tests, above) in
-    record {
-      dialogue = f.dialogue;
-      stands = rw other f.stands;
-      first = f.first;
-      above = omega (arith, above, from);
-    }
-
-pub first-found : (now low : ℕ) (ps : List Place) (x : DueLapse) → AreFrom low ps → first_of (order now (dialogues_of ps)) ≡ Some x → IsFound now low ps x
-first-found now low [] x h e = absurd cc
-first-found now low (p ∷ ps) x h e =
-    go (first_in now p.1) (first_of (order now (dialogues_of ps))) refl refl (sym (first-cons now p.1 (dialogues_of ps)) ∙ e) (λ s. first-found now (p.0 + 1) ps x h.2 s)
-  where
-    pick : (b : Bool) (y z : DueLapse) → first_in now p.1 ≡ Some y → first_of (order now (dialogues_of ps)) ≡ Some z → cond b z y ≡ x → (first_of (order now (dialogues_of ps)) ≡ Some x → IsFound now (p.0 + 1) ps x) → IsFound now low (p ∷ ps) x
-    pick true y z a b s ih = later now low p ps x h (ih (b ∙ ap Some s))
-    pick false y z a b s ih = here now low p ps x h (a ∙ ap Some s)
-
-    go : (a b : Option DueLapse) → first_in now p.1 ≡ a → first_of (order now (dialogues_of ps)) ≡ b → front_of is_sooner a b ≡ Some x
-        → (first_of (order now (dialogues_of ps)) ≡ Some x → IsFound now (p.0 + 1) ps x) → IsFound now low (p ∷ ps) x
-    go None b d e s ih = later now low p ps x h (ih (e ∙ s))
-    go (Some y) None d e s ih = here now low p ps x h (d ∙ s)
-    go (Some y) (Some z) d e s ih = pick (is_sooner z y) y z d e (let one : Some (cond (is_sooner z y) z y) ≡ Some x = s in cc) ih
 
 -- ---- the rest
 
@@ -128,40 +76,48 @@ least-first now ps x old new h first found own told =
 pub length-all_told : (now : ℕ) (ds : List Dialogue) → length (all_told now ds) ≡ length (all_due now ds)
 length-all_told now ds = length-map (order now ds) due_told ∙ length-in_order is_sooner (all_due now ds)
 
--- Where none is first, nothing is due.
-pub none-due : (now : ℕ) (ds : List Dialogue) → first_of (order now ds) ≡ None → all_due now ds ≡ []
-none-due now ds e =
-    let long = length-in_order is_sooner (all_due now ds) in
-    none (all_due now ds) (sym long ∙ ap length (first-none (order now ds) e))
+-- Where a dialogue tells the same, all tell the same.
+order-same : (now d : ℕ) (old new : Dialogue) (ps : List Place) → lookup (nat_eq d) ps ≡ Some old → told_in now new ≡ told_in now old → order now (dialogues_of (set_value (nat_eq d) ps new)) ≡ order now (dialogues_of ps)
+order-same now d old new [] found same = refl
+order-same now d old new (p ∷ ps) found same = go (nat_eq d p.0) found (λ f. order-same now d old new ps f same)
   where
-    first-none : (xs : List DueLapse) → first_of xs ≡ None → xs ≡ []
-    first-none [] e = refl
-    first-none (x ∷ xs) e = absurd cc
+    rest : List Dialogue
+    rest = dialogues_of ps
 
-    none : (xs : List DueLapse) → length xs ≡ 0 → xs ≡ []
-    none [] e = refl
-    none (x ∷ xs) e = absurd (omega (arith, e))
+    go : (b : Bool) → cond b (Some p.1) (lookup (nat_eq d) ps) ≡ Some old → (lookup (nat_eq d) ps ≡ Some old → order now (dialogues_of (set_value (nat_eq d) ps new)) ≡ order now rest)
+        → order now (dialogues_of (cond b ((p.0, new) ∷ ps) (p ∷ set_value (nat_eq d) ps new))) ≡ order now (dialogues_of (p ∷ ps))
+    go true f ih =
+        let is : p.1 ≡ old = cc in
+        order-cons now new rest ∙ ap (λ (xs : List DueLapse). put_all is_sooner xs (order now rest)) (same ∙ ap (told_in now) (sym is)) ∙ sym (order-cons now p.1 rest)
+    go false f ih = order-cons now p.1 (dialogues_of (set_value (nat_eq d) ps new)) ∙ ap (put_all is_sooner (told_in now p.1)) (ih f) ∙ sym (order-cons now p.1 rest)
 
--- The first of its dialogue has lapsed.
-pub lapsed-set : (now : ℕ) (ps : List Place) (x : DueLapse) (old new : Dialogue) → AreFrom 0 ps → first_of (order now (dialogues_of ps)) ≡ Some x → lookup (nat_eq x.dialogue) ps ≡ Some old
-    → new ≡ with_invocations old (after_lapse_one old.invocations x.lapse.id now)
-    → IfSome (first_due_at now old.invocations.rows) (λ l. l.id ≡ x.lapse.id → told_at now old.invocations.rows ≡ l ∷ told_at now new.invocations.rows)
-    → after_lapse new.invocations now ≡ after_lapse old.invocations now
-    → IsLapsed now x ps (set_value (nat_eq x.dialogue) ps new)
-lapsed-set now ps x old new h first found wrote told rest =
-    let f = first-found now 0 ps x h first in
-    let one : Some f.dialogue ≡ Some old = sym f.stands ∙ found in
-    let is : f.dialogue ≡ old = cc in
-    let due : first_due_at now old.invocations.rows ≡ Some x.lapse = ap (λ (d : Dialogue). first_due_at now d.invocations.rows) (sym is) ∙ f.first in
-    let own : new.standing.identifier ≡ x.dialogue = ap (λ (d : Dialogue). d.standing.identifier) wrote ∙ found-own x.dialogue 0 old ps h found in
-    let tells : told_at now old.invocations.rows ≡ x.lapse ∷ told_at now new.invocations.rows = (subst (λ o. IfSome o (λ l. l.id ≡ x.lapse.id → told_at now old.invocations.rows ≡ l ∷ told_at now new.invocations.rows)) due told) refl in
-    let same : at_moment now new ≡ at_moment now old = ap (λ (d : Dialogue). at_moment now d) wrote ∙ ap (with_invocations old) (ap (λ (d : Dialogue). after_lapse d.invocations now) (sym wrote) ∙ rest) in
-    record {
-      told = least-first now ps x old new h first found own tells;
-      rest = place_at-set_value now x.dialogue old new ps found same;
-      from = from-set x.dialogue 0 new ps own h;
-    }
+row_count-set : (d : ℕ) (old new : Dialogue) (ps : List Place) → lookup (nat_eq d) ps ≡ Some old → length new.invocations.rows < length old.invocations.rows → row_count (set_value (nat_eq d) ps new) < row_count ps
+row_count-set d old new [] found fewer = absurd cc
+row_count-set d old new (p ∷ ps) found fewer = go (nat_eq d p.0) found (λ f. row_count-set d old new ps f fewer)
+  where
+    go : (b : Bool) → cond b (Some p.1) (lookup (nat_eq d) ps) ≡ Some old → (lookup (nat_eq d) ps ≡ Some old → row_count (set_value (nat_eq d) ps new) < row_count ps)
+        → row_count (cond b ((p.0, new) ∷ ps) (p ∷ set_value (nat_eq d) ps new)) < row_count (p ∷ ps)
+    go true f ih = let is : p.1 ≡ old = cc in let same = ap (λ (w : Dialogue). length w.invocations.rows) is in omega (arith, same, fewer)
+    go false f ih = let rest = ih f in omega (arith, rest)
 
--- The first stands somewhere.
-pub first-stands : (now : ℕ) (ps : List Place) (x : DueLapse) → AreFrom 0 ps → first_of (order now (dialogues_of ps)) ≡ Some x → lookup (nat_eq x.dialogue) ps ≡ None → ⊥
-first-stands now ps x h first none = let f = first-found now 0 ps x h first in let stands = f.stands in absurd cc
+-- The first timer of all has run out, in the dialogue that was written.
+pub passed-set : (now t d : ℕ) (lapse : Option Lapse) (ps : List Place) (old new : Dialogue) → AreFrom 0 ps → IsFirstTimer ps (t, d) → lookup (nat_eq d) ps ≡ Some old → IsPassedIn now t lapse old new → IsPassed now d lapse ps (set_value (nat_eq d) ps new)
+passed-set now t d lapse ps old new from timer found h = record {
+  told = go lapse h.first h.told;
+  rest = place_at-set_value now d old new ps found h.rest;
+  from = from-set d 0 new ps own from;
+  fewer = row_count-set d old new ps found h.fewer;
+}
+  where
+    own : new.standing.identifier ≡ d
+    own = h.own ∙ found-own d 0 old ps from found
+
+    go : (o : Option Lapse) → IfSome o (λ l. l.deadline ≡ t) → told_at now old.invocations.rows ≡ option_to_list o ++ told_at now new.invocations.rows
+        → all_told now (dialogues_of ps) ≡ option_to_list (option_map (λ l. due_told (due_from d l)) o) ++ all_told now (dialogues_of (set_value (nat_eq d) ps new))
+    go None at told =
+        ap (map due_told) (sym (order-same now d old new ps found (ap (λ i. map (named i) (told_at now new.invocations.rows)) h.own ∙ ap (map (named old.standing.identifier)) (sym told))))
+    go (Some l) at told = least-first now ps (due_from d l) old new from (first-told now t d l at ps old from found timer.least (ap first_of told)) found own told
+
+-- The dialogue of the first timer is the one that is found.
+pub same-first : (ps : List Place) (t d : ℕ) (w : Dialogue) → IsFirstTimer ps (t, d) → lookup (nat_eq d) ps ≡ Some w → timer_of w ≡ Some t
+same-first ps t d w h found = let stands = h.stands in let same : w ≡ h.dialogue = cc in ap timer_of same ∙ h.timer

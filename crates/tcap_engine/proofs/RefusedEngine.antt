@@ -3,7 +3,7 @@ use Rattle.std.proofs.Common.{◌≡◌, ℕ, ℤ, nat_eq, List, Option, Some, N
 use Rattle.std.proofs.lemmas.Map.Steps.{set_value_same}
 use Rattle.std.specs.Map.{lookup}
 use Rattle.tcap_dialogue.specs.declared.fault.Fault.{Fault}
-use Rattle.tcap_dialogue.specs.FaultViews.{fault_view}
+use Rattle.tcap_dialogue.specs.FaultViews.{fault_view, RefusedBy}
 use Rattle.tcap_dialogue.specs.StepViews.{Outcome, outcome}
 use Rattle.tcap_engine.specs.Asking.{AsksIn, PlacesMove, PlacesRefuse}
 use Rattle.tcap_engine.specs.Table.{Place, places_with}
@@ -52,6 +52,34 @@ requested-still s d r None = accepted-still s d r
 moved-still : (s : Setting) (d : Dialogue) (r : Request) → IsStill d (table_move s d (DialogueEvent.request r))
 unfolding table_move
 moved-still s d r = requested-still s d r (due_on (situation s d r) r)
+
+-- A refused request leaves its dialogue as it was.
+module _ (s : Setting) (r : Request) (x new : Dialogue) where
+  abbrev moves : Outcome
+  moves = outcome (table_move s x (DialogueEvent.request r))
+
+  as-before : (f : model.Fault) → moves ≡ (Answer.refused f, Some new) → new ≡ x
+  as-before f e =
+      let stands : moves.1 ≡ Some x = subst (StandsIfRefused x moves.1) (ap (λ (o : Outcome). o.0) e) (moved-still s x r) in
+      let left : moves.1 ≡ Some new = ap (λ (o : Outcome). o.1) e in
+      cc
+
+  pub refused-same : (f : model.Fault) → RefusedBy f moves x new → new ≡ x
+  refused-same model.Fault.out_of_memory e = e.0
+  refused-same model.Fault.unknown_dialogue e = as-before _ e
+  refused-same model.Fault.wrong_state e = as-before _ e
+  refused-same model.Fault.invoke_id_in_use e = as-before _ e
+  refused-same model.Fault.no_such_invocation e = as-before _ e
+  refused-same model.Fault.bad_timeout e = as-before _ e
+  refused-same model.Fault.too_long e = as-before _ e
+  refused-same model.Fault.dialogues_full e = as-before _ e
+  refused-same model.Fault.dialogue_ids_spent e = as-before _ e
+  refused-same model.Fault.numbers_spent e = as-before _ e
+  refused-same model.Fault.bad_oid e = as-before _ e
+  refused-same model.Fault.bad_parameter e = as-before _ e
+  refused-same model.Fault.not_class_four e = as-before _ e
+  refused-same model.Fault.moment_too_late e = as-before _ e
+  refused-same model.Fault.no_context e = as-before _ e
 
 module _ (s : Setting) (r : Request) (d : ℕ) (ps qs : List Place) where
   abbrev says : Dialogue → Outcome

@@ -6,8 +6,10 @@ pub mod EventViews
 pub mod HistoryForm
 pub mod Lapsing
 pub mod Limits
+pub mod NextTimer
 pub mod ReceptionViews
 pub mod Running
 pub mod StateOf
 pub mod Table
+pub mod Timed
 pub mod TwoEnds

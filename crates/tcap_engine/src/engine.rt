@@ -11,15 +11,10 @@ pub(crate) mod reaching;
 pub(crate) mod receiving;
 pub(crate) mod requests;
 
+use crate::dialogues::Dialogues;
 use crate::limits::Limits;
-use indexmap::IndexMap;
 use std::alloc::{Allocator, Global};
-use std::hash::{BuildHasherDefault, FoldHasher};
 use std::marker::Model;
-use tcap_dialogue::Dialogue;
-
-/// The dialogues by their identifiers, in order of birth.
-pub(crate) type Table<A> = IndexMap<u32, Dialogue<A>, BuildHasherDefault<FoldHasher>, A>;
 
 /// The engine (Q.774, Transaction sublayer procedures; Q.774, Component handling).
 ///
@@ -27,7 +22,7 @@ pub(crate) type Table<A> = IndexMap<u32, Dialogue<A>, BuildHasherDefault<FoldHas
 ///   `u_reject` and `u_cancel` of component handling; `uni`, `begin`, `go_on`, `finish` and
 ///   `u_abort` of dialogue handling; `request`, any of these eleven as a value.
 /// - Events from outside: `receive`, for messages; `advance`, for time; `handle`, any event as a value.
-/// - Getters: `now`, `state_of`.
+/// - Getters: `now`, `state_of`, `next_timer`.
 ///
 /// Moments are in milliseconds by the caller's clock, at most 2^62. A contract sees the limits, the
 /// counters, the clock and the dialogues that stand by rising identifier, which is the order of birth,
@@ -38,7 +33,7 @@ pub struct Engine<A: Allocator + Copy = Global> {
     next_dialogue: u32,
     next_number: u64,
     clock: u64,
-    table: Table<A>,
+    table: Dialogues<A>,
 }
 
 impl<A: Allocator + Copy> Model for Engine<A> {
@@ -53,8 +48,8 @@ impl<A: Allocator + Copy> Model for Engine<A> {
       next_dialogue = e.next_dialogue;
       next_number = e.next_number;
       clock = e.clock;
-      dialogues = dialogues_of e.table.entries;
+      dialogues = dialogues_of e.table;
     } };
 
-    ghost invariant = { λ e. IsSound e.limits e.next_dialogue e.next_number e.clock e.table.entries };
+    ghost invariant = { λ e. IsSound e.limits e.next_dialogue e.next_number e.clock e.table };
 }

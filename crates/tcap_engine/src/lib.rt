@@ -1,11 +1,12 @@
 //! The engine (Q.771, Q.774): the dialogues that stand, the counters that name them and their
 //! invocations, and the clock.
 //!
-//! Stands on the codec crates, `tcap_invocation`, `tcap_dialogue`, `indexmap`, the definitions of
+//! Stands on the codec crates, `tcap_invocation`, `tcap_dialogue`, `timed_table`, the definitions of
 //! `tcap_model` and the laws of `tcap_laws`. Begin at `Engine`; each call does what `engine_move` says
 //! (tcap_model/specs/Table/EngineMove.antt) and what every history says (specs/HistoryForm.antt).
 #![tactic(auto)]
 
+mod dialogues;
 mod engine;
 mod event;
 pub mod laws;

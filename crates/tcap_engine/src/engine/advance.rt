@@ -8,7 +8,7 @@ ghost use Rattle.tcap_model.specs.Table.EngineMove.{engine_move, advanced};
 ghost use Rattle.tcap_model.specs.Words.Event.{Event};
 
 use super::Engine;
-use super::moment::{due_count, free_due, tell_due};
+use super::moment::tell_due;
 use crate::ranges;
 use std::alloc::Allocator;
 use tcap_dialogue::{Fault, Output};
@@ -40,7 +40,7 @@ impl<A: Allocator + Copy> Engine<A> {
             return Err(Fault::MomentTooLate);
         }
         if now < self.clock {
-            return Ok(Vec::new(*self.table.allocator()));
+            return Ok(Vec::new(self.table.allocator()));
         }
         self.pass(now)
     }
@@ -52,10 +52,9 @@ impl<A: Allocator + Copy> Engine<A> {
         ensures moves { EngineAnswers outputs_answer result (advanced self.old now) self.old self.new }
         ensures err { OnErr result (self.new ≡ self.old) }
     {
-        let count = due_count(&self.table, now);
-        let mut outputs = Vec::with_capacity(*self.table.allocator(), count)?;
+        let count = self.table.due_count(now);
+        let mut outputs = Vec::with_capacity(self.table.allocator(), count)?;
         tell_due(&mut self.table, now, &mut outputs);
-        free_due(&mut self.table, now);
         self.clock = now;
         Ok(outputs)
     }

@@ -10,7 +10,7 @@ ghost use Rattle.tcap_invocation.specs.Invocations.{AllBelow};
 ghost use Rattle.tcap_invocation.specs.Stage.{moment_limit};
 ghost use Rattle.tcap_model.specs.Table.TableMove.{DialogueEvent, table_move};
 
-use super::Table;
+use crate::dialogues::{Dialogues, settle};
 use std::alloc::Allocator;
 use tcap_dialogue::{Asked, Dialogue, Fault, Request};
 
@@ -54,22 +54,21 @@ fn ask_one<'m, A: Allocator + Copy>(
 
 /// A request on the dialogue of an identifier, which is taken out where it is over.
 pub(super) fn ask_in<'m, A: Allocator + Copy>(
-    table: &mut Table<A>,
+    table: &mut Dialogues<A>,
     d: u32,
     clock: u64,
     number: u64,
     request: &Request<'_>,
 ) -> Result<Asked<'m, A>, Fault>
     requires clock { clock ≤ moment_limit }
-    requires number { IfSome (lookup (nat_eq d) table.old.entries) (λ x. AllBelow number x.invocations.rows) }
-    ensures { AsksIn result (λ x. outcome (table_move (asked clock number) x (DialogueEvent.request (request_view request.now)))) d (lookup (nat_eq d) table.old.entries) table.old.entries table.new.entries }
+    requires number { IfSome (lookup (nat_eq d) table.old) (λ x. AllBelow number x.invocations.rows) }
+    ensures { AsksIn result (λ x. outcome (table_move (asked clock number) x (DialogueEvent.request (request_view request.now)))) d (lookup (nat_eq d) table.old) table.old table.new }
 {
-    let Some(dialogue) = table.get_mut(&d) else {
+    let Some(dialogue) = table.rows.get_mut(d) else {
         return Err(Fault::UnknownDialogue);
     };
     let asked = ask_one(dialogue, clock, number, request)?;
-    if ends_dialogue(&asked) {
-        table.shift_remove(&d);
-    }
+    let timer = dialogue.next_timer();
+    settle(&mut table.rows, d, ends_dialogue(&asked), timer);
     Ok(asked)
 }

@@ -43,7 +43,7 @@ impl<A: Allocator + Copy> Engine<A> {
             return Err(fault);
         }
         let identifier = self.next_dialogue;
-        let alloc = *self.table.allocator();
+        let alloc = self.table.allocator();
         self.keep(Dialogue::fresh(alloc, identifier, self.limits.reject_ms))?;
         Ok(identifier)
     }
@@ -62,7 +62,7 @@ impl<A: Allocator + Copy> Engine<A> {
         ensures err { OnErr result (self.new ≡ self.old) }
     {
         let (dialogue, outputs) = Dialogue::accept(
-            *self.table.allocator(),
+            self.table.allocator(),
             self.next_dialogue,
             self.limits.reject_ms,
             origin,
@@ -82,10 +82,9 @@ impl<A: Allocator + Copy> Engine<A> {
         ensures ok { OnOk result (self.new ≡ with_born self.old dialogue) }
         ensures err { OnErr result (self.new ≡ self.old) }
     {
-        self.table.reserve(1)?;
         let identifier = self.next_dialogue;
         let following = next_identifier(identifier);
-        self.table.insert(identifier, dialogue).unwrap();
+        self.table.insert(identifier, dialogue)?;
         self.next_dialogue = following;
         Ok(())
     }

@@ -1,16 +1,19 @@
 //! A new engine, and what is seen of one.
 
-ghost use Rattle.std.specs.Prelude.{◌≡◌, [], option_copied};
+ghost use Rattle.std.specs.Prelude.{◌≡◌, ℕ, [], true, false, option_copied};
 ghost use Rattle.tcap_engine.specs.Limits.{AreLimits};
 ghost use Rattle.tcap_engine.specs.StateOf.{state_in};
+ghost use Rattle.tcap_engine.specs.NextTimer.{IsAccepted, IsChanged, IsStill, next_timer_in};
 ghost use Rattle.tcap_model.specs.Table.EngineMove.{dialogue_in};
 ghost use Rattle.tcap_model.specs.Table.World.{first_world};
+ghost use Rattle.timed_table.specs.Row.{is_due};
 
 use super::Engine;
+use crate::dialogues::Dialogues;
 use crate::limits::Limits;
-use indexmap::IndexMap;
 use std::alloc::Allocator;
 use tcap_dialogue::{Dialogue, State};
+use tcap_invocation::MAX_MOMENT;
 
 impl<A: Allocator + Copy> Engine<A> {
     /// An engine with clock 0 and no dialogues, whose first dialogue and first invocation are 1.
@@ -32,7 +35,7 @@ impl<A: Allocator + Copy> Engine<A> {
             next_dialogue,
             next_number,
             clock: 0,
-            table: IndexMap::new(alloc),
+            table: Dialogues::new(alloc),
         }
     }
 
@@ -50,10 +53,26 @@ impl<A: Allocator + Copy> Engine<A> {
         self.dialogue_at(d).map(Dialogue::state)
     }
 
+    /// The least moment, in milliseconds, at which `advance` tells something or frees an identifier; `None` where
+    /// none is. A caller may sleep until then. It takes no memory (our own).
+    pub fn next_timer(&self) -> Option<u64>
+        ensures value { result ≡ next_timer_in self.now }
+        // A moment below it does nothing but set the clock; one from it on changes a dialogue.
+        ensures before { (now : ℕ) → IsAccepted self.now now → is_due now result ≡ false → IsStill self.now now }
+        ensures reached { (now : ℕ) → IsAccepted self.now now → is_due now result ≡ true → IsChanged self.now now }
+    {
+        let first = self.table.first_timer()?;
+        if first.0 <= MAX_MOMENT {
+            Some(first.0)
+        } else {
+            None
+        }
+    }
+
     /// The dialogue with this identifier, if it stands.
     pub(super) fn dialogue_at(&self, d: u32) -> Option<&Dialogue<A>>
         ensures { option_copied result ≡ dialogue_in d self.now.dialogues }
     {
-        self.table.get(&d)
+        self.table.get(d)
     }
 }

@@ -13,7 +13,8 @@ ghost use Rattle.tcap_model.specs.Table.EngineMove.{dialogue_in, is_live_in, rea
 ghost use Rattle.tcap_model.specs.Table.TableMove.{DialogueEvent, table_move};
 ghost use Rattle.tcap_pdu.specs.FrameViews.{message};
 
-use super::{Engine, Table};
+use super::Engine;
+use crate::dialogues::{Dialogues, settle};
 use ber_core::OutOfMemory;
 use std::alloc::Allocator;
 use tcap_dialogue::{Abort, Cause, Output, write_abort};
@@ -21,44 +22,42 @@ use tcap_pdu::{Frame, FrameFault, TransId};
 
 /// A message to the dialogue of an identifier, which is taken out where it is over.
 pub(super) fn take_in<'m, A: Allocator + Copy>(
-    table: &mut Table<A>,
+    table: &mut Dialogues<A>,
     d: u32,
     clock: u64,
     frame: &Frame<'m>,
 ) -> Result<Vec<Output<'m, A>, A>, OutOfMemory>
     requires { clock ≤ moment_limit }
-    ensures { ReachesIn outputs_answer result (λ x. outcome (table_move (at_clock clock) x (DialogueEvent.frame (message frame.now)))) d (lookup (nat_eq d) table.old.entries) table.old.entries table.new.entries }
+    ensures { ReachesIn outputs_answer result (λ x. outcome (table_move (at_clock clock) x (DialogueEvent.frame (message frame.now)))) d (lookup (nat_eq d) table.old) table.old table.new }
 {
-    let alloc = *table.allocator();
-    let Some(dialogue) = table.get_mut(&d) else {
+    let alloc = table.allocator();
+    let Some(dialogue) = table.rows.get_mut(d) else {
         return Ok(Vec::new(alloc));
     };
     let step = dialogue.take_frame(frame, clock)?;
-    if step.over {
-        table.shift_remove(&d);
-    }
+    let timer = dialogue.next_timer();
+    settle(&mut table.rows, d, step.over, timer);
     Ok(step.outputs)
 }
 
 /// A faulty message names the dialogue of an identifier, which is over then; there is room for one output
 /// more.
 pub(super) fn break_in<'m, A: Allocator + Copy>(
-    table: &mut Table<A>,
+    table: &mut Dialogues<A>,
     d: u32,
     cause: Cause,
 ) -> Result<Vec<Output<'m, A>, A>, OutOfMemory>
-    requires { IsSome (lookup (nat_eq d) table.old.entries) }
-    ensures reached { ReachesIn outputs_answer result (λ x. outcome (table_move (at_clock 0) x (DialogueEvent.fault (cause_number cause)))) d (lookup (nat_eq d) table.old.entries) table.old.entries table.new.entries }
+    requires { IsSome (lookup (nat_eq d) table.old) }
+    ensures reached { ReachesIn outputs_answer result (λ x. outcome (table_move (at_clock 0) x (DialogueEvent.fault (cause_number cause)))) d (lookup (nat_eq d) table.old) table.old table.new }
     ensures room { IfOk result (λ os. vec_len os < vec_capacity os) }
 {
-    let alloc = *table.allocator();
-    let Some(dialogue) = table.get_mut(&d) else {
+    let alloc = table.allocator();
+    let Some(dialogue) = table.rows.get_mut(d) else {
         return Ok(Vec::new(alloc));
     };
     let step = dialogue.take_fault(cause.number())?;
-    if step.over {
-        table.shift_remove(&d);
-    }
+    let timer = dialogue.next_timer();
+    settle(&mut table.rows, d, step.over, timer);
     Ok(step.outputs)
 }
 
@@ -105,7 +104,7 @@ impl<A: Allocator + Copy> Engine<A> {
         ensures err { OnErr result (self.new ≡ self.old) }
     {
         let cause = Cause::Faulty(fault);
-        let octets = write_abort(*self.table.allocator(), &Abort::Cause { peer, cause })?;
+        let octets = write_abort(self.table.allocator(), &Abort::Cause { peer, cause })?;
         let mut outputs = break_in(&mut self.table, d, cause)?;
         outputs.insert(0, Output::Send(octets)).unwrap();
         Ok(outputs)

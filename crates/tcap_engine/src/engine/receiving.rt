@@ -78,7 +78,7 @@ impl<A: Allocator + Copy> Engine<A> {
     fn tell<'m>(&self, output: Output<'m, A>) -> Result<Vec<Output<'m, A>, A>, OutOfMemory>
         ensures { IfOk result (λ os. all_shown os.items ≡ shown output.entry ∷ []) }
     {
-        let mut outputs = Vec::with_capacity(*self.table.allocator(), 1)?;
+        let mut outputs = Vec::with_capacity(self.table.allocator(), 1)?;
         outputs.push_reserved(output);
         Ok(outputs)
     }
@@ -88,7 +88,7 @@ impl<A: Allocator + Copy> Engine<A> {
         requires { CanWriteAbort abort.now }
         ensures { IfOk result (λ os. all_shown os.items ≡ abort_sent abort.now ∷ []) }
     {
-        let octets = write_abort(*self.table.allocator(), abort)?;
+        let octets = write_abort(self.table.allocator(), abort)?;
         self.tell(Output::Send(octets))
     }
 
@@ -106,7 +106,7 @@ impl<A: Allocator + Copy> Engine<A> {
             Reception::Unidirectional {
                 request,
                 components,
-            } => take_uni(*self.table.allocator(), request, components),
+            } => take_uni(self.table.allocator(), request, components),
             Reception::Begun {
                 origin,
                 request,

@@ -7,6 +7,6 @@ use Rattle.tcap_engine.proofs.engine.Engine.dialogue_at.Goals as goal
 
 pub returns : goal.returns
 returns g c =
-    let ps = c.self.inside.table.entries in
+    let ps = c.self.inside.table in
     let found : option_copied c.get.result ≡ lookup (nat_eq c.args.d) ps = search rules in
     found ∙ sym (found-in c.args.d 0 ps c.self.invariant.from) ∙ ap (λ (w : World). dialogue_in c.args.d w.dialogues) c.self.view_is

@@ -1,21 +1,16 @@
-use Rattle.std.proofs.Common.{rules, arith, sym, ap, ◌≡◌, ◌∙◌, ◌+◌, ◌++◌, [], ◌∷◌, None, List, ℕ, length, nat_eq, ◌<◌}
+use Rattle.std.proofs.Common.{rules, arith, sym, ap, ◌≡◌, ◌∙◌, ◌+◌, ◌++◌, [], ◌∷◌, List, ℕ, length, ◌<◌}
 use Rattle.std.proofs.lemmas.List.{length-append, length-map}
-use Rattle.indexmap.specs.IndexMap.{get}
-use Rattle.indexmap.proofs.CallerLemmas.{insert_entry-new}
 use Rattle.tcap_model.specs.Table.Dialogue.{Dialogue}
 use Rattle.tcap_model.specs.Table.World.{World}
 use Rattle.tcap_engine.specs.Table.{IsWithin, Place, dialogues_of, with_born}
-use Rattle.tcap_engine.proofs.BirthLemmas.{absent-drawn, from-push, drawn-push, within-push, dialogues-push, room-to-be-born}
+use Rattle.tcap_engine.proofs.BirthLemmas.{from-push, drawn-push, within-push, dialogues-push, room-to-be-born}
 use Rattle.tcap_engine.proofs.engine.Engine.keep.Goals as goal
 
 pub invariant_of-self-2 : goal.invariant_of-self-2
 invariant_of-self-2 g c =
     let d = c.self.inside.next_dialogue in
-    let ps : List Place = c.self.inside.table.entries in
-    let same : c.reserve.new.self.entries ≡ ps = c.reserve.ensures.entries in
-    let none : get nat_eq c.reserve.new.self d ≡ None = rw same (absent-drawn d ps c.self.invariant.drawn) in
-    let put : c.insert.new.self.entries ≡ c.reserve.new.self.entries ++ (d, c.args.dialogue) ∷ [] = search (rules, insert_entry-new nat_eq c.reserve.new.self d c.args.dialogue none) in
-    let new : c.insert.new.self.entries ≡ ps ++ (d, c.args.dialogue) ∷ [] = put ∙ ap (λ (qs : List Place). qs ++ (d, c.args.dialogue) ∷ []) same in
+    let ps : List Place = c.self.inside.table in
+    let new : c.insert.new.self ≡ ps ++ (d, c.args.dialogue) ∷ [] = search rules in
     let free : length (dialogues_of ps) < c.self.inside.limits.max_dialogues = rw (sym c.self.view_is) at (room-to-be-born c.args.self.now c.requires.free) in
     let many = length-map ps (λ (p : Place). p.1) in
     let next : c.args.dialogue.standing.identifier ≡ d = rw (sym c.self.view_is) at c.requires.next in
@@ -32,11 +27,8 @@ invariant_of-self-2 g c =
 pub returns-clause-ok : goal.returns-clause-ok
 returns-clause-ok g c =
     let d = c.self.inside.next_dialogue in
-    let ps : List Place = c.self.inside.table.entries in
-    let same : c.reserve.new.self.entries ≡ ps = c.reserve.ensures.entries in
-    let none : get nat_eq c.reserve.new.self d ≡ None = rw same (absent-drawn d ps c.self.invariant.drawn) in
-    let put : c.insert.new.self.entries ≡ c.reserve.new.self.entries ++ (d, c.args.dialogue) ∷ [] = search (rules, insert_entry-new nat_eq c.reserve.new.self d c.args.dialogue none) in
-    let new : dialogues_of c.insert.new.self.entries ≡ dialogues_of ps ++ c.args.dialogue ∷ [] =
-    ap dialogues_of (put ∙ ap (λ (qs : List Place). qs ++ (d, c.args.dialogue) ∷ []) same) ∙ dialogues-push ps (d, c.args.dialogue) in
+    let ps : List Place = c.self.inside.table in
+    let put : c.insert.new.self ≡ ps ++ (d, c.args.dialogue) ∷ [] = search rules in
+    let new : dialogues_of c.insert.new.self ≡ dialogues_of ps ++ c.args.dialogue ∷ [] = ap dialogues_of put ∙ dialogues-push ps (d, c.args.dialogue) in
     let whole : ℕ → List Dialogue → World = λ n ds. record { max_dialogues = c.self.inside.limits.max_dialogues; reject_ms = c.self.inside.limits.reject_ms; next_dialogue = n; next_number = c.self.inside.next_number; clock = c.self.inside.clock; dialogues = ds } in
-    ap (λ n. whole n (dialogues_of c.insert.new.self.entries)) c.next_identifier-following.ensures ∙ ap (whole (d + 1)) new ∙ ap (λ (w : World). with_born w c.args.dialogue) c.self.view_is
+    ap (λ n. whole n (dialogues_of c.insert.new.self)) c.next_identifier-following.ensures ∙ ap (whole (d + 1)) new ∙ ap (λ (w : World). with_born w c.args.dialogue) c.self.view_is

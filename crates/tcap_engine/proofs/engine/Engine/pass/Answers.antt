@@ -17,7 +17,7 @@ use Rattle.tcap_engine.proofs.engine.Engine.pass.Goals as goal
 pub returns-in_err-outputs-clause-moves : goal.returns-in_err-outputs-clause-moves
 returns-in_err-outputs-clause-moves g c =
     let now = c.args.now in
-    let ps : List Place = c.self.inside.table.entries in
+    let ps : List Place = c.self.inside.table in
     let refused = c.in_err-outputs.ensures.succeeds in
     let due : 0 < c.due_count-count.result = not-zero c.due_count-count.result (λ z. let no = refused z in absurd cc) in
     let many = length-all_told now (dialogues_of ps) in
@@ -30,7 +30,7 @@ returns-in_err-outputs-clause-moves g c =
 pub tell_due-requires-clause-room : goal.tell_due-requires-clause-room
 tell_due-requires-clause-room g c =
     let small = c.in_ok-outputs.outputs.small in
-    let many = length-all_told c.args.now (dialogues_of c.self.inside.table.entries) in
+    let many = length-all_told c.args.now (dialogues_of c.self.inside.table) in
     let count = c.due_count-count.ensures in
     let none = c.in_ok-outputs.ensures.len in
     let room = c.in_ok-outputs.ensures.exact in
@@ -38,15 +38,13 @@ tell_due-requires-clause-room g c =
 
 pub invariant_of-self : goal.invariant_of-self
 invariant_of-self g c =
-    let ps : List Place = c.self.inside.table.entries in
-    let table : c.free_due.new.table.entries ≡ map (place_at c.args.now) ps = c.free_due.ensures ∙ c.tell_due.ensures.rest in
-    rw table (sound-at c.args.now c.self.inside.limits c.self.inside.next_dialogue c.self.inside.next_number c.self.inside.clock ps c.requires.late c.self.invariant)
+    rw c.tell_due.ensures.table (sound-at c.args.now c.self.inside.limits c.self.inside.next_dialogue c.self.inside.next_number c.self.inside.clock c.self.inside.table c.requires.late c.self.invariant)
 
 pub returns-clause-moves : goal.returns-clause-moves
 returns-clause-moves g c =
     let now = c.args.now in
-    let ps : List Place = c.self.inside.table.entries in
-    let table : dialogues_of c.free_due.new.table.entries ≡ dialogues_of (map (place_at now) ps) = ap dialogues_of (c.free_due.ensures ∙ c.tell_due.ensures.rest) in
+    let ps : List Place = c.self.inside.table in
+    let table : dialogues_of c.tell_due.new.table ≡ dialogues_of (map (place_at now) ps) = ap dialogues_of c.tell_due.ensures.table in
     let empty : c.in_ok-outputs.outputs.items ≡ [] = search rules in
     let told : all_shown c.tell_due.new.outputs.items ≡ all_told now (dialogues_of ps) = c.tell_due.ensures.told ∙ ap (λ xs. all_shown xs ++ all_told now (dialogues_of ps)) empty in
     let whole : List Dialogue → World = λ ds. record { max_dialogues = c.self.inside.limits.max_dialogues; reject_ms = c.self.inside.limits.reject_ms; next_dialogue = c.self.inside.next_dialogue; next_number = c.self.inside.next_number; clock = now; dialogues = ds } in (

@@ -9,15 +9,15 @@ pub invariant_of-self : goal.invariant_of-self
 invariant_of-self g c =
     let s = c.self.inside in
     let m = message c.args.frame.now in
-    sound-reached s.limits s.next_dialogue s.next_number s.clock c.args.d s.table.entries c.self.invariant (DialogueEvent.frame m)
+    sound-reached s.limits s.next_dialogue s.next_number s.clock c.args.d s.table c.self.invariant (DialogueEvent.frame m)
     (λ x. table_move (at_clock s.clock) x (DialogueEvent.frame m)) (λ x. framed-alike s.clock s.next_number x m) (λ x h. kept-frame s.limits.reject_ms s.next_number s.clock x m h)
-    (λ os. all_shown os.items) c.take_in.result c.take_in.new.table.entries c.take_in.ensures
+    (λ os. all_shown os.items) c.take_in.result c.take_in.new.table c.take_in.ensures
 
 pub returns-clause-ok : goal.returns-clause-ok
 returns-clause-ok g c =
     let s = c.self.inside in
     let m = message c.args.frame.now in
     rw (← c.self.view_is)
-    (reached-if s.limits s.next_dialogue s.next_number s.clock c.args.d s.table.entries c.self.invariant (DialogueEvent.frame m)
+    (reached-if s.limits s.next_dialogue s.next_number s.clock c.args.d s.table c.self.invariant (DialogueEvent.frame m)
     (λ x. table_move (at_clock s.clock) x (DialogueEvent.frame m)) (λ x. framed-alike s.clock s.next_number x m) (λ x h. kept-frame s.limits.reject_ms s.next_number s.clock x m h)
-    (λ os. all_shown os.items) c.take_in.result c.take_in.new.table.entries c.take_in.ensures)
+    (λ os. all_shown os.items) c.take_in.result c.take_in.new.table c.take_in.ensures)

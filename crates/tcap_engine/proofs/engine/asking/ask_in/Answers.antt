@@ -1,46 +1,46 @@
-use Rattle.std.proofs.Common.{rules, ◌≡◌, nat_eq, List, Some, Err, true, false}
-use Rattle.std.specs.Map.{lookup, set_value, remove_entry}
+use Rattle.std.proofs.Common.{rules, ◌≡◌, nat_eq, List, Some, Err}
+use Rattle.std.specs.Map.{lookup}
 use Rattle.tcap_dialogue.specs.RequestViews.{request_view}
 use Rattle.tcap_dialogue.specs.StepViews.{Outcome, asked, outcome}
 use Rattle.tcap_model.specs.Table.TableMove.{DialogueEvent, table_move}
 use Rattle.tcap_dialogue.specs.FaultViews.{fault_view}
-use Rattle.tcap_engine.specs.Asking.{ends_dialogue}
 use Rattle.tcap_engine.specs.Table.{Place}
-use Rattle.tcap_engine.proofs.AskLemmas.{refused-placed, kept-placed, gone-placed}
-use Rattle.tcap_engine.proofs.engine.asking.ask_in.Goals.{then-ends_dialogue+in-Some-1, then-ends_dialogue+in-None-1, else-ends_dialogue}
+use Rattle.tcap_engine.proofs.AskLemmas.{refused-placed, settled-placed}
+use Rattle.tcap_engine.proofs.RefusedEngine.{refused-same}
+use Rattle.tcap_engine.proofs.TimedLemmas.{timed-still, timed-settled}
+use Rattle.timed_table.specs.Row.{entries_of}
 use Rattle.tcap_engine.proofs.engine.asking.ask_in.Goals as goal
+
+pub invariant_of-table-in_err-asked : goal.invariant_of-table-in_err-asked
+invariant_of-table-in_err-asked g c =
+    let old = c.in-Some.dialogue.now in
+    let new = c.ask_one.new.dialogue in
+    let found : lookup (nat_eq c.args.d) (entries_of c.table.inside.rows) ≡ Some old = search rules in
+    let same = refused-same (asked c.args.clock c.args.number) (request_view c.args.request.now) old new (fault_view c.in_err-asked.field-0.0) c.in_err-asked.ensures.answer in
+    rw (c.get_mut.follows.holds new).rows (timed-still c.args.d old new c.table.inside.rows found same c.table.invariant)
 
 pub returns-in_err-asked : goal.returns-in_err-asked
 returns-in_err-asked g c =
-    let ps : List Place = c.args.table.now.entries in
+    let ps : List Place = entries_of c.table.inside.rows in
     let old = c.in-Some.dialogue.now in
     let new = c.ask_one.new.dialogue in
     let found : lookup (nat_eq c.args.d) ps ≡ Some old = search rules in
-    let put : (c.get_mut.follows.lender new).entries ≡ set_value (nat_eq c.args.d) ps new = (c.get_mut.follows.holds new).0 in
     let o : Outcome = outcome (table_move (asked c.args.clock c.args.number) old (DialogueEvent.request (request_view c.args.request.now))) in
     let is : c.from_residual.result ≡ Err c.in_err-asked.field-0.0 = search rules in
-    rw (is, found, put) (refused-placed o old new c.args.d ps found (fault_view c.in_err-asked.field-0.0) c.in_err-asked.ensures.answer)
+    rw (← c.table.view_is, is, found, (c.get_mut.follows.holds new).entries) (refused-placed o old new c.args.d ps found (fault_view c.in_err-asked.field-0.0) c.in_err-asked.ensures.answer)
+
+pub invariant_of-table-2 : goal.invariant_of-table-2
+invariant_of-table-2 g c =
+    let new = c.ask_one.new.dialogue in
+    rw (c.settle.ensures.rows, (c.get_mut.follows.holds new).rows, c.next_timer-timer.ensures) (timed-settled c.ends_dialogue.result c.args.d new c.table.inside.rows c.table.invariant)
 
 pub returns : goal.returns
 returns g c =
-    let ps : List Place = c.args.table.now.entries in
+    let ps : List Place = entries_of c.table.inside.rows in
     let old = c.in-Some.dialogue.now in
     let new = c.ask_one.new.dialogue in
-    let a = c.in_ok-asked.asked in
     let found : lookup (nat_eq c.args.d) ps ≡ Some old = search rules in
-    let put : (c.get_mut.follows.lender new).entries ≡ set_value (nat_eq c.args.d) ps new = (c.get_mut.follows.holds new).0 in
     let o : Outcome = outcome (table_move (asked c.args.clock c.args.number) old (DialogueEvent.request (request_view c.args.request.now))) in
-    elim c.if-ends_dialogue.branch [
-      | then-ends_dialogue+in-Some-1 w ↦
-          let over : ends_dialogue a ≡ true = search rules in
-          let gone : c.if-ends_dialogue.table.entries ≡ remove_entry (nat_eq c.args.d) (set_value (nat_eq c.args.d) ps new) = search (rules, put) in
-          rw (found, gone) (gone-placed new c.args.d ps a o c.in_ok-asked.ensures.answer over)
-      | then-ends_dialogue+in-None-1 w ↦
-          let over : ends_dialogue a ≡ true = search rules in
-          let gone : c.if-ends_dialogue.table.entries ≡ remove_entry (nat_eq c.args.d) (set_value (nat_eq c.args.d) ps new) = search (rules, put) in
-          rw (found, gone) (gone-placed new c.args.d ps a o c.in_ok-asked.ensures.answer over)
-      | else-ends_dialogue w ↦
-          let stays : ends_dialogue a ≡ false = search rules in
-          let kept : c.if-ends_dialogue.table.entries ≡ set_value (nat_eq c.args.d) ps new = search (rules, put) in
-          rw (found, kept) (kept-placed new c.args.d ps a o c.in_ok-asked.ensures.answer stays)
-    ]
+    rw (← c.table.view_is, found)
+    (settled-placed new c.args.d ps c.ends_dialogue.result c.in_ok-asked.asked o (entries_of c.settle.new.rows) c.in_ok-asked.ensures.answer c.ends_dialogue.ensures
+    (rw (c.get_mut.follows.holds new).entries at c.settle.ensures.entries))

@@ -1,0 +1,22 @@
+use Rattle.std.proofs.Common.{rules, ◌≡◌, ◌≢◌, Some, to_z, of_z}
+use Rattle.std.proofs.lemmas.Int.{to_z-of_z}
+use Rattle.std.specs.Prelude.{IfSome}
+use Rattle.std.specs.Int.{w8}
+use Rattle.tcap_invocation.specs.Lapses.{first_due_at}
+use Rattle.tcap_engine.proofs.PassedLemmas.{freed-passed, lapse-passed}
+use Rattle.tcap_engine.proofs.engine.moment.pass_in.Goals as goal
+
+pub returns-in-Some : goal.returns-in-Some
+returns-in-Some g c =
+    let old = c.args.dialogue.now in
+    let l = c.in-Some.lapse in
+    let first : first_due_at c.args.now old.invocations.rows ≡ Some l = search rules in
+    let at : l.deadline ≡ c.args.time = search rules in
+    let same : to_z w8 (of_z w8 l.id) ≡ l.id = to_z-of_z w8 l.id (search rules) in
+    lapse-passed c.args.now c.args.time old c.lapse_one.new.self l first at (rw same at c.lapse_one.ensures.dialogue) (rw same at c.lapse_one.ensures.first) c.lapse_one.ensures.rest
+
+pub returns-in-None : goal.returns-in-None
+returns-in-None g c =
+    let old = c.args.dialogue.now in
+    let never : IfSome (first_due_at c.args.now old.invocations.rows) (λ l. l.deadline ≢ c.args.time) = search rules in
+    freed-passed c.args.now c.args.time old c.free_due.new.self c.requires.timer c.requires.reached never c.free_due.ensures

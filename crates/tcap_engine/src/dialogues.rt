@@ -1,0 +1,115 @@
+//! The dialogues that stand, and of each the moment at which time next changes it.
+
+ghost use Rattle.std.specs.Prelude.{◌≡◌, ◌-◌, ◌++◌, ◌∷◌, ◌^◌, [], nat_eq, length, min, option_copied, OnErr, OnOk, MatchOption, if◌then◌else◌};
+ghost use Rattle.std.specs.Map.{lookup, remove_entry};
+ghost use Rattle.tcap_engine.specs.Lapsing.{AreIdle, IsFirstTimer};
+ghost use Rattle.tcap_engine.specs.Table.{AreDrawn, dialogues_of};
+ghost use Rattle.tcap_model.specs.Table.DueLapses.{all_due};
+ghost use Rattle.timed_table.specs.Row.{entries_of, with_time, without};
+
+use ber_core::OutOfMemory;
+use std::alloc::{Allocator, Global};
+use std::marker::Model;
+use tcap_dialogue::Dialogue;
+use timed_table::Table;
+
+/// The dialogues by their identifiers, in order of birth; beside each its next timer.
+///
+/// A contract sees the identifiers and their dialogues, and forgets the timers, which follow from them.
+#[derive(Debug, Drop)]
+pub(crate) struct Dialogues<A: Allocator + Copy = Global> {
+    pub(crate) rows: Table<Dialogue<A>, A>,
+}
+
+impl<A: Allocator + Copy> Model for Dialogues<A> {
+    ghost use Rattle.std.specs.Prelude.{List};
+    ghost use Rattle.tcap_engine.specs.Table.{Place};
+    ghost use Rattle.tcap_engine.specs.Timed.{AreTimed};
+    ghost use Rattle.timed_table.specs.Row.{entries_of};
+
+    ghost Value = { List Place };
+
+    ghost view = { λ t. entries_of t.rows };
+
+    ghost invariant = { λ t. AreTimed t.rows };
+}
+
+impl<A: Allocator + Copy> Dialogues<A> {
+    /// No dialogues; takes no memory.
+    pub(crate) fn new(alloc: A) -> Self
+        ensures { result ≡ [] }
+    {
+        Dialogues {
+            rows: Table::new(alloc),
+        }
+    }
+
+    /// What finds the memory for the dialogues.
+    pub(crate) fn allocator(&self) -> A {
+        *self.rows.allocator()
+    }
+
+    /// How many dialogues stand.
+    pub(crate) fn len(&self) -> usize
+        ensures { result ≡ length self.now }
+    {
+        self.rows.len()
+    }
+
+    /// The dialogue with an identifier, if it stands.
+    pub(crate) fn get(&self, d: u32) -> Option<&Dialogue<A>>
+        ensures { option_copied result ≡ lookup (nat_eq d) self.now }
+    {
+        self.rows.get(d)
+    }
+
+    /// Takes in a dialogue under an identifier above all others. All memory that its place will need is taken
+    /// here.
+    pub(crate) fn insert(&mut self, d: u32, dialogue: Dialogue<A>) -> Result<(), OutOfMemory>
+        requires { AreDrawn d self.old }
+        ensures ok { OnOk result (self.new ≡ self.old ++ (d, dialogue) ∷ []) }
+        ensures err { OnErr result (self.new ≡ self.old) }
+    {
+        let timer = dialogue.next_timer();
+        match self.rows.insert(d, dialogue, timer) {
+            Ok(()) => Ok(()),
+            Err(_) => Err(OutOfMemory),
+        }
+    }
+
+    /// The least timer of all, and of the dialogues that share it the least identifier.
+    pub(crate) fn first_timer(&self) -> Option<(u64, u32)>
+        ensures { MatchOption result (AreIdle self.now) (IsFirstTimer self.now) }
+    {
+        self.rows.first()
+    }
+
+    /// How many invocations lapse at a moment, as far as a `usize` can tell.
+    pub(crate) fn due_count(&self, now: u64) -> usize
+        ensures { result ≡ min (length (all_due now (dialogues_of self.now))) (2 ^ 64 - 1) }
+    {
+        let mut count: usize = 0;
+        for dialogue in self.rows.due(now) {
+            count = count.saturating_add(dialogue.due_count(now));
+        }
+        count
+    }
+}
+
+/// After the dialogue of an identifier was written: it is taken out where it is over; else this is its next
+/// timer.
+pub(crate) fn settle<A: Allocator + Copy>(
+    rows: &mut Table<Dialogue<A>, A>,
+    d: u32,
+    is_over: bool,
+    timer: Option<u64>,
+)
+    ensures rows { rows.new ≡ (if is_over then without d rows.old else with_time d timer rows.old) }
+    ensures entries { entries_of rows.new ≡ (if is_over then remove_entry (nat_eq d) (entries_of rows.old) else entries_of rows.old) }
+{
+    if is_over {
+        rows.remove(d);
+    } else {
+        rows.set_time(d, timer);
+    }
+}
