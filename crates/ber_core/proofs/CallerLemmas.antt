@@ -5,6 +5,7 @@ pub use Rattle.ber_core.proofs.HeadGrammar.{HeadRead, SpellsLength, SpellsHead, 
 pub use Rattle.ber_core.proofs.HeadAgreement.{begins, begins_again}
 pub use Rattle.ber_core.proofs.ElementGrammar.{element_takes, element_again, IsElement-longer}
 pub use Rattle.ber_core.proofs.ItemSteps.{items_of-empty, items_of-none, items_of-next, items_of-fault, items_of-list}
+pub use Rattle.ber_core.proofs.PlainElement.{tagged_one}
 pub use Rattle.ber_core.proofs.SequenceGrammar.{Apart, is_tag-one, is_tag-is, list_from, content_at-is, may_takes, filled_takes, must_takes, any_takes, end_takes, may_again, must_again, filled_again, any_again, end_again, must-longer, other_first}
 pub use Rattle.ber_core.proofs.AloneGrammar.{only_takes, only_again, alone_takes, alone_again, list_takes, list_again}
 pub use Rattle.ber_core.proofs.ObjectIdentifierGrammar.{object_identifier_takes, object_identifier_again}
@@ -12,6 +13,6 @@ pub use Rattle.ber_core.proofs.WrittenGrammar.{length_is, part_is, fields_spelle
 pub use Rattle.ber_core.proofs.LengthOfWritten.{element_length-least, element_length-most, length-written}
 pub use Rattle.ber_core.proofs.IntegerGrammar.{integer_takes, integer_again, integer-octets, integer_spelled, integer-fits}
 pub use Rattle.ber_core.proofs.IntegerOctets.{octet_of-signed_octet, signed_octet-octet_of, octet_of-below, signed_octet-fits, cast_signed-is, cast_unsigned-is}
-pub use Rattle.ber_core.proofs.WaySteps.{goes-all, goes-then, inside-goes, inside-goes-any, way-one, way-one-any, way-in, way-any, element-inside, head_length-whole}
+pub use Rattle.ber_core.proofs.WaySteps.{goes-all, goes-then, goes-past, inside-goes, inside-goes-any, way-one, way-one-any, way-in, way-any, element-inside, head_length-whole}
 pub use Rattle.ber_core.proofs.ElementsRoad.{elements-yield}
 pub use Rattle.ber_core.proofs.CutGrammar.{cut-longer}

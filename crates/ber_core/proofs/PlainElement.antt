@@ -1,10 +1,11 @@
 -- An element with a tag and a length of one octet each, read at once.
-use Rattle.std.proofs.Common.{◌≡◌, ◌≢◌, ℕ, ◌+◌, ◌-◌, ◌<◌, ◌≤◌, false, eqb, bit_and, List, [], ◌∷◌, length, get_or, take, drop, Some, Ok, refl, subst, ◌∙◌, arith}
+use Rattle.std.proofs.Common.{◌≡◌, ◌≢◌, ℕ, ◌+◌, ◌-◌, ◌<◌, ◌≤◌, false, eqb, bit_and, List, [], ◌∷◌, length, get_or, take, drop, Some, Ok, refl, subst, ◌∙◌, arith, eq-eqb}
 use Rattle.std.proofs.lemmas.Bool.{lt-ltb, ne_eqb}
 use Rattle.std.proofs.lemmas.List.{length-drop, take_all}
 use Rattle.ber_core.specs.Tag.{is_constructor}
 use Rattle.ber_core.specs.HeadReading.{tag_at, length_at, head_at}
 use Rattle.ber_core.specs.ElementReading.{parts_of, element_at}
+use Rattle.ber_core.specs.SequenceReading.{tagged}
 use Rattle.ber_core.proofs.Contents.{after_at-body, body_at-definite}
 
 module _ (first len : ℕ) (body : List ℕ) (nonzero : first ≢ 0) (low : eqb (bit_and first 31) 31 ≡ false) (short : len < 128) (within : len ≤ length body) where
@@ -29,3 +30,14 @@ body_is bytes = take_all _ (drop 2 bytes) (omega (arith, length-drop 2 bytes))
 pub plain_in : (bytes body tag content whole rest : List ℕ) → body ≡ drop 2 bytes → 2 ≤ length bytes → get_or bytes 0 0 ≢ 0 → eqb (bit_and (get_or bytes 0 0) 31) 31 ≡ false → get_or bytes 1 0 < 128 → get_or bytes 1 0 ≤ length body → tag ≡ take 1 bytes → content ≡ take (get_or bytes 1 0) body → rest ≡ drop (get_or bytes 1 0) body → whole ≡ take (2 + get_or bytes 1 0) bytes → element_at 32 bytes ≡ Ok (record { tag = tag; content = content; whole = whole }, rest)
 plain_in bytes body tag content whole rest is two nonzero low short within t c r w =
     plain_read bytes tag content whole rest two nonzero low short (subst (λ (x : List ℕ). get_or bytes 1 0 ≤ length x) is within) t (subst (λ (x : List ℕ). content ≡ take (get_or bytes 1 0) x) is c) (subst (λ (x : List ℕ). rest ≡ drop (get_or bytes 1 0) x) is r) w
+
+tagged_octet : (tag octet : ℕ) (rest : List ℕ) → tag ≢ 0 → eqb (bit_and tag 31) 31 ≡ false → tagged tag (tag ∷ 1 ∷ octet ∷ rest) ≡ (Some (octet ∷ []), rest)
+unfolding tagged
+tagged_octet tag octet rest nonzero low =
+    rw (plain tag 1 (octet ∷ rest) nonzero low (omega arith) (omega arith), eq-eqb tag tag refl) refl
+
+pub tagged_one : (tag : ℕ) (bytes rest : List ℕ) → tag ≢ 0 → eqb (bit_and tag 31) 31 ≡ false → 3 ≤ length bytes → get_or bytes 0 0 ≡ tag → get_or bytes 1 0 ≡ 1 → rest ≡ drop 3 bytes → tagged tag bytes ≡ (Some (get_or bytes 2 0 ∷ []), rest)
+tagged_one tag [] rest nonzero low three first one r = absurd (omega arith)
+tagged_one tag (a ∷ []) rest nonzero low three first one r = absurd (omega arith)
+tagged_one tag (a ∷ b ∷ []) rest nonzero low three first one r = absurd (omega arith)
+tagged_one tag (a ∷ b ∷ octet ∷ more) rest nonzero low three first one r = rw (r, first, one) (tagged_octet tag octet more nonzero low)

@@ -67,6 +67,12 @@ is_component e f c t h =
     let same : component_tag c ≡ form_tag f = tag_is (component_tag c) (form_tag f) (component_tag c ∷ []) refl (form_takes (component_tag c ∷ []) f (form_again c ∙ ap (λ (g : Form). some g) s.has_form)) in
     record { inner = s.inner; is_tag = form_takes e.tag f t ∙ ap (λ (n : ℕ). n ∷ []) (sym same); in_sequence = s.in_sequence; holds_body = s.holds_body; in_range = s.in_range }
 
+-- contents that are read are a list of elements, and so those of a 30 in them
+pub verdict_read : (tag content : List ℕ) (f : Form) (c : ComponentParts) → form_at tag ≡ Some f → contents_at f content ≡ Some c → verdict_by (form_at tag) content ≡ Ok c
+verdict_read tag content f c t h =
+    let e : Parts = record { tag = tag; content = content; whole = [] } in
+    rw (t, structured_again e f t (component-structured c e (is_component e f c t h)), h) refl
+
 has_tag : (e : Parts) (f : Form) → form_at e.tag ≡ Some f → HasComponentTag e
 has_tag e f t = let s = sample f in (s.0, form_takes e.tag f t ∙ ap (λ (n : ℕ). n ∷ []) (sym s.1))
 

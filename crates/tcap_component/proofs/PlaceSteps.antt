@@ -1,12 +1,13 @@
 -- Steps to the place of a component's slices.
-use Rattle.std.proofs.Common.{◌≡◌, ℕ, List, [], ◌∷◌, ◌++◌, length, Option, Some, None, Ok, sym, ap, subst, ◌∙◌, arith, inl, inr, length-append}
+use Rattle.std.proofs.Common.{◌≡◌, ℕ, List, [], ◌∷◌, ◌++◌, length, Option, Some, None, Ok, sym, ap, subst, ◌∙◌, arith, refl, inl, inr, length-append, eqb, false, take, drop, ◌-◌}
+use Rattle.std.proofs.lemmas.List.{length-drop, take_all}
 use Rattle.std.specs.Prelude.{IfSome, option_copied}
 use Rattle.ber_core.specs.Element.{Parts}
 use Rattle.ber_core.specs.ElementReading.{element_at}
 use Rattle.ber_core.specs.Place.{Slice, AtFront, AtEnd}
-use Rattle.ber_core.specs.SequenceReading.{first_whole}
+use Rattle.ber_core.specs.SequenceReading.{tagged, first_whole}
 use Rattle.ber_core.specs.Way.{inside, way_to, IsInside, GoesOn, IsOnWay}
-use Rattle.ber_core.proofs.CallerLemmas.{by_result, element_takes, way-in, some, some_is}
+use Rattle.ber_core.proofs.CallerLemmas.{by_result, element_takes, goes-past, way-in, some, some_is}
 use Rattle.tcap_component.specs.declared.component.Code.{Code}
 use Rattle.tcap_component.specs.declared.component.Code.TheVariants as code
 use Rattle.tcap_component.specs.declared.component.Body.{Body}
@@ -16,6 +17,15 @@ use Rattle.tcap_component.specs.Component.{ComponentParts, component_tag}
 use Rattle.tcap_component.specs.ComponentReading.{form_at, verdict_by}
 use Rattle.tcap_component.specs.Place.{content_on, EndsOnWay, CodeOnWay, CodedOnWay, BodyOnWay, FieldsOnWay}
 use Rattle.tcap_component.proofs.ComponentGrammar.{Verdict, element_judged}
+
+-- ---- behind an element with one octet of content
+
+pub rest_is : (bytes : List ℕ) → take (length bytes - 3) (drop 3 bytes) ≡ drop 3 bytes
+rest_is bytes = take_all _ (drop 3 bytes) (omega (arith, length-drop 3 bytes))
+
+pub octet-goes : (other : ℕ) (rest bytes : Slice) (octet : ℕ) → tagged 2 bytes.now ≡ (Some (octet ∷ []), rest.now) → AtEnd rest bytes → eqb 2 other ≡ false → GoesOn other rest bytes
+octet-goes other rest bytes octet is at ne =
+    goes-past other 2 rest bytes (tagged 2 bytes.now).0 ne refl (ap (λ (p : Option (List ℕ) × List ℕ). p.1) is) at
 
 -- ---- from what is left to all bytes
 

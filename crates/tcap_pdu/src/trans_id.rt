@@ -53,6 +53,11 @@ impl TransId {
         // The same, computed.
         ensures exact { result ≡ id_of octets.now }
     {
+        if let [a, b, c, d] = octets {
+            return Some(TransId {
+                octets: ArrayVec::from([*a, *b, *c, *d]),
+            });
+        }
         let held = ArrayVec::try_from(octets).ok()?;
         if held.is_empty() {
             return None;

@@ -1,10 +1,10 @@
 //! The parts of components, each by its line of the table in Q.773.
 
-ghost use Rattle.std.specs.Prelude.{◌≡◌, [], ◌∷◌, option_copied, IfSome};
+ghost use Rattle.std.specs.Prelude.{◌≡◌, ◌==◌, ℕ, [], ◌∷◌, false, Some, option_copied, IfSome};
 ghost use Rattle.std.specs.Option.{option_map};
 ghost use Rattle.ber_core.specs.Options.{◌>>=◌ as bound};
 ghost use Rattle.ber_core.specs.Place.{AtEnd};
-ghost use Rattle.ber_core.specs.SequenceReading.{content_at};
+ghost use Rattle.ber_core.specs.SequenceReading.{tagged, content_at};
 ghost use Rattle.ber_core.specs.Way.{GoesOn};
 ghost use Rattle.tcap_component.specs.Place.{CodeOnWay, CodedOnWay, BodyOnWay};
 ghost use Rattle.tcap_component.specs.Problem.{problem_tag};
@@ -28,14 +28,33 @@ pub fn identifier(content: &[u8]) -> Option<i8>
     }
 }
 
+/// The one octet of the content, where the bytes begin with 02 01, and what follows it: most
+/// identifiers and codes are such.
+#[inline(always)]
+fn take_octet(bytes: &[u8]) -> Option<(u8, &[u8])>
+    ensures value { IfSome result (λ r. tagged 0x02 bytes.now ≡ (Some (r.0 ∷ []), r.1.now)) }
+    ensures place { IfSome result (λ r. AtEnd r.1 bytes.entry) }
+    ensures goes_on { (other : ℕ) → (0x02 == other) ≡ false → IfSome result (λ r. GoesOn other r.1 bytes.entry) }
+{
+    match bytes {
+        [first, length, octet, rest @ ..] if *first == tag::INTEGER && *length == 1 => {
+            Some((*octet, rest))
+        }
+        _ => None,
+    }
+}
+
 /// 02 identifier, and what follows it.
-#[tactic(auto, unfolding(crate::specs::ComponentReading::identifier_at))]
+#[tactic(auto, unfolding(crate::specs::ComponentReading::identifier_at, crate::specs::ComponentReading::identifier_of))]
 #[inline(always)]
 pub fn take_identifier(bytes: &[u8]) -> Option<(i8, &[u8])>
     ensures value { option_map (λ r. (r.0, r.1.now)) result ≡ identifier_at bytes.now }
     ensures code { IfSome result (λ r. GoesOn 0x06 r.1 bytes.entry) }
     ensures body { IfSome result (λ r. GoesOn 0x30 r.1 bytes.entry) }
 {
+    if let Some((octet, rest)) = take_octet(bytes) {
+        return Some((octet.cast_signed(), rest));
+    }
     let (content, rest) = take_content(bytes, tag::INTEGER)?;
     let id = identifier(content)?;
     Some((id, rest))
@@ -71,12 +90,15 @@ fn take_global<'a>(bytes: &'a [u8]) -> Option<(Code<'a>, &'a [u8])>
 }
 
 /// A code: 02 integer or 06 object identifier, and what follows it.
-#[tactic(auto, unfolding(crate::specs::ComponentReading::code_at))]
+#[tactic(auto, unfolding(crate::specs::ComponentReading::code_at, ber_core::specs::Integer::integer_at, ber_core::specs::Integer::signed_after))]
 #[inline(always)]
 fn take_code<'a>(bytes: &'a [u8]) -> Option<(Code<'a>, &'a [u8])>
     ensures value { option_map (λ r. (code_parts r.0, r.1.now)) result ≡ code_at bytes.now }
     ensures place { IfSome result (λ r. CodeOnWay [] r.0 bytes.entry × AtEnd r.1 bytes.entry) }
 {
+    if let Some((octet, rest)) = take_octet(bytes) {
+        return Some((Code::Local(i32::from(octet.cast_signed())), rest));
+    }
     if let (Some(content), rest) = take_tagged(bytes, tag::INTEGER) {
         let number = read_int(content)?;
         return Some((Code::Local(number), rest));

@@ -1,6 +1,6 @@
 //! Components read, each by its line of the table in Q.773, and the faults.
 
-ghost use Rattle.std.specs.Prelude.{◌≡◌, ℕ, List, [], ◌++◌, IfSome, IfOk, IfErr, IsOkAnd};
+ghost use Rattle.std.specs.Prelude.{◌≡◌, ℕ, List, [], ◌++◌, IfSome, IfOk, IfErr, IsOkAnd, if◌then◌else◌};
 ghost use Rattle.std.specs.Option.{option_map};
 ghost use Rattle.ber_core.specs.Results.{Gives};
 ghost use Rattle.ber_core.specs.Place.{AtEnd};
@@ -148,7 +148,20 @@ fn structured(form: Form, content: &[u8]) -> bool
     }
 }
 
-/// The component that an element is, or the code of the general problem.
+/// The code of the general problem of contents that no component of this form has.
+#[inline(never)]
+fn code_of_unread(form: Form, content: &[u8]) -> u8
+    ensures { result ≡ (if is_structured form content.now then 1 else 2) }
+{
+    if structured(form, content) {
+        MISTYPED_COMPONENT
+    } else {
+        BADLY_STRUCTURED_COMPONENT
+    }
+}
+
+/// The component that an element is, or the code of the general problem. What is read whole is a list of
+/// elements, so only what is not is looked through for that.
 #[inline(always)]
 fn judge<'a>(octets: &[u8], content: &'a [u8]) -> Result<Component<'a>, u8>
     ensures value { Gives component_parts result (verdict_by (form_at octets.now) content.now) }
@@ -158,12 +171,9 @@ fn judge<'a>(octets: &[u8], content: &'a [u8]) -> Result<Component<'a>, u8>
     let Some(form) = form_of(octets) else {
         return Err(UNRECOGNIZED_COMPONENT);
     };
-    if !structured(form, content) {
-        return Err(BADLY_STRUCTURED_COMPONENT);
-    }
     match read_contents(form, content) {
         Some(component) => Ok(component),
-        None => Err(MISTYPED_COMPONENT),
+        None => Err(code_of_unread(form, content)),
     }
 }
 

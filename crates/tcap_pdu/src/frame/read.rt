@@ -1,4 +1,6 @@
-ghost use Rattle.std.specs.Prelude.{◌≡◌, ◌==◌, ℕ, false, None, IfOk, IfErr, IfSome, IsOkAnd, option_map};
+ghost use Rattle.std.specs.Prelude.{◌≡◌, ◌==◌, ℕ, false, None, IfOk, IfErr, IfSome, IsOkAnd, is_ok, ok_or, option_map, if◌then◌else◌};
+ghost use Rattle.std.specs.List.{list_all};
+ghost use Rattle.ber_core.specs.ListReading.{items_of};
 ghost use Rattle.ber_core.specs.Results.{Gives};
 ghost use Rattle.tcap_pdu.specs.FrameSpelling.{Message, SpellsFrame};
 ghost use Rattle.tcap_pdu.specs.FrameFaults.{IsFrameFault};
@@ -188,18 +190,46 @@ fn read_abort<'a>(content: &'a [u8]) -> Option<Frame<'a>>
     Some(Frame::Abort { dtid, reason })
 }
 
-/// The message of this type that a content is.
+/// The fault of contents that no message of a type has.
+#[inline(never)]
+fn fault_of_unread(content: &[u8]) -> FrameFault
+    ensures { result ≡ (if list_all is_ok (items_of content.now) then FrameFault.Incorrect else FrameFault.BadlyFormatted) }
+{
+    if is_element_list(content) {
+        FrameFault::Incorrect
+    } else {
+        FrameFault::BadlyFormatted
+    }
+}
+
+/// The message that was read of contents, or the fault. What is read whole is a list of elements, so only
+/// what is not is looked through for that.
 #[inline(always)]
-fn read_content<'a>(kind: MessageType, content: &'a [u8]) -> Option<Frame<'a>>
-    ensures value { option_map message result ≡ message_at kind content.now }
-    ensures place { IfSome result (λ frame. FrameIn frame content.entry) }
+fn or_fault<'a>(read: Option<Frame<'a>>, content: &'a [u8]) -> Result<Frame<'a>, FrameFault>
+    ensures value { Gives message result (ok_or (option_map message read.entry)
+        (if list_all is_ok (items_of content.now) then FrameFault.Incorrect else FrameFault.BadlyFormatted)) }
+    ensures place { IfSome read.entry (λ frame. FrameIn frame content.entry) → IfOk result (λ frame. FrameIn frame content.entry) }
+{
+    match read {
+        Some(frame) => Ok(frame),
+        None => Err(fault_of_unread(content)),
+    }
+}
+
+/// The message of this type that a content is, or the fault. Each type gives its own result, so that a
+/// message is not moved once more.
+#[inline(always)]
+fn read_content<'a>(kind: MessageType, content: &'a [u8]) -> Result<Frame<'a>, FrameFault>
+    ensures value { Gives message result (ok_or (message_at kind content.now)
+        (if list_all is_ok (items_of content.now) then FrameFault.Incorrect else FrameFault.BadlyFormatted)) }
+    ensures place { IfOk result (λ frame. FrameIn frame content.entry) }
 {
     match kind {
-        MessageType::Uni => read_unidirectional(content),
-        MessageType::Begin => read_begin(content),
-        MessageType::End => read_end(content),
-        MessageType::Continue => read_continue(content),
-        MessageType::Abort => read_abort(content),
+        MessageType::Uni => or_fault(read_unidirectional(content), content),
+        MessageType::Begin => or_fault(read_begin(content), content),
+        MessageType::End => or_fault(read_end(content), content),
+        MessageType::Continue => or_fault(read_continue(content), content),
+        MessageType::Abort => or_fault(read_abort(content), content),
     }
 }
 
@@ -216,10 +246,7 @@ fn split_frame<'a>(bytes: &'a [u8]) -> Result<Frame<'a>, FrameFault>
     let Some(kind) = message_type(element.tag) else {
         return Err(FrameFault::Unknown);
     };
-    if !is_element_list(element.content) {
-        return Err(FrameFault::BadlyFormatted);
-    }
-    read_content(kind, element.content).ok_or(FrameFault::Incorrect)
+    read_content(kind, element.content)
 }
 
 /// Reads the message that the bytes are, all of them, of any length. It takes no memory: the slices
