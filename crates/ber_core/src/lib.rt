@@ -33,6 +33,3 @@ pub use scan::MAX_DEPTH;
 pub use sequence::{read_alone, take_any, take_content, take_only, take_tagged};
 pub use write::{write_element, write_head};
 pub use written_len::element_len;
-
-#[cfg(test)]
-mod tests;

@@ -21,6 +21,3 @@ pub use fault::{ComponentFault, WriteFault};
 pub use problem::{
     Kind, Problem, general_problem, invoke_problem, return_error_problem, return_result_problem,
 };
-
-#[cfg(test)]
-mod tests;

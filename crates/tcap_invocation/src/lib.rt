@@ -17,6 +17,3 @@ pub use invocations::Invocations;
 pub use invocations::answers::Verdict;
 pub use invocations::lapse::Lapse;
 pub use stage::{MAX_MOMENT, Stage};
-
-#[cfg(test)]
-mod tests;

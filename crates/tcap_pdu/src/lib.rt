@@ -18,6 +18,3 @@ pub use dialogue_pdu::{
 pub use fault::{DialogueFault, FrameFault, PduFault};
 pub use frame::{AbortPart, Frame, MAX_MESSAGE, frame_fits, front_ids, read_frame, write_frame};
 pub use trans_id::TransId;
-
-#[cfg(test)]
-mod tests;

@@ -1,6 +1,6 @@
 ghost use Rattle.std.specs.Prelude.{◌≤◌, length};
 
-use crate::{
+use ber_core::{
     BerFault, Elements, Feed, FeedFault, MAX_DEPTH, OutOfMemory, is_element_list, is_oid,
     read_alone, read_element, read_head, take_any, take_content, take_only, take_tagged,
     write_element, write_head,

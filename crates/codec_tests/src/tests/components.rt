@@ -1,9 +1,9 @@
-use crate::{
+use std::alloc::Global;
+use std::test::Fail;
+use tcap_component::{
     Body, Code, Component, ComponentFault, Components, Kind, Problem, WriteFault, component_fault,
     component_len, read_component, write_component,
 };
-use std::alloc::Global;
-use std::test::Fail;
 
 /// The general fault with this code, of octets that don't begin as a Reject.
 fn general(code: u8, id: Option<i8>) -> Option<ComponentFault> {

@@ -1,11 +1,11 @@
 ghost use Rattle.tcap_pdu.specs.DialogueViews.{pdu_value};
 ghost use Rattle.tcap_pdu.specs.DialogueWritten.{HasDiagnostic};
 
-use crate::DialoguePdu::{Aare, Aarq, Abrt, Audt, Foreign};
-use crate::dialogue_tag::{NO_COMMON_DIALOGUE_PORTION, NULL};
-use crate::{Diagnostic, DialoguePdu, PduFault, dialogue_len, read_dialogue, write_dialogue};
 use std::alloc::Global;
 use std::test::Fail;
+use tcap_pdu::DialoguePdu::{Aare, Aarq, Abrt, Audt, Foreign};
+use tcap_pdu::dialogue_tag::{NO_COMMON_DIALOGUE_PORTION, NULL};
+use tcap_pdu::{Diagnostic, DialoguePdu, PduFault, dialogue_len, read_dialogue, write_dialogue};
 
 /// An application context name.
 const CTX: &[u8] = &[0x04, 0x00, 0x00, 0x01, 0x00, 0x01, 0x03];

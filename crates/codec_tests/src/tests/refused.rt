@@ -1,9 +1,9 @@
 //! Each growth refused in turn, and calls that take no memory.
-use super::add;
-use crate::invocations::Invocations;
+use super::invocations::add;
 use refusing::Refusing;
 use std::alloc::{Allocator, Global};
 use std::test::Fail;
+use tcap_invocation::{AddFault, Invocations};
 
 /// A call that takes memory.
 #[derive(Clone, Copy, Debug)]
@@ -89,18 +89,8 @@ fn nothing_told_takes_no_memory(rt: HostRuntime) -> Result<(), Fail> {
         list.on_error(id, 2);
     }
     heap.refuse(1);
-    assert!(rt;
-        matches!(
-            add(&mut list, 3, 200, 0),
-            Some(Err(crate::fault::AddFault::BadTimeout))
-        )
-    );
-    assert!(rt;
-        matches!(
-            add(&mut list, 3, 200, 5),
-            Some(Err(crate::fault::AddFault::InUse))
-        )
-    );
+    assert!(rt; matches!(add(&mut list, 3, 200, 0), Some(Err(AddFault::BadTimeout))));
+    assert!(rt; matches!(add(&mut list, 3, 200, 5), Some(Err(AddFault::InUse))));
     assert_eq!(rt; told_count(&mut list, Call::Lapse), Some(0));
     assert_eq!(rt; told_count(&mut list, Call::CloseAll), Some(0));
     assert!(rt; heap.is_armed() && !list.in_use(2));

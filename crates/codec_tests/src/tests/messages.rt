@@ -1,6 +1,6 @@
-use crate::{AbortPart, Frame, FrameFault, TransId, front_ids, read_frame, write_frame};
 use std::alloc::Global;
 use std::test::Fail;
+use tcap_pdu::{AbortPart, Frame, FrameFault, TransId, front_ids, read_frame, write_frame};
 
 #[test]
 fn identifiers(rt: HostRuntime) -> Result<(), Fail> {

@@ -1,6 +1,6 @@
-use crate::{Frame, FrameFault, PduFault, TransId, frame_fits, read_frame, write_frame};
 use std::alloc::{AllocError, Global};
 use std::test::Fail;
+use tcap_pdu::{Frame, FrameFault, PduFault, TransId, frame_fits, read_frame, write_frame};
 
 /// A Begin of indefinite length, its dialogue portion too, and in it so many indefinite elements, one
 /// in another.

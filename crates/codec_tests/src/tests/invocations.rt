@@ -1,16 +1,10 @@
 //! What no clause says: that memory is found where there is enough, and what a refused growth leaves.
-use crate::class::Class;
-use crate::fault::AddFault;
-use crate::invocations::Invocations;
-use crate::invocations::lapse::Lapse;
 use std::alloc::Allocator;
 use std::test::Fail;
-
-mod examples;
-mod refused;
+use tcap_invocation::{AddFault, Class, Invocations, Lapse};
 
 /// An invocation of class 1 is taken in, where its number is above all.
-fn add<A: Allocator + Copy>(
+pub(super) fn add<A: Allocator + Copy>(
     list: &mut Invocations<A>,
     id: i8,
     number: u64,

@@ -1,0 +1,11 @@
+//! What no clause of the four crates says, run; and worked examples, computed by the definitions.
+
+mod components;
+mod dialogues;
+mod elements;
+mod examples;
+mod integers;
+mod invocations;
+mod messages;
+mod portions;
+mod refused;

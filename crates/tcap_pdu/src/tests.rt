@@ -1,3 +1,0 @@
-mod dialogues;
-mod messages;
-mod portions;
