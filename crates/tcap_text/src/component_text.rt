@@ -1,11 +1,27 @@
 ghost use Rattle.std.specs.Prelude.{◌≡◌, ◌++◌, OnOk, IfOk, string_bytes, option_copied, option_map};
 ghost use Rattle.tcap_component.specs.Views.{code_parts, body_parts, problem_parts, fault_parts, component_parts};
+ghost use Rattle.tcap_component.specs.Component.CodeParts.{global};
+ghost use Rattle.tcap_component.specs.Component.ComponentParts.{invoke};
 ghost use Rattle.tcap_text.specs.ComponentText.{identifier_words, code_words, coded_words, body_words, kind_words, problem_words, component_words, fault_words};
 
-use crate::text::optional_octets_or_dash;
+use crate::text::add_optional_octets;
 use ber_core::OutOfMemory;
 use std::alloc::Allocator;
 use tcap_component::{Body, Code, Component, ComponentFault, Kind, Problem};
+
+/// Adds an identifier, or `-` where there is none.
+fn add_identifier<A: Allocator + Copy>(
+    text: &mut String<A>,
+    id: Option<i8>,
+) -> Result<(), OutOfMemory>
+    ensures { OnOk result (string_bytes text.new ≡ string_bytes text.old ++ identifier_words id) }
+{
+    match id {
+        Some(id) => write!(text, "{id}")?,
+        None => text.push_str("-")?,
+    }
+    Ok(())
+}
 
 /// An identifier, or `-` where there is none.
 pub fn identifier_text<A: Allocator + Copy>(
@@ -20,17 +36,45 @@ pub fn identifier_text<A: Allocator + Copy>(
     }
 }
 
-/// The words of a code.
-fn code_text<A: Allocator + Copy>(alloc: A, code: &Code<'_>) -> Result<String<A>, OutOfMemory>
-    ensures { IfOk result (λ words. string_bytes words ≡ code_words (code_parts code.now)) }
+/// Adds the words of a global code.
+fn add_global<A: Allocator + Copy>(
+    alloc: A,
+    text: &mut String<A>,
+    octets: &[u8],
+) -> Result<(), OutOfMemory>
+    ensures { OnOk result (string_bytes text.new ≡ string_bytes text.old ++ code_words (global octets.now)) }
+{
+    let hex = hex::encode(alloc, octets)?;
+    write!(text, "global {hex}")?;
+    Ok(())
+}
+
+/// Adds the words of a code.
+fn add_code<A: Allocator + Copy>(
+    alloc: A,
+    text: &mut String<A>,
+    code: &Code<'_>,
+) -> Result<(), OutOfMemory>
+    ensures { OnOk result (string_bytes text.new ≡ string_bytes text.old ++ code_words (code_parts code.now)) }
 {
     match code {
-        Code::Local(number) => Ok(format!(in alloc; "local {number}")?),
-        Code::Global(octets) => {
-            let octets = hex::encode(alloc, *octets)?;
-            Ok(format!(in alloc; "global {octets}")?)
-        }
+        Code::Local(number) => Ok(write!(text, "local {number}")?),
+        Code::Global(octets) => add_global(alloc, text, *octets),
     }
+}
+
+/// Adds the words of a code and a parameter, behind the name of the code.
+fn add_coded<A: Allocator + Copy>(
+    alloc: A,
+    text: &mut String<A>,
+    code: &Code<'_>,
+    parameter: Option<&[u8]>,
+) -> Result<(), OutOfMemory>
+    ensures { OnOk result (string_bytes text.new ≡ string_bytes text.old ++ coded_words (code_parts code.now) (option_copied parameter.entry)) }
+{
+    add_code(alloc, text, code)?;
+    text.push_str(" param ")?;
+    add_optional_octets(alloc, text, parameter)
 }
 
 /// The words of a code and a parameter, behind the name of the code.
@@ -41,9 +85,23 @@ pub fn coded_text<A: Allocator + Copy>(
 ) -> Result<String<A>, OutOfMemory>
     ensures { IfOk result (λ words. string_bytes words ≡ coded_words (code_parts code.now) (option_copied parameter.entry)) }
 {
-    let code = code_text(alloc, code)?;
-    let parameter = optional_octets_or_dash(alloc, parameter)?;
-    Ok(format!(in alloc; "{code} param {parameter}")?)
+    let mut words = String::new(alloc);
+    add_coded(alloc, &mut words, code, parameter)?;
+    Ok(words)
+}
+
+/// Adds the words of a result's body, `-` twice where there is none.
+fn add_body<A: Allocator + Copy>(
+    alloc: A,
+    text: &mut String<A>,
+    body: &Option<Body<'_>>,
+) -> Result<(), OutOfMemory>
+    ensures { OnOk result (string_bytes text.new ≡ string_bytes text.old ++ body_words (option_map body_parts body.now)) }
+{
+    match body {
+        Some(body) => add_coded(alloc, text, &body.code, body.parameter),
+        None => Ok(text.push_str("- param -")?),
+    }
 }
 
 /// The words of a result's body, `-` twice where there is none.
@@ -53,10 +111,9 @@ pub fn body_text<A: Allocator + Copy>(
 ) -> Result<String<A>, OutOfMemory>
     ensures { IfOk result (λ words. string_bytes words ≡ body_words (option_map body_parts body.now)) }
 {
-    match body {
-        Some(body) => coded_text(alloc, &body.code, body.parameter),
-        None => Ok(format!(in alloc; "- param -")?),
-    }
+    let mut words = String::new(alloc);
+    add_body(alloc, &mut words, body)?;
+    Ok(words)
 }
 
 /// The kind of a problem.
@@ -71,6 +128,19 @@ fn kind_text(kind: Kind) -> &'static str
     }
 }
 
+/// Adds the words of a problem: its kind and its code.
+fn add_problem<A: Allocator + Copy>(
+    text: &mut String<A>,
+    problem: Problem,
+) -> Result<(), OutOfMemory>
+    ensures { OnOk result (string_bytes text.new ≡ string_bytes text.old ++ problem_words (problem_parts problem)) }
+{
+    let kind = kind_text(problem.kind());
+    let code = problem.code();
+    write!(text, "{kind} {code}")?;
+    Ok(())
+}
+
 /// The words of a problem: its kind and its code.
 pub fn problem_text<A: Allocator + Copy>(
     alloc: A,
@@ -78,17 +148,35 @@ pub fn problem_text<A: Allocator + Copy>(
 ) -> Result<String<A>, OutOfMemory>
     ensures { IfOk result (λ words. string_bytes words ≡ problem_words (problem_parts problem)) }
 {
-    let kind = kind_text(problem.kind());
-    let code = problem.code();
-    Ok(format!(in alloc; "{kind} {code}")?)
+    let mut words = String::new(alloc);
+    add_problem(&mut words, problem)?;
+    Ok(words)
 }
 
-/// The words of a component.
-pub fn component_text<A: Allocator + Copy>(
+/// Adds the words of an Invoke.
+fn add_invoke<A: Allocator + Copy>(
     alloc: A,
+    text: &mut String<A>,
+    id: i8,
+    linked: Option<i8>,
+    code: &Code<'_>,
+    parameter: Option<&[u8]>,
+) -> Result<(), OutOfMemory>
+    ensures { OnOk result (string_bytes text.new ≡ string_bytes text.old ++ component_words (invoke id linked (code_parts code.now) (option_copied parameter.entry))) }
+{
+    write!(text, "invoke {id} linked ")?;
+    add_identifier(text, linked)?;
+    text.push_str(" op ")?;
+    add_coded(alloc, text, code, parameter)
+}
+
+/// Adds the words of a component.
+pub fn add_component<A: Allocator + Copy>(
+    alloc: A,
+    text: &mut String<A>,
     component: &Component<'_>,
-) -> Result<String<A>, OutOfMemory>
-    ensures { IfOk result (λ words. string_bytes words ≡ component_words (component_parts component.now)) }
+) -> Result<(), OutOfMemory>
+    ensures { OnOk result (string_bytes text.new ≡ string_bytes text.old ++ component_words (component_parts component.now)) }
 {
     match component {
         Component::Invoke {
@@ -96,43 +184,41 @@ pub fn component_text<A: Allocator + Copy>(
             linked,
             code,
             parameter,
-        } => {
-            let linked = identifier_text(alloc, *linked)?;
-            let coded = coded_text(alloc, code, *parameter)?;
-            Ok(format!(in alloc; "invoke {id} linked {linked} op {coded}")?)
-        }
+        } => add_invoke(alloc, text, *id, *linked, code, *parameter),
         Component::ResultLast { id, body } => {
-            let body = body_text(alloc, body)?;
-            Ok(format!(in alloc; "result last {id} op {body}")?)
+            write!(text, "result last {id} op ")?;
+            add_body(alloc, text, body)
         }
         Component::ResultMore { id, body } => {
-            let body = body_text(alloc, body)?;
-            Ok(format!(in alloc; "result more {id} op {body}")?)
+            write!(text, "result more {id} op ")?;
+            add_body(alloc, text, body)
         }
         Component::ErrorBack {
             id,
             code,
             parameter,
         } => {
-            let coded = coded_text(alloc, code, *parameter)?;
-            Ok(format!(in alloc; "error {id} code {coded}")?)
+            write!(text, "error {id} code ")?;
+            add_coded(alloc, text, code, *parameter)
         }
         Component::RejectBack { id, problem } => {
-            let id = identifier_text(alloc, *id)?;
-            let problem = problem_text(alloc, *problem)?;
-            Ok(format!(in alloc; "reject {id} {problem}")?)
+            text.push_str("reject ")?;
+            add_identifier(text, *id)?;
+            text.push_str(" ")?;
+            add_problem(text, *problem)
         }
     }
 }
 
-/// The words of a faulty component.
-pub fn fault_text<A: Allocator + Copy>(
-    alloc: A,
+/// Adds the words of a faulty component.
+pub fn add_fault<A: Allocator + Copy>(
+    text: &mut String<A>,
     fault: ComponentFault,
-) -> Result<String<A>, OutOfMemory>
-    ensures { IfOk result (λ words. string_bytes words ≡ fault_words (fault_parts fault)) }
+) -> Result<(), OutOfMemory>
+    ensures { OnOk result (string_bytes text.new ≡ string_bytes text.old ++ fault_words (fault_parts fault)) }
 {
-    let id = identifier_text(alloc, fault.id)?;
-    let problem = problem_text(alloc, fault.problem)?;
-    Ok(format!(in alloc; "faulty {id} {problem}")?)
+    text.push_str("faulty ")?;
+    add_identifier(text, fault.id)?;
+    text.push_str(" ")?;
+    add_problem(text, fault.problem)
 }

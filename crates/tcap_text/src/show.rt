@@ -6,7 +6,7 @@ ghost use Rattle.tcap_text.specs.Text.{inner_line};
 ghost use Rattle.tcap_text.specs.ComponentText.{item_words};
 ghost use Rattle.tcap_text.specs.Show.{origin_line, destination_line, dialogue_lines, item_lines, component_lines, portion_lines, reason_lines, message_lines, show_text_of, show_is_good, check_text_of};
 
-use crate::component_text::{component_text, fault_text};
+use crate::component_text::{add_component, add_fault};
 use crate::dialogue_text::add_portion;
 use crate::judge::{add_verdict, judge_message, read_message, verdict_on, verdict_text};
 use crate::shown::Shown;
@@ -63,11 +63,12 @@ fn add_item<A: Allocator + Copy>(
 ) -> Result<(), OutOfMemory>
     ensures { OnOk result (string_bytes text.new ≡ string_bytes text.old ++ inner_line (item_words (item_view item.now))) }
 {
-    let words = match item {
-        Ok(component) => component_text(alloc, component)?,
-        Err(fault) => fault_text(alloc, *fault)?,
-    };
-    write!(text, "    {words}\n")?;
+    text.push_str("    ")?;
+    match item {
+        Ok(component) => add_component(alloc, text, component)?,
+        Err(fault) => add_fault(text, *fault)?,
+    }
+    text.push_str("\n")?;
     Ok(())
 }
 

@@ -51,7 +51,25 @@ pub fn octets_or_dash<A: Allocator + Copy>(
     Ok(hex::encode(alloc, octets)?)
 }
 
-/// The same, where the octets may be absent.
+/// Adds octets in hexadecimal, `-` where there are none or they are absent.
+pub fn add_optional_octets<A: Allocator + Copy>(
+    alloc: A,
+    text: &mut String<A>,
+    octets: Option<&[u8]>,
+) -> Result<(), OutOfMemory>
+    ensures { OnOk result (string_bytes text.new ≡ string_bytes text.old ++ optional_octets_words (option_copied octets.entry)) }
+{
+    match octets {
+        Some(octets) => {
+            let words = octets_or_dash(alloc, octets)?;
+            text.push_str(words.as_str())?;
+        }
+        None => text.push_str("-")?,
+    }
+    Ok(())
+}
+
+/// Octets in hexadecimal, `-` where there are none or they are absent.
 pub fn optional_octets_or_dash<A: Allocator + Copy>(
     alloc: A,
     octets: Option<&[u8]>,
