@@ -1,0 +1,15 @@
+//! What memory and input do that are no friends.
+
+mod answers;
+mod codec;
+mod damage;
+mod dialogue;
+mod engine;
+mod examples;
+mod growths;
+mod invocations;
+mod played;
+mod runs;
+mod subject;
+mod vectors;
+mod words;

@@ -1,0 +1,271 @@
+//! What is answered, as lines of an example: each two spaces in.
+
+use std::alloc::{Allocator, Global};
+use tcap_component::{Body, Code};
+use tcap_engine::{Answer, By, DropWhy, Output, Why};
+use tcap_pdu::DialoguePdu;
+use tcap_text::{
+    body_text, coded_text, identifier_text, octets_or_dash, optional_octets_or_dash, pdu_text,
+    problem_text,
+};
+
+/// Who rejects.
+fn rejector(by: By) -> &'static str {
+    match by {
+        By::Local => "local",
+        By::RemoteProvider => "provider",
+        By::RemoteUser => "user",
+    }
+}
+
+/// Why a message is dropped.
+fn drop_reason(why: DropWhy) -> &'static str {
+    match why {
+        DropWhy::TooLong => "toolong",
+        DropWhy::BadMessage => "badmessage",
+        DropWhy::NoDialogue => "nodialogue",
+        DropWhy::BadDialogue => "baddialogue",
+    }
+}
+
+/// Why the provider aborted.
+fn abort_reason(alloc: Global, why: Why) -> Option<String> {
+    match why {
+        Why::Cause(cause) => format!(in alloc; "cause {cause}").ok(),
+        Why::Abnormal => format!(in alloc; "abnormal").ok(),
+        Why::NoCommon => format!(in alloc; "nocommon").ok(),
+    }
+}
+
+/// A dialogue, `-` where there is none.
+fn place(alloc: Global, dialogue: Option<u32>) -> Option<String> {
+    match dialogue {
+        Some(dialogue) => format!(in alloc; "{dialogue}").ok(),
+        None => format!(in alloc; "-").ok(),
+    }
+}
+
+/// An application context name and user information.
+fn portion(alloc: Global, context: Option<&[u8]>, info: &[u8]) -> Option<String> {
+    let context = optional_octets_or_dash(alloc, context).ok()?;
+    let info = octets_or_dash(alloc, info).ok()?;
+    format!(in alloc; "context {context} info {info}").ok()
+}
+
+/// The dialogue PDU of an Abort.
+fn abort_pdu(alloc: Global, pdu: &Option<DialoguePdu<'_>>) -> Option<String> {
+    match pdu {
+        Some(pdu) => pdu_text(alloc, pdu).ok(),
+        None => format!(in alloc; "-").ok(),
+    }
+}
+
+/// What is sent, and the indications of dialogue handling.
+fn dialogue_line<A: Allocator>(alloc: Global, output: &Output<'_, A>) -> Option<String> {
+    match output {
+        Output::Send(octets) => {
+            let octets = hex::encode(alloc, octets.as_slice()).ok()?;
+            format!(in alloc; "send {octets}").ok()
+        }
+        Output::Uni { context, info } => {
+            let portion = portion(alloc, *context, info)?;
+            format!(in alloc; "uni {portion}").ok()
+        }
+        Output::Begin {
+            dialogue,
+            context,
+            info,
+        } => {
+            let portion = portion(alloc, *context, info)?;
+            format!(in alloc; "begin {dialogue} {portion}").ok()
+        }
+        Output::Continue {
+            dialogue,
+            context,
+            info,
+        } => {
+            let portion = portion(alloc, *context, info)?;
+            format!(in alloc; "continue {dialogue} {portion}").ok()
+        }
+        Output::End {
+            dialogue,
+            context,
+            info,
+        } => {
+            let portion = portion(alloc, *context, info)?;
+            format!(in alloc; "end {dialogue} {portion}").ok()
+        }
+        _ => None,
+    }
+}
+
+/// The indications of aborts, and of what is dropped.
+fn abort_line<A: Allocator>(alloc: Global, output: &Output<'_, A>) -> Option<String> {
+    match output {
+        Output::UAbort { dialogue, pdu } => {
+            let pdu = abort_pdu(alloc, pdu)?;
+            format!(in alloc; "uabort {dialogue} {pdu}").ok()
+        }
+        Output::PAbort { dialogue, why } => {
+            let why = abort_reason(alloc, *why)?;
+            format!(in alloc; "pabort {dialogue} {why}").ok()
+        }
+        Output::Dropped(why) => {
+            let why = drop_reason(*why);
+            format!(in alloc; "dropped {why}").ok()
+        }
+        _ => None,
+    }
+}
+
+/// The words of an Invoke or an error: its code and its parameter.
+fn coded(alloc: Global, code: &Code<'_>, parameter: Option<&[u8]>) -> Option<String> {
+    coded_text(alloc, code, parameter).ok()
+}
+
+/// The words of a result's body.
+fn body_words(alloc: Global, body: &Option<Body<'_>>) -> Option<String> {
+    body_text(alloc, body).ok()
+}
+
+/// The indications of component handling that close no invocation.
+fn component_line<A: Allocator>(alloc: Global, output: &Output<'_, A>) -> Option<String> {
+    match output {
+        Output::Invoked {
+            dialogue,
+            id,
+            linked,
+            code,
+            parameter,
+        } => {
+            let place = place(alloc, *dialogue)?;
+            let linked = identifier_text(alloc, *linked).ok()?;
+            let coded = coded(alloc, code, *parameter)?;
+            format!(in alloc; "invoked {place} id {id} linked {linked} op {coded}").ok()
+        }
+        Output::ResultMore {
+            dialogue,
+            number,
+            id,
+            body,
+        } => {
+            let body = body_words(alloc, body)?;
+            format!(in alloc; "more {dialogue} id {id} number {number} op {body}").ok()
+        }
+        Output::LocalReject {
+            dialogue,
+            id,
+            problem,
+        } => {
+            let place = place(alloc, *dialogue)?;
+            let id = identifier_text(alloc, *id).ok()?;
+            let problem = problem_text(alloc, *problem).ok()?;
+            format!(in alloc; "localreject {place} id {id} {problem}").ok()
+        }
+        Output::RemoteReject {
+            dialogue,
+            id,
+            problem,
+            by,
+        } => {
+            let place = place(alloc, *dialogue)?;
+            let id = identifier_text(alloc, *id).ok()?;
+            let problem = problem_text(alloc, *problem).ok()?;
+            let by = rejector(*by);
+            format!(in alloc; "remotereject {place} id {id} {problem} by {by}").ok()
+        }
+        _ => None,
+    }
+}
+
+/// The indications that close an invocation.
+fn closing_line<A: Allocator>(alloc: Global, output: &Output<'_, A>) -> Option<String> {
+    match output {
+        Output::ResultLast {
+            dialogue,
+            number,
+            id,
+            body,
+        } => {
+            let body = body_words(alloc, body)?;
+            format!(in alloc; "last {dialogue} id {id} number {number} op {body}").ok()
+        }
+        Output::ErrorBack {
+            dialogue,
+            number,
+            id,
+            code,
+            parameter,
+        } => {
+            let coded = coded(alloc, code, *parameter)?;
+            format!(in alloc; "error {dialogue} id {id} number {number} code {coded}").ok()
+        }
+        Output::Rejected {
+            dialogue,
+            number,
+            id,
+            problem,
+            by,
+        } => {
+            let problem = problem_text(alloc, *problem).ok()?;
+            let by = rejector(*by);
+            format!(in alloc; "rejected {dialogue} id {id} number {number} {problem} by {by}").ok()
+        }
+        Output::Lapsed {
+            dialogue,
+            number,
+            id,
+        } => format!(in alloc; "lapsed {dialogue} id {id} number {number}").ok(),
+        Output::Ended {
+            dialogue,
+            number,
+            id,
+        } => format!(in alloc; "ended {dialogue} id {id} number {number}").ok(),
+        _ => None,
+    }
+}
+
+/// The line of an output.
+fn output_line<A: Allocator>(alloc: Global, output: &Output<'_, A>) -> Option<String> {
+    dialogue_line(alloc, output)
+        .or(abort_line(alloc, output))
+        .or(component_line(alloc, output))
+        .or(closing_line(alloc, output))
+}
+
+/// Adds a line, two spaces in.
+pub(super) fn add_line(told: &mut String, line: &str) -> Option<()> {
+    write!(told, "  {line}\n").ok()
+}
+
+/// Adds the lines of outputs.
+pub(super) fn add_outputs<A: Allocator>(
+    alloc: Global,
+    told: &mut String,
+    outputs: &[Output<'_, A>],
+) -> Option<()> {
+    for output in outputs {
+        let line = output_line(alloc, output)?;
+        add_line(told, &line)?;
+    }
+    Some(())
+}
+
+/// Adds the lines of an answer.
+pub(super) fn add_answer<A: Allocator>(
+    alloc: Global,
+    told: &mut String,
+    answer: &Answer<'_, A>,
+) -> Option<()> {
+    match answer {
+        Answer::NewDialogue(dialogue) => write!(told, "  new {dialogue}\n").ok(),
+        Answer::Number(number) => write!(told, "  number {number}\n").ok(),
+        Answer::Done => add_line(told, "done"),
+        Answer::GivenUp(number) => write!(told, "  givenup {number}\n").ok(),
+        Answer::Outputs(outputs) => add_outputs(alloc, told, outputs.as_slice()),
+        Answer::Refused(fault) => {
+            let number = fault.number();
+            write!(told, "  refused {number}\n").ok()
+        }
+    }
+}

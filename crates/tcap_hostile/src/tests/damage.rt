@@ -1,0 +1,223 @@
+//! Damaged messages: each front of each message, and each octet of it set to each value.
+
+use super::engine::new_engine;
+use super::vectors::VECTORS;
+use ber_core::{Feed, FeedFault, read_alone};
+use std::alloc::Global;
+use std::test::Fail;
+use tcap_component::{Code, Components};
+use tcap_engine::{Engine, Output, State};
+use tcap_invocation::Class;
+use tcap_pdu::{read_dialogue, read_frame};
+use tcap_text::{canon_text, check_text, show_text};
+
+/// Whether this is one of the lines that a verdict has.
+fn is_verdict(text: &[u8]) -> bool {
+    match text {
+        b"good\n"
+        | b"fault unknown type\n"
+        | b"fault badly formatted\n"
+        | b"fault incorrect\n"
+        | b"fault dialogue\n" => true,
+        _ => text.starts_with(b"fault component ") && text.ends_with(b"\n"),
+    }
+}
+
+/// Whether the canonical form of these octets, in hexadecimal, is its own.
+fn is_canonical(alloc: Global, text: &[u8]) -> Option<bool> {
+    let (_, hex) = text.split_last()?;
+    let octets = hex::decode(alloc, hex).ok()?;
+    Some(canon_text(alloc, octets.as_slice()).ok()?.text.as_slice() == text)
+}
+
+/// Whether the three texts of these octets agree.
+fn is_judged(alloc: Global, octets: &[u8]) -> Option<bool> {
+    let checked = check_text(alloc, octets).ok()?;
+    let shown = show_text(alloc, octets).ok()?;
+    let rewritten = canon_text(alloc, octets).ok()?;
+    let verdict = checked.text.as_slice();
+    let is_good = verdict == b"good\n".as_slice();
+    let is_rewritten = if is_good {
+        is_canonical(alloc, rewritten.text.as_slice())?
+    } else {
+        rewritten.text.as_slice() == verdict
+    };
+    let is_agreed = (checked.good == is_good)
+        & (shown.good == is_good)
+        & (rewritten.good == is_good);
+    Some(is_verdict(verdict) & is_agreed & is_rewritten)
+}
+
+/// How many messages a feed gives for a piece; a fault that it answers is the one that stands.
+fn given(feed: &mut Feed, piece: &[u8]) -> Option<usize> {
+    match feed.push(piece) {
+        Ok(messages) => Some(messages.len()),
+        Err(FeedFault::OutOfMemory) => None,
+        Err(fault) => (feed.fault() == Some(fault)).then_some(0),
+    }
+}
+
+/// Whether a feed cuts these octets alike, given one by one or at once.
+fn is_cut(alloc: Global, octets: &[u8]) -> Option<bool> {
+    let mut whole = Feed::new(alloc);
+    let at_once = given(&mut whole, octets)?;
+    let mut feed = Feed::new(alloc);
+    let mut count = 0usize;
+    for octet in octets {
+        count = count.saturating_add(given(&mut feed, &[*octet])?);
+    }
+    Some(count == at_once && feed.fault() == whole.fault() && feed.rest_len() == whole.rest_len())
+}
+
+/// Whether a message that is sent can be read, with its dialogue portion and its components.
+fn reads_back(octets: &[u8]) -> bool {
+    let Ok(frame) = read_frame(octets) else {
+        return false;
+    };
+    let is_dialogue = match frame.dialogue() {
+        Some(content) => read_dialogue(content).is_ok(),
+        None => true,
+    };
+    is_dialogue && Components::new(frame.components()).all(|item| item.is_ok())
+}
+
+/// How many outputs send a message, each of which can be read; nothing where one can't.
+fn sends(outputs: &[Output<'_>]) -> Option<u64> {
+    let mut count = 0u64;
+    for output in outputs {
+        if let Output::Send(octets) = output {
+            count = count.saturating_add(1);
+            if !reads_back(octets.as_slice()) {
+                return None;
+            }
+        }
+    }
+    Some(count)
+}
+
+/// How many outputs close the invocation 1; nothing where one closes another.
+fn closings(outputs: &[Output<'_>]) -> Option<u64> {
+    let mut count = 0u64;
+    for output in outputs {
+        match output {
+            Output::ResultLast { number, .. }
+            | Output::ErrorBack { number, .. }
+            | Output::Rejected { number, .. }
+            | Output::Lapsed { number, .. }
+            | Output::Ended { number, .. } => {
+                count = count.saturating_add(1);
+                if *number != 1 {
+                    return None;
+                }
+            }
+            _ => {}
+        }
+    }
+    Some(count)
+}
+
+/// Whether what a dialogue has to say goes out, where it may speak.
+fn speaks(engine: &mut Engine, d: u32) -> Option<bool> {
+    match engine.state_of(d) {
+        Some(State::Active | State::Received) => {
+            Some(sends(engine.go_on(d, None, &[]).ok()?.as_slice())? == 1)
+        }
+        Some(State::Fresh | State::Sent) | None => Some(true),
+    }
+}
+
+/// An engine with one invocation, which was sent; its deadline is 1,000.
+fn waiting_engine(alloc: Global) -> Option<Engine> {
+    let mut engine = new_engine(alloc, false);
+    engine.new_dialogue().ok()?;
+    let code = Code::Local(10);
+    engine
+        .invoke(1, 1, Class::One, code, None, None, 1000)
+        .ok()?;
+    engine.begin(1, None, &[]).ok()?;
+    Some(engine)
+}
+
+/// Whether what the engine told of so many octets is within its bounds: at most one message goes out, and a
+/// second dialogue stands where a Begin is told. The first is over only where its invocation was closed.
+fn is_bounded(engine: &Engine, octets: usize, told: &[Output<'_>]) -> Option<bool> {
+    let is_born = told
+        .iter()
+        .any(|output| matches!(output, Output::Begin { .. }));
+    let is_closed = closings(told)? > 0;
+    let has_sent = sends(told)? <= 1;
+    let is_short = told.len() <= octets.saturating_add(2);
+    let has_second = engine.state_of(2).is_some();
+    let has_third = engine.state_of(3).is_some();
+    let is_over = engine.state_of(1).is_none();
+    Some(has_sent & is_short & (has_second == is_born) & !has_third & (is_closed | !is_over))
+}
+
+/// Whether such an engine takes these octets within its bounds, and the invocation has one closing indication
+/// once its deadline has come. All that is sent, then and later, can be read.
+fn is_heard(alloc: Global, octets: &[u8]) -> Option<bool> {
+    let mut engine = waiting_engine(alloc)?;
+    let told = engine.receive(octets).ok()?;
+    let in_bounds = is_bounded(&engine, octets.len(), told.as_slice())?;
+    let first_speaks = speaks(&mut engine, 1)?;
+    let second_speaks = speaks(&mut engine, 2)?;
+    let lapsed = engine.advance(1000).ok()?;
+    let closed = closings(told.as_slice())?.saturating_add(closings(lapsed.as_slice())?);
+    Some(in_bounds & first_speaks & second_speaks & (closed == 1))
+}
+
+/// Whether these octets do no harm, whatever they are given to.
+fn is_harmless(alloc: Global, octets: &[u8]) -> bool {
+    let judged = is_judged(alloc, octets).unwrap_or(false);
+    let cut = is_cut(alloc, octets).unwrap_or(false);
+    let heard = is_heard(alloc, octets).unwrap_or(false);
+    judged & cut & heard
+}
+
+/// How many fronts a message has that aren't all of it; nothing where one does harm, or where the message
+/// is one element and one isn't badly formatted.
+fn fronts(alloc: Global, message: &[u8]) -> Option<u64> {
+    let is_element = read_alone(message).is_some();
+    let mut count = 0u64;
+    for length in 0..message.len() {
+        let front = message.get(..length)?;
+        let checked = check_text(alloc, front).ok()?;
+        let is_bad = checked.text.as_slice() == b"fault badly formatted\n".as_slice();
+        if (is_element & !is_bad) | !is_harmless(alloc, front) {
+            return None;
+        }
+        count = count.saturating_add(1);
+    }
+    Some(count)
+}
+
+/// How many messages come of one by setting an octet of it; nothing where one does harm.
+fn settings(alloc: Global, message: &[u8]) -> Option<u64> {
+    let mut damaged = message.to_vec(alloc).ok()?;
+    let mut count = 0u64;
+    for (place, octet) in message.iter().enumerate() {
+        for value in 0..=255u8 {
+            *damaged.get_mut(place)? = value;
+            if !is_harmless(alloc, damaged.as_slice()) {
+                return None;
+            }
+            count = count.saturating_add(1);
+        }
+        *damaged.get_mut(place)? = *octet;
+    }
+    Some(count)
+}
+
+#[test]
+fn damaged_messages(rt: HostRuntime) -> Result<(), Fail> {
+    let alloc = rt.alloc();
+    let mut total = 0u64;
+    for hex in VECTORS {
+        let message = hex::decode(alloc, hex)?;
+        let front_count = fronts(alloc, message.as_slice()).ok_or(hex)?;
+        let set_count = settings(alloc, message.as_slice()).ok_or(hex)?;
+        total = total.saturating_add(front_count).saturating_add(set_count);
+    }
+    assert!(rt; total > 400_000, "{total} messages");
+    Ok(())
+}

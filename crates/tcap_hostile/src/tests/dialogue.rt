@@ -1,0 +1,187 @@
+//! One dialogue, asked by the names of its calls. The moment is 0 throughout.
+
+use super::answers::{add_line, add_outputs};
+use super::subject::Told;
+use super::words::{Word, event_of, text};
+use ber_core::OutOfMemory;
+use std::alloc::{Allocator, Global};
+use tcap_dialogue::{Dialogue, Fault, Request, State, Step};
+use tcap_engine::Event;
+use tcap_pdu::read_frame;
+
+/// Adds the lines of a step.
+fn add_step<A: Allocator>(alloc: Global, told: &mut String, step: &Step<'_, A>) -> Option<Told> {
+    add_outputs(alloc, told, step.outputs.as_slice())?;
+    if step.over {
+        add_line(told, "over")?;
+    }
+    Some(Told::Large)
+}
+
+/// Adds the line of a refusal.
+fn add_fault(told: &mut String, fault: Fault) -> Option<Told> {
+    if fault == Fault::OutOfMemory {
+        return Some(Told::NoMemory);
+    }
+    let number = fault.number();
+    write!(told, "  refused {number}\n").ok()?;
+    Some(Told::Small)
+}
+
+/// A step, or a refusal.
+fn add_asked<A: Allocator>(
+    alloc: Global,
+    told: &mut String,
+    step: Result<Step<'_, A>, Fault>,
+) -> Option<Told> {
+    match step {
+        Ok(step) => add_step(alloc, told, &step),
+        Err(fault) => add_fault(told, fault),
+    }
+}
+
+/// A step, or want of memory.
+fn add_taken<A: Allocator>(
+    alloc: Global,
+    told: &mut String,
+    step: Result<Step<'_, A>, OutOfMemory>,
+) -> Option<Told> {
+    match step {
+        Ok(step) => add_step(alloc, told, &step),
+        Err(OutOfMemory) => Some(Told::NoMemory),
+    }
+}
+
+/// A component that is queued, or a refusal.
+fn add_queued(told: &mut String, queued: Result<(), Fault>) -> Option<Told> {
+    match queued {
+        Ok(()) => {
+            add_line(told, "done")?;
+            Some(Told::Large)
+        }
+        Err(fault) => add_fault(told, fault),
+    }
+}
+
+/// Invokes the first invocation, of the number 1: in a dialogue in which nothing has happened, which
+/// stands in place of the one that is given.
+fn invoke<A: Allocator + Copy>(
+    heap: A,
+    dialogue: &mut Dialogue<A>,
+    request: Request<'_>,
+    told: &mut String,
+) -> Option<Told> {
+    let Request::Invoke {
+        id,
+        class,
+        code,
+        parameter,
+        linked,
+        timeout_ms,
+    } = request
+    else {
+        return None;
+    };
+    let mut fresh = Dialogue::fresh(heap, 1, 1000);
+    let invoked = fresh.invoke(1, id, class, code, parameter, linked, timeout_ms);
+    *dialogue = fresh;
+    match invoked {
+        Ok(number) => {
+            write!(told, "  number {number}\n").ok()?;
+            Some(Told::Large)
+        }
+        Err(fault) => add_fault(told, fault),
+    }
+}
+
+/// What a dialogue tells of a request.
+fn ask<A: Allocator + Copy>(
+    alloc: Global,
+    dialogue: &mut Dialogue<A>,
+    request: Request<'_>,
+    told: &mut String,
+) -> Option<Told> {
+    match request {
+        Request::Begin { context, info } => {
+            add_asked(alloc, told, dialogue.begin(context, info, 0))
+        }
+        Request::Continue { context, info } => {
+            add_asked(alloc, told, dialogue.go_on(context, info, 0))
+        }
+        Request::Reject { id, problem } => add_queued(told, dialogue.u_reject(id, problem)),
+        Request::ResultLast { id, body } => add_queued(told, dialogue.result_last(id, body)),
+        Request::Cancel { id } => match dialogue.u_cancel(id) {
+            Ok(number) => {
+                write!(told, "  givenup {number}\n").ok()?;
+                Some(Told::Small)
+            }
+            Err(fault) => add_fault(told, fault),
+        },
+        _ => None,
+    }
+}
+
+/// What a dialogue tells of time: `due MS`, `first MS`, `one ID MS`, `free MS`, `next`, `state`.
+fn look<A: Allocator + Copy>(
+    dialogue: &mut Dialogue<A>,
+    words: &[Word<'_>],
+    told: &mut String,
+) -> Option<Told> {
+    match text(words, 0) {
+        "state" => {
+            let state: State = dialogue.state();
+            let peer = dialogue.peer().is_some();
+            write!(told, "  {state:?} peer {peer}\n").ok()?;
+        }
+        "next" => {
+            let next = dialogue.next_timer();
+            write!(told, "  {next:?}\n").ok()?;
+        }
+        "due" => {
+            let count = dialogue.due_count(text(words, 1).parse().ok()?);
+            write!(told, "  {count}\n").ok()?;
+        }
+        "first" => {
+            let first = dialogue.first_due(text(words, 1).parse().ok()?);
+            let number = first.map(|lapse| lapse.number);
+            write!(told, "  {number:?}\n").ok()?;
+        }
+        "one" => {
+            let (id, clock) = (text(words, 1).parse().ok()?, text(words, 2).parse().ok()?);
+            let number = dialogue.lapse_one(id, clock).map(|lapse| lapse.number);
+            write!(told, "  {number:?}\n").ok()?;
+        }
+        "free" => dialogue.free_due(text(words, 1).parse().ok()?),
+        _ => return None,
+    }
+    Some(Told::Small)
+}
+
+/// What a dialogue tells of a line.
+pub(super) fn tell<A: Allocator + Copy>(
+    alloc: Global,
+    heap: A,
+    dialogue: &mut Dialogue<A>,
+    words: &[Word<'_>],
+    told: &mut String,
+) -> Option<Told> {
+    match text(words, 0) {
+        "due" | "first" | "one" | "free" | "next" | "state" => return look(dialogue, words, told),
+        "fault" => {
+            let cause: u8 = text(words, 1).parse().ok()?;
+            return add_taken(alloc, told, dialogue.take_fault(cause));
+        }
+        _ => {}
+    }
+    match event_of(words)? {
+        Event::Bytes(bytes) => {
+            let frame = read_frame(bytes).ok()?;
+            add_taken(alloc, told, dialogue.take_frame(&frame, 0))
+        }
+        Event::On { request, .. } if matches!(request, Request::Invoke { .. }) => {
+            invoke(heap, dialogue, request, told)
+        }
+        Event::On { request, .. } => ask(alloc, dialogue, request, told),
+        Event::NewDialogue | Event::Moment(_) => None,
+    }
+}

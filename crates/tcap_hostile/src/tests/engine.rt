@@ -1,0 +1,146 @@
+//! An engine, asked by the names of its calls.
+
+use super::answers::add_answer;
+use super::subject::Told;
+use super::words::{Word, event_of, text};
+use std::alloc::{Allocator, Global};
+use tcap_engine::{Answer, Engine, Event, Fault, Limits, Request};
+
+/// A new engine of at most so many dialogues, 4 or 1.
+pub(super) fn new_engine<A: Allocator + Copy>(heap: A, is_small: bool) -> Engine<A> {
+    let reject_ms = 1000;
+    let limits = if is_small {
+        Limits {
+            max_dialogues: 1,
+            reject_ms,
+        }
+    } else {
+        Limits {
+            max_dialogues: 4,
+            reject_ms,
+        }
+    };
+    Engine::new(heap, limits)
+}
+
+/// An engine that goes on with these counters.
+pub(super) fn resumed<A: Allocator + Copy>(
+    heap: A,
+    next_dialogue: u32,
+    next_number: u64,
+) -> Engine<A> {
+    let limits = Limits {
+        max_dialogues: 4,
+        reject_ms: 1000,
+    };
+    Engine::resume(heap, limits, next_dialogue, next_number)
+}
+
+/// A request of component handling, or of dialogue handling.
+fn asked<'m, A: Allocator + Copy>(
+    engine: &mut Engine<A>,
+    d: u32,
+    request: Request<'_>,
+) -> Result<Answer<'m, A>, Fault> {
+    match request {
+        Request::Invoke {
+            id,
+            class,
+            code,
+            parameter,
+            linked,
+            timeout_ms,
+        } => {
+            let number = engine.invoke(d, id, class, code, parameter, linked, timeout_ms)?;
+            Ok(Answer::Number(number))
+        }
+        Request::ResultLast { id, body } => {
+            engine.result_last(d, id, body)?;
+            Ok(Answer::Done)
+        }
+        Request::ResultMore { id, body } => {
+            engine.result_more(d, id, body)?;
+            Ok(Answer::Done)
+        }
+        Request::ErrorBack {
+            id,
+            code,
+            parameter,
+        } => {
+            engine.error_back(d, id, code, parameter)?;
+            Ok(Answer::Done)
+        }
+        Request::Reject { id, problem } => {
+            engine.u_reject(d, id, problem)?;
+            Ok(Answer::Done)
+        }
+        Request::Cancel { id } => Ok(Answer::GivenUp(engine.u_cancel(d, id)?)),
+        Request::Uni { context, info } => Ok(Answer::Outputs(engine.uni(d, context, info)?)),
+        Request::Begin { context, info } => Ok(Answer::Outputs(engine.begin(d, context, info)?)),
+        Request::Continue { context, info } => {
+            Ok(Answer::Outputs(engine.go_on(d, context, info)?))
+        }
+        Request::End {
+            ending,
+            context,
+            info,
+        } => Ok(Answer::Outputs(engine.finish(d, ending, context, info)?)),
+        Request::Abort { why, info } => Ok(Answer::Outputs(engine.u_abort(d, why, info)?)),
+    }
+}
+
+/// What the call answers that an event stands for.
+fn answer_to<'m, A: Allocator + Copy>(
+    engine: &mut Engine<A>,
+    event: Event<'m>,
+) -> Result<Answer<'m, A>, Fault> {
+    match event {
+        Event::NewDialogue => Ok(Answer::NewDialogue(engine.new_dialogue()?)),
+        Event::Bytes(bytes) => Ok(Answer::Outputs(engine.receive(bytes)?)),
+        Event::Moment(now) => Ok(Answer::Outputs(engine.advance(now)?)),
+        Event::On { dialogue, request } => asked(engine, dialogue, request),
+    }
+}
+
+/// What an engine tells of a line: `now`, `state D`, or an event.
+pub(super) fn tell<A: Allocator + Copy>(
+    alloc: Global,
+    engine: &mut Engine<A>,
+    words: &[Word<'_>],
+    told: &mut String,
+) -> Option<Told> {
+    match text(words, 0) {
+        "now" => {
+            let now = engine.now();
+            write!(told, "  now {now}\n").ok()?;
+            return Some(Told::Small);
+        }
+        "state" => {
+            let state = engine.state_of(text(words, 1).parse().ok()?);
+            write!(told, "  state {state:?}\n").ok()?;
+            return Some(Told::Small);
+        }
+        _ => {}
+    }
+    match answer_to(engine, event_of(words)?) {
+        Err(Fault::OutOfMemory) => Some(Told::NoMemory),
+        Err(fault) => {
+            let number = fault.number();
+            write!(told, "  refused {number}\n").ok()?;
+            Some(Told::Small)
+        }
+        Ok(answer) => {
+            add_answer(alloc, told, &answer)?;
+            Some(size_of_answer(&answer))
+        }
+    }
+}
+
+/// Whether an answer may have taken memory: it gives or tells something, or a component was kept.
+fn size_of_answer<A: Allocator>(answer: &Answer<'_, A>) -> Told {
+    match answer {
+        Answer::GivenUp(_) | Answer::Refused(_) => Told::Small,
+        Answer::Outputs(outputs) if outputs.is_empty() => Told::Small,
+        _ => Told::Large,
+    }
+}

@@ -1,0 +1,163 @@
+//! A list of invocations, asked by the names of its calls.
+
+use super::subject::Told;
+use super::words::{Word, class, kind, text};
+use std::alloc::Allocator;
+use tcap_invocation::{AddFault, Invocations, Lapse, MAX_MOMENT, Verdict};
+
+/// Adds a lapse.
+fn add_lapse(told: &mut String, lapse: Lapse) -> Option<()> {
+    let (deadline, number, id) = (lapse.deadline, lapse.number, lapse.id);
+    write!(told, "  {deadline} {number} {id}\n").ok()
+}
+
+/// Adds a lapse that may be none.
+fn add_one(told: &mut String, lapse: Option<Lapse>) -> Option<()> {
+    match lapse {
+        Some(lapse) => add_lapse(told, lapse),
+        None => write!(told, "  -\n").ok(),
+    }
+}
+
+/// Adds a verdict.
+fn add_verdict(told: &mut String, verdict: Verdict) -> Option<()> {
+    match verdict {
+        Verdict::Good(number) => write!(told, "  good {number}\n").ok(),
+        Verdict::Unexpected(number) => write!(told, "  unexpected {number}\n").ok(),
+        Verdict::Unknown => write!(told, "  unknown\n").ok(),
+    }
+}
+
+/// Adds a number that may be none.
+fn add_number(told: &mut String, number: Option<u64>) -> Option<()> {
+    match number {
+        Some(number) => write!(told, "  {number}\n").ok(),
+        None => write!(told, "  -\n").ok(),
+    }
+}
+
+/// `add ID NUMBER CLASS TIMEOUT`.
+fn add<A: Allocator + Copy>(
+    list: &mut Invocations<A>,
+    words: &[Word<'_>],
+    told: &mut String,
+) -> Option<Told> {
+    let number = text(words, 2).parse().ok()?;
+    if !list.is_above_all(number) {
+        return None;
+    }
+    let id = text(words, 1).parse().ok()?;
+    let timeout = text(words, 4).parse().ok()?;
+    match list.add(id, number, class(text(words, 3))?, timeout) {
+        Ok(()) => Some(Told::Large),
+        Err(AddFault::OutOfMemory) => Some(Told::NoMemory),
+        Err(fault) => {
+            let number = fault.number();
+            write!(told, "  fault {number}\n").ok()?;
+            Some(Told::Small)
+        }
+    }
+}
+
+/// `lapse MS`.
+fn lapse<A: Allocator + Copy>(
+    list: &mut Invocations<A>,
+    words: &[Word<'_>],
+    told: &mut String,
+) -> Option<Told> {
+    let Ok(lapses) = list.lapse(text(words, 1).parse().ok()?) else {
+        return Some(Told::NoMemory);
+    };
+    if lapses.is_empty() {
+        return Some(Told::Small);
+    }
+    for lapse in lapses {
+        add_lapse(told, lapse)?;
+    }
+    Some(Told::Large)
+}
+
+/// `close`.
+fn close<A: Allocator + Copy>(list: &mut Invocations<A>, told: &mut String) -> Option<Told> {
+    let Ok(closed) = list.close_all() else {
+        return Some(Told::NoMemory);
+    };
+    if closed.is_empty() {
+        return Some(Told::Small);
+    }
+    for (number, id) in closed {
+        write!(told, "  {number} {id}\n").ok()?;
+    }
+    Some(Told::Large)
+}
+
+/// What is received: `result ID last MS`, `result ID more MS`, `error ID MS`, `reject ID KIND`.
+fn receive<A: Allocator + Copy>(
+    list: &mut Invocations<A>,
+    words: &[Word<'_>],
+    told: &mut String,
+) -> Option<()> {
+    let id = text(words, 1).parse().ok()?;
+    match text(words, 0) {
+        "result" => {
+            let clock: u64 = text(words, 3).parse().ok()?;
+            let last = text(words, 2) == "last";
+            add_verdict(told, list.on_result(id, last, clock.min(MAX_MOMENT)))
+        }
+        "error" => {
+            let clock: u64 = text(words, 2).parse().ok()?;
+            add_verdict(told, list.on_error(id, clock.min(MAX_MOMENT)))
+        }
+        "reject" => add_number(told, list.on_reject(id, kind(text(words, 2))?)),
+        "giveup" => add_number(told, list.give_up(id)),
+        "freewait" => {
+            let freed = list.free_wait(id);
+            write!(told, "  {freed}\n").ok()
+        }
+        "open" => {
+            let (open, used) = (list.is_open(id), list.in_use(id));
+            write!(told, "  open {open} used {used}\n").ok()
+        }
+        "one" => add_one(told, list.lapse_one(id, text(words, 2).parse().ok()?)),
+        _ => None,
+    }
+}
+
+/// Time: `sent MS`, `due MS`, `first MS`, `free MS`, `next`.
+fn look<A: Allocator + Copy>(
+    list: &mut Invocations<A>,
+    words: &[Word<'_>],
+    told: &mut String,
+) -> Option<()> {
+    if text(words, 0) == "next" {
+        return add_number(told, list.next_timer());
+    }
+    let clock: u64 = text(words, 1).parse().ok()?;
+    match text(words, 0) {
+        "sent" => list.sent(clock.min(MAX_MOMENT)),
+        "free" => list.free_due(clock),
+        "due" => {
+            let count = list.due_count(clock);
+            return write!(told, "  {count}\n").ok();
+        }
+        "first" => return add_one(told, list.first_due(clock)),
+        _ => return None,
+    }
+    Some(())
+}
+
+/// What a list tells of a line.
+pub(super) fn tell<A: Allocator + Copy>(
+    list: &mut Invocations<A>,
+    words: &[Word<'_>],
+    told: &mut String,
+) -> Option<Told> {
+    match text(words, 0) {
+        "add" => return add(list, words, told),
+        "lapse" => return lapse(list, words, told),
+        "close" => return close(list, told),
+        "next" | "sent" | "free" | "due" | "first" => look(list, words, told)?,
+        _ => receive(list, words, told)?,
+    }
+    Some(Told::Small)
+}

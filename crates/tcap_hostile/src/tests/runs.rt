@@ -1,0 +1,85 @@
+//! The events of an example of an engine, handed to `run`.
+
+use super::answers::add_answer;
+use super::engine::new_engine;
+use super::subject::Heap;
+use super::words::{Word, event_of, words_of};
+use std::alloc::Global;
+use tcap_engine::{Answer, Event, run};
+
+/// The words of the lines that stand for events.
+fn event_lines<'e>(alloc: Global, example: &'e str) -> Option<Vec<Vec<Word<'e>>>> {
+    let mut lines = Vec::new(alloc);
+    for line in example.lines() {
+        if line.starts_with(' ') || line.starts_with("engine") {
+            continue;
+        }
+        lines.push(words_of(alloc, line)?).ok()?;
+    }
+    Some(lines)
+}
+
+/// The events of these lines; nothing where one stands for none.
+fn events_of<'w>(alloc: Global, lines: &'w [Vec<Word<'_>>]) -> Option<Vec<Event<'w>>> {
+    let mut events = Vec::new(alloc);
+    for words in lines {
+        events.push(event_of(words.as_slice())?).ok()?;
+    }
+    Some(events)
+}
+
+/// The lines of answers.
+fn text_of(alloc: Global, answers: &[Answer<'_, Heap<'_>>]) -> Option<String> {
+    let mut text = String::new(alloc);
+    for answer in answers {
+        add_answer(alloc, &mut text, answer)?;
+    }
+    Some(text)
+}
+
+/// The lines of the answers that an example has.
+fn wanted_of(alloc: Global, example: &str) -> Option<String> {
+    let mut text = String::new(alloc);
+    for line in example.lines() {
+        if line.starts_with(' ') {
+            write!(text, "{line}\n").ok()?;
+        }
+    }
+    Some(text)
+}
+
+/// What came of a run and, where memory was refused to it, of a second one over the events that the first
+/// left: all answers, and how often memory was refused.
+fn run_twice(alloc: Global, heap: Heap<'_>, events: &[Event<'_>]) -> Option<(String, u64)> {
+    let mut engine = new_engine(heap, false);
+    let mut answers = Vec::new(heap);
+    if run(&mut engine, events, &mut answers).is_ok() {
+        return Some((text_of(alloc, answers.as_slice())?, 0));
+    }
+    let rest = events.get(answers.len()..)?;
+    run(&mut engine, rest, &mut answers).ok()?;
+    Some((text_of(alloc, answers.as_slice())?, 1))
+}
+
+/// How many growths the run of an example has, where each of them that is refused in turn ends the first
+/// run, and all answers are the example's.
+pub(super) fn run_growths(alloc: Global, heap: Heap<'_>, example: &str) -> Option<u64> {
+    let lines = event_lines(alloc, example)?;
+    let events = events_of(alloc, lines.as_slice())?;
+    let wanted = wanted_of(alloc, example)?;
+    for number in 1..1_000u64 {
+        heap.refuse(number);
+        let (text, refusals) = run_twice(alloc, heap, events.as_slice())?;
+        if text != wanted {
+            return None;
+        }
+        if heap.is_armed() {
+            heap.refuse(0);
+            return (refusals == 0).then_some(number - 1);
+        }
+        if refusals != 1 {
+            return None;
+        }
+    }
+    None
+}

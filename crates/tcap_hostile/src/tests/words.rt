@@ -1,0 +1,191 @@
+//! The words of an example's lines, and the events that they stand for.
+
+use std::alloc::Global;
+use tcap_component::{Body, Code, Kind, Problem};
+use tcap_engine::{AbortWhy, Ending, Event, Request};
+use tcap_invocation::Class;
+
+/// A word, and the octets that it spells in hexadecimal, behind an `x` or not; `+N` at its end spells N
+/// octets of 0 more.
+#[derive(Drop)]
+pub(super) struct Word<'e> {
+    pub(super) text: &'e str,
+    pub(super) octets: Vec<u8>,
+}
+
+/// The octets that a word spells; none where it is no hexadecimal.
+fn octets_of(alloc: Global, text: &str) -> Option<Vec<u8>> {
+    let text = text.strip_prefix('x').unwrap_or(text);
+    let (hex, zeros) = text.split_once('+').unwrap_or((text, "0"));
+    let mut octets = match hex::decode(alloc, hex) {
+        Ok(octets) => octets,
+        Err(_) => Vec::new(alloc),
+    };
+    let zeros = vec![in alloc; 0u8; zeros.parse::<usize>().ok()?].ok()?;
+    octets.extend_from_slice(zeros.as_slice()).ok()?;
+    Some(octets)
+}
+
+/// The words of a line.
+pub(super) fn words_of<'e>(alloc: Global, line: &'e str) -> Option<Vec<Word<'e>>> {
+    let mut words = Vec::new(alloc);
+    for text in line.split(' ') {
+        let octets = octets_of(alloc, text)?;
+        words.push(Word { text, octets }).ok()?;
+    }
+    Some(words)
+}
+
+/// A word by its place; one that is left out is `-`.
+pub(super) fn text<'w>(words: &'w [Word<'_>], place: usize) -> &'w str {
+    match words.get(place) {
+        Some(word) => word.text,
+        None => "-",
+    }
+}
+
+/// The octets of a word that is there and isn't `-`.
+pub(super) fn octets<'w>(words: &'w [Word<'_>], place: usize) -> Option<&'w [u8]> {
+    let word = words.get(place)?;
+    if word.text == "-" {
+        return None;
+    }
+    Some(word.octets.as_slice())
+}
+
+/// The octets of a word, none where it isn't there.
+pub(super) fn info<'w>(words: &'w [Word<'_>], place: usize) -> &'w [u8] {
+    octets(words, place).unwrap_or(&[])
+}
+
+/// A code: a decimal number is a local one, hexadecimal behind an `x` a global one.
+pub(super) fn code<'w>(words: &'w [Word<'_>], place: usize) -> Option<Code<'w>> {
+    let word = words.get(place)?;
+    if word.text.starts_with('x') {
+        return Some(Code::Global(word.octets.as_slice()));
+    }
+    Some(Code::Local(word.text.parse().ok()?))
+}
+
+/// An operation class.
+pub(super) fn class(word: &str) -> Option<Class> {
+    match word {
+        "1" => Some(Class::One),
+        "2" => Some(Class::Two),
+        "3" => Some(Class::Three),
+        "4" => Some(Class::Four),
+        _ => None,
+    }
+}
+
+/// The kind of a problem.
+pub(super) fn kind(word: &str) -> Option<Kind> {
+    match word {
+        "general" => Some(Kind::General),
+        "invoke" => Some(Kind::Invoke),
+        "result" => Some(Kind::Result),
+        "error" => Some(Kind::Error),
+        _ => None,
+    }
+}
+
+/// `invoke D ID CLASS CODE TIMEOUT LINKED PARAM`.
+fn invoke_of<'w>(words: &'w [Word<'_>]) -> Option<Request<'w>> {
+    Some(Request::Invoke {
+        id: text(words, 2).parse().ok()?,
+        class: class(text(words, 3))?,
+        code: code(words, 4)?,
+        timeout_ms: text(words, 5).parse().ok()?,
+        linked: text(words, 6).parse().ok(),
+        parameter: octets(words, 7),
+    })
+}
+
+/// `last D ID CODE PARAM`, `more`, `error`, `reject D ID KIND CODE`, `cancel D ID`.
+fn component_of<'w>(words: &'w [Word<'_>]) -> Option<Request<'w>> {
+    let id = text(words, 2).parse().ok()?;
+    let parameter = octets(words, 4);
+    let code = code(words, 3);
+    match text(words, 0) {
+        "last" => {
+            let body = code.map(|code| Body { code, parameter });
+            Some(Request::ResultLast { id, body })
+        }
+        "more" => {
+            let body = code.map(|code| Body { code, parameter });
+            Some(Request::ResultMore { id, body })
+        }
+        "error" => Some(Request::ErrorBack {
+            id,
+            code: code?,
+            parameter,
+        }),
+        "reject" => Some(Request::Reject {
+            id: Some(id),
+            problem: Problem::new(kind(text(words, 3))?, text(words, 4).parse().ok()?)?,
+        }),
+        "cancel" => Some(Request::Cancel { id }),
+        _ => None,
+    }
+}
+
+/// `uni D CONTEXT INFO`, `begin`, `continue`, `end`, `prearranged`.
+fn portion_of<'w>(words: &'w [Word<'_>]) -> Option<Request<'w>> {
+    let context = octets(words, 2);
+    let info = info(words, 3);
+    match text(words, 0) {
+        "uni" => Some(Request::Uni { context, info }),
+        "begin" => Some(Request::Begin { context, info }),
+        "continue" => Some(Request::Continue { context, info }),
+        "end" => Some(Request::End {
+            ending: Ending::Basic,
+            context,
+            info,
+        }),
+        "prearranged" => Some(Request::End {
+            ending: Ending::Prearranged,
+            context,
+            info,
+        }),
+        _ => None,
+    }
+}
+
+/// `abort D user INFO`, `abort D unsupported INFO`.
+fn abort_of<'w>(words: &'w [Word<'_>]) -> Option<Request<'w>> {
+    let info = info(words, 3);
+    match text(words, 2) {
+        "user" => Some(Request::Abort {
+            why: AbortWhy::User,
+            info,
+        }),
+        "unsupported" => Some(Request::Abort {
+            why: AbortWhy::NotSupported,
+            info,
+        }),
+        _ => None,
+    }
+}
+
+/// What a line asks of a dialogue.
+fn request_of<'w>(words: &'w [Word<'_>]) -> Option<Request<'w>> {
+    match text(words, 0) {
+        "invoke" => invoke_of(words),
+        "last" | "more" | "error" | "reject" | "cancel" => component_of(words),
+        "abort" => abort_of(words),
+        _ => portion_of(words),
+    }
+}
+
+/// The event that a line stands for.
+pub(super) fn event_of<'w>(words: &'w [Word<'_>]) -> Option<Event<'w>> {
+    match text(words, 0) {
+        "new" => Some(Event::NewDialogue),
+        "raw" => Some(Event::Bytes(info(words, 1))),
+        "advance" => Some(Event::Moment(text(words, 1).parse().ok()?)),
+        _ => Some(Event::On {
+            dialogue: text(words, 1).parse().ok()?,
+            request: request_of(words)?,
+        }),
+    }
+}
