@@ -5,6 +5,7 @@
  *   bench call MODE SIZE COUNT      COUNT calls; prints nothing
  *   bench time MODE SIZE COUNT      the same; prints the nanoseconds of one, least of five rounds
  *   bench length MODE SIZE          the bytes of the message
+ *   bench held MODE SIZE            the octets of memory that SIZE dialogues hold which stand (bench-held)
  *
  * MODE read, write, rewrite, element: SIZE is a line of data/messages.txt, counted from 1. MODE invokes: reads a
  * Begin of SIZE Invokes. MODE nested: reads one element of SIZE indefinite elements one in another,
@@ -15,7 +16,8 @@
  * stream4096, stream16, stream1: hands 1,000 of it to a new feed. MODE copy: takes memory for the message,
  * copies it there and gives the memory back.
  * MODE answer: reads that message, SIZE 1 the Continue, 2 the End. MODE engine1 to engine4: an engine
- * with SIZE dialogues open does COUNT laps of SIZE steps of that kind (engine4: of none). MODE
+ * with SIZE dialogues open does COUNT laps of SIZE steps of that kind. MODE lapses1, lapses1000: an engine
+ * with SIZE Active dialogues does COUNT laps, in which each lapses once, so many at a moment. MODE
  * invocations1 to invocations3: a dialogue with SIZE invocations Sent does COUNT laps of SIZE steps.
  */
 #include <stdint.h>
@@ -42,12 +44,17 @@ size_t tcap_bench_write_continue(uint32_t otid, uint32_t dtid, const uint8_t *co
                                  size_t room_length);
 size_t tcap_bench_rewrite(const uint8_t *bytes, size_t length, uint8_t *room, size_t room_length);
 uint64_t tcap_bench_dialogue(uint8_t steps, const uint8_t *bytes, size_t length);
-uint64_t tcap_bench_engine(uint8_t step, uint16_t dialogues, uint32_t laps);
-uint64_t tcap_bench_invocations(uint8_t step, uint16_t invocations, uint32_t laps);
+
+/* The modes of steps (steps.c). */
+int has_steps(const char *mode);
+void run_steps(const char *mode, unsigned size, long laps);
+void stop(const char *why);
 
 /* Where the program's memory is a buffer (buffer.c), all that a call took is given back behind it. */
 size_t memory_used(void) __attribute__((weak));
 void memory_reset(size_t mark) __attribute__((weak));
+/* Where what the C library's heap holds is counted (held.c): the octets at the last block taken. */
+size_t memory_held(void) __attribute__((weak));
 
 enum { MOST = 1 << 18, STREAM = 1000, MESSAGES = 6, MOST_INVOKES = 11, ROUNDS = 5 };
 
@@ -69,7 +76,7 @@ static const struct values {
 };
 static const uint8_t context[] = {0x04, 0x00, 0x00, 0x01, 0x00, 0x01, 0x03};
 
-static void stop(const char *why) {
+void stop(const char *why) {
   fprintf(stderr, "bench: %s\n", why);
   exit(2);
 }
@@ -148,18 +155,6 @@ static size_t write_message(const struct values *v) {
                                 v->invokes, message, length, room, sizeof room);
 }
 
-/* The kind of step of engine1 to engine4; 0 of any other mode. */
-static unsigned engine_step(const char *mode) {
-  unsigned step;
-  return sscanf(mode, "engine%1u", &step) == 1 && step >= 1 && step <= 4 ? step : 0;
-}
-
-/* The kind of step of invocations1 to invocations3; 0 of any other mode. */
-static unsigned invocation_step(const char *mode) {
-  unsigned step;
-  return sscanf(mode, "invocations%1u", &step) == 1 && step >= 1 && step <= 3 ? step : 0;
-}
-
 /* The octets of a piece of the modes feed and stream; 0 of any other mode. */
 static unsigned piece_width(const char *mode) {
   unsigned width;
@@ -184,7 +179,7 @@ static uint64_t copy_message(void) {
 }
 
 static void make(const char *mode, unsigned size) {
-  if (engine_step(mode) || invocation_step(mode)) return;
+  if (has_steps(mode)) return;
   if (!strcmp(mode, "invokes")) make_invokes(size);
   else if (!strcmp(mode, "nested")) length = 0, add_nested(size);
   else if (!strcmp(mode, "inside")) make_inside(size);
@@ -196,22 +191,8 @@ static void make(const char *mode, unsigned size) {
   if (!strncmp(mode, "stream", 6)) make_stream();
 }
 
-/* Each step sends one output and tells two; the fourth kind is no step. */
-static void run_engine(unsigned step, unsigned size, long laps) {
-  uint64_t given = tcap_bench_engine((uint8_t)step, (uint16_t)size, (uint32_t)laps);
-  if (given != (step < 4 ? 3 * (uint64_t)size * (uint64_t)laps : 0)) stop("the engine gave other outputs");
-}
-
-/* A result is told in a Continue and a Continue sent; a lapse is told and a Continue sent; nothing. */
-static void run_invocations(unsigned step, unsigned size, long laps) {
-  static const uint64_t outputs[] = {3, 2, 0};
-  uint64_t given = tcap_bench_invocations((uint8_t)step, (uint16_t)size, (uint32_t)laps);
-  if (given != outputs[step - 1] * size * (uint64_t)laps) stop("the dialogue gave other outputs");
-}
-
 static uint64_t repeat(const char *mode, unsigned size, long count) {
-  if (engine_step(mode)) return run_engine(engine_step(mode), size, count), 1;
-  if (invocation_step(mode)) return run_invocations(invocation_step(mode), size, count), 1;
+  if (has_steps(mode)) return run_steps(mode, size, count), 1;
   uint64_t sum = 0;
   size_t mark = memory_used ? memory_used() : 0;
   unsigned width = piece_width(mode);
@@ -282,6 +263,11 @@ int main(int count, char **words) {
   make(words[2], size);
   if (!strcmp(words[1], "call")) repeat(words[2], size, calls);
   else if (!strcmp(words[1], "length")) printf("%zu\n", length);
+  else if (!strcmp(words[1], "held") && memory_held) {
+    size_t before = memory_held();
+    repeat(words[2], size, 0);
+    printf("%zu\n", memory_held() - before);
+  }
   else if (!strcmp(words[1], "time")) {
     double least = 0;
     for (int round = 0; round < ROUNDS; round++) {

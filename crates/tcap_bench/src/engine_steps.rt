@@ -15,7 +15,7 @@ struct Open {
 }
 
 /// A Begin of the peer with Invoke 1.
-const BEGIN: [u8; 18] = [
+pub(crate) const BEGIN: [u8; 18] = [
     0x62, 0x10, 0x48, 0x04, 0x00, 0x00, 0x00, 0x05, 0x6c, 0x08, 0xa1, 0x06, 0x02, 0x01, 0x01, 0x02,
     0x01, 0x0a,
 ];
@@ -24,9 +24,9 @@ const BEGIN: [u8; 18] = [
 const TIMEOUT_MS: u64 = 1 << 40;
 
 /// An End to a dialogue with the result of an invocation.
-fn end_to(open: &Open) -> [u8; 15] {
-    let [a, b, c, d] = open.dialogue.to_be_bytes();
-    let [id] = open.id.to_be_bytes();
+pub(crate) fn end_to(dialogue: u32, id: i8) -> [u8; 15] {
+    let [a, b, c, d] = dialogue.to_be_bytes();
+    let [id] = id.to_be_bytes();
     [
         0x64, 0x0d, 0x49, 0x04, a, b, c, d, 0x6c, 0x05, 0xa2, 0x03, 0x02, 0x01, id,
     ]
@@ -65,7 +65,7 @@ fn receive_one(engine: &mut Engine) -> Option<(Open, u64)> {
 /// One dialogue is begun, and another one ended by the peer with its result.
 fn begin_and_end(engine: &mut Engine, open: &mut Open) -> Option<u64> {
     let (begun, sent) = begin_one(engine)?;
-    let told = engine.receive(&end_to(open)).ok()?.len() as u64;
+    let told = engine.receive(&end_to(open.dialogue, open.id)).ok()?.len() as u64;
     *open = begun;
     Some(sent.saturating_add(told))
 }
@@ -106,13 +106,19 @@ fn go_on(engine: &mut Engine, open: &mut Open) -> Option<u64> {
     Some(told.saturating_add(sent))
 }
 
+/// The clock moves on by one: how many outputs that gives, none where nothing is due.
+fn pass(engine: &mut Engine) -> Option<u64> {
+    let moment = engine.now().saturating_add(1);
+    Some(engine.advance(moment).ok()?.len() as u64)
+}
+
 /// One step on a dialogue: how many outputs it gives.
 fn step_once(engine: &mut Engine, step: u8, open: &mut Open) -> Option<u64> {
     match step {
         1 => begin_and_end(engine, open),
         2 => receive_and_answer(engine, open),
         3 => go_on(engine, open),
-        _ => Some(0),
+        _ => pass(engine),
     }
 }
 
@@ -149,7 +155,7 @@ fn drawn(all: &mut [Open], seed: u32) -> Option<&mut Open> {
     all.get_mut(at)
 }
 
-/// As many steps as there are dialogues, each on one drawn by lot, from the third kind on with a moment
+/// As many steps as there are dialogues, each on one drawn by lot, those of the third kind with a moment
 /// behind them, at which each identifier that waited is free: how many outputs the steps give.
 fn count_lap(engine: &mut Engine, step: u8, all: &mut [Open], seed: &mut u32) -> Option<u64> {
     let mut count = 0u64;
@@ -158,9 +164,8 @@ fn count_lap(engine: &mut Engine, step: u8, all: &mut [Open], seed: &mut u32) ->
         let given = step_once(engine, step, drawn(all, *seed)?)?;
         count = count.saturating_add(given);
     }
-    if step > 2 {
-        let moment = engine.now().saturating_add(1);
-        engine.advance(moment).ok()?;
+    if step == 3 {
+        pass(engine)?;
     }
     Some(count)
 }

@@ -12,7 +12,7 @@ use tcap_invocation::Class;
 const TIMEOUT_MS: u64 = 1 << 40;
 
 /// A Continue without components to a dialogue.
-fn continue_to(dialogue: u32) -> [u8; 14] {
+pub(crate) fn continue_to(dialogue: u32) -> [u8; 14] {
     let [a, b, c, d] = dialogue.to_be_bytes();
     [
         0x65, 0x0c, 0x48, 0x04, 0x00, 0x00, 0x00, 0x05, 0x49, 0x04, a, b, c, d,
@@ -25,7 +25,7 @@ fn id_at(place: u64) -> i8 {
 }
 
 /// An invocation is queued.
-fn invoke(engine: &mut Engine, dialogue: u32, id: i8, timeout_ms: u64) -> Option<u64> {
+pub(crate) fn invoke(engine: &mut Engine, dialogue: u32, id: i8, timeout_ms: u64) -> Option<u64> {
     let operation = Code::Local(10);
     engine
         .invoke(dialogue, id, Class::One, operation, None, None, timeout_ms)
@@ -50,7 +50,12 @@ fn open_dialogue(engine: &mut Engine, step: u8, invocations: u16) -> Option<u32>
 }
 
 /// The invocation of this identifier lapsed or got its result and is free: it is made again.
-fn invoke_again(engine: &mut Engine, dialogue: u32, id: i8, timeout_ms: u64) -> Option<u64> {
+pub(crate) fn invoke_again(
+    engine: &mut Engine,
+    dialogue: u32,
+    id: i8,
+    timeout_ms: u64,
+) -> Option<u64> {
     invoke(engine, dialogue, id, timeout_ms)?;
     let sent = engine.go_on(dialogue, None, &[]).ok()?;
     Some(sent.len() as u64)

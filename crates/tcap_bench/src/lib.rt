@@ -14,11 +14,13 @@ mod dialogue_steps;
 mod engine_steps;
 mod feed_steps;
 mod invocation_steps;
+mod lapse_steps;
 mod message_sum;
 mod rewritten;
 mod sum;
 #[cfg(test)]
 mod tests;
+mod traffic;
 mod values;
 mod written;
 
@@ -110,14 +112,26 @@ pub extern "C" fn tcap_bench_dialogue(alloc: Global, steps: u8, message: &[u8]) 
 /// all. A step is, 1: a dialogue is begun with an Invoke, and the drawn one ended by the peer with its
 /// result; 2: a Begin with an Invoke is received, and the drawn dialogue answered by a result and a
 /// basic end; 3: a Continue with a result is received, and a Continue with an Invoke sent, and after each
-/// lap a moment is handed in; 4: nothing, but the moments as of 3. It answers 0 where memory is wanting
-/// (own).
+/// lap a moment is handed in; 4: the next moment is handed in, at which nothing is due. It answers 0 where
+/// memory is wanting (own).
 #[unsafe(no_mangle)]
 pub extern "C" fn tcap_bench_engine(alloc: Global, step: u8, dialogues: u16, laps: u32) -> u64
     // The dialogues that are opened first are no step: in no laps nothing is given.
     ensures { (laps ≡ 0) → (result ≡ 0) }
 {
     engine_steps::count_engine(alloc, step, dialogues, laps)
+}
+
+/// Makes an engine with so many Active dialogues, of which so many lapse at each moment from 1 on, and takes
+/// it so many laps far: in a lap each dialogue lapses once. After each moment each dialogue that lapsed goes
+/// on with another Invoke, whose timeout is as many moments as a lap has. It answers how many outputs the
+/// laps gave in all, two for each lapse; 0 where memory is wanting (own).
+#[unsafe(no_mangle)]
+pub extern "C" fn tcap_bench_lapses(alloc: Global, dialogues: u16, together: u16, laps: u32) -> u64
+    // The dialogues that are opened first are no step: in no laps nothing is given.
+    ensures { (laps ≡ 0) → (result ≡ 0) }
+{
+    lapse_steps::count_lapses(alloc, dialogues, together, laps)
 }
 
 /// Makes a dialogue with so many invocations Sent, and takes it so many laps far: in a lap as many steps
@@ -137,4 +151,14 @@ pub extern "C" fn tcap_bench_invocations(
     ensures { (laps ≡ 0) → (result ≡ 0) }
 {
     invocation_steps::count_invocations(alloc, step, invocations, laps)
+}
+
+/// Makes an engine that takes so many turns of traffic drawn by lot over so many dialogues, and answers a
+/// digest of all that it answers. A turn is a request, a message or a moment, some of them out of place, or
+/// what begins a dialogue where one is over. It answers 0 where memory is wanting (own).
+#[unsafe(no_mangle)]
+pub extern "C" fn tcap_bench_traffic(alloc: Global, seed: u64, dialogues: u16, turns: u32) -> u64
+    ensures { (turns ≡ 0) → (result ≡ 0) }
+{
+    traffic::traffic_digest(alloc, seed, dialogues, turns)
 }

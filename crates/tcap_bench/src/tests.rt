@@ -1,6 +1,6 @@
 use crate::{
-    Invocation, tcap_bench_engine, tcap_bench_feed, tcap_bench_invocations, tcap_bench_rewrite,
-    tcap_bench_write_begin, tcap_bench_write_continue,
+    Invocation, tcap_bench_engine, tcap_bench_feed, tcap_bench_invocations, tcap_bench_lapses,
+    tcap_bench_rewrite, tcap_bench_traffic, tcap_bench_write_begin, tcap_bench_write_continue,
 };
 use std::alloc::Global;
 use std::test::Fail;
@@ -74,6 +74,16 @@ fn each_step_gives_three_outputs(rt: HostRuntime) -> Result<(), Fail> {
     Ok(())
 }
 
+/// A lapse is told and a Continue sent, one at a moment or all, whether the last moment has as many or
+/// fewer. Two laps of three lapses are made.
+#[test]
+fn each_lapse_gives_two_outputs(rt: HostRuntime) -> Result<(), Fail> {
+    for together in [1u16, 2, 3, 1_000] {
+        assert_eq!(rt; tcap_bench_lapses(rt.alloc(), 3, together, 2), 12);
+    }
+    Ok(())
+}
+
 /// A result is told in a Continue and a Continue sent; a lapse is told and a Continue sent; a moment
 /// tells nothing. Two laps of three steps are made.
 #[test]
@@ -81,5 +91,15 @@ fn each_step_of_a_dialogue_gives_its_outputs(rt: HostRuntime) -> Result<(), Fail
     for (step, given) in [(1u8, 18u64), (2, 12), (3, 0)] {
         assert_eq!(rt; tcap_bench_invocations(rt.alloc(), step, 3, 2), given);
     }
+    Ok(())
+}
+
+/// Traffic is answered, the same for the same seed, another for another.
+#[test]
+fn traffic_is_drawn_by_its_seed(rt: HostRuntime) -> Result<(), Fail> {
+    let digest = tcap_bench_traffic(rt.alloc(), 1, 20, 2_000);
+    assert!(rt; digest != 0);
+    assert_eq!(rt; tcap_bench_traffic(rt.alloc(), 1, 20, 2_000), digest);
+    assert!(rt; tcap_bench_traffic(rt.alloc(), 2, 20, 2_000) != digest);
     Ok(())
 }

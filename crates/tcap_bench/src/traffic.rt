@@ -1,0 +1,141 @@
+//! Traffic drawn by lot: an engine with many dialogues takes requests, messages and moments, some of them
+//! out of place, and all that it answers goes into one number.
+
+mod digest;
+mod lot;
+mod messages;
+mod requests;
+
+ghost use Rattle.std.specs.Prelude.{◌≡◌, IfSome};
+
+use digest::Digest;
+use lot::Lot;
+use std::alloc::Global;
+use tcap_engine::{Answer, Engine, Event, Limits, Output};
+
+/// How long an invoke identifier waits for a Reject, in milliseconds.
+const REJECT_MS: u64 = 500;
+
+/// An engine with its traffic: what comes is drawn by the lot, what it answers is in the digest.
+#[derive(Drop)]
+struct Traffic {
+    engine: Engine,
+    /// How many dialogues there are at most.
+    dialogues: u32,
+    lot: Lot,
+    digest: Digest,
+}
+
+impl Traffic {
+    /// An event comes: the dialogue that it makes, if it makes one.
+    fn take(&mut self, event: &Event) -> Option<Option<u32>> {
+        let answer = self.engine.handle(event).ok()?;
+        self.digest.add(&answer)?;
+        Some(dialogue_of(&answer))
+    }
+
+    /// A dialogue is begun by this side with an Invoke, or by the peer: its identifier, 0 where none is left.
+    fn begin(&mut self) -> Option<u32> {
+        if self.lot.below(2) == 0 {
+            return Some(self.take(&Event::Bytes(&messages::BEGIN))?.unwrap_or(0));
+        }
+        let dialogue = self.take(&Event::NewDialogue)?.unwrap_or(0);
+        for request in [
+            requests::invoke(&mut self.lot, self.dialogues),
+            requests::BEGIN,
+        ] {
+            self.take(&Event::On { dialogue, request })?;
+        }
+        Some(dialogue)
+    }
+
+    /// Something comes to a dialogue that stands: a moment, a message or a request.
+    fn go_on(&mut self, dialogue: u32) -> Option<()> {
+        match self.lot.below(16) {
+            0 => {
+                let moment = self.engine.now().saturating_add(self.lot.below(32) as u64);
+                self.take(&Event::Moment(moment))?;
+            }
+            1..=5 => self.hear(dialogue)?,
+            _ => {
+                let request = requests::any(&mut self.lot, self.dialogues);
+                self.take(&Event::On { dialogue, request })?;
+            }
+        }
+        Some(())
+    }
+
+    /// A message comes to a dialogue, or one that is spoiled.
+    fn hear(&mut self, dialogue: u32) -> Option<()> {
+        let id = self.lot.id();
+        match self.lot.below(9) {
+            0..=2 => self.take(&Event::Bytes(&messages::result_to(dialogue, id)))?,
+            3 => self.take(&Event::Bytes(&messages::end_to(dialogue, id)))?,
+            4..=6 => {
+                let component = messages::component(self.lot.below(3), id);
+                self.take(&Event::Bytes(&messages::continue_to(dialogue, component)))?
+            }
+            7 => self.take(&Event::Bytes(&messages::abort_to(dialogue)))?,
+            _ => {
+                let spoiled = messages::spoiled(&mut self.lot, dialogue, id);
+                self.take(&Event::Bytes(&spoiled))?
+            }
+        };
+        Some(())
+    }
+
+    /// One event, or those of a birth, at a place drawn by lot. A place has the dialogue that was born there
+    /// last; where it is over, another is born.
+    fn go_on_somewhere(&mut self, places: &mut [u32]) -> Option<()> {
+        let at = self.lot.below(self.dialogues) as usize;
+        let place = places.get_mut(at)?;
+        match self.engine.state_of(*place) {
+            None => *place = self.begin()?,
+            Some(_) => self.go_on(*place)?,
+        }
+        Some(())
+    }
+}
+
+/// The dialogue that an answer tells of as new.
+fn dialogue_of(answer: &Answer) -> Option<u32> {
+    match answer {
+        Answer::NewDialogue(dialogue) => Some(*dialogue),
+        Answer::Outputs(outputs) => match *outputs.first()? {
+            Output::Begin { dialogue, .. } => Some(dialogue),
+            _ => None,
+        },
+        _ => None,
+    }
+}
+
+/// The digest of so much traffic over so many dialogues; nothing where memory is wanting.
+fn digest_of(alloc: Global, seed: u64, dialogues: u16, turns: u32) -> Option<u64>
+    ensures { (turns ≡ 0) → IfSome result (λ digest. digest ≡ 0) }
+{
+    let limits = Limits {
+        max_dialogues: 65_535,
+        reject_ms: REJECT_MS,
+    };
+    let mut places = vec![in alloc; 0u32; dialogues as usize].ok()?;
+    let mut traffic = Traffic {
+        engine: Engine::new(alloc, limits),
+        dialogues: dialogues as u32,
+        lot: Lot::new(seed),
+        digest: Digest::new(),
+    };
+    for _ in 0..turns {
+        traffic.go_on_somewhere(&mut places)?;
+    }
+    Some(traffic.digest.value())
+}
+
+/// The digest of the answers; 0 where memory is wanting.
+pub fn traffic_digest(alloc: Global, seed: u64, dialogues: u16, turns: u32) -> u64
+    ensures { (turns ≡ 0) → (result ≡ 0) }
+{
+    match digest_of(alloc, seed, dialogues, turns) {
+        Some(digest) => digest,
+        None => 0,
+    }
+}

@@ -1,0 +1,117 @@
+//! The requests of the user.
+
+use super::lot::Lot;
+use tcap_component::{Body, Code, Problem};
+use tcap_engine::{AbortWhy, Ending, Request};
+use tcap_invocation::Class;
+
+/// A Begin without context or information.
+pub(super) const BEGIN: Request<'static> = Request::Begin {
+    context: None,
+    info: &[],
+};
+
+/// A parameter: an octet string.
+const PARAMETER: [u8; 6] = [0x04, 0x04, 0x55, 0x66, 0x77, 0x88];
+
+/// A parameter, or none.
+fn parameter(lot: &mut Lot) -> Option<&'static [u8]> {
+    if lot.below(2) == 0 {
+        Some(&PARAMETER)
+    } else {
+        None
+    }
+}
+
+/// A body, or none.
+fn body(lot: &mut Lot) -> Option<Body<'static>> {
+    let parameter = parameter(lot)?;
+    Some(Body {
+        code: Code::Local(10),
+        parameter: Some(parameter),
+    })
+}
+
+/// An Invoke of any class. Turns take a millisecond in the mean, so a dialogue is drawn some 24 times at most
+/// until the invocation lapses.
+pub(super) fn invoke(lot: &mut Lot, dialogues: u32) -> Request<'static> {
+    let class = match lot.below(4) {
+        0 => Class::One,
+        1 => Class::Two,
+        2 => Class::Three,
+        _ => Class::Four,
+    };
+    let longest = dialogues.saturating_mul(24);
+    Request::Invoke {
+        id: lot.id(),
+        class,
+        code: Code::Local(10),
+        parameter: parameter(lot),
+        linked: None,
+        timeout_ms: lot.below(longest) as u64 + 1,
+    }
+}
+
+/// A request on components, but for an Invoke.
+fn answer(lot: &mut Lot) -> Request<'static> {
+    let id = lot.id();
+    match lot.below(5) {
+        0 => Request::ResultLast {
+            id,
+            body: body(lot),
+        },
+        1 => Request::ResultMore {
+            id,
+            body: body(lot),
+        },
+        2 => Request::ErrorBack {
+            id,
+            code: Code::Local(5),
+            parameter: parameter(lot),
+        },
+        3 => Request::Reject {
+            id: Some(id),
+            problem: Problem::unexpected_result(),
+        },
+        _ => Request::Cancel { id },
+    }
+}
+
+/// A request that ends a dialogue, or one that no dialogue has any more.
+fn ending(lot: &mut Lot) -> Request<'static> {
+    let info: &'static [u8] = &[];
+    match lot.below(5) {
+        0 => Request::End {
+            ending: Ending::Basic,
+            context: None,
+            info,
+        },
+        1 => Request::End {
+            ending: Ending::Prearranged,
+            context: None,
+            info,
+        },
+        2 => Request::Abort {
+            why: AbortWhy::User,
+            info,
+        },
+        3 => Request::Uni {
+            context: None,
+            info,
+        },
+        _ => BEGIN,
+    }
+}
+
+/// A request of any kind.
+pub(super) fn any(lot: &mut Lot, dialogues: u32) -> Request<'static> {
+    match lot.below(12) {
+        0..=2 => invoke(lot, dialogues),
+        3..=5 => Request::Continue {
+            context: None,
+            info: &[],
+        },
+        6..=10 => answer(lot),
+        _ => ending(lot),
+    }
+}
