@@ -45,6 +45,9 @@ module _ (begun piece : List ℕ) (told : List (List ℕ)) (s : Scanner) (held r
   pub IsTold-open : (t : Scanner) → IsUnderWay t (held ++ rest) → (cut_of (begun ++ piece) ≡ cut_into told (still_begun told begun ++ rest) None) × IsUnderWay t (still_begun told begun ++ rest)
   IsTold-open t h = let e = same-held in (ends None (under_way-cut t (held ++ rest) h), (rw e at h))
 
+  pub IsTold-done : rest ≡ [] → (cut_of (begun ++ piece) ≡ cut_into told (still_begun told begun ++ rest) None) × IsUnderWay s (still_begun told begun ++ rest)
+  IsTold-done e = IsTold-open s (rw (e, append-nil held) is.under_way)
+
   pub IsTold-fault : (fault : FeedFault) → cut_of (held ++ rest) ≡ cut_into [] (held ++ rest) (Some fault) → (all : List ℕ) × (cut_of (begun ++ piece) ≡ cut_into told all (Some fault))
   IsTold-fault fault e = (still_begun told begun ++ rest, ends (Some fault) e)
 

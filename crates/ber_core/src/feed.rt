@@ -110,6 +110,10 @@ fn hold<A: Allocator + Copy>(
         rest.extend_from_slice(octets)?;
         return Ok(());
     }
+    if octets.is_empty() {
+        rest.clear();
+        return Ok(());
+    }
     rest.reserve(octets.len())?;
     rest.clear();
     rest.extend_from_slice(octets)?;

@@ -63,7 +63,9 @@ fn join<A: Allocator + Copy>(alloc: A, begun: &[u8], last: &[u8]) -> Result<Vec<
     ensures ok { IfOk result (λ v. v.items ≡ begun.now ++ last.now) }
 {
     let mut message = Vec::with_capacity(alloc, begun.len() + last.len())?;
-    message.extend_from_slice(begun)?;
+    if !begun.is_empty() {
+        message.extend_from_slice(begun)?;
+    }
     message.extend_from_slice(last)?;
     Ok(message)
 }
@@ -83,7 +85,7 @@ pub fn cut_piece<'p, A: Allocator + Copy>(
     let mut scanner = scanner;
     let mut begun = begun;
     let mut rest = piece;
-    loop {
+    while !rest.is_empty() {
         match split_piece(scanner, begun, rest) {
             Ok(Split::Whole(last, after)) => {
                 let message = join(alloc, begun, last)?;
@@ -97,4 +99,5 @@ pub fn cut_piece<'p, A: Allocator + Copy>(
             Err(fault) => return Ok((messages, End::Fault(fault))),
         }
     }
+    Ok((messages, End::Open(scanner, rest)))
 }

@@ -70,6 +70,7 @@ impl Scanner {
 
     /// Takes octets until the element is whole, and gives what follows it; or takes them all, and gives
     /// the scanner behind them.
+    #[inline(always)]
     pub fn scan(self, bytes: &[u8]) -> Result<(Option<Scanner>, &[u8]), BerFault>
         ensures ok { IfOk result (λ r. (more : List ℕ) → goes_on_or r.0 (r.1.now ++ more) ≡ goes_on self (bytes.now ++ more)) }
         ensures err { IfErr result (λ f. (is_short f ≡ false) × ((more : List ℕ) → goes_on self (bytes.now ++ more) ≡ Err f)) }
