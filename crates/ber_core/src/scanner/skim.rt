@@ -18,8 +18,20 @@ fn opens(tag: u8, length: u8) -> bool
     tag != 0x00 && tag & 0x1f != 0x1f && tag & 0x20 != 0 && length == 0x80
 }
 
-/// Passes over two octets, a head or an end, and over the content that is there behind a definite head:
-/// gives how many are open then, and what follows.
+/// Passes over the content behind a head whose length is `81` and this octet: gives what follows.
+#[inline(always)]
+fn skim_long(nested: u8, tag: u8, len: u8, content: &[u8]) -> Option<&[u8]>
+    ensures value { IfSome result (λ after. (more : List ℕ) → outer_at nested (after.now ++ more) ≡ at_tag nested (tag ∷ 0x81 ∷ len ∷ (content.now ++ more))) }
+    ensures shorter { IfSome result (λ after. length after.now ≤ length content.now) }
+{
+    if is_plain(tag, 0) && len as usize <= content.len() {
+        return Some(&content[len as usize..]);
+    }
+    None
+}
+
+/// Passes over two octets, a head or an end, or a head of three, and over the content that is there behind
+/// a definite head: gives how many are open then, and what follows.
 #[inline(always)]
 fn skim_one(nested: u8, tag: u8, len: u8, body: &[u8]) -> Option<(u8, &[u8])>
     requires { nested ≤ depth_limit }
@@ -36,7 +48,13 @@ fn skim_one(nested: u8, tag: u8, len: u8, body: &[u8]) -> Option<(u8, &[u8])>
     if opens(tag, len) && nested < MAX_DEPTH {
         return Some((nested + 1, body));
     }
-    None
+    match body {
+        [count, content @ ..] if len == 0x81 => {
+            let after = skim_long(nested, tag, *count, content)?;
+            Some((nested, after))
+        }
+        _ => None,
+    }
 }
 
 /// Passes over what is plain: gives the scanner behind it, `None` where the outermost element ends, and
