@@ -2,6 +2,7 @@
 
 mod caller;
 mod compared;
+mod devices;
 mod dialogues;
 mod engines;
 mod examples;

@@ -59,6 +59,7 @@ enum Call {
     Begin,
     Continue,
     Advance(u64),
+    NextTimer,
     Now,
 }
 
@@ -67,6 +68,8 @@ enum Call {
 enum Wanted {
     /// An identifier, a number, or the clock.
     Number(u64),
+    /// A moment at which time changes something, or none.
+    Timer(Option<u64>),
     /// No outputs.
     Nothing,
     /// One Send of these octets.
@@ -86,12 +89,15 @@ const BEGIN_ROW: [(Call, Wanted); 2] = [
 ];
 
 /// The example "Lapse and late result".
-const LAPSE_ROW: [(Call, Wanted); 9] = [
+const LAPSE_ROW: [(Call, Wanted); 12] = [
     (Call::NewDialogue, Wanted::Number(1)),
     (Call::Invoke, Wanted::Number(1)),
+    (Call::NextTimer, Wanted::Timer(None)),
     (Call::Begin, Wanted::Sent(&BEGIN)),
+    (Call::NextTimer, Wanted::Timer(Some(1000))),
     (Call::Advance(999), Wanted::Nothing),
     (Call::Advance(1000), Wanted::Lapsed),
+    (Call::NextTimer, Wanted::Timer(None)),
     (Call::Receive(&RESULT), Wanted::Late),
     (Call::Continue, Wanted::Sent(&REJECT)),
     (Call::Advance(5), Wanted::Nothing),
@@ -119,6 +125,7 @@ fn answer<A: Allocator + Copy + Debug>(
         Call::Begin => printed(alloc, &engine.begin(1, None, &[])?),
         Call::Continue => printed(alloc, &engine.go_on(1, None, &[])?),
         Call::Advance(now) => printed(alloc, &engine.advance(now)?),
+        Call::NextTimer => printed(alloc, &engine.next_timer()),
         Call::Now => printed(alloc, &engine.now()),
     }
 }
@@ -173,6 +180,7 @@ fn late(alloc: Global) -> Option<String> {
 fn text_of(alloc: Global, wanted: Wanted) -> Option<String> {
     match wanted {
         Wanted::Number(number) => printed(alloc, &number).ok(),
+        Wanted::Timer(timer) => printed(alloc, &timer).ok(),
         Wanted::Nothing => {
             let none: Vec<Output<'static>> = Vec::new(alloc);
             printed(alloc, &none).ok()

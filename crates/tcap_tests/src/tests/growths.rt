@@ -18,7 +18,7 @@ enum Outcome {
 fn refused_growths<F: FnMut() -> Outcome>(heap: &Refusing<Global>, mut call: F) -> Option<u64>
     requires { F.IsAlwaysCallable call }
 {
-    for number in 1..64u64 {
+    for number in 1..512u64 {
         heap.refuse(number);
         let outcome = call();
         if heap.is_armed() {
@@ -77,21 +77,41 @@ fn texts_with_each_growth_refused(rt: HostRuntime) -> Result<(), Fail> {
     Ok(())
 }
 
-/// What a run of the command gave, by what it wrote and its status, beside the text that is wanted.
+/// The example "Repeated Begin played".
+pub(super) const SCRIPT: &[u8] =
+    b"A new\nA invoke 1 1 1 10 1000 - -\nA begin 1 - -\ndeliver A1\nagain A1\nB last 1 1 10 0401AA\nB continue 1 - -\nB last 2 1 10 0401BB\nB continue 2 - -\ndeliver B2\ndeliver B1\nadvance 1000\n";
+
+/// What it prints.
+pub(super) const PLAYED: &[u8] =
+    b"A new 1\nA number 1\nA send A1 62104804000000016c08a10602010102010a\nB begin 1 context - info -\nB invoked 1 id 1 linked - op local 10 param -\nB begin 2 context - info -\nB invoked 2 id 1 linked - op local 10 param -\nB done\nB send B1 651b4804000000014904000000016c0da20b020101300602010a0401aa\nB done\nB send B2 651b4804000000024904000000016c0da20b020101300602010a0401bb\nA continue 1 context - info -\nA last 1 id 1 number 1 op local 10 param 0401bb\nA continue 1 context - info -\nA localreject 1 id 1 result 0\n";
+
+/// Two Begins, and the front of a third.
+const STREAM: &[u8] = &[
+    0x62, 0x06, 0x48, 0x04, 0x00, 0x00, 0x00, 0x01, 0x62, 0x06, 0x48, 0x04, 0x00, 0x00, 0x00, 0x01,
+    0x62, 0x06, 0x48,
+];
+
+/// The lines of its first Begin, of the second, and of the front, one after another.
+const LINES: [&[u8]; 4] = [b"", b"good\n", b"good\ngood\n", b"good\ngood\nrest 3\n"];
+
+/// What a run of the command gave, by what it wrote and its status, beside those that are wanted. Where memory
+/// was refused, what is written has to be one of these texts.
 fn outcome_of_run(
     alloc: Global,
     heap: &Refusing<Global>,
     words: &[&str],
-    wanted: &[u8],
+    input: &[u8],
+    wanted: (u8, &[u8]),
+    left: &[&[u8]],
 ) -> Outcome {
-    let mut input: &[u8] = b"left alone";
+    let mut input = input;
     let mut out = Vec::new(alloc);
     let mut err = Vec::new(alloc);
     let status = run_command(alloc, heap, words, &mut input, &mut out, &mut err);
-    if status == 0 && out.as_slice() == wanted && err.is_empty() {
+    if (status, out.as_slice()) == wanted && err.is_empty() {
         Outcome::Done
     } else if status == 2
-        && out.is_empty()
+        && left.iter().any(|text| out.as_slice() == *text)
         && err.as_slice() == b"tcap: out of memory\n".as_slice()
     {
         Outcome::NoMemory
@@ -104,15 +124,25 @@ fn outcome_of_run(
 fn command_with_each_growth_refused(rt: HostRuntime) -> Result<(), Fail> {
     let alloc = rt.alloc();
     let heap = Refusing::new(alloc);
-    let shown = refused_growths(
-        &heap,
-        || outcome_of_run(alloc, &heap, &["show", BEGIN], SHOWN),
-    );
-    assert!(rt; shown.is_some_and(|count| count > 1));
-    let rewritten = refused_growths(&heap, || {
-        outcome_of_run(alloc, &heap, &["canon", BEGIN], REWRITTEN)
-    });
-    assert!(rt; rewritten.is_some_and(|count| count > 5));
+    let rows: [(&[&str], &[u8], (u8, &[u8]), &[&[u8]], u64); 5] = [
+        // The words, the input; the status and what is written; what may stand written where memory was
+        // refused, and the least number of growths.
+        (&["show", BEGIN], b"", (0, SHOWN), &LINES[..1], 2),
+        (&["check", BEGIN], b"", (0, b"good\n"), &LINES[..1], 2),
+        (&["canon", BEGIN], b"", (0, REWRITTEN), &LINES[..1], 6),
+        (&["play"], SCRIPT, (0, PLAYED), &LINES[..1], 20),
+        (&["stream"], STREAM, (1, LINES[3]), &LINES[..3], 4),
+    ];
+    for (words, input, wanted, left, least) in rows {
+        let growths = refused_growths(
+            &heap,
+            || outcome_of_run(alloc, &heap, words, input, wanted, left),
+        );
+        assert!(rt;
+            growths.is_some_and(|count| count >= least),
+            "at {words:?}, {growths:?}"
+        );
+    }
     Ok(())
 }
 

@@ -9,7 +9,7 @@ const BEGIN_AND_END: [u8; 9] = [0x62, 0x06, 0x48, 0x04, 0x00, 0x00, 0x00, 0x01, 
 
 /// A reader of some octets over and over, which may fail on the way.
 #[derive(Drop)]
-struct Repeated<'a> {
+pub(super) struct Repeated<'a> {
     /// The octets.
     octets: &'a [u8],
     /// Where the next one stands.
@@ -21,11 +21,11 @@ struct Repeated<'a> {
     /// The number of the read that fails, from 1, or 0.
     failing: u64,
     /// How many reads were made.
-    reads: u64,
+    pub(super) reads: u64,
 }
 
 impl<'a> Repeated<'a> {
-    fn new(octets: &'a [u8], left: usize, width: usize, failing: u64) -> Repeated<'a> {
+    pub(super) fn new(octets: &'a [u8], left: usize, width: usize, failing: u64) -> Repeated<'a> {
         Repeated {
             octets,
             place: 0,

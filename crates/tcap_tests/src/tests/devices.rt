@@ -1,0 +1,199 @@
+//! Devices that fail: at the Nth read or write, for each N until none is left.
+
+use super::growths::{PLAYED, SCRIPT};
+use super::streams::Repeated;
+use std::alloc::Global;
+use std::io;
+use std::io::{ErrorKind, Write};
+use std::test::Fail;
+use tcap_cmd::run_command;
+
+/// A Begin.
+const BEGIN: [u8; 8] = [0x62, 0x06, 0x48, 0x04, 0x00, 0x00, 0x00, 0x01];
+
+/// What a stream of five of it prints.
+const FIVE: &[u8] = b"good\ngood\ngood\ngood\ngood\n";
+
+/// A writer that takes so many octets at a time, keeps how many stood written after each write, and fails at one.
+#[derive(Drop)]
+struct Counting {
+    /// What it took.
+    taken: Vec<u8>,
+    /// How many octets it takes at a time.
+    width: usize,
+    /// The number of the write that fails, from 1, or 0.
+    failing: u64,
+    /// How many writes were made.
+    writes: u64,
+}
+
+impl Counting {
+    fn new(alloc: Global, width: usize, failing: u64) -> Counting {
+        Counting {
+            taken: Vec::new(alloc),
+            width,
+            failing,
+            writes: 0,
+        }
+    }
+}
+
+impl Write for Counting {
+    fn write(&mut self, bytes: &[u8]) -> io::Result<usize> {
+        self.writes = self.writes.saturating_add(1);
+        if self.writes == self.failing {
+            return Err(io::Error::from(ErrorKind::Other));
+        }
+        let count = bytes.len().min(self.width);
+        if self.taken.extend_from_slice(&bytes[..count]).is_err() {
+            return Err(io::Error::from(ErrorKind::OutOfMemory));
+        }
+        Ok(count)
+    }
+
+    fn flush(&mut self) -> io::Result<()> {
+        Ok(())
+    }
+}
+
+/// How many reads of a run failed in turn, each told, before a run came to its end. Each read before the one that
+/// failed left so many octets written.
+fn failed_reads(
+    alloc: Global,
+    words: &[&str],
+    input: (&[u8], usize, usize),
+    wanted: &[u8],
+    step: u64,
+) -> Option<u64> {
+    let (octets, left, width) = input;
+    for number in 1..256u64 {
+        let mut reader = Repeated::new(octets, left, width, number);
+        let mut out = Vec::new(alloc);
+        let mut err = Vec::new(alloc);
+        let status = run_command(alloc, alloc, words, &mut reader, &mut out, &mut err);
+        if reader.reads < number {
+            let is_whole = status == 0 && out.as_slice() == wanted && err.is_empty();
+            return is_whole.then_some(number - 1);
+        }
+        let is_told = status == 2 && err.as_slice() == b"tcap: read failed\n".as_slice();
+        let written = out.len() as u64;
+        if !is_told
+            || written != step.saturating_mul(number - 1)
+            || !wanted.starts_with(out.as_slice())
+        {
+            return None;
+        }
+    }
+    None
+}
+
+#[test]
+fn reads_that_fail_in_turn(rt: HostRuntime) -> Result<(), Fail> {
+    let alloc = rt.alloc();
+    let rows: [(&[&str], (&[u8], usize, usize), &[u8], u64, u64); 3] = [
+        // The words; the octets of the input, over and over, how many in all, how many a read; what is written, how
+        // many octets of it for each read, and how many reads there are.
+        (
+            &["play"],
+            (SCRIPT, SCRIPT.len(), 1),
+            PLAYED,
+            0,
+            SCRIPT.len() as u64 + 1,
+        ),
+        (&["play"], (SCRIPT, SCRIPT.len(), 4_096), PLAYED, 0, 2),
+        (&["stream"], (&BEGIN, 40, 8), FIVE, 5, 6),
+    ];
+    for (words, input, wanted, step, reads) in rows {
+        let failed = failed_reads(alloc, words, input, wanted, step);
+        assert_eq!(rt; failed, Some(reads), "at {words:?}");
+    }
+    Ok(())
+}
+
+/// How many writes of a run failed in turn, each told, before a run came to its end. Each write before the one that
+/// failed took so many octets, the last of a text what was left of it.
+fn failed_writes(
+    alloc: Global,
+    words: &[&str],
+    input: (&[u8], usize),
+    width: usize,
+    wanted: &[u8],
+) -> Option<u64> {
+    let (octets, left) = input;
+    for number in 1..256u64 {
+        let mut reader = Repeated::new(octets, left, 4_096, 0);
+        let mut out = Counting::new(alloc, width, number);
+        let mut err = Vec::new(alloc);
+        let status = run_command(alloc, alloc, words, &mut reader, &mut out, &mut err);
+        let taken = out.taken.as_slice();
+        if out.writes < number {
+            let is_whole = status == 0 && taken == wanted && err.is_empty();
+            return is_whole.then_some(number - 1);
+        }
+        let is_told = status == 2 && err.as_slice() == b"tcap: write failed\n".as_slice();
+        let most = (width as u64).saturating_mul(number - 1);
+        if !is_told
+            || out.writes != number
+            || taken.len() as u64 > most
+            || !wanted.starts_with(taken)
+        {
+            return None;
+        }
+    }
+    None
+}
+
+#[test]
+fn writes_that_fail_in_turn(rt: HostRuntime) -> Result<(), Fail> {
+    let alloc = rt.alloc();
+    let rows: [(&[&str], (&[u8], usize), usize, &[u8], u64); 6] = [
+        // The words; the octets of the input, over and over, and how many in all; how many octets a write takes; what
+        // is written, and by how many writes.
+        (&["check", "6206480400000001"], (b"", 0), 99, b"good\n", 1),
+        (&["check", "6206480400000001"], (b"", 0), 1, b"good\n", 5),
+        (&["play"], (SCRIPT, SCRIPT.len()), 4_096, PLAYED, 1),
+        (&["play"], (SCRIPT, SCRIPT.len()), 100, PLAYED, 6),
+        // Each line of a stream is written by itself.
+        (&["stream"], (&BEGIN, 40), 99, FIVE, 5),
+        (&["stream"], (&BEGIN, 40), 3, FIVE, 10),
+    ];
+    for (words, input, width, wanted, writes) in rows {
+        let failed = failed_writes(alloc, words, input, width, wanted);
+        assert_eq!(rt; failed, Some(writes), "at {words:?}, {width}");
+    }
+    Ok(())
+}
+
+#[test]
+fn inputs_too_long(rt: HostRuntime) -> Result<(), Fail> {
+    let alloc = rt.alloc();
+    let rows: [(&[&str], &[u8], usize, usize, u64, usize); 3] = [
+        // The words; the octets of the input, over and over, how many in all, how many a read; how many reads are made,
+        // and how many octets are written.
+        (&["play"], b"\n", usize::MAX, 1, 1_000_000, 0),
+        (&["play"], b"\n", 1_048_577, 4_096, 257, 0),
+        (
+            &["stream"],
+            &[0x62, 0x03, 0x48, 0x01, 0x07],
+            usize::MAX,
+            1,
+            1_000_000,
+            200_000 * FIVE.len() / 5,
+        ),
+    ];
+    for (words, octets, left, width, reads, written) in rows {
+        let mut reader = Repeated::new(octets, left, width, 0);
+        let mut out = Vec::new(alloc);
+        let mut err = Vec::new(alloc);
+        let status = run_command(alloc, alloc, words, &mut reader, &mut out, &mut err);
+        assert_eq!(rt; status, 2, "at {words:?}, {width}");
+        assert_eq!(rt;
+            err.as_slice(),
+            b"tcap: input too long\n".as_slice(),
+            "at {words:?}, {width}"
+        );
+        assert_eq!(rt; reader.reads, reads, "at {words:?}, {width}");
+        assert_eq!(rt; out.len(), written, "at {words:?}, {width}");
+    }
+    Ok(())
+}
