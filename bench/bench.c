@@ -244,6 +244,16 @@ static int test(void) {
       return 1;
     }
   }
+  make("write", 1);
+  if (tcap_bench_rewrite(message, length, room, length - 1)) {
+    fprintf(stderr, "bench: a message is written to a room that is too short\n");
+    return 1;
+  }
+  for (uint32_t width = 0; width <= length; width++)
+    if (tcap_bench_feed(width, message, length) != (width ? length : 0)) {
+      fprintf(stderr, "bench: a feed doesn't give its message in pieces of %u octets\n", width);
+      return 1;
+    }
   /* Send, Continue, ResultLast, Send; and Send, End, ResultLast. */
   make("dialogue", 5);
   uint64_t outputs = tcap_bench_dialogue(5, message, length);

@@ -18,8 +18,6 @@ mod lapse_steps;
 mod message_sum;
 mod rewritten;
 mod sum;
-#[cfg(test)]
-mod tests;
 mod traffic;
 mod values;
 mod written;
