@@ -1,4 +1,2 @@
 pub mod Computing
-pub mod Operation
 pub mod Printed
-pub mod TwoEngines

@@ -1,5 +1,5 @@
-use crate::{clock_after, first_operation, hear_at, operate};
 use std::test::Fail;
+use tcap_callers::{clock_after, first_operation, hear_at, operate};
 use tcap_engine::{DropWhy, Engine, Fault, Limits, Output};
 
 #[test]

@@ -1,8 +1,8 @@
 use Rattle.std.proofs.Common.{length, ◌-◌, subst}
 use Rattle.tcap_engine.specs.EventViews.{answers_view, events_view}
 use Rattle.tcap_engine.specs.Running.{StandsThrough, done}
-use Rattle.tcap_tests.proofs.BothLemmas.{goes-on}
-use Rattle.tcap_tests.proofs.two_engines.answered.Goals as goal
+use Rattle.tcap_callers.proofs.BothLemmas.{goes-on}
+use Rattle.tcap_callers.proofs.two_engines.answered.Goals as goal
 
 pub returns : goal.returns
 returns g c =

@@ -27,7 +27,7 @@ use Rattle.tcap_model.specs.Words.Request.{ComponentRequest, Request}
 use Rattle.tcap_model.specs.Table.World.{World, StandsAt, first_world}
 use Rattle.tcap_model.specs.Words.Answer.{Answer}
 use Rattle.tcap_model.specs.Words.Event.{Event}
-use Rattle.tcap_tests.specs.TwoEngines.{ComesBack, GoesOn, GoneOn, Hears, IsSent, TellsResult}
+use Rattle.tcap_callers.specs.TwoEngines.{ComesBack, GoesOn, GoneOn, Hears, IsSent, TellsResult}
 
 -- A run of one of them over some events, of which so many were done; the answers stand alone.
 pub goes-on : EachRunIsHeard → EachSendIsSent → EachAnswerIsGiven

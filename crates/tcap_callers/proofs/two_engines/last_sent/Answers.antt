@@ -1,6 +1,6 @@
 use Rattle.std.proofs.Common.{◌∙◌, sym, ap, option_copied, Some, length, ◌-◌}
-use Rattle.tcap_tests.proofs.BothLemmas.{sent-at}
-use Rattle.tcap_tests.proofs.two_engines.last_sent.Goals as goal
+use Rattle.tcap_callers.proofs.BothLemmas.{sent-at}
+use Rattle.tcap_callers.proofs.two_engines.last_sent.Goals as goal
 
 pub returns-in-Send : goal.returns-in-Send
 returns-in-Send g c =

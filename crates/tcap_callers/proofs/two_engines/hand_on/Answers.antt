@@ -1,4 +1,4 @@
-use Rattle.tcap_tests.proofs.two_engines.hand_on.Goals as goal
+use Rattle.tcap_callers.proofs.two_engines.hand_on.Goals as goal
 
 pub returns-in-Some : goal.returns-in-Some
 returns-in-Some g c = λ net engine sent. c.answered.ensures net engine (sent c.in-Some.message.now c.in-Some.ensures, tt)

@@ -4,7 +4,7 @@ ghost use Rattle.std.specs.Prelude.{◌≡◌, IfSome};
 ghost use Rattle.tcap_engine.specs.EventViews.{answers_view, events_view};
 ghost use Rattle.tcap_engine.specs.TwoEnds.{AreCarried};
 ghost use Rattle.tcap_model.specs.Statements.Net.{Engine as Which, Trace};
-ghost use Rattle.tcap_tests.specs.TwoEngines.{ComesBack, GoesOn, Hears, IsSent, TellsResult};
+ghost use Rattle.tcap_callers.specs.TwoEngines.{ComesBack, GoesOn, Hears, IsSent, TellsResult};
 
 use std::alloc::Allocator;
 use tcap_component::Code;

@@ -2,9 +2,9 @@ use Rattle.std.proofs.Common.{refl, subst, []}
 use Rattle.std.proofs.lemmas.Option.{IfSome_then}
 use Rattle.tcap_engine.specs.EventViews.{answers_view, events_view}
 use Rattle.tcap_model.specs.Statements.Net.{Net}
-use Rattle.tcap_tests.specs.TwoEngines.{Hears, TellsResult}
-use Rattle.tcap_tests.proofs.BothLemmas.{comes-back}
-use Rattle.tcap_tests.proofs.two_engines.operate.Goals as goal
+use Rattle.tcap_callers.specs.TwoEngines.{Hears, TellsResult}
+use Rattle.tcap_callers.proofs.BothLemmas.{comes-back}
+use Rattle.tcap_callers.proofs.two_engines.operate.Goals as goal
 
 pub returns : goal.returns
 returns g c =

@@ -1,6 +1,6 @@
 ghost use Rattle.std.specs.Prelude.{◌≡◌};
 ghost use Rattle.tcap_component.specs.Views.{code_parts};
-ghost use Rattle.tcap_tests.specs.Operation.{local_number};
+ghost use Rattle.tcap_callers.specs.Operation.{local_number};
 
 use tcap_component::{Code, Component, Components};
 use tcap_pdu::read_frame;
