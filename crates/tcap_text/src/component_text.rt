@@ -186,11 +186,15 @@ pub fn add_component<A: Allocator + Copy>(
             parameter,
         } => add_invoke(alloc, text, *id, *linked, code, *parameter),
         Component::ResultLast { id, body } => {
-            write!(text, "result last {id} op ")?;
+            text.push_str("result last ")?;
+            write!(text, "{id}")?;
+            text.push_str(" op ")?;
             add_body(alloc, text, body)
         }
         Component::ResultMore { id, body } => {
-            write!(text, "result more {id} op ")?;
+            text.push_str("result more ")?;
+            write!(text, "{id}")?;
+            text.push_str(" op ")?;
             add_body(alloc, text, body)
         }
         Component::ErrorBack {
