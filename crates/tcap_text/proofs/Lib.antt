@@ -2,6 +2,7 @@ pub mod CanonicalComponents
 pub mod CanonicalFaults
 pub mod CanonicalFrame
 pub mod CanonicalTwice
+pub mod GoodItems
 pub mod ItemLines
 pub mod MessageSteps
 pub mod PrintedHex

@@ -1,5 +1,5 @@
 -- Texts added one after the other.
-use Rattle.std.proofs.Common.{◌≡◌, ℕ, List, ◌++◌, Result, OnOk, ap, ◌∙◌, append_assoc}
+use Rattle.std.proofs.Common.{◌≡◌, ℕ, List, ◌++◌, Result, Ok, OnOk, ap, ◌∙◌, append_assoc}
 use Rattle.std.proofs.lemmas.Result.{on_ok_weaker}
 
 module _ {T E : Type 0} (r : Result T E) where
@@ -8,3 +8,6 @@ module _ {T E : Type 0} (r : Result T E) where
 
   pub after_two : (old first second new a b c : List ℕ) → first ≡ old ++ a → second ≡ first ++ b → OnOk r (new ≡ second ++ c) → OnOk r (new ≡ old ++ (a ++ (b ++ c)))
   after_two old first second new a b c p q h = after_one old first new a (b ++ c) p (on_ok_weaker r (λ s. s ∙ (ap (λ (w : List ℕ). w ++ c) q ∙ append_assoc first b c)) h)
+
+pub all_three : (old first second new a b c : List ℕ) → first ≡ old ++ a → second ≡ first ++ b → new ≡ second ++ c → new ≡ old ++ (a ++ (b ++ c))
+all_three = after_two {T = ℕ} {E = ℕ} (Ok 0)

@@ -57,7 +57,7 @@ fn is_known_pdu(content: &[u8]) -> bool
 }
 
 /// Whether the dialogue portion of a message other than an Abort is good, if it has one.
-fn has_good_portion(dialogue: &Option<&[u8]>) -> bool
+pub(crate) fn has_good_portion(dialogue: &Option<&[u8]>) -> bool
     ensures { result ≡ is_good_portion (option_copied dialogue.now) }
 {
     match dialogue {
@@ -67,7 +67,7 @@ fn has_good_portion(dialogue: &Option<&[u8]>) -> bool
 }
 
 /// Whether the dialogue portion of an Abort is good, if it has one.
-fn has_good_reason(part: &AbortPart<'_>) -> bool
+pub(crate) fn has_good_reason(part: &AbortPart<'_>) -> bool
     ensures { result ≡ is_good_reason (reason_of part.now) }
 {
     match part {

@@ -4,11 +4,14 @@ ghost use Rattle.tcap_component.specs.ComponentReading.{components_of};
 ghost use Rattle.tcap_component.specs.Views.{item_view};
 ghost use Rattle.tcap_text.specs.Text.{inner_line};
 ghost use Rattle.tcap_text.specs.ComponentText.{item_words};
+ghost use Rattle.tcap_text.specs.Verdict.{is_good, components_verdict, portions_verdict, message_verdict};
 ghost use Rattle.tcap_text.specs.Show.{origin_line, destination_line, dialogue_lines, item_lines, component_lines, portion_lines, reason_lines, message_lines, show_text_of, show_is_good, check_text_of};
 
 use crate::component_text::{add_component, add_fault};
 use crate::dialogue_text::add_portion;
-use crate::judge::{add_verdict, judge_message, read_message, verdict_on, verdict_text};
+use crate::judge::{
+    add_verdict, has_good_portion, has_good_reason, read_message, verdict_on, verdict_text,
+};
 use crate::shown::Shown;
 use crate::text::{add_line, add_number, add_octets};
 use ber_core::OutOfMemory;
@@ -72,46 +75,60 @@ fn add_item<A: Allocator + Copy>(
     Ok(())
 }
 
-/// Adds a line for each component up to the first fault, and one for that fault.
+/// Adds a line for each component up to the first fault, and one for that fault. Tells whether there
+/// was no fault, so that the components needn't be read again for the verdict.
+#[tactic(auto, unfolding(crate::specs::Show::good_after))]
 fn add_items<A: Allocator + Copy>(
     alloc: A,
     text: &mut String<A>,
     components: &[u8],
-) -> Result<(), OutOfMemory>
-    ensures { OnOk result (string_bytes text.new ≡ string_bytes text.old ++ item_lines (components_of components.now)) }
+) -> Result<bool, OutOfMemory>
+    ensures text { OnOk result (string_bytes text.new ≡ string_bytes text.old ++ item_lines (components_of components.now)) }
+    ensures good { IfOk result (λ good. good ≡ is_good (components_verdict components.now)) }
 {
+    let mut good = true;
     for item in Components::new(components) {
         add_item(alloc, text, &item)?;
+        if item.is_err() {
+            good = false;
+        }
     }
-    Ok(())
+    Ok(good)
 }
 
-/// Adds the lines of a component portion, where it has contents.
+/// Adds the lines of a component portion, where it has contents, and tells whether it has no fault.
 fn add_components<A: Allocator + Copy>(
     alloc: A,
     text: &mut String<A>,
     components: &[u8],
-) -> Result<(), OutOfMemory>
-    ensures { OnOk result (string_bytes text.new ≡ string_bytes text.old ++ component_lines components.now) }
+) -> Result<bool, OutOfMemory>
+    ensures text { OnOk result (string_bytes text.new ≡ string_bytes text.old ++ component_lines components.now) }
+    ensures good { IfOk result (λ good. good ≡ is_good (components_verdict components.now)) }
 {
     if components.is_empty() {
-        return Ok(());
+        return Ok(true);
     }
     add_number(text, "  components", components.len())?;
     add_items(alloc, text, components)
 }
 
-/// Adds the lines of both portions.
+/// Adds the lines of both portions, and tells whether both are good.
 fn add_portions<A: Allocator + Copy>(
     alloc: A,
     text: &mut String<A>,
     dialogue: Option<&[u8]>,
     components: &[u8],
-) -> Result<(), OutOfMemory>
-    ensures { OnOk result (string_bytes text.new ≡ string_bytes text.old ++ portion_lines (option_copied dialogue.entry) components.now) }
+) -> Result<bool, OutOfMemory>
+    ensures text { OnOk result (string_bytes text.new ≡ string_bytes text.old ++ portion_lines (option_copied dialogue.entry) components.now) }
+    ensures good { IfOk result (λ good. good ≡ is_good (portions_verdict (option_copied dialogue.entry) components.now)) }
 {
     add_dialogue(alloc, text, dialogue)?;
-    add_components(alloc, text, components)
+    let good = add_components(alloc, text, components)?;
+    if has_good_portion(&dialogue) {
+        Ok(good)
+    } else {
+        Ok(false)
+    }
 }
 
 /// Adds the lines of an Abort's reason.
@@ -129,13 +146,14 @@ fn add_reason<A: Allocator + Copy>(
     }
 }
 
-/// Adds the lines of a message.
+/// Adds the lines of a message, and tells whether its verdict is good.
 fn add_message<A: Allocator + Copy>(
     alloc: A,
     text: &mut String<A>,
     frame: &Frame<'_>,
-) -> Result<(), OutOfMemory>
-    ensures { OnOk result (string_bytes text.new ≡ string_bytes text.old ++ message_lines (message frame.now)) }
+) -> Result<bool, OutOfMemory>
+    ensures text { OnOk result (string_bytes text.new ≡ string_bytes text.old ++ message_lines (message frame.now)) }
+    ensures good { IfOk result (λ good. good ≡ is_good (message_verdict (message frame.now))) }
 {
     match frame {
         Frame::Uni {
@@ -177,7 +195,8 @@ fn add_message<A: Allocator + Copy>(
         Frame::Abort { dtid, reason } => {
             add_line(text, "abort")?;
             add_destination(alloc, text, dtid)?;
-            add_reason(alloc, text, reason)
+            add_reason(alloc, text, reason)?;
+            Ok(has_good_reason(reason))
         }
     }
 }
@@ -193,17 +212,17 @@ pub fn show_text<A: Allocator + Copy>(alloc: A, bytes: &[u8]) -> Result<Shown<A>
     ensures good { IfOk result (λ shown. shown.good ≡ show_is_good bytes.now) }
 {
     let mut text = String::new(alloc);
-    let verdict = match read_message(bytes) {
-        Ok(frame) => {
-            add_message(alloc, &mut text, &frame)?;
-            judge_message(&frame)
-        }
+    let good = match read_message(bytes) {
+        Ok(frame) => add_message(alloc, &mut text, &frame)?,
         Err(verdict) => {
             add_verdict(&mut text, verdict)?;
-            verdict
+            verdict.is_good()
         }
     };
-    Ok(Shown::of(text, verdict))
+    Ok(Shown {
+        text: text.into_bytes(),
+        good,
+    })
 }
 
 /// The text of `check`: the verdict on the bytes.
