@@ -9,7 +9,7 @@ use crate::words::read_words;
 use std::alloc::{Allocator, Global};
 use std::io::{Read, Write};
 use tcap_play::{run_play, run_stream};
-use tcap_text::{canon_text, check_text, hex_octets, show_text, write_text};
+use tcap_text::{canon_text, check_text, decode_hex, show_text, write_text};
 
 /// The status of a good verdict.
 const GOOD: u8 = 0;
@@ -18,11 +18,12 @@ const FAULTY: u8 = 1;
 /// The status of a run that came to no verdict.
 const REFUSED: u8 = 2;
 
-/// The bytes that HEX spells. Its digits are judged before memory is asked for.
+/// The bytes that HEX spells. Where they can't be had its digits are judged, so that bad HEX is told as such
+/// with little memory too.
 fn bytes_of<A: Allocator>(heap: A, hex: &str) -> Result<Vec<u8, A>, Refusal>
     ensures { MatchResult result (λ bytes. spelled_by hex.now ≡ Some bytes.items) (λ refusal. IsUnspelled hex.now refusal) }
 {
-    hex_octets(heap, hex.as_bytes())?.ok_or(Refusal::BadHex)
+    decode_hex(heap, hex.as_bytes())?.ok_or(Refusal::BadHex)
 }
 
 /// Plays the script on standard input.

@@ -21,6 +21,6 @@ pub use component_text::{body_text, coded_text, identifier_text, problem_text};
 pub use dialogue_text::pdu_text;
 pub use show::{check_text, show_text};
 pub use shown::Shown;
-pub use spelling::hex_octets;
+pub use spelling::{decode_hex, hex_octets};
 pub use text::{octets_or_dash, optional_octets_or_dash};
 pub use writing::{WriteFailed, write_text};

@@ -34,3 +34,16 @@ pub fn hex_octets<A: Allocator>(alloc: A, hex: &[u8]) -> Result<Option<Vec<u8, A
         Err(_) => Err(OutOfMemory),
     }
 }
+
+/// The same for a word that most likely spells octets: it is decoded first, and its digits are looked
+/// through only where it can't be.
+pub fn decode_hex<A: Allocator>(alloc: A, hex: &[u8]) -> Result<Option<Vec<u8, A>>, OutOfMemory>
+    ensures value { IfOk result (λ octets. option_map (λ o. o.items) octets ≡ spelled_by hex.now) }
+    ensures err { OnErr result (is_some (spelled_by hex.now) ≡ true) }
+{
+    match hex::decode(alloc, hex) {
+        Ok(octets) => Ok(Some(octets)),
+        Err(_) if is_hex(hex) => Err(OutOfMemory),
+        Err(_) => Ok(None),
+    }
+}

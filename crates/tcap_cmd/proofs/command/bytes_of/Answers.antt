@@ -5,7 +5,7 @@ use Rattle.tcap_cmd.proofs.Answering.{some_of}
 use Rattle.std.proofs.lemmas.Result.{err_from_is_err_and}
 use Rattle.tcap_cmd.proofs.command.bytes_of.Goals as goal
 
-pub returns-in_err-hex_octets : goal.returns-in_err-hex_octets
-returns-in_err-hex_octets g c =
+pub returns-in_err-decode_hex : goal.returns-in_err-decode_hex
+returns-in_err-decode_hex g c =
     let p = err_from_is_err_and c.from_residual.result c.from_residual.ensures.1 in
-    rw (p.1, p.2) (some_of (spelled_by c.args.hex.now) (ap (λ o. is_some (spelled_by o)) (sym c.as_bytes.ensures.value) ∙ c.in_err-hex_octets.ensures.err))
+    rw (p.1, p.2) (some_of (spelled_by c.args.hex.now) (ap (λ o. is_some (spelled_by o)) (sym c.as_bytes.ensures.value) ∙ c.in_err-decode_hex.ensures.err))
