@@ -5,12 +5,15 @@
  *   bench call MODE SIZE COUNT      COUNT calls; prints nothing
  *   bench time MODE SIZE COUNT      the same; prints the nanoseconds of one, least of five rounds
  *   bench length MODE SIZE          the bytes of the message
+ *   bench hex MODE SIZE             the message in hexadecimal
  *   bench held MODE SIZE            the octets of memory that SIZE dialogues hold which stand (bench-held)
  *
  * MODE read, write, rewrite, element: SIZE is a line of data/messages.txt, counted from 1. MODE invokes: reads a
  * Begin of SIZE Invokes. MODE nested: reads one element of SIZE indefinite elements one in another,
  * with 60,000 bytes inside. MODE inside: reads a Begin, all of indefinite form, with SIZE of them in
- * the parameter of its Invoke. MODE dialogue, ending: a dialogue is taken SIZE steps far, 1 the Invoke,
+ * the parameter of its Invoke. MODE definite: reads a Begin whose Invoke has 8,000 bytes in SIZE elements of
+ * definite form one in another. MODE indefinite: reads an End, all of indefinite form, whose result has 4,000
+ * bytes in SIZE of them. MODE results: reads a Begin of SIZE results. MODE dialogue, ending: a dialogue is taken SIZE steps far, 1 the Invoke,
  * 2 the Begin, 3 the Continue (ending: the End) with its result, 4 a result queued, 5 the Continue sent.
  * MODE feed4096, feed16, feed1: hands the message to a new feed in pieces of so many octets. MODE
  * stream4096, stream16, stream1: hands 1,000 of it to a new feed. MODE copy: takes memory for the message,
@@ -50,6 +53,10 @@ int has_steps(const char *mode);
 void run_steps(const char *mode, unsigned size, long laps);
 void stop(const char *why);
 
+/* The messages that are made (made.c): appends octets; makes the message of a mode, 0 where it has none. */
+void add(const char *octets, size_t count);
+int make_message(const char *mode, unsigned size);
+
 /* Where the program's memory is a buffer (buffer.c), all that a call took is given back behind it. */
 size_t memory_used(void) __attribute__((weak));
 void memory_reset(size_t mark) __attribute__((weak));
@@ -58,8 +65,9 @@ size_t memory_held(void) __attribute__((weak));
 
 enum { MOST = 1 << 18, STREAM = 1000, MESSAGES = 6, MOST_INVOKES = 11, ROUNDS = 5 };
 
-static uint8_t message[MOST], room[MOST];
-static size_t length;
+uint8_t message[MOST];
+size_t length;
+static uint8_t room[MOST];
 static struct invocation invocations[MOST_INVOKES];
 
 /* The values of each message. The parameter of Invoke i stands in the message from first + 16 i on:
@@ -94,50 +102,6 @@ static void read_line(unsigned number) {
     if (sscanf(at, "%2x", &octet) != 1) stop("no hexadecimal");
     message[length++] = (uint8_t)octet;
   }
-}
-
-static void add(const char *octets, size_t count) {
-  memcpy(message + length, octets, count);
-  length += count;
-}
-
-/* A head with two length octets. */
-static void add_head(int tag, size_t content) {
-  char head[] = {(char)tag, (char)0x82, (char)(content >> 8), (char)content};
-  add(head, sizeof head);
-}
-
-static void make_invokes(unsigned count) {
-  length = 0;
-  add_head(0x62, 6 + 4 + 16 * (size_t)count);
-  add("\x48\x04\0\0\0\1", 6);
-  add_head(0x6c, 16 * (size_t)count);
-  for (unsigned i = 0; i < count; i++) {
-    char invoke[] = "\xa1\x0e\x02\x01\x01\x02\x01\x02\x30\x06\x04\x04ZZZZ";
-    invoke[4] = (char)i;
-    add(invoke, 16);
-  }
-}
-
-static void add_nested(unsigned depth) {
-  for (unsigned i = 0; i < depth; i++) add("\x30\x80", 2);
-  for (unsigned i = 0; i < 15000; i++) add("\x04\x02ZZ", 4);
-  for (unsigned i = 0; i < depth; i++) add("\0\0", 2);
-}
-
-static void make_inside(unsigned depth) {
-  length = 0;
-  add("\x62\x80\x48\x04\0\0\0\1\x6c\x80\xa1\x80\x02\x01\x01\x02\x01\x02", 18);
-  add_nested(depth);
-  add("\0\0\0\0\0\0", 6);
-}
-
-/* The peer's answer to a Begin with Invoke 1: its result, in an End or in a Continue. */
-static void make_answer(int last) {
-  length = 0;
-  if (last) add("\x64\x0d\x49\x04\0\0\0\1", 8);
-  else add("\x65\x13\x48\x04\0\0\0\5\x49\x04\0\0\0\1", 14);
-  add("\x6c\x05\xa2\x03\x02\x01\x01", 7);
 }
 
 static void make_values(const struct values *v) {
@@ -180,14 +144,10 @@ static uint64_t copy_message(void) {
 
 static void make(const char *mode, unsigned size) {
   if (has_steps(mode)) return;
-  if (!strcmp(mode, "invokes")) make_invokes(size);
-  else if (!strcmp(mode, "nested")) length = 0, add_nested(size);
-  else if (!strcmp(mode, "inside")) make_inside(size);
-  else if (!strcmp(mode, "dialogue")) make_answer(0);
-  else if (!strcmp(mode, "ending")) make_answer(1);
-  else if (!strcmp(mode, "answer")) make_answer(size == 2);
-  else if (size < 1 || size > MESSAGES) stop("no such message");
-  else read_line(size), make_values(&values[size - 1]);
+  if (make_message(mode, size)) return;
+  if (size < 1 || size > MESSAGES) stop("no such message");
+  read_line(size);
+  make_values(&values[size - 1]);
   if (!strncmp(mode, "stream", 6)) make_stream();
 }
 
@@ -217,6 +177,7 @@ static uint64_t repeat(const char *mode, unsigned size, long count) {
   else if (!strcmp(mode, "element") || !strcmp(mode, "nested"))
     for (long i = 0; i < count; i++) sum += tcap_bench_element(message, length);
   else if (!strcmp(mode, "read") || !strcmp(mode, "invokes") || !strcmp(mode, "inside") ||
+           !strcmp(mode, "definite") || !strcmp(mode, "indefinite") || !strcmp(mode, "results") ||
            !strcmp(mode, "answer"))
     for (long i = 0; i < count; i++) sum += tcap_bench_read(message, length);
   else if (!strcmp(mode, "dialogue") || !strcmp(mode, "ending"))
@@ -273,6 +234,8 @@ int main(int count, char **words) {
   make(words[2], size);
   if (!strcmp(words[1], "call")) repeat(words[2], size, calls);
   else if (!strcmp(words[1], "length")) printf("%zu\n", length);
+  else if (!strcmp(words[1], "hex"))
+    for (size_t i = 0; i < length; i++) printf("%02x", message[i]);
   else if (!strcmp(words[1], "held") && memory_held) {
     size_t before = memory_held();
     repeat(words[2], size, 0);
