@@ -1,4 +1,4 @@
-use Rattle.std.proofs.Common.{rules, ◌++◌, ◌<◌}
+use Rattle.std.proofs.Common.{rules, ◌<◌}
 use Rattle.std.proofs.lemmas.List.{take_rest}
 use Rattle.ber_core.proofs.SkimSteps.{skim-long}
 use Rattle.ber_core.proofs.scanner.skim.skim_long.Goals as goal
