@@ -196,3 +196,15 @@ fn each_growth_refused_in_one_row(rt: HostRuntime) -> Result<(), Fail> {
     assert!(rt; heap.is_armed());
     Ok(())
 }
+
+/// The invocation lapses at its deadline, not before, and once.
+#[test]
+fn an_invocation_lapses_once(rt: HostRuntime) -> Result<(), Fail> {
+    let (mut dialogue, _) = invoked(rt.alloc(), rt.alloc()).ok_or("no invocation")?;
+    assert!(rt; dialogue.begin(None, &[], 0).is_ok());
+    for (now, numbers) in [(999u64, 0usize), (1000, 1), (1000, 0)] {
+        let lapses = dialogue.lapse(now)?;
+        assert_eq!(rt; lapses.len(), numbers, "at {now}");
+    }
+    Ok(())
+}
