@@ -30,8 +30,8 @@ fn skim_long(nested: u8, tag: u8, len: u8, content: &[u8]) -> Option<&[u8]>
     None
 }
 
-/// Passes over two octets, a head or an end, or a head of three, and over the content that is there behind
-/// a definite head: gives how many are open then, and what follows.
+/// Passes over two octets, a head or an end, and over the content that is there behind a definite head:
+/// gives how many are open then, and what follows.
 #[inline(always)]
 fn skim_one(nested: u8, tag: u8, len: u8, body: &[u8]) -> Option<(u8, &[u8])>
     requires { nested ≤ depth_limit }
@@ -48,13 +48,7 @@ fn skim_one(nested: u8, tag: u8, len: u8, body: &[u8]) -> Option<(u8, &[u8])>
     if opens(tag, len) && nested < MAX_DEPTH {
         return Some((nested + 1, body));
     }
-    match body {
-        [count, content @ ..] if len == 0x81 => {
-            let after = skim_long(nested, tag, *count, content)?;
-            Some((nested, after))
-        }
-        _ => None,
-    }
+    None
 }
 
 /// Passes over what is plain: gives the scanner behind it, `None` where the outermost element ends, and
@@ -77,6 +71,12 @@ fn skim(nested: u8, bytes: &[u8]) -> (Option<Scanner>, &[u8])
         }
         nested = left;
         rest = after;
+    }
+    // Behind the loop, since in it this costs each plain element four instructions.
+    if let [tag, 0x81, len, content @ ..] = rest {
+        if let Some(after) = skim_long(nested, *tag, *len, content) {
+            return (behind_element(nested), after);
+        }
     }
     let scanner = Scanner {
         due: Due::Tag,
