@@ -1,5 +1,5 @@
 -- Components that are judged while their lines are added.
-use Rattle.std.proofs.Common.{◌≡◌, ℕ, ◌+◌, true, false, List, [], ◌∷◌, length, ◌==◌, Result, Ok, Err, refl, is_err}
+use Rattle.std.proofs.Common.{◌≡◌, ℕ, ◌+◌, Bool, cond, true, false, List, [], ◌∷◌, length, ◌==◌, Result, Ok, Err, refl, is_err}
 use Rattle.std.specs.List.{position_from}
 use Rattle.std.proofs.lemmas.Bool.{eqb-true}
 use Rattle.std.proofs.lemmas.List.{nil_from_length}
@@ -7,7 +7,11 @@ use Rattle.tcap_component.specs.ComponentFault.{FaultParts}
 use Rattle.tcap_component.specs.Component.{ComponentParts}
 use Rattle.tcap_component.specs.ComponentReading.{components_by, components_of}
 use Rattle.tcap_text.specs.Verdict.{verdict_by_place, components_verdict, is_good}
-use Rattle.tcap_text.specs.Show.{good_after}
+
+-- whether all is good still after these, where it was so before or wasn't
+unfoldable pub good_after : Bool → List (Result ComponentParts FaultParts) → Bool
+good_after good [] = good
+good_after good (item ∷ items) = good_after (cond (is_err item) false good) items
 
 -- what isn't good stays so
 not-good : (items : List (Result ComponentParts FaultParts)) → good_after false items ≡ false

@@ -1,5 +1,5 @@
 -- The text of `show`, and its verdict.
-use Rattle.std.specs.Prelude.{ℕ, Bool, false, is_err, List, ◌∷◌, [], ◌++◌, codes, length, Option, Some, None, Result, Ok, Err, ◌==◌, if◌then◌else◌}
+use Rattle.std.specs.Prelude.{ℕ, Bool, List, [], ◌++◌, codes, length, Option, Some, None, Result, Ok, Err, ◌==◌, if◌then◌else◌}
 use Rattle.tcap_pdu.specs.FrameSpelling.{Reason, Message}
 use Rattle.tcap_pdu.specs.FrameSpelling.Reason.{nothing, cause, portion}
 use Rattle.tcap_pdu.specs.FrameSpelling.Message.{unidirectional, begin, end, go_on, abort}
@@ -30,11 +30,6 @@ dialogue_lines (Some d) = number_line (codes "  dialogue") (length d) ++ inner_l
 -- A line for each component up to the first fault, and one for that fault (own).
 abbrev pub item_lines : List (Result ComponentParts FaultParts) → List ℕ
 item_lines items = flat_map (λ i. inner_line (item_words i)) items
-
--- Whether all is good still after these, components and a fault, where it was so before or wasn't (own).
-unfoldable pub good_after : Bool → List (Result ComponentParts FaultParts) → Bool
-good_after good [] = good
-good_after good (item ∷ items) = good_after (if is_err item then false else good) items
 
 -- The lines of a component portion, where it has contents: the number of their bytes, and the
 -- components (own).

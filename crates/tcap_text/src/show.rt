@@ -77,7 +77,7 @@ fn add_item<A: Allocator + Copy>(
 
 /// Adds a line for each component up to the first fault, and one for that fault. Tells whether there
 /// was no fault, so that the components needn't be read again for the verdict.
-#[tactic(auto, unfolding(crate::specs::Show::good_after))]
+#[tactic(auto, unfolding(crate::proofs::GoodItems::good_after))]
 fn add_items<A: Allocator + Copy>(
     alloc: A,
     text: &mut String<A>,

@@ -1,8 +1,8 @@
 use Rattle.std.proofs.Common.{◌++◌, ◌∙◌, true, ap}
 use Rattle.std.specs.Prelude.{string_bytes}
 use Rattle.tcap_component.specs.Views.{components_left}
-use Rattle.tcap_text.specs.Show.{good_after, item_lines}
-use Rattle.tcap_text.proofs.GoodItems.{good-components}
+use Rattle.tcap_text.specs.Show.{item_lines}
+use Rattle.tcap_text.proofs.GoodItems.{good_after, good-components}
 use Rattle.tcap_text.proofs.show.add_items.Goals as goal
 
 pub loop-item-init : goal.loop-item-init

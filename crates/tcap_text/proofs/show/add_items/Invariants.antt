@@ -2,8 +2,9 @@ use Rattle.std.proofs.Common.{◌≡◌, ◌++◌}
 use Rattle.std.specs.Prelude.{string_bytes}
 use Rattle.tcap_component.specs.ComponentReading.{components_of}
 use Rattle.tcap_component.specs.Views.{components_left}
-use Rattle.tcap_text.specs.Show.{good_after, item_lines}
+use Rattle.tcap_text.specs.Show.{item_lines}
 use Rattle.tcap_text.specs.Verdict.{components_verdict, is_good}
+use Rattle.tcap_text.proofs.GoodItems.{good_after}
 use Rattle.tcap_text.proofs.show.add_items.Given as goal
 
 abbrev pub invariant-loop-item : goal.invariant-loop-item
