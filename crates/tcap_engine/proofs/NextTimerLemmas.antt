@@ -1,5 +1,6 @@
 -- Which moments change a dialogue, by the first timer of all.
-use Rattle.std.proofs.Common.{◌≡◌, ◌≢◌, inl, inr, ℕ, ◌<◌, ◌≤◌, Bool, true, false, cond, nat_eq, nat_lt, nat_le, List, [], ◌∷◌, ◌++◌, length, map, filter, Some, None, if◌then◌else◌, refl, ap, sym, ◌∙◌, arith, tests}
+use Rattle.std.proofs.Common.{◌≡◌, ◌≢◌, inl, inr, ℕ, ◌<◌, ◌≤◌, Bool, true, false, cond, not, nat_eq, nat_lt, nat_le, List, [], ◌∷◌, ◌++◌, length, map, filter, Some, None, if◌then◌else◌, refl, ap, sym, ◌∙◌, arith, tests}
+use Rattle.std.proofs.lemmas.List.Filters.{length-filter_both}
 use Rattle.std.specs.Map.{lookup}
 use Rattle.tcap_engine.specs.Lapsing.{AreIdle, IsFirstTimer, IsQuiet}
 use Rattle.tcap_engine.specs.NextTimer.{IsAccepted, IsChanged, IsStill, if_within, next_timer_in, timers_in}
@@ -50,15 +51,7 @@ late-still w now ps is accepted late = still-quiet w now ps is accepted (late-qu
 -- ---- from the first timer on
 
 fewer-most : (now : ℕ) (rows : List Row) → length (filter (λ r. stays now r.1.stage) rows) ≤ length rows
-fewer-most now [] = omega arith
-fewer-most now (r ∷ rs) = go (stays now r.1.stage) (fewer-most now rs)
-  where
-    kept : List Row
-    kept = filter (λ r. stays now r.1.stage) rs
-
-    go : (b : Bool) → length kept ≤ length rs → length (cond b (r ∷ kept) kept) ≤ length (r ∷ rs)
-    go true ih = omega (arith, ih)
-    go false ih = omega (arith, ih)
+fewer-most now rows = omega (arith, length-filter_both (λ r. stays now r.1.stage) (λ r. not (stays now r.1.stage)) (λ r. refl) rows)
 
 -- A row goes whose time has come.
 fewer-rows : (now t : ℕ) (rows : List Row) → t ≤ now → IsIn t (times_of rows) → length (filter (λ r. stays now r.1.stage) rows) < length rows

@@ -1,5 +1,6 @@
 -- The first timer of a dialogue runs out: what was due there, and what is left.
-use Rattle.std.proofs.Common.{◌≡◌, ◌≢◌, ◌⊎◌, inl, inr, ℕ, ℤ, ◌<◌, ◌≤◌, Bool, true, false, cond, nat_lt, nat_le, List, [], ◌∷◌, length, filter, Option, Some, None, is_some, refl, ap, sym, subst, ◌∙◌, arith, tests}
+use Rattle.std.proofs.Common.{◌≡◌, ◌≢◌, ◌⊎◌, inl, inr, ℕ, ℤ, ◌<◌, ◌≤◌, Bool, true, false, cond, not, nat_lt, nat_le, List, [], ◌∷◌, length, filter, Option, Some, None, is_some, refl, ap, sym, subst, ◌∙◌, arith, tests}
+use Rattle.std.proofs.lemmas.List.Filters.{length-filter_both}
 use Rattle.std.specs.Prelude.{IfSome}
 use Rattle.std.specs.Ordering.{int_eq}
 use Rattle.std.specs.List.{cons_option}
@@ -30,15 +31,7 @@ abbrev RunsOut : ℕ → ℕ → List Row → Type 0
 RunsOut now t rows = LapsesAt t (first_due_at now rows) ⊎ (length (filter (λ r. is_held now r.1.stage) rows) < length rows)
 
 held-most : (now : ℕ) (rows : List Row) → length (filter (λ r. is_held now r.1.stage) rows) ≤ length rows
-held-most now [] = omega arith
-held-most now (r ∷ rs) = go (is_held now r.1.stage) (held-most now rs)
-  where
-    kept : List Row
-    kept = filter (λ r. is_held now r.1.stage) rs
-
-    go : (b : Bool) → length kept ≤ length rs → length (cond b (r ∷ kept) kept) ≤ length (r ∷ rs)
-    go true ih = omega (arith, ih)
-    go false ih = omega (arith, ih)
+held-most now rows = omega (arith, length-filter_both (λ r. is_held now r.1.stage) (λ r. not (is_held now r.1.stage)) (λ r. refl) rows)
 
 runs-out : (now t : ℕ) (rows : List Row) → t ≤ now → AllFrom t (times_of rows) → IsIn t (times_of rows) → RunsOut now t rows
 runs-out now t [] le h i = absurd i

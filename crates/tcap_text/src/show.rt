@@ -124,11 +124,7 @@ fn add_portions<A: Allocator + Copy>(
 {
     add_dialogue(alloc, text, dialogue)?;
     let good = add_components(alloc, text, components)?;
-    if has_good_portion(&dialogue) {
-        Ok(good)
-    } else {
-        Ok(false)
-    }
+    Ok(good && has_good_portion(&dialogue))
 }
 
 /// Adds the lines of an Abort's reason.
