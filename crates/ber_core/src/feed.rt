@@ -110,6 +110,7 @@ fn hold<A: Allocator + Copy>(
         rest.extend_from_slice(octets)?;
         return Ok(());
     }
+    // A piece mostly ends where a message does.
     if octets.is_empty() {
         rest.clear();
         return Ok(());

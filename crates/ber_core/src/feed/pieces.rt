@@ -63,6 +63,7 @@ fn join<A: Allocator + Copy>(alloc: A, begun: &[u8], last: &[u8]) -> Result<Vec<
     ensures ok { IfOk result (λ v. v.items ≡ begun.now ++ last.now) }
 {
     let mut message = Vec::with_capacity(alloc, begun.len() + last.len())?;
+    // A message mostly stands in one piece.
     if !begun.is_empty() {
         message.extend_from_slice(begun)?;
     }
