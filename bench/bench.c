@@ -1,7 +1,8 @@
 /* Calls the codec, by crates/tcap_bench, over and over on one message.
  *
- *   bench test                      whether each message is written, and rewritten, as it stands,
- *                                   and how many outputs a dialogue gives
+ *   bench test                      whether each message is written, and rewritten, as it stands, a feed gives it
+ *                                   however it is cut, steps give as many outputs as they should, and traffic
+ *                                   depends on its seed
  *   bench call MODE SIZE COUNT      COUNT calls; prints nothing
  *   bench time MODE SIZE COUNT      the same; prints the nanoseconds of one, least of five rounds
  *   bench length MODE SIZE          the bytes of the message
@@ -13,8 +14,9 @@
  * with 60,000 bytes inside. MODE inside: reads a Begin, all of indefinite form, with SIZE of them in
  * the parameter of its Invoke. MODE definite: reads a Begin whose Invoke has 8,000 bytes in SIZE elements of
  * definite form one in another. MODE indefinite: reads an End, all of indefinite form, whose result has 4,000
- * bytes in SIZE of them. MODE results: reads a Begin of SIZE results. MODE dialogue, ending: a dialogue is taken SIZE steps far, 1 the Invoke,
- * 2 the Begin, 3 the Continue (ending: the End) with its result, 4 a result queued, 5 the Continue sent.
+ * bytes in SIZE of them. MODE results: reads a Begin of SIZE results. MODE dialogue, ending: a dialogue is taken
+ * SIZE steps far, 1 the Invoke, 2 the Begin, 3 the Continue (ending: the End) with its result, 4 a result queued,
+ * 5 the Continue sent.
  * MODE feed4096, feed16, feed1: hands the message to a new feed in pieces of so many octets. MODE
  * stream4096, stream16, stream1: hands 1,000 of it to a new feed. MODE copy: takes memory for the message,
  * copies it there and gives the memory back.
@@ -47,6 +49,7 @@ size_t tcap_bench_write_continue(uint32_t otid, uint32_t dtid, const uint8_t *co
                                  size_t room_length);
 size_t tcap_bench_rewrite(const uint8_t *bytes, size_t length, uint8_t *room, size_t room_length);
 uint64_t tcap_bench_dialogue(uint8_t steps, const uint8_t *bytes, size_t length);
+uint64_t tcap_bench_traffic(uint64_t seed, uint16_t dialogues, uint32_t turns);
 
 /* The modes of steps (steps.c). */
 int has_steps(const char *mode);
@@ -195,6 +198,20 @@ static double nanoseconds(void) {
   return (double)now.tv_sec * 1e9 + (double)now.tv_nsec;
 }
 
+/* Few steps of each kind; each stops where it gives other outputs. */
+static void test_steps(void) {
+  static const char *const modes[] = {"engine1", "engine2",    "engine3",      "engine4",      "lapses1",
+                                      "lapses2", "lapses1000", "invocations1", "invocations2", "invocations3"};
+  for (size_t i = 0; i < sizeof modes / sizeof *modes; i++) run_steps(modes[i], 3, 2);
+}
+
+/* Traffic is answered, alike for the same seed, otherwise for another. */
+static void test_traffic(void) {
+  uint64_t digest = tcap_bench_traffic(1, 20, 2000);
+  if (!digest || tcap_bench_traffic(1, 20, 2000) != digest || tcap_bench_traffic(2, 20, 2000) == digest)
+    stop("the digest of traffic doesn't follow from its seed");
+}
+
 static int test(void) {
   for (unsigned i = 1; i <= MESSAGES; i++) {
     make("write", i);
@@ -223,6 +240,8 @@ static int test(void) {
     fprintf(stderr, "bench: a dialogue doesn't make each of its steps\n");
     return 1;
   }
+  test_steps();
+  test_traffic();
   return 0;
 }
 
