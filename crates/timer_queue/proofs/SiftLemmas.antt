@@ -78,7 +78,7 @@ module _ (key new : ℕ → Option Timer) (len hole : ℕ) (but : IsOrderedBut k
         go (inr d) = rw (s.others c d (apart c up h), s.second) (comes_before-through (key hole) (key up) (key c) (comes_before-asym (key hole) (key up) before) (above_all c h lt d))
 
   -- From the hole a place goes down, to the least of the places below.
-  module _ (down : ℕ) (is : IsChild down hole) (within : down < len) (s : IsSwapped key new hole down) (before : comes_before (key down) (key hole) ≡ true)
+  module _ (down : ℕ) (is : IsChild down hole) (within : down < len) (s : IsSwapped key new hole down)
       (least : (c : ℕ) → IsChild c hole → c < len → comes_before (key c) (key down) ≡ false) where
     pub but-down : IsOrderedBut new len down
     but-down = record { pairs = pairs; across = across }
@@ -97,11 +97,6 @@ module _ (key new : ℕ → Option Timer) (len hole : ℕ) (but : IsOrderedBut k
             let here : p ≡ hole = same_parent down p hole above is in
             let c_not_hole : c ≢ hole = λ e. let one = child_past down hole is in let two = child_past c down h in omega (arith, one, two, e) in
             rw (here, s.first, s.others c c_not_hole (apart c down h)) (but.pairs down c h lt (apart down hole is) c_not_hole)
-
-    pub above-down : IsFineAbove new down
-    above-down p above =
-        let here : p ≡ hole = same_parent down p hole above is in
-        rw (here, s.first, s.second) (comes_before-asym (key down) (key hole) before)
 
 -- Where the place is before its parent it is before each place below.
 pub below-before : (key : ℕ → Option Timer) (len hole up : ℕ) → IsOrderedBut key len hole → IsChild hole up → comes_before (key hole) (key up) ≡ true → IsFineBelow key len hole

@@ -1,5 +1,5 @@
 -- Timers that are found equal are one.
-use Rattle.std.proofs.Common.{◌≡◌, true, ℕ, Option, Some, None, refl, ap, arith, tests}
+use Rattle.std.proofs.Common.{◌≡◌, true, Option, Some, None, refl, arith, tests}
 use Rattle.std.specs.Option.{option_eq}
 use Rattle.timer_queue.specs.declared.timer.Timer.{Timer}
 use Rattle.timer_queue.specs.contracts.timer.TimerPartialEq.TheImpl as equal

@@ -80,7 +80,29 @@ fn least_child(heap: &[usize], timers: &[Option<Timer>], at: usize) -> usize
     }
 }
 
-/// Moves the item at a place down, as long as the timer of a place below is before its own.
+/// Moves the item at a place down to where none is below it, past the earlier one of each two places
+/// below, and tells where it is then.
+fn sink(heap: &mut [usize], places: &mut [usize], timers: &[Option<Timer>], at: usize) -> usize
+    requires at { at < length timers.now }
+    requires tied { IsTied heap.old places.old (length timers.now) }
+    requires but { IsOrderedBut (key_at timers.now heap.old) (length timers.now) at }
+    ensures at { result < length timers.now }
+    ensures tied { IsTied heap.new places.new (length timers.now) }
+    ensures but { IsOrderedBut (key_at timers.now heap.new) (length timers.now) result }
+    ensures below { IsFineBelow (key_at timers.now heap.new) (length timers.now) result }
+{
+    // Half of the places have none below them, and twice a place past those might not fit.
+    if at < heap.len() / 2 {
+        let child = least_child(heap, timers, at);
+        swap_places(heap, places, at, child);
+        sink(heap, places, timers, child)
+    } else {
+        at
+    }
+}
+
+/// Moves the item at a place down, if the timer of a place below is before its own: to the end, which takes
+/// one comparison a level, and then up to where it belongs, which is seldom far.
 pub(crate) fn sift_down(
     heap: &mut [usize],
     places: &mut [usize],
@@ -94,13 +116,13 @@ pub(crate) fn sift_down(
     ensures tied { IsTied heap.new places.new (length timers.now) }
     ensures ordered { IsOrdered (key_at timers.now heap.new) (length timers.now) }
 {
-    // Half of the places have none below them, and twice a place past those might not fit.
-    if at < heap.len() / 2 {
-        let child = least_child(heap, timers, at);
-        if is_before(heap, timers, child, at) {
-            swap_places(heap, places, at, child);
-            sift_down(heap, places, timers, child);
-        }
+    if at >= heap.len() / 2 {
+        return;
+    }
+    let child = least_child(heap, timers, at);
+    if is_before(heap, timers, child, at) {
+        let last = sink(heap, places, timers, at);
+        sift_up(heap, places, timers, last);
     }
 }
 
