@@ -2,12 +2,13 @@
 use Rattle.std.specs.Prelude.{ℕ}
 use Rattle.tcap_model.specs.Histories.Pair.{Past}
 
--- The limits of an engine, how many dialogues may stand and how long an identifier waits for a
--- Reject of its answer, in milliseconds; and its first dialogue identifier and invocation number
--- (own).
+-- The limits of an engine: how many dialogues may stand, how long an identifier waits for a Reject of
+-- its answer, and how long a dialogue may stand still, both in milliseconds, and 0 for a dialogue that
+-- may stand still for good; and its first dialogue identifier and invocation number (own).
 pub record Start : Type 0 where
   pub max_dialogues : ℕ
   pub reject_ms : ℕ
+  pub idle_ms : ℕ
   pub next_dialogue : ℕ
   pub next_number : ℕ
 

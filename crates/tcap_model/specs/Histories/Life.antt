@@ -1,16 +1,19 @@
--- The life of a dialogue: whether it was born, its state and application context, and its end.
-use Rattle.std.specs.Prelude.{ℕ, Bool, true, false, List, [], ◌∷◌, Option, Some, None, Result, Ok, Err, filter}
+-- The life of a dialogue: whether it was born, its state and application context, when it was touched
+-- last, and its end.
+use Rattle.std.specs.Prelude.{ℕ, ◌&&◌, Bool, true, false, List, [], ◌∷◌, Option, Some, None, Result, Ok, Err, filter, if◌then◌else◌}
 use Rattle.tcap_pdu.specs.declared.fault.FrameFault.{FrameFault}
 use Rattle.tcap_pdu.specs.FrameSpelling.{Message}
 use Rattle.tcap_pdu.specs.FrameReading.{frame_at}
 use Rattle.tcap_model.specs.Words.Answer.{is_accepted}
 use Rattle.tcap_model.specs.Histories.Birth.{is_birth_of, dialogues}
+use Rattle.tcap_model.specs.Histories.Clock.{clock}
 use Rattle.tcap_model.specs.Words.Event.{Event}
 use Rattle.tcap_model.specs.Histories.Names.{names}
 use Rattle.tcap_model.specs.Histories.Pair.{Pair, Past}
 use Rattle.tcap_model.specs.Procedures.PortionRules.{BeginVerdict, begin_verdict, PortionVerdict, portion_verdict}
 use Rattle.tcap_model.specs.Words.Request.{Request, DialogueRequest}
 use Rattle.tcap_model.specs.Words.State.{State, is_live, activated}
+use Rattle.tcap_model.specs.Words.Time.{is_idle}
 
 -- A dialogue isn't born yet; it stands, with its state and the application context of its Begin; or
 -- it is over (Q.774, Transaction state machine).
@@ -123,31 +126,110 @@ abbrev pub life_if_live : Bool → State → Option (List ℕ) → List ℕ → 
 life_if_live false state context bytes = Life.standing state context
 life_if_live true state context bytes = life_by_message state context (frame_at bytes)
 
+-- ---- moments
+
+-- What a moment makes of a dialogue that stands, by whether it has stood still too long then: it is over
+-- if it is live (own).
+abbrev pub life_by_moment : Bool → State → Option (List ℕ) → Life
+life_by_moment false state context = Life.standing state context
+life_by_moment true state context = if is_live state then Life.over else Life.standing state context
+
 -- ---- the whole life
 
--- What an event that names a dialogue that stands makes of it, by whether it was accepted (own).
-abbrev pub life_by_event : State → Option (List ℕ) → Event → Bool → Life
-life_by_event state context Event.new_dialogue accepted = Life.standing state context
-life_by_event state context (Event.on_dialogue dialogue request) accepted =
+-- What an event that names a dialogue that stands makes of it, by its idle limit, by the clock when it
+-- was touched last, and by whether the event was accepted (own).
+abbrev pub life_by_event : ℕ → ℕ → State → Option (List ℕ) → Event → Bool → Life
+life_by_event idle_ms touched state context Event.new_dialogue accepted = Life.standing state context
+life_by_event idle_ms touched state context (Event.on_dialogue dialogue request) accepted =
     life_if_accepted accepted state context request
-life_by_event state context (Event.received bytes) accepted = life_if_live (is_live state) state context bytes
-life_by_event state context (Event.moment now) accepted = Life.standing state context
+life_by_event idle_ms touched state context (Event.received bytes) accepted =
+    life_if_live (is_live state) state context bytes
+life_by_event idle_ms touched state context (Event.moment now) accepted =
+    life_by_moment (accepted && is_idle idle_ms touched now) state context
 
 -- An event that doesn't name a dialogue that stands leaves it (own).
-abbrev pub life_if_named : Bool → State → Option (List ℕ) → Pair → Life
-life_if_named false state context pair = Life.standing state context
-life_if_named true state context pair = life_by_event state context pair.event (is_accepted pair.answer)
+abbrev pub life_if_named : Bool → ℕ → State → Option (List ℕ) → Pair → Life
+life_if_named false touched state context pair = Life.standing state context
+life_if_named true touched state context pair =
+    life_by_event pair.idle_ms touched state context pair.event (is_accepted pair.answer)
 
--- What a pair makes of a dialogue; one that is over stays so (own).
-abbrev pub life_after : ℕ → Life → Pair → Life
-life_after dialogue Life.unborn pair = life_at_birth (is_birth_of dialogue pair) pair.event
-life_after dialogue (Life.standing state context) pair = life_if_named (names pair.event dialogue) state context pair
-life_after dialogue Life.over pair = Life.over
+-- What a pair makes of a dialogue that was touched last at this clock; one that is over stays so (own).
+abbrev pub life_after : ℕ → ℕ → Life → Pair → Life
+life_after dialogue touched Life.unborn pair = life_at_birth (is_birth_of dialogue pair) pair.event
+life_after dialogue touched (Life.standing state context) pair =
+    life_if_named (names pair.event dialogue) touched state context pair
+life_after dialogue touched Life.over pair = Life.over
 
--- The life of a dialogue, from the events that name it (Q.774, Transaction state machine).
+-- ---- what touches a dialogue
+
+-- TC-BEGIN and TC-CONTINUE touch their dialogue; no other request does (own).
+abbrev pub touches_as_request : Request → Bool
+touches_as_request (Request.component asked) = false
+touches_as_request (Request.dialogue (DialogueRequest.uni asked info)) = false
+touches_as_request (Request.dialogue (DialogueRequest.begin asked info)) = true
+touches_as_request (Request.dialogue (DialogueRequest.go_on asked info)) = true
+touches_as_request (Request.dialogue (DialogueRequest.finish ending asked info)) = false
+touches_as_request (Request.dialogue (DialogueRequest.u_abort why info)) = false
+
+-- Whether a dialogue portion is as it should be (own).
+abbrev pub is_normal : PortionVerdict → Bool
+is_normal (PortionVerdict.normal context info) = true
+is_normal PortionVerdict.abnormal = false
+
+-- A Continue whose dialogue portion is as it should be touches the live dialogue that it is to; no other
+-- message does, and no faulty one (own).
+abbrev pub touches_as_message : State → Option (List ℕ) → Result Message FrameFault → Bool
+touches_as_message state context (Ok (Message.go_on origin to portion components)) =
+    is_normal (portion_verdict state context portion)
+touches_as_message state context (Ok (Message.end to portion components)) = false
+touches_as_message state context (Ok (Message.abort to reason)) = false
+touches_as_message state context (Ok (Message.unidirectional portion components)) = false
+touches_as_message state context (Ok (Message.begin origin portion components)) = false
+touches_as_message state context (Err fault) = false
+
+-- Whether an event that names a dialogue that stands touches it, by whether it was accepted (own).
+abbrev pub touches_as_event : State → Option (List ℕ) → Event → Bool → Bool
+touches_as_event state context Event.new_dialogue accepted = false
+touches_as_event state context (Event.on_dialogue dialogue request) accepted = accepted && touches_as_request request
+touches_as_event state context (Event.received bytes) accepted =
+    is_live state && touches_as_message state context (frame_at bytes)
+touches_as_event state context (Event.moment now) accepted = false
+
+-- Whether a pair touches a dialogue, by its life before: only one that stands and that the event names
+-- (own).
+abbrev pub touches : ℕ → Life → Pair → Bool
+touches dialogue Life.unborn pair = false
+touches dialogue (Life.standing state context) pair =
+    names pair.event dialogue && touches_as_event state context pair.event (is_accepted pair.answer)
+touches dialogue Life.over pair = false
+
+-- ---- the course
+
+-- A dialogue's life, and the clock when it was touched last, 0 if it never was (own).
+pub record Course : Type 0 where
+  pub life : Life
+  pub touched : ℕ
+
+-- What a pair makes of a dialogue, at a clock (own).
+abbrev pub course_after : ℕ → ℕ → Course → Pair → Course
+course_after dialogue now before pair = record {
+  life = life_after dialogue before.touched before.life pair;
+  touched = if touches dialogue before.life pair then now else before.touched;
+}
+
+-- The course of a dialogue, from the events that name it (Q.774, Transaction state machine).
+abbrev pub course : ℕ → Past → Course
+course dialogue [] = record { life = Life.unborn; touched = 0 }
+course dialogue (pair ∷ past) = course_after dialogue (clock past) (course dialogue past) pair
+
+-- The life of a dialogue (Q.774, Transaction state machine).
 abbrev pub life : ℕ → Past → Life
-life dialogue [] = Life.unborn
-life dialogue (pair ∷ past) = life_after dialogue (life dialogue past) pair
+life dialogue past = (course dialogue past).life
+
+-- The clock when a dialogue was touched last: at the last accepted TC-BEGIN or TC-CONTINUE of its user,
+-- or at the last Continue to it whose dialogue portion was as it should be (own).
+abbrev pub touched : ℕ → Past → ℕ
+touched dialogue past = (course dialogue past).touched
 
 -- The dialogues that stand, in order of birth (own).
 abbrev pub standing_dialogues : Past → List ℕ

@@ -14,7 +14,7 @@ use Rattle.tcap_component.specs.ComponentReading.{components_of}
 use Rattle.tcap_model.specs.Words.Answer.{is_accepted}
 use Rattle.tcap_model.specs.Histories.Clock.{clock}
 use Rattle.tcap_model.specs.Words.Event.{Event}
-use Rattle.tcap_model.specs.Histories.Life.{Life, is_over, life, life_after}
+use Rattle.tcap_model.specs.Histories.Life.{Life, is_over, life, touched, life_after}
 use Rattle.tcap_model.specs.Histories.Names.{names}
 use Rattle.tcap_model.specs.Histories.Pair.{Pair, Past}
 use Rattle.tcap_model.specs.Procedures.PortionRules.{PortionVerdict, portion_verdict}
@@ -116,44 +116,47 @@ marks_of_bytes id Life.unborn bytes = None
 marks_of_bytes id (Life.standing state context) bytes = marks_if_live (is_live state) id state context bytes
 marks_of_bytes id Life.over bytes = None
 
--- The marks of an event that has a special meaning: an accepted request, an accepted moment and a
--- message, by the life before it and by whether it was accepted (Q.774, Invocation state machine).
-abbrev pub special_marks : ℤ → Life → Event → Bool → Option (List Mark)
-special_marks id before Event.new_dialogue accepted = None
-special_marks id before (Event.on_dialogue dialogue request) true = marks_of_request id request
-special_marks id before (Event.on_dialogue dialogue request) false = None
-special_marks id before (Event.received bytes) accepted = marks_of_bytes id before bytes
-special_marks id before (Event.moment now) true = Some (Mark.moment now ∷ [])
-special_marks id before (Event.moment now) false = None
-
 -- ---- the default, and all events
 
 -- The end, if the dialogue is over after the event and wasn't before it; else nothing (own).
 abbrev pub end_if_over : Life → Life → List Mark
 end_if_over before after = if is_over before then [] else (if is_over after then Mark.end ∷ [] else [])
 
+-- The marks of an event that has a special meaning: an accepted request, a message, and an accepted
+-- moment, which may be the end of a dialogue that stood still too long; by the lives before and after it
+-- and by whether it was accepted (Q.774, Invocation state machine; the end at a moment is own).
+abbrev pub special_marks : ℤ → Life → Life → Event → Bool → Option (List Mark)
+special_marks id before after Event.new_dialogue accepted = None
+special_marks id before after (Event.on_dialogue dialogue request) true = marks_of_request id request
+special_marks id before after (Event.on_dialogue dialogue request) false = None
+special_marks id before after (Event.received bytes) accepted = marks_of_bytes id before bytes
+special_marks id before after (Event.moment now) true = Some (Mark.moment now ∷ end_if_over before after)
+special_marks id before after (Event.moment now) false = None
+
 -- What an event that names the dialogue means, by the lives before and after it and by whether it was
 -- accepted: its special meaning, or else the end if it ended the dialogue
 -- (Q.774, Invocation state machine).
 abbrev pub marks_by_event : ℤ → Life → Life → Event → Bool → List Mark
 marks_by_event id before after event accepted =
-    unwrap_or (special_marks id before event accepted) (end_if_over before after)
+    unwrap_or (special_marks id before after event accepted) (end_if_over before after)
 
 -- An event that doesn't name the dialogue means nothing (own).
-abbrev pub marks_if_named : Bool → ℕ → ℤ → Life → Pair → List Mark
-marks_if_named false dialogue id before pair = []
-marks_if_named true dialogue id before pair =
-    marks_by_event id before (life_after dialogue before pair) pair.event (is_accepted pair.answer)
+abbrev pub marks_if_named : Bool → ℕ → ℤ → ℕ → Life → Pair → List Mark
+marks_if_named false dialogue id touched before pair = []
+marks_if_named true dialogue id touched before pair =
+    marks_by_event id before (life_after dialogue touched before pair) pair.event (is_accepted pair.answer)
 
 -- An event up to the birth means nothing (own).
-abbrev pub marks_after_birth : ℕ → ℤ → Life → Pair → List Mark
-marks_after_birth dialogue id Life.unborn pair = []
-marks_after_birth dialogue id (Life.standing state context) pair =
-    marks_if_named (names pair.event dialogue) dialogue id (Life.standing state context) pair
-marks_after_birth dialogue id Life.over pair = marks_if_named (names pair.event dialogue) dialogue id Life.over pair
+abbrev pub marks_after_birth : ℕ → ℤ → ℕ → Life → Pair → List Mark
+marks_after_birth dialogue id touched Life.unborn pair = []
+marks_after_birth dialogue id touched (Life.standing state context) pair =
+    marks_if_named (names pair.event dialogue) dialogue id touched (Life.standing state context) pair
+marks_after_birth dialogue id touched Life.over pair =
+    marks_if_named (names pair.event dialogue) dialogue id touched Life.over pair
 
 -- What a pair means for an identifier of a dialogue, in order, by what stands before it
 -- (Q.774, Invocation state machine).
 abbrev pub marks : ℕ → ℤ → Pair → Past → List Noted
 marks dialogue id pair past =
-    map (λ mark. record { clock = clock past; mark = mark }) (marks_after_birth dialogue id (life dialogue past) pair)
+    map (λ mark. record { clock = clock past; mark = mark })
+    (marks_after_birth dialogue id (touched dialogue past) (life dialogue past) pair)

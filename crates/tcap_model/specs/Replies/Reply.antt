@@ -1,10 +1,11 @@
 -- What is answered to an event, from the history alone.
-use Rattle.std.specs.Prelude.{ℕ, ◌==◌, ◌&&◌, Bool, nat_lt, nat_le, List, [], ◌∷◌, ◌++◌, map, option_to_list, filter_map, Option, Some, None, is_none, is_some, if◌then◌else◌}
+use Rattle.std.specs.Prelude.{ℕ, ◌+◌, ◌==◌, ◌&&◌, Bool, nat_lt, nat_le, List, [], ◌∷◌, ◌++◌, map, option_to_list, filter_map, Option, Some, None, is_none, is_some, if◌then◌else◌, filter}
+use Rattle.std.specs.List.{flat_map}
 use Rattle.tcap_pdu.specs.FrameSpelling.{Message}
 use Rattle.tcap_component.specs.ComponentReading.{components_of}
 use Rattle.tcap_model.specs.Procedures.AbortRules.{sent_if_any, abort_told, abnormal_abort}
 use Rattle.tcap_model.specs.Words.Answer.{Answer}
-use Rattle.tcap_model.specs.Histories.Birth.{next_dialogue}
+use Rattle.tcap_model.specs.Histories.Birth.{next_dialogue, dialogues}
 use Rattle.tcap_model.specs.Histories.Clock.{clock}
 use Rattle.tcap_model.specs.Procedures.ComponentHandling.{Item, told_of, uni_told}
 use Rattle.tcap_model.specs.Invocations.Deadline.{deadline}
@@ -14,7 +15,8 @@ use Rattle.tcap_model.specs.Words.Fault.{Fault}
 use Rattle.tcap_model.specs.Replies.Held.{pending}
 use Rattle.tcap_model.specs.Histories.History.{History}
 use Rattle.tcap_model.specs.Invocations.Invocation.{Invocation, invocations, next_number}
-use Rattle.tcap_model.specs.Histories.Life.{Life, life, live_in}
+use Rattle.tcap_model.specs.Histories.Life.{Life, life, touched, live_in}
+use Rattle.tcap_model.specs.Invocations.Marks.{Mark, Noted}
 use Rattle.tcap_model.specs.Invocations.Outcome.{first_closing, is_sent_in}
 use Rattle.tcap_model.specs.Words.KeyOrder.{in_order}
 use Rattle.tcap_model.specs.Words.Output.{Output, Closing, AbortCause, ComponentIndication, DialogueIndication}
@@ -28,7 +30,7 @@ use Rattle.tcap_model.specs.Procedures.RequestMessage.{message_of}
 use Rattle.tcap_model.specs.Invocations.Span.{span}
 use Rattle.tcap_model.specs.Procedures.Standing.{Standing}
 use Rattle.tcap_model.specs.Words.State.{State, peer_by}
-use Rattle.tcap_model.specs.Words.Time.{moment_fault}
+use Rattle.tcap_model.specs.Words.Time.{moment_fault, is_idle}
 
 -- ---- the end of a dialogue
 
@@ -167,10 +169,50 @@ lapse_told l = Output.component (ComponentIndication.closed l.invocation.dialogu
 abbrev pub lapses : Past → ℕ → List Output
 lapses past now = map lapse_told (in_order lapse_key (filter_map (lapsing_at past now) (invocations past)))
 
+-- ---- dialogues that stand still
+
+-- Whether a dialogue is live and has stood still too long at a moment (own).
+abbrev pub is_idle_by : ℕ → Past → ℕ → ℕ → Bool
+is_idle_by idle_ms past now dialogue =
+    live_in (life dialogue past) && is_idle idle_ms (touched dialogue past) now
+
+-- Those that have are told by the moment at which they reached the limit, then by dialogue (own).
+abbrev pub idle_key : ℕ → Past → ℕ → List ℕ
+idle_key idle_ms past dialogue = (touched dialogue past + idle_ms) ∷ dialogue ∷ []
+
+-- The dialogues that are over at a moment because they stood still too long (own).
+abbrev pub idle_dialogues : ℕ → Past → ℕ → List ℕ
+idle_dialogues idle_ms past now =
+    in_order (idle_key idle_ms past) (filter (is_idle_by idle_ms past now) (dialogues past))
+
+-- The marks of an invocation up to a moment: those of its span, and that of the moment (own).
+abbrev pub marks_up_to_moment : Past → ℕ → Invocation → List Noted
+marks_up_to_moment past now i = span i past ++ record { clock = clock past; mark = Mark.moment now } ∷ []
+
+-- An invocation of the dialogue is told as ended, if it is still Queued or Sent when what is due at the
+-- moment has lapsed (own).
+abbrev pub ended_at_moment : ℕ → Past → ℕ → Invocation → Option Output
+ended_at_moment dialogue past now i =
+    if (i.dialogue == dialogue) && is_none (first_closing i.class i.timeout (marks_up_to_moment past now i))
+    then Some (Output.component (ComponentIndication.closed dialogue i.number i.id Closing.ended)) else None
+
+-- What is told of a dialogue that stood still too long: TC-P-ABORT, and each invocation that is left, by
+-- number; no message goes out (own).
+abbrev pub idle_told : Past → ℕ → ℕ → List Output
+idle_told past now dialogue =
+    Output.dialogue (DialogueIndication.p_abort dialogue AbortCause.idle)
+    ∷ filter_map (ended_at_moment dialogue past now) (invocations past)
+
+-- What is told at a moment: first all that lapses, and then dialogue by dialogue those that stood still
+-- too long (Q.774, Invocation timer; that dialogues end is own).
+abbrev pub moment_outputs : ℕ → Past → ℕ → List Output
+moment_outputs idle_ms past now = lapses past now ++ flat_map (idle_told past now) (idle_dialogues idle_ms past now)
+
 -- The answer to a moment: one below the clock does nothing (own).
-abbrev pub moment_answer : Past → ℕ → Option Fault → Answer
-moment_answer past now (Some f) = Answer.refused f
-moment_answer past now None = if nat_lt now (clock past) then Answer.outputs [] else Answer.outputs (lapses past now)
+abbrev pub moment_answer : ℕ → Past → ℕ → Option Fault → Answer
+moment_answer idle_ms past now (Some f) = Answer.refused f
+moment_answer idle_ms past now None =
+    if nat_lt now (clock past) then Answer.outputs [] else Answer.outputs (moment_outputs idle_ms past now)
 
 -- ---- the answer
 
@@ -188,4 +230,4 @@ reply h (Event.on_dialogue dialogue request) =
 reply h (Event.received bytes) =
     Answer.outputs (reception_outputs h (reception (λ dialogue. live_in (life dialogue h.pairs)) (is_some (birth_due h))
     bytes))
-reply h (Event.moment now) = moment_answer h.pairs now (moment_fault now)
+reply h (Event.moment now) = moment_answer h.start.idle_ms h.pairs now (moment_fault now)

@@ -38,13 +38,15 @@ answer_within dialogue (Answer.outputs outputs) = Answer.outputs (filter (is_out
 answer_within dialogue (Answer.refused fault) = Answer.refused fault
 
 -- A pair without the outputs of other dialogues, where it is that of a moment (own).
-abbrev pub pair_within : ℕ → Event → Answer → Pair
-pair_within dialogue Event.new_dialogue answer = record { event = Event.new_dialogue; answer = answer }
-pair_within dialogue (Event.on_dialogue asked request) answer =
-    record { event = Event.on_dialogue asked request; answer = answer }
-pair_within dialogue (Event.received bytes) answer = record { event = Event.received bytes; answer = answer }
-pair_within dialogue (Event.moment now) answer =
-    record { event = Event.moment now; answer = answer_within dialogue answer }
+abbrev pub pair_within : ℕ → Event → Answer → ℕ → Pair
+pair_within dialogue Event.new_dialogue answer idle_ms =
+    record { event = Event.new_dialogue; answer = answer; idle_ms = idle_ms }
+pair_within dialogue (Event.on_dialogue asked request) answer idle_ms =
+    record { event = Event.on_dialogue asked request; answer = answer; idle_ms = idle_ms }
+pair_within dialogue (Event.received bytes) answer idle_ms =
+    record { event = Event.received bytes; answer = answer; idle_ms = idle_ms }
+pair_within dialogue (Event.moment now) answer idle_ms =
+    record { event = Event.moment now; answer = answer_within dialogue answer; idle_ms = idle_ms }
 
 -- Whether it is a moment (own).
 abbrev pub is_moment : Event → Bool
@@ -63,5 +65,5 @@ is_seen_by dialogue pair past =
 abbrev pub only : ℕ → Past → Past
 only dialogue [] = []
 only dialogue (pair ∷ past) =
-    if is_seen_by dialogue pair past then pair_within dialogue pair.event pair.answer
+    if is_seen_by dialogue pair past then pair_within dialogue pair.event pair.answer pair.idle_ms
     ∷ only dialogue past else only dialogue past

@@ -24,6 +24,6 @@ leaves_standing (Request.dialogue (DialogueRequest.go_on context info)) = true
 leaves_standing (Request.dialogue (DialogueRequest.finish ending context info)) = false
 leaves_standing (Request.dialogue (DialogueRequest.u_abort why info)) = false
 
--- An event with the answer that is due to it (own).
+-- An event with the answer that is due to it, under the idle limit of the history (own).
 abbrev pub due_pair : History → Event → Pair
-due_pair h event = record { event = event; answer = reply h event }
+due_pair h event = record { event = event; answer = reply h event; idle_ms = h.start.idle_ms }

@@ -1,24 +1,30 @@
 -- One dialogue as the engine keeps it.
-use Rattle.std.specs.Prelude.{ℕ, ℤ, List, [], Option, Some, None}
+use Rattle.std.specs.Prelude.{ℕ, ℤ, ◌+◌, ◌&&◌, Bool, nat_lt, List, [], Option, Some, None, if◌then◌else◌}
 use Rattle.tcap_invocation.specs.declared.invocations.Invocation.{Invocation}
 use Rattle.tcap_invocation.specs.Invocations.{InvocationList, sent_at}
-use Rattle.tcap_model.specs.Words.State.{State}
+use Rattle.tcap_model.specs.Words.State.{State, is_live}
+use Rattle.tcap_model.specs.Words.Time.{is_idle}
 use Rattle.tcap_model.specs.Procedures.QueueRules.{Queued}
 use Rattle.tcap_model.specs.Procedures.Standing.{Standing}
 use Rattle.tcap_model.specs.Procedures.ComponentHandling.{SentInvocation}
 
--- A dialogue: its identifier, state, application context and queue; and its invocations by rising
--- number, with how long an identifier waits for a Reject (own).
+-- A dialogue: its identifier, state, application context and queue; its invocations by rising number,
+-- with how long an identifier waits for a Reject; its idle limit, 0 for none, and the clock when it was
+-- touched last (own).
 pub record Dialogue : Type 0 where
   pub standing : Standing
   pub invocations : InvocationList
+  pub idle_ms : ℕ
+  pub touched : ℕ
 
 -- A new dialogue: Idle, without context, components and invocations
 -- (Q.774, Transaction state machine).
-abbrev pub fresh_dialogue : ℕ → ℕ → Dialogue
-fresh_dialogue identifier reject_ms = record {
+abbrev pub fresh_dialogue : ℕ → ℕ → ℕ → Dialogue
+fresh_dialogue identifier reject_ms idle_ms = record {
   standing = record { identifier = identifier; state = State.fresh; context = None; queue = [] };
   invocations = record { reject_ms = reject_ms; rows = [] };
+  idle_ms = idle_ms;
+  touched = 0;
 }
 
 -- The dialogue with another queue (own).
@@ -36,6 +42,18 @@ in_state d state = record d { standing = record d.standing { state = state } }
 -- The dialogue with an application context (own).
 abbrev pub in_context : Dialogue → Option (List ℕ) → Dialogue
 in_context d context = record d { standing = record d.standing { context = context } }
+
+-- The dialogue, touched when the clock stands at a moment (own).
+abbrev pub touched_at : Dialogue → ℕ → Dialogue
+touched_at d now = record d { touched = now }
+
+-- Whether a dialogue is live and has stood still too long at a moment (own).
+abbrev pub is_idle_at : ℕ → Dialogue → Bool
+is_idle_at now d = is_live d.standing.state && is_idle d.idle_ms d.touched now
+
+-- When a dialogue will have stood still too long: none, unless it is live and has an idle limit (own).
+abbrev pub idle_end : Dialogue → Option ℕ
+idle_end d = if is_live d.standing.state && nat_lt 0 d.idle_ms then Some (d.touched + d.idle_ms) else None
 
 -- An invocation of a dialogue, where there is one (own).
 abbrev pub sent_of : ℕ → Option Invocation → Option SentInvocation

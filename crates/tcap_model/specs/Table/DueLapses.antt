@@ -1,12 +1,13 @@
--- What lapses at a moment in all dialogues, and each dialogue after it.
-use Rattle.std.specs.Prelude.{ℕ, List, [], ◌∷◌, map}
+-- What lapses at a moment in all dialogues, which of them have stood still too long, and each dialogue
+-- after it.
+use Rattle.std.specs.Prelude.{ℕ, ◌+◌, List, [], ◌∷◌, map, filter, Option, Some, None, if◌then◌else◌}
 use Rattle.std.specs.List.{flat_map}
 use Rattle.tcap_invocation.specs.declared.invocations.lapse.Lapse.{Lapse}
 use Rattle.tcap_invocation.specs.Lapses.{due_at, after_lapse}
-use Rattle.tcap_model.specs.Table.Dialogue.{Dialogue, with_invocations}
-use Rattle.tcap_model.specs.Table.TableMove.{row_lapse_told}
+use Rattle.tcap_model.specs.Table.Dialogue.{Dialogue, with_invocations, is_idle_at}
+use Rattle.tcap_model.specs.Table.TableMove.{row_lapse_told, ended_told}
 use Rattle.tcap_model.specs.Words.KeyOrder.{in_order}
-use Rattle.tcap_model.specs.Words.Output.{Output}
+use Rattle.tcap_model.specs.Words.Output.{Output, AbortCause, DialogueIndication}
 
 -- An invocation whose deadline was reached, and its dialogue (own).
 pub record DueLapse : Type 0 where
@@ -37,3 +38,28 @@ all_told now dialogues = map due_told (in_order due_key (all_due now dialogues))
 -- (Q.774, Invocation timer; Q.774, Reject timer).
 abbrev pub at_moment : ℕ → Dialogue → Dialogue
 at_moment now d = with_invocations d (after_lapse d.invocations now)
+
+-- ---- dialogues that stand still
+
+-- Those that have stood still too long are told by the moment at which they reached the limit, then by
+-- dialogue (own).
+abbrev pub idle_key : Dialogue → List ℕ
+idle_key d = (d.touched + d.idle_ms) ∷ d.standing.identifier ∷ []
+
+-- The dialogues that have stood still too long at a moment, in the order in which they are told (own).
+abbrev pub idle_at_moment : ℕ → List Dialogue → List Dialogue
+idle_at_moment now dialogues = in_order idle_key (filter (is_idle_at now) dialogues)
+
+-- What is told of one: TC-P-ABORT, and each invocation that is left when what is due has lapsed (own).
+abbrev pub idle_told : ℕ → Dialogue → List Output
+idle_told now d =
+    Output.dialogue (DialogueIndication.p_abort d.standing.identifier AbortCause.idle)
+    ∷ ended_told d.standing.identifier (after_lapse d.invocations now)
+
+-- What is told of all, dialogue by dialogue (own).
+abbrev pub all_idle_told : ℕ → List Dialogue → List Output
+all_idle_told now dialogues = flat_map (idle_told now) (idle_at_moment now dialogues)
+
+-- A dialogue after a moment, if it still stands (own).
+abbrev pub left_at : ℕ → Dialogue → Option Dialogue
+left_at now d = if is_idle_at now d then None else Some (at_moment now d)

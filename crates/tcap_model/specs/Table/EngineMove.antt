@@ -6,7 +6,7 @@ use Rattle.tcap_model.specs.Procedures.ComponentHandling.{uni_told}
 use Rattle.tcap_model.specs.Procedures.QueueRules.{queue_limit}
 use Rattle.tcap_model.specs.Procedures.Reception.{Reception, reception}
 use Rattle.tcap_model.specs.Table.Dialogue.{Dialogue, fresh_dialogue}
-use Rattle.tcap_model.specs.Table.DueLapses.{all_told, at_moment}
+use Rattle.tcap_model.specs.Table.DueLapses.{all_told, all_idle_told, left_at}
 use Rattle.tcap_model.specs.Table.TableMove.{Setting, Moved, DialogueEvent, table_move, born, left_standing}
 use Rattle.tcap_model.specs.Table.World.{World}
 use Rattle.tcap_model.specs.Words.Answer.{Answer}
@@ -97,7 +97,8 @@ birth_fault_in w = birth_fault w.max_dialogues (length w.dialogues) w.next_dialo
 -- A new dialogue is asked for: it is Idle, or refused (Q.774, Transaction state machine).
 abbrev pub asked_in : World → Option Fault → EngineMoved
 asked_in w (Some fault) = unmoved w (Answer.refused fault)
-asked_in w None = born_in w (Answer.new_dialogue w.next_dialogue) (fresh_dialogue w.next_dialogue w.reject_ms)
+asked_in w None = born_in w (Answer.new_dialogue w.next_dialogue)
+    (fresh_dialogue w.next_dialogue w.reject_ms w.idle_ms)
 
 -- A request on the dialogue of an identifier; where none stands it is unknown (Q.774, Dialogue control).
 abbrev pub requested_in : World → ℕ → Request → Option Dialogue → EngineMoved
@@ -140,7 +141,7 @@ received_in w (Reception.unidirectional context info components) =
     unmoved w
     (Answer.outputs (Output.dialogue (DialogueIndication.uni context info) ∷ uni_told (components_of components)))
 received_in w (Reception.begun origin context info components) =
-    begun_in w (born (setting_in w) w.next_dialogue w.reject_ms origin context info components)
+    begun_in w (born (setting_in w) w.next_dialogue w.reject_ms w.idle_ms origin context info components)
 received_in w (Reception.taken identifier message) =
     reached_in w identifier None (DialogueEvent.frame message) (dialogue_in identifier w.dialogues)
 received_in w (Reception.broken identifier abort cause) =
@@ -148,12 +149,13 @@ received_in w (Reception.broken identifier abort cause) =
 
 -- ---- moments
 
--- An accepted moment becomes the clock; what is due in all dialogues is told, and then each identifier
--- that has waited is free (Q.774, Invocation timer; Q.774, Reject timer).
+-- An accepted moment becomes the clock; what is due in all dialogues is told, and each identifier that
+-- has waited is free; then the dialogues that have stood still too long are over
+-- (Q.774, Invocation timer; Q.774, Reject timer; that dialogues end is own).
 abbrev pub advanced : World → ℕ → EngineMoved
 advanced w now = record {
-  answer = Answer.outputs (all_told now w.dialogues);
-  after = record w { clock = now; dialogues = map (at_moment now) w.dialogues };
+  answer = Answer.outputs (all_told now w.dialogues ++ all_idle_told now w.dialogues);
+  after = record w { clock = now; dialogues = filter_map (left_at now) w.dialogues };
 }
 
 -- A moment: one above the limit is refused, one below the clock does nothing (own).

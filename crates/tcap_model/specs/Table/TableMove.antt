@@ -25,7 +25,7 @@ use Rattle.tcap_model.specs.Words.Identifiers.{are_numbers_spent}
 use Rattle.tcap_model.specs.Procedures.PortionRules.{PortionVerdict, portion_verdict}
 use Rattle.tcap_model.specs.Procedures.AbortRules.{sent_if_any, abort_told, abnormal_abort}
 use Rattle.tcap_model.specs.Procedures.ComponentHandling.{Item, Handled, handled, subject_of}
-use Rattle.tcap_model.specs.Table.Dialogue.{Dialogue, fresh_dialogue, with_queue, with_invocations, in_state, in_context, sent_by_rows}
+use Rattle.tcap_model.specs.Table.Dialogue.{Dialogue, fresh_dialogue, with_queue, with_invocations, in_state, in_context, touched_at, is_idle_at, sent_by_rows}
 
 -- What happens around the dialogue: the clock, the number that an invocation would get, and the limit
 -- of a queue (own).
@@ -168,10 +168,10 @@ accepted s d (Request.dialogue (DialogueRequest.uni context info)) =
     over_with d (sent_if_any (message_of d.standing (Request.dialogue (DialogueRequest.uni context info))))
     d.invocations
 accepted s d (Request.dialogue (DialogueRequest.begin context info)) =
-    answering (in_context (in_state (gone_out s d) State.sent) context)
+    answering (touched_at (in_context (in_state (gone_out s d) State.sent) context) s.clock)
     (Answer.outputs (sent_if_any (message_of d.standing (Request.dialogue (DialogueRequest.begin context info)))))
 accepted s d (Request.dialogue (DialogueRequest.go_on context info)) =
-    answering (in_state (gone_out s d) (activated d.standing.state))
+    answering (touched_at (in_state (gone_out s d) (activated d.standing.state)) s.clock)
     (Answer.outputs (sent_if_any (message_of d.standing (Request.dialogue (DialogueRequest.go_on context info)))))
 accepted s d (Request.dialogue (DialogueRequest.finish ending context info)) =
     over_with d (sent_if_any (message_of d.standing (Request.dialogue (DialogueRequest.finish ending context info))))
@@ -214,8 +214,9 @@ requested_by s d r None = accepted s d r
 abbrev pub continued_by : Setting → Dialogue → List ℕ → PortionVerdict → Walked → Moved
 continued_by s d origin (PortionVerdict.normal context info) w = record {
   answer = Answer.outputs (Output.dialogue (DialogueIndication.go_on d.standing.identifier context info) ∷ w.told);
-  after = with_queue (with_invocations (in_state d (State.active (peer_by d.standing.state origin))) w.invocations)
-      (queue_each s.limit d.standing.queue w.rejects);
+  after = touched_at (with_queue
+      (with_invocations (in_state d (State.active (peer_by d.standing.state origin))) w.invocations)
+      (queue_each s.limit d.standing.queue w.rejects)) s.clock;
   is_over = false;
 }
 continued_by s d origin PortionVerdict.abnormal w =
@@ -245,19 +246,20 @@ framed s d (Message.abort to reason) = over_with d (abort_told d.standing.identi
 
 -- A dialogue that is born by a Begin: it is told with its components, and the Rejects of these are
 -- queued (Q.774, Dialogue begin).
-abbrev pub begun_with : Setting → ℕ → ℕ → List ℕ → Option (List ℕ) → List ℕ → Walked → Moved
-begun_with s identifier reject_ms origin context info w = record {
+abbrev pub begun_with : Setting → ℕ → ℕ → ℕ → List ℕ → Option (List ℕ) → List ℕ → Walked → Moved
+begun_with s identifier reject_ms idle_ms origin context info w = record {
   answer = Answer.outputs (Output.dialogue (DialogueIndication.begin identifier context info) ∷ w.told);
-  after = with_queue (in_context (in_state (with_invocations (fresh_dialogue identifier reject_ms) w.invocations)
+  after = with_queue (in_context (in_state
+      (with_invocations (fresh_dialogue identifier reject_ms idle_ms) w.invocations)
       (State.received origin)) context) (queue_each s.limit [] w.rejects);
   is_over = false;
 }
 
 -- The same, from the contents of the Begin's component portion (Q.774, Dialogue begin).
-abbrev pub born : Setting → ℕ → ℕ → List ℕ → Option (List ℕ) → List ℕ → List ℕ → Moved
-born s identifier reject_ms origin context info components =
-    begun_with s identifier reject_ms origin context info
-    (walked_in s.clock (fresh_dialogue identifier reject_ms) components)
+abbrev pub born : Setting → ℕ → ℕ → ℕ → List ℕ → Option (List ℕ) → List ℕ → List ℕ → Moved
+born s identifier reject_ms idle_ms origin context info components =
+    begun_with s identifier reject_ms idle_ms origin context info
+    (walked_in s.clock (fresh_dialogue identifier reject_ms idle_ms) components)
 
 -- ---- moments
 
@@ -271,6 +273,13 @@ abbrev pub lapsed : Dialogue → ℕ → Moved
 lapsed d now = answering (with_invocations d (after_lapse d.invocations now))
     (Answer.outputs (map (row_lapse_told d.standing.identifier) (told_at now d.invocations.rows)))
 
+-- The same at which the dialogue has stood still too long: what lapses is told, and then the dialogue is
+-- over, and no message goes out (own).
+abbrev pub idled : Dialogue → ℕ → Moved
+idled d now = over_with d (map (row_lapse_told d.standing.identifier) (told_at now d.invocations.rows)
+    ++ Output.dialogue (DialogueIndication.p_abort d.standing.identifier AbortCause.idle) ∷ [])
+    (after_lapse d.invocations now)
+
 -- What a dialogue does (Q.774, Transaction sublayer procedures; Q.774, Component handling).
 unfoldable pub table_move : Setting → Dialogue → DialogueEvent → Moved
 table_move s d (DialogueEvent.request r) = requested_by s d r (due_on (situation s d r) r)
@@ -278,7 +287,7 @@ table_move s d (DialogueEvent.frame m) = framed s d m
 table_move s d (DialogueEvent.fault cause) =
     over_with d (Output.dialogue (DialogueIndication.p_abort d.standing.identifier (AbortCause.cause cause)) ∷ [])
     d.invocations
-table_move s d (DialogueEvent.moment now) = lapsed d now
+table_move s d (DialogueEvent.moment now) = if is_idle_at now d then idled d now else lapsed d now
 
 -- The dialogue after it moved, if it isn't over (own).
 abbrev pub left_standing : Moved → Option Dialogue

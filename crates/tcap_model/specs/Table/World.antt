@@ -14,14 +14,16 @@ use Rattle.tcap_model.specs.Replies.Held.{is_waiting}
 use Rattle.tcap_model.specs.Histories.History.{Start, History}
 use Rattle.tcap_model.specs.Invocations.Invocation.{Invocation, invocations, latest, next_number}
 use Rattle.tcap_model.specs.Replies.Legal.{IsLegal}
-use Rattle.tcap_model.specs.Histories.Life.{Life, life}
+use Rattle.tcap_model.specs.Histories.Life.{Life, life, touched}
 use Rattle.tcap_model.specs.Histories.Pair.{Past}
 
--- An engine: how many dialogues may stand, how long an identifier waits for a Reject, the next dialogue
--- identifier and invocation number, the clock, and the dialogues that stand, by identifier (own).
+-- An engine: how many dialogues may stand, how long an identifier waits for a Reject, how long a dialogue
+-- may stand still, the next dialogue identifier and invocation number, the clock, and the dialogues that
+-- stand, by identifier (own).
 pub record World : Type 0 where
   pub max_dialogues : ℕ
   pub reject_ms : ℕ
+  pub idle_ms : ℕ
   pub next_dialogue : ℕ
   pub next_number : ℕ
   pub clock : ℕ
@@ -32,6 +34,7 @@ abbrev pub first_world : Start → World
 first_world start = record {
   max_dialogues = start.max_dialogues;
   reject_ms = start.reject_ms;
+  idle_ms = start.idle_ms;
   next_dialogue = start.next_dialogue;
   next_number = start.next_number;
   clock = 0;
@@ -80,28 +83,32 @@ rows_of reject_ms dialogue past = filter_map (row_of reject_ms dialogue past) (i
 
 -- ---- the dialogues
 
--- A dialogue, if it stands: with all that its life says, its queue and its invocations (own).
-abbrev pub dialogue_by : ℕ → ℕ → Past → Life → Option Dialogue
-dialogue_by reject_ms dialogue past Life.unborn = None
-dialogue_by reject_ms dialogue past (Life.standing state context) = Some (record {
+-- A dialogue, if it stands: with all that its life says, its queue, its invocations, and when it was
+-- touched last (own).
+abbrev pub dialogue_by : ℕ → ℕ → ℕ → Past → Life → Option Dialogue
+dialogue_by reject_ms idle_ms dialogue past Life.unborn = None
+dialogue_by reject_ms idle_ms dialogue past (Life.standing state context) = Some (record {
   standing = standing_of dialogue past state context;
   invocations = record { reject_ms = reject_ms; rows = rows_of reject_ms dialogue past };
+  idle_ms = idle_ms;
+  touched = touched dialogue past;
 })
-dialogue_by reject_ms dialogue past Life.over = None
+dialogue_by reject_ms idle_ms dialogue past Life.over = None
 
 -- The dialogue of an identifier, if it stands (own).
-abbrev pub dialogue_at : ℕ → Past → ℕ → Option Dialogue
-dialogue_at reject_ms past dialogue = dialogue_by reject_ms dialogue past (life dialogue past)
+abbrev pub dialogue_at : ℕ → ℕ → Past → ℕ → Option Dialogue
+dialogue_at reject_ms idle_ms past dialogue = dialogue_by reject_ms idle_ms dialogue past (life dialogue past)
 
 -- The engine at a history (own).
 abbrev pub world_of : History → World
 world_of h = record {
   max_dialogues = h.start.max_dialogues;
   reject_ms = h.start.reject_ms;
+  idle_ms = h.start.idle_ms;
   next_dialogue = next_dialogue h;
   next_number = next_number h;
   clock = clock h.pairs;
-  dialogues = filter_map (dialogue_at h.start.reject_ms h.pairs) (dialogues h.pairs);
+  dialogues = filter_map (dialogue_at h.start.reject_ms h.start.idle_ms h.pairs) (dialogues h.pairs);
 }
 
 -- An engine stands at a legal history if it is what the history says (own).

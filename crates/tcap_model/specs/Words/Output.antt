@@ -5,11 +5,13 @@ use Rattle.tcap_component.specs.Component.{CodeParts, BodyParts}
 use Rattle.tcap_component.specs.Problem.{ProblemParts}
 
 -- Why the provider aborted: the cause that the message has, or that of a faulty message; an abnormal
--- dialogue portion; no common dialogue portion (Q.771, Provider abort).
+-- dialogue portion; no common dialogue portion; the dialogue stood still too long
+-- (Q.771, Provider abort; the last is own).
 pub data AbortCause : Type 0 where
   cause : (number : ℕ) → AbortCause
   abnormal : AbortCause
   no_common : AbortCause
+  idle : AbortCause
 
 -- Who rejects: the component sublayer here (TC-L-REJECT), that of the peer (TC-R-REJECT), the peer's
 -- user (TC-U-REJECT) (Q.771, Component handling).
