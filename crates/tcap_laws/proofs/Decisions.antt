@@ -3,10 +3,12 @@ pub mod CountedHistories
 pub mod DecidedHistories
 pub mod DecidedOutcomes
 pub mod OpenEvents
+pub mod OpenMoments
 pub mod OpenNumbers
 pub mod OpenReplies
 pub mod QuietDialogues
 pub mod QuietNumbers
+pub mod ToldDialogues
 pub mod ToldInvocations
 pub mod ToldOutputs
 pub mod ToldParts

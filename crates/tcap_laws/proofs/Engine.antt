@@ -4,6 +4,7 @@ pub mod DialoguesFound
 pub mod DueRows
 pub mod EngineMoves
 pub mod GroupedOrder
+pub mod IdleAlike
 pub mod LapsesAlike
 pub mod MomentsMove
 pub mod ReceptionsAlike

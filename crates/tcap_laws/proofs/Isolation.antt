@@ -2,6 +2,7 @@ pub mod KeyedLists
 pub mod OwnInvocations
 pub mod SeenBytes
 pub mod SeenDecisions
+pub mod SeenIdle
 pub mod SeenInvocations
 pub mod SeenLives
 pub mod SeenMoments

@@ -1,5 +1,6 @@
 pub mod AcceptedRequests
 pub mod EachComponent
+pub mod EachMoment
 pub mod EachOutput
 pub mod HandledComponents
 pub mod NamedBytes

@@ -2,6 +2,7 @@ pub mod ClassTables
 pub mod ComponentsAlike
 pub mod DistinctRows
 pub mod EndsAfterComponents
+pub mod EndsAtMoments
 pub mod IdentifiersInRows
 pub mod InvocationsLeft
 pub mod LatestRows

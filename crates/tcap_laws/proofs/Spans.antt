@@ -2,6 +2,7 @@ pub mod DecisionSteps
 pub mod DrawnInvocations
 pub mod EarlierMoments
 pub mod EventMarks
+pub mod IdleMoments
 pub mod LatestInvocations
 pub mod MarksAfterBirth
 pub mod QueuedMarks

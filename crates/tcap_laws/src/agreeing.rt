@@ -28,7 +28,7 @@ ghost use Rattle.tcap_pdu.specs.FrameSpelling.{Message};
 /// (Q.774, Dialogue end; Q.774, Component handling).
 pub fn ends_answered_alike()
     ensures { (h : History) (dialogue : ℕ) (d : Dialogue) (to : List ℕ) (portion : Option (List ℕ))
-        (components : List ℕ) → IsLegal h → dialogue_at h.start.reject_ms h.pairs dialogue ≡ Some d →
+        (components : List ℕ) → IsLegal h → dialogue_at h.start.reject_ms h.start.idle_ms h.pairs dialogue ≡ Some d →
         (table_move (setting_at h) d (DialogueEvent.frame (Message.end to portion components))).answer
         ≡ Answer.outputs (taken_outputs dialogue h.pairs (life dialogue h.pairs)
         (Message.end to portion components)) }
@@ -38,38 +38,40 @@ pub fn ends_answered_alike()
 /// the history says it is then, or it is over there too (Q.774, Transaction state machine).
 pub fn dialogues_moved_alike()
     ensures requested { (h : History) (dialogue : ℕ) (d : Dialogue) (request : Request) → IsLegal h
-        → InRange (Event.on_dialogue dialogue request) → dialogue_at h.start.reject_ms h.pairs dialogue ≡ Some d →
-        dialogue_at h.start.reject_ms (due_pair h (Event.on_dialogue dialogue request) ∷ h.pairs) dialogue
+        → InRange (Event.on_dialogue dialogue request)
+        → dialogue_at h.start.reject_ms h.start.idle_ms h.pairs dialogue ≡ Some d →
+        dialogue_at h.start.reject_ms h.start.idle_ms (due_pair h (Event.on_dialogue dialogue request) ∷ h.pairs)
+        dialogue
         ≡ left_standing (table_move (setting_at h) d (DialogueEvent.request request)) }
     ensures taken { (h : History) (dialogue : ℕ) (d : Dialogue) (bytes : List ℕ) (m : Message) → IsLegal h
-        → dialogue_at h.start.reject_ms h.pairs dialogue ≡ Some d →
+        → dialogue_at h.start.reject_ms h.start.idle_ms h.pairs dialogue ≡ Some d →
         names (Event.received bytes) dialogue ≡ true → is_live d.standing.state ≡ true → frame_at bytes ≡ Ok m →
-        dialogue_at h.start.reject_ms (due_pair h (Event.received bytes) ∷ h.pairs) dialogue
+        dialogue_at h.start.reject_ms h.start.idle_ms (due_pair h (Event.received bytes) ∷ h.pairs) dialogue
         ≡ left_standing (table_move (setting_at h) d (DialogueEvent.frame m)) }
     ensures broken { (h : History) (dialogue : ℕ) (d : Dialogue) (bytes : List ℕ) (fault : FrameFault) (cause : ℕ)
-        → IsLegal h → dialogue_at h.start.reject_ms h.pairs dialogue ≡ Some d →
+        → IsLegal h → dialogue_at h.start.reject_ms h.start.idle_ms h.pairs dialogue ≡ Some d →
         names (Event.received bytes) dialogue ≡ true → is_live d.standing.state ≡ true → frame_at bytes ≡ Err fault →
-        dialogue_at h.start.reject_ms (due_pair h (Event.received bytes) ∷ h.pairs) dialogue
+        dialogue_at h.start.reject_ms h.start.idle_ms (due_pair h (Event.received bytes) ∷ h.pairs) dialogue
         ≡ left_standing (table_move (setting_at h) d (DialogueEvent.fault cause)) }
     ensures lapsed { (h : History) (dialogue : ℕ) (d : Dialogue) (now : ℕ) → IsLegal h
-        → dialogue_at h.start.reject_ms h.pairs dialogue ≡ Some d → moment_fault now ≡ None →
-        dialogue_at h.start.reject_ms (due_pair h (Event.moment now) ∷ h.pairs) dialogue
+        → dialogue_at h.start.reject_ms h.start.idle_ms h.pairs dialogue ≡ Some d → moment_fault now ≡ None →
+        dialogue_at h.start.reject_ms h.start.idle_ms (due_pair h (Event.moment now) ∷ h.pairs) dialogue
         ≡ left_standing (table_move (setting_at h) d (DialogueEvent.moment now)) }
 {}
 
 /// An event that doesn't name a dialogue that stands leaves it as it is (our own).
 pub fn others_stay()
     ensures { (h : History) (dialogue : ℕ) (d : Dialogue) (event : Event) → IsLegal h
-        → dialogue_at h.start.reject_ms h.pairs dialogue ≡ Some d → names event dialogue ≡ false →
-        dialogue_at h.start.reject_ms (due_pair h event ∷ h.pairs) dialogue ≡ Some d }
+        → dialogue_at h.start.reject_ms h.start.idle_ms h.pairs dialogue ≡ Some d → names event dialogue ≡ false →
+        dialogue_at h.start.reject_ms h.start.idle_ms (due_pair h event ∷ h.pairs) dialogue ≡ Some d }
 {}
 
 /// A dialogue that is asked for, where none of the faults is due, is Idle with nothing queued and no
 /// invocations (Q.774, Transaction state machine).
 pub fn fresh_is_born()
     ensures { (h : History) → IsLegal h → birth_due h ≡ None →
-        dialogue_at h.start.reject_ms (due_pair h Event.new_dialogue ∷ h.pairs) (next_dialogue h)
-        ≡ Some (fresh_dialogue (next_dialogue h) h.start.reject_ms) }
+        dialogue_at h.start.reject_ms h.start.idle_ms (due_pair h Event.new_dialogue ∷ h.pairs) (next_dialogue h)
+        ≡ Some (fresh_dialogue (next_dialogue h) h.start.reject_ms h.start.idle_ms) }
 {}
 
 /// A Begin that is accepted is answered by the dialogue that it gives birth to, and that dialogue is
@@ -79,13 +81,14 @@ pub fn begun_is_born()
         (info components : List ℕ) → IsLegal h →
         reception (λ dialogue. live_in (life dialogue h.pairs)) (is_some (birth_due h)) bytes
         ≡ Reception.begun origin context info components →
-        (born (setting_at h) (next_dialogue h) h.start.reject_ms origin context info components).answer
+        (born (setting_at h) (next_dialogue h) h.start.reject_ms h.start.idle_ms origin context info components).answer
         ≡ reply h (Event.received bytes) }
     ensures dialogue { (h : History) (bytes : List ℕ) (origin : List ℕ) (portion : Option (List ℕ))
         (context : Option (List ℕ)) (info components : List ℕ) → IsLegal h
         → frame_at bytes ≡ Ok (Message.begin origin portion components) →
         reception (λ dialogue. live_in (life dialogue h.pairs)) (is_some (birth_due h)) bytes
         ≡ Reception.begun origin context info components →
-        dialogue_at h.start.reject_ms (due_pair h (Event.received bytes) ∷ h.pairs) (next_dialogue h)
-        ≡ left_standing (born (setting_at h) (next_dialogue h) h.start.reject_ms origin context info components) }
+        dialogue_at h.start.reject_ms h.start.idle_ms (due_pair h (Event.received bytes) ∷ h.pairs) (next_dialogue h)
+        ≡ left_standing (born (setting_at h) (next_dialogue h) h.start.reject_ms h.start.idle_ms origin context info
+        components) }
 {}

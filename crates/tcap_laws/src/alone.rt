@@ -36,7 +36,7 @@ pub fn only_tells_life()
     ensures unseen { (dialogue : ℕ) (id : ℤ) (pair : Pair) (past : Past) → is_seen_by dialogue pair past ≡ false →
         marks dialogue id pair past ≡ [] }
     ensures seen { (dialogue : ℕ) (id : ℤ) (pair : Pair) (past : Past) →
-        marks dialogue id (pair_within dialogue pair.event pair.answer) (only dialogue past)
+        marks dialogue id (pair_within dialogue pair.event pair.answer pair.idle_ms) (only dialogue past)
         ≡ marks dialogue id pair past }
 {}
 

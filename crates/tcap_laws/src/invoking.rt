@@ -14,7 +14,8 @@ ghost use Rattle.tcap_model.specs.Replies.Legal.{IsLegal};
 ghost use Rattle.tcap_model.specs.Invocations.Marks.{marks};
 ghost use Rattle.tcap_model.specs.Invocations.Outcome.{outcome};
 ghost use Rattle.tcap_model.specs.Words.Output.{Closing};
-ghost use Rattle.tcap_model.specs.Histories.Pair.{Pair, Past};
+ghost use Rattle.tcap_model.specs.Histories.Life.{life};
+ghost use Rattle.tcap_model.specs.Histories.Pair.{Pair, Past, AreLimited};
 ghost use Rattle.tcap_model.specs.Procedures.ComponentHandling.{SentInvocation};
 ghost use Rattle.tcap_model.specs.Invocations.Reuse.{is_reused};
 ghost use Rattle.tcap_model.specs.Invocations.Span.{is_invoked, span};
@@ -75,23 +76,38 @@ pub fn open_until_deadline()
         deadline i h.pairs ≡ Some until → clock h.pairs < until }
 {}
 
-/// A moment below the clock changes nothing: it closes no invocation, moves no deadline and frees no
-/// identifier (our own).
+/// A moment below the clock changes nothing: it ends no dialogue, closes no invocation, moves no deadline
+/// and frees no identifier (our own).
 pub fn earlier_moment_does_nothing()
-    ensures clock { (past : Past) (now : ℕ) (answer : Answer) → is_accepted answer ≡ true → now < clock past →
-        clock (record { event = Event.moment now; answer = answer } ∷ past) ≡ clock past }
-    ensures invocations { (past : Past) (now : ℕ) (answer : Answer) → is_accepted answer ≡ true → now < clock past →
-        invocations (record { event = Event.moment now; answer = answer } ∷ past) ≡ invocations past }
-    ensures outcome { (past : Past) (now : ℕ) (answer : Answer) → is_accepted answer ≡ true → now < clock past →
-        (n : ℕ) → outcome n (record { event = Event.moment now; answer = answer } ∷ past) ≡ outcome n past }
-    ensures decision { (past : Past) (now : ℕ) (answer : Answer) → is_accepted answer ≡ true → now < clock past →
-        (n : ℕ) → decision n (record { event = Event.moment now; answer = answer } ∷ past) ≡ decision n past }
-    ensures deadline { (past : Past) (now : ℕ) (answer : Answer) → is_accepted answer ≡ true → now < clock past →
+    ensures clock { (idle_ms : ℕ) (past : Past) → AreLimited idle_ms past → (now : ℕ) (answer : Answer)
+        → is_accepted answer ≡ true → now < clock past →
+        clock (record { event = Event.moment now; answer = answer; idle_ms = idle_ms } ∷ past) ≡ clock past }
+    ensures life { (idle_ms : ℕ) (past : Past) → AreLimited idle_ms past → (now : ℕ) (answer : Answer)
+        → is_accepted answer ≡ true → now < clock past → (dialogue : ℕ) →
+        life dialogue (record { event = Event.moment now; answer = answer; idle_ms = idle_ms } ∷ past)
+        ≡ life dialogue past }
+    ensures invocations { (idle_ms : ℕ) (past : Past) → AreLimited idle_ms past → (now : ℕ) (answer : Answer)
+        → is_accepted answer ≡ true → now < clock past →
+        invocations (record { event = Event.moment now; answer = answer; idle_ms = idle_ms } ∷ past)
+        ≡ invocations past }
+    ensures outcome { (idle_ms : ℕ) (past : Past) → AreLimited idle_ms past → (now : ℕ) (answer : Answer)
+        → is_accepted answer ≡ true → now < clock past → (n : ℕ) →
+        outcome n (record { event = Event.moment now; answer = answer; idle_ms = idle_ms } ∷ past)
+        ≡ outcome n past }
+    ensures decision { (idle_ms : ℕ) (past : Past) → AreLimited idle_ms past → (now : ℕ) (answer : Answer)
+        → is_accepted answer ≡ true → now < clock past → (n : ℕ) →
+        decision n (record { event = Event.moment now; answer = answer; idle_ms = idle_ms } ∷ past)
+        ≡ decision n past }
+    ensures deadline { (idle_ms : ℕ) (past : Past) → AreLimited idle_ms past → (now : ℕ) (answer : Answer)
+        → is_accepted answer ≡ true → now < clock past →
         (i : Invocation) → is_some (invocation_of i.number past) ≡ true
-        → deadline i (record { event = Event.moment now; answer = answer } ∷ past) ≡ deadline i past }
-    ensures held { (past : Past) (now : ℕ) (answer : Answer) → is_accepted answer ≡ true → now < clock past →
+        → deadline i (record { event = Event.moment now; answer = answer; idle_ms = idle_ms } ∷ past)
+        ≡ deadline i past }
+    ensures held { (idle_ms : ℕ) (past : Past) → AreLimited idle_ms past → (now : ℕ) (answer : Answer)
+        → is_accepted answer ≡ true → now < clock past →
         (reject_ms dialogue : ℕ) (id : ℤ) → held reject_ms dialogue id
-        (record { event = Event.moment now; answer = answer } ∷ past) ≡ held reject_ms dialogue id past }
+        (record { event = Event.moment now; answer = answer; idle_ms = idle_ms } ∷ past)
+        ≡ held reject_ms dialogue id past }
 {}
 
 /// The latest invocation of an identifier of a dialogue is the one of its number (our own).

@@ -48,13 +48,13 @@ pub fn rows_agree()
 /// and a refusal is the fault that is due and leaves the dialogue as it was (our own).
 pub fn requests_judged_alike()
     ensures situation { (h : History) (dialogue : ℕ) (d : Dialogue) (request : Request)
-        → dialogue_at h.start.reject_ms h.pairs dialogue ≡ Some d →
+        → dialogue_at h.start.reject_ms h.start.idle_ms h.pairs dialogue ≡ Some d →
         situation (setting_at h) d request ≡ situation_of h dialogue d.standing request }
     ensures due { (h : History) (dialogue : ℕ) (d : Dialogue) (request : Request)
-        → dialogue_at h.start.reject_ms h.pairs dialogue ≡ Some d →
+        → dialogue_at h.start.reject_ms h.start.idle_ms h.pairs dialogue ≡ Some d →
         due_on (situation (setting_at h) d request) request ≡ due h dialogue request }
     ensures refused { (h : History) (dialogue : ℕ) (d : Dialogue) (request : Request) (fault : Fault)
-        → dialogue_at h.start.reject_ms h.pairs dialogue ≡ Some d →
+        → dialogue_at h.start.reject_ms h.start.idle_ms h.pairs dialogue ≡ Some d →
         due h dialogue request ≡ Some fault → table_move (setting_at h) d (DialogueEvent.request request)
         ≡ answering d (Answer.refused fault) }
 {}
@@ -75,12 +75,12 @@ pub fn ended_alike()
 pub fn requests_answered_alike()
     // A request that leaves its dialogue standing, at any history.
     ensures standing { (h : History) (dialogue : ℕ) (d : Dialogue) (request : Request)
-        → dialogue_at h.start.reject_ms h.pairs dialogue ≡ Some d → leaves_standing request ≡ true →
+        → dialogue_at h.start.reject_ms h.start.idle_ms h.pairs dialogue ≡ Some d → leaves_standing request ≡ true →
         (table_move (setting_at h) d (DialogueEvent.request request)).answer
         ≡ reply h (Event.on_dialogue dialogue request) }
     // Any request, at a legal history.
     ensures legal { (h : History) (dialogue : ℕ) (d : Dialogue) (request : Request) → IsLegal h
-        → dialogue_at h.start.reject_ms h.pairs dialogue ≡ Some d →
+        → dialogue_at h.start.reject_ms h.start.idle_ms h.pairs dialogue ≡ Some d →
         (table_move (setting_at h) d (DialogueEvent.request request)).answer
         ≡ reply h (Event.on_dialogue dialogue request) }
 {}
@@ -90,21 +90,21 @@ pub fn requests_answered_alike()
 /// (Q.774, Dialogue continuation; Q.774, Abnormal procedures).
 pub fn messages_told_alike()
     ensures fault { (h : History) (dialogue : ℕ) (d : Dialogue) (cause : ℕ) → IsLegal h
-        → dialogue_at h.start.reject_ms h.pairs dialogue ≡ Some d →
+        → dialogue_at h.start.reject_ms h.start.idle_ms h.pairs dialogue ≡ Some d →
         (table_move (setting_at h) d (DialogueEvent.fault cause)).answer
         ≡ Answer.outputs (Output.dialogue (DialogueIndication.p_abort dialogue (AbortCause.cause cause))
         ∷ ended_in dialogue h.pairs []) }
     ensures abort { (h : History) (dialogue : ℕ) (d : Dialogue) (to : List ℕ) (reason : Reason) → IsLegal h
-        → dialogue_at h.start.reject_ms h.pairs dialogue ≡ Some d →
+        → dialogue_at h.start.reject_ms h.start.idle_ms h.pairs dialogue ≡ Some d →
         (table_move (setting_at h) d (DialogueEvent.frame (Message.abort to reason))).answer
         ≡ Answer.outputs (taken_outputs dialogue h.pairs (life dialogue h.pairs) (Message.abort to reason)) }
     ensures continued { (h : History) (dialogue : ℕ) (d : Dialogue) (origin to : List ℕ) (portion : Option (List ℕ))
-        (components : List ℕ) → IsLegal h → dialogue_at h.start.reject_ms h.pairs dialogue ≡ Some d →
+        (components : List ℕ) → IsLegal h → dialogue_at h.start.reject_ms h.start.idle_ms h.pairs dialogue ≡ Some d →
         (table_move (setting_at h) d (DialogueEvent.frame (Message.go_on origin to portion components))).answer
         ≡ Answer.outputs (taken_outputs dialogue h.pairs (life dialogue h.pairs)
         (Message.go_on origin to portion components)) }
     ensures abnormal_end { (h : History) (dialogue : ℕ) (d : Dialogue) (to : List ℕ) (portion : Option (List ℕ))
-        (components : List ℕ) → IsLegal h → dialogue_at h.start.reject_ms h.pairs dialogue ≡ Some d →
+        (components : List ℕ) → IsLegal h → dialogue_at h.start.reject_ms h.start.idle_ms h.pairs dialogue ≡ Some d →
         portion_verdict d.standing.state d.standing.context portion ≡ PortionVerdict.abnormal →
         (table_move (setting_at h) d (DialogueEvent.frame (Message.end to portion components))).answer
         ≡ Answer.outputs (taken_outputs dialogue h.pairs (life dialogue h.pairs)
@@ -132,6 +132,6 @@ pub fn rows_distinct()
 /// (Q.774, Component related abnormal conditions).
 pub fn rejects_alike()
     ensures { (h : History) (dialogue : ℕ) (d : Dialogue) (components : List ℕ) → IsLegal h
-        → dialogue_at h.start.reject_ms h.pairs dialogue ≡ Some d →
+        → dialogue_at h.start.reject_ms h.start.idle_ms h.pairs dialogue ≡ Some d →
         (walked_in (clock h.pairs) d components).rejects ≡ rejects_of (handled_in dialogue h.pairs components) }
 {}

@@ -8,7 +8,7 @@ use Rattle.tcap_model.specs.Words.Fault.{Fault}
 use Rattle.tcap_model.specs.Histories.History.{Start}
 use Rattle.tcap_model.specs.Words.Identifiers.{birth_fault, are_dialogues_spent}
 use Rattle.tcap_model.specs.Replies.Legal.{AreReplies}
-use Rattle.tcap_model.specs.Histories.Life.{Life, is_standing, life, life_after, born_life, standing_dialogues}
+use Rattle.tcap_model.specs.Histories.Life.{Life, is_standing, life, touched, life_after, born_life, standing_dialogues}
 use Rattle.tcap_model.specs.Histories.Pair.{Pair, Past}
 use Rattle.tcap_laws.proofs.Births.DrawnDialogues.{listed-was_born, pair-born, was_born-lives}
 use Rattle.tcap_laws.proofs.Births.BirthReplies.{IsBornNext}
@@ -38,7 +38,8 @@ stood : (dialogue : ℕ) (pair : Pair) (past : Past) → life dialogue past ≢ 
     → is_standing (life dialogue (pair ∷ past)) ≡ true → is_standing (life dialogue past) ≡ true
 stood dialogue pair past born stands = go (life dialogue past) born stands
   where
-    go : (before : Life) → before ≢ Life.unborn → is_standing (life_after dialogue before pair) ≡ true
+    go : (before : Life) → before ≢ Life.unborn
+        → is_standing (life_after dialogue (touched dialogue past) before pair) ≡ true
         → is_standing before ≡ true
     go Life.unborn born e = absurd (born refl)
     go (Life.standing state context) born e = refl

@@ -14,7 +14,7 @@ use Rattle.tcap_model.specs.Replies.Legal.{AreReplies}
 use Rattle.tcap_model.specs.Histories.Life.{Life, life}
 use Rattle.tcap_model.specs.Invocations.Numbers.{number_of, numbers}
 use Rattle.tcap_model.specs.Histories.Pair.{Pair, Past}
-use Rattle.tcap_model.specs.Replies.Reply.{reply, birth_answer, request_answer, accepted_answer, given_up_answer, moment_answer, lapses}
+use Rattle.tcap_model.specs.Replies.Reply.{reply, birth_answer, request_answer, accepted_answer, given_up_answer, moment_answer, moment_outputs}
 use Rattle.tcap_model.specs.Words.Request.{Request, ComponentRequest, DialogueRequest}
 use Rattle.tcap_model.specs.Procedures.Standing.{Standing}
 use Rattle.tcap_model.specs.Words.Time.{moment_fault}
@@ -65,13 +65,13 @@ request-numbered h dialogue request Life.over None = (refl, inl refl)
 request-numbered h dialogue request (Life.standing state context) None =
     accepted-numbered h dialogue (standing_of dialogue h.pairs state context) request
 
-moment-numbered : (next : ℕ) (past : Past) (now : ℕ) (fault : Option Fault)
-    → IsNumbered next (Event.moment now) (moment_answer past now fault)
-moment-numbered next past now (Some f) = (refl, inl refl)
-moment-numbered next past now None = chosen (nat_lt now (clock past))
+moment-numbered : (next idle_ms : ℕ) (past : Past) (now : ℕ) (fault : Option Fault)
+    → IsNumbered next (Event.moment now) (moment_answer idle_ms past now fault)
+moment-numbered next idle_ms past now (Some f) = (refl, inl refl)
+moment-numbered next idle_ms past now None = chosen (nat_lt now (clock past))
   where
     chosen : (early : Bool) → IsNumbered next (Event.moment now)
-        (if early then Answer.outputs [] else Answer.outputs (lapses past now))
+        (if early then Answer.outputs [] else Answer.outputs (moment_outputs idle_ms past now))
     chosen true = (refl, inl refl)
     chosen false = (refl, inl refl)
 
@@ -80,7 +80,7 @@ reply-numbered h Event.new_dialogue = birth-numbered h (birth_due h)
 reply-numbered h (Event.on_dialogue dialogue request) =
     request-numbered h dialogue request (life dialogue h.pairs) (due h dialogue request)
 reply-numbered h (Event.received bytes) = (refl, inl refl)
-reply-numbered h (Event.moment now) = moment-numbered (next_number h) h.pairs now (moment_fault now)
+reply-numbered h (Event.moment now) = moment-numbered (next_number h) h.start.idle_ms h.pairs now (moment_fault now)
 
 -- ---- legal histories
 

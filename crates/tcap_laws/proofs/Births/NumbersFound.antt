@@ -18,7 +18,7 @@ use Rattle.tcap_model.specs.Histories.Life.{Life, life}
 use Rattle.tcap_model.specs.Invocations.Numbers.{number_of}
 use Rattle.tcap_model.specs.Histories.Pair.{Past}
 use Rattle.tcap_model.specs.Procedures.Refusals.{holds, faults_of, due_on}
-use Rattle.tcap_model.specs.Replies.Reply.{reply, birth_answer, request_answer, accepted_answer, given_up_answer, moment_answer, lapses}
+use Rattle.tcap_model.specs.Replies.Reply.{reply, birth_answer, request_answer, accepted_answer, given_up_answer, moment_answer, moment_outputs}
 use Rattle.tcap_model.specs.Words.Request.{Request, ComponentRequest, DialogueRequest}
 use Rattle.tcap_model.specs.Words.State.{State}
 use Rattle.tcap_model.specs.Words.Time.{moment_fault}
@@ -92,13 +92,13 @@ birth-none : (h : History) (fault : Option Fault) (n : ℕ) → number_of (birth
 birth-none h (Some f) n e = cc
 birth-none h None n e = cc
 
-moment-none : (past : Past) (now : ℕ) (fault : Option Fault) (n : ℕ) → number_of (moment_answer past now fault) ≡ Some n
-    → ⊥
-moment-none past now (Some f) n e = cc
-moment-none past now None n e = chosen (nat_lt now (clock past)) e
+moment-none : (idle_ms : ℕ) (past : Past) (now : ℕ) (fault : Option Fault) (n : ℕ)
+    → number_of (moment_answer idle_ms past now fault) ≡ Some n → ⊥
+moment-none idle_ms past now (Some f) n e = cc
+moment-none idle_ms past now None n e = chosen (nat_lt now (clock past)) e
   where
-    chosen : (early : Bool) → number_of (if early then Answer.outputs [] else Answer.outputs (lapses past now)) ≡ Some n
-        → ⊥
+    chosen : (early : Bool) → number_of (if early then Answer.outputs [] else Answer.outputs (moment_outputs idle_ms past now))
+        ≡ Some n → ⊥
     chosen true e = cc
     chosen false e = cc
 
@@ -108,7 +108,7 @@ reply-unspent h Event.new_dialogue n e = absurd (birth-none h (birth_due h) n e)
 reply-unspent h (Event.on_dialogue dialogue request) n e =
     request-unspent h dialogue request (life dialogue h.pairs) (due h dialogue request) n refl e
 reply-unspent h (Event.received bytes) n e = absurd cc
-reply-unspent h (Event.moment now) n e = absurd (moment-none h.pairs now (moment_fault now) n e)
+reply-unspent h (Event.moment now) n e = absurd (moment-none h.start.idle_ms h.pairs now (moment_fault now) n e)
 
 number_counter-below : (a n : ℕ) (i : Option Invocation) (drawn : Option ℕ) → drawn ≡ option_map number i
     → ((m : ℕ) → drawn ≡ Some m → are_numbers_spent (a + n) ≡ false) → a + n ≤ last_number

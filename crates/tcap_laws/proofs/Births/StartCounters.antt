@@ -1,5 +1,5 @@
 -- The counters start within what their types hold.
-use Rattle.std.proofs.Common.{◌≡◌, ◌≤◌, ◌^◌, true, ◌&&◌, IsTrue, nat_le, arith}
+use Rattle.std.proofs.Common.{◌≡◌, ◌≤◌, ◌^◌, Bool, true, ◌&&◌, IsTrue, nat_le, arith}
 use Rattle.std.proofs.lemmas.Bool.{and_parts, ltb-true}
 use Rattle.tcap_invocation.specs.Stage.{moment_limit}
 use Rattle.tcap_model.specs.Histories.History.{Start}
@@ -8,12 +8,14 @@ use Rattle.tcap_model.specs.Words.InRange.{is_short, is_long}
 use Rattle.tcap_model.specs.Replies.Legal.{is_start}
 
 module _ (start : Start) (within : IsTrue (is_start start)) where
-  parts : (nat_le start.reject_ms moment_limit ≡ true)
+  parts : ((nat_le start.reject_ms moment_limit && nat_le start.idle_ms moment_limit) ≡ true)
       × ((is_short start.next_dialogue && is_long start.next_number) ≡ true)
   parts =
-      let all = and_parts (nat_le 1 start.max_dialogues && nat_le start.max_dialogues 65535)
-      (nat_le start.reject_ms moment_limit && (is_short start.next_dialogue && is_long start.next_number)) within in
-      and_parts (nat_le start.reject_ms moment_limit) (is_short start.next_dialogue && is_long start.next_number) all.1
+      let waits : Bool = nat_le start.reject_ms moment_limit && nat_le start.idle_ms moment_limit in
+      let counters : Bool = is_short start.next_dialogue && is_long start.next_number in
+      let all = and_parts (nat_le 1 start.max_dialogues && nat_le start.max_dialogues 65535) (waits && counters)
+      within in
+      and_parts waits counters all.1
 
   pub start_dialogue-within : start.next_dialogue ≤ last_dialogue
   start_dialogue-within =

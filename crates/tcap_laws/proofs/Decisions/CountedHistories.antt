@@ -24,7 +24,7 @@ use Rattle.tcap_model.specs.Statements.Headline.{Counted}
 use Rattle.tcap_model.specs.Histories.History.{History, Start}
 use Rattle.tcap_model.specs.Invocations.Invocation.{Invocation, invoked_by, invoked_of, invoked_under, invocation_of}
 use Rattle.tcap_model.specs.Replies.Legal.{AreReplies}
-use Rattle.tcap_model.specs.Histories.Life.{Life, life, life_after, life_if_named, life_by_event, life_if_accepted, life_by_request, life_if_live, life_by_message, life_by_verdict}
+use Rattle.tcap_model.specs.Histories.Life.{Life, life, touched, life_after, life_if_named, life_by_event, life_if_accepted, life_by_request, life_if_live, life_by_message, life_by_verdict}
 use Rattle.tcap_model.specs.Invocations.Marks.{Mark, Noted, marks, marks_by_event, marks_of_request, end_if_over, marks_if_live, marks_of_message, if_normal, component_marks}
 use Rattle.tcap_model.specs.Histories.Names.{names}
 use Rattle.tcap_model.specs.Invocations.Numbers.{number_of}
@@ -100,23 +100,26 @@ module _ (class : Class) (timeout : ℕ) (c : ℕ) (before : List Noted) where
     bytes_close true bytes e = message_closes (frame_at bytes) e
 
     -- an event by which the dialogue is over
-    pub event_closes : (event : Event) (accepted : Bool) → life_by_event s context event accepted ≡ Life.over
+    pub event_closes : (idle_ms last : ℕ) (event : Event) (accepted : Bool)
+        → life_by_event idle_ms last s context event accepted ≡ Life.over
         → Closes (marks_by_event id standing Life.over event accepted)
-    event_closes Event.new_dialogue accepted e = absurd cc
-    event_closes (Event.on_dialogue d r) true e = request_closes r e
-    event_closes (Event.on_dialogue d r) false e = absurd cc
-    event_closes (Event.received bytes) accepted e = bytes_close (is_live s) bytes e
-    event_closes (Event.moment now) accepted e = absurd cc
+    event_closes idle_ms last Event.new_dialogue accepted e = absurd cc
+    event_closes idle_ms last (Event.on_dialogue d r) true e = request_closes r e
+    event_closes idle_ms last (Event.on_dialogue d r) false e = absurd cc
+    event_closes idle_ms last (Event.received bytes) accepted e = bytes_close (is_live s) bytes e
+    event_closes idle_ms last (Event.moment now) true e = end_last (Mark.moment now ∷ [])
+    event_closes idle_ms last (Event.moment now) false e = absurd cc
 
 -- ---- an open invocation has a dialogue that stands
 
 -- an accepted invoke leaves its dialogue as it was
 invoke_leaves : (d : ℕ) (s : State) (c : Option (List ℕ)) (i : Invocation) (r : Request) (answer : Answer)
     (o : Option ℕ) → number_of answer ≡ o → invoked_under d r o ≡ Some i → (b : Bool)
-    → life_if_named b s c (record { event = Event.on_dialogue d r; answer = answer }) ≡ Life.over → ⊥
-invoke_leaves d s c i r answer None q e b over = absurd cc
-invoke_leaves d s c i r answer (Some n) q e false over = absurd cc
-invoke_leaves d s c i r answer (Some n) q e true over = go r (is_accepted answer) e over
+    → (last idle_ms : ℕ) → life_if_named b last s c
+    (record { event = Event.on_dialogue d r; answer = answer; idle_ms = idle_ms }) ≡ Life.over → ⊥
+invoke_leaves d s c i r answer None q e b last idle_ms over = absurd cc
+invoke_leaves d s c i r answer (Some n) q e false last idle_ms over = absurd cc
+invoke_leaves d s c i r answer (Some n) q e true last idle_ms over = go r (is_accepted answer) e over
   where
     go : (r : Request) (a : Bool) → invoked_under d r (Some n) ≡ Some i → life_if_accepted a s c r ≡ Life.over → ⊥
     go r false e over = absurd cc
@@ -133,29 +136,33 @@ invoke_leaves d s c i r answer (Some n) q e true over = go r (is_accepted answer
     go (Request.dialogue (DialogueRequest.u_abort why info)) true e over = absurd cc
 
 invoked_leaves : (event : Event) (answer : Answer) (i : Invocation) (s : State) (c : Option (List ℕ))
-    → invoked_of event answer ≡ Some i → (b : Bool)
-    → life_if_named b s c (record { event = event; answer = answer }) ≡ Life.over → ⊥
-invoked_leaves Event.new_dialogue answer i s c e b over = absurd cc
-invoked_leaves (Event.on_dialogue d r) answer i s c e b over =
-    invoke_leaves d s c i r answer (number_of answer) refl e b over
-invoked_leaves (Event.received bytes) answer i s c e b over = absurd cc
-invoked_leaves (Event.moment now) answer i s c e b over = absurd cc
+    → invoked_of event answer ≡ Some i → (b : Bool) (last idle_ms : ℕ)
+    → life_if_named b last s c (record { event = event; answer = answer; idle_ms = idle_ms }) ≡ Life.over → ⊥
+invoked_leaves Event.new_dialogue answer i s c e b last idle_ms over = absurd cc
+invoked_leaves (Event.on_dialogue d r) answer i s c e b last idle_ms over =
+    invoke_leaves d s c i r answer (number_of answer) refl e b last idle_ms over
+invoked_leaves (Event.received bytes) answer i s c e b last idle_ms over = absurd cc
+invoked_leaves (Event.moment now) answer i s c e b last idle_ms over = absurd cc
 
 module _ (start : Start) (pair : Pair) (past : Past) (n : ℕ) (i : Invocation) (legal : AreReplies start (pair ∷ past))
     (none : outcome n (pair ∷ past) ≡ None) (over : life i.dialogue (pair ∷ past) ≡ Life.over) where
+  abbrev last : ℕ
+  last = touched i.dialogue past
+
   -- it is made here
   new_stands : invoked_by pair ≡ Some i → ⊥
   new_stands q =
       let drawn : Draws (record { start = start; pairs = past }) i = draws start pair past i legal q in
-      let there : life_if_named (names pair.event i.dialogue) drawn.state drawn.context pair ≡ Life.over =
-      ap (λ l. life_after i.dialogue l pair) (sym drawn.stands) ∙ over in
-      invoked_leaves pair.event pair.answer i drawn.state drawn.context q (names pair.event i.dialogue) there
+      let there : life_if_named (names pair.event i.dialogue) last drawn.state drawn.context pair ≡ Life.over =
+      ap (λ l. life_after i.dialogue last l pair) (sym drawn.stands) ∙ over in
+      invoked_leaves pair.event pair.answer i drawn.state drawn.context q (names pair.event i.dialogue) last
+      pair.idle_ms there
 
   -- it was made before, and its dialogue ends here
   ends_open : invocation_of n past ≡ Some i → (s : State) (c : Option (List ℕ))
       → life i.dialogue past ≡ Life.standing s c → ⊥
   ends_open found s c stands =
-      go (names pair.event i.dialogue) refl (ap (λ l. life_after i.dialogue l pair) (sym stands) ∙ over)
+      go (names pair.event i.dialogue) refl (ap (λ l. life_after i.dialogue last l pair) (sym stands) ∙ over)
     where
       here : invocation_of n (pair ∷ past) ≡ Some i
       here = invocation_stays n pair past i found
@@ -174,17 +181,18 @@ module _ (start : Start) (pair : Pair) (past : Past) (n : ℕ) (i : Invocation) 
       second None y e = e
       second (Some x) y e = absurd cc
 
-      go : (b : Bool) → names pair.event i.dialogue ≡ b → life_if_named b s c pair ≡ Life.over → ⊥
+      go : (b : Bool) → names pair.event i.dialogue ≡ b → life_if_named b last s c pair ≡ Life.over → ⊥
       go false q e = absurd cc
       go true q e =
           let closes : is_some (closing_after i.class i.timeout (span i past)
           (noted_at_clock (clock past) (marks_by_event i.id (Life.standing s c) Life.over pair.event
           (is_accepted pair.answer)))) ≡ true =
-          event_closes i.class i.timeout (clock past) (span i past) i.id s c pair.event (is_accepted pair.answer) e in
+          event_closes i.class i.timeout (clock past) (span i past) i.id s c pair.idle_ms last pair.event
+          (is_accepted pair.answer) e in
           let marks_here : marks i.dialogue i.id pair past
           ≡ noted_at_clock (clock past) (marks_by_event i.id (Life.standing s c) Life.over pair.event
           (is_accepted pair.answer)) =
-          standing_marks i.dialogue i.id pair.event pair.answer past s c stands q
+          standing_marks i.dialogue i.id pair.event pair.answer pair.idle_ms past s c stands q
           ∙ ap (λ l. noted_at_clock (clock past) (marks_by_event i.id (Life.standing s c) l pair.event
           (is_accepted pair.answer))) e in
           let never : false ≡ true =

@@ -14,19 +14,23 @@ use Rattle.tcap_laws.proofs.Decisions.ToldParts.{gain}
 use Rattle.tcap_model.specs.Words.Answer.{Answer}
 use Rattle.tcap_model.specs.Invocations.Closings.{Told, told_by_answer, closings}
 use Rattle.tcap_model.specs.Invocations.Decision.{told_outcome, decided_of, decided_at, decision, as_list}
-use Rattle.tcap_model.specs.Histories.History.{Start}
+use Rattle.tcap_model.specs.Histories.History.{History, Start}
 use Rattle.tcap_model.specs.Invocations.Invocation.{Invocation, invocation_of, latest}
 use Rattle.tcap_model.specs.Replies.Legal.{AreReplies}
 use Rattle.tcap_model.specs.Invocations.Marks.{Noted, marks}
 use Rattle.tcap_model.specs.Invocations.Outcome.{closing_after, first_closing, outcome_of, outcome}
 use Rattle.tcap_model.specs.Words.Output.{Closing}
 use Rattle.tcap_model.specs.Histories.Pair.{Pair, Past}
+use Rattle.tcap_model.specs.Replies.Reply.{reply}
 use Rattle.tcap_model.specs.Invocations.Reuse.{is_reused}
 use Rattle.tcap_model.specs.Invocations.Span.{span}
 
 module _ (start : Start) (pair : Pair) (past : Past) (n : ℕ) (legal : AreReplies start (pair ∷ past)) where
   abbrev place : Past
   place = pair ∷ past
+
+  abbrev h : History
+  h = record { start = start; pairs = past }
 
   abbrev told_here : List Told
   told_here = told_by_answer n place pair.event pair.answer
@@ -89,9 +93,13 @@ module _ (start : Start) (pair : Pair) (past : Past) (n : ℕ) (legal : AreRepli
 
     told_open : told_here ≡ wanted place past i added
     told_open = subst (λ (answer : Answer). told_by_answer n place pair.event answer
-        ≡ wanted place past i (marks i.dialogue i.id (record { event = pair.event; answer = answer }) past))
+        ≡ wanted place past i (marks i.dialogue i.id
+        (record { event = pair.event; answer = answer; idle_ms = pair.idle_ms }) past))
         (sym legal.1)
-        (reply_open start past place n i legal.2 found here pair.event)
+        (reply_open start past place n i legal.2 found here pair.event
+        ∙ ap (λ idle_ms. wanted place past i (marks i.dialogue i.id
+        (record { event = pair.event; answer = reply h pair.event; idle_ms = idle_ms }) past))
+        (sym legal.0.is_limited))
 
     -- no pair uses the identifier of an open invocation again
     unused : is_reused i place ≡ false

@@ -23,7 +23,7 @@ use Rattle.tcap_model.specs.Replies.Held.{pending, if_pending}
 use Rattle.tcap_model.specs.Histories.History.{History, Start}
 use Rattle.tcap_model.specs.Invocations.Invocation.{Invocation, invoked_by, invocation_of, latest}
 use Rattle.tcap_model.specs.Replies.Legal.{AreReplies}
-use Rattle.tcap_model.specs.Histories.Life.{Life, life, life_by_event}
+use Rattle.tcap_model.specs.Histories.Life.{Life, life, touched, life_by_event}
 use Rattle.tcap_model.specs.Invocations.Marks.{Mark, marks, marks_by_event}
 use Rattle.tcap_model.specs.Invocations.Outcome.{first_closing, outcome_of, outcome}
 use Rattle.tcap_model.specs.Words.Output.{Closing}
@@ -40,7 +40,7 @@ pub found_alive : (start : Start) (past : Past) (n : ℕ) (i : Invocation) → A
     → invocation_of n past ≡ Some i → was_alive (life i.dialogue past) ≡ true
 found_alive start [] n i legal e = absurd cc
 found_alive start (pair ∷ past) n i legal e =
-    stays_alive i.dialogue (life i.dialogue past) pair
+    stays_alive i.dialogue (touched i.dialogue past) (life i.dialogue past) pair
     (go (invocation_of n past) (invoked_by pair) refl refl (sym (invocation_step n pair past) ∙ e)
     (λ q. found_alive start past n i legal.2 q))
   where
@@ -86,8 +86,8 @@ module _ (start : Start) (past place : Past) (n : ℕ) (i : Invocation) (legal :
     abbrev AnswersTo : Request → Answer → Type 0
     AnswersTo r a = told_by_answer n place (Event.on_dialogue i.dialogue r) a
         ≡ wanted place past i (noted_at_clock (clock past)
-        (marks_by_event i.id (Life.standing s c) (life_by_event s c (Event.on_dialogue i.dialogue r)
-        (is_accepted a)) (Event.on_dialogue i.dialogue r) (is_accepted a)))
+        (marks_by_event i.id (Life.standing s c) (life_by_event start.idle_ms (touched i.dialogue past) s c
+        (Event.on_dialogue i.dialogue r) (is_accepted a)) (Event.on_dialogue i.dialogue r) (is_accepted a)))
 
     cancel_here : (id : ℤ) (o : Option ℕ) → pending i.dialogue id past ≡ o
         → AnswersTo (Request.component (ComponentRequest.u_cancel id)) (given_up_answer o)
@@ -148,11 +148,11 @@ module _ (start : Start) (past place : Past) (n : ℕ) (i : Invocation) (legal :
   abbrev pub Answers : Event → Answer → Type 0
   Answers event answer =
       told_by_answer n place event answer ≡ wanted place past i
-      (marks i.dialogue i.id (record { event = event; answer = answer }) past)
+      (marks i.dialogue i.id (record { event = event; answer = answer; idle_ms = start.idle_ms }) past)
 
   -- without marks nothing is told
   pub silent : (event : Event) (answer : Answer) → told_by_answer n place event answer ≡ []
-      → marks i.dialogue i.id (record { event = event; answer = answer }) past ≡ [] → Answers event answer
+      → marks i.dialogue i.id (record { event = event; answer = answer; idle_ms = start.idle_ms }) past ≡ [] → Answers event answer
   silent event answer e q = e ∙ (sym nothing ∙ ap (wanted place past i) (sym q))
 
   on_own_dialogue : (r : Request) → Answers (Event.on_dialogue i.dialogue r) (reply h (Event.on_dialogue i.dialogue r))
@@ -161,14 +161,17 @@ module _ (start : Start) (past place : Past) (n : ℕ) (i : Invocation) (legal :
       go : (l : Life) → life i.dialogue past ≡ l → Answers (Event.on_dialogue i.dialogue r)
           (request_answer h i.dialogue r l (due_by h i.dialogue r l))
       go Life.unborn q = silent (Event.on_dialogue i.dialogue r) (Answer.refused Fault.unknown_dialogue) refl
-          (unborn_marks i.dialogue i.id (Event.on_dialogue i.dialogue r) (Answer.refused Fault.unknown_dialogue) past q)
+          (unborn_marks i.dialogue i.id (Event.on_dialogue i.dialogue r) (Answer.refused Fault.unknown_dialogue)
+          start.idle_ms past q)
       go Life.over q = silent (Event.on_dialogue i.dialogue r) (Answer.refused Fault.unknown_dialogue) refl
-          (over_marks i.dialogue i.id (Event.on_dialogue i.dialogue r) (Answer.refused Fault.unknown_dialogue) past q
+          (over_marks i.dialogue i.id (Event.on_dialogue i.dialogue r) (Answer.refused Fault.unknown_dialogue)
+          start.idle_ms past q
           own_dialogue)
       go (Life.standing s c) q =
           request_here s c r (due_by h i.dialogue r (Life.standing s c))
           ∙ ap (wanted place past i) (sym (standing_marks i.dialogue i.id (Event.on_dialogue i.dialogue r)
-          (request_answer h i.dialogue r (Life.standing s c) (due_by h i.dialogue r (Life.standing s c))) past s c q
+          (request_answer h i.dialogue r (Life.standing s c) (due_by h i.dialogue r (Life.standing s c))) start.idle_ms
+          past s c q
           own_dialogue))
 
   pub on_any_dialogue : (d : ℕ) (r : Request) → Answers (Event.on_dialogue d r) (reply h (Event.on_dialogue d r))
@@ -183,4 +186,5 @@ module _ (start : Start) (past place : Past) (n : ℕ) (i : Invocation) (legal :
           silent (Event.on_dialogue d r) (reply h (Event.on_dialogue d r))
           (request_quiet n place h d (quiet_elsewhere start past place n i legal found d
           (λ same. let is : (d == i.dialogue) ≡ true = grind (arith, nat_tests) in cc)) r (life d past) (due h d r))
-          (unnamed_marks i.dialogue i.id (Event.on_dialogue d r) (reply h (Event.on_dialogue d r)) past q)
+          (unnamed_marks i.dialogue i.id (Event.on_dialogue d r) (reply h (Event.on_dialogue d r)) start.idle_ms
+          past q)

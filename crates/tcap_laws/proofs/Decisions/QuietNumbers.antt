@@ -1,14 +1,15 @@
 -- Of a number whose invocation is decided, or that no invocation has, no answer tells anything.
-use Rattle.std.proofs.Common.{◌≡◌, ℕ, ℤ, ◌==◌, Bool, true, false, cond, ◌&&◌, nat_lt, List, [], Option, Some, None, refl, ap, sym, ◌∙◌, arith}
+use Rattle.std.proofs.Common.{◌≡◌, ℕ, ℤ, ◌==◌, Bool, true, false, cond, ◌&&◌, nat_lt, List, [], ◌∷◌, ◌++◌, Option, Some, None, refl, ap, sym, ◌∙◌, arith}
 use Rattle.std.proofs.lemmas.Bool.Decides.{nat_tests}
-use Rattle.std.specs.Prelude.{is_none, is_some}
+use Rattle.std.specs.Prelude.{flat_map, is_none, is_some}
 use Rattle.std.specs.Option.{option_or}
 use Rattle.tcap_laws.proofs.Spans.MarksAfterBirth.{noted_at_clock}
 use Rattle.tcap_laws.proofs.Spans.DecisionSteps.{first_closing-append}
 use Rattle.tcap_laws.proofs.Spans.LatestInvocations.{IsLatest, latest_is}
 use Rattle.tcap_laws.proofs.Decisions.QuietDialogues.{IsQuiet, taken_quiet, request_quiet}
+use Rattle.tcap_laws.proofs.Decisions.ToldDialogues.{told_by_idle, idle_of, idle_number}
 use Rattle.tcap_laws.proofs.Decisions.ToldInvocations.{told_one, ended_told, ended_number, lapse_of, lapses_number}
-use Rattle.tcap_laws.proofs.Decisions.ToldOutputs.{told, IsOther}
+use Rattle.tcap_laws.proofs.Decisions.ToldOutputs.{told, told-append, IsOther}
 use Rattle.tcap_laws.proofs.Decisions.ToldReceptions.{Wants, reception_tells}
 use Rattle.tcap_model.specs.Histories.Birth.{next_dialogue}
 use Rattle.tcap_model.specs.Histories.Clock.{clock}
@@ -23,12 +24,12 @@ use Rattle.tcap_model.specs.Histories.History.{History, Start}
 use Rattle.tcap_model.specs.Invocations.Invocation.{Invocation, invocation_of, latest}
 use Rattle.tcap_model.specs.Replies.Legal.{AreReplies}
 use Rattle.tcap_model.specs.Histories.Life.{life}
-use Rattle.tcap_model.specs.Invocations.Marks.{component_marks}
+use Rattle.tcap_model.specs.Invocations.Marks.{Mark, Noted, component_marks}
 use Rattle.tcap_model.specs.Invocations.Outcome.{closing_after, first_closing, is_sent_in, outcome_of, outcome}
 use Rattle.tcap_model.specs.Words.Output.{Closing}
 use Rattle.tcap_model.specs.Histories.Pair.{Past}
 use Rattle.tcap_model.specs.Invocations.SentThere.{marks_up_to, if_sent}
-use Rattle.tcap_model.specs.Replies.Reply.{birth_answer, ended_in, lapses, moment_answer, reply}
+use Rattle.tcap_model.specs.Replies.Reply.{birth_answer, ended_in, lapses, is_idle_by, idle_dialogues, marks_up_to_moment, idle_told, moment_answer, reply}
 use Rattle.tcap_model.specs.Invocations.Span.{span}
 use Rattle.tcap_model.specs.Words.Time.{moment_fault}
 
@@ -147,15 +148,42 @@ module _ (start : Start) (past place : Past) (n : ℕ) (legal : AreReplies start
   birth_quiet None = refl
   birth_quiet (Some f) = refl
 
-  moment_quiet : (now : ℕ) (f : Option Fault) → told_by_answer n place (Event.moment now) (moment_answer past now f)
-      ≡ []
-  moment_quiet now (Some f) = refl
-  moment_quiet now None = go (nat_lt now (clock past)) refl
+  closed_at_moment : (now : ℕ) (i : Invocation) → invocation_of n past ≡ Some i
+      → is_none (first_closing i.class i.timeout (marks_up_to_moment past now i)) ≡ false
+  closed_at_moment now i found =
+      let closed = settled i found in
+      let added : List Noted = noted_at_clock (clock past) (Mark.moment now ∷ []) in
+      ap is_none (first_closing-append i.class i.timeout (span i past) added
+      ∙ ap (λ o. option_or o (closing_after i.class i.timeout (span i past) added)) closed.1)
+
+  idles_quiet : (idle_ms now : ℕ)
+      → told n place (flat_map (idle_told past now) (idle_dialogues idle_ms past now)) ≡ []
+  idles_quiet idle_ms now = idle_number n place past now start legal idle_ms ∙ go (invocation_of n past) refl
+    where
+      go : (o : Option Invocation) → invocation_of n past ≡ o → told_one (idle_of n place past now idle_ms) o ≡ []
+      go None q = refl
+      go (Some i) q = one (is_idle_by idle_ms past now i.dialogue)
+        where
+          one : (b : Bool) → cond b (told_by_idle n place past now i.dialogue i) [] ≡ []
+          one false = refl
+          one true =
+              let none : ((i.dialogue == i.dialogue)
+              && is_none (first_closing i.class i.timeout (marks_up_to_moment past now i))) ≡ false =
+              ap (λ b. (i.dialogue == i.dialogue) && b) (closed_at_moment now i q) ∙ no_and (i.dialogue == i.dialogue) in
+              rw none refl
+
+  moment_quiet : (idle_ms now : ℕ) (f : Option Fault)
+      → told_by_answer n place (Event.moment now) (moment_answer idle_ms past now f) ≡ []
+  moment_quiet idle_ms now (Some f) = refl
+  moment_quiet idle_ms now None = go (nat_lt now (clock past)) refl
     where
       go : (b : Bool) → nat_lt now (clock past) ≡ b
-          → told_by_answer n place (Event.moment now) (moment_answer past now None) ≡ []
+          → told_by_answer n place (Event.moment now) (moment_answer idle_ms past now None) ≡ []
       go true q = rw q refl
-      go false q = rw q (lapses_quiet now)
+      go false q = rw q
+          (told-append n place (lapses past now) (flat_map (idle_told past now) (idle_dialogues idle_ms past now))
+          ∙ (ap (λ z. z ++ told n place (flat_map (idle_told past now) (idle_dialogues idle_ms past now)))
+          (lapses_quiet now) ∙ idles_quiet idle_ms now))
 
   bytes_wanted : (bytes : List ℕ) → Wants n place h 0 bytes []
   bytes_wanted bytes = record {
@@ -171,4 +199,4 @@ module _ (start : Start) (past place : Past) (n : ℕ) (legal : AreReplies start
   reply_quiet Event.new_dialogue = birth_quiet (birth_due h)
   reply_quiet (Event.on_dialogue d r) = request_quiet n place h d (all_quiet d) r (life d past) (due h d r)
   reply_quiet (Event.received bytes) = reception_tells n place h 0 bytes [] (bytes_wanted bytes) (is_some (birth_due h))
-  reply_quiet (Event.moment now) = moment_quiet now (moment_fault now)
+  reply_quiet (Event.moment now) = moment_quiet start.idle_ms now (moment_fault now)

@@ -87,13 +87,37 @@ module _ (n : ℕ) (tells : Invocation → List Told) (others : (i : Invocation)
         ∙ (gathered_step start pair past (invocation_of n past) (invoked_by pair) legal refl refl
         ∙ ap (told_one tells) (sym (invocation_step n pair past))))
 
+-- ---- what is told in some order, where the order doesn't matter
+
+module _ {X : Type 0} (key : X → List ℕ) (tells : X → List Told) (IsOne : X → Type 0)
+    (swapped : (x y : X) → IsOne x → IsOne y → tells y ++ tells x ≡ tells x ++ tells y) where
+  told_put : (x : X) (ys : List X) → IsOne x → AllByRecursion IsOne ys
+      → flat_map tells (put key x ys) ≡ tells x ++ flat_map tells ys
+  told_put x [] p q = refl
+  told_put x (y ∷ ys) p q = go (comes_before (key y) (key x)) (told_put x ys p q.1)
+    where
+      go : (b : Bool) → flat_map tells (put key x ys) ≡ tells x ++ flat_map tells ys
+          → flat_map tells (cond b (y ∷ put key x ys) (x ∷ y ∷ ys)) ≡ tells x ++ flat_map tells (y ∷ ys)
+      go false e = refl
+      go true e =
+          ap (λ z. tells y ++ z) e ∙ (sym (append_assoc (tells y) (tells x) (flat_map tells ys))
+          ∙ (ap (λ z. z ++ flat_map tells ys) (swapped x y p q.0)
+          ∙ append_assoc (tells x) (tells y) (flat_map tells ys)))
+
+  pub told_in_order : (xs : List X) → AllByRecursion IsOne xs
+      → flat_map tells (in_order key xs) ≡ flat_map tells xs
+  told_in_order [] p = refl
+  told_in_order (x ∷ xs) p =
+      told_put x (in_order key xs) p.0 (all_in_order (key_before key) IsOne xs p.1)
+      ∙ ap (λ z. tells x ++ z) (told_in_order xs p.1)
+
 -- ---- what is told where something is
 
 abbrev pub told_if_any : ℕ → Past → Option Output → List Told
 told_if_any n place None = []
 told_if_any n place (Some output) = told_by_output n place output
 
-told_filter_map : (n : ℕ) (place : Past) (g : Invocation → Option Output) (is : List Invocation)
+pub told_filter_map : (n : ℕ) (place : Past) (g : Invocation → Option Output) (is : List Invocation)
     → told n place (filter_map g is) ≡ flat_map (λ i. told_if_any n place (g i)) is
 told_filter_map n place g [] = refl
 told_filter_map n place g (i ∷ is) = go (g i) (told_filter_map n place g is)
@@ -154,26 +178,6 @@ module _ (n : ℕ) (place past : Past) where
       go true false u w = rw w (sym (append-nil (lapse x)))
       go false b u w = rw u (append-nil (lapse y))
 
-  told_put : (x : Lapsing) (ys : List Lapsing) → IsOne x → AllByRecursion IsOne ys
-      → flat_map lapse (put lapse_key x ys) ≡ lapse x ++ flat_map lapse ys
-  told_put x [] p q = refl
-  told_put x (y ∷ ys) p q = go (comes_before (lapse_key y) (lapse_key x)) (told_put x ys p q.1)
-    where
-      go : (b : Bool) → flat_map lapse (put lapse_key x ys) ≡ lapse x ++ flat_map lapse ys
-          → flat_map lapse (cond b (y ∷ put lapse_key x ys) (x ∷ y ∷ ys)) ≡ lapse x ++ flat_map lapse (y ∷ ys)
-      go false e = refl
-      go true e =
-          ap (λ z. lapse y ++ z) e ∙ (sym (append_assoc (lapse y) (lapse x) (flat_map lapse ys))
-          ∙ (ap (λ z. z ++ flat_map lapse ys) (swapped x y p q.0)
-          ∙ append_assoc (lapse x) (lapse y) (flat_map lapse ys)))
-
-  told_in_order : (xs : List Lapsing) → AllByRecursion IsOne xs
-      → flat_map lapse (in_order lapse_key xs) ≡ flat_map lapse xs
-  told_in_order [] p = refl
-  told_in_order (x ∷ xs) p =
-      told_put x (in_order lapse_key xs) p.0 (all_in_order (key_before lapse_key) IsOne xs p.1)
-      ∙ ap (λ z. lapse x ++ z) (told_in_order xs p.1)
-
   abbrev pub lapse_if_any : Option Lapsing → List Told
   lapse_if_any None = []
   lapse_if_any (Some l) = lapse l
@@ -226,7 +230,7 @@ module _ (n : ℕ) (place past : Past) where
     lapses_number start legal =
         flat_map-map (told_by_output n place) lapse_told
         (in_order lapse_key (filter_map (lapsing_at past now) (invocations past)))
-        ∙ (told_in_order (filter_map (lapsing_at past now) (invocations past))
+        ∙ (told_in_order lapse_key lapse IsOne swapped (filter_map (lapsing_at past now) (invocations past))
         (each_lapsing (invocations past) (each_found start past legal))
         ∙ (told_lapsing (invocations past)
         ∙ gathered_number n lapse_of lapse_others start past legal))

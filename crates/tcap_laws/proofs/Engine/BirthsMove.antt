@@ -29,7 +29,7 @@ module _ (h : History) (legal : IsLegal h) where
       moved-made h Event.new_dialogue (Answer.new_dialogue (next_dialogue h)) (asked_in (world_of h) None).after
       (sym answered)
       (world-born h Event.new_dialogue legal (ap (born_of Event.new_dialogue) answered)
-      (fresh_dialogue (next_dialogue h) h.start.reject_ms) refl refl
+      (fresh_dialogue (next_dialogue h) h.start.reject_ms h.start.idle_ms) refl refl
       (fresh-born h legal e) (λ i d there. unnamed-stays h i d Event.new_dialogue legal there refl))
 
   pub births-move : asked_in (world_of h) (birth_fault_in (world_of h)) ≡ moved_at h Event.new_dialogue

@@ -67,7 +67,7 @@ module _ (h : History) (legal : IsLegal h) where
   nothing_begun dialogue Life.over origin portion components = refl
 
   message_answers : (dialogue : ℕ) (d : Dialogue) (m : Message)
-      → dialogue_by h.start.reject_ms dialogue h.pairs (life dialogue h.pairs) ≡ Some d
+      → dialogue_by h.start.reject_ms h.start.idle_ms dialogue h.pairs (life dialogue h.pairs) ≡ Some d
       → (table_move (setting_at h) d (DialogueEvent.frame m)).answer ≡ Answer.outputs
       (taken_outputs dialogue h.pairs (life dialogue h.pairs) m)
   unfolding table_move
@@ -84,7 +84,7 @@ module _ (h : History) (legal : IsLegal h) where
   -- ---- the dialogues that are live
 
   stands : (i : ℕ) (l : Life) → live_in l ≡ true → (d : Dialogue)
-      × (dialogue_by h.start.reject_ms i h.pairs l ≡ Some d) × (is_live d.standing.state ≡ true)
+      × (dialogue_by h.start.reject_ms h.start.idle_ms i h.pairs l ≡ Some d) × (is_live d.standing.state ≡ true)
   stands i Life.unborn e = absurd (true≢false (sym e))
   stands i (Life.standing state context) e = (standing_dialogue h i state context, refl, e)
   stands i Life.over e = absurd (true≢false (sym e))
@@ -193,7 +193,8 @@ module _ (h : History) (legal : IsLegal h) where
     begun_moves origin context info components e =
         let sound : IsSound full bytes (Reception.begun origin context info components) =
         subst (λ (z : Reception). IsSound full bytes z) e (reception-sound live full bytes) in
-        let m : Moved = born (setting_at h) (next_dialogue h) h.start.reject_ms origin context info components in
+        let m : Moved =
+        born (setting_at h) (next_dialogue h) h.start.reject_ms h.start.idle_ms origin context info components in
         moved-made h event m.answer (received_in (world_of h) (Reception.begun origin context info components)).after
         (begun-answered h legal bytes origin context info components e)
         (world-born h event legal (ap (born_of event)

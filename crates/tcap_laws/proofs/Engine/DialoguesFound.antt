@@ -20,18 +20,18 @@ use Rattle.tcap_model.specs.Words.Identifiers.{birth_fault}
 
 -- ---- the dialogue of an identifier
 
-own_by : (r : ℕ) (past : Past) (i : ℕ) (l : Life) (x : Dialogue) → dialogue_by r i past l ≡ Some x
+own_by : (r m : ℕ) (past : Past) (i : ℕ) (l : Life) (x : Dialogue) → dialogue_by r m i past l ≡ Some x
     → x.standing.identifier ≡ i
-own_by r past i Life.unborn x e = absurd cc
-own_by r past i (Life.standing state context) x e = sym (ap identifier e)
+own_by r m past i Life.unborn x e = absurd cc
+own_by r m past i (Life.standing state context) x e = sym (ap identifier e)
   where
     identifier : Option Dialogue → ℕ
     identifier None = i
     identifier (Some d) = d.standing.identifier
-own_by r past i Life.over x e = absurd cc
+own_by r m past i Life.over x e = absurd cc
 
-pub own-at : (r : ℕ) (past : Past) → IsOwn (dialogue_at r past)
-own-at r past i x e = own_by r past i (life i past) x e
+pub own-at : (r m : ℕ) (past : Past) → IsOwn (dialogue_at r m past)
+own-at r m past i x e = own_by r m past i (life i past) x e
 
 contains_any : (d : ℕ) (ids : List ℕ) (k : ℕ) → k < length ids → get_or ids k d ≡ d → list_any (nat_eq d) ids ≡ true
 contains_any d [] k lt e = absurd (omega arith)
@@ -43,48 +43,53 @@ contains_any d (i ∷ ids) (suc k) lt e =
     or_true true = refl
     or_true false = refl
 
-lives_by : (r : ℕ) (past : Past) (i : ℕ) (l : Life) (x : Dialogue) → dialogue_by r i past l ≡ Some x → l ≢ Life.unborn
-lives_by r past i l x e = λ unborn. let none : None ≡ Some x = ap (dialogue_by r i past) (sym unborn) ∙ e in absurd cc
+lives_by : (r m : ℕ) (past : Past) (i : ℕ) (l : Life) (x : Dialogue) → dialogue_by r m i past l ≡ Some x
+    → l ≢ Life.unborn
+lives_by r m past i l x e = λ unborn.
+    let none : None ≡ Some x = ap (dialogue_by r m i past) (sym unborn) ∙ e in absurd cc
 
 module _ (h : History) (legal : IsLegal h) where
   -- the dialogues of the engine at the history
   abbrev standing : List Dialogue
-  standing = filter_map (dialogue_at h.start.reject_ms h.pairs) (dialogues h.pairs)
+  standing = filter_map (dialogue_at h.start.reject_ms h.start.idle_ms h.pairs) (dialogues h.pairs)
 
-  listed : (i : ℕ) (x : Dialogue) → dialogue_at h.start.reject_ms h.pairs i ≡ Some x
+  listed : (i : ℕ) (x : Dialogue) → dialogue_at h.start.reject_ms h.start.idle_ms h.pairs i ≡ Some x
       → list_any (nat_eq i) (dialogues h.pairs) ≡ true
   listed i x e =
       let there = was_born-listed i h.pairs
-      ((was_born-lives h.start h.pairs legal.1 i).1 (lives_by h.start.reject_ms h.pairs i (life i h.pairs) x e)) in
+      ((was_born-lives h.start h.pairs legal.1 i).1
+      (lives_by h.start.reject_ms h.start.idle_ms h.pairs i (life i h.pairs) x e)) in
       contains_any i (dialogues h.pairs) there.0 there.1 there.2
 
-  pub looked-up : (i : ℕ) (o : Option Dialogue) → dialogue_at h.start.reject_ms h.pairs i ≡ o
+  pub looked-up : (i : ℕ) (o : Option Dialogue) → dialogue_at h.start.reject_ms h.start.idle_ms h.pairs i ≡ o
       → dialogue_in i standing ≡ o
   looked-up i None e =
-      absent-at (dialogue_at h.start.reject_ms h.pairs) (own-at h.start.reject_ms h.pairs) i (dialogues h.pairs) e
+      absent-at (dialogue_at h.start.reject_ms h.start.idle_ms h.pairs)
+      (own-at h.start.reject_ms h.start.idle_ms h.pairs) i (dialogues h.pairs) e
   looked-up i (Some x) e =
-      found-at (dialogue_at h.start.reject_ms h.pairs) (own-at h.start.reject_ms h.pairs) i (dialogues h.pairs) x e
-      (listed i x e)
+      found-at (dialogue_at h.start.reject_ms h.start.idle_ms h.pairs)
+      (own-at h.start.reject_ms h.start.idle_ms h.pairs) i (dialogues h.pairs) x e (listed i x e)
 
-  live_by : (i : ℕ) (l : Life) → is_live_if_any (dialogue_by h.start.reject_ms i h.pairs l) ≡ live_in l
+  live_by : (i : ℕ) (l : Life) → is_live_if_any (dialogue_by h.start.reject_ms h.start.idle_ms i h.pairs l) ≡ live_in l
   live_by i Life.unborn = refl
   live_by i (Life.standing state context) = refl
   live_by i Life.over = refl
 
   pub live-alike : (i : ℕ) → is_live_in standing i ≡ live_in (life i h.pairs)
   live-alike i =
-      ap is_live_if_any (looked-up i (dialogue_at h.start.reject_ms h.pairs i) refl) ∙ live_by i (life i h.pairs)
+      ap is_live_if_any (looked-up i (dialogue_at h.start.reject_ms h.start.idle_ms h.pairs i) refl)
+      ∙ live_by i (life i h.pairs)
 
 -- ---- how many stand
 
-count_alike : (r : ℕ) (past : Past) (ids : List ℕ)
-    → length (filter_map (dialogue_at r past) ids) ≡ length (filter (λ i. is_standing (life i past)) ids)
-count_alike r past [] = refl
-count_alike r past (i ∷ ids) = go (life i past) (count_alike r past ids)
+count_alike : (r m : ℕ) (past : Past) (ids : List ℕ)
+    → length (filter_map (dialogue_at r m past) ids) ≡ length (filter (λ i. is_standing (life i past)) ids)
+count_alike r m past [] = refl
+count_alike r m past (i ∷ ids) = go (life i past) (count_alike r m past ids)
   where
-    go : (l : Life) → length (filter_map (dialogue_at r past) ids) ≡ length
+    go : (l : Life) → length (filter_map (dialogue_at r m past) ids) ≡ length
         (filter (λ i. is_standing (life i past)) ids)
-        → length (cons_option (dialogue_by r i past l) (filter_map (dialogue_at r past) ids))
+        → length (cons_option (dialogue_by r m i past l) (filter_map (dialogue_at r m past) ids))
         ≡ length (cond (is_standing l) (i ∷ filter (λ i. is_standing (life i past)) ids)
         (filter (λ i. is_standing (life i past)) ids))
     go Life.unborn e = e
@@ -94,4 +99,4 @@ count_alike r past (i ∷ ids) = go (life i past) (count_alike r past ids)
 pub births-alike : (h : History) → birth_fault_in (world_of h) ≡ birth_due h
 births-alike h =
     ap (λ n. birth_fault h.start.max_dialogues n (next_dialogue h))
-    (count_alike h.start.reject_ms h.pairs (dialogues h.pairs))
+    (count_alike h.start.reject_ms h.start.idle_ms h.pairs (dialogues h.pairs))

@@ -37,7 +37,7 @@ moves-alike h engine event at within =
       answers = ap (λ (m : EngineMoved). m.answer) same;
       stands =
           record {
-            is_legal = (at.is_legal.0, (within, refl, at.is_legal.1));
+            is_legal = (at.is_legal.0, (record { in_range = within; is_limited = refl }, refl, at.is_legal.1));
             is_world = ap (λ (m : EngineMoved). m.after) same;
           };
     }
@@ -63,9 +63,10 @@ clock_step h (Event.moment now) within = go (moment_fault now) refl
     accepted low false = within
 
     go : (f : Option Fault) → moment_fault now ≡ f
-        → clock_after (clock h.pairs) (Event.moment now) (is_accepted (moment_answer h.pairs now f)) ≤ moment_limit
+        → clock_after (clock h.pairs) (Event.moment now) (is_accepted (moment_answer h.start.idle_ms h.pairs now f))
+        ≤ moment_limit
     go (Some fault) e = within
-    go None e = accepted (clock-timely now e) (is_accepted (moment_answer h.pairs now None))
+    go None e = accepted (clock-timely now e) (is_accepted (moment_answer h.start.idle_ms h.pairs now None))
 
 pub clock-within : (start : Start) (past : Past) → AreReplies start past → clock past ≤ moment_limit
 clock-within start [] legal = omega arith

@@ -150,20 +150,22 @@ module _ (start : Start) (past : Past) (legal : AreReplies start past) (now : �
 
   -- ---- all dialogues
 
-  module _ (reject_ms : ℕ) where
-    all_are : (ids : List ℕ) → all_due now (filter_map (dialogue_at reject_ms past) ids) ≡ flat_map of_dialogue ids
+  module _ (reject_ms idle_ms : ℕ) where
+    all_are : (ids : List ℕ) → all_due now (filter_map (dialogue_at reject_ms idle_ms past) ids)
+        ≡ flat_map of_dialogue ids
     all_are [] = refl
     all_are (d ∷ ids) = go (life d past) refl (all_are ids)
       where
         rest : List DueLapse
         rest = flat_map of_dialogue ids
 
-        go : (l : Life) → life d past ≡ l → all_due now (filter_map (dialogue_at reject_ms past) ids) ≡ rest
-            → all_due now (cons_option (dialogue_by reject_ms d past l) (filter_map (dialogue_at reject_ms past) ids))
+        go : (l : Life) → life d past ≡ l → all_due now (filter_map (dialogue_at reject_ms idle_ms past) ids) ≡ rest
+            → all_due now (cons_option (dialogue_by reject_ms idle_ms d past l)
+            (filter_map (dialogue_at reject_ms idle_ms past) ids))
             ≡ of_dialogue d ++ rest
         go Life.unborn e ih = ih ∙ sym (ap (λ z. z ++ rest) (none_there d (ap is_standing e)))
         go (Life.standing state context) e ih =
-            ap (λ z. z ++ all_due now (filter_map (dialogue_at reject_ms past) ids))
+            ap (λ z. z ++ all_due now (filter_map (dialogue_at reject_ms idle_ms past) ids))
             (due-by_rows start past legal now reject_ms d ∙ there_are d (invocations past))
             ∙ ap (λ z. of_dialogue d ++ z) ih
         go Life.over e ih = ih ∙ sym (ap (λ z. z ++ rest) (none_there d (ap is_standing e)))
@@ -212,7 +214,7 @@ module _ (start : Start) (past : Past) (legal : AreReplies start past) (now : �
             go sent None e = absurd cc
             go sent (Some t) e = one t (sent && nat_le t now) e
 
-    pub lapses-alike : all_told now (filter_map (dialogue_at reject_ms past) (dialogues past)) ≡ lapses past now
+    pub lapses-alike : all_told now (filter_map (dialogue_at reject_ms idle_ms past) (dialogues past)) ≡ lapses past now
     lapses-alike =
         ap (λ z. map due_told (in_order due_key z))
         (all_are (dialogues past) ∙ ap (flat_map of_dialogue) (dialogues-drawn start past legal))

@@ -1,9 +1,9 @@
 -- A moment moves the engine as the history says.
-use Rattle.std.proofs.Common.{◌≡◌, ℕ, max, Bool, true, false, cond, nat_lt, List, [], ◌∷◌, map, Option, Some, None}
+use Rattle.std.proofs.Common.{◌≡◌, ℕ, max, Bool, true, false, cond, nat_lt, List, [], ◌∷◌, ◌++◌, Option, Some, None}
 use Rattle.std.proofs.Common.{filter_map, refl, sym, ap, ◌∙◌, arith}
 use Rattle.std.proofs.lemmas.Bool.{ltb-true, ltb-false}
-use Rattle.std.specs.Prelude.{option_map}
 use Rattle.std.specs.List.{cons_option}
+use Rattle.tcap_laws.proofs.Engine.IdleAlike.{idle-alike}
 use Rattle.tcap_laws.proofs.Engine.LapsesAlike.{lapses-alike}
 use Rattle.tcap_laws.proofs.Engine.StayingDialogues.{refused-stays, early-stays}
 use Rattle.tcap_laws.proofs.Engine.WorldAfter.{here, before, later, each-stays, world-made, moved-made, number-kept}
@@ -14,35 +14,45 @@ use Rattle.tcap_model.specs.Histories.Clock.{clock, clock_after}
 use Rattle.tcap_model.specs.Histories.History.{History}
 use Rattle.tcap_model.specs.Invocations.Invocation.{next_number}
 use Rattle.tcap_model.specs.Replies.Legal.{IsLegal}
-use Rattle.tcap_model.specs.Replies.Reply.{lapses, moment_answer, reply}
+use Rattle.tcap_model.specs.Replies.Reply.{lapses, moment_outputs, moment_answer, reply}
 use Rattle.tcap_model.specs.Statements.EngineMoves.{moved_at}
 use Rattle.tcap_model.specs.Table.Agreement.{setting_at}
-use Rattle.tcap_model.specs.Table.Dialogue.{Dialogue}
-use Rattle.tcap_model.specs.Table.DueLapses.{all_told, at_moment}
+use Rattle.tcap_model.specs.Table.Dialogue.{Dialogue, is_idle_at}
+use Rattle.tcap_model.specs.Table.DueLapses.{all_idle_told, at_moment, left_at}
 use Rattle.tcap_model.specs.Table.EngineMove.{advanced, moment_in, unmoved}
-use Rattle.tcap_model.specs.Table.TableMove.{DialogueEvent, table_move, left_standing}
+use Rattle.tcap_model.specs.Table.TableMove.{DialogueEvent, idled, lapsed, table_move, left_standing}
 use Rattle.tcap_model.specs.Table.World.{world_of}
 use Rattle.tcap_model.specs.Words.Answer.{Answer, is_accepted}
 use Rattle.tcap_model.specs.Words.Event.{Event}
 use Rattle.tcap_model.specs.Words.Fault.{Fault}
 use Rattle.tcap_model.specs.Words.Time.{moment_fault}
 
-each_after : (at after : ℕ → Option Dialogue) (f : Dialogue → Dialogue) → ((i : ℕ) → after i ≡ option_map f (at i))
-    → (ids : List ℕ) → map f (filter_map at ids) ≡ filter_map after ids
+-- what is left of a dialogue that stands
+abbrev left_if : (Dialogue → Option Dialogue) → Option Dialogue → Option Dialogue
+left_if f None = None
+left_if f (Some d) = f d
+
+each_after : (at after : ℕ → Option Dialogue) (f : Dialogue → Option Dialogue)
+    → ((i : ℕ) → after i ≡ left_if f (at i)) → (ids : List ℕ)
+    → filter_map f (filter_map at ids) ≡ filter_map after ids
 each_after at after f same [] = refl
 each_after at after f same (i ∷ ids) =
     go (at i) (each_after at after f same ids) ∙ sym (ap (λ o. cons_option o (filter_map after ids)) (same i))
   where
-    go : (o : Option Dialogue) → map f (filter_map at ids) ≡ filter_map after ids
-        → map f (cons_option o (filter_map at ids)) ≡ cons_option (option_map f o) (filter_map after ids)
+    go : (o : Option Dialogue) → filter_map f (filter_map at ids) ≡ filter_map after ids
+        → filter_map f (cons_option o (filter_map at ids)) ≡ cons_option (left_if f o) (filter_map after ids)
     go None e = e
-    go (Some d) e = ap (λ z. f d ∷ z) e
+    go (Some d) e = ap (cons_option (f d)) e
 
 -- what a dialogue does at a moment leaves it so
 lapsed_is : (h : History) (d : Dialogue) (now : ℕ)
-    → left_standing (table_move (setting_at h) d (DialogueEvent.moment now)) ≡ Some (at_moment now d)
+    → left_standing (table_move (setting_at h) d (DialogueEvent.moment now)) ≡ left_at now d
 unfolding table_move
-lapsed_is h d now = refl
+lapsed_is h d now = go (is_idle_at now d)
+  where
+    go : (b : Bool) → left_standing (cond b (idled d now) (lapsed d now)) ≡ cond b None (Some (at_moment now d))
+    go true = refl
+    go false = refl
 
 module _ (h : History) (legal : IsLegal h) (now : ℕ) where
   abbrev event : Event
@@ -52,18 +62,19 @@ module _ (h : History) (legal : IsLegal h) (now : ℕ) where
   refused_moves : (fault : Fault) → moment_fault now ≡ Some fault
       → unmoved (world_of h) (Answer.refused fault) ≡ moved_at h event
   refused_moves fault e =
-      let answered : moment_answer h.pairs now (moment_fault now) ≡ Answer.refused fault =
-      ap (moment_answer h.pairs now) e in
+      let answered : moment_answer h.start.idle_ms h.pairs now (moment_fault now) ≡ Answer.refused fault =
+      ap (moment_answer h.start.idle_ms h.pairs now) e in
       moved-made h event (Answer.refused fault) (world_of h) (sym answered)
       (world-stays h event refl refl (ap (λ a. clock_after (clock h.pairs) event (is_accepted a)) answered)
       (λ i d there. refused-stays h i d now fault legal there e))
 
   module _ (timely : moment_fault now ≡ None) where
     answer_is : (early : Bool) → nat_lt now (clock h.pairs) ≡ early
-        → reply h event ≡ cond early (Answer.outputs []) (Answer.outputs (lapses h.pairs now))
+        → reply h event ≡ cond early (Answer.outputs [])
+        (Answer.outputs (moment_outputs h.start.idle_ms h.pairs now))
     answer_is early e =
-        ap (moment_answer h.pairs now) timely
-        ∙ ap (λ b. cond b (Answer.outputs []) (Answer.outputs (lapses h.pairs now))) e
+        ap (moment_answer h.start.idle_ms h.pairs now) timely
+        ∙ ap (λ b. cond b (Answer.outputs []) (Answer.outputs (moment_outputs h.start.idle_ms h.pairs now))) e
 
     clock_is : (early : Bool) → nat_lt now (clock h.pairs) ≡ early
         → clock (here h event ∷ h.pairs) ≡ max (clock h.pairs) now
@@ -80,10 +91,10 @@ module _ (h : History) (legal : IsLegal h) (now : ℕ) where
         (λ i d there. early-stays h i d now legal there timely early))
 
     -- any other
-    later_is : (i : ℕ) → later h event i ≡ option_map (at_moment now) (before h event i)
+    later_is : (i : ℕ) → later h event i ≡ left_if (left_at now) (before h event i)
     later_is i = go (before h event i) refl
       where
-        go : (o : Option Dialogue) → before h event i ≡ o → later h event i ≡ option_map (at_moment now) o
+        go : (o : Option Dialogue) → before h event i ≡ o → later h event i ≡ left_if (left_at now) o
         go None e = each-stays h event i refl (λ d there. absurd (nowhere d there)) ∙ e
           where
             nowhere : (d : Dialogue) → before h event i ≡ Some d → ⊥
@@ -94,12 +105,17 @@ module _ (h : History) (legal : IsLegal h) (now : ℕ) where
     moment_moves e =
         let from = ltb-false now (clock h.pairs) e in
         let on : max (clock h.pairs) now ≡ now = omega (arith, from) in
-        moved-made h event (Answer.outputs (all_told now (world_of h).dialogues)) (advanced (world_of h) now).after
-        (ap Answer.outputs (lapses-alike h.start h.pairs legal.1 now h.start.reject_ms) ∙ sym (answer_is false e))
-        (world-made h event (next_dialogue h) (next_number h) now (map (at_moment now) (world_of h).dialogues)
+        let ds = (world_of h).dialogues in
+        moved-made h event (advanced (world_of h) now).answer (advanced (world_of h) now).after
+        (ap (λ z. Answer.outputs (z ++ all_idle_told now ds))
+        (lapses-alike h.start h.pairs legal.1 now h.start.reject_ms h.start.idle_ms)
+        ∙ (ap (λ z. Answer.outputs (lapses h.pairs now ++ z))
+        (idle-alike h.start h.pairs legal.1 now h.start.reject_ms h.start.idle_ms)
+        ∙ sym (answer_is false e)))
+        (world-made h event (next_dialogue h) (next_number h) now (filter_map (left_at now) (world_of h).dialogues)
         (next-kept h event refl) (number-kept h event refl) (clock_is false e ∙ on)
         (ap (filter_map (later h event)) (dialogues-kept h event refl)
-        ∙ sym (each_after (before h event) (later h event) (at_moment now) later_is (dialogues h.pairs))))
+        ∙ sym (each_after (before h event) (later h event) (left_at now) later_is (dialogues h.pairs))))
 
   pub moments-move : moment_in (world_of h) now (moment_fault now) ≡ moved_at h event
   moments-move = go (moment_fault now) refl

@@ -71,7 +71,7 @@ module _ (h : History) (event : Event) (dialogue : ℕ) (d : Dialogue) (there : 
       (with_dialogue dialogue (left_standing m) (world_of h).dialogues)
       next (sym (ap (λ (a : Answer). number_after a (next_number h)) answered ∙ number-follows h event)) still
       (ap (filter_map (later h event)) listed
-      ∙ sym (one-changes (before h event) (own-at h.start.reject_ms h.pairs) dialogue (later h event)
+      ∙ sym (one-changes (before h event) (own-at h.start.reject_ms h.start.idle_ms h.pairs) dialogue (later h event)
       (left_standing m) d there itself others (dialogues h.pairs))))
 
 -- ---- requests
@@ -95,7 +95,7 @@ module _ (h : History) (legal : IsLegal h) (dialogue : ℕ) (request : Request)
       (world-stays h event refl (ap (invoked_of event) answered) refl
       (λ i d there. stays i d there (nat_eq dialogue i) refl))
     where
-      by_life : (l : Life) → dialogue_by h.start.reject_ms dialogue h.pairs l ≡ None
+      by_life : (l : Life) → dialogue_by h.start.reject_ms h.start.idle_ms dialogue h.pairs l ≡ None
           → request_answer h dialogue request l (due_by h dialogue request l) ≡ Answer.refused Fault.unknown_dialogue
       by_life Life.unborn e = refl
       by_life (Life.standing state context) e = absurd cc

@@ -9,7 +9,7 @@ use Rattle.tcap_laws.proofs.Births.DrawnDialogues.{dialogues-drawn}
 use Rattle.tcap_model.specs.Histories.Birth.{births, born_by, dialogues, is_birth_of, next_dialogue}
 use Rattle.tcap_model.specs.Histories.Clock.{clock}
 use Rattle.tcap_model.specs.Histories.History.{History}
-use Rattle.tcap_model.specs.Histories.Life.{Life, life, life_after, life_at_birth}
+use Rattle.tcap_model.specs.Histories.Life.{Life, life, touched, life_after, life_at_birth}
 use Rattle.tcap_model.specs.Histories.Pair.{Pair}
 use Rattle.tcap_model.specs.Invocations.Invocation.{invoked_by, invokes, next_number}
 use Rattle.tcap_model.specs.Replies.Legal.{IsLegal}
@@ -54,19 +54,21 @@ module _ (h : History) (event : Event) where
 
   -- the dialogue of an identifier before the event, and after it
   abbrev pub before : ℕ → Option Dialogue
-  before = dialogue_at h.start.reject_ms h.pairs
+  before = dialogue_at h.start.reject_ms h.start.idle_ms h.pairs
 
   abbrev pub later : ℕ → Option Dialogue
-  later = dialogue_at h.start.reject_ms (here ∷ h.pairs)
+  later = dialogue_at h.start.reject_ms h.start.idle_ms (here ∷ h.pairs)
 
   -- ---- one dialogue
 
   absent_stays : (i : ℕ) → is_birth_of i here ≡ false → before i ≡ None → later i ≡ None
   absent_stays i unborn e = go (life i h.pairs) e
     where
-      go : (l : Life) → dialogue_by h.start.reject_ms i h.pairs l ≡ None
-          → dialogue_by h.start.reject_ms i (here ∷ h.pairs) (life_after i l here) ≡ None
-      go Life.unborn e = ap (λ b. dialogue_by h.start.reject_ms i (here ∷ h.pairs) (life_at_birth b event)) unborn
+      go : (l : Life) → dialogue_by h.start.reject_ms h.start.idle_ms i h.pairs l ≡ None
+          → dialogue_by h.start.reject_ms h.start.idle_ms i (here ∷ h.pairs)
+          (life_after i (touched i h.pairs) l here) ≡ None
+      go Life.unborn e =
+          ap (λ b. dialogue_by h.start.reject_ms h.start.idle_ms i (here ∷ h.pairs) (life_at_birth b event)) unborn
       go (Life.standing state context) e = absurd cc
       go Life.over e = refl
 
@@ -86,6 +88,7 @@ module _ (h : History) (event : Event) where
   made next number now ds = record {
     max_dialogues = h.start.max_dialogues;
     reject_ms = h.start.reject_ms;
+    idle_ms = h.start.idle_ms;
     next_dialogue = next;
     next_number = number;
     clock = now;

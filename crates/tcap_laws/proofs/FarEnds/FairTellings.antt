@@ -13,7 +13,7 @@ use Rattle.tcap_model.specs.Words.Event.{Event}
 use Rattle.tcap_model.specs.Histories.History.{History, Start}
 use Rattle.tcap_model.specs.Invocations.Invocation.{Invocation, invoked_by, latest, with_id, has_id}
 use Rattle.tcap_model.specs.Replies.Legal.{AreReplies}
-use Rattle.tcap_model.specs.Histories.Life.{Life, life}
+use Rattle.tcap_model.specs.Histories.Life.{Life, life, touched}
 use Rattle.tcap_model.specs.Histories.Names.{names}
 use Rattle.tcap_model.specs.Words.Output.{Output, Closing, Rejector, ComponentIndication}
 use Rattle.tcap_model.specs.Histories.Pair.{Past}
@@ -109,7 +109,7 @@ latest-alive : (start : Start) (dialogue : ℕ) (id : ℤ) (past : Past) (i : In
     → latest dialogue id past ≡ Some i → was_alive (life dialogue past) ≡ true
 latest-alive start dialogue id [] i legal e = absurd cc
 latest-alive start dialogue id (pair ∷ past) i legal e =
-    stays_alive dialogue (life dialogue past) pair
+    stays_alive dialogue (touched dialogue past) (life dialogue past) pair
     (made (invoked_by pair) refl e (λ j q. latest-alive start dialogue id past j legal.2 q))
   where
     alive : (j : Invocation) → invoked_by pair ≡ Some j → j.dialogue ≡ dialogue → was_alive (life dialogue past) ≡ true

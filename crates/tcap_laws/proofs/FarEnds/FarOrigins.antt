@@ -92,7 +92,7 @@ module _ (net : Net) (is : IsNet net) (answer : FarAnswer net.trace) where
       (subst (λ (a : Answer). Tells a answer.output) legal-here.1 answer.tells))
 
   octets-here : are_octets it.told.bytes ≡ true
-  octets-here = subst (λ (e : Event). is_in_range e ≡ true) it.told.is_event legal-here.0
+  octets-here = subst (λ (e : Event). is_in_range e ≡ true) it.told.is_event legal-here.0.in_range
 
   -- the sender's peer is this dialogue
   far-peer : peer_of it.sent.state ≡ Some (local_id answer.dialogue)

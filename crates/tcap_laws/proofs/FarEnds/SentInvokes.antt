@@ -15,7 +15,7 @@ use Rattle.tcap_model.specs.Words.Event.{Event}
 use Rattle.tcap_model.specs.Histories.History.{Start}
 use Rattle.tcap_model.specs.Invocations.Invocation.{Invocation, invocation_of, invoked_by, invoked_of, has_id}
 use Rattle.tcap_model.specs.Replies.Legal.{AreReplies}
-use Rattle.tcap_model.specs.Histories.Life.{Life, life_by_event}
+use Rattle.tcap_model.specs.Histories.Life.{Life, life_by_event, touched}
 use Rattle.tcap_model.specs.Invocations.Marks.{Mark, Noted, marks, marks_by_event}
 use Rattle.tcap_model.specs.Histories.Names.{names}
 use Rattle.tcap_model.specs.Statements.Net.{Engine, Trace, far, side, Net, IsNet}
@@ -75,14 +75,11 @@ sent-later number (pair ∷ later) past was = sent-next number pair (later ++ pa
 answers-outputs : (answer : Answer) (output : Output) → Tells answer output → is_accepted answer ≡ true
 answers-outputs answer output tells = ap is_accepted tells.is_answer
 
-module _ (start : Start) (past : Past) (event : Event) (answer : Answer) (legal : AreReplies start past)
-    (accepted : is_accepted answer ≡ true) (octets : List ℕ) (number dialogue : ℕ)
+module _ (start : Start) (past : Past) (here : Pair) (legal : AreReplies start past)
+    (accepted : is_accepted here.answer ≡ true) (octets : List ℕ) (number dialogue : ℕ)
     (asked : IsAsked dialogue past octets number) where
   abbrev i : Invocation
   i = invocation_as number dialogue asked.id asked.class asked.timeout
-
-  abbrev here : Pair
-  here = record { event = event; answer = answer }
 
   found : is_some (invocation_of number past) ≡ true
   found = made_found number past i asked.is_invocation
@@ -229,20 +226,21 @@ module _ (net : Net) (is : IsNet net) (engine : Engine) (pair : Pair) (before : 
       ap (λ (e : Event). invoked_of e sender.answer) sent.is_event
       ∙ sent.takes.makes_none sent.dialogue (number_of sender.answer) in
       let standing : Life = Life.standing sent.state sent.context in
-      let marked = sent.takes.is_sent asked.id standing
-      (life_by_event sent.state sent.context sender.event (is_accepted sender.answer)) in
+      let after : Life = life_by_event sender.idle_ms (touched sent.dialogue it.past) sent.state sent.context
+      sender.event (is_accepted sender.answer) in
+      let marked = sent.takes.is_sent asked.id standing after in
       let made : marks sent.dialogue asked.id sender it.past ≡ noted_at_clock (clock it.past) (Mark.sent ∷ marked.0) =
-      standing_marks sent.dialogue asked.id sender.event sender.answer it.past sent.state sent.context sent.is_life
+      standing_marks sent.dialogue asked.id sender.event sender.answer sender.idle_ms it.past sent.state sent.context sent.is_life
       named
       ∙ ap (noted_at_clock (clock it.past)) (
       ap (λ (b : Bool). marks_by_event asked.id standing
-      (life_by_event sent.state sent.context sender.event (is_accepted sender.answer)) sender.event b) accepted
+      after sender.event b) accepted
       ∙ (ap (λ (e : Event). marks_by_event asked.id standing
-      (life_by_event sent.state sent.context sender.event (is_accepted sender.answer)) e true) sent.is_event
+      after e true) sent.is_event
       ∙ marked.1)) in
       subst (WasSent from.number) (sym it.stands.is_past)
       (sent-later from.number it.stands.later (sender ∷ it.past)
-      (sent-here (net.start (far engine)) it.past sender.event sender.answer it.is_legal.2 accepted from.octets
+      (sent-here (net.start (far engine)) it.past sender it.is_legal.2 accepted from.octets
       from.number sent.dialogue asked marked.0 none made))
 
   was-asked : (output : Output) (it : Carried net engine before pair.event output) (id : ℤ) (linked : Option ℤ)

@@ -13,7 +13,7 @@ use Rattle.tcap_model.specs.Replies.Held.{if_pending, pending}
 use Rattle.tcap_model.specs.Histories.History.{Start}
 use Rattle.tcap_model.specs.Invocations.Invocation.{Invocation, invocation_of, latest}
 use Rattle.tcap_model.specs.Replies.Legal.{AreReplies}
-use Rattle.tcap_model.specs.Histories.Life.{Life, life, life_by_event}
+use Rattle.tcap_model.specs.Histories.Life.{Life, life, life_by_event, touched}
 use Rattle.tcap_model.specs.Invocations.Marks.{marks_by_event}
 use Rattle.tcap_model.specs.Histories.Names.{names}
 use Rattle.tcap_model.specs.Invocations.Outcome.{outcome, outcome_of}
@@ -31,21 +31,24 @@ use Rattle.tcap_laws.proofs.FarEnds.WaitingInvokes.{invocation_as, IsAsked, IsNo
 
 -- ---- events
 
-module _ (dialogue : ℕ) (event : Event) (answer : Answer) (past : Past) (s : State) (c : Option (List ℕ))
+module _ (dialogue : ℕ) (event : Event) (answer : Answer) (idle_ms : ℕ) (past : Past) (s : State)
+    (c : Option (List ℕ))
     (lives : life dialogue past ≡ Life.standing s c) where
   abbrev pub here : Pair
-  here = record { event = event; answer = answer }
+  here = record { event = event; answer = answer; idle_ms = idle_ms }
+
+  abbrev pub after : Life
+  after = life_by_event idle_ms (touched dialogue past) s c event (is_accepted answer)
 
   pub unnamed-left : names event dialogue ≡ false → (id : ℤ) → IsLeft dialogue id here past
-  unnamed-left named id = record { made = []; is_made = unnamed_marks dialogue id event answer past named; leave = tt }
+  unnamed-left named id = record { made = []; is_made = unnamed_marks dialogue id event answer idle_ms past named; leave = tt }
 
-  pub named-left : names event dialogue ≡ true → IsStanding (life_by_event s c event (is_accepted answer)) → (id : ℤ)
+  pub named-left : names event dialogue ≡ true → IsStanding after → (id : ℤ)
       → Spares id event (is_accepted answer) → IsLeft dialogue id here past
   named-left named stands id spares = record {
-    made = marks_by_event id (Life.standing s c) (life_by_event s c event (is_accepted answer)) event
-        (is_accepted answer);
-    is_made = standing_marks dialogue id event answer past s c lives named;
-    leave = event-leaves id s c event (is_accepted answer) stands spares;
+    made = marks_by_event id (Life.standing s c) after event (is_accepted answer);
+    is_made = standing_marks dialogue id event answer idle_ms past s c lives named;
+    leave = event-leaves idle_ms (touched dialogue past) id s c event (is_accepted answer) stands spares;
   }
 
 -- ---- a component that is queued
@@ -54,25 +57,28 @@ none-found : (number : ℕ) (past : Past) → invocation_of number past ≡ None
 none-found number past none = ap is_some none
 
 -- the Invoke of a new invocation
-pub new-waits : (start : Start) (dialogue number : ℕ) (past : Past) (id : ℤ) (class : Class) (code : CodeParts)
+pub new-waits : (start : Start) (dialogue number idle_ms : ℕ) (past : Past) (id : ℤ) (class : Class) (code : CodeParts)
     (parameter : Option (List ℕ)) (linked : Option ℤ) (timeout : ℕ) →
     AreReplies start (record {
       event =
           Event.on_dialogue dialogue (Request.component (ComponentRequest.invoke id class code parameter linked timeout));
       answer = Answer.number number;
+      idle_ms = idle_ms;
     } ∷ past) →
     IfGood (Some (invoke id linked code parameter)) →
     IsWaiting dialogue (record {
       event =
           Event.on_dialogue dialogue (Request.component (ComponentRequest.invoke id class code parameter linked timeout));
       answer = Answer.number number;
+      idle_ms = idle_ms;
     } ∷ past) (queued (Some (record { number = number; class = class }))
     (invoke id linked code parameter))
-new-waits start dialogue number past id class code parameter linked timeout legal good =
+new-waits start dialogue number idle_ms past id class code parameter linked timeout legal good =
     let here : Pair = record {
       event =
           Event.on_dialogue dialogue (Request.component (ComponentRequest.invoke id class code parameter linked timeout));
       answer = Answer.number number;
+      idle_ms = idle_ms;
     } in
     let i : Invocation = invocation_as number dialogue id class timeout in
     let new : invocation_of number past ≡ None = new_number start here past legal i refl in
@@ -101,15 +107,15 @@ other-waits dialogue past c none good =
 
 -- ---- a cancel
 
-abbrev cancel : ℕ → ℤ → ℕ → Pair
-cancel dialogue named number =
-    record {
-      event = Event.on_dialogue dialogue (Request.component (ComponentRequest.u_cancel named));
-      answer =
-          Answer.given_up number;
-    }
+abbrev cancel : ℕ → ℤ → ℕ → ℕ → Pair
+cancel dialogue named number idle_ms = record {
+  event = Event.on_dialogue dialogue (Request.component (ComponentRequest.u_cancel named));
+  answer = Answer.given_up number;
+  idle_ms = idle_ms;
+}
 
-module _ (start : Start) (past : Past) (legal : AreReplies start past) (dialogue : ℕ) (named : ℤ) (given : ℕ)
+module _ (start : Start) (past : Past) (legal : AreReplies start past) (dialogue : ℕ) (named : ℤ)
+    (given idle_ms : ℕ)
     (is_pending : pending dialogue named past ≡ Some given) where
   -- another invocation has another identifier
   other-id : (octets : List ℕ) (number : ℕ) (asked : IsAsked dialogue past octets number) → (number == given) ≡ false
@@ -139,16 +145,16 @@ module _ (start : Start) (past : Past) (legal : AreReplies start past) (dialogue
           (sym ((Decides-int_eq named asked.id).0 same)) ∙ is_pending) in
           cc
 
-  module _ (left : (id : ℤ) → int_eq named id ≡ false → IsLeft dialogue id (cancel dialogue named given) past) where
+  module _ (left : (id : ℤ) → int_eq named id ≡ false → IsLeft dialogue id (cancel dialogue named given idle_ms) past) where
     left-in : (octets : List ℕ) (invoking : Option Invoking) → asks_for given invoking ≡ false
-        → Waits dialogue past octets invoking → Waits dialogue (cancel dialogue named given ∷ past) octets invoking
+        → Waits dialogue past octets invoking → Waits dialogue (cancel dialogue named given idle_ms ∷ past) octets invoking
     left-in octets None other waits = waits
     left-in octets (Some v) other waits =
-        asked-later dialogue (cancel dialogue named given) past octets v.number waits
+        asked-later dialogue (cancel dialogue named given idle_ms) past octets v.number waits
         (left waits.id (other-id octets v.number waits other))
 
     pub cancel-waits : (waits : List Queued) → AllWait dialogue past waits
-        → AllWait dialogue (cancel dialogue named given ∷ past) (without_invoke given waits)
+        → AllWait dialogue (cancel dialogue named given idle_ms ∷ past) (without_invoke given waits)
     cancel-waits [] all = tt
     cancel-waits (q ∷ waits) all = elim (cases_Bool (asks_for given q.invoking)) [
       | inl asks ↦ rw asks (cancel-waits waits all.1)

@@ -56,16 +56,16 @@ and_right : (a b : Bool) → (a && b) ≡ true → b ≡ true
 and_right true b e = e
 and_right false b e = absurd cc
 
-seen_own : (dialogue : ℕ) (event : Event) (answer : Answer) (past : Past) (i : Invocation)
-    → is_seen_by dialogue (with_answer event answer) past ≡ true → invoked_of event answer ≡ Some i
+seen_own : (dialogue : ℕ) (event : Event) (answer : Answer) (idle_ms : ℕ) (past : Past) (i : Invocation)
+    → is_seen_by dialogue (with_answer event answer idle_ms) past ≡ true → invoked_of event answer ≡ Some i
     → is_of_dialogue dialogue i ≡ true
-seen_own dialogue Event.new_dialogue answer past i e q = absurd cc
-seen_own dialogue (Event.on_dialogue d r) answer past i e q =
+seen_own dialogue Event.new_dialogue answer idle_ms past i e q = absurd cc
+seen_own dialogue (Event.on_dialogue d r) answer idle_ms past i e q =
     let named : (d == dialogue) ≡ true = and_right (was_born dialogue past) (d == dialogue) e in
     let same = own_request d r (number_of answer) i q in
     grind (arith, nat_tests)
-seen_own dialogue (Event.received bytes) answer past i e q = absurd cc
-seen_own dialogue (Event.moment now) answer past i e q = absurd cc
+seen_own dialogue (Event.received bytes) answer idle_ms past i e q = absurd cc
+seen_own dialogue (Event.moment now) answer idle_ms past i e q = absurd cc
 
 -- ---- lists
 
@@ -122,11 +122,11 @@ module _ (start : Start) (dialogue : ℕ) where
           ≡ filter (is_of_dialogue dialogue) (invocations (pair ∷ past))
       go true e same =
           ap (λ o. invocations (only dialogue past) ++ option_to_list o)
-          (invoked_within dialogue pair.event pair.answer)
+          (invoked_within dialogue pair.event pair.answer pair.idle_ms)
           ∙ (ap (λ z. z ++ option_to_list (invoked_by pair)) same
           ∙ (ap (λ z. filter (is_of_dialogue dialogue) (invocations past) ++ z)
           (sym (kept (is_of_dialogue dialogue) (invoked_by pair)
-          (λ i q. seen_own dialogue pair.event pair.answer past i e q)))
+          (λ i q. seen_own dialogue pair.event pair.answer pair.idle_ms past i e q)))
           ∙ sym (filter-append (is_of_dialogue dialogue) (invocations past) (option_to_list (invoked_by pair)))))
       go false e same =
           same
@@ -144,7 +144,7 @@ module _ (start : Start) (dialogue : ℕ) where
           → latest dialogue id (only dialogue past) ≡ latest dialogue id past
           → latest dialogue id (seen_or_not dialogue b pair past) ≡ latest dialogue id (pair ∷ past)
       go true e same = ap (λ o. option_or (with_id dialogue id o) (latest dialogue id (only dialogue past)))
-          (invoked_within dialogue pair.event pair.answer) ∙ ap (option_or (with_id dialogue id (invoked_by pair))) same
+          (invoked_within dialogue pair.event pair.answer pair.idle_ms) ∙ ap (option_or (with_id dialogue id (invoked_by pair))) same
       go false e same = same ∙ ap (λ o. option_or o (latest dialogue id past))
           (sym (none (invoked_by pair) (unseen_own pair past legal e)))
         where

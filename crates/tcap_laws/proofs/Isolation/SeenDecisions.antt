@@ -45,10 +45,10 @@ undecided_at n place e = go (invocation_of n place) refl
     go (Some i) q = ap (told_outcome place i) (ap (λ o. outcome_of o place) (sym q) ∙ e)
 
 -- a request on a dialogue that wasn't born is refused
-pub unborn_refused : (start : Start) (named : ℕ) (r : Request) (answer : Answer) (past : Past)
-    → AreReplies start (with_answer (Event.on_dialogue named r) answer ∷ past) → life named past ≡ Life.unborn
+pub unborn_refused : (start : Start) (named : ℕ) (r : Request) (answer : Answer) (idle_ms : ℕ) (past : Past)
+    → AreReplies start (with_answer (Event.on_dialogue named r) answer idle_ms ∷ past) → life named past ≡ Life.unborn
     → is_accepted answer ≡ false
-unborn_refused start named r answer past legal unborn =
+unborn_refused start named r answer idle_ms past legal unborn =
     let h : History = record { start = start; pairs = past } in
     ap is_accepted (legal.1 ∙ ap (λ l. request_answer h named r l (due_by h named r l)) unborn)
 
@@ -99,7 +99,7 @@ module _ (start : Start) (dialogue : ℕ) where
           → decision n (only dialogue past) ≡ option_map (told_within dialogue) (decision n past)
           → decision n (seen_or_not dialogue b pair past) ≡ option_map (told_within dialogue) (decision n (pair ∷ past))
       go true e here same ih =
-          ap (λ o. option_or o (decided_at n (pair_within dialogue pair.event pair.answer ∷ only dialogue past))) ih
+          ap (λ o. option_or o (decided_at n (pair_within dialogue pair.event pair.answer pair.idle_ms ∷ only dialogue past))) ih
           ∙ (ap (option_or (option_map (told_within dialogue) (decision n past))) here
           ∙ both (decision n past) (decided_at n (pair ∷ past)))
       go false e here same ih =
@@ -109,19 +109,19 @@ module _ (start : Start) (dialogue : ℕ) where
   -- ---- waits
 
   module _ (until : ℕ) (id : ℤ) where
-    ends_within : (event : Event) (answer : Answer)
-        → pair_ends_wait until dialogue id (pair_within dialogue event answer)
-        ≡ pair_ends_wait until dialogue id (with_answer event answer)
-    ends_within Event.new_dialogue answer = refl
-    ends_within (Event.on_dialogue asked request) answer = refl
-    ends_within (Event.received bytes) answer = refl
-    ends_within (Event.moment now) answer = ap (λ b. b && nat_le until now) (within_accepted dialogue answer)
+    ends_within : (event : Event) (answer : Answer) (idle_ms : ℕ)
+        → pair_ends_wait until dialogue id (pair_within dialogue event answer idle_ms)
+        ≡ pair_ends_wait until dialogue id (with_answer event answer idle_ms)
+    ends_within Event.new_dialogue answer idle_ms = refl
+    ends_within (Event.on_dialogue asked request) answer idle_ms = refl
+    ends_within (Event.received bytes) answer idle_ms = refl
+    ends_within (Event.moment now) answer idle_ms = ap (λ b. b && nat_le until now) (within_accepted dialogue answer)
 
-    unseen_request : (named : ℕ) (r : Request) (answer : Answer) (past : Past)
-        → AreReplies start (with_answer (Event.on_dialogue named r) answer ∷ past)
-        → IsUnseen dialogue (with_answer (Event.on_dialogue named r) answer) past
+    unseen_request : (named : ℕ) (r : Request) (answer : Answer) (idle_ms : ℕ) (past : Past)
+        → AreReplies start (with_answer (Event.on_dialogue named r) answer idle_ms ∷ past)
+        → IsUnseen dialogue (with_answer (Event.on_dialogue named r) answer idle_ms) past
         → (is_accepted answer && ((named == dialogue) && rejects_answer id r)) ≡ false
-    unseen_request named r answer past legal is = go (named == dialogue) (was_born dialogue past) refl refl
+    unseen_request named r answer idle_ms past legal is = go (named == dialogue) (was_born dialogue past) refl refl
       where
         go : (a b : Bool) → (named == dialogue) ≡ a → was_born dialogue past ≡ b
             → (is_accepted answer && (a && rejects_answer id r)) ≡ false
@@ -130,16 +130,17 @@ module _ (start : Start) (dialogue : ℕ) where
         go true false p q =
             let same : named ≡ dialogue = grind (arith, nat_tests) in
             ap (λ b. b && (true && rejects_answer id r))
-            (unborn_refused start named r answer past legal
+            (unborn_refused start named r answer idle_ms past legal
             (ap (λ d. life d past) same ∙ unborn-life dialogue past q))
 
-    unseen_ends : (event : Event) (answer : Answer) (past : Past) → AreReplies start (with_answer event answer ∷ past)
-        → IsUnseen dialogue (with_answer event answer) past
-        → pair_ends_wait until dialogue id (with_answer event answer) ≡ false
-    unseen_ends Event.new_dialogue answer past legal is = and_false (is_accepted answer)
-    unseen_ends (Event.on_dialogue named r) answer past legal is = unseen_request named r answer past legal is
-    unseen_ends (Event.received bytes) answer past legal is = and_false (is_accepted answer)
-    unseen_ends (Event.moment now) answer past legal is = let no = is.no_moment in absurd cc
+    unseen_ends : (event : Event) (answer : Answer) (idle_ms : ℕ) (past : Past)
+        → AreReplies start (with_answer event answer idle_ms ∷ past)
+        → IsUnseen dialogue (with_answer event answer idle_ms) past
+        → pair_ends_wait until dialogue id (with_answer event answer idle_ms) ≡ false
+    unseen_ends Event.new_dialogue answer idle_ms past legal is = and_false (is_accepted answer)
+    unseen_ends (Event.on_dialogue named r) answer idle_ms past legal is = unseen_request named r answer idle_ms past legal is
+    unseen_ends (Event.received bytes) answer idle_ms past legal is = and_false (is_accepted answer)
+    unseen_ends (Event.moment now) answer idle_ms past legal is = let no = is.no_moment in absurd cc
 
     -- what follows a place, as the dialogue sees it
     pub record IsPart (newer place : Past) : Type 0 where
@@ -154,17 +155,17 @@ module _ (start : Start) (dialogue : ℕ) where
         go : (b : Bool) → is_seen_by dialogue pair (newer ++ place) ≡ b → IsPart newer place
             → IsPart (pair ∷ newer) place
         go true e r = record {
-          part = pair_within dialogue pair.event pair.answer ∷ r.part;
+          part = pair_within dialogue pair.event pair.answer pair.idle_ms ∷ r.part;
           is_only = ap (λ b. seen_or_not dialogue b pair (newer ++ place)) e
-              ∙ ap (λ z. pair_within dialogue pair.event pair.answer ∷ z) r.is_only;
-          ends = ap (λ b. b || list_any (pair_ends_wait until dialogue id) r.part) (ends_within pair.event pair.answer)
+              ∙ ap (λ z. pair_within dialogue pair.event pair.answer pair.idle_ms ∷ z) r.is_only;
+          ends = ap (λ b. b || list_any (pair_ends_wait until dialogue id) r.part) (ends_within pair.event pair.answer pair.idle_ms)
               ∙ ap (λ b. pair_ends_wait until dialogue id pair || b) r.ends;
         }
         go false e r = record {
           part = r.part;
           is_only = ap (λ b. seen_or_not dialogue b pair (newer ++ place)) e ∙ r.is_only;
           ends = r.ends ∙ ap (λ b. b || list_any (pair_ends_wait until dialogue id) newer)
-              (sym (unseen_ends pair.event pair.answer (newer ++ place) legal
+              (sym (unseen_ends pair.event pair.answer pair.idle_ms (newer ++ place) legal
               (unseen dialogue pair (newer ++ place) e)));
         }
 

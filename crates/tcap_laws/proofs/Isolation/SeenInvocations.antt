@@ -63,13 +63,13 @@ module _ (start : Start) (i : Invocation) where
           → is_reused i (mine past) ≡ is_reused i past
           → is_reused i (seen_or_not i.dialogue b pair past) ≡ is_reused i (pair ∷ past)
       go true true e m made same =
-          reused_step i (pair_within i.dialogue pair.event pair.answer) (mine past) (made ∙ m)
+          reused_step i (pair_within i.dialogue pair.event pair.answer pair.idle_ms) (mine past) (made ∙ m)
           ∙ (ap (λ o. is_reused i (mine past) || is_invoked (has_id i.dialogue i.id) o)
-          (invoked_within i.dialogue pair.event pair.answer)
+          (invoked_within i.dialogue pair.event pair.answer pair.idle_ms)
           ∙ (ap (λ b. b || is_invoked (has_id i.dialogue i.id) (invoked_by pair)) same
           ∙ sym (reused_step i pair past m)))
       go true false e m made same =
-          reused_new i (pair_within i.dialogue pair.event pair.answer) (mine past) (made ∙ m)
+          reused_new i (pair_within i.dialogue pair.event pair.answer pair.idle_ms) (mine past) (made ∙ m)
           ∙ sym (reused_new i pair past m)
       go false true e m made same =
           same ∙ (sym (or_false (is_reused i past)) ∙ (ap (λ b. is_reused i past || b)
@@ -87,19 +87,19 @@ module _ (start : Start) (i : Invocation) where
       before = own_before start i.dialogue i.number pair past own
 
       seen : (m u : Bool) → is_some (invocation_of i.number past) ≡ m → is_reused i (pair ∷ past) ≡ u
-          → is_reused i (pair_within i.dialogue pair.event pair.answer ∷ mine past) ≡ is_reused i (pair ∷ past)
+          → is_reused i (pair_within i.dialogue pair.event pair.answer pair.idle_ms ∷ mine past) ≡ is_reused i (pair ∷ past)
           → is_some (invocation_of i.number (mine past)) ≡ is_some (invocation_of i.number past)
           → span i (mine past) ≡ span i past
-          → span i (pair_within i.dialogue pair.event pair.answer ∷ mine past) ≡ span i (pair ∷ past)
+          → span i (pair_within i.dialogue pair.event pair.answer pair.idle_ms ∷ mine past) ≡ span i (pair ∷ past)
       seen false u m r reused made same =
-          span_new i (pair_within i.dialogue pair.event pair.answer) (mine past) (made ∙ m)
+          span_new i (pair_within i.dialogue pair.event pair.answer pair.idle_ms) (mine past) (made ∙ m)
           ∙ sym (span_new i pair past m)
       seen true true m r reused made same =
-          span_stays i (pair_within i.dialogue pair.event pair.answer) (mine past) (made ∙ m) (reused ∙ r)
+          span_stays i (pair_within i.dialogue pair.event pair.answer pair.idle_ms) (mine past) (made ∙ m) (reused ∙ r)
           ∙ (same ∙ sym (span_stays i pair past m r))
       seen true false m r reused made same =
-          span_grows i (pair_within i.dialogue pair.event pair.answer) (mine past) (made ∙ m) (reused ∙ r)
-          ∙ (ap (λ z. z ++ marks i.dialogue i.id (pair_within i.dialogue pair.event pair.answer) (mine past)) same
+          span_grows i (pair_within i.dialogue pair.event pair.answer pair.idle_ms) (mine past) (made ∙ m) (reused ∙ r)
+          ∙ (ap (λ z. z ++ marks i.dialogue i.id (pair_within i.dialogue pair.event pair.answer pair.idle_ms) (mine past)) same
           ∙ (ap (λ z. span i past ++ z) (seen_marks i.dialogue i.id pair past)
           ∙ sym (span_grows i pair past m r)))
 

@@ -1,5 +1,5 @@
 -- What a dialogue sees of a history tells its clock, its life and its marks.
-use Rattle.std.proofs.Common.{◌≡◌, ◌≢◌, ℕ, ℤ, Bool, true, false, cond, ◌&&◌, ◌||◌, List, [], ◌∷◌, refl, ap, sym, ◌∙◌, inl, inr}
+use Rattle.std.proofs.Common.{◌≡◌, ◌≢◌, ℕ, ℤ, Bool, true, false, cond, if◌then◌else◌, ◌&&◌, ◌||◌, List, [], ◌∷◌, refl, ap, sym, ◌∙◌, inl, inr}
 use Rattle.std.proofs.lemmas.Bool.{cases_Bool, or_parts}
 use Rattle.tcap_laws.proofs.Births.DrawnDialogues.{unborn-life}
 use Rattle.tcap_laws.proofs.Spans.MarksAfterBirth.{noted_at_clock}
@@ -8,15 +8,15 @@ use Rattle.tcap_model.specs.Histories.Birth.{born_of, born_by, is_birth_of, was_
 use Rattle.tcap_model.specs.Histories.Clock.{clock, clock_after}
 use Rattle.tcap_model.specs.Words.Event.{Event}
 use Rattle.tcap_model.specs.Invocations.Invocation.{invoked_of, invoked_by}
-use Rattle.tcap_model.specs.Histories.Life.{Life, life_at_birth, life_if_named, life_after, life}
+use Rattle.tcap_model.specs.Histories.Life.{Life, life_at_birth, life_by_event, life_if_named, life_after, touches_as_event, touches, touched, life}
 use Rattle.tcap_model.specs.Words.LocalId.{is_that}
 use Rattle.tcap_model.specs.Invocations.Marks.{Noted, marks_by_event, marks_after_birth, marks}
 use Rattle.tcap_model.specs.Histories.Names.{names}
 use Rattle.tcap_model.specs.Statements.Only.{answer_within, pair_within, is_moment, is_seen_by, only}
 use Rattle.tcap_model.specs.Histories.Pair.{Pair, Past}
 
-abbrev pub with_answer : Event → Answer → Pair
-with_answer event answer = record { event = event; answer = answer }
+abbrev pub with_answer : Event → Answer → ℕ → Pair
+with_answer event answer idle_ms = record { event = event; answer = answer; idle_ms = idle_ms }
 
 module _ (dialogue : ℕ) where
   -- ---- a pair without the outputs of others
@@ -29,62 +29,75 @@ module _ (dialogue : ℕ) where
   within_accepted (Answer.outputs outputs) = refl
   within_accepted (Answer.refused fault) = refl
 
-  pub event_within : (event : Event) (answer : Answer) → (pair_within dialogue event answer).event ≡ event
-  event_within Event.new_dialogue answer = refl
-  event_within (Event.on_dialogue asked request) answer = refl
-  event_within (Event.received bytes) answer = refl
-  event_within (Event.moment now) answer = refl
+  pub event_within : (event : Event) (answer : Answer) (idle_ms : ℕ)
+      → (pair_within dialogue event answer idle_ms).event ≡ event
+  event_within Event.new_dialogue answer idle_ms = refl
+  event_within (Event.on_dialogue asked request) answer idle_ms = refl
+  event_within (Event.received bytes) answer idle_ms = refl
+  event_within (Event.moment now) answer idle_ms = refl
 
-  pub accepted_within : (event : Event) (answer : Answer)
-      → is_accepted (pair_within dialogue event answer).answer ≡ is_accepted answer
-  accepted_within Event.new_dialogue answer = refl
-  accepted_within (Event.on_dialogue asked request) answer = refl
-  accepted_within (Event.received bytes) answer = refl
-  accepted_within (Event.moment now) answer = within_accepted answer
+  pub accepted_within : (event : Event) (answer : Answer) (idle_ms : ℕ)
+      → is_accepted (pair_within dialogue event answer idle_ms).answer ≡ is_accepted answer
+  accepted_within Event.new_dialogue answer idle_ms = refl
+  accepted_within (Event.on_dialogue asked request) answer idle_ms = refl
+  accepted_within (Event.received bytes) answer idle_ms = refl
+  accepted_within (Event.moment now) answer idle_ms = within_accepted answer
 
-  pub born_within : (event : Event) (answer : Answer)
-      → born_by (pair_within dialogue event answer) ≡ born_of event answer
-  born_within Event.new_dialogue answer = refl
-  born_within (Event.on_dialogue asked request) answer = refl
-  born_within (Event.received bytes) answer = refl
-  born_within (Event.moment now) answer = refl
+  pub born_within : (event : Event) (answer : Answer) (idle_ms : ℕ)
+      → born_by (pair_within dialogue event answer idle_ms) ≡ born_of event answer
+  born_within Event.new_dialogue answer idle_ms = refl
+  born_within (Event.on_dialogue asked request) answer idle_ms = refl
+  born_within (Event.received bytes) answer idle_ms = refl
+  born_within (Event.moment now) answer idle_ms = refl
 
-  pub invoked_within : (event : Event) (answer : Answer)
-      → invoked_by (pair_within dialogue event answer) ≡ invoked_of event answer
-  invoked_within Event.new_dialogue answer = refl
-  invoked_within (Event.on_dialogue asked request) answer = refl
-  invoked_within (Event.received bytes) answer = refl
-  invoked_within (Event.moment now) answer = refl
+  pub invoked_within : (event : Event) (answer : Answer) (idle_ms : ℕ)
+      → invoked_by (pair_within dialogue event answer idle_ms) ≡ invoked_of event answer
+  invoked_within Event.new_dialogue answer idle_ms = refl
+  invoked_within (Event.on_dialogue asked request) answer idle_ms = refl
+  invoked_within (Event.received bytes) answer idle_ms = refl
+  invoked_within (Event.moment now) answer idle_ms = refl
 
-  clock_within : (before : ℕ) (event : Event) (answer : Answer)
-      → clock_after before (pair_within dialogue event answer).event
-      (is_accepted (pair_within dialogue event answer).answer) ≡ clock_after before event (is_accepted answer)
-  clock_within before Event.new_dialogue answer = refl
-  clock_within before (Event.on_dialogue asked request) answer = refl
-  clock_within before (Event.received bytes) answer = refl
-  clock_within before (Event.moment now) answer = ap (clock_after before (Event.moment now)) (within_accepted answer)
+  clock_within : (before : ℕ) (event : Event) (answer : Answer) (idle_ms : ℕ)
+      → clock_after before (pair_within dialogue event answer idle_ms).event
+      (is_accepted (pair_within dialogue event answer idle_ms).answer) ≡ clock_after before event (is_accepted answer)
+  clock_within before Event.new_dialogue answer idle_ms = refl
+  clock_within before (Event.on_dialogue asked request) answer idle_ms = refl
+  clock_within before (Event.received bytes) answer idle_ms = refl
+  clock_within before (Event.moment now) answer idle_ms =
+      ap (clock_after before (Event.moment now)) (within_accepted answer)
 
-  life_within : (before : Life) (event : Event) (answer : Answer)
-      → life_after dialogue before (pair_within dialogue event answer)
-      ≡ life_after dialogue before (with_answer event answer)
-  life_within before Event.new_dialogue answer = refl
-  life_within before (Event.on_dialogue asked request) answer = refl
-  life_within before (Event.received bytes) answer = refl
-  life_within Life.unborn (Event.moment now) answer = refl
-  life_within (Life.standing state context) (Event.moment now) answer = refl
-  life_within Life.over (Event.moment now) answer = refl
+  life_within : (last : ℕ) (before : Life) (event : Event) (answer : Answer) (idle_ms : ℕ)
+      → life_after dialogue last before (pair_within dialogue event answer idle_ms)
+      ≡ life_after dialogue last before (with_answer event answer idle_ms)
+  life_within last before Event.new_dialogue answer idle_ms = refl
+  life_within last before (Event.on_dialogue asked request) answer idle_ms = refl
+  life_within last before (Event.received bytes) answer idle_ms = refl
+  life_within last Life.unborn (Event.moment now) answer idle_ms = refl
+  life_within last (Life.standing state context) (Event.moment now) answer idle_ms =
+      ap (life_by_event idle_ms last state context (Event.moment now)) (within_accepted answer)
+  life_within last Life.over (Event.moment now) answer idle_ms = refl
 
-  marks_within : (id : ℤ) (before : Life) (event : Event) (answer : Answer)
-      → marks_after_birth dialogue id before (pair_within dialogue event answer)
-      ≡ marks_after_birth dialogue id before (with_answer event answer)
-  marks_within id before Event.new_dialogue answer = refl
-  marks_within id before (Event.on_dialogue asked request) answer = refl
-  marks_within id before (Event.received bytes) answer = refl
-  marks_within id Life.unborn (Event.moment now) answer = refl
-  marks_within id (Life.standing state context) (Event.moment now) answer =
-      ap (marks_by_event id (Life.standing state context) (Life.standing state context) (Event.moment now))
-      (within_accepted answer)
-  marks_within id Life.over (Event.moment now) answer =
+  touches_within : (before : Life) (event : Event) (answer : Answer) (idle_ms : ℕ)
+      → touches dialogue before (pair_within dialogue event answer idle_ms)
+      ≡ touches dialogue before (with_answer event answer idle_ms)
+  touches_within before Event.new_dialogue answer idle_ms = refl
+  touches_within before (Event.on_dialogue asked request) answer idle_ms = refl
+  touches_within before (Event.received bytes) answer idle_ms = refl
+  touches_within Life.unborn (Event.moment now) answer idle_ms = refl
+  touches_within (Life.standing state context) (Event.moment now) answer idle_ms = refl
+  touches_within Life.over (Event.moment now) answer idle_ms = refl
+
+  marks_within : (id : ℤ) (last : ℕ) (before : Life) (event : Event) (answer : Answer) (idle_ms : ℕ)
+      → marks_after_birth dialogue id last before (pair_within dialogue event answer idle_ms)
+      ≡ marks_after_birth dialogue id last before (with_answer event answer idle_ms)
+  marks_within id last before Event.new_dialogue answer idle_ms = refl
+  marks_within id last before (Event.on_dialogue asked request) answer idle_ms = refl
+  marks_within id last before (Event.received bytes) answer idle_ms = refl
+  marks_within id last Life.unborn (Event.moment now) answer idle_ms = refl
+  marks_within id last (Life.standing state context) (Event.moment now) answer idle_ms =
+      ap (λ b. marks_by_event id (Life.standing state context)
+      (life_by_event idle_ms last state context (Event.moment now) b) (Event.moment now) b) (within_accepted answer)
+  marks_within id last Life.over (Event.moment now) answer idle_ms =
       ap (marks_by_event id Life.over Life.over (Event.moment now)) (within_accepted answer)
 
   -- ---- what isn't seen
@@ -131,14 +144,26 @@ module _ (dialogue : ℕ) where
     pub unnamed_if : (l : Life) → life dialogue past ≡ l → l ≢ Life.unborn → names pair.event dialogue ≡ false
     unnamed_if l q lives = is.not_named (born_if_alive past (λ unborn. lives (sym q ∙ unborn)))
 
-    unmoved : (l : Life) → life dialogue past ≡ l → life_after dialogue l pair ≡ l
+    unmoved : (l : Life) → life dialogue past ≡ l → life_after dialogue (touched dialogue past) l pair ≡ l
     unmoved Life.unborn q = ap (λ b. life_at_birth b pair.event) is.no_birth
     unmoved (Life.standing state context) q =
-        ap (λ b. life_if_named b state context pair) (unnamed_if (Life.standing state context) q (λ e. cc))
+        ap (λ b. life_if_named b (touched dialogue past) state context pair)
+        (unnamed_if (Life.standing state context) q (λ e. cc))
     unmoved Life.over q = refl
 
     pub unseen_life : life dialogue (pair ∷ past) ≡ life dialogue past
     unseen_life = unmoved (life dialogue past) refl
+
+    untouched : (l : Life) → life dialogue past ≡ l → touches dialogue l pair ≡ false
+    untouched Life.unborn q = refl
+    untouched (Life.standing state context) q =
+        ap (λ b. b && touches_as_event state context pair.event (is_accepted pair.answer))
+        (unnamed_if (Life.standing state context) q (λ e. cc))
+    untouched Life.over q = refl
+
+    pub unseen_touched : touched dialogue (pair ∷ past) ≡ touched dialogue past
+    unseen_touched =
+        ap (λ b. if b then clock past else touched dialogue past) (untouched (life dialogue past) refl)
 
     pub unseen_marks : (id : ℤ) → marks dialogue id pair past ≡ []
     unseen_marks id = go (life dialogue past) refl
@@ -146,8 +171,8 @@ module _ (dialogue : ℕ) where
         none : List Noted
         none = []
 
-        go : (l : Life) → life dialogue past ≡ l → noted_at_clock (clock past) (marks_after_birth dialogue id l pair)
-            ≡ none
+        go : (l : Life) → life dialogue past ≡ l
+            → noted_at_clock (clock past) (marks_after_birth dialogue id (touched dialogue past) l pair) ≡ none
         go Life.unborn q = refl
         go (Life.standing state context) q = rw (unnamed_if (Life.standing state context) q (λ e. cc)) refl
         go Life.over q = rw (unnamed_if Life.over q (λ e. cc)) refl
@@ -157,7 +182,7 @@ module _ (dialogue : ℕ) where
   -- the rest, and with it the pair if it is seen
   abbrev pub seen_or_not : Bool → Pair → Past → Past
   seen_or_not b pair past =
-      cond b (pair_within dialogue pair.event pair.answer ∷ only dialogue past) (only dialogue past)
+      cond b (pair_within dialogue pair.event pair.answer pair.idle_ms ∷ only dialogue past) (only dialogue past)
 
   pub only_clock : (past : Past) → clock (only dialogue past) ≡ clock past
   only_clock [] = refl
@@ -165,7 +190,7 @@ module _ (dialogue : ℕ) where
     where
       go : (b : Bool) → is_seen_by dialogue pair past ≡ b → clock (only dialogue past) ≡ clock past
           → clock (seen_or_not b pair past) ≡ clock (pair ∷ past)
-      go true e same = clock_within (clock (only dialogue past)) pair.event pair.answer
+      go true e same = clock_within (clock (only dialogue past)) pair.event pair.answer pair.idle_ms
           ∙ ap (λ c. clock_after c pair.event (is_accepted pair.answer)) same
       go false e same = same ∙ sym (unseen_clock pair past (unseen pair past e))
 
@@ -177,24 +202,55 @@ module _ (dialogue : ℕ) where
           → was_born dialogue (only dialogue past) ≡ was_born dialogue past
           → was_born dialogue (seen_or_not b pair past) ≡ was_born dialogue (pair ∷ past)
       go true e same = ap (λ o. is_that dialogue o || was_born dialogue (only dialogue past))
-          (born_within pair.event pair.answer) ∙ ap (λ b. is_birth_of dialogue pair || b) same
+          (born_within pair.event pair.answer pair.idle_ms) ∙ ap (λ b. is_birth_of dialogue pair || b) same
       go false e same = same ∙ ap (λ b. b || was_born dialogue past) (sym (unseen pair past e).no_birth)
 
-  pub only_life : (past : Past) → life dialogue (only dialogue past) ≡ life dialogue past
-  only_life [] = refl
-  only_life (pair ∷ past) = go (is_seen_by dialogue pair past) refl (only_life past)
+  -- the life and the last touch together
+  abbrev AreSame : Past → Past → Type 0
+  AreSame some all = (life dialogue some ≡ life dialogue all) × (touched dialogue some ≡ touched dialogue all)
+
+  only_course : (past : Past) → AreSame (only dialogue past) past
+  only_course [] = (refl, refl)
+  only_course (pair ∷ past) = go (is_seen_by dialogue pair past) refl (only_course past)
     where
-      go : (b : Bool) → is_seen_by dialogue pair past ≡ b → life dialogue (only dialogue past) ≡ life dialogue past
-          → life dialogue (seen_or_not b pair past) ≡ life dialogue (pair ∷ past)
-      go true e same = life_within (life dialogue (only dialogue past)) pair.event pair.answer
-          ∙ ap (λ l. life_after dialogue l pair) same
-      go false e same = same ∙ sym (unseen_life pair past (unseen pair past e))
+      seen : Past
+      seen = only dialogue past
+
+      go : (b : Bool) → is_seen_by dialogue pair past ≡ b → AreSame seen past
+          → AreSame (seen_or_not b pair past) (pair ∷ past)
+      go true e same = (
+        life_within (touched dialogue seen) (life dialogue seen) pair.event pair.answer pair.idle_ms
+            ∙ (ap (λ l. life_after dialogue (touched dialogue seen) l pair) same.0
+            ∙ ap (λ last. life_after dialogue last (life dialogue past) pair) same.1),
+        ap (λ b. if b then clock seen else touched dialogue seen)
+            (touches_within (life dialogue seen) pair.event pair.answer pair.idle_ms
+            ∙ ap (λ l. touches dialogue l pair) same.0)
+            ∙ (ap (λ c. if touches dialogue (life dialogue past) pair then c else touched dialogue seen)
+            (only_clock past)
+            ∙ ap (λ last. if touches dialogue (life dialogue past) pair then clock past else last) same.1),
+      )
+      go false e same =
+          let other = unseen pair past e in
+          (same.0 ∙ sym (unseen_life pair past other), same.1 ∙ sym (unseen_touched pair past other))
+
+  pub only_life : (past : Past) → life dialogue (only dialogue past) ≡ life dialogue past
+  only_life past = (only_course past).0
+
+  pub only_touched : (past : Past) → touched dialogue (only dialogue past) ≡ touched dialogue past
+  only_touched past = (only_course past).1
 
   pub seen_marks : (id : ℤ) (pair : Pair) (past : Past)
-      → marks dialogue id (pair_within dialogue pair.event pair.answer) (only dialogue past)
+      → marks dialogue id (pair_within dialogue pair.event pair.answer pair.idle_ms) (only dialogue past)
       ≡ marks dialogue id pair past
   seen_marks id pair past =
-      ap (λ c. noted_at_clock c (marks_after_birth dialogue id (life dialogue (only dialogue past))
-      (pair_within dialogue pair.event pair.answer))) (only_clock past)
-      ∙ (ap (noted_at_clock (clock past)) (marks_within id (life dialogue (only dialogue past)) pair.event pair.answer)
-      ∙ ap (λ l. noted_at_clock (clock past) (marks_after_birth dialogue id l pair)) (only_life past))
+      ap (λ c. noted_at_clock c (marks_after_birth dialogue id (touched dialogue seen) (life dialogue seen)
+      (pair_within dialogue pair.event pair.answer pair.idle_ms))) (only_clock past)
+      ∙ (ap (noted_at_clock (clock past))
+      (marks_within id (touched dialogue seen) (life dialogue seen) pair.event pair.answer pair.idle_ms)
+      ∙ (ap (λ l. noted_at_clock (clock past) (marks_after_birth dialogue id (touched dialogue seen) l pair))
+      (only_life past)
+      ∙ ap (λ last. noted_at_clock (clock past) (marks_after_birth dialogue id last (life dialogue past) pair))
+      (only_touched past)))
+    where
+      seen : Past
+      seen = only dialogue past

@@ -1,12 +1,13 @@
 -- A moment tells a dialogue the lapses that it would tell it alone, in their order.
-use Rattle.std.proofs.Common.{◌≡◌, ◌≢◌, ℕ, ◌+◌, ◌==◌, Bool, true, false, cond, ◌&&◌, nat_le, nat_lt, List, [], ◌∷◌, Contains, Option, Some, None, refl, sym, ap, subst, ◌∙◌, arith, if◌then◌else◌}
+use Rattle.std.proofs.Common.{◌≡◌, ◌≢◌, ℕ, ◌+◌, ◌==◌, Bool, true, false, cond, ◌&&◌, nat_le, nat_lt, List, [], ◌∷◌, ◌++◌, Contains, Option, Some, None, refl, sym, ap, subst, ◌∙◌, arith, if◌then◌else◌}
 use Rattle.std.proofs.lemmas.Bool.{eqb-true, true≢false}
-use Rattle.std.proofs.lemmas.List.Elements.{Contains-append_right}
-use Rattle.std.specs.List.{cons_option}
+use Rattle.std.proofs.lemmas.List.Elements.{Contains-append_right, filter-append}
+use Rattle.std.specs.List.{cons_option, flat_map}
 use Rattle.std.specs.Prelude.{filter, filter_map, map, option_map}
 use Rattle.tcap_laws.proofs.Isolation.KeyedLists.{filter-in_order}
 use Rattle.tcap_laws.proofs.Births.NumbersFound.{invocation_of-found}
 use Rattle.tcap_laws.proofs.Isolation.SeenBytes.{alone-bytes}
+use Rattle.tcap_laws.proofs.Isolation.SeenIdle.{only_idle}
 use Rattle.tcap_laws.proofs.Isolation.SeenInvocations.{found_span}
 use Rattle.tcap_laws.proofs.Isolation.SeenLives.{only_clock}
 use Rattle.tcap_laws.proofs.Isolation.SeenRequests.{alone_request}
@@ -23,7 +24,8 @@ use Rattle.tcap_model.specs.Statements.Only.{is_output_of, answer_within, only}
 use Rattle.tcap_model.specs.Invocations.Outcome.{is_sent_in}
 use Rattle.tcap_model.specs.Histories.Pair.{Past}
 use Rattle.tcap_model.specs.Words.KeyOrder.{in_order}
-use Rattle.tcap_model.specs.Replies.Reply.{Lapsing, lapse_key, lapsing_by, lapsing_at, lapse_told, lapses, moment_answer, reply}
+use Rattle.tcap_model.specs.Words.Output.{Output}
+use Rattle.tcap_model.specs.Replies.Reply.{Lapsing, lapse_key, lapsing_by, lapsing_at, lapse_told, lapses, idle_told, idle_dialogues, moment_outputs, moment_answer, reply}
 use Rattle.tcap_model.specs.Words.Request.{Request}
 use Rattle.tcap_model.specs.Invocations.Span.{span}
 use Rattle.tcap_model.specs.Words.Time.{moment_fault}
@@ -116,21 +118,39 @@ module _ (start : Start) (dialogue : ℕ) (past : Past) (legal : AreReplies star
   told-same = sym (filter-twice (is_output_of dialogue) (lapses past now))
       ∙ ap (filter (is_output_of dialogue)) only_lapses
 
-  moment-same : (f : Option Fault) → answer_within dialogue (moment_answer past now f)
-      ≡ answer_within dialogue (moment_answer (only dialogue past) now f)
-  moment-same (Some f) = refl
-  moment-same None =
+  outputs-same : (idle_ms : ℕ) → filter (is_output_of dialogue) (moment_outputs idle_ms past now)
+      ≡ filter (is_output_of dialogue) (moment_outputs idle_ms (only dialogue past) now)
+  outputs-same idle_ms =
+      filter-append (is_output_of dialogue) (lapses past now) (idle past)
+      ∙ (ap (λ os. os ++ filter (is_output_of dialogue) (idle past)) told-same
+      ∙ (ap (λ os. filter (is_output_of dialogue) (lapses seen now) ++ os)
+      (only_idle start dialogue past legal idle_ms now)
+      ∙ sym (filter-append (is_output_of dialogue) (lapses seen now) (idle seen))))
+    where
+      seen : Past
+      seen = only dialogue past
+
+      idle : Past → List Output
+      idle at = flat_map (idle_told at now) (idle_dialogues idle_ms at now)
+
+  moment-same : (idle_ms : ℕ) (f : Option Fault) → answer_within dialogue (moment_answer idle_ms past now f)
+      ≡ answer_within dialogue (moment_answer idle_ms (only dialogue past) now f)
+  moment-same idle_ms (Some f) = refl
+  moment-same idle_ms None =
       early (nat_lt now (clock past))
       ∙ ap (λ c. answer_within dialogue (if nat_lt now c then Answer.outputs [] else Answer.outputs
-      (lapses (only dialogue past) now))) (sym (only_clock dialogue past))
+      (moment_outputs idle_ms (only dialogue past) now))) (sym (only_clock dialogue past))
     where
-      early : (b : Bool) → answer_within dialogue (if b then Answer.outputs [] else Answer.outputs (lapses past now))
-          ≡ answer_within dialogue (if b then Answer.outputs [] else Answer.outputs (lapses (only dialogue past) now))
+      early : (b : Bool)
+          → answer_within dialogue (if b then Answer.outputs [] else Answer.outputs (moment_outputs idle_ms past now))
+          ≡ answer_within dialogue
+          (if b then Answer.outputs [] else Answer.outputs (moment_outputs idle_ms (only dialogue past) now))
       early true = refl
-      early false = ap Answer.outputs told-same
+      early false = ap Answer.outputs (outputs-same idle_ms)
 
 pub alone-moment : (h : History) (dialogue : ℕ) → IsLegal h → (now : ℕ) → IsAlone h dialogue (Event.moment now)
-alone-moment h dialogue legal now = moment-same h.start dialogue h.pairs legal.1 now (moment_fault now)
+alone-moment h dialogue legal now =
+    moment-same h.start dialogue h.pairs legal.1 now h.start.idle_ms (moment_fault now)
 
 -- ---- each event
 

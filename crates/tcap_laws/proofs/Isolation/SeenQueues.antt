@@ -104,29 +104,29 @@ module _ (start : Start) (dialogue : ℕ) (past : Past) (legal : AreReplies star
   by_bytes (Life.standing state context) q bytes =
       ap (λ z. if is_live state then z else q) (by_message (Life.standing state context) q (frame_at bytes))
 
-  queue_within : (q : List Queued) (event : Event) (answer : Answer)
-      → queue_after dialogue (only dialogue past) q (pair_within dialogue event answer)
-      ≡ queue_after dialogue past q (with_answer event answer)
-  queue_within q Event.new_dialogue answer = refl
-  queue_within q (Event.on_dialogue named r) answer = refl
-  queue_within q (Event.received bytes) answer =
-      let birth = is_birth_of dialogue (with_answer (Event.received bytes) answer) in
+  queue_within : (q : List Queued) (event : Event) (answer : Answer) (idle_ms : ℕ)
+      → queue_after dialogue (only dialogue past) q (pair_within dialogue event answer idle_ms)
+      ≡ queue_after dialogue past q (with_answer event answer idle_ms)
+  queue_within q Event.new_dialogue answer idle_ms = refl
+  queue_within q (Event.on_dialogue named r) answer idle_ms = refl
+  queue_within q (Event.received bytes) answer idle_ms =
+      let birth = is_birth_of dialogue (with_answer (Event.received bytes) answer idle_ms) in
       let named = names (Event.received bytes) dialogue in
       ap (λ z. if birth then z else (if named then queue_by_bytes dialogue (only dialogue past)
       (life dialogue (only dialogue past)) q bytes else q)) (at_birth (frame_at bytes))
       ∙ ap (λ z. if birth then queue_at_birth dialogue past (frame_at bytes) else (if named then z else q))
       (ap (λ l. queue_by_bytes dialogue (only dialogue past) l q bytes) (only_life dialogue past)
       ∙ by_bytes (life dialogue past) q bytes)
-  queue_within q (Event.moment now) answer = refl
+  queue_within q (Event.moment now) answer idle_ms = refl
 
 -- ---- the queue
 
 module _ (start : Start) (dialogue : ℕ) where
-  unseen_request : (q : List Queued) (named : ℕ) (r : Request) (answer : Answer) (past : Past)
-      → AreReplies start (with_answer (Event.on_dialogue named r) answer ∷ past)
-      → IsUnseen dialogue (with_answer (Event.on_dialogue named r) answer) past
+  unseen_request : (q : List Queued) (named : ℕ) (r : Request) (answer : Answer) (idle_ms : ℕ) (past : Past)
+      → AreReplies start (with_answer (Event.on_dialogue named r) answer idle_ms ∷ past)
+      → IsUnseen dialogue (with_answer (Event.on_dialogue named r) answer idle_ms) past
       → (if named == dialogue then queue_if_accepted (is_accepted answer) q r answer else q) ≡ q
-  unseen_request q named r answer past legal is = go (named == dialogue) (was_born dialogue past) refl refl
+  unseen_request q named r answer idle_ms past legal is = go (named == dialogue) (was_born dialogue past) refl refl
     where
       go : (a b : Bool) → (named == dialogue) ≡ a → was_born dialogue past ≡ b
           → (if a then queue_if_accepted (is_accepted answer) q r answer else q) ≡ q
@@ -134,14 +134,15 @@ module _ (start : Start) (dialogue : ℕ) where
       go true true p w = let never : true ≡ false = sym p ∙ is.not_named w in absurd cc
       go true false p w =
           let same : named ≡ dialogue = grind (arith, nat_tests) in
-          ap (λ b. queue_if_accepted b q r answer) (unborn_refused start named r answer past legal
+          ap (λ b. queue_if_accepted b q r answer) (unborn_refused start named r answer idle_ms past legal
           (ap (λ d. life d past) same ∙ unborn-life dialogue past w))
 
-  unseen_bytes : (q : List Queued) (bytes : List ℕ) (answer : Answer) (past : Past)
-      → IsUnseen dialogue (with_answer (Event.received bytes) answer) past
+  unseen_bytes : (q : List Queued) (bytes : List ℕ) (answer : Answer) (idle_ms : ℕ) (past : Past)
+      → IsUnseen dialogue (with_answer (Event.received bytes) answer idle_ms) past
       → (if names (Event.received bytes) dialogue then queue_by_bytes dialogue past (life dialogue past) q bytes else q)
       ≡ q
-  unseen_bytes q bytes answer past is = go (names (Event.received bytes) dialogue) (was_born dialogue past) refl refl
+  unseen_bytes q bytes answer idle_ms past is =
+      go (names (Event.received bytes) dialogue) (was_born dialogue past) refl refl
     where
       go : (a b : Bool) → names (Event.received bytes) dialogue ≡ a → was_born dialogue past ≡ b
           → (if a then queue_by_bytes dialogue past (life dialogue past) q bytes else q) ≡ q
@@ -149,17 +150,19 @@ module _ (start : Start) (dialogue : ℕ) where
       go true true p w = let never : true ≡ false = sym p ∙ is.not_named w in absurd cc
       go true false p w = ap (λ l. queue_by_bytes dialogue past l q bytes) (unborn-life dialogue past w)
 
-  unseen_queue : (q : List Queued) (event : Event) (answer : Answer) (past : Past)
-      → AreReplies start (with_answer event answer ∷ past) → IsUnseen dialogue (with_answer event answer) past
-      → queue_after dialogue past q (with_answer event answer) ≡ q
-  unseen_queue q Event.new_dialogue answer past legal is = ap (λ b. if b then [] else q) is.no_birth
-  unseen_queue q (Event.on_dialogue named r) answer past legal is = unseen_request q named r answer past legal is
-  unseen_queue q (Event.received bytes) answer past legal is =
+  unseen_queue : (q : List Queued) (event : Event) (answer : Answer) (idle_ms : ℕ) (past : Past)
+      → AreReplies start (with_answer event answer idle_ms ∷ past)
+      → IsUnseen dialogue (with_answer event answer idle_ms) past
+      → queue_after dialogue past q (with_answer event answer idle_ms) ≡ q
+  unseen_queue q Event.new_dialogue answer idle_ms past legal is = ap (λ b. if b then [] else q) is.no_birth
+  unseen_queue q (Event.on_dialogue named r) answer idle_ms past legal is =
+      unseen_request q named r answer idle_ms past legal is
+  unseen_queue q (Event.received bytes) answer idle_ms past legal is =
       ap (λ b. if b then queue_at_birth dialogue past (frame_at bytes) else
       (if names (Event.received bytes) dialogue then queue_by_bytes dialogue past (life dialogue past) q bytes else
       q)) is.no_birth
-      ∙ unseen_bytes q bytes answer past is
-  unseen_queue q (Event.moment now) answer past legal is = let no = is.no_moment in absurd cc
+      ∙ unseen_bytes q bytes answer idle_ms past is
+  unseen_queue q (Event.moment now) answer idle_ms past legal is = let no = is.no_moment in absurd cc
 
   pub only_queue : (past : Past) → AreReplies start past → queue dialogue (only dialogue past) ≡ queue dialogue past
   only_queue [] legal = refl
@@ -168,6 +171,6 @@ module _ (start : Start) (dialogue : ℕ) where
       go : (b : Bool) → is_seen_by dialogue pair past ≡ b → queue dialogue (only dialogue past) ≡ queue dialogue past
           → queue dialogue (seen_or_not dialogue b pair past) ≡ queue dialogue (pair ∷ past)
       go true e same = queue_within start dialogue past legal.2 (queue dialogue (only dialogue past)) pair.event
-          pair.answer ∙ ap (λ q. queue_after dialogue past q pair) same
-      go false e same = same ∙ sym (unseen_queue (queue dialogue past) pair.event pair.answer past legal
+          pair.answer pair.idle_ms ∙ ap (λ q. queue_after dialogue past q pair) same
+      go false e same = same ∙ sym (unseen_queue (queue dialogue past) pair.event pair.answer pair.idle_ms past legal
           (unseen dialogue pair past e))

@@ -143,7 +143,7 @@ fewer_invokes : (dialogue : ℕ) (past : Past) → invokes (only dialogue past) 
 fewer_invokes dialogue [] = omega arith
 fewer_invokes dialogue (pair ∷ past) =
     go (is_seen_by dialogue pair past) (is_some (invoked_by pair)) (fewer_invokes dialogue past)
-    (ap is_some (invoked_within dialogue pair.event pair.answer))
+    (ap is_some (invoked_within dialogue pair.event pair.answer pair.idle_ms))
   where
     more : (b : Bool) (m n : ℕ) → m ≤ n → cond b (m + 1) m ≤ cond b (n + 1) n
     more true m n le = omega arith
@@ -154,7 +154,7 @@ fewer_invokes dialogue (pair ∷ past) =
     up false m n le = le
 
     go : (b some : Bool) → invokes (only dialogue past) ≤ invokes past
-        → is_some (invoked_by (pair_within dialogue pair.event pair.answer)) ≡ some
+        → is_some (invoked_by (pair_within dialogue pair.event pair.answer pair.idle_ms)) ≡ some
         → invokes (seen_or_not dialogue b pair past) ≤ cond some (invokes past + 1) (invokes past)
     go true some le e = subst (λ c. cond c (invokes (only dialogue past) + 1) (invokes (only dialogue past))
         ≤ cond some (invokes past + 1) (invokes past)) (sym e)

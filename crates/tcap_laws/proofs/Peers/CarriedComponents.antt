@@ -178,7 +178,8 @@ module _ {told_by : Event} {output : Output} (told : ToldFromOne told_by output)
   sent-on h Event.new_dialogue tells =
       absurd (tells-sends Nothing (reply h Event.new_dialogue) told.bytes (birth-sends h (birth_due h)) tells)
   sent-on h (Event.moment now) tells =
-      absurd (tells-sends Nothing (reply h (Event.moment now)) told.bytes (moment-sends h.pairs now (moment_fault now))
+      absurd (tells-sends Nothing (reply h (Event.moment now)) told.bytes (moment-sends h.start.idle_ms h.pairs now
+      (moment_fault now))
       tells)
   sent-on h (Event.received octets) tells =
       let sent = sent_for_bytes h octets told.bytes tells in

@@ -1,5 +1,5 @@
 -- The peer of a dialogue stays, and the four octets that name a dialogue are those of its identifier.
-use Rattle.std.proofs.Common.{◌≡◌, ℕ, zero, suc, ◌<◌, Bool, true, false, ◌==◌, List, [], ◌∷◌, ◌++◌, length, get_or, nat_lt, Option, Some, None, Result, Ok, Err, refl, sym, ap, subst, ◌∙◌, inl, inr, arith}
+use Rattle.std.proofs.Common.{◌≡◌, ℕ, zero, suc, ◌<◌, Bool, true, false, ◌==◌, List, [], ◌∷◌, ◌++◌, length, get_or, nat_lt, Option, Some, None, Result, Ok, Err, refl, sym, ap, subst, ◌∙◌, inl, inr, arith, ◌&&◌, if◌then◌else◌}
 use Rattle.std.specs.Int.{w32, from_be_bytes}
 use Rattle.std.specs.List.{AllByRecursion}
 use Rattle.std.proofs.lemmas.Bool.{cases_Bool, and_parts, eqb-true, ltb-true}
@@ -19,7 +19,7 @@ use Rattle.tcap_model.specs.Words.Event.{Event}
 use Rattle.tcap_model.specs.Histories.History.{History, Start}
 use Rattle.tcap_model.specs.Words.InRange.{are_octets}
 use Rattle.tcap_model.specs.Replies.Legal.{AreReplies}
-use Rattle.tcap_model.specs.Histories.Life.{Life, life, life_after, life_by_event, life_by_message, life_by_request, life_by_verdict, life_if_accepted, life_if_live, life_if_named, state_after_continue}
+use Rattle.tcap_model.specs.Histories.Life.{Life, life, life_after, life_by_event, life_by_message, life_by_request, life_by_verdict, life_if_accepted, life_if_live, life_if_named, state_after_continue, life_by_moment, touched}
 use Rattle.tcap_model.specs.Words.LocalId.{dialogue_named, local_id}
 use Rattle.tcap_model.specs.Histories.Names.{names}
 use Rattle.tcap_model.specs.Histories.Pair.{Past}
@@ -28,6 +28,7 @@ use Rattle.tcap_model.specs.Procedures.Refusals.{Situation, holds, faults_of}
 use Rattle.tcap_model.specs.Replies.Reply.{reply}
 use Rattle.tcap_model.specs.Words.Request.{Request, DialogueRequest}
 use Rattle.tcap_model.specs.Words.State.{State, peer_of, activated, is_live}
+use Rattle.tcap_model.specs.Words.Time.{is_idle}
 use Rattle.tcap_model.specs.Procedures.States.{is_fresh}
 use Rattle.tcap_laws.proofs.Receptions.NothingDue.{first_that-none}
 use Rattle.tcap_laws.proofs.Queues.QueuedComponents.{accepted-parts}
@@ -124,10 +125,19 @@ no-begin h dialogue peer s c lives e request accepted context info is =
     not-fresh (State.received known) f e = absurd cc
     not-fresh (State.active known) f e = absurd cc
 
-module _ (h : History) (dialogue : ℕ) (peer : List ℕ) (answer : Answer) where
+moment-has : (peer : List ℕ) (idle : Bool) (s : State) (c : Option (List ℕ)) → peer_of s ≡ Some peer
+    → HasPeer peer (life_by_moment idle s c)
+moment-has peer false s c e = e
+moment-has peer true s c e = go (is_live s)
+  where
+    go : (b : Bool) → HasPeer peer (if b then Life.over else Life.standing s c)
+    go true = tt
+    go false = e
+
+module _ (h : History) (dialogue : ℕ) (peer : List ℕ) (answer : Answer) (idle_ms last : ℕ) where
   event-has : (event : Event) → answer ≡ reply h event → (s : State) (c : Option (List ℕ))
       → life dialogue h.pairs ≡ Life.standing s c → names event dialogue ≡ true → peer_of s ≡ Some peer
-      → HasPeer peer (life_by_event s c event (is_accepted answer))
+      → HasPeer peer (life_by_event idle_ms last s c event (is_accepted answer))
   event-has Event.new_dialogue is s c lives named e = e
   event-has (Event.on_dialogue asked request) is s c lives named e =
       accepted-has peer (is_accepted answer) s c request
@@ -135,17 +145,19 @@ module _ (h : History) (dialogue : ℕ) (peer : List ℕ) (answer : Answer) wher
       (subst (λ (d : ℕ). is_accepted (reply h (Event.on_dialogue d request)) ≡ true) (eqb-true asked dialogue named)
       (sym (ap is_accepted is) ∙ accepted))) e
   event-has (Event.received bytes) is s c lives named e = live-has peer (is_live s) s c bytes e
-  event-has (Event.moment now) is s c lives named e = e
+  event-has (Event.moment now) is s c lives named e =
+      moment-has peer (is_accepted answer && is_idle idle_ms last now) s c e
 
   named-has : (event : Event) → answer ≡ reply h event → (s : State) (c : Option (List ℕ))
       → life dialogue h.pairs ≡ Life.standing s c → peer_of s ≡ Some peer → (named : Bool)
       → names event dialogue ≡ named → HasPeer peer
-      (life_if_named named s c (record { event = event; answer = answer }))
+      (life_if_named named last s c (record { event = event; answer = answer; idle_ms = idle_ms }))
   named-has event is s c lives e true named = event-has event is s c lives named e
   named-has event is s c lives e false named = e
 
   step-has : (event : Event) → answer ≡ reply h event → (before : Life) → life dialogue h.pairs ≡ before
-      → HasPeer peer before → HasPeer peer (life_after dialogue before (record { event = event; answer = answer }))
+      → HasPeer peer before → HasPeer peer
+      (life_after dialogue last before (record { event = event; answer = answer; idle_ms = idle_ms }))
   step-has event is Life.unborn lives has = absurd has
   step-has event is (Life.standing s c) lives has = named-has event is s c lives has (names event dialogue) refl
   step-has event is Life.over lives has = tt
@@ -154,7 +166,8 @@ pub peer-stays : (start : Start) (dialogue : ℕ) (peer : List ℕ) (later past 
     → HasPeer peer (life dialogue past) → HasPeer peer (life dialogue (later ++ past))
 peer-stays start dialogue peer [] past legal has = has
 peer-stays start dialogue peer (pair ∷ later) past legal has =
-    step-has (record { start = start; pairs = later ++ past }) dialogue peer pair.answer pair.event legal.1
+    step-has (record { start = start; pairs = later ++ past }) dialogue peer pair.answer pair.idle_ms
+    (touched dialogue (later ++ past)) pair.event legal.1
     (life dialogue (later ++ past)) refl (peer-stays start dialogue peer later past legal.2 has)
 
 -- ---- the octets of a destination

@@ -108,7 +108,8 @@ module _ (h : History) (bytes : List ℕ) (m : Message) (spelled : SpellsFrame m
   sent-as Event.new_dialogue tells =
       absurd (tells-sends Nothing (reply h Event.new_dialogue) bytes (birth-sends h (birth_due h)) tells)
   sent-as (Event.moment now) tells =
-      absurd (tells-sends Nothing (reply h (Event.moment now)) bytes (moment-sends h.pairs now (moment_fault now))
+      absurd (tells-sends Nothing (reply h (Event.moment now)) bytes (moment-sends h.start.idle_ms h.pairs now
+      (moment_fault now))
       tells)
   sent-as (Event.received octets) tells =
       let sent = sent_for_bytes h octets bytes tells in

@@ -1,18 +1,19 @@
 -- How a dialogue heard of its peer: by the Begin that gave birth to it, or by the first Continue.
-use Rattle.std.proofs.Common.{◌≡◌, ℕ, Bool, true, false, ◌⊎◌, List, [], ◌∷◌, Option, Some, Result, Ok, Err, refl, ap, inl, inr}
+use Rattle.std.proofs.Common.{◌≡◌, ℕ, Bool, true, false, ◌⊎◌, List, [], ◌∷◌, Option, Some, Result, Ok, Err, refl, ap, inl, inr, ◌&&◌, if◌then◌else◌}
 use Rattle.tcap_pdu.specs.declared.fault.FrameFault.{FrameFault}
 use Rattle.tcap_pdu.specs.FrameReading.{frame_at}
 use Rattle.tcap_pdu.specs.FrameSpelling.{Message}
 use Rattle.tcap_model.specs.Words.Answer.{Answer, is_accepted}
 use Rattle.tcap_model.specs.Histories.Birth.{is_birth_of}
 use Rattle.tcap_model.specs.Words.Event.{Event}
-use Rattle.tcap_model.specs.Histories.Life.{Life, life, life_at_birth, life_after, life_by_event, life_by_message, life_by_request, life_by_verdict, life_if_accepted, life_if_live, life_if_named, begun_life, state_after_continue}
+use Rattle.tcap_model.specs.Histories.Life.{Life, life, life_at_birth, life_after, life_by_event, life_by_message, life_by_request, life_by_verdict, life_if_accepted, life_if_live, life_if_named, begun_life, state_after_continue, life_by_moment, touched}
 use Rattle.tcap_model.specs.Histories.Names.{names}
 use Rattle.tcap_model.specs.Histories.Pair.{Pair, Past}
 use Rattle.tcap_model.specs.Statements.Places.{StandsIn}
 use Rattle.tcap_model.specs.Procedures.PortionRules.{PortionVerdict, portion_verdict}
 use Rattle.tcap_model.specs.Words.Request.{Request, ComponentRequest, DialogueRequest}
 use Rattle.tcap_model.specs.Words.State.{State, peer_of, activated, is_live}
+use Rattle.tcap_model.specs.Words.Time.{is_idle}
 
 -- ---- one pair
 
@@ -133,13 +134,24 @@ module _ (peer : List ℕ) where
   IsOrHears dialogue state context event birth =
       (peer_of state ≡ Some peer) ⊎ Hears dialogue peer (Life.standing state context) event birth
 
-  by-event : (dialogue : ℕ) (state : State) (context : Option (List ℕ)) (event : Event) (accepted birth : Bool)
-      → names event dialogue ≡ true → IsPeered peer (life_by_event state context event accepted)
+  by-moment : (idle : Bool) (state : State) (context : Option (List ℕ))
+      → IsPeered peer (life_by_moment idle state context) → peer_of state ≡ Some peer
+  by-moment false state context is = is
+  by-moment true state context is = go (is_live state) is
+    where
+      go : (b : Bool) → IsPeered peer (if b then Life.over else Life.standing state context)
+          → peer_of state ≡ Some peer
+      go true is = absurd is
+      go false is = is
+
+  by-event : (idle_ms last dialogue : ℕ) (state : State) (context : Option (List ℕ)) (event : Event)
+      (accepted birth : Bool)
+      → names event dialogue ≡ true → IsPeered peer (life_by_event idle_ms last state context event accepted)
       → IsOrHears dialogue state context event birth
-  by-event dialogue state context Event.new_dialogue accepted birth named is = inl is
-  by-event dialogue state context (Event.on_dialogue asked request) accepted birth named is =
+  by-event idle_ms last dialogue state context Event.new_dialogue accepted birth named is = inl is
+  by-event idle_ms last dialogue state context (Event.on_dialogue asked request) accepted birth named is =
       inl (if-accepted accepted state context request is)
-  by-event dialogue state context (Event.received bytes) accepted birth named is =
+  by-event idle_ms last dialogue state context (Event.received bytes) accepted birth named is =
       elim (if-live (is_live state) state context bytes is) [
         | inl known ↦ inl known
         | inr new ↦ inr (record {
@@ -149,26 +161,25 @@ module _ (peer : List ℕ) where
               inr (context, ap (λ (s : State). Life.standing s context) new.0, named, new.1);
         })
       ]
-  by-event dialogue state context (Event.moment now) accepted birth named is = inl is
+  by-event idle_ms last dialogue state context (Event.moment now) accepted birth named is =
+      inl (by-moment (accepted && is_idle idle_ms last now) state context is)
 
-  if-named : (dialogue : ℕ) (state : State) (context : Option (List ℕ)) (event : Event) (answer : Answer) (birth : Bool)
-      → (named : Bool) → names event dialogue ≡ named
-      → IsPeered peer (life_if_named named state context (record { event = event; answer = answer }))
+  if-named : (idle_ms last dialogue : ℕ) (state : State) (context : Option (List ℕ)) (event : Event) (answer : Answer)
+      (birth : Bool) → (named : Bool) → names event dialogue ≡ named
+      → IsPeered peer
+      (life_if_named named last state context (record { event = event; answer = answer; idle_ms = idle_ms }))
       → IsOrHears dialogue state context event birth
-  if-named dialogue state context event answer birth true named is =
-      by-event dialogue state context event (is_accepted answer) birth named is
-  if-named dialogue state context event answer birth false named is = inl is
+  if-named idle_ms last dialogue state context event answer birth true named is =
+      by-event idle_ms last dialogue state context event (is_accepted answer) birth named is
+  if-named idle_ms last dialogue state context event answer birth false named is = inl is
 
-  after : (dialogue : ℕ) (event : Event) (answer : Answer) (before : Life)
-      → IsPeered peer (life_after dialogue before (record { event = event; answer = answer }))
-      → IsPeered peer before ⊎ Hears dialogue peer before event
-      (is_birth_of dialogue (record { event = event; answer = answer }))
-  after dialogue event answer Life.unborn is =
-      inr (at-birth dialogue event (is_birth_of dialogue (record { event = event; answer = answer })) is)
-  after dialogue event answer (Life.standing state context) is =
-      if-named dialogue state context event answer (is_birth_of dialogue (record { event = event; answer = answer }))
-      (names event dialogue) refl is
-  after dialogue event answer Life.over is = absurd is
+  after : (last dialogue : ℕ) (pair : Pair) (before : Life) → IsPeered peer (life_after dialogue last before pair)
+      → IsPeered peer before ⊎ Hears dialogue peer before pair.event (is_birth_of dialogue pair)
+  after last dialogue pair Life.unborn is = inr (at-birth dialogue pair.event (is_birth_of dialogue pair) is)
+  after last dialogue pair (Life.standing state context) is =
+      if-named pair.idle_ms last dialogue state context pair.event pair.answer (is_birth_of dialogue pair)
+      (names pair.event dialogue) refl is
+  after last dialogue pair Life.over is = absurd is
 
 -- ---- the whole life
 
@@ -191,7 +202,7 @@ heard-later dialogue peer pair past heard = record {
 pub peer-heard : (dialogue : ℕ) (peer : List ℕ) (past : Past) → IsPeered peer (life dialogue past)
     → HeardOf dialogue peer past
 peer-heard dialogue peer [] is = absurd is
-peer-heard dialogue peer (pair ∷ past) is = elim (after peer dialogue pair.event pair.answer (life dialogue past) is) [
+peer-heard dialogue peer (pair ∷ past) is = elim (after peer (touched dialogue past) dialogue pair (life dialogue past) is) [
   | inl known ↦ heard-later dialogue peer pair past (peer-heard dialogue peer past known)
   | inr hears ↦ record { pair = pair; before = past; stands = record { later = []; is_past = refl }; hears = hears }
 ]

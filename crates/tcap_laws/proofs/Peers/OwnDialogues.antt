@@ -9,7 +9,7 @@ use Rattle.tcap_model.specs.Replies.Due.{birth_due}
 use Rattle.tcap_model.specs.Words.Event.{Event}
 use Rattle.tcap_model.specs.Histories.History.{Start}
 use Rattle.tcap_model.specs.Replies.Legal.{AreReplies}
-use Rattle.tcap_model.specs.Histories.Life.{Life, life, life_at_birth, life_after, born_life, begun_life}
+use Rattle.tcap_model.specs.Histories.Life.{Life, life, life_at_birth, life_after, born_life, begun_life, touched}
 use Rattle.tcap_model.specs.Words.LocalId.{is_that}
 use Rattle.tcap_model.specs.Statements.Net.{Engine, side, Net, IsNet}
 use Rattle.tcap_model.specs.Words.Answer.{Answer}
@@ -54,7 +54,7 @@ module _ (start : Start) (dialogue : ℕ) (pair : Pair) (past : Past) (legal : A
       unborn-life dialogue past (beyond-unborn start past legal.2 dialogue (omega (arith, next)))
 
   pub birth-life : life dialogue (pair ∷ past) ≡ born_life pair.event
-  birth-life = ap (λ (l : Life). life_after dialogue l pair) birth-unborn
+  birth-life = ap (λ (l : Life). life_after dialogue (touched dialogue past) l pair) birth-unborn
       ∙ ap (λ (b : Bool). life_at_birth b pair.event) birth
 
   pub birth-begun : (bytes : List ℕ) → pair.event ≡ Event.received bytes → IsBegun dialogue bytes pair past

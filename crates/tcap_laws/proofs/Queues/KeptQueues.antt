@@ -103,9 +103,9 @@ module _ (P : Queued → Type 0) where
 
 -- ---- the Rejects of a message
 
-module _ (dialogue : ℕ) (bytes : List ℕ) (answer : Answer) (past : Past) where
+module _ (dialogue : ℕ) (bytes : List ℕ) (answer : Answer) (idle_ms : ℕ) (past : Past) where
   abbrev here : Pair
-  here = record { event = Event.received bytes; answer = answer }
+  here = record { event = Event.received bytes; answer = answer; idle_ms = idle_ms }
 
   one-kept : (told : Output) (c : ComponentParts) → Tells answer told → IsFormed dialogue told (Some c)
       → IsKept dialogue (here ∷ past) (queued None c)

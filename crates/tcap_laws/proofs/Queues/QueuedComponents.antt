@@ -46,9 +46,13 @@ accepted-good h dialogue request is accepted =
     request-good (situation_of h dialogue (standing_of dialogue h.pairs parts.0 parts.1) request) request (omega arith)
     is none
 
-module _ (dialogue : ℕ) (request : Request) (answer : Answer) (past : Past) (accepted : is_accepted answer ≡ true) where
+abbrev pair_of : Event → Answer → ℕ → Pair
+pair_of event answer idle_ms = record { event = event; answer = answer; idle_ms = idle_ms }
+
+module _ (dialogue : ℕ) (request : Request) (answer : Answer) (idle_ms : ℕ) (past : Past)
+    (accepted : is_accepted answer ≡ true) where
   abbrev here : Pair
-  here = record { event = Event.on_dialogue dialogue request; answer = answer }
+  here = pair_of (Event.on_dialogue dialogue request) answer idle_ms
 
   abbrev Keeps : List Queued → Type 0
   Keeps queue = AllKept dialogue (here ∷ past) queue
@@ -84,53 +88,49 @@ cancelled P Answer.done queue kept = kept
 cancelled P (Answer.outputs outputs) queue kept = kept
 cancelled P (Answer.refused fault) queue kept = kept
 
-by-request : (dialogue : ℕ) (request : Request) (answer : Answer) (past : Past) (queue : List Queued)
+by-request : (dialogue : ℕ) (request : Request) (answer : Answer) (idle_ms : ℕ) (past : Past) (queue : List Queued)
     → is_accepted answer ≡ true → IfGood (component_of request) →
-    AllKept dialogue (record { event = Event.on_dialogue dialogue request; answer = answer } ∷ past) queue
-    → AllKept dialogue (record { event = Event.on_dialogue dialogue request; answer = answer } ∷ past)
+    AllKept dialogue (pair_of (Event.on_dialogue dialogue request) answer idle_ms ∷ past) queue
+    → AllKept dialogue (pair_of (Event.on_dialogue dialogue request) answer idle_ms ∷ past)
     (queue_by_request queue request answer)
-by-request dialogue (Request.component (ComponentRequest.invoke id class code parameter linked timeout)) answer past
+by-request dialogue (Request.component (ComponentRequest.invoke id class code parameter linked timeout)) answer idle_ms past
     queue accepted good kept =
     let r : Request = Request.component (ComponentRequest.invoke id class code parameter linked timeout) in
-    appended dialogue r answer past accepted queue (invoking_of (number_in answer) r) (invoke id linked code parameter)
+    appended dialogue r answer idle_ms past accepted queue (invoking_of (number_in answer) r) (invoke id linked code parameter)
     refl good kept
-by-request dialogue (Request.component (ComponentRequest.result_last id body)) answer past queue accepted good kept =
-    appended dialogue (Request.component (ComponentRequest.result_last id body)) answer past accepted queue None
+by-request dialogue (Request.component (ComponentRequest.result_last id body)) answer idle_ms past queue accepted good kept =
+    appended dialogue (Request.component (ComponentRequest.result_last id body)) answer idle_ms past accepted queue None
     (result_last id body) refl good kept
-by-request dialogue (Request.component (ComponentRequest.result_more id body)) answer past queue accepted good kept =
-    appended dialogue (Request.component (ComponentRequest.result_more id body)) answer past accepted queue None
+by-request dialogue (Request.component (ComponentRequest.result_more id body)) answer idle_ms past queue accepted good kept =
+    appended dialogue (Request.component (ComponentRequest.result_more id body)) answer idle_ms past accepted queue None
     (result_more id body) refl good kept
-by-request dialogue (Request.component (ComponentRequest.error_back id code parameter)) answer past queue accepted good
-    kept = appended dialogue (Request.component (ComponentRequest.error_back id code parameter)) answer past accepted
+by-request dialogue (Request.component (ComponentRequest.error_back id code parameter)) answer idle_ms past queue accepted good
+    kept = appended dialogue (Request.component (ComponentRequest.error_back id code parameter)) answer idle_ms past accepted
     queue None (error_back id code parameter) refl good kept
-by-request dialogue (Request.component (ComponentRequest.u_reject id problem)) answer past queue accepted good kept =
-    appended dialogue (Request.component (ComponentRequest.u_reject id problem)) answer past accepted queue None
+by-request dialogue (Request.component (ComponentRequest.u_reject id problem)) answer idle_ms past queue accepted good kept =
+    appended dialogue (Request.component (ComponentRequest.u_reject id problem)) answer idle_ms past accepted queue None
     (reject_back id problem) refl good kept
-by-request dialogue (Request.component (ComponentRequest.u_cancel id)) answer past queue accepted good kept =
-    cancelled (IsKept dialogue (record {
-      event =
-          Event.on_dialogue dialogue (Request.component (ComponentRequest.u_cancel id));
-      answer = answer;
-    } ∷ past)) answer
-    queue kept
-by-request dialogue (Request.dialogue (DialogueRequest.uni context info)) answer past queue accepted good kept = tt
-by-request dialogue (Request.dialogue (DialogueRequest.begin context info)) answer past queue accepted good kept = tt
-by-request dialogue (Request.dialogue (DialogueRequest.go_on context info)) answer past queue accepted good kept = tt
-by-request dialogue (Request.dialogue (DialogueRequest.finish Ending.basic context info)) answer past queue accepted
+by-request dialogue (Request.component (ComponentRequest.u_cancel id)) answer idle_ms past queue accepted good kept =
+    cancelled (IsKept dialogue (pair_of (Event.on_dialogue dialogue (Request.component (ComponentRequest.u_cancel id)))
+    answer idle_ms ∷ past)) answer queue kept
+by-request dialogue (Request.dialogue (DialogueRequest.uni context info)) answer idle_ms past queue accepted good kept = tt
+by-request dialogue (Request.dialogue (DialogueRequest.begin context info)) answer idle_ms past queue accepted good kept = tt
+by-request dialogue (Request.dialogue (DialogueRequest.go_on context info)) answer idle_ms past queue accepted good kept = tt
+by-request dialogue (Request.dialogue (DialogueRequest.finish Ending.basic context info)) answer idle_ms past queue accepted
     good kept = tt
-by-request dialogue (Request.dialogue (DialogueRequest.finish Ending.prearranged context info)) answer past queue
+by-request dialogue (Request.dialogue (DialogueRequest.finish Ending.prearranged context info)) answer idle_ms past queue
     accepted good kept = kept
-by-request dialogue (Request.dialogue (DialogueRequest.u_abort why info)) answer past queue accepted good kept = kept
+by-request dialogue (Request.dialogue (DialogueRequest.u_abort why info)) answer idle_ms past queue accepted good kept = kept
 
-if-accepted : (h : History) (dialogue : ℕ) (request : Request) (answer : Answer) (queue : List Queued)
+if-accepted : (h : History) (dialogue : ℕ) (request : Request) (answer : Answer) (idle_ms : ℕ) (queue : List Queued)
     → IsTrue (is_request request) → answer ≡ reply h (Event.on_dialogue dialogue request) →
-    AllKept dialogue (record { event = Event.on_dialogue dialogue request; answer = answer } ∷ h.pairs) queue
+    AllKept dialogue (pair_of (Event.on_dialogue dialogue request) answer idle_ms ∷ h.pairs) queue
     → (accepted : Bool) → is_accepted answer ≡ accepted →
-    AllKept dialogue (record { event = Event.on_dialogue dialogue request; answer = answer } ∷ h.pairs)
+    AllKept dialogue (pair_of (Event.on_dialogue dialogue request) answer idle_ms ∷ h.pairs)
     (queue_if_accepted accepted queue request answer)
-if-accepted h dialogue request answer queue is is_reply kept false e = kept
-if-accepted h dialogue request answer queue is is_reply kept true e =
-    by-request dialogue request answer h.pairs queue e
+if-accepted h dialogue request answer idle_ms queue is is_reply kept false e = kept
+if-accepted h dialogue request answer idle_ms queue is is_reply kept true e =
+    by-request dialogue request answer idle_ms h.pairs queue e
     (accepted-good h dialogue request is (subst (λ (a : Answer). is_accepted a ≡ true) is_reply e)) kept
 
 -- ---- one pair
@@ -140,32 +140,32 @@ either-kept : (P : Queued → Type 0) (test : Bool) (x y : List Queued) → (tes
 either-kept P true x y p q = p refl
 either-kept P false x y p q = q
 
-after-pair : (h : History) (dialogue : ℕ) (event : Event) (answer : Answer) → IsTrue (is_in_range event)
+after-pair : (h : History) (dialogue : ℕ) (event : Event) (answer : Answer) (idle_ms : ℕ) → IsTrue (is_in_range event)
     → answer ≡ reply h event → AllKept dialogue h.pairs (queue dialogue h.pairs) →
-    AllKept dialogue (record { event = event; answer = answer } ∷ h.pairs)
-    (queue_after dialogue h.pairs (queue dialogue h.pairs) (record { event = event; answer = answer }))
-after-pair h dialogue Event.new_dialogue answer range is kept =
-    let here : Pair = record { event = Event.new_dialogue; answer = answer } in
+    AllKept dialogue (pair_of event answer idle_ms ∷ h.pairs)
+    (queue_after dialogue h.pairs (queue dialogue h.pairs) (pair_of event answer idle_ms))
+after-pair h dialogue Event.new_dialogue answer idle_ms range is kept =
+    let here : Pair = pair_of Event.new_dialogue answer idle_ms in
     let waits = queue dialogue h.pairs in
     either-kept (IsKept dialogue (here ∷ h.pairs)) (is_birth_of dialogue here) [] waits (λ birth. tt)
     (kept-later dialogue here h.pairs waits kept)
-after-pair h dialogue (Event.moment now) answer range is kept =
-    let here : Pair = record { event = Event.moment now; answer = answer } in
+after-pair h dialogue (Event.moment now) answer idle_ms range is kept =
+    let here : Pair = pair_of (Event.moment now) answer idle_ms in
     kept-later dialogue here h.pairs (queue dialogue h.pairs) kept
-after-pair h dialogue (Event.received bytes) answer range is kept =
-    let here : Pair = record { event = Event.received bytes; answer = answer } in
+after-pair h dialogue (Event.received bytes) answer idle_ms range is kept =
+    let here : Pair = pair_of (Event.received bytes) answer idle_ms in
     let waits = queue dialogue h.pairs in
     let before = kept-later dialogue here h.pairs waits kept in
     either-kept (IsKept dialogue (here ∷ h.pairs)) (is_birth_of dialogue here)
     (queue_born dialogue h.pairs (Event.received bytes))
     (if names (Event.received bytes) dialogue then queue_by_event dialogue h.pairs waits (Event.received bytes)
     answer else waits)
-    (λ birth. born-queue h dialogue bytes answer is birth)
+    (λ birth. born-queue h dialogue bytes answer idle_ms is birth)
     (either-kept (IsKept dialogue (here ∷ h.pairs)) (names (Event.received bytes) dialogue)
     (queue_by_event dialogue h.pairs waits (Event.received bytes) answer) waits
-    (λ named. named-queue h dialogue bytes answer is waits named before (life dialogue h.pairs) refl) before)
-after-pair h dialogue (Event.on_dialogue asked request) answer range is kept =
-    let here : Pair = record { event = Event.on_dialogue asked request; answer = answer } in
+    (λ named. named-queue h dialogue bytes answer idle_ms is waits named before (life dialogue h.pairs) refl) before)
+after-pair h dialogue (Event.on_dialogue asked request) answer idle_ms range is kept =
+    let here : Pair = pair_of (Event.on_dialogue asked request) answer idle_ms in
     let waits = queue dialogue h.pairs in
     let before = kept-later dialogue here h.pairs waits kept in
     either-kept (IsKept dialogue (here ∷ h.pairs)) (asked == dialogue)
@@ -173,7 +173,7 @@ after-pair h dialogue (Event.on_dialogue asked request) answer range is kept =
     (λ same. subst (λ (d : ℕ). AllKept d (here ∷ h.pairs) waits
     → AllKept d (here ∷ h.pairs) (queue_if_accepted (is_accepted answer) waits request answer))
     (eqb-true asked dialogue same)
-    (λ all. if-accepted h asked request answer waits (and_parts (is_short asked) (is_request request) range).1 is all
+    (λ all. if-accepted h asked request answer idle_ms waits (and_parts (is_short asked) (is_request request) range).1 is all
     (is_accepted answer) refl) before)
     before
 
@@ -181,5 +181,6 @@ pub queue-kept : (start : Start) (dialogue : ℕ) (past : Past) → AreReplies s
     → AllKept dialogue past (queue dialogue past)
 queue-kept start dialogue [] legal = tt
 queue-kept start dialogue (pair ∷ past) legal =
-    after-pair (record { start = start; pairs = past }) dialogue pair.event pair.answer legal.0 legal.1
+    after-pair (record { start = start; pairs = past }) dialogue pair.event pair.answer pair.idle_ms
+    legal.0.in_range legal.1
     (queue-kept start dialogue past legal.2)

@@ -31,10 +31,10 @@ named-is : (dialogue : ℕ) (named : Option ℕ) → is_that dialogue named ≡ 
 named-is dialogue None e = absurd cc
 named-is dialogue (Some named) e = ap (λ (d : ℕ). Some d) (eqb-true named dialogue e)
 
-module _ (h : History) (dialogue : ℕ) (bytes : List ℕ) (answer : Answer)
+module _ (h : History) (dialogue : ℕ) (bytes : List ℕ) (answer : Answer) (idle_ms : ℕ)
     (is_reply : answer ≡ reply h (Event.received bytes)) where
   abbrev here : Pair
-  here = record { event = Event.received bytes; answer = answer }
+  here = record { event = Event.received bytes; answer = answer; idle_ms = idle_ms }
 
   abbrev live : ℕ → Bool
   live d = live_in (life d h.pairs)
@@ -52,7 +52,7 @@ module _ (h : History) (dialogue : ℕ) (bytes : List ℕ) (answer : Answer)
   told-keeps first components queue is kept =
       let hs = handled_in dialogue h.pairs components in
       queue_each-each (IsKept dialogue (here ∷ h.pairs)) queue_limit queue (rejects_of hs) kept
-      (rejects-kept dialogue bytes answer h.pairs hs (first ∷ []) []
+      (rejects-kept dialogue bytes answer idle_ms h.pairs hs (first ∷ []) []
       (is ∙ ap (λ (w : List Output). Answer.outputs (first ∷ w)) (sym (append-nil (told_of hs))))
       (handled_in-formed dialogue h.pairs components))
 

@@ -145,7 +145,7 @@ module _ (h : History) (legal : AreReplies h.start h.pairs) (bytes : List ℕ) (
   from-event Event.new_dialogue tells =
       absurd (tells-sends Nothing (reply h Event.new_dialogue) bytes (birth-sends h (birth_due h)) tells)
   from-event (Event.moment now) tells =
-      absurd (tells-sends Nothing (reply h (Event.moment now)) bytes (moment-sends h.pairs now (moment_fault now))
+      absurd (tells-sends Nothing (reply h (Event.moment now)) bytes (moment-sends h.start.idle_ms h.pairs now (moment_fault now))
       tells)
   from-event (Event.received octets) tells =
       let sent = sent_for_bytes h octets bytes tells in

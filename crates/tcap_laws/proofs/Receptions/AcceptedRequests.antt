@@ -71,37 +71,38 @@ numbered (Answer.given_up m) n e = absurd cc
 numbered (Answer.outputs outputs) n e = absurd cc
 numbered (Answer.refused fault) n e = absurd cc
 
-abbrev requested_pair : ℕ → Request → Answer → Pair
-requested_pair dialogue request answer = record { event = Event.on_dialogue dialogue request; answer = answer }
+abbrev requested_pair : ℕ → Request → Answer → ℕ → Pair
+requested_pair dialogue request answer idle_ms =
+    record { event = Event.on_dialogue dialogue request; answer = answer; idle_ms = idle_ms }
 
-invoked-under : (dialogue : ℕ) (request : Request) (answer : Answer) (i : Invocation) (o : Option ℕ)
+invoked-under : (dialogue : ℕ) (request : Request) (answer : Answer) (idle_ms : ℕ) (i : Invocation) (o : Option ℕ)
     → number_of answer ≡ o → invoked_under dialogue request o ≡ Some i
-    → IsInvoke (requested_pair dialogue request answer) i
-invoked-under dialogue request answer i None q e = absurd cc
-invoked-under dialogue (Request.component (ComponentRequest.invoke id class code parameter linked timeout)) answer i
-    (Some n) q e =
+    → IsInvoke (requested_pair dialogue request answer idle_ms) i
+invoked-under dialogue request answer idle_ms i None q e = absurd cc
+invoked-under dialogue (Request.component (ComponentRequest.invoke id class code parameter linked timeout)) answer
+    idle_ms i (Some n) q e =
     let same : record { number = n; dialogue = dialogue; id = id; class = class; timeout = timeout } ≡ i = cc in
     subst (λ (i : Invocation). IsInvoke (requested_pair dialogue
-    (Request.component (ComponentRequest.invoke id class code parameter linked timeout)) answer) i) same
+    (Request.component (ComponentRequest.invoke id class code parameter linked timeout)) answer idle_ms) i) same
     (record { code = code; parameter = parameter; linked = linked; event = refl; answer = numbered answer n q })
-invoked-under dialogue (Request.component (ComponentRequest.result_last id body)) answer i (Some n) q e = absurd cc
-invoked-under dialogue (Request.component (ComponentRequest.result_more id body)) answer i (Some n) q e = absurd cc
-invoked-under dialogue (Request.component (ComponentRequest.error_back id code parameter)) answer i (Some n) q e =
+invoked-under dialogue (Request.component (ComponentRequest.result_last id body)) answer idle_ms i (Some n) q e = absurd cc
+invoked-under dialogue (Request.component (ComponentRequest.result_more id body)) answer idle_ms i (Some n) q e = absurd cc
+invoked-under dialogue (Request.component (ComponentRequest.error_back id code parameter)) answer idle_ms i (Some n) q e =
     absurd cc
-invoked-under dialogue (Request.component (ComponentRequest.u_reject id problem)) answer i (Some n) q e = absurd cc
-invoked-under dialogue (Request.component (ComponentRequest.u_cancel id)) answer i (Some n) q e = absurd cc
-invoked-under dialogue (Request.dialogue asked) answer i (Some n) q e = absurd cc
+invoked-under dialogue (Request.component (ComponentRequest.u_reject id problem)) answer idle_ms i (Some n) q e = absurd cc
+invoked-under dialogue (Request.component (ComponentRequest.u_cancel id)) answer idle_ms i (Some n) q e = absurd cc
+invoked-under dialogue (Request.dialogue asked) answer idle_ms i (Some n) q e = absurd cc
 
-invoked-of : (event : Event) (answer : Answer) (i : Invocation) → invoked_of event answer ≡ Some i
-    → IsInvoke (record { event = event; answer = answer }) i
-invoked-of Event.new_dialogue answer i e = absurd cc
-invoked-of (Event.on_dialogue dialogue request) answer i e =
-    invoked-under dialogue request answer i (number_of answer) refl e
-invoked-of (Event.received bytes) answer i e = absurd cc
-invoked-of (Event.moment now) answer i e = absurd cc
+invoked-of : (event : Event) (answer : Answer) (idle_ms : ℕ) (i : Invocation) → invoked_of event answer ≡ Some i
+    → IsInvoke (record { event = event; answer = answer; idle_ms = idle_ms }) i
+invoked-of Event.new_dialogue answer idle_ms i e = absurd cc
+invoked-of (Event.on_dialogue dialogue request) answer idle_ms i e =
+    invoked-under dialogue request answer idle_ms i (number_of answer) refl e
+invoked-of (Event.received bytes) answer idle_ms i e = absurd cc
+invoked-of (Event.moment now) answer idle_ms i e = absurd cc
 
 pub invoke-made : (pair : Pair) (i : Invocation) → invoked_by pair ≡ Some i → IsInvoke pair i
-invoke-made pair i e = invoked-of pair.event pair.answer i e
+invoke-made pair i e = invoked-of pair.event pair.answer pair.idle_ms i e
 
 -- ---- its identifier and its timeout
 

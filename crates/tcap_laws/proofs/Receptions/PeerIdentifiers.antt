@@ -1,5 +1,5 @@
 -- The peer's identifier that a dialogue keeps has one to four octets.
-use Rattle.std.proofs.Common.{◌≡◌, ℕ, Bool, true, false, List, [], ◌∷◌, Option, Result, Ok, Err, refl}
+use Rattle.std.proofs.Common.{◌≡◌, ℕ, Bool, true, false, ◌&&◌, if◌then◌else◌, List, [], ◌∷◌, Option, Result, Ok, Err, refl}
 use Rattle.tcap_pdu.specs.declared.fault.FrameFault.{FrameFault}
 use Rattle.tcap_pdu.specs.FrameReading.{frame_at}
 use Rattle.tcap_pdu.specs.FrameSpelling.{Message}
@@ -7,12 +7,13 @@ use Rattle.tcap_pdu.specs.TransId.{IsTransId}
 use Rattle.tcap_model.specs.Words.Answer.{is_accepted}
 use Rattle.tcap_model.specs.Histories.Birth.{is_birth_of}
 use Rattle.tcap_model.specs.Words.Event.{Event}
-use Rattle.tcap_model.specs.Histories.Life.{Life, begun_life, born_life, life_at_birth, life_by_request, life_if_accepted, state_after_continue, life_by_verdict, life_by_message, life_if_live, life_by_event, life_if_named, life_after, life}
+use Rattle.tcap_model.specs.Histories.Life.{Life, begun_life, born_life, life_at_birth, life_by_request, life_if_accepted, state_after_continue, life_by_verdict, life_by_message, life_if_live, life_by_moment, life_by_event, life_if_named, life_after, life, touched}
 use Rattle.tcap_model.specs.Histories.Names.{names}
 use Rattle.tcap_model.specs.Histories.Pair.{Pair, Past}
 use Rattle.tcap_model.specs.Procedures.PortionRules.{PortionVerdict, portion_verdict}
 use Rattle.tcap_model.specs.Words.Request.{Request, DialogueRequest}
 use Rattle.tcap_model.specs.Words.State.{State, is_live, activated, peer_by}
+use Rattle.tcap_model.specs.Words.Time.{is_idle}
 use Rattle.tcap_laws.proofs.Receptions.SoundReceptions.{read-ids}
 
 -- the peer's identifier, once it is known, is one
@@ -94,27 +95,42 @@ live-id : (live : Bool) (state : State) (context : Option (List ℕ)) (bytes : L
 live-id true state context bytes peer = message-id bytes state context (frame_at bytes) refl peer
 live-id false state context bytes peer = peer
 
-event-id : (state : State) (context : Option (List ℕ)) (event : Event) (accepted : Bool) → StateId state
-    → LifeId (life_by_event state context event accepted)
-event-id state context Event.new_dialogue accepted peer = peer
-event-id state context (Event.on_dialogue dialogue request) accepted peer =
+moment-id : (idle : Bool) (state : State) (context : Option (List ℕ)) → StateId state
+    → LifeId (life_by_moment idle state context)
+moment-id false state context peer = peer
+moment-id true state context peer = go (is_live state)
+  where
+    go : (live : Bool) → LifeId (if live then Life.over else Life.standing state context)
+    go true = tt
+    go false = peer
+
+event-id : (idle_ms last : ℕ) (state : State) (context : Option (List ℕ)) (event : Event) (accepted : Bool)
+    → StateId state → LifeId (life_by_event idle_ms last state context event accepted)
+event-id idle_ms last state context Event.new_dialogue accepted peer = peer
+event-id idle_ms last state context (Event.on_dialogue dialogue request) accepted peer =
     accepted-id accepted state context request peer
-event-id state context (Event.received bytes) accepted peer = live-id (is_live state) state context bytes peer
-event-id state context (Event.moment now) accepted peer = peer
+event-id idle_ms last state context (Event.received bytes) accepted peer =
+    live-id (is_live state) state context bytes peer
+event-id idle_ms last state context (Event.moment now) accepted peer =
+    moment-id (accepted && is_idle idle_ms last now) state context peer
 
-named-id : (named : Bool) (state : State) (context : Option (List ℕ)) (pair : Pair) → StateId state
-    → LifeId (life_if_named named state context pair)
-named-id true state context pair peer = event-id state context pair.event (is_accepted pair.answer) peer
-named-id false state context pair peer = peer
+named-id : (named : Bool) (last : ℕ) (state : State) (context : Option (List ℕ)) (pair : Pair) → StateId state
+    → LifeId (life_if_named named last state context pair)
+named-id true last state context pair peer =
+    event-id pair.idle_ms last state context pair.event (is_accepted pair.answer) peer
+named-id false last state context pair peer = peer
 
-after-id : (dialogue : ℕ) (before : Life) (pair : Pair) → LifeId before → LifeId (life_after dialogue before pair)
-after-id dialogue Life.unborn pair peer = birth-id (is_birth_of dialogue pair) pair.event
-after-id dialogue (Life.standing state context) pair peer = named-id (names pair.event dialogue) state context pair peer
-after-id dialogue Life.over pair peer = tt
+after-id : (dialogue last : ℕ) (before : Life) (pair : Pair) → LifeId before
+    → LifeId (life_after dialogue last before pair)
+after-id dialogue last Life.unborn pair peer = birth-id (is_birth_of dialogue pair) pair.event
+after-id dialogue last (Life.standing state context) pair peer =
+    named-id (names pair.event dialogue) last state context pair peer
+after-id dialogue last Life.over pair peer = tt
 
 pub life-id : (dialogue : ℕ) (past : Past) → LifeId (life dialogue past)
 life-id dialogue [] = tt
-life-id dialogue (pair ∷ past) = after-id dialogue (life dialogue past) pair (life-id dialogue past)
+life-id dialogue (pair ∷ past) =
+    after-id dialogue (touched dialogue past) (life dialogue past) pair (life-id dialogue past)
 
 pub peer_by-id : (state : State) (origin : List ℕ) → StateId state → IsTransId origin → IsTransId (peer_by state origin)
 peer_by-id State.fresh origin peer id = id

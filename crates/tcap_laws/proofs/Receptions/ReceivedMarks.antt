@@ -15,7 +15,7 @@ use Rattle.tcap_component.proofs.CallerLemmas.{first_fault_again, first_fault_is
 use Rattle.tcap_model.specs.Words.Answer.{Answer}
 use Rattle.tcap_model.specs.Procedures.Destination.{destination, destination_by}
 use Rattle.tcap_model.specs.Words.Event.{Event}
-use Rattle.tcap_model.specs.Histories.Life.{Life, life_after, life_by_message}
+use Rattle.tcap_model.specs.Histories.Life.{Life, life_after, life_by_message, touched}
 use Rattle.tcap_model.specs.Invocations.Marks.{Mark, marks_of_component, component_marks, end_if_over, if_normal, marks_of_message, marks}
 use Rattle.tcap_model.specs.Histories.Names.{is_destined, named_within, names}
 use Rattle.tcap_model.specs.Histories.Pair.{Pair, Past}
@@ -68,10 +68,11 @@ module _ (dialogue : ℕ) (id : ℤ) (state : State) (context : Option (List ℕ
   named = named-by_grammar dialogue bytes reaches.names_it
 
   -- the life after the bytes
-  after-is : (answer : Answer) (read : Result Message FrameFault) → frame_at bytes ≡ read
-      → life_after dialogue (Life.standing state context) (record { event = Event.received bytes; answer = answer })
+  after-is : (answer : Answer) (idle_ms last : ℕ) (read : Result Message FrameFault) → frame_at bytes ≡ read
+      → life_after dialogue last (Life.standing state context)
+      (record { event = Event.received bytes; answer = answer; idle_ms = idle_ms })
       ≡ life_by_message state context read
-  after-is answer read e = rw (named, reaches.is_live, e) refl
+  after-is answer idle_ms last read e = rw (named, reaches.is_live, e) refl
 
   marks-read : (read : Result Message FrameFault) → frame_at bytes ≡ read
       → marks dialogue id pair past ≡ noted_at past
@@ -79,7 +80,8 @@ module _ (dialogue : ℕ) (id : ℤ) (state : State) (context : Option (List ℕ
       (end_if_over (Life.standing state context) (life_by_message state context read)))
   marks-read read e = rw (reaches.is_life, reaches.is_event, named, reaches.is_live, e)
       (ap (λ (after : Life). noted_at past (unwrap_or (marks_of_message id state context read)
-      (end_if_over (Life.standing state context) after))) (after-is pair.answer read e))
+      (end_if_over (Life.standing state context) after)))
+      (after-is pair.answer pair.idle_ms (touched dialogue past) read e))
 
   -- by the message
   read-normal : (portion : Option (List ℕ)) (made other : List Mark) → IsNormal state context portion

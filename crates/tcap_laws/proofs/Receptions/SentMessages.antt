@@ -24,7 +24,7 @@ use Rattle.tcap_model.specs.Replies.Queue.{handled_in}
 use Rattle.tcap_model.specs.Procedures.Reception.{Reception, reception}
 use Rattle.tcap_model.specs.Procedures.Refusals.{due_on}
 use Rattle.tcap_model.specs.Words.KeyOrder.{in_order}
-use Rattle.tcap_model.specs.Replies.Reply.{reply, birth_answer, given_up_answer, accepted_answer, request_answer, continue_outputs, end_outputs, message_outputs, taken_outputs, reception_outputs, ended_in, moment_answer, lapses, lapse_key, lapsing_at}
+use Rattle.tcap_model.specs.Replies.Reply.{reply, birth_answer, given_up_answer, accepted_answer, request_answer, continue_outputs, end_outputs, message_outputs, taken_outputs, reception_outputs, ended_in, moment_answer, moment_outputs}
 use Rattle.tcap_model.specs.Words.Request.{Request, ComponentRequest, DialogueRequest}
 use Rattle.tcap_model.specs.Procedures.RequestMessage.{message_of}
 use Rattle.tcap_model.specs.Statements.SentMessage.{IsMessage, SentForRequest, SentForBytes}
@@ -35,7 +35,7 @@ use Rattle.tcap_laws.proofs.Receptions.PeerIdentifiers.{StateId, LifeId, life-id
 use Rattle.tcap_laws.proofs.Receptions.SentRequests.{IfGoes, request-goes}
 use Rattle.tcap_laws.proofs.Receptions.ProviderAborts.{Sends, goes-spelled, abnormal-sends}
 use Rattle.tcap_laws.proofs.Receptions.SoundReceptions.{IfSends, IsSound, read-ids, reception-sound}
-use Rattle.tcap_laws.proofs.Receptions.ToldOutputKinds.{IsTold, AreTold, components-told, uni-told, ended-told, abort-told, lapses-told}
+use Rattle.tcap_laws.proofs.Receptions.ToldOutputKinds.{IsTold, AreTold, components-told, uni-told, ended-told, abort-told, moment-told}
 use Rattle.tcap_laws.proofs.ListLemmas.{each-append}
 
 -- what is sent has this property
@@ -261,15 +261,15 @@ pub birth-sends : (h : History) (fault : Option Fault) → AnswerSends Nothing (
 birth-sends h (Some f) = tt
 birth-sends h None = tt
 
-pub moment-sends : (past : Past) (now : ℕ) (fault : Option Fault) → AnswerSends Nothing (moment_answer past now fault)
-moment-sends past now (Some f) = tt
-moment-sends past now None = chosen (nat_lt now (clock past))
+pub moment-sends : (idle_ms : ℕ) (past : Past) (now : ℕ) (fault : Option Fault)
+    → AnswerSends Nothing (moment_answer idle_ms past now fault)
+moment-sends idle_ms past now (Some f) = tt
+moment-sends idle_ms past now None = chosen (nat_lt now (clock past))
   where
     chosen : (early : Bool) → AnswerSends Nothing
-        (if early then Answer.outputs [] else Answer.outputs (lapses past now))
+        (if early then Answer.outputs [] else Answer.outputs (moment_outputs idle_ms past now))
     chosen true = tt
-    chosen false = told-each Nothing (lapses past now)
-        (lapses-told (in_order lapse_key (filter_map (lapsing_at past now) (invocations past))))
+    chosen false = told-each Nothing (moment_outputs idle_ms past now) (moment-told idle_ms past now)
 
 pub sent_message : (h : History) (event : Event) (bytes : List ℕ) → Tells (reply h event) (Output.send bytes)
     → (m : Message) × IsMessage m bytes
@@ -280,4 +280,5 @@ sent_message h (Event.on_dialogue dialogue request) bytes tells = let sent =
 sent_message h (Event.received octets) bytes tells = let sent =
     sent_for_bytes h octets bytes tells in (Message.abort sent.peer sent.reason, sent.is_message)
 sent_message h (Event.moment now) bytes tells =
-    absurd (tells-sends Nothing (reply h (Event.moment now)) bytes (moment-sends h.pairs now (moment_fault now)) tells)
+    absurd (tells-sends Nothing (reply h (Event.moment now)) bytes (moment-sends h.start.idle_ms h.pairs now (moment_fault now))
+    tells)

@@ -19,12 +19,13 @@ use Rattle.tcap_model.specs.Words.Output.{Output, Closing, Rejector, ComponentIn
 use Rattle.tcap_model.specs.Histories.Pair.{Past}
 use Rattle.tcap_model.specs.Procedures.Reception.{Reception}
 use Rattle.tcap_model.specs.Words.KeyOrder.{in_order}
-use Rattle.tcap_model.specs.Replies.Reply.{ended_in, given_up_answer, last_answer, accepted_answer, request_answer, lapse_told, lapse_key, lapsing_at, lapses, moment_answer, birth_answer, reply}
+use Rattle.tcap_model.specs.Replies.Reply.{ended_in, given_up_answer, last_answer, accepted_answer, request_answer, moment_outputs, moment_answer, birth_answer, reply}
 use Rattle.tcap_model.specs.Words.Request.{Request, ComponentRequest, DialogueRequest}
 use Rattle.tcap_model.specs.Procedures.RequestMessage.{message_of}
 use Rattle.tcap_model.specs.Procedures.Standing.{Standing}
 use Rattle.tcap_model.specs.Words.Time.{moment_fault}
-use Rattle.tcap_laws.proofs.Receptions.EachComponent.{IsReadIn, each-map}
+use Rattle.tcap_laws.proofs.Receptions.EachComponent.{IsReadIn}
+use Rattle.tcap_laws.proofs.Receptions.EachMoment.{HoldsAtMoments, each-moment}
 use Rattle.tcap_laws.proofs.Receptions.EachOutput.{HoldsBesides, HoldsOfEach, received_at, each-ended, each-received}
 use Rattle.tcap_laws.proofs.Receptions.HandledComponents.{ComesOf, comes_of}
 use Rattle.tcap_laws.proofs.ListLemmas.{each-append, one-of}
@@ -194,15 +195,22 @@ request-stands event h dialogue request Life.over None = tt
 request-stands event h dialogue request (Life.standing state context) None =
     accepted-stands event h (standing_of dialogue h.pairs state context) request
 
-moment-stands : (event : Event) (past : Past) (now : ℕ) (fault : Option Fault)
-    → AnswerStands event (moment_answer past now fault)
-moment-stands event past now (Some f) = tt
-moment-stands event past now None = chosen (nat_lt now (clock past))
+moment-stands : (event : Event) (idle_ms : ℕ) (past : Past) (now : ℕ) (fault : Option Fault)
+    → AnswerStands event (moment_answer idle_ms past now fault)
+moment-stands event idle_ms past now (Some f) = tt
+moment-stands event idle_ms past now None = chosen (nat_lt now (clock past))
   where
-    chosen : (early : Bool) → AnswerStands event (if early then Answer.outputs [] else Answer.outputs (lapses past now))
+    holds : HoldsAtMoments (StandsForOne event)
+    holds = record {
+      lapses = λ l of. absurd (indicates _ of);
+      aborts = λ dialogue of. absurd (indicates _ of);
+      ends = λ dialogue number id of. absurd (indicates _ of);
+    }
+
+    chosen : (early : Bool)
+        → AnswerStands event (if early then Answer.outputs [] else Answer.outputs (moment_outputs idle_ms past now))
     chosen true = tt
-    chosen false = each-map (StandsForOne event) lapse_told (λ l of. absurd (indicates _ of))
-        (in_order lapse_key (filter_map (lapsing_at past now) (invocations past)))
+    chosen false = each-moment (StandsForOne event) holds past now idle_ms
 
 birth-stands : (event : Event) (h : History) (fault : Option Fault) → AnswerStands event (birth_answer h fault)
 birth-stands event h (Some f) = tt
@@ -216,7 +224,7 @@ reply-stands h (Event.on_dialogue dialogue request) =
 reply-stands h (Event.received bytes) =
     each-received (StandsForOne (Event.received bytes)) (besides-stand (Event.received bytes)) h bytes
     (each-stands h bytes (received_at h bytes))
-reply-stands h (Event.moment now) = moment-stands (Event.moment now) h.pairs now (moment_fault now)
+reply-stands h (Event.moment now) = moment-stands (Event.moment now) h.start.idle_ms h.pairs now (moment_fault now)
 
 -- ---- legal histories
 

@@ -1,5 +1,5 @@
 -- What is told besides a new dialogue: no Send and no TC-BEGIN indication.
-use Rattle.std.proofs.Common.{ℕ, List, map, Option, Some, None}
+use Rattle.std.proofs.Common.{ℕ, List, Option, Some, None}
 use Rattle.std.specs.List.{AllByRecursion}
 use Rattle.tcap_pdu.specs.FrameSpelling.{Reason}
 use Rattle.tcap_model.specs.Procedures.AbortRules.{abort_told}
@@ -7,8 +7,9 @@ use Rattle.tcap_model.specs.Procedures.ComponentHandling.{Item, SentInvocation, 
 use Rattle.tcap_model.specs.Words.Output.{Output, DialogueIndication}
 use Rattle.tcap_model.specs.Histories.Pair.{Past}
 use Rattle.tcap_model.specs.Replies.Queue.{handled_in}
-use Rattle.tcap_model.specs.Replies.Reply.{ended_in, Lapsing, lapse_told}
+use Rattle.tcap_model.specs.Replies.Reply.{ended_in, moment_outputs}
 use Rattle.tcap_laws.proofs.Receptions.EachComponent.{each-map, each-told}
+use Rattle.tcap_laws.proofs.Receptions.EachMoment.{HoldsAtMoments, each-moment}
 use Rattle.tcap_laws.proofs.Receptions.EachOutput.{each-ended, of-abort}
 use Rattle.tcap_laws.proofs.Receptions.HandledComponents.{ComesOf, comes_of}
 use Rattle.tcap_model.specs.Invocations.SentThere.{sent_there}
@@ -56,8 +57,11 @@ uni-told items = each-map IsTold (λ item. (handled None None item).told) (handl
 pub ended-told : (dialogue : ℕ) (past : Past) (components : List Item) → AreTold (ended_in dialogue past components)
 ended-told = each-ended IsTold (λ dialogue number id. tt)
 
-pub lapses-told : (lapsings : List Lapsing) → AreTold (map lapse_told lapsings)
-lapses-told = each-map IsTold lapse_told (λ l. tt)
+pub moment-told : (idle_ms : ℕ) (past : Past) (now : ℕ) → AreTold (moment_outputs idle_ms past now)
+moment-told idle_ms past now = each-moment IsTold holds past now idle_ms
+  where
+    holds : HoldsAtMoments IsTold
+    holds = record { lapses = λ l. tt; aborts = λ dialogue. tt; ends = λ dialogue number id. tt }
 
 pub abort-told : (dialogue : ℕ) (reason : Reason) → IsTold (abort_told dialogue reason)
 abort-told = of-abort IsTold (λ dialogue pdu. tt) (λ dialogue why. tt)

@@ -7,6 +7,7 @@ use Rattle.std.specs.List.{AllByRecursion, cons_option}
 use Rattle.tcap_invocation.specs.Invocations.{Row}
 use Rattle.tcap_laws.proofs.Receptions.AcceptedRequests.{IsAccepted, accepted-request, IsInvoke, invoke-made}
 use Rattle.tcap_laws.proofs.Births.DrawnDialogues.{beyond-unborn, unborn-life}
+use Rattle.tcap_laws.proofs.Births.Lives.{unborn-untouched}
 use Rattle.tcap_laws.proofs.Spans.MarksAfterBirth.{was_alive, stays_alive}
 use Rattle.tcap_model.specs.Table.Agreement.{due_pair}
 use Rattle.tcap_model.specs.Words.Answer.{Answer, is_accepted}
@@ -18,7 +19,8 @@ use Rattle.tcap_model.specs.Words.Event.{Event}
 use Rattle.tcap_model.specs.Histories.History.{Start, History}
 use Rattle.tcap_model.specs.Invocations.Invocation.{Invocation, invoked_by, invocations, latest}
 use Rattle.tcap_model.specs.Replies.Legal.{AreReplies, IsLegal}
-use Rattle.tcap_model.specs.Histories.Life.{Life, life, life_after, life_at_birth}
+use Rattle.tcap_model.specs.Histories.Clock.{clock}
+use Rattle.tcap_model.specs.Histories.Life.{Life, life, touched, life_after, life_at_birth, touches}
 use Rattle.tcap_model.specs.Words.LocalId.{is_that}
 use Rattle.tcap_model.specs.Histories.Pair.{Pair, Past}
 use Rattle.tcap_model.specs.Replies.Queue.{queue}
@@ -53,7 +55,7 @@ each-alive start [] legal = tt
 each-alive start (pair ∷ past) legal = both (invocations past) (each-alive start past legal.2) (invoked_by pair) refl
   where
     later : (i : Invocation) → IsOfBorn past i → IsOfBorn (pair ∷ past) i
-    later i a = stays_alive i.dialogue (life i.dialogue past) pair a
+    later i a = stays_alive i.dialogue (touched i.dialogue past) (life i.dialogue past) pair a
 
     last : (o : Option Invocation) → invoked_by pair ≡ o → AllByRecursion (IsOfBorn (pair ∷ past)) (option_to_list o)
     last None e = tt
@@ -110,24 +112,36 @@ module _ (h : History) (legal : IsLegal h) where
   pub next_unborn : life next h.pairs ≡ Life.unborn
   next_unborn = unborn-life next h.pairs (beyond-unborn h.start h.pairs legal.1 next (omega arith))
 
-  pub fresh-born : birth_due h ≡ None → dialogue_at h.start.reject_ms (due_pair h Event.new_dialogue ∷ h.pairs) next
-      ≡ Some (fresh_dialogue next h.start.reject_ms)
+  -- one that is born was never touched
+  pub next_untouched : (event : Event) → touched next (due_pair h event ∷ h.pairs) ≡ 0
+  next_untouched event =
+      ap (λ l. cond (touches next l (due_pair h event)) (clock h.pairs) (touched next h.pairs)) next_unborn
+      ∙ unborn-untouched next h.pairs next_unborn
+
+  pub fresh-born : birth_due h ≡ None
+      → dialogue_at h.start.reject_ms h.start.idle_ms (due_pair h Event.new_dialogue ∷ h.pairs) next
+      ≡ Some (fresh_dialogue next h.start.reject_ms h.start.idle_ms)
   fresh-born e =
       let here : Pair = due_pair h Event.new_dialogue in
       let own : (next == next) ≡ true = grind (arith, nat_tests) in
       let birth : is_birth_of next here ≡ true =
       ap (λ f. is_that next (born_of Event.new_dialogue (birth_answer h f))) e ∙ own in
-      ap (λ l. dialogue_by h.start.reject_ms next (here ∷ h.pairs) (life_after next l here)) next_unborn
-      ∙ (ap (λ b. dialogue_by h.start.reject_ms next (here ∷ h.pairs) (life_at_birth b Event.new_dialogue)) birth
-      ∙ (ap (λ q. Some (made q (rows_of h.start.reject_ms next (here ∷ h.pairs))))
+      ap (λ l. dialogue_by h.start.reject_ms h.start.idle_ms next (here ∷ h.pairs)
+      (life_after next (touched next h.pairs) l here)) next_unborn
+      ∙ (ap (λ b. dialogue_by h.start.reject_ms h.start.idle_ms next (here ∷ h.pairs)
+      (life_at_birth b Event.new_dialogue)) birth
+      ∙ (ap (λ q. Some (made q (rows_of h.start.reject_ms next (here ∷ h.pairs)) (touched next (here ∷ h.pairs))))
       (ap (λ b. cond b [] (queue next h.pairs)) birth)
-      ∙ ap (λ rows. Some (made [] rows)) (rows_born h.start.reject_ms h.start here h.pairs legal.1 refl next
-      next_unborn)))
+      ∙ (ap (λ rows. Some (made [] rows (touched next (here ∷ h.pairs))))
+      (rows_born h.start.reject_ms h.start here h.pairs legal.1 refl next next_unborn)
+      ∙ ap (λ t. Some (made [] [] t)) (next_untouched Event.new_dialogue))))
     where
-      made : List Queued → List Row → Dialogue
-      made q rows = record {
+      made : List Queued → List Row → ℕ → Dialogue
+      made q rows t = record {
         standing =
             record { identifier = next; state = State.fresh; context = None; queue = q };
         invocations =
             record { reject_ms = h.start.reject_ms; rows = rows };
+        idle_ms = h.start.idle_ms;
+        touched = t;
       }

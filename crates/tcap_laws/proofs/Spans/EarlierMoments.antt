@@ -17,16 +17,19 @@ use Rattle.tcap_model.specs.Invocations.Decision.{decided_of, decided_at, decisi
 use Rattle.tcap_model.specs.Words.Event.{Event}
 use Rattle.tcap_model.specs.Replies.Held.{held, held_by, holds_identifier, is_waiting, is_rejectable, pair_ends_wait, since}
 use Rattle.tcap_model.specs.Invocations.Invocation.{Invocation, invoked_by, invocations, invocation_of, has_id, latest}
-use Rattle.tcap_model.specs.Histories.Life.{life}
-use Rattle.tcap_model.specs.Invocations.Marks.{Mark, Noted}
+use Rattle.tcap_model.specs.Histories.Life.{Life, life, touched, life_by_moment}
+use Rattle.tcap_model.specs.Invocations.Marks.{Mark, Noted, end_if_over}
 use Rattle.tcap_model.specs.Invocations.Outcome.{first_closing, outcome_of, outcome}
 use Rattle.tcap_model.specs.Words.Output.{Closing}
-use Rattle.tcap_model.specs.Histories.Pair.{Past}
+use Rattle.tcap_model.specs.Histories.Pair.{Pair, Past, AreLimited}
 use Rattle.tcap_model.specs.Invocations.Reuse.{is_reused}
 use Rattle.tcap_model.specs.Invocations.Span.{is_invoked, span}
 use Rattle.std.proofs.Math.Seq.{take-append_seam}
-use Rattle.tcap_laws.proofs.Spans.MarksAfterBirth.{was_alive, no_marks}
-use Rattle.tcap_laws.proofs.Spans.SentClocks.{sent_clock-append, at_moment, moment_marks, clock_within}
+use Rattle.tcap_laws.proofs.Spans.MarksAfterBirth.{was_alive, noted_at_clock, no_marks}
+use Rattle.tcap_laws.proofs.Spans.IdleMoments.{not-idle-yet}
+use Rattle.tcap_laws.proofs.Spans.SentClocks.{sent_clock-append, at_moment, moved_life, moment_noted, moment_marks, moment_life, clock_within}
+use Rattle.tcap_model.specs.Words.State.{is_live}
+use Rattle.tcap_model.specs.Words.Time.{is_idle}
 
 -- ---- a moment below the clock
 
@@ -57,10 +60,44 @@ sent_still S c now = sent_clock-append S (record { clock = c; mark = Mark.moment
     go None = refl
     go (Some k) = refl
 
-module _ (past : Past) (now : ℕ) (answer : Answer) (accepted : is_accepted answer ≡ true) (early : now < clock past)
+module _ (idle_ms : ℕ) (past : Past) (limited : AreLimited idle_ms past) (now : ℕ) (answer : Answer)
+    (accepted : is_accepted answer ≡ true) (early : now < clock past)
   where
     abbrev earlier : Past
-    earlier = at_moment now answer ∷ past
+    earlier = at_moment now answer idle_ms ∷ past
+
+    -- no dialogue has stood still too long
+    moved_still : (dialogue : ℕ) (l : Life) → life dialogue past ≡ l
+        → moved_life idle_ms (touched dialogue past) now l ≡ l
+    moved_still dialogue Life.unborn is = refl
+    moved_still dialogue (Life.standing s c) is = go (is_live s) refl
+      where
+        go : (b : Bool) → is_live s ≡ b
+            → life_by_moment (is_idle idle_ms (touched dialogue past) now) s c ≡ Life.standing s c
+        go true live = ap (λ (idle : Bool). life_by_moment idle s c)
+            (not-idle-yet idle_ms dialogue now past s c limited is live (omega (arith, early)))
+        go false live = not_live (is_idle idle_ms (touched dialogue past) now)
+          where
+            not_live : (idle : Bool) → life_by_moment idle s c ≡ Life.standing s c
+            not_live false = refl
+            not_live true = rw live refl
+    moved_still dialogue Life.over is = refl
+
+    no_end_of : (l : Life) → end_if_over l l ≡ []
+    no_end_of Life.unborn = refl
+    no_end_of (Life.standing s c) = refl
+    no_end_of Life.over = refl
+
+    pub life_still : (dialogue : ℕ) → life dialogue earlier ≡ life dialogue past
+    life_still dialogue =
+        moment_life dialogue now answer idle_ms past accepted ∙ moved_still dialogue (life dialogue past) refl
+
+    moment_alone : (dialogue : ℕ)
+        → moment_noted dialogue idle_ms past now ≡ record { clock = clock past; mark = Mark.moment now } ∷ []
+    moment_alone dialogue =
+        ap (λ ms. noted_at_clock (clock past) (Mark.moment now ∷ ms))
+        (ap (end_if_over (life dialogue past)) (moved_still dialogue (life dialogue past) refl)
+        ∙ no_end_of (life dialogue past))
 
     pub clock_still : clock earlier ≡ clock past
     clock_still = rw accepted (omega arith)
@@ -78,21 +115,22 @@ module _ (past : Past) (now : ℕ) (answer : Answer) (accepted : is_accepted ans
             → (first_closing i.class i.timeout (span i earlier) ≡ first_closing i.class i.timeout (span i past))
             × (sent_clock (span i earlier) ≡ sent_clock (span i past))
         go true b p q = let same =
-            span_stays i (at_moment now answer) past made p in
+            span_stays i (at_moment now answer idle_ms) past made p in
             (ap (first_closing i.class i.timeout) same, ap sent_clock same)
         go false false p q =
             let same : span i earlier ≡ span i past =
-            span_grows i (at_moment now answer) past made p
-            ∙ (ap (λ z. span i past ++ z) (no_marks i.dialogue i.id (at_moment now answer) past q)
+            span_grows i (at_moment now answer idle_ms) past made p
+            ∙ (ap (λ z. span i past ++ z) (no_marks i.dialogue i.id (at_moment now answer idle_ms) past q)
             ∙ append-nil (span i past)) in
             (ap (first_closing i.class i.timeout) same, ap sent_clock same)
         go false true p q =
             let before = (none_before (is_reused i past)
-            (is_invoked (has_id i.dialogue i.id) (invoked_by (at_moment now answer)))
-            (sym (reused_step i (at_moment now answer) past made) ∙ p)).0 in
+            (is_invoked (has_id i.dialogue i.id) (invoked_by (at_moment now answer idle_ms)))
+            (sym (reused_step i (at_moment now answer idle_ms) past made) ∙ p)).0 in
             let more : span i earlier ≡ span i past ++ record { clock = clock past; mark = Mark.moment now } ∷ [] =
-            span_grows i (at_moment now answer) past made p
-            ∙ ap (λ z. span i past ++ z) (moment_marks i.dialogue i.id now answer past accepted q) in (
+            span_grows i (at_moment now answer idle_ms) past made p
+            ∙ ap (λ z. span i past ++ z) (moment_marks i.dialogue i.id now answer idle_ms past accepted q
+            ∙ moment_alone i.dialogue) in (
               ap (first_closing i.class i.timeout) more ∙ closes_not i.class (clock past) i.timeout now (span i past)
                   early (λ x k y. clock_within i past k made before x y),
               ap sent_clock more ∙ sent_still (span i past) (clock past) now,
@@ -138,21 +176,24 @@ or_true : (b : Bool) → (b || true) ≡ true
 or_true true = refl
 or_true false = refl
 
-reached_step : (event : Event) (answer : Answer) (past : Past) (until now dialogue : ℕ) (id : ℤ) (rest : Bool)
-    → until ≤ now → now < clock (record { event = event; answer = answer } ∷ past)
-    → (now < clock past → rest ≡ true) → (pair_ends_wait until dialogue id (record { event = event; answer = answer })
-    || rest) ≡ true
-reached_step Event.new_dialogue answer past until now dialogue id rest at early more =
-    ap (λ b. pair_ends_wait until dialogue id (record { event = Event.new_dialogue; answer = answer }) || b)
-    (more early) ∙ or_true (pair_ends_wait until dialogue id (record { event = Event.new_dialogue; answer = answer }))
-reached_step (Event.on_dialogue d r) answer past until now dialogue id rest at early more =
-    ap (λ b. pair_ends_wait until dialogue id (record { event = Event.on_dialogue d r; answer = answer }) || b)
+abbrev pair_of : Event → Answer → ℕ → Pair
+pair_of event answer idle_ms = record { event = event; answer = answer; idle_ms = idle_ms }
+
+reached_step : (event : Event) (answer : Answer) (idle_ms : ℕ) (past : Past) (until now dialogue : ℕ) (id : ℤ)
+    (rest : Bool) → until ≤ now → now < clock (pair_of event answer idle_ms ∷ past)
+    → (now < clock past → rest ≡ true)
+    → (pair_ends_wait until dialogue id (pair_of event answer idle_ms) || rest) ≡ true
+reached_step Event.new_dialogue answer idle_ms past until now dialogue id rest at early more =
+    ap (λ b. pair_ends_wait until dialogue id (pair_of Event.new_dialogue answer idle_ms) || b)
+    (more early) ∙ or_true (pair_ends_wait until dialogue id (pair_of Event.new_dialogue answer idle_ms))
+reached_step (Event.on_dialogue d r) answer idle_ms past until now dialogue id rest at early more =
+    ap (λ b. pair_ends_wait until dialogue id (pair_of (Event.on_dialogue d r) answer idle_ms) || b)
     (more early) ∙ or_true (pair_ends_wait until dialogue id
-    (record { event = Event.on_dialogue d r; answer = answer }))
-reached_step (Event.received bytes) answer past until now dialogue id rest at early more =
-    ap (λ b. pair_ends_wait until dialogue id (record { event = Event.received bytes; answer = answer }) || b)
-    (more early) ∙ or_true (pair_ends_wait until dialogue id (record { event = Event.received bytes; answer = answer }))
-reached_step (Event.moment m) answer past until now dialogue id rest at early more =
+    (pair_of (Event.on_dialogue d r) answer idle_ms))
+reached_step (Event.received bytes) answer idle_ms past until now dialogue id rest at early more =
+    ap (λ b. pair_ends_wait until dialogue id (pair_of (Event.received bytes) answer idle_ms) || b)
+    (more early) ∙ or_true (pair_ends_wait until dialogue id (pair_of (Event.received bytes) answer idle_ms))
+reached_step (Event.moment m) answer idle_ms past until now dialogue id rest at early more =
     go (is_accepted answer) (nat_le until m) refl refl
   where
     same_clock : is_accepted answer ≡ false → now < clock past
@@ -178,14 +219,15 @@ reached : (newer place : Past) (until now dialogue : ℕ) (id : ℤ) → clock p
     → list_any (pair_ends_wait until dialogue id) newer ≡ true
 reached [] place until now dialogue id low at early = absurd (omega arith)
 reached (pair ∷ newer) place until now dialogue id low at early =
-    reached_step pair.event pair.answer (newer ++ place) until now dialogue id
+    reached_step pair.event pair.answer pair.idle_ms (newer ++ place) until now dialogue id
     (list_any (pair_ends_wait until dialogue id) newer) at early
     (reached newer place until now dialogue id low at)
 
-module _ (past : Past) (now : ℕ) (answer : Answer) (accepted : is_accepted answer ≡ true) (early : now < clock past)
+module _ (idle_ms : ℕ) (past : Past) (limited : AreLimited idle_ms past) (now : ℕ) (answer : Answer)
+    (accepted : is_accepted answer ≡ true) (early : now < clock past)
   where
     waits_still : (newer place : Past) (until dialogue : ℕ) (id : ℤ) → past ≡ newer ++ place → clock place ≤ until
-        → list_any (pair_ends_wait until dialogue id) (since place (at_moment now answer ∷ past))
+        → list_any (pair_ends_wait until dialogue id) (since place (at_moment now answer idle_ms ∷ past))
         ≡ list_any (pair_ends_wait until dialogue id) (since place past)
     waits_still newer place until dialogue id whole low =
         ap (list_any (pair_ends_wait until dialogue id)) longer
@@ -194,8 +236,8 @@ module _ (past : Past) (now : ℕ) (answer : Answer) (accepted : is_accepted ans
         shorter : since place past ≡ newer
         shorter = ap (since place) whole ∙ since_end newer place
 
-        longer : since place (at_moment now answer ∷ past) ≡ at_moment now answer ∷ newer
-        longer = ap (λ z. since place (at_moment now answer ∷ z)) whole ∙ since_end (at_moment now answer ∷ newer) place
+        longer : since place (at_moment now answer idle_ms ∷ past) ≡ at_moment now answer idle_ms ∷ newer
+        longer = ap (λ z. since place (at_moment now answer idle_ms ∷ z)) whole ∙ since_end (at_moment now answer idle_ms ∷ newer) place
 
         go : (b : Bool) → nat_le until now ≡ b → ((is_accepted answer && nat_le until now)
             || list_any (pair_ends_wait until dialogue id) newer) ≡ list_any (pair_ends_wait until dialogue id) newer
@@ -207,7 +249,7 @@ module _ (past : Past) (now : ℕ) (answer : Answer) (accepted : is_accepted ans
             rw (accepted, q, ended) refl
 
     pub waiting_still : (n reject_ms dialogue : ℕ) (id : ℤ) (t : Told) → decision n past ≡ Some t
-        → is_waiting reject_ms dialogue id (at_moment now answer ∷ past) t ≡ is_waiting reject_ms dialogue id past t
+        → is_waiting reject_ms dialogue id (at_moment now answer idle_ms ∷ past) t ≡ is_waiting reject_ms dialogue id past t
     waiting_still n reject_ms dialogue id t e =
         let d = decision_place n past t e in
         let whole : past ≡ d.newer ++ t.place = d.whole ∙ ap (λ z. d.newer ++ z) (sym d.place) in
@@ -215,18 +257,18 @@ module _ (past : Past) (now : ℕ) (answer : Answer) (accepted : is_accepted ans
         whole (omega arith))
 
     held_by_still : (reject_ms dialogue : ℕ) (id : ℤ) (o : Option Invocation)
-        → held_by reject_ms dialogue id (at_moment now answer ∷ past) o ≡ held_by reject_ms dialogue id past o
+        → held_by reject_ms dialogue id (at_moment now answer idle_ms ∷ past) o ≡ held_by reject_ms dialogue id past o
     held_by_still reject_ms dialogue id None = refl
     held_by_still reject_ms dialogue id (Some i) =
-        ap (holds_identifier reject_ms dialogue id (at_moment now answer ∷ past))
-        (decision_still past now answer accepted early i.number) ∙ go (decision i.number past) refl
+        ap (holds_identifier reject_ms dialogue id (at_moment now answer idle_ms ∷ past))
+        (decision_still idle_ms past limited now answer accepted early i.number) ∙ go (decision i.number past) refl
       where
         go : (d : Option Told) → decision i.number past ≡ d
-            → holds_identifier reject_ms dialogue id (at_moment now answer ∷ past) d
+            → holds_identifier reject_ms dialogue id (at_moment now answer idle_ms ∷ past) d
             ≡ holds_identifier reject_ms dialogue id past d
         go None q = refl
         go (Some t) q = waiting_still i.number reject_ms dialogue id t q
 
     pub held_still : (reject_ms dialogue : ℕ) (id : ℤ)
-        → held reject_ms dialogue id (at_moment now answer ∷ past) ≡ held reject_ms dialogue id past
+        → held reject_ms dialogue id (at_moment now answer idle_ms ∷ past) ≡ held reject_ms dialogue id past
     held_still reject_ms dialogue id = held_by_still reject_ms dialogue id (latest dialogue id past)

@@ -1,5 +1,5 @@
 -- A dialogue that was born stays so, and before its birth it has no marks.
-use Rattle.std.proofs.Common.{◌≡◌, ℕ, ℤ, Bool, true, false, List, [], ◌∷◌, ◌++◌, map, Option, Result, Ok, Err, refl, ap, ◌∙◌}
+use Rattle.std.proofs.Common.{◌≡◌, ℕ, ℤ, Bool, true, false, ◌&&◌, if◌then◌else◌, List, [], ◌∷◌, ◌++◌, map, Option, Result, Ok, Err, refl, ap, ◌∙◌}
 use Rattle.std.specs.Prelude.{is_some}
 use Rattle.tcap_pdu.specs.declared.fault.FrameFault.{FrameFault}
 use Rattle.tcap_pdu.specs.FrameSpelling.{Message}
@@ -9,7 +9,7 @@ use Rattle.tcap_model.specs.Words.Answer.{is_accepted}
 use Rattle.tcap_model.specs.Histories.Clock.{clock}
 use Rattle.tcap_model.specs.Words.Event.{Event}
 use Rattle.tcap_model.specs.Invocations.Invocation.{Invocation, invocation_of}
-use Rattle.tcap_model.specs.Histories.Life.{Life, life, life_after, life_if_named, life_by_event, life_if_live, life_by_message, life_by_verdict, life_if_accepted, life_by_request}
+use Rattle.tcap_model.specs.Histories.Life.{Life, life, touched, life_after, life_if_named, life_by_event, life_by_moment, life_if_live, life_by_message, life_by_verdict, life_if_accepted, life_by_request}
 use Rattle.tcap_model.specs.Invocations.Marks.{Mark, Noted, marks, marks_after_birth}
 use Rattle.tcap_model.specs.Histories.Names.{names}
 use Rattle.tcap_model.specs.Histories.Pair.{Pair, Past}
@@ -18,6 +18,7 @@ use Rattle.tcap_model.specs.Words.Request.{Request, ComponentRequest, DialogueRe
 use Rattle.tcap_model.specs.Invocations.Reuse.{is_reused}
 use Rattle.tcap_model.specs.Invocations.Span.{span}
 use Rattle.tcap_model.specs.Words.State.{State, is_live}
+use Rattle.tcap_model.specs.Words.Time.{is_idle}
 
 -- ---- a dialogue that was born stays so
 
@@ -64,22 +65,31 @@ alive_if_live : (b : Bool) (s : State) (c : Option (List ℕ)) (bytes : List ℕ
 alive_if_live false s c bytes = refl
 alive_if_live true s c bytes = alive_by_message s c (frame_at bytes)
 
-alive_by_event : (s : State) (c : Option (List ℕ)) (e : Event) (b : Bool) → was_alive (life_by_event s c e b) ≡ true
-alive_by_event s c Event.new_dialogue b = refl
-alive_by_event s c (Event.on_dialogue dialogue request) b = alive_if_accepted b s c request
-alive_by_event s c (Event.received bytes) b = alive_if_live (is_live s) s c bytes
-alive_by_event s c (Event.moment now) b = refl
+alive_by_moment : (b : Bool) (s : State) (c : Option (List ℕ)) → was_alive (life_by_moment b s c) ≡ true
+alive_by_moment false s c = refl
+alive_by_moment true s c = go (is_live s)
+  where
+    go : (live : Bool) → was_alive (if live then Life.over else Life.standing s c) ≡ true
+    go true = refl
+    go false = refl
 
-alive_if_named : (b : Bool) (s : State) (c : Option (List ℕ)) (pair : Pair)
-    → was_alive (life_if_named b s c pair) ≡ true
-alive_if_named false s c pair = refl
-alive_if_named true s c pair = alive_by_event s c pair.event (is_accepted pair.answer)
+alive_by_event : (idle_ms last : ℕ) (s : State) (c : Option (List ℕ)) (e : Event) (b : Bool)
+    → was_alive (life_by_event idle_ms last s c e b) ≡ true
+alive_by_event idle_ms last s c Event.new_dialogue b = refl
+alive_by_event idle_ms last s c (Event.on_dialogue dialogue request) b = alive_if_accepted b s c request
+alive_by_event idle_ms last s c (Event.received bytes) b = alive_if_live (is_live s) s c bytes
+alive_by_event idle_ms last s c (Event.moment now) b = alive_by_moment (b && is_idle idle_ms last now) s c
 
-pub stays_alive : (dialogue : ℕ) (l : Life) (pair : Pair) → was_alive l ≡ true
-    → was_alive (life_after dialogue l pair) ≡ true
-stays_alive dialogue Life.unborn pair e = absurd cc
-stays_alive dialogue (Life.standing s c) pair e = alive_if_named (names pair.event dialogue) s c pair
-stays_alive dialogue Life.over pair e = refl
+alive_if_named : (b : Bool) (last : ℕ) (s : State) (c : Option (List ℕ)) (pair : Pair)
+    → was_alive (life_if_named b last s c pair) ≡ true
+alive_if_named false last s c pair = refl
+alive_if_named true last s c pair = alive_by_event pair.idle_ms last s c pair.event (is_accepted pair.answer)
+
+pub stays_alive : (dialogue last : ℕ) (l : Life) (pair : Pair) → was_alive l ≡ true
+    → was_alive (life_after dialogue last l pair) ≡ true
+stays_alive dialogue last Life.unborn pair e = absurd cc
+stays_alive dialogue last (Life.standing s c) pair e = alive_if_named (names pair.event dialogue) last s c pair
+stays_alive dialogue last Life.over pair e = refl
 
 abbrev pub noted_at_clock : ℕ → List Mark → List Noted
 noted_at_clock c ms = map (λ (mark : Mark). record { clock = c; mark = mark }) ms
@@ -93,7 +103,8 @@ no_marks dialogue id pair past e = go (life dialogue past) e
     none : List Noted
     none = []
 
-    go : (l : Life) → was_alive l ≡ false → noted_at_clock (clock past) (marks_after_birth dialogue id l pair) ≡ none
+    go : (l : Life) → was_alive l ≡ false
+        → noted_at_clock (clock past) (marks_after_birth dialogue id (touched dialogue past) l pair) ≡ none
     go Life.unborn e = refl
     go (Life.standing s c) e = absurd cc
     go Life.over e = absurd cc
@@ -105,7 +116,7 @@ was_unborn dialogue pair past e = go (was_alive (life dialogue past)) refl
     go : (b : Bool) → was_alive (life dialogue past) ≡ b → was_alive (life dialogue past) ≡ false
     go false q = q
     go true q = let never : was_alive (life dialogue (pair ∷ past)) ≡ true =
-        stays_alive dialogue (life dialogue past) pair q in absurd cc
+        stays_alive dialogue (touched dialogue past) (life dialogue past) pair q in absurd cc
 
 pub span_unborn : (i : Invocation) (past : Past) → was_alive (life i.dialogue past) ≡ false → span i past ≡ []
 span_unborn i [] e = refl

@@ -18,12 +18,13 @@ use Rattle.tcap_invocation.specs.declared.class.Class.{Class}
 use Rattle.tcap_model.specs.Invocations.Closes.{closing_of}
 use Rattle.tcap_model.specs.Invocations.Deadline.{sent_clock}
 use Rattle.tcap_model.specs.Words.Event.{Event}
-use Rattle.tcap_model.specs.Histories.Life.{life_by_event, life_by_request, Life, life_by_message, life_by_verdict, life_if_live}
+use Rattle.tcap_model.specs.Histories.Life.{life_by_event, life_by_request, Life, life_by_message, life_by_verdict, life_if_live, life_by_moment}
 use Rattle.tcap_model.specs.Invocations.Marks.{Mark, Noted, marks_by_event, marks_of_request, end_if_over, marked, reject_marks, marks_of_component, component_marks, if_normal, marks_of_message, marks_if_live}
 use Rattle.tcap_model.specs.Invocations.Outcome.{first_closing}
 use Rattle.tcap_model.specs.Procedures.PortionRules.{PortionVerdict, portion_verdict}
 use Rattle.tcap_model.specs.Words.Request.{Request, ComponentRequest, DialogueRequest}
 use Rattle.tcap_model.specs.Words.State.{State, is_live}
+use Rattle.tcap_model.specs.Words.Time.{is_idle}
 use Rattle.tcap_laws.proofs.Spans.MarksAfterBirth.{noted_at_clock}
 use Rattle.tcap_laws.proofs.Spans.DecisionSteps.{first_closing-append}
 use Rattle.tcap_laws.proofs.Spans.SentClocks.{sent_clock-append}
@@ -212,13 +213,14 @@ Spares id (Event.on_dialogue dialogue request) false = Unit {0}
 Spares id (Event.received bytes) accepted = Unit {0}
 Spares id (Event.moment now) accepted = Unit {0}
 
-pub event-leaves : (id : ℤ) (s : State) (c : Option (List ℕ)) (event : Event) (accepted : Bool)
-    → IsStanding (life_by_event s c event accepted) → Spares id event accepted →
-    AllLeave (marks_by_event id (Life.standing s c) (life_by_event s c event accepted) event accepted)
-event-leaves id s c Event.new_dialogue accepted stands spares = tt
-event-leaves id s c (Event.on_dialogue dialogue request) true stands spares =
+pub event-leaves : (idle_ms last : ℕ) (id : ℤ) (s : State) (c : Option (List ℕ)) (event : Event) (accepted : Bool)
+    → IsStanding (life_by_event idle_ms last s c event accepted) → Spares id event accepted →
+    AllLeave (marks_by_event id (Life.standing s c) (life_by_event idle_ms last s c event accepted) event accepted)
+event-leaves idle_ms last id s c Event.new_dialogue accepted stands spares = tt
+event-leaves idle_ms last id s c (Event.on_dialogue dialogue request) true stands spares =
     request-leaves id s c request stands spares
-event-leaves id s c (Event.on_dialogue dialogue request) false stands spares = tt
-event-leaves id s c (Event.received bytes) accepted stands spares = bytes-leave id s c bytes stands
-event-leaves id s c (Event.moment now) true stands spares = (tt, tt)
-event-leaves id s c (Event.moment now) false stands spares = tt
+event-leaves idle_ms last id s c (Event.on_dialogue dialogue request) false stands spares = tt
+event-leaves idle_ms last id s c (Event.received bytes) accepted stands spares = bytes-leave id s c bytes stands
+event-leaves idle_ms last id s c (Event.moment now) true stands spares =
+    (tt, no-ending s c (life_by_moment (is_idle idle_ms last now) s c) stands)
+event-leaves idle_ms last id s c (Event.moment now) false stands spares = tt

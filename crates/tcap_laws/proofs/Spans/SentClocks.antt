@@ -1,5 +1,5 @@
 -- The clock stays at most at the deadline of an invocation that is sent and open.
-use Rattle.std.proofs.Common.{◌≡◌, ℕ, ℤ, ◌+◌, ◌<◌, ◌≤◌, Bool, true, false, cond, nat_le, max, List, [], ◌∷◌, ◌++◌, Option, Some, None, refl, ap, sym, ◌∙◌, arith}
+use Rattle.std.proofs.Common.{◌≡◌, ℕ, ℤ, ◌+◌, ◌<◌, ◌≤◌, Bool, true, false, cond, if◌then◌else◌, nat_le, max, List, [], ◌∷◌, ◌++◌, Option, Some, None, refl, ap, sym, ◌∙◌, arith}
 use Rattle.std.proofs.lemmas.Bool.Decides.{nat_tests}
 use Rattle.std.proofs.lemmas.List.Folds.{find-append}
 use Rattle.std.specs.Prelude.{find, is_some, option_map}
@@ -13,13 +13,14 @@ use Rattle.tcap_model.specs.Invocations.Closes.{closing_of}
 use Rattle.tcap_model.specs.Invocations.Deadline.{is_sent, sent_clock, deadline}
 use Rattle.tcap_model.specs.Words.Event.{Event}
 use Rattle.tcap_model.specs.Invocations.Invocation.{Invocation, invoked_by, invocation_of, has_id}
-use Rattle.tcap_model.specs.Histories.Life.{Life, life}
-use Rattle.tcap_model.specs.Invocations.Marks.{Mark, Noted, marks, marks_after_birth}
+use Rattle.tcap_model.specs.Histories.Life.{Life, is_over, life, life_after, life_by_event, life_by_moment, touched}
+use Rattle.tcap_model.specs.Invocations.Marks.{Mark, Noted, marks, marks_after_birth, marks_by_event, end_if_over}
 use Rattle.tcap_model.specs.Invocations.Outcome.{closing_after, first_closing, outcome_of, outcome}
 use Rattle.tcap_model.specs.Words.Output.{Closing}
 use Rattle.tcap_model.specs.Histories.Pair.{Pair, Past}
 use Rattle.tcap_model.specs.Invocations.Reuse.{is_reused}
 use Rattle.tcap_model.specs.Invocations.Span.{is_invoked, span}
+use Rattle.tcap_model.specs.Words.Time.{is_idle}
 use Rattle.tcap_laws.proofs.Spans.MarksAfterBirth.{was_alive, noted_at_clock, no_marks, span_unborn}
 
 -- ---- the clock at the Sent mark
@@ -49,20 +50,52 @@ sent_at c s (m ∷ ms) e = go (is_sent m) e (sent_at c s ms)
 
 -- ---- a moment
 
-abbrev pub at_moment : ℕ → Answer → Pair
-at_moment now answer = record { event = Event.moment now; answer = answer }
+abbrev pub at_moment : ℕ → Answer → ℕ → Pair
+at_moment now answer idle_ms = record { event = Event.moment now; answer = answer; idle_ms = idle_ms }
 
-pub moment_marks : (dialogue : ℕ) (id : ℤ) (now : ℕ) (answer : Answer) (past : Past) → is_accepted answer ≡ true
-    → was_alive (life dialogue past) ≡ true
-    → marks dialogue id (at_moment now answer) past ≡ record { clock = clock past; mark = Mark.moment now } ∷ []
-moment_marks dialogue id now answer past accepted e = go (life dialogue past) e
+-- the life after an accepted moment
+abbrev pub moved_life : ℕ → ℕ → ℕ → Life → Life
+moved_life idle_ms last now Life.unborn = Life.unborn
+moved_life idle_ms last now (Life.standing s c) = life_by_moment (is_idle idle_ms last now) s c
+moved_life idle_ms last now Life.over = Life.over
+
+-- the marks of an accepted moment: that of the moment, and the end where a dialogue stood still too long
+abbrev pub moment_noted : ℕ → ℕ → Past → ℕ → List Noted
+moment_noted dialogue idle_ms past now = noted_at_clock (clock past) (Mark.moment now
+    ∷ end_if_over (life dialogue past) (moved_life idle_ms (touched dialogue past) now (life dialogue past)))
+
+pub moment_marks : (dialogue : ℕ) (id : ℤ) (now : ℕ) (answer : Answer) (idle_ms : ℕ) (past : Past)
+    → is_accepted answer ≡ true → was_alive (life dialogue past) ≡ true
+    → marks dialogue id (at_moment now answer idle_ms) past ≡ moment_noted dialogue idle_ms past now
+moment_marks dialogue id now answer idle_ms past accepted e = go (life dialogue past) e
   where
+    last : ℕ
+    last = touched dialogue past
+
     go : (l : Life) → was_alive l ≡ true → noted_at_clock (clock past)
-        (marks_after_birth dialogue id l (at_moment now answer))
-        ≡ record { clock = clock past; mark = Mark.moment now } ∷ []
+        (marks_after_birth dialogue id last l (at_moment now answer idle_ms))
+        ≡ noted_at_clock (clock past) (Mark.moment now ∷ end_if_over l (moved_life idle_ms last now l))
     go Life.unborn e = absurd cc
-    go (Life.standing s c) e = rw accepted refl
-    go Life.over e = rw accepted refl
+    go (Life.standing s c) e = ap (λ (b : Bool). noted_at_clock (clock past)
+        (marks_by_event id (Life.standing s c) (life_by_event idle_ms last s c (Event.moment now) b)
+        (Event.moment now) b)) accepted
+    go Life.over e = ap (λ (b : Bool). noted_at_clock (clock past)
+        (marks_by_event id Life.over Life.over (Event.moment now) b)) accepted
+
+-- the life after an accepted moment, which is no birth
+pub moment_life : (dialogue : ℕ) (now : ℕ) (answer : Answer) (idle_ms : ℕ) (past : Past) → is_accepted answer ≡ true
+    → life dialogue (at_moment now answer idle_ms ∷ past)
+    ≡ moved_life idle_ms (touched dialogue past) now (life dialogue past)
+moment_life dialogue now answer idle_ms past accepted = go (life dialogue past)
+  where
+    last : ℕ
+    last = touched dialogue past
+
+    go : (l : Life) → life_after dialogue last l (at_moment now answer idle_ms) ≡ moved_life idle_ms last now l
+    go Life.unborn = refl
+    go (Life.standing s c) =
+        ap (λ (b : Bool). life_by_event idle_ms last s c (Event.moment now) b) accepted
+    go Life.over = refl
 
 pub both_none : (x y : Option Closing) → option_or x y ≡ None → (x ≡ None) × (y ≡ None)
 both_none None y e = (refl, e)
@@ -95,7 +128,7 @@ within_still : (c s timeout : ℕ) (before : Option ℕ) (ms : List Mark)
 within_still c s timeout None ms e ih = let same : s ≡ c = sent_at c s ms e in omega arith
 within_still c s timeout (Some q) ms e ih = let same : q ≡ s = cc in let bound = ih q refl in omega arith
 
--- what an accepted moment adds
+-- what an accepted moment adds where the dialogue goes on
 within_moment : (class : Class) (c s timeout now : ℕ) (S : List Noted)
     → sent_clock (S ++ record { clock = c; mark = Mark.moment now } ∷ []) ≡ Some s
     → closing_after class timeout S (record { clock = c; mark = Mark.moment now } ∷ []) ≡ None
@@ -111,6 +144,23 @@ within_moment class c s timeout now S sent none ih =
         let bound : c < k + max 1 timeout = ih k q in
         let early : now < k + max 1 timeout = lapses_not class timeout k now x in
         omega arith
+
+-- the end closes what nothing else did, so the dialogue goes on
+goes_on : (class : Class) (c timeout now : ℕ) (S : List Noted) (l after : Life)
+    → closing_after class timeout S (noted_at_clock c (Mark.moment now ∷ end_if_over l after)) ≡ None
+    → end_if_over l after ≡ []
+goes_on class c timeout now S l after e = go (is_over l) (is_over after) e
+  where
+    ends : Bool → Bool → List Mark
+    ends b d = if b then [] else (if d then Mark.end ∷ [] else [])
+
+    go : (b d : Bool) → closing_after class timeout S (noted_at_clock c (Mark.moment now ∷ ends b d)) ≡ None
+        → ends b d ≡ []
+    go true d e = refl
+    go false false e = refl
+    go false true e =
+        let none = (both_none (closing_of class timeout (sent_clock S) (Mark.moment now)) (Some Closing.ended) e).1 in
+        absurd cc
 
 module _ (i : Invocation) (past : Past) (made : is_some (invocation_of i.number past) ≡ true)
     (ih : spanned_closing i past ≡ None → (q : ℕ) → spanned_clock i past ≡ Some q → clock past < q + max 1 i.timeout)
@@ -129,7 +179,7 @@ module _ (i : Invocation) (past : Past) (made : is_some (invocation_of i.number 
 
   still_within : clock past < s + max 1 i.timeout
   still_within = within_still (clock past) s i.timeout (spanned_clock i past)
-      (marks_after_birth i.dialogue i.id (life i.dialogue past) pair)
+      (marks_after_birth i.dialogue i.id (touched i.dialogue past) (life i.dialogue past) pair)
       (sym (sent_clock-append (span i past) added) ∙ (ap sent_clock (sym grown) ∙ sent)) (ih nones.0)
 
   -- who has a Sent mark has a dialogue that was born
@@ -143,31 +193,38 @@ module _ (i : Invocation) (past : Past) (made : is_some (invocation_of i.number 
           let never : sent_clock [] ≡ Some s = ap sent_clock (sym empty) ∙ sent in
           absurd cc
 
-  moment_within : (now : ℕ) (answer : Answer) → at_moment now answer ≡ pair → is_accepted answer ≡ true
-      → max (clock past) now < s + max 1 i.timeout
-  moment_within now answer same accepted = go (was_alive (life i.dialogue past)) refl
+  moment_within : (now : ℕ) (answer : Answer) (idle_ms : ℕ) → at_moment now answer idle_ms ≡ pair
+      → is_accepted answer ≡ true → max (clock past) now < s + max 1 i.timeout
+  moment_within now answer idle_ms same accepted = go (was_alive (life i.dialogue past)) refl
     where
       go : (b : Bool) → was_alive (life i.dialogue past) ≡ b → max (clock past) now < s + max 1 i.timeout
       go false q =
           let never = sym q ∙ alive_then (no_marks i.dialogue i.id pair past q) in
           absurd cc
       go true q =
-          let one : added ≡ record { clock = clock past; mark = Mark.moment now } ∷ [] =
+          let all : added ≡ moment_noted i.dialogue idle_ms past now =
           ap (λ p. marks i.dialogue i.id p past) (sym same)
-          ∙ moment_marks i.dialogue i.id now answer past accepted q in
+          ∙ moment_marks i.dialogue i.id now answer idle_ms past accepted q in
+          let before : Life = life i.dialogue past in
+          let on = goes_on i.class (clock past) i.timeout now (span i past) before
+          (moved_life idle_ms (touched i.dialogue past) now before)
+          (ap (closing_after i.class i.timeout (span i past)) (sym all) ∙ nones.1) in
+          let one : added ≡ record { clock = clock past; mark = Mark.moment now } ∷ [] =
+          all ∙ ap (λ ms. noted_at_clock (clock past) (Mark.moment now ∷ ms)) on in
           within_moment i.class (clock past) s i.timeout now (span i past)
           (ap (λ z. sent_clock (span i past ++ z)) (sym one) ∙ (ap sent_clock (sym grown) ∙ sent))
           (ap (closing_after i.class i.timeout (span i past)) (sym one) ∙ nones.1) (ih nones.0)
 
-  pair_within : (event : Event) (answer : Answer) → record { event = event; answer = answer } ≡ pair
-      → clock (record { event = event; answer = answer } ∷ past) < s + max 1 i.timeout
-  pair_within Event.new_dialogue answer e = still_within
-  pair_within (Event.on_dialogue d r) answer e = still_within
-  pair_within (Event.received bytes) answer e = still_within
-  pair_within (Event.moment now) answer e = go (is_accepted answer) refl
+  pair_within : (event : Event) (answer : Answer) (idle_ms : ℕ)
+      → record { event = event; answer = answer; idle_ms = idle_ms } ≡ pair
+      → clock (record { event = event; answer = answer; idle_ms = idle_ms } ∷ past) < s + max 1 i.timeout
+  pair_within Event.new_dialogue answer idle_ms e = still_within
+  pair_within (Event.on_dialogue d r) answer idle_ms e = still_within
+  pair_within (Event.received bytes) answer idle_ms e = still_within
+  pair_within (Event.moment now) answer idle_ms e = go (is_accepted answer) refl
     where
-      go : (b : Bool) → is_accepted answer ≡ b → clock (at_moment now answer ∷ past) < s + max 1 i.timeout
-      go true q = rw q (moment_within now answer e q)
+      go : (b : Bool) → is_accepted answer ≡ b → clock (at_moment now answer idle_ms ∷ past) < s + max 1 i.timeout
+      go true q = rw q (moment_within now answer idle_ms e q)
       go false q = rw q still_within
 
 pub clock_before : (i : Invocation) (past : Past) (s : ℕ) → is_some (invocation_of i.number past) ≡ true
@@ -188,7 +245,8 @@ clock_before i (pair ∷ past) s made fresh none sent =
     go true q ih =
         let before = (none_before (is_reused i past) (is_invoked (has_id i.dialogue i.id) (invoked_by pair))
         (sym (reused_step i pair past q) ∙ fresh)).0 in
-        pair_within i past q (λ x k y. ih k q before x y) pair s fresh none sent pair.event pair.answer refl
+        pair_within i past q (λ x k y. ih k q before x y) pair s fresh none sent pair.event pair.answer
+        pair.idle_ms refl
 
 pub clock_within : (i : Invocation) (past : Past) (s : ℕ) → is_some (invocation_of i.number past) ≡ true
     → is_reused i past ≡ false

@@ -57,12 +57,12 @@ none-asked request answer e =
     map (λ part. record { component = part; number = number_of answer }) (option_to_list c)) (no-component request e)
 
 -- a request that sends components submits none
-sending-submits : (d waiting : ℕ) (event : Event) (answer : Answer) (past : Past) →
-    is_sending d (record { event = event; answer = answer }) ≡ true → submitted_by d waiting past event answer ≡ []
-sending-submits d waiting Event.new_dialogue answer past e = refl
-sending-submits d waiting (Event.received bytes) answer past e = absurd (true≢false (sym e))
-sending-submits d waiting (Event.moment now) answer past e = refl
-sending-submits d waiting (Event.on_dialogue named request) answer past e =
+sending-submits : (d waiting : ℕ) (event : Event) (answer : Answer) (idle_ms : ℕ) (past : Past) →
+    is_sending d (record { event = event; answer = answer; idle_ms = idle_ms }) ≡ true → submitted_by d waiting past event answer ≡ []
+sending-submits d waiting Event.new_dialogue answer idle_ms past e = refl
+sending-submits d waiting (Event.received bytes) answer idle_ms past e = absurd (true≢false (sym e))
+sending-submits d waiting (Event.moment now) answer idle_ms past e = refl
+sending-submits d waiting (Event.on_dialogue named request) answer idle_ms past e =
     let asks = (and_parts ((named == d) && sends_components request) (is_accepted answer) e).0 in
     let sends = (and_parts (named == d) (sends_components request) asks).1 in
     by ((named == d) && is_accepted answer) sends
@@ -88,7 +88,7 @@ split d given [] = refl
 split d given (pair ∷ past) =
     let now : List ℕ = given_up_on d pair.event pair.answer in
     split-at (is_sending d pair) d given now (submitted_at d pair past) past
-    (sending-submits d (octet_count (unsent d [] past)) pair.event pair.answer past) (split d (now ++ given) past)
+    (sending-submits d (octet_count (unsent d [] past)) pair.event pair.answer pair.idle_ms past) (split d (now ++ given) past)
 
 -- ---- one pair
 
@@ -132,7 +132,7 @@ module _ (h : History) (d : ℕ) (waits : WaitsUnsent d h.pairs) where
       (is_accepted answer) refl
 
   abbrev answered : Event → Pair
-  answered event = record { event = event; answer = reply h event }
+  answered event = record { event = event; answer = reply h event; idle_ms = h.start.idle_ms }
 
   event-sends : (event : Event) → Sends (octets_on d event (reply h event)) (is_sending d (answered event))
   event-sends Event.new_dialogue = refl
@@ -162,7 +162,7 @@ module _ (start : Start) (d : ℕ) where
           (if is_sending d pair then components (unsent d [] past) else [])
       now =
           subst (λ (a : Answer). HaveComponents (octets_on d pair.event a)
-          (if is_sending d (record { event = pair.event; answer = a }) then components (unsent d [] past) else []))
+          (if is_sending d (record { event = pair.event; answer = a; idle_ms = pair.idle_ms }) then components (unsent d [] past) else []))
           (sym legal.1)
           (event-sends (record { start = start; pairs = past }) d (queue-unsent start d past legal.2) pair.event)
 
@@ -197,12 +197,12 @@ module _ (start : Start) (d : ℕ) where
 -- ---- no other Send has components
 
 module _ (h : History) (bytes : List ℕ) where
-  no-others : (event : Event) → SendsNone (record { event = event; answer = reply h event }) →
+  no-others : (event : Event) → SendsNone (record { event = event; answer = reply h event; idle_ms = h.start.idle_ms }) →
       Tells (reply h event) (Output.send bytes) → HasComponents bytes []
   no-others Event.new_dialogue none tells =
       absurd (tells-sends Nothing (reply h Event.new_dialogue) bytes (birth-sends h (birth_due h)) tells)
   no-others (Event.moment now) none tells =
-      let sends = moment-sends h.pairs now (moment_fault now) in
+      let sends = moment-sends h.start.idle_ms h.pairs now (moment_fault now) in
       absurd (tells-sends Nothing (reply h (Event.moment now)) bytes sends tells)
   no-others (Event.received octets) none tells =
       let sent = sent_for_bytes h octets bytes tells in
@@ -230,7 +230,7 @@ sent-once h legal = record {
       let here = legal-before h.start stands.later (pair ∷ before)
       (subst (AreReplies h.start) stands.is_past legal.1) in
       no-others (record { start = h.start; pairs = before }) bytes pair.event
-      (λ d. sym (ap (λ (a : Answer). is_sending d (record { event = pair.event; answer = a })) here.1) ∙ none d)
+      (λ d. sym (ap (λ (a : Answer). is_sending d (record { event = pair.event; answer = a; idle_ms = pair.idle_ms })) here.1) ∙ none d)
       (subst (λ (a : Answer). Tells a (Output.send bytes)) here.1 tells);
 }
 

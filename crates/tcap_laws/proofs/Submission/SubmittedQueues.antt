@@ -34,9 +34,9 @@ use Rattle.tcap_model.specs.Statements.ComponentPortion.{portion_of}
 
 -- ---- before its birth nothing waits for a dialogue
 
-module _ (start : Start) (d : ℕ) where
+module _ (start : Start) (d idle_ms : ℕ) where
   abbrev at : Event → Answer → Pair
-  at event answer = record { event = event; answer = answer }
+  at event answer = record { event = event; answer = answer; idle_ms = idle_ms }
 
   abbrev named_queue : Past → List ℕ → Bool → List Queued
   named_queue past bytes named =
@@ -55,7 +55,7 @@ module _ (start : Start) (d : ℕ) where
       by true e =
           let lives : life named past ≡ Life.unborn = ap (λ (n : ℕ). life n past) (eqb-true named d e) ∙ unborn in
           ap (λ (b : Bool). queue_if_accepted b (queue d past) request answer)
-          (unborn_refused start named request answer past legal lives) ∙ empty
+          (unborn_refused start named request answer idle_ms past legal lives) ∙ empty
   unborn-step (Event.received bytes) answer past legal unborn empty none =
       ap (λ (b : Bool). if b then queue_at_birth d past (frame_at bytes)
       else named_queue past bytes (names (Event.received bytes) d)) none
@@ -66,12 +66,13 @@ module _ (start : Start) (d : ℕ) where
       by false = empty
   unborn-step (Event.moment now) answer past legal unborn empty none = empty
 
-  unborn-queue : (past : Past) → AreReplies start past → was_born d past ≡ false → queue d past ≡ []
-  unborn-queue [] legal none = refl
-  unborn-queue (pair ∷ past) legal none =
-      let parts = or_parts (is_birth_of d pair) (was_born d past) none in
-      unborn-step pair.event pair.answer past legal (unborn-life d past parts.1)
-      (unborn-queue past legal.2 parts.1) parts.0
+unborn-queue : (start : Start) (d : ℕ) (past : Past) → AreReplies start past → was_born d past ≡ false
+    → queue d past ≡ []
+unborn-queue start d [] legal none = refl
+unborn-queue start d (pair ∷ past) legal none =
+    let parts = or_parts (is_birth_of d pair) (was_born d past) none in
+    unborn-step start d pair.idle_ms pair.event pair.answer past legal (unborn-life d past parts.1)
+    (unborn-queue start d past legal.2 parts.1) parts.0
 
 -- ---- the Rejects of a message can be written and read back
 
@@ -101,12 +102,12 @@ module _ (d : ℕ) (past : Past) where
 
 -- ---- one pair
 
-module _ (h : History) (d : ℕ) (legal : AreReplies h.start h.pairs) (waits : WaitsUnsent d h.pairs) where
+module _ (h : History) (d idle_ms : ℕ) (legal : AreReplies h.start h.pairs) (waits : WaitsUnsent d h.pairs) where
   abbrev waiting : List Queued
   waiting = queue d h.pairs
 
   abbrev with_answer : Event → Answer → Pair
-  with_answer event answer = record { event = event; answer = answer }
+  with_answer event answer = record { event = event; answer = answer; idle_ms = idle_ms }
 
   -- what is born now has nothing that waits
   next-empty : next_dialogue h ≡ d → waiting ≡ []
@@ -180,7 +181,7 @@ module _ (h : History) (d : ℕ) (legal : AreReplies h.start h.pairs) (waits : W
       by : (b : Bool) → (named == d) ≡ b → WaitsUnsent d
           (with_answer (Event.on_dialogue named request) answer ∷ h.pairs)
       by true e =
-          request-waits h d named e waits request answer
+          request-waits h d named idle_ms e waits request answer
           (and_parts (is_short named) (is_request request) range).1 is_reply (is_accepted answer) refl
       by false e =
           let here : Pair = with_answer (Event.on_dialogue named request) answer in
@@ -200,5 +201,5 @@ module _ (h : History) (d : ℕ) (legal : AreReplies h.start h.pairs) (waits : W
 pub queue-unsent : (start : Start) (d : ℕ) (past : Past) → AreReplies start past → WaitsUnsent d past
 queue-unsent start d [] legal = λ given. tt
 queue-unsent start d (pair ∷ past) legal =
-    pair-waits (record { start = start; pairs = past }) d legal.2 (queue-unsent start d past legal.2)
-    pair.event pair.answer legal.0 legal.1
+    pair-waits (record { start = start; pairs = past }) d pair.idle_ms legal.2 (queue-unsent start d past legal.2)
+    pair.event pair.answer legal.0.in_range legal.1

@@ -84,9 +84,10 @@ module _ (d : ℕ) (pair : Pair) (past : Past) (waits : WaitsUnsent d past) wher
 
 -- ---- requests
 
-module _ (h : History) (d named : ℕ) (same : (named == d) ≡ true) (waits : WaitsUnsent d h.pairs) where
+module _ (h : History) (d named idle_ms : ℕ) (same : (named == d) ≡ true) (waits : WaitsUnsent d h.pairs) where
   abbrev with_answer : Request → Answer → Pair
-  with_answer request answer = record { event = Event.on_dialogue named request; answer = answer }
+  with_answer request answer =
+      record { event = Event.on_dialogue named request; answer = answer; idle_ms = idle_ms }
 
   abbrev After : Request → Answer → Type 0
   After request answer = WaitsUnsent d (with_answer request answer ∷ h.pairs)

@@ -4,7 +4,7 @@ use Rattle.std.proofs.lemmas.Bool.Decides.{nat_tests}
 use Rattle.std.specs.Prelude.{is_some}
 use Rattle.tcap_component.specs.ComponentReading.{components_of}
 use Rattle.tcap_invocation.specs.Invocations.{InvocationList}
-use Rattle.tcap_laws.proofs.Rows.NoRowsAtBirth.{next_unborn, none_listed, rows_born}
+use Rattle.tcap_laws.proofs.Rows.NoRowsAtBirth.{next_unborn, next_untouched, none_listed, rows_born}
 use Rattle.tcap_laws.proofs.Rows.DistinctRows.{rows_distinct}
 use Rattle.tcap_laws.proofs.Rows.SentInRows.{sent-rows}
 use Rattle.tcap_laws.proofs.Rows.ComponentsAlike.{IsLike, fault_last, walk_tells, walk_rejects}
@@ -21,7 +21,7 @@ use Rattle.tcap_model.specs.Words.Event.{Event}
 use Rattle.tcap_model.specs.Histories.History.{History}
 use Rattle.tcap_model.specs.Invocations.Invocation.{latest}
 use Rattle.tcap_model.specs.Replies.Legal.{IsLegal}
-use Rattle.tcap_model.specs.Histories.Life.{life, live_in, life_after, life_at_birth, begin_context, begun_life}
+use Rattle.tcap_model.specs.Histories.Life.{life, touched, live_in, life_after, life_at_birth, begin_context, begun_life}
 use Rattle.tcap_model.specs.Words.LocalId.{is_that}
 use Rattle.tcap_model.specs.Procedures.AbortRules.{abort_with, resource_limitation}
 use Rattle.tcap_model.specs.Words.Output.{Output, DropCause, DialogueIndication}
@@ -73,7 +73,7 @@ context_is live full bytes origin portion context info components frame e =
 
 module _ (h : History) (legal : IsLegal h) where
   abbrev fresh : Dialogue
-  fresh = fresh_dialogue (next_dialogue h) h.start.reject_ms
+  fresh = fresh_dialogue (next_dialogue h) h.start.reject_ms h.start.idle_ms
 
   abbrev standing_list : InvocationList
   standing_list = record { reject_ms = h.start.reject_ms; rows = rows_of h.start.reject_ms (next_dialogue h) h.pairs }
@@ -128,7 +128,8 @@ module _ (h : History) (legal : IsLegal h) where
         ∷ told_of (handled_in (next_dialogue h) h.pairs components))
     reply_is = ap (λ r. Answer.outputs (reception_outputs h r)) accepted
 
-    pub begun-answered : (born (setting_at h) (next_dialogue h) h.start.reject_ms origin context info components).answer
+    pub begun-answered : (born (setting_at h) (next_dialogue h) h.start.reject_ms h.start.idle_ms origin context info
+        components).answer
         ≡ reply h (Event.received bytes)
     begun-answered = ap (λ z. Answer.outputs (Output.dialogue (DialogueIndication.begin (next_dialogue h) context info)
         ∷ z)) (told_is components) ∙ sym reply_is
@@ -142,40 +143,50 @@ module _ (h : History) (legal : IsLegal h) where
         own : (next_dialogue h == next_dialogue h) ≡ true
         own = grind (arith, nat_tests)
 
-    abbrev made : Option (List ℕ) → List Queued → InvocationList → Option Dialogue
-    made c q list = Some (record {
+    abbrev made : Option (List ℕ) → List Queued → InvocationList → ℕ → Option Dialogue
+    made c q list t = Some (record {
       standing =
           record { identifier = next_dialogue h; state = State.received origin; context = c; queue = q };
       invocations =
           list;
+      idle_ms = h.start.idle_ms;
+      touched = t;
     })
 
+    abbrev last : ℕ
+    last = touched (next_dialogue h) (here ∷ h.pairs)
+
     pub begun-born : (portion : Option (List ℕ)) → frame_at bytes ≡ Ok (Message.begin origin portion components)
-        → dialogue_at h.start.reject_ms (here ∷ h.pairs) (next_dialogue h)
-        ≡ left_standing (born (setting_at h) (next_dialogue h) h.start.reject_ms origin context info components)
+        → dialogue_at h.start.reject_ms h.start.idle_ms (here ∷ h.pairs) (next_dialogue h)
+        ≡ left_standing (born (setting_at h) (next_dialogue h) h.start.reject_ms h.start.idle_ms origin context info
+        components)
     begun-born portion frame =
-        ap (λ l. dialogue_by h.start.reject_ms (next_dialogue h) (here ∷ h.pairs) (life_after (next_dialogue h) l here))
+        ap (λ l. dialogue_by h.start.reject_ms h.start.idle_ms (next_dialogue h) (here ∷ h.pairs)
+        (life_after (next_dialogue h) (touched (next_dialogue h) h.pairs) l here))
         (next_unborn h legal)
-        ∙ (ap (λ b. dialogue_by h.start.reject_ms (next_dialogue h) (here ∷ h.pairs)
+        ∙ (ap (λ b. dialogue_by h.start.reject_ms h.start.idle_ms (next_dialogue h) (here ∷ h.pairs)
         (life_at_birth b (Event.received bytes))) birth
-        ∙ (ap (λ r. dialogue_by h.start.reject_ms (next_dialogue h) (here ∷ h.pairs) (begun_life r)) frame
+        ∙ (ap (λ r. dialogue_by h.start.reject_ms h.start.idle_ms (next_dialogue h) (here ∷ h.pairs) (begun_life r))
+        frame
         ∙ (ap (λ c. made c (queue (next_dialogue h) (here ∷ h.pairs))
         (record {
           reject_ms = h.start.reject_ms;
           rows =
               rows_of h.start.reject_ms (next_dialogue h) (here ∷ h.pairs);
-        }))
+        }) last)
         (context_is (λ dialogue. live_in (life dialogue h.pairs)) (is_some (birth_due h)) bytes origin portion context
         info components frame accepted)
         ∙ (ap (λ q. made context q (record {
           reject_ms = h.start.reject_ms;
           rows =
               rows_of h.start.reject_ms (next_dialogue h) (here ∷ h.pairs);
-        })) queue_is
+        }) last) queue_is
         ∙ (ap (λ z. made context (queue_each queue_limit [] (walk components).rejects)
-        (record { reject_ms = h.start.reject_ms; rows = z }))
+        (record { reject_ms = h.start.reject_ms; rows = z }) last)
         (rows_born h.start.reject_ms h.start here h.pairs legal.1 refl (next_dialogue h) (next_unborn h legal))
-        ∙ ap (made context (queue_each queue_limit [] (walk components).rejects)) (left_is components))))))
+        ∙ (ap (λ l. made context (queue_each queue_limit [] (walk components).rejects) l last) (left_is components)
+        ∙ ap (made context (queue_each queue_limit [] (walk components).rejects) (walk components).invocations)
+        (next_untouched h legal (Event.received bytes))))))))
       where
         queue_is : queue (next_dialogue h) (here ∷ h.pairs) ≡ queue_each queue_limit [] (walk components).rejects
         queue_is =

@@ -96,7 +96,7 @@ each-identifier start (pair ∷ past) legal =
   where
     go : (o : Option Invocation) → invoked_by pair ≡ o → AllByRecursion HasIdentifier (option_to_list o)
     go None e = tt
-    go (Some i) e = (made-identifier pair i legal.0 e, tt)
+    go (Some i) e = (made-identifier pair i legal.0.in_range e, tt)
 
 module _ (reject_ms dialogue : ℕ) (past : Past) where
   abbrev row_here : Invocation → Option Row

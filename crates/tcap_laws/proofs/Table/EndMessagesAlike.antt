@@ -42,7 +42,7 @@ module _ (h : History) (dialogue : ℕ) (legal : IsLegal h) where
       (ended_after h.start h.pairs legal.1 h.start.reject_ms dialogue (components_of components)))
 
   pub end-answered : (d : Dialogue) (to : List ℕ) (portion : Option (List ℕ)) (components : List ℕ)
-      → dialogue_at h.start.reject_ms h.pairs dialogue ≡ Some d
+      → dialogue_at h.start.reject_ms h.start.idle_ms h.pairs dialogue ≡ Some d
       → (table_move (setting_at h) d (DialogueEvent.frame (Message.end to portion components))).answer
       ≡ Answer.outputs (taken_outputs dialogue h.pairs (life dialogue h.pairs) (Message.end to portion components))
   unfolding table_move

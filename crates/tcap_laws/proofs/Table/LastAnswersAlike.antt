@@ -69,7 +69,8 @@ module _ (h : History) (dialogue : ℕ) (legal : IsLegal h) where
   all-requested state context request None = all-accepted state context request
   all-requested state context request (Some fault) = refl
 
-  pub request-agrees : (d : Dialogue) (request : Request) → dialogue_at h.start.reject_ms h.pairs dialogue ≡ Some d
+  pub request-agrees : (d : Dialogue) (request : Request)
+      → dialogue_at h.start.reject_ms h.start.idle_ms h.pairs dialogue ≡ Some d
       → (table_move (setting_at h) d (DialogueEvent.request request)).answer
       ≡ reply h (Event.on_dialogue dialogue request)
   unfolding table_move
@@ -82,7 +83,8 @@ module _ (h : History) (dialogue : ℕ) (legal : IsLegal h) where
 
   -- ---- messages and faults
 
-  pub fault-agrees : (d : Dialogue) (cause : ℕ) → dialogue_at h.start.reject_ms h.pairs dialogue ≡ Some d
+  pub fault-agrees : (d : Dialogue) (cause : ℕ)
+      → dialogue_at h.start.reject_ms h.start.idle_ms h.pairs dialogue ≡ Some d
       → (table_move (setting_at h) d (DialogueEvent.fault cause)).answer
       ≡ Answer.outputs (Output.dialogue (DialogueIndication.p_abort dialogue (AbortCause.cause cause))
       ∷ ended_in dialogue h.pairs [])
@@ -95,7 +97,7 @@ module _ (h : History) (dialogue : ℕ) (legal : IsLegal h) where
       (DialogueIndication.p_abort dialogue (AbortCause.cause cause)) ∷ [])) (life dialogue h.pairs) e
 
   pub abort-agrees : (d : Dialogue) (to : List ℕ) (reason : Reason)
-      → dialogue_at h.start.reject_ms h.pairs dialogue ≡ Some d
+      → dialogue_at h.start.reject_ms h.start.idle_ms h.pairs dialogue ≡ Some d
       → (table_move (setting_at h) d (DialogueEvent.frame (Message.abort to reason))).answer
       ≡ Answer.outputs (taken_outputs dialogue h.pairs (life dialogue h.pairs) (Message.abort to reason))
   unfolding table_move
@@ -120,7 +122,7 @@ module _ (h : History) (dialogue : ℕ) (legal : IsLegal h) where
       (dialogue_in state context).invocations [] tt like-standing)
 
   pub components-rejected : (d : Dialogue) (components : List ℕ)
-      → dialogue_at h.start.reject_ms h.pairs dialogue ≡ Some d
+      → dialogue_at h.start.reject_ms h.start.idle_ms h.pairs dialogue ≡ Some d
       → (walked_in (clock h.pairs) d components).rejects ≡ rejects_of (handled_in dialogue h.pairs components)
   components-rejected d components e =
       at_life (λ l d. (walked_in (clock h.pairs) d components).rejects
@@ -141,7 +143,7 @@ module _ (h : History) (dialogue : ℕ) (legal : IsLegal h) where
       (components-told state context components)
 
   pub continue-agrees : (d : Dialogue) (origin to : List ℕ) (portion : Option (List ℕ)) (components : List ℕ)
-      → dialogue_at h.start.reject_ms h.pairs dialogue ≡ Some d
+      → dialogue_at h.start.reject_ms h.start.idle_ms h.pairs dialogue ≡ Some d
       → (table_move (setting_at h) d (DialogueEvent.frame (Message.go_on origin to portion components))).answer
       ≡ Answer.outputs (taken_outputs dialogue h.pairs (life dialogue h.pairs)
       (Message.go_on origin to portion components))
@@ -163,7 +165,7 @@ module _ (h : History) (dialogue : ℕ) (legal : IsLegal h) where
   abnormal-end state context components (PortionVerdict.normal told info) e = absurd cc
 
   pub end-agrees : (d : Dialogue) (to : List ℕ) (portion : Option (List ℕ)) (components : List ℕ)
-      → dialogue_at h.start.reject_ms h.pairs dialogue ≡ Some d
+      → dialogue_at h.start.reject_ms h.start.idle_ms h.pairs dialogue ≡ Some d
       → portion_verdict d.standing.state d.standing.context portion ≡ PortionVerdict.abnormal
       → (table_move (setting_at h) d (DialogueEvent.frame (Message.end to portion components))).answer
       ≡ Answer.outputs (taken_outputs dialogue h.pairs (life dialogue h.pairs) (Message.end to portion components))

@@ -10,44 +10,55 @@ use Rattle.tcap_laws.proofs.Spans.EventMarks.{standing_marks}
 use Rattle.tcap_laws.proofs.Rows.RowsAfterPairs.{rows_kept, rows_lapsed}
 use Rattle.tcap_laws.proofs.Table.RequestsJudgedAlike.{standing_dialogue, at_life}
 use Rattle.tcap_laws.proofs.Rows.Restaged.{passing_rows}
-use Rattle.tcap_laws.proofs.Table.StandingPairs.{here, life_named, queue_named, assembled}
+use Rattle.tcap_laws.proofs.Table.StandingPairs.{here, life_named, queue_named, touched_named, assembled}
 use Rattle.tcap_laws.proofs.Rows.ComponentsAlike.{fault_last}
 use Rattle.tcap_laws.proofs.Rows.RowsAfterComponents.{walk_at, rows_up}
 use Rattle.tcap_model.specs.Table.Agreement.{setting_at, due_pair}
 use Rattle.tcap_model.specs.Words.Answer.{Answer, is_accepted}
 use Rattle.tcap_model.specs.Histories.Clock.{clock}
-use Rattle.tcap_model.specs.Table.Dialogue.{Dialogue}
+use Rattle.tcap_model.specs.Table.Dialogue.{Dialogue, is_idle_at}
 use Rattle.tcap_model.specs.Words.Event.{Event}
 use Rattle.tcap_model.specs.Words.Fault.{Fault}
 use Rattle.tcap_model.specs.Replies.Held.{pair_ends_wait}
 use Rattle.tcap_model.specs.Histories.History.{History}
 use Rattle.tcap_model.specs.Replies.Legal.{IsLegal}
-use Rattle.tcap_model.specs.Histories.Life.{Life, life, state_after_continue, life_by_verdict, life_by_message, life_if_live, life_by_event}
+use Rattle.tcap_model.specs.Histories.Life.{Life, life, touched, state_after_continue, life_by_verdict, life_by_message, life_if_live, life_by_moment, life_by_event}
+use Rattle.tcap_model.specs.Histories.Life.{is_normal, touches_as_message}
 use Rattle.tcap_model.specs.Invocations.Marks.{Mark, marks, end_if_over, if_normal, component_marks, marks_of_message, marks_by_event, marks_if_live}
 use Rattle.tcap_model.specs.Histories.Names.{names}
 use Rattle.tcap_model.specs.Procedures.PortionRules.{PortionVerdict, portion_verdict}
 use Rattle.tcap_model.specs.Replies.Queue.{queue, handled_in, queue_by_verdict, queue_by_message, queue_by_bytes}
 use Rattle.tcap_model.specs.Procedures.QueueRules.{queue_limit, queue_each}
-use Rattle.tcap_model.specs.Replies.Reply.{reply, moment_answer, lapses}
+use Rattle.tcap_model.specs.Replies.Reply.{reply, moment_answer, moment_outputs}
 use Rattle.tcap_model.specs.Words.State.{State, is_live, peer_by}
-use Rattle.tcap_model.specs.Table.TableMove.{DialogueEvent, Walked, walked_in, continued_by, ended_by, table_move, left_standing}
-use Rattle.tcap_model.specs.Words.Time.{moment_fault}
+use Rattle.tcap_model.specs.Table.TableMove.{DialogueEvent, Walked, walked_in, continued_by, ended_by, idled, lapsed, table_move, left_standing}
+use Rattle.tcap_model.specs.Words.Time.{moment_fault, is_idle}
 use Rattle.tcap_model.specs.Table.World.{dialogue_at, dialogue_by, rows_of}
 use Rattle.tcap_pdu.specs.declared.fault.FrameFault.{FrameFault}
 use Rattle.tcap_pdu.specs.FrameReading.{frame_at}
 use Rattle.tcap_pdu.specs.FrameSpelling.{Message}
-use Rattle.tcap_laws.proofs.BoolLemmas.{and_false}
+use Rattle.tcap_laws.proofs.BoolLemmas.{and_false, and_true}
 use Rattle.tcap_laws.proofs.Rows.EndsAfterComponents.{rows_message}
 
 -- ---- what a history says in any case
 
-accepted_by : (h : History) (now : ℕ) (f : Option Fault) → f ≡ None → is_accepted (moment_answer h.pairs now f) ≡ true
+accepted_by : (h : History) (now : ℕ) (f : Option Fault) → f ≡ None
+    → is_accepted (moment_answer h.start.idle_ms h.pairs now f) ≡ true
 accepted_by h now (Some f) e = absurd cc
 accepted_by h now None e = go (nat_lt now (clock h.pairs))
   where
-    go : (b : Bool) → is_accepted (cond b (Answer.outputs []) (Answer.outputs (lapses h.pairs now))) ≡ true
+    go : (b : Bool) → is_accepted (cond b (Answer.outputs [])
+        (Answer.outputs (moment_outputs h.start.idle_ms h.pairs now))) ≡ true
     go true = refl
     go false = refl
+
+-- a moment ends a dialogue that is live and has stood still too long
+left_by_moment : (idle : Bool) (state : State) (context : Option (List ℕ))
+    → life_by_moment idle state context ≡ cond (is_live state && idle) Life.over (Life.standing state context)
+left_by_moment true state context =
+    ap (λ b. cond b Life.over (Life.standing state context)) (sym (and_true (is_live state)))
+left_by_moment false state context =
+    ap (λ b. cond b Life.over (Life.standing state context)) (sym (and_false (is_live state)))
 
 answered_is : (state : State) (origin : List ℕ) → is_live state ≡ true
     → state_after_continue state origin ≡ State.active (peer_by state origin)
@@ -62,29 +73,58 @@ module _ (h : History) (dialogue : ℕ) (legal : IsLegal h) (state : State) (con
   d = standing_dialogue h dialogue state context
 
   abbrev found_at : Event → Option Dialogue
-  found_at event = dialogue_at h.start.reject_ms (due_pair h event ∷ h.pairs) dialogue
+  found_at event = dialogue_at h.start.reject_ms h.start.idle_ms (due_pair h event ∷ h.pairs) dialogue
 
-  stands_at : dialogue_at h.start.reject_ms h.pairs dialogue ≡ Some d
-  stands_at = ap (dialogue_by h.start.reject_ms dialogue h.pairs) stands
+  stands_at : dialogue_at h.start.reject_ms h.start.idle_ms h.pairs dialogue ≡ Some d
+  stands_at = ap (dialogue_by h.start.reject_ms h.start.idle_ms dialogue h.pairs) stands
 
   -- ---- a moment
 
-  moment-moves : (now : ℕ) → moment_fault now ≡ None
-      → found_at (Event.moment now) ≡ left_standing (table_move (setting_at h) d (DialogueEvent.moment now))
-  unfolding table_move
-  moment-moves now e =
-      let accepted : is_accepted (reply h (Event.moment now)) ≡ true = accepted_by h now (moment_fault now) e in
-      let rows : List Row = rows_of h.start.reject_ms dialogue h.pairs in
-      life_named h dialogue legal state context stands (Event.moment now) refl (Life.standing state context) refl
-      ∙ assembled h dialogue legal state context stands (Event.moment now) state context (queue dialogue h.pairs)
-      (filter (λ r. stays now r.1.stage) rows)
-      (queue_named h dialogue legal state context stands (Event.moment now) refl)
-      (rows_lapsed h.start.reject_ms h.start (due_pair h (Event.moment now)) h.pairs legal.1 refl dialogue now
-      (λ k. standing_marks dialogue k (Event.moment now) (reply h (Event.moment now)) h.pairs state context stands refl
-      ∙ ap (λ b. noted_at_clock (clock h.pairs) (marks_by_event k (Life.standing state context)
-      (Life.standing state context) (Event.moment now) b)) accepted)
-      (λ k u. ap (λ b. b && nat_le u now) accepted)
-      ∙ sym (passing_rows (stays now) rows))
+  abbrev last : ℕ
+  last = touched dialogue h.pairs
+
+  module _ (now : ℕ) (timely : moment_fault now ≡ None) where
+    accepted : is_accepted (reply h (Event.moment now)) ≡ true
+    accepted = accepted_by h now (moment_fault now) timely
+
+    life_then : (idle : Bool) → is_idle_at now d ≡ idle
+        → life_by_event h.start.idle_ms last state context (Event.moment now) (is_accepted (reply h (Event.moment now)))
+        ≡ cond idle Life.over (Life.standing state context)
+    life_then idle e =
+        ap (λ b. life_by_moment (b && is_idle h.start.idle_ms last now) state context) accepted
+        ∙ (left_by_moment (is_idle h.start.idle_ms last now) state context
+        ∙ ap (λ b. cond b Life.over (Life.standing state context)) e)
+
+    lapsed_marks : is_idle_at now d ≡ false → (k : ℤ) → marks dialogue k (due_pair h (Event.moment now)) h.pairs
+        ≡ record { clock = clock h.pairs; mark = Mark.moment now } ∷ []
+    lapsed_marks e k =
+        standing_marks dialogue k (Event.moment now) (reply h (Event.moment now)) h.start.idle_ms h.pairs state context
+        stands refl
+        ∙ (ap (λ l. noted_at_clock (clock h.pairs) (marks_by_event k (Life.standing state context) l (Event.moment now)
+        (is_accepted (reply h (Event.moment now))))) (life_then false e)
+        ∙ ap (λ b. noted_at_clock (clock h.pairs) (marks_by_event k (Life.standing state context)
+        (Life.standing state context) (Event.moment now) b)) accepted)
+
+    moment_by : (idle : Bool) → is_idle_at now d ≡ idle
+        → found_at (Event.moment now) ≡ left_standing (cond idle (idled d now) (lapsed d now))
+    moment_by true e =
+        life_named h dialogue legal state context stands (Event.moment now) refl Life.over (life_then true e)
+    moment_by false e =
+        let rows : List Row = rows_of h.start.reject_ms dialogue h.pairs in
+        life_named h dialogue legal state context stands (Event.moment now) refl (Life.standing state context)
+        (life_then false e)
+        ∙ assembled h dialogue legal state context stands (Event.moment now) state context (queue dialogue h.pairs)
+        (filter (λ r. stays now r.1.stage) rows) last
+        (queue_named h dialogue legal state context stands (Event.moment now) refl)
+        (rows_lapsed h.start.reject_ms h.start (due_pair h (Event.moment now)) h.pairs legal.1 refl dialogue now
+        (lapsed_marks e) (λ k u. ap (λ b. b && nat_le u now) accepted)
+        ∙ sym (passing_rows (stays now) rows))
+        (touched_named h dialogue legal state context stands (Event.moment now) refl false refl)
+
+    moment-moves : found_at (Event.moment now)
+        ≡ left_standing (table_move (setting_at h) d (DialogueEvent.moment now))
+    unfolding table_move
+    moment-moves = moment_by (is_idle_at now d) refl
 
   -- ---- a message
 
@@ -93,11 +133,12 @@ module _ (h : History) (dialogue : ℕ) (legal : IsLegal h) (state : State) (con
     event = Event.received bytes
 
     module _ (read : Result Message FrameFault) (frame : frame_at bytes ≡ read) where
-      life_read : life_by_event state context event (is_accepted (reply h event)) ≡ life_by_message state context read
+      life_read : life_by_event h.start.idle_ms last state context event (is_accepted (reply h event))
+          ≡ life_by_message state context read
       life_read = ap (λ b. life_if_live b state context bytes) live ∙ ap (life_by_message state context) frame
 
       found_read : (l : Life) → life_by_message state context read ≡ l
-          → found_at event ≡ dialogue_by h.start.reject_ms dialogue
+          → found_at event ≡ dialogue_by h.start.reject_ms h.start.idle_ms dialogue
           (here h dialogue legal state context stands event ∷ h.pairs) l
       found_read l e = life_named h dialogue legal state context stands event named l (life_read ∙ e)
 
@@ -105,7 +146,7 @@ module _ (h : History) (dialogue : ℕ) (legal : IsLegal h) (state : State) (con
           ≡ noted_at_clock (clock h.pairs) (unwrap_or (marks_of_message k state context read)
           (end_if_over (Life.standing state context) (life_by_message state context read)))
       marks_read k =
-          standing_marks dialogue k event (reply h event) h.pairs state context stands named
+          standing_marks dialogue k event (reply h event) h.start.idle_ms h.pairs state context stands named
           ∙ (ap (λ b. noted_at_clock (clock h.pairs) (unwrap_or (marks_if_live b k state context bytes)
           (end_if_over (Life.standing state context) (life_if_live b state context bytes)))) live
           ∙ ap (λ f. noted_at_clock (clock h.pairs) (unwrap_or (marks_of_message k state context f)
@@ -120,6 +161,13 @@ module _ (h : History) (dialogue : ℕ) (legal : IsLegal h) (state : State) (con
           (frame_at bytes)) (queue dialogue h.pairs)) live
           ∙ ap (queue_by_message dialogue h.pairs (Life.standing state context) (queue dialogue h.pairs)) frame))
 
+      touched_read : touched dialogue (due_pair h event ∷ h.pairs)
+          ≡ cond (touches_as_message state context read) (clock h.pairs) last
+      touched_read =
+          touched_named h dialogue legal state context stands event named (touches_as_message state context read)
+          (ap (λ b. b && touches_as_message state context (frame_at bytes)) live
+          ∙ ap (touches_as_message state context) frame)
+
       no_end : (k : ℤ) (u : ℕ) → pair_ends_wait u dialogue k (due_pair h event) ≡ false
       no_end k u = and_false (is_accepted (reply h event))
 
@@ -127,16 +175,16 @@ module _ (h : History) (dialogue : ℕ) (legal : IsLegal h) (state : State) (con
       message_kept : life_by_message state context read ≡ Life.standing state context
           → ((k : ℤ) (other : List Mark) → unwrap_or (marks_of_message k state context read) other ≡ other)
           → queue_by_message dialogue h.pairs (Life.standing state context) (queue dialogue h.pairs) read
-          ≡ queue dialogue h.pairs → found_at event ≡ Some d
-      message_kept same none kept =
+          ≡ queue dialogue h.pairs → touches_as_message state context read ≡ false → found_at event ≡ Some d
+      message_kept same none kept untouched =
           found_read (Life.standing state context) same
           ∙ assembled h dialogue legal state context stands event state context (queue dialogue h.pairs)
-          (rows_of h.start.reject_ms dialogue h.pairs) (queue_read ∙ kept)
+          (rows_of h.start.reject_ms dialogue h.pairs) last (queue_read ∙ kept)
           (rows_kept h.start.reject_ms h.start (due_pair h event) h.pairs legal.1 refl dialogue
           (λ k. marks_read k ∙ (ap (noted_at_clock (clock h.pairs))
           (none k (end_if_over (Life.standing state context) (life_by_message state context read)))
           ∙ ap (λ l. noted_at_clock (clock h.pairs) (end_if_over (Life.standing state context) l)) same))
-          no_end)
+          no_end) (touched_read ∙ ap (λ b. cond b (clock h.pairs) last) untouched)
 
     -- a Continue
     module _ (origin to : List ℕ) (portion : Option (List ℕ)) (components : List ℕ)
@@ -157,7 +205,7 @@ module _ (h : History) (dialogue : ℕ) (legal : IsLegal h) (state : State) (con
           ∙ ap (λ s. Life.standing s context) (answered_is state origin live))
           ∙ (assembled h dialogue legal state context stands event (State.active (peer_by state origin)) context
           (queue_each queue_limit (queue dialogue h.pairs) walk.rejects)
-          (rows_up h.start h.pairs legal.1 h.start.reject_ms dialogue (components_of components))
+          (rows_up h.start h.pairs legal.1 h.start.reject_ms dialogue (components_of components)) (clock h.pairs)
           (queue_read read_as frame ∙ (ap (λ v. queue_by_verdict v (queue dialogue h.pairs)
           (handled_in dialogue h.pairs components)) e ∙ ap (queue_each queue_limit (queue dialogue h.pairs))
           (sym (components-rejected h dialogue legal d components stands_at))))
@@ -168,6 +216,7 @@ module _ (h : History) (dialogue : ℕ) (legal : IsLegal h) (state : State) (con
           (end_if_over (Life.standing state context) (life_by_verdict state context origin
           (portion_verdict state context portion))))) e)
           (no_end read_as frame))
+          (touched_read read_as frame ∙ ap (λ v. cond (is_normal v) (clock h.pairs) last) e)
           ∙ ap (λ l. Some (record {
             standing =
                 record {
@@ -178,6 +227,8 @@ module _ (h : History) (dialogue : ℕ) (legal : IsLegal h) (state : State) (con
                       queue_each queue_limit (queue dialogue h.pairs) walk.rejects;
                 };
             invocations = l;
+            idle_ms = h.start.idle_ms;
+            touched = clock h.pairs;
           }))
           (sym (walk_at h.start h.pairs legal.1 h.start.reject_ms dialogue (components_of components)
           (fault_last (length components) components))))
@@ -196,9 +247,9 @@ module _ (h : History) (dialogue : ℕ) (legal : IsLegal h) (state : State) (con
         ∙ ended_none (portion_verdict state context portion) (walked_in (clock h.pairs) d components)
     message-moves (Message.abort to reason) e = found_read (Ok (Message.abort to reason)) e Life.over refl
     message-moves (Message.unidirectional portion components) e =
-        message_kept (Ok (Message.unidirectional portion components)) e refl (λ k other. refl) refl
+        message_kept (Ok (Message.unidirectional portion components)) e refl (λ k other. refl) refl refl
     message-moves (Message.begin origin portion components) e =
-        message_kept (Ok (Message.begin origin portion components)) e refl (λ k other. refl) refl
+        message_kept (Ok (Message.begin origin portion components)) e refl (λ k other. refl) refl refl
 
     fault-moves : (f : FrameFault) (cause : ℕ) → frame_at bytes ≡ Err f
         → found_at event ≡ left_standing (table_move (setting_at h) d (DialogueEvent.fault cause))
@@ -210,38 +261,38 @@ module _ (h : History) (dialogue : ℕ) (legal : IsLegal h) (state : State) (con
 pub by_life : (P : Dialogue → Type 0) (h : History) (dialogue : ℕ) (d : Dialogue)
     → ((state : State) (context : Option (List ℕ)) → life dialogue h.pairs ≡ Life.standing state context
     → P (standing_dialogue h dialogue state context))
-    → dialogue_at h.start.reject_ms h.pairs dialogue ≡ Some d → P d
+    → dialogue_at h.start.reject_ms h.start.idle_ms h.pairs dialogue ≡ Some d → P d
 by_life P h dialogue d standing e =
     at_life (λ l d. life dialogue h.pairs ≡ l → P d) h dialogue d (λ state context q. standing state context q)
     (life dialogue h.pairs) e refl
 
 pub taken-moves : (h : History) (dialogue : ℕ) (d : Dialogue) (bytes : List ℕ) (m : Message) → IsLegal h
-    → dialogue_at h.start.reject_ms h.pairs dialogue ≡ Some d
+    → dialogue_at h.start.reject_ms h.start.idle_ms h.pairs dialogue ≡ Some d
     → names (Event.received bytes) dialogue ≡ true → is_live d.standing.state ≡ true → frame_at bytes ≡ Ok m
-    → dialogue_at h.start.reject_ms (due_pair h (Event.received bytes) ∷ h.pairs) dialogue
+    → dialogue_at h.start.reject_ms h.start.idle_ms (due_pair h (Event.received bytes) ∷ h.pairs) dialogue
     ≡ left_standing (table_move (setting_at h) d (DialogueEvent.frame m))
 taken-moves h dialogue d bytes m legal e named live frame =
     by_life (λ d. is_live d.standing.state ≡ true
-    → dialogue_at h.start.reject_ms (due_pair h (Event.received bytes) ∷ h.pairs) dialogue
+    → dialogue_at h.start.reject_ms h.start.idle_ms (due_pair h (Event.received bytes) ∷ h.pairs) dialogue
     ≡ left_standing (table_move (setting_at h) d (DialogueEvent.frame m))) h dialogue d
     (λ state context q live. message-moves h dialogue legal state context q bytes named live m frame) e live
 
 pub broken-moves : (h : History) (dialogue : ℕ) (d : Dialogue) (bytes : List ℕ) (fault : FrameFault) (cause : ℕ)
-    → IsLegal h → dialogue_at h.start.reject_ms h.pairs dialogue ≡ Some d
+    → IsLegal h → dialogue_at h.start.reject_ms h.start.idle_ms h.pairs dialogue ≡ Some d
     → names (Event.received bytes) dialogue ≡ true → is_live d.standing.state ≡ true → frame_at bytes ≡ Err fault
-    → dialogue_at h.start.reject_ms (due_pair h (Event.received bytes) ∷ h.pairs) dialogue
+    → dialogue_at h.start.reject_ms h.start.idle_ms (due_pair h (Event.received bytes) ∷ h.pairs) dialogue
     ≡ left_standing (table_move (setting_at h) d (DialogueEvent.fault cause))
 broken-moves h dialogue d bytes fault cause legal e named live frame =
     by_life (λ d. is_live d.standing.state ≡ true
-    → dialogue_at h.start.reject_ms (due_pair h (Event.received bytes) ∷ h.pairs) dialogue
+    → dialogue_at h.start.reject_ms h.start.idle_ms (due_pair h (Event.received bytes) ∷ h.pairs) dialogue
     ≡ left_standing (table_move (setting_at h) d (DialogueEvent.fault cause))) h dialogue d
     (λ state context q live. fault-moves h dialogue legal state context q bytes named live fault cause frame) e live
 
 pub lapsed-moves : (h : History) (dialogue : ℕ) (d : Dialogue) (now : ℕ) → IsLegal h
-    → dialogue_at h.start.reject_ms h.pairs dialogue ≡ Some d → moment_fault now ≡ None
-    → dialogue_at h.start.reject_ms (due_pair h (Event.moment now) ∷ h.pairs) dialogue
+    → dialogue_at h.start.reject_ms h.start.idle_ms h.pairs dialogue ≡ Some d → moment_fault now ≡ None
+    → dialogue_at h.start.reject_ms h.start.idle_ms (due_pair h (Event.moment now) ∷ h.pairs) dialogue
     ≡ left_standing (table_move (setting_at h) d (DialogueEvent.moment now))
 lapsed-moves h dialogue d now legal e f =
-    by_life (λ d. dialogue_at h.start.reject_ms (due_pair h (Event.moment now) ∷ h.pairs) dialogue
+    by_life (λ d. dialogue_at h.start.reject_ms h.start.idle_ms (due_pair h (Event.moment now) ∷ h.pairs) dialogue
     ≡ left_standing (table_move (setting_at h) d (DialogueEvent.moment now))) h dialogue d
     (λ state context q. moment-moves h dialogue legal state context q now f) e

@@ -16,7 +16,7 @@ use Rattle.tcap_laws.proofs.Rows.RowsAfterPairs.{rows_kept}
 use Rattle.tcap_laws.proofs.Table.RequestsJudgedAlike.{standing_dialogue}
 use Rattle.tcap_laws.proofs.Rows.RowStages.{stage_more, stage_is, stage_then, stage_unless}
 use Rattle.tcap_laws.proofs.Rows.StagesByMarks.{marked_stage}
-use Rattle.tcap_laws.proofs.Table.StandingPairs.{life_unnamed, queue_unnamed, assembled}
+use Rattle.tcap_laws.proofs.Table.StandingPairs.{life_unnamed, queue_unnamed, touched_unnamed, assembled}
 use Rattle.tcap_laws.proofs.Decisions.ToldInvocations.{IsFound, each_found}
 use Rattle.tcap_model.specs.Table.Agreement.{due_pair}
 use Rattle.tcap_model.specs.Words.Answer.{is_accepted}
@@ -29,7 +29,7 @@ use Rattle.tcap_model.specs.Replies.Held.{pair_ends_wait, rejects_answer, is_wai
 use Rattle.tcap_model.specs.Histories.History.{Start, History}
 use Rattle.tcap_model.specs.Invocations.Invocation.{Invocation, invoked_by, invoked_under, invocations, has_id, with_id, latest}
 use Rattle.tcap_model.specs.Replies.Legal.{AreReplies, IsLegal}
-use Rattle.tcap_model.specs.Histories.Life.{Life, life}
+use Rattle.tcap_model.specs.Histories.Life.{Life, life, touched}
 use Rattle.tcap_model.specs.Invocations.Marks.{marks}
 use Rattle.tcap_model.specs.Histories.Names.{names}
 use Rattle.tcap_model.specs.Invocations.Numbers.{number_of}
@@ -134,11 +134,11 @@ module _ (h : History) (dialogue : ℕ) (legal : IsLegal h) where
       → rows_of h.start.reject_ms dialogue (due_pair h event ∷ h.pairs) ≡ rows_of h.start.reject_ms dialogue h.pairs
   rows_unnamed Event.new_dialogue e =
       rows_kept h.start.reject_ms h.start (due_pair h Event.new_dialogue) h.pairs legal.1 refl dialogue
-      (λ k. unnamed_marks dialogue k Event.new_dialogue (reply h Event.new_dialogue) h.pairs e)
+      (λ k. unnamed_marks dialogue k Event.new_dialogue (reply h Event.new_dialogue) h.start.idle_ms h.pairs e)
       (λ k u. and_false (is_accepted (reply h Event.new_dialogue)))
   rows_unnamed (Event.received bytes) e =
       rows_kept h.start.reject_ms h.start (due_pair h (Event.received bytes)) h.pairs legal.1 refl dialogue
-      (λ k. unnamed_marks dialogue k (Event.received bytes) (reply h (Event.received bytes)) h.pairs e)
+      (λ k. unnamed_marks dialogue k (Event.received bytes) (reply h (Event.received bytes)) h.start.idle_ms h.pairs e)
       (λ k u. and_false (is_accepted (reply h (Event.received bytes))))
   rows_unnamed (Event.moment now) e = absurd cc
   rows_unnamed (Event.on_dialogue asked request) e = go (invoked_by here) refl
@@ -148,7 +148,7 @@ module _ (h : History) (dialogue : ℕ) (legal : IsLegal h) where
 
       quiet : (k : ℤ) → marks dialogue k here h.pairs ≡ []
       quiet k = unnamed_marks dialogue k (Event.on_dialogue asked request) (reply h (Event.on_dialogue asked request))
-          h.pairs e
+          h.start.idle_ms h.pairs e
 
       no_end : (k : ℤ) (u : ℕ) → pair_ends_wait u dialogue k here ≡ false
       no_end k u = ap (λ b. is_accepted (reply h (Event.on_dialogue asked request)) && (b && rejects_answer k request))
@@ -162,17 +162,19 @@ module _ (h : History) (dialogue : ℕ) (legal : IsLegal h) where
 
   unnamed_stood : (state : State) (context : Option (List ℕ)) → life dialogue h.pairs ≡ Life.standing state context
       → (event : Event) → names event dialogue ≡ false
-      → dialogue_at h.start.reject_ms (due_pair h event ∷ h.pairs) dialogue
+      → dialogue_at h.start.reject_ms h.start.idle_ms (due_pair h event ∷ h.pairs) dialogue
       ≡ Some (standing_dialogue h dialogue state context)
   unnamed_stood state context stands event e =
       life_unnamed h dialogue legal state context stands event e
       ∙ assembled h dialogue legal state context stands event state context (queue dialogue h.pairs)
-      (rows_of h.start.reject_ms dialogue h.pairs) (queue_unnamed h dialogue legal state context stands event e)
-      (rows_unnamed event e)
+      (rows_of h.start.reject_ms dialogue h.pairs) (touched dialogue h.pairs)
+      (queue_unnamed h dialogue legal state context stands event e) (rows_unnamed event e)
+      (touched_unnamed h dialogue legal state context stands event e)
 
 pub unnamed-stays : (h : History) (dialogue : ℕ) (d : Dialogue) (event : Event) → IsLegal h
-    → dialogue_at h.start.reject_ms h.pairs dialogue ≡ Some d → names event dialogue ≡ false
-    → dialogue_at h.start.reject_ms (due_pair h event ∷ h.pairs) dialogue ≡ Some d
+    → dialogue_at h.start.reject_ms h.start.idle_ms h.pairs dialogue ≡ Some d → names event dialogue ≡ false
+    → dialogue_at h.start.reject_ms h.start.idle_ms (due_pair h event ∷ h.pairs) dialogue ≡ Some d
 unnamed-stays h dialogue d event legal e n =
-    by_life (λ d. dialogue_at h.start.reject_ms (due_pair h event ∷ h.pairs) dialogue ≡ Some d) h dialogue d
+    by_life (λ d. dialogue_at h.start.reject_ms h.start.idle_ms (due_pair h event ∷ h.pairs) dialogue ≡ Some d) h
+    dialogue d
     (λ state context q. unnamed_stood h dialogue legal state context q event n) e

@@ -19,7 +19,7 @@ use Rattle.tcap_laws.proofs.Table.RequestsJudgedAlike.{standing_dialogue}
 use Rattle.tcap_laws.proofs.Rows.Restaged.{on_id, restaged, LeavesStage, left_rows, freed_rows}
 use Rattle.tcap_laws.proofs.Rows.DistinctRows.{rows_distinct}
 use Rattle.tcap_laws.proofs.Rows.StagesByMarks.{dropped_stage}
-use Rattle.tcap_laws.proofs.Table.StandingPairs.{life_named, queue_named, assembled}
+use Rattle.tcap_laws.proofs.Table.StandingPairs.{life_named, queue_named, touched_named, assembled}
 use Rattle.tcap_model.specs.Table.Agreement.{due_pair}
 use Rattle.tcap_model.specs.Words.Answer.{Answer, is_accepted}
 use Rattle.tcap_model.specs.Histories.Clock.{clock}
@@ -31,7 +31,7 @@ use Rattle.tcap_model.specs.Replies.Held.{pair_ends_wait, rejects_answer}
 use Rattle.tcap_model.specs.Histories.History.{History}
 use Rattle.tcap_model.specs.Invocations.Invocation.{invoked_by, invoked_under}
 use Rattle.tcap_model.specs.Replies.Legal.{IsLegal}
-use Rattle.tcap_model.specs.Histories.Life.{Life, life, life_by_request, life_if_accepted}
+use Rattle.tcap_model.specs.Histories.Life.{Life, life, touched, life_by_request, life_if_accepted, touches_as_request}
 use Rattle.tcap_model.specs.Invocations.Marks.{Mark, marks, marks_of_request, end_if_over, marks_by_event}
 use Rattle.tcap_model.specs.Words.Output.{Output}
 use Rattle.tcap_model.specs.Invocations.Numbers.{number_of}
@@ -103,7 +103,7 @@ module _ (h : History) (dialogue : ℕ) (legal : IsLegal h) (state : State) (con
   rows = rows_of h.start.reject_ms dialogue h.pairs
 
   abbrev pub found_at : Option Dialogue
-  found_at = dialogue_at h.start.reject_ms (due_pair h event ∷ h.pairs) dialogue
+  found_at = dialogue_at h.start.reject_ms h.start.idle_ms (due_pair h event ∷ h.pairs) dialogue
 
   own : (dialogue == dialogue) ≡ true
   own = grind (arith, nat_tests)
@@ -123,7 +123,7 @@ module _ (h : History) (dialogue : ℕ) (legal : IsLegal h) (state : State) (con
     invoked_as = ap (λ a. invoked_under dialogue request (number_of a)) is
 
     pub found_by : (l : Life) → life_if_accepted (is_accepted a) state context request ≡ l
-        → found_at ≡ dialogue_by h.start.reject_ms dialogue (due_pair h event ∷ h.pairs) l
+        → found_at ≡ dialogue_by h.start.reject_ms h.start.idle_ms dialogue (due_pair h event ∷ h.pairs) l
     found_by l e = life_named h dialogue legal state context stands event own l
         (ap (λ a. life_if_accepted (is_accepted a) state context request) is ∙ e)
 
@@ -135,7 +135,7 @@ module _ (h : History) (dialogue : ℕ) (legal : IsLegal h) (state : State) (con
     pub marks_by : (k : ℤ) → marks dialogue k (due_pair h event) h.pairs
         ≡ noted_at_clock (clock h.pairs) (marks_by_event k (Life.standing state context)
         (life_if_accepted (is_accepted a) state context request) event (is_accepted a))
-    marks_by k = standing_marks dialogue k event (reply h event) h.pairs state context stands own
+    marks_by k = standing_marks dialogue k event (reply h event) h.start.idle_ms h.pairs state context stands own
         ∙ ap (λ a. noted_at_clock (clock h.pairs) (marks_by_event k (Life.standing state context)
         (life_if_accepted (is_accepted a) state context request) event (is_accepted a))) is
 
@@ -153,25 +153,34 @@ module _ (h : History) (dialogue : ℕ) (legal : IsLegal h) (state : State) (con
         rows_kept h.start.reject_ms h.start (due_pair h event) h.pairs legal.1 (invoked_as ∙ none) dialogue
         (λ k. marks_by k ∙ ap (noted_at_clock (clock h.pairs)) (no_marks k)) (λ k u. ends_by k u ∙ ends k)
 
+    -- the clock when the dialogue was touched last, by whether the request touches it
+    pub touched_by : touched dialogue (due_pair h event ∷ h.pairs)
+        ≡ cond (is_accepted a && touches_as_request request) (clock h.pairs) (touched dialogue h.pairs)
+    touched_by = touched_named h dialogue legal state context stands event own
+        (is_accepted a && touches_as_request request) (ap (λ a. is_accepted a && touches_as_request request) is)
+
     -- the dialogue of these parts
-    pub found_of : (s : State) (c : Option (List ℕ)) (q : List Component) (after : List Row)
+    pub found_of : (s : State) (c : Option (List ℕ)) (q : List Component) (after : List Row) (t : ℕ)
         → life_if_accepted (is_accepted a) state context request ≡ Life.standing s c
         → queue_if_accepted (is_accepted a) (queue dialogue h.pairs) request a ≡ q
         → rows_of h.start.reject_ms dialogue (due_pair h event ∷ h.pairs) ≡ after
+        → cond (is_accepted a && touches_as_request request) (clock h.pairs) (touched dialogue h.pairs) ≡ t
         → found_at ≡ Some (record {
           standing =
               record { identifier = dialogue; state = s; context = c; queue = q };
           invocations =
               record { reject_ms = h.start.reject_ms; rows = after };
+          idle_ms = h.start.idle_ms;
+          touched = t;
         })
-    found_of s c q after e w v =
-        found_by (Life.standing s c) e ∙ assembled h dialogue legal state context stands event s c q after
-        (queue_by ∙ w) v
+    found_of s c q after t e w v u =
+        found_by (Life.standing s c) e ∙ assembled h dialogue legal state context stands event s c q after t
+        (queue_by ∙ w) v (touched_by ∙ u)
 
   pub refused_moves : (f : Fault) → reply h event ≡ Answer.refused f → found_at ≡ Some d
   refused_moves f is =
-      found_of (Answer.refused f) is state context (queue dialogue h.pairs) rows refl refl
-      (rows_quiet (Answer.refused f) is refl (λ k. refl) (λ k. refl))
+      found_of (Answer.refused f) is state context (queue dialogue h.pairs) rows (touched dialogue h.pairs) refl refl
+      (rows_quiet (Answer.refused f) is refl (λ k. refl) (λ k. refl)) refl
 
   -- a message that takes the queue
   pub rows_sent : (outputs : List Output) (is : reply h event ≡ Answer.outputs outputs)

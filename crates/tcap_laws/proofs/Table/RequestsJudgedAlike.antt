@@ -12,7 +12,7 @@ use Rattle.tcap_model.specs.Words.Event.{Event}
 use Rattle.tcap_model.specs.Words.Fault.{Fault}
 use Rattle.tcap_model.specs.Replies.Held.{pending}
 use Rattle.tcap_model.specs.Histories.History.{History}
-use Rattle.tcap_model.specs.Histories.Life.{Life, life}
+use Rattle.tcap_model.specs.Histories.Life.{Life, life, touched}
 use Rattle.tcap_model.specs.Histories.Pair.{Past}
 use Rattle.tcap_model.specs.Procedures.Refusals.{Situation, due_on}
 use Rattle.tcap_model.specs.Replies.Reply.{reply, request_answer, accepted_answer, given_up_answer}
@@ -44,6 +44,8 @@ standing_dialogue h dialogue state context =
       standing = standing_of dialogue h.pairs state context;
       invocations =
           list_at h.start.reject_ms dialogue h.pairs;
+      idle_ms = h.start.idle_ms;
+      touched = touched dialogue h.pairs;
     }
 
 situation_by : Situation → Bool → Option ℕ → Situation
@@ -65,7 +67,7 @@ situation-standing h dialogue state context request =
 pub at_life : (P : Life → Dialogue → Type 0) (h : History) (dialogue : ℕ) (d : Dialogue)
     → ((state : State) (context : Option (List ℕ))
     → P (Life.standing state context) (standing_dialogue h dialogue state context))
-    → (l : Life) → dialogue_by h.start.reject_ms dialogue h.pairs l ≡ Some d → P l d
+    → (l : Life) → dialogue_by h.start.reject_ms h.start.idle_ms dialogue h.pairs l ≡ Some d → P l d
 at_life P h dialogue d standing Life.unborn e = absurd cc
 at_life P h dialogue d standing (Life.standing state context) e =
     let same : standing_dialogue h dialogue state context ≡ d = cc in
@@ -73,28 +75,28 @@ at_life P h dialogue d standing (Life.standing state context) e =
 at_life P h dialogue d standing Life.over e = absurd cc
 
 pub situation-agrees : (h : History) (dialogue : ℕ) (d : Dialogue) (request : Request)
-    → dialogue_at h.start.reject_ms h.pairs dialogue ≡ Some d
+    → dialogue_at h.start.reject_ms h.start.idle_ms h.pairs dialogue ≡ Some d
     → situation (setting_at h) d request ≡ situation_of h dialogue d.standing request
 situation-agrees h dialogue d request e =
     at_life (λ l d. situation (setting_at h) d request ≡ situation_of h dialogue d.standing request) h dialogue d
     (λ state context. situation-standing h dialogue state context request) (life dialogue h.pairs) e
 
 due-life : (h : History) (dialogue : ℕ) (d : Dialogue) (request : Request) (l : Life)
-    → dialogue_by h.start.reject_ms dialogue h.pairs l ≡ Some d
+    → dialogue_by h.start.reject_ms h.start.idle_ms dialogue h.pairs l ≡ Some d
     → due_on (situation (setting_at h) d request) request ≡ due_by h dialogue request l
 due-life h dialogue d request l e =
     at_life (λ l d. due_on (situation (setting_at h) d request) request ≡ due_by h dialogue request l) h dialogue d
     (λ state context. ap (λ s. due_on s request) (situation-standing h dialogue state context request)) l e
 
 pub due-agrees : (h : History) (dialogue : ℕ) (d : Dialogue) (request : Request)
-    → dialogue_at h.start.reject_ms h.pairs dialogue ≡ Some d
+    → dialogue_at h.start.reject_ms h.start.idle_ms h.pairs dialogue ≡ Some d
     → due_on (situation (setting_at h) d request) request ≡ due h dialogue request
 due-agrees h dialogue d request e = due-life h dialogue d request (life dialogue h.pairs) e
 
 -- ---- the answers
 
 pub refused-agrees : (h : History) (dialogue : ℕ) (d : Dialogue) (request : Request) (fault : Fault)
-    → dialogue_at h.start.reject_ms h.pairs dialogue ≡ Some d
+    → dialogue_at h.start.reject_ms h.start.idle_ms h.pairs dialogue ≡ Some d
     → due h dialogue request ≡ Some fault → table_move (setting_at h) d (DialogueEvent.request request)
     ≡ answering d (Answer.refused fault)
 unfolding table_move
@@ -133,7 +135,7 @@ requested-agrees h dialogue state context request None s = accepted-agrees h dia
 requested-agrees h dialogue state context request (Some fault) s = refl
 
 answer-life : (h : History) (dialogue : ℕ) (d : Dialogue) (request : Request) (l : Life)
-    → leaves_standing request ≡ true → dialogue_by h.start.reject_ms dialogue h.pairs l ≡ Some d
+    → leaves_standing request ≡ true → dialogue_by h.start.reject_ms h.start.idle_ms dialogue h.pairs l ≡ Some d
     → (requested_by (setting_at h) d request (due_by h dialogue request l)).answer
     ≡ request_answer h dialogue request l (due_by h dialogue request l)
 answer-life h dialogue d request l s e =
@@ -143,7 +145,7 @@ answer-life h dialogue d request l s e =
     (due_by h dialogue request (Life.standing state context)) s) l e
 
 pub answer-agrees : (h : History) (dialogue : ℕ) (d : Dialogue) (request : Request)
-    → dialogue_at h.start.reject_ms h.pairs dialogue ≡ Some d → leaves_standing request ≡ true
+    → dialogue_at h.start.reject_ms h.start.idle_ms h.pairs dialogue ≡ Some d → leaves_standing request ≡ true
     → (table_move (setting_at h) d (DialogueEvent.request request)).answer
     ≡ reply h (Event.on_dialogue dialogue request)
 unfolding table_move

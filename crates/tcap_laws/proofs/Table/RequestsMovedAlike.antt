@@ -1,6 +1,6 @@
 -- After each request a dialogue that stands is what the history says.
 use Rattle.std.proofs.Common.{◌≡◌, ℕ, ℤ, ◌+◌, ◌&&◌, Bool, true, false, cond, List, [], ◌∷◌, ◌++◌, Option, Some, None, refl, ap, sym, ◌∙◌}
-use Rattle.std.specs.Prelude.{is_some, unwrap_or}
+use Rattle.std.specs.Prelude.{is_some, option_to_list, unwrap_or}
 use Rattle.std.specs.Ordering.{int_eq}
 use Rattle.tcap_component.specs.Component.{CodeParts}
 use Rattle.tcap_component.specs.Problem.{ProblemParts}
@@ -18,7 +18,6 @@ use Rattle.tcap_laws.proofs.Rows.RowsAfterPairs.{rows_moved, rows_marked}
 use Rattle.tcap_laws.proofs.Table.RequestsJudgedAlike.{standing_dialogue, due-agrees}
 use Rattle.tcap_laws.proofs.Rows.Restaged.{on_id, restaged}
 use Rattle.tcap_laws.proofs.Rows.IdentifiersInRows.{pending-rows}
-use Rattle.tcap_laws.proofs.Rows.StagesByMarks.{open_stage}
 use Rattle.tcap_model.specs.Table.Agreement.{setting_at, due_pair}
 use Rattle.tcap_model.specs.Words.Answer.{Answer}
 use Rattle.tcap_model.specs.Histories.Clock.{clock}
@@ -31,7 +30,7 @@ use Rattle.tcap_model.specs.Histories.History.{History}
 use Rattle.tcap_model.specs.Words.InRange.{InRange}
 use Rattle.tcap_model.specs.Invocations.Invocation.{Invocation, invoked_under, next_number}
 use Rattle.tcap_model.specs.Replies.Legal.{IsLegal}
-use Rattle.tcap_model.specs.Histories.Life.{Life, life, life_by_request}
+use Rattle.tcap_model.specs.Histories.Life.{Life, life, touched, life_by_request}
 use Rattle.tcap_model.specs.Invocations.Marks.{Mark, marks, end_if_over, marks_of_request}
 use Rattle.tcap_model.specs.Histories.Pair.{Pair}
 use Rattle.tcap_model.specs.Replies.Queue.{queue, queue_by_request}
@@ -43,9 +42,8 @@ use Rattle.tcap_model.specs.Words.State.{State, activated}
 use Rattle.tcap_model.specs.Table.TableMove.{DialogueEvent, accepted, requested_by, giving_up, freed_by, table_move, left_standing}
 use Rattle.tcap_model.specs.Table.World.{dialogue_at, dialogue_by, rows_of}
 use Rattle.std.proofs.lemmas.List.{append-nil}
-use Rattle.std.specs.Prelude.{option_to_list}
 use Rattle.tcap_laws.proofs.Table.RequestPairs.{free_wait, freed_wait, given_up, reply_is, invoked_as, found_by, marks_by, ends_by, rows_quiet, found_of, refused_moves, rows_sent, distinct}
-use Rattle.tcap_laws.proofs.Rows.StagesByMarks.{closed_stage, marked_stage}
+use Rattle.tcap_laws.proofs.Rows.StagesByMarks.{open_stage, closed_stage, marked_stage}
 use Rattle.tcap_model.specs.Procedures.AbortRules.{sent_if_any}
 use Rattle.tcap_model.specs.Procedures.ComponentRequest.{queued_for}
 use Rattle.tcap_model.specs.Invocations.Deadline.{sent_clock}
@@ -67,7 +65,7 @@ module _ (h : History) (dialogue : ℕ) (legal : IsLegal h) (state : State) (con
 
   abbrev found_after : Request → Option Dialogue
   found_after request =
-      dialogue_at h.start.reject_ms (due_pair h (Event.on_dialogue dialogue request) ∷ h.pairs) dialogue
+      dialogue_at h.start.reject_ms h.start.idle_ms (due_pair h (Event.on_dialogue dialogue request) ∷ h.pairs) dialogue
 
   abbrev moved : Request → Option Dialogue
   moved request = left_standing (accepted (setting_at h) stood request)
@@ -77,38 +75,45 @@ module _ (h : History) (dialogue : ℕ) (legal : IsLegal h) (state : State) (con
 
   -- ---- components
 
-  -- a component is queued, and nothing else changes
-  queued_moves : (request : Request) (is : reply h (Event.on_dialogue dialogue request) ≡ Answer.done)
-      (q : List Component) → life_by_request state context request ≡ Life.standing state context
-      → queue_by_request waiting request Answer.done ≡ q → invoked_under dialogue request None ≡ None
-      → ((k : ℤ) → unwrap_or (marks_of_request k request)
-      (end_if_over (Life.standing state context) (life_by_request state context request)) ≡ [])
-      → ((k : ℤ) → rejects_answer k request ≡ false)
-      → found_after request ≡ Some (record {
+  -- the dialogue with this queue and these invocations
+  abbrev with_parts : List Component → InvocationList → Dialogue
+  with_parts q list =
+      record stood {
         standing = record { identifier = dialogue; state = state; context = context; queue = q };
-        invocations = record { reject_ms = h.start.reject_ms; rows = rows };
-      })
-  queued_moves request is q l e none marked ends =
-      found_of h dialogue legal state context stands request Answer.done is state context q rows l e
-      (rows_quiet h dialogue legal state context stands request Answer.done is none marked ends)
+        invocations = list;
+      }
+
+  abbrev with_component : ComponentRequest → List Component
+  with_component asked = waiting ++ option_to_list (queued_for 0 (Request.component asked))
+
+  -- a component is queued, and nothing else changes
+  queued_moves : (asked : ComponentRequest)
+      (is : reply h (Event.on_dialogue dialogue (Request.component asked)) ≡ Answer.done)
+      → life_by_request state context (Request.component asked) ≡ Life.standing state context
+      → queue_by_request waiting (Request.component asked) Answer.done ≡ with_component asked
+      → invoked_under dialogue (Request.component asked) None ≡ None
+      → ((k : ℤ) → unwrap_or (marks_of_request k (Request.component asked))
+      (end_if_over (Life.standing state context) (life_by_request state context (Request.component asked))) ≡ [])
+      → ((k : ℤ) → rejects_answer k (Request.component asked) ≡ false)
+      → found_after (Request.component asked) ≡ Some (with_parts (with_component asked) stood.invocations)
+  queued_moves asked is l e none marked ends =
+      found_of h dialogue legal state context stands (Request.component asked) Answer.done is state context
+      (with_component asked) rows stood.touched l e
+      (rows_quiet h dialogue legal state context stands (Request.component asked) Answer.done is none marked ends) refl
 
   -- ---- a Reject
 
   module _ (id : ℤ) (problem : ProblemParts) (is : reply h
       (Event.on_dialogue dialogue (Request.component (ComponentRequest.u_reject (Some id) problem))) ≡ Answer.done)
     where
-      abbrev rejecting : Request
-      rejecting = Request.component (ComponentRequest.u_reject (Some id) problem)
+      abbrev asked_reject : ComponentRequest
+      asked_reject = ComponentRequest.u_reject (Some id) problem
 
-      abbrev with_reject : List Component
-      with_reject = waiting ++ option_to_list (queued_for 0 rejecting)
+      abbrev rejecting : Request
+      rejecting = Request.component asked_reject
 
       abbrev rejected_with : InvocationList → Dialogue
-      rejected_with list =
-          record {
-            standing = record { identifier = dialogue; state = state; context = context; queue = with_reject };
-            invocations = list;
-          }
+      rejected_with list = with_parts (with_component asked_reject) list
 
       no_marks : (k : ℤ) → marks dialogue k (pair_of rejecting) h.pairs ≡ []
       no_marks k = marks_by h dialogue legal state context stands rejecting Answer.done is k
@@ -138,14 +143,14 @@ module _ (h : History) (dialogue : ℕ) (legal : IsLegal h) (state : State) (con
           open_stays class timeout false o = refl
 
       kept_reject : is_of_answer problem.kind ≡ false → found_after rejecting ≡ Some (rejected_with stood.invocations)
-      kept_reject e = queued_moves rejecting is with_reject refl refl refl (λ k. refl)
+      kept_reject e = queued_moves asked_reject is refl refl refl (λ k. refl)
           (λ k. ap (λ b. int_eq id k && b) e ∙ and_false (int_eq id k))
 
       freeing_reject : is_of_answer problem.kind ≡ true
           → found_after rejecting ≡ Some (rejected_with (after_free_wait stood.invocations id))
       freeing_reject e =
-          found_of h dialogue legal state context stands rejecting Answer.done is state context with_reject
-          (restaged (on_id id free_wait) rows) refl refl (wait_freed e)
+          found_of h dialogue legal state context stands rejecting Answer.done is state context
+          (with_component asked_reject) (restaged (on_id id free_wait) rows) stood.touched refl refl (wait_freed e) refl
           ∙ ap (λ l. Some (rejected_with l)) (sym (freed_wait stood.invocations id
           (distinct h dialogue legal state context stands rejecting) (entry_at rows id) refl))
 
@@ -168,19 +173,15 @@ module _ (h : History) (dialogue : ℕ) (legal : IsLegal h) (state : State) (con
     cancel_by None e is = refused_moves h dialogue legal state context stands cancelling Fault.no_such_invocation is
     cancel_by (Some n) e is =
         found_of h dialogue legal state context stands cancelling (Answer.given_up n) is state context
-        (without_invoke n waiting) (without rows id) refl refl
+        (without_invoke n waiting) (without rows id) stood.touched refl refl
         (rows_marked h.start.reject_ms h.start (pair_of cancelling) h.pairs legal.1
         (invoked_as h dialogue legal state context stands cancelling (Answer.given_up n) is) dialogue Mark.given_up
         (int_eq id)
         (λ k. marks_by h dialogue legal state context stands cancelling (Answer.given_up n) is k ∙ noted (int_eq id k))
         (λ k u. ends_by h dialogue legal state context stands cancelling (Answer.given_up n) is k u)
         ∙ given_up stood.invocations id (distinct h dialogue legal state context stands cancelling) n (entry_at rows id)
-        refl e)
-        ∙ ap (λ o. Some (record {
-          standing =
-              record { identifier = dialogue; state = state; context = context; queue = without_invoke n waiting };
-          invocations = freed stood.invocations id (is_some o);
-        })) (sym e)
+        refl e) refl
+        ∙ ap (λ o. Some (with_parts (without_invoke n waiting) (freed stood.invocations id (is_some o)))) (sym e)
       where
         noted : (b : Bool) → noted_at_clock (clock h.pairs) (cond b (Mark.given_up ∷ []) [])
             ≡ cond b (record { clock = clock h.pairs; mark = Mark.given_up } ∷ []) []
@@ -210,12 +211,14 @@ module _ (h : History) (dialogue : ℕ) (legal : IsLegal h) (state : State) (con
       invoke_moves within e is =
           found_of h dialogue legal state context stands invoking (Answer.number (next_number h)) is state context
           (waiting ++ option_to_list (queued_for (next_number h) invoking))
-          (rows ++ (id, record { number = next_number h; class = class; stage = Queued timeout }) ∷ []) refl refl
-          (rows_invoked h.start.reject_ms h.start (pair_of invoking) h.pairs (within, refl, legal.1) new
+          (rows ++ (id, record { number = next_number h; class = class; stage = Queued timeout }) ∷ []) stood.touched
+          refl refl
+          (rows_invoked h.start.reject_ms h.start (pair_of invoking) h.pairs
+          (record { in_range = within; is_limited = refl }, refl, legal.1) new
           (invoked_as h dialogue legal state context stands invoking (Answer.number (next_number h)) is) refl
           (λ k. marks_by h dialogue legal state context stands invoking (Answer.number (next_number h)) is k)
           (λ k u. ends_by h dialogue legal state context stands invoking (Answer.number (next_number h)) is k u)
-          (free_by e))
+          (free_by e)) refl
 
   -- ---- all requests
 
@@ -225,21 +228,13 @@ module _ (h : History) (dialogue : ℕ) (legal : IsLegal h) (state : State) (con
   accepted_moves (Request.component (ComponentRequest.invoke id class code parameter linked timeout)) within e is =
       invoke_moves id class code parameter linked timeout within e is
   accepted_moves (Request.component (ComponentRequest.result_last id body)) within e is =
-      queued_moves (Request.component (ComponentRequest.result_last id body)) is
-      (waiting ++ option_to_list (queued_for 0 (Request.component (ComponentRequest.result_last id body)))) refl refl
-      refl (λ k. refl) (λ k. refl)
+      queued_moves (ComponentRequest.result_last id body) is refl refl refl (λ k. refl) (λ k. refl)
   accepted_moves (Request.component (ComponentRequest.result_more id body)) within e is =
-      queued_moves (Request.component (ComponentRequest.result_more id body)) is
-      (waiting ++ option_to_list (queued_for 0 (Request.component (ComponentRequest.result_more id body)))) refl refl
-      refl (λ k. refl) (λ k. refl)
+      queued_moves (ComponentRequest.result_more id body) is refl refl refl (λ k. refl) (λ k. refl)
   accepted_moves (Request.component (ComponentRequest.error_back id code parameter)) within e is =
-      queued_moves (Request.component (ComponentRequest.error_back id code parameter)) is
-      (waiting ++ option_to_list (queued_for 0 (Request.component (ComponentRequest.error_back id code parameter))))
-      refl refl refl (λ k. refl) (λ k. refl)
+      queued_moves (ComponentRequest.error_back id code parameter) is refl refl refl (λ k. refl) (λ k. refl)
   accepted_moves (Request.component (ComponentRequest.u_reject None problem)) within e is =
-      queued_moves (Request.component (ComponentRequest.u_reject None problem)) is
-      (waiting ++ option_to_list (queued_for 0 (Request.component (ComponentRequest.u_reject None problem)))) refl refl
-      refl (λ k. refl) (λ k. refl)
+      queued_moves (ComponentRequest.u_reject None problem) is refl refl refl (λ k. refl) (λ k. refl)
   accepted_moves (Request.component (ComponentRequest.u_reject (Some id) problem)) within e is =
       reject_moves id problem is problem.kind refl
   accepted_moves (Request.component (ComponentRequest.u_cancel id)) within e is =
@@ -253,18 +248,18 @@ module _ (h : History) (dialogue : ℕ) (legal : IsLegal h) (state : State) (con
       found_of h dialogue legal state context stands (Request.dialogue (DialogueRequest.begin given info))
       (accepted_answer h (standing_of dialogue h.pairs state context)
       (Request.dialogue (DialogueRequest.begin given info))) is State.sent given [] (sent_rows (clock h.pairs) rows)
-      refl refl
+      (clock h.pairs) refl refl
       (rows_sent h dialogue legal state context stands (Request.dialogue (DialogueRequest.begin given info))
       (sent_if_any (message_of (standing_of dialogue h.pairs state context)
-      (Request.dialogue (DialogueRequest.begin given info)))) is refl (λ k. refl) (λ k. refl))
+      (Request.dialogue (DialogueRequest.begin given info)))) is refl (λ k. refl) (λ k. refl)) refl
   accepted_moves (Request.dialogue (DialogueRequest.go_on given info)) within e is =
       found_of h dialogue legal state context stands (Request.dialogue (DialogueRequest.go_on given info))
       (accepted_answer h (standing_of dialogue h.pairs state context)
       (Request.dialogue (DialogueRequest.go_on given info))) is (activated state) context []
-      (sent_rows (clock h.pairs) rows) refl refl
+      (sent_rows (clock h.pairs) rows) (clock h.pairs) refl refl
       (rows_sent h dialogue legal state context stands (Request.dialogue (DialogueRequest.go_on given info))
       (sent_if_any (message_of (standing_of dialogue h.pairs state context)
-      (Request.dialogue (DialogueRequest.go_on given info)))) is refl (λ k. refl) (λ k. refl))
+      (Request.dialogue (DialogueRequest.go_on given info)))) is refl (λ k. refl) (λ k. refl)) refl
   accepted_moves (Request.dialogue (DialogueRequest.finish end_if_over given info)) within e is =
       found_by h dialogue legal state context stands (Request.dialogue (DialogueRequest.finish end_if_over given info))
       (accepted_answer h (standing_of dialogue h.pairs state context)
@@ -288,13 +283,15 @@ module _ (h : History) (dialogue : ℕ) (legal : IsLegal h) (state : State) (con
   request_stood request within =
       request_by request within (due h dialogue request) refl
       ∙ ap (λ f. left_standing (requested_by (setting_at h) stood request f))
-      (sym (due-agrees h dialogue stood request (ap (dialogue_by h.start.reject_ms dialogue h.pairs) stands)))
+      (sym (due-agrees h dialogue stood request
+      (ap (dialogue_by h.start.reject_ms h.start.idle_ms dialogue h.pairs) stands)))
 
 pub request-moves : (h : History) (dialogue : ℕ) (d : Dialogue) (request : Request) → IsLegal h
-    → InRange (Event.on_dialogue dialogue request) → dialogue_at h.start.reject_ms h.pairs dialogue ≡ Some d
-    → dialogue_at h.start.reject_ms (due_pair h (Event.on_dialogue dialogue request) ∷ h.pairs) dialogue
+    → InRange (Event.on_dialogue dialogue request)
+    → dialogue_at h.start.reject_ms h.start.idle_ms h.pairs dialogue ≡ Some d
+    → dialogue_at h.start.reject_ms h.start.idle_ms (due_pair h (Event.on_dialogue dialogue request) ∷ h.pairs) dialogue
     ≡ left_standing (table_move (setting_at h) d (DialogueEvent.request request))
 request-moves h dialogue d request legal within e =
-    by_life (λ d. dialogue_at h.start.reject_ms (due_pair h (Event.on_dialogue dialogue request) ∷ h.pairs) dialogue
-    ≡ left_standing (table_move (setting_at h) d (DialogueEvent.request request))) h dialogue d
+    by_life (λ d. dialogue_at h.start.reject_ms h.start.idle_ms
+    (due_pair h (Event.on_dialogue dialogue request) ∷ h.pairs) dialogue ≡ left_standing (table_move (setting_at h) d (DialogueEvent.request request))) h dialogue d
     (λ state context q. request_stood h dialogue legal state context q request within) e

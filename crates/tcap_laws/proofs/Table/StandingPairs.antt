@@ -1,5 +1,5 @@
 -- What a dialogue that stands is after an event that names it.
-use Rattle.std.proofs.Common.{◌≡◌, ℕ, ◌+◌, ◌≤◌, Bool, true, false, cond, List, ◌∷◌, Option, Some, refl, ap, sym, ◌∙◌, arith}
+use Rattle.std.proofs.Common.{◌≡◌, ℕ, ◌+◌, ◌≤◌, ◌&&◌, Bool, true, false, cond, List, ◌∷◌, Option, Some, refl, ap, sym, ◌∙◌, arith}
 use Rattle.tcap_invocation.specs.Invocations.{Row}
 use Rattle.tcap_laws.proofs.Births.DrawnDialogues.{dialogue-next, beyond-unborn, unborn-life}
 use Rattle.tcap_laws.proofs.Receptions.NamedReceptions.{that-is}
@@ -10,7 +10,8 @@ use Rattle.tcap_model.specs.Table.Dialogue.{Dialogue}
 use Rattle.tcap_model.specs.Words.Event.{Event}
 use Rattle.tcap_model.specs.Histories.History.{History}
 use Rattle.tcap_model.specs.Replies.Legal.{IsLegal}
-use Rattle.tcap_model.specs.Histories.Life.{Life, life, life_after, life_by_event, life_if_named}
+use Rattle.tcap_model.specs.Histories.Clock.{clock}
+use Rattle.tcap_model.specs.Histories.Life.{Life, life, touched, life_after, life_by_event, life_if_named, touches, touches_as_event}
 use Rattle.tcap_model.specs.Histories.Names.{names}
 use Rattle.tcap_model.specs.Histories.Pair.{Pair}
 use Rattle.tcap_model.specs.Replies.Queue.{queue, queue_by_event, queue_born}
@@ -39,21 +40,43 @@ module _ (h : History) (dialogue : ℕ) (legal : IsLegal h) (state : State) (con
           let never : Life.unborn ≡ Life.standing state context = sym unborn ∙ stands in
           absurd cc
 
+  -- the clock when it was touched last
+  abbrev pub last : ℕ
+  last = touched dialogue h.pairs
+
+  -- the dialogue after the event, by its life then
+  abbrev later_by : Life → Option Dialogue
+  later_by l = dialogue_by h.start.reject_ms h.start.idle_ms dialogue (here ∷ h.pairs) l
+
   pub life_named : names event dialogue ≡ true → (l : Life)
-      → life_by_event state context event (is_accepted (reply h event)) ≡ l
-      → dialogue_at h.start.reject_ms (here ∷ h.pairs) dialogue
-      ≡ dialogue_by h.start.reject_ms dialogue (here ∷ h.pairs) l
+      → life_by_event h.start.idle_ms last state context event (is_accepted (reply h event)) ≡ l
+      → dialogue_at h.start.reject_ms h.start.idle_ms (here ∷ h.pairs) dialogue
+      ≡ dialogue_by h.start.reject_ms h.start.idle_ms dialogue (here ∷ h.pairs) l
   life_named named l e =
-      ap (λ x. dialogue_by h.start.reject_ms dialogue (here ∷ h.pairs) (life_after dialogue x here)) stands
-      ∙ (ap (λ b. dialogue_by h.start.reject_ms dialogue (here ∷ h.pairs) (life_if_named b state context here)) named
-      ∙ ap (dialogue_by h.start.reject_ms dialogue (here ∷ h.pairs)) e)
+      ap (λ x. later_by (life_after dialogue last x here)) stands
+      ∙ (ap (λ b. later_by (life_if_named b last state context here)) named ∙ ap later_by e)
 
   pub life_unnamed : names event dialogue ≡ false
-      → dialogue_at h.start.reject_ms (here ∷ h.pairs) dialogue
-      ≡ dialogue_by h.start.reject_ms dialogue (here ∷ h.pairs) (Life.standing state context)
+      → dialogue_at h.start.reject_ms h.start.idle_ms (here ∷ h.pairs) dialogue
+      ≡ dialogue_by h.start.reject_ms h.start.idle_ms dialogue (here ∷ h.pairs) (Life.standing state context)
   life_unnamed named =
-      ap (λ x. dialogue_by h.start.reject_ms dialogue (here ∷ h.pairs) (life_after dialogue x here)) stands
-      ∙ ap (λ b. dialogue_by h.start.reject_ms dialogue (here ∷ h.pairs) (life_if_named b state context here)) named
+      ap (λ x. later_by (life_after dialogue last x here)) stands
+      ∙ ap (λ b. later_by (life_if_named b last state context here)) named
+
+  touched_by : (b : Bool) → names event dialogue ≡ b → touched dialogue (here ∷ h.pairs)
+      ≡ cond (b && touches_as_event state context event (is_accepted (reply h event))) (clock h.pairs) last
+  touched_by b named =
+      ap (λ x. cond (touches dialogue x here) (clock h.pairs) last) stands
+      ∙ ap (λ b. cond (b && touches_as_event state context event (is_accepted (reply h event))) (clock h.pairs) last)
+      named
+
+  pub touched_named : names event dialogue ≡ true → (b : Bool)
+      → touches_as_event state context event (is_accepted (reply h event)) ≡ b
+      → touched dialogue (here ∷ h.pairs) ≡ cond b (clock h.pairs) last
+  touched_named named b e = touched_by true named ∙ ap (λ b. cond b (clock h.pairs) last) e
+
+  pub touched_unnamed : names event dialogue ≡ false → touched dialogue (here ∷ h.pairs) ≡ last
+  touched_unnamed named = touched_by false named
 
   queue_by : (a b : Bool) → is_birth_of dialogue here ≡ a → names event dialogue ≡ b → queue dialogue (here ∷ h.pairs)
       ≡ cond a (queue_born dialogue h.pairs event)
@@ -75,17 +98,23 @@ module _ (h : History) (dialogue : ℕ) (legal : IsLegal h) (state : State) (con
   queue_unnamed named = queue_by false false not_born named
 
   -- a dialogue of these parts
-  abbrev pub made_of : State → Option (List ℕ) → List Queued → List Row → Dialogue
-  made_of s c q rows =
+  abbrev pub made_of : State → Option (List ℕ) → List Queued → List Row → ℕ → Dialogue
+  made_of s c q rows t =
       record {
         standing = record { identifier = dialogue; state = s; context = c; queue = q };
         invocations =
             record { reject_ms = h.start.reject_ms; rows = rows };
+        idle_ms = h.start.idle_ms;
+        touched = t;
       }
 
-  pub assembled : (s : State) (c : Option (List ℕ)) (q : List Queued) (rows : List Row)
+  pub assembled : (s : State) (c : Option (List ℕ)) (q : List Queued) (rows : List Row) (t : ℕ)
       → queue dialogue (here ∷ h.pairs) ≡ q → rows_of h.start.reject_ms dialogue (here ∷ h.pairs) ≡ rows
-      → dialogue_by h.start.reject_ms dialogue (here ∷ h.pairs) (Life.standing s c) ≡ Some (made_of s c q rows)
-  assembled s c q rows e w =
-      ap (λ q. Some (made_of s c q (rows_of h.start.reject_ms dialogue (here ∷ h.pairs)))) e
-      ∙ ap (λ rows. Some (made_of s c q rows)) w
+      → touched dialogue (here ∷ h.pairs) ≡ t
+      → dialogue_by h.start.reject_ms h.start.idle_ms dialogue (here ∷ h.pairs) (Life.standing s c)
+      ≡ Some (made_of s c q rows t)
+  assembled s c q rows t e w v =
+      ap (λ q. Some (made_of s c q (rows_of h.start.reject_ms dialogue (here ∷ h.pairs))
+      (touched dialogue (here ∷ h.pairs)))) e
+      ∙ (ap (λ rows. Some (made_of s c q rows (touched dialogue (here ∷ h.pairs)))) w
+      ∙ ap (λ t. Some (made_of s c q rows t)) v)
