@@ -16,5 +16,6 @@ pub mod SendingViews
 pub mod Slices
 pub mod StateViews
 pub mod StepViews
+pub mod Timers
 pub mod Verdicts
 pub mod Walking

@@ -19,6 +19,7 @@ abbrev pub cause_view : Why → AbortCause
 cause_view (why.Cause number) = AbortCause.cause number
 cause_view why.Abnormal = AbortCause.abnormal
 cause_view why.NoCommon = AbortCause.no_common
+cause_view why.Idle = AbortCause.idle
 
 -- Who rejects (own).
 abbrev pub rejector : By → Rejector

@@ -34,11 +34,13 @@ pub struct Step<'m, A: Allocator = Global> {
 /// - Requests of the TC-user: `invoke`, `result_last`, `result_more`, `error_back`, `u_reject`,
 ///   `u_cancel`; `uni`, `begin`, `go_on`, `finish`, `u_abort`; or any of them by `ask`.
 /// - Events from outside: `accept`, which makes the dialogue of a Begin, `take_frame`, `take_fault`;
-///   time: `lapse`, or one by one `due_count`, `first_due`, `lapse_one` and `free_due`.
-/// - Getters: `identifier`, `state`, `peer`, `check_invoke`, `next_timer`.
+///   time: `lapse`, or one by one `due_count`, `first_due`, `lapse_one` and `free_due`; the end of one
+///   that stood still too long, one by one: `open_count`, `close_one`; or it is put off by `touch`.
+/// - Getters: `identifier`, `state`, `peer`, `check_invoke`, `next_timer`, `idle_at`.
 ///
 /// Moments are in milliseconds by the caller's clock, at most 2^62. A contract sees the identifier,
-/// state, context, queue and invocations, and forgets how much room they have.
+/// state, context, queue, invocations, idle limit and when it was touched, and forgets how much room
+/// there is.
 #[derive(Debug, Drop)]
 pub struct Dialogue<A: Allocator + Copy = Global> {
     identifier: u32,
@@ -46,9 +48,15 @@ pub struct Dialogue<A: Allocator + Copy = Global> {
     context: Option<Context<A>>,
     queue: Queue<A>,
     invocations: Invocations<A>,
+    /// Its idle limit in milliseconds, 0 for none, at most 2^62.
+    idle_ms: u64,
+    /// The clock when it was touched last, 0 if it never was.
+    touched: u64,
 }
 
 impl<A: Allocator + Copy> Model for Dialogue<A> {
+    ghost use Rattle.std.specs.Prelude.{◌≤◌};
+    ghost use Rattle.tcap_invocation.specs.Stage.{moment_limit};
     ghost use Rattle.tcap_model.specs.Table.Dialogue as model;
     ghost use Rattle.tcap_dialogue.specs.StateViews.{phase_view, context_view};
     ghost use Rattle.tcap_dialogue.specs.QueueViews.{queue_view};
@@ -58,5 +66,9 @@ impl<A: Allocator + Copy> Model for Dialogue<A> {
     ghost view = { λ d. record {
       standing = record { identifier = d.identifier; state = phase_view d.phase; context = context_view d.context; queue = queue_view d.queue };
       invocations = d.invocations;
+      idle_ms = d.idle_ms;
+      touched = d.touched;
     } };
+
+    ghost invariant = { λ d. (d.idle_ms ≤ moment_limit) × (d.touched ≤ moment_limit) };
 }

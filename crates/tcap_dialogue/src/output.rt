@@ -11,6 +11,8 @@ pub enum Why {
     Abnormal,
     /// There is no common dialogue portion.
     NoCommon,
+    /// The dialogue stood still too long (our own).
+    Idle,
 }
 
 /// Who rejects (Q.771, Component handling).

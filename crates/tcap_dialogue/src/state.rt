@@ -1,5 +1,5 @@
 ghost use Rattle.std.specs.Prelude.{◌≡◌};
-ghost use Rattle.tcap_model.specs.Words.State.{peer_of};
+ghost use Rattle.tcap_model.specs.Words.State.{is_live, peer_of};
 ghost use Rattle.tcap_dialogue.specs.StateViews.{phase_view, state_of};
 
 use tcap_pdu::TransId;
@@ -48,6 +48,16 @@ impl Phase {
             Phase::Sent => State::Sent,
             Phase::Received(_) => State::Received,
             Phase::Active(_) => State::Active,
+        }
+    }
+
+    /// Whether messages to the dialogue are taken.
+    pub fn is_live(&self) -> bool
+        ensures { result ≡ is_live (phase_view self.now) }
+    {
+        match self {
+            Phase::Fresh | Phase::Received(_) => false,
+            Phase::Sent | Phase::Active(_) => true,
         }
     }
 

@@ -84,6 +84,7 @@ impl<A: Allocator + Copy> Dialogue<A> {
         self.go_out(clock);
         self.phase = Phase::Sent;
         self.context = kept;
+        self.touched = clock;
         Ok(Step {
             outputs,
             over: false,
@@ -106,6 +107,7 @@ impl<A: Allocator + Copy> Dialogue<A> {
         let outputs = self.sent_outputs(&Control::Continue { context, info }, 0)?;
         self.go_out(clock);
         self.phase = activated(&self.phase);
+        self.touched = clock;
         Ok(Step {
             outputs,
             over: false,

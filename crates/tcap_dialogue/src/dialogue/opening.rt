@@ -15,11 +15,13 @@ use tcap_pdu::TransId;
 
 impl<A: Allocator + Copy> Dialogue<A> {
     /// A new dialogue with this identifier, in which nothing has happened. `reject_ms` is how long an
-    /// invoke identifier waits for a Reject of its result or error, 0 to 2^62 milliseconds
-    /// (Q.774, Transaction state machine).
-    pub fn fresh(alloc: A, identifier: u32, reject_ms: u64) -> Dialogue<A>
-        requires { reject_ms ≤ moment_limit }
-        ensures { result ≡ fresh_dialogue identifier reject_ms }
+    /// invoke identifier waits for a Reject of its result or error, and `idle_ms` how long the dialogue
+    /// may stand still, 0 for no limit: 0 to 2^62 milliseconds (Q.774, Transaction state machine; the
+    /// idle limit is our own).
+    pub fn fresh(alloc: A, identifier: u32, reject_ms: u64, idle_ms: u64) -> Dialogue<A>
+        requires reject { reject_ms ≤ moment_limit }
+        requires idle { idle_ms ≤ moment_limit }
+        ensures { result ≡ fresh_dialogue identifier reject_ms idle_ms }
     {
         Dialogue {
             identifier,
@@ -30,6 +32,8 @@ impl<A: Allocator + Copy> Dialogue<A> {
                 parts: Vec::new(alloc),
             },
             invocations: Invocations::new(alloc, reject_ms),
+            idle_ms,
+            touched: 0,
         }
     }
 

@@ -87,6 +87,7 @@ impl<A: Allocator + Copy> Dialogue<A> {
             &mut outputs,
         );
         self.phase = continued(&self.phase, origin);
+        self.touched = clock;
         Ok(Step {
             outputs,
             over: false,

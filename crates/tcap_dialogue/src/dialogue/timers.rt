@@ -1,14 +1,27 @@
-//! What lapses with time, invocation by invocation.
+//! What lapses with time, invocation by invocation, and how a dialogue ends that stands still.
 
-ghost use Rattle.std.specs.Prelude.{◌≡◌, ◌≢◌, [], ◌∷◌, length, IfSome, IfOk, OnOk, OnErr};
+ghost use Rattle.std.specs.Prelude.{◌≡◌, ◌≢◌, ◌≤◌, [], ◌∷◌, length, IfSome, IfOk, OnOk, OnErr};
+ghost use Rattle.tcap_dialogue.specs.Timers.{earliest};
+ghost use Rattle.tcap_invocation.specs.Closing.{ended_at, first_ended_at, after_close_one};
 ghost use Rattle.tcap_invocation.specs.Lapses.{due_at, told_at, first_due_at, lapse_at, after_lapse, after_lapse_one, after_free_due};
+ghost use Rattle.tcap_invocation.specs.Stage.{moment_limit};
 ghost use Rattle.tcap_invocation.specs.Timers.{next_timer_at};
-ghost use Rattle.tcap_model.specs.Table.Dialogue.{with_invocations};
+ghost use Rattle.tcap_model.specs.Table.Dialogue.{idle_end, touched_at, with_invocations};
 
 use super::Dialogue;
 use ber_core::OutOfMemory;
 use std::alloc::Allocator;
 use tcap_invocation::Lapse;
+
+/// The earlier of two moments, of which each may be wanting.
+fn earliest(first: Option<u64>, second: Option<u64>) -> Option<u64>
+    ensures { result ≡ earliest first second }
+{
+    match (first, second) {
+        (None, other) | (other, None) => other,
+        (Some(one), Some(other)) => Some(if other < one { other } else { one }),
+    }
+}
 
 impl<A: Allocator + Copy> Dialogue<A> {
     /// The clock is at this moment: takes out each Sent invocation whose deadline is at most the clock,
@@ -24,12 +37,53 @@ impl<A: Allocator + Copy> Dialogue<A> {
     }
 
     /// The moment at which time next changes something: the least deadline of a Sent invocation or end of
-    /// the wait of an identifier, in milliseconds, at most 2^63. Nothing where there is none. It takes no
-    /// memory (own).
+    /// the wait of an identifier, or the moment at which the dialogue has stood still too long, in
+    /// milliseconds, at most 2^63. Nothing where there is none. It takes no memory (own).
     pub fn next_timer(&self) -> Option<u64>
-        ensures { result ≡ next_timer_at self.now.invocations.rows }
+        ensures { result ≡ earliest (next_timer_at self.now.invocations.rows) (idle_end self.now) }
     {
-        self.invocations.next_timer()
+        earliest(self.invocations.next_timer(), self.idle_at())
+    }
+
+    /// The moment at which the dialogue has stood still too long: its idle limit after it was touched last,
+    /// in milliseconds, at most 2^63. Nothing unless it is Sent or Active and has an idle limit. It takes
+    /// no memory (own).
+    pub fn idle_at(&self) -> Option<u64>
+        ensures { result ≡ idle_end self.now }
+    {
+        if self.phase.is_live() && 0 < self.idle_ms {
+            Some(self.touched + self.idle_ms)
+        } else {
+            None
+        }
+    }
+
+    /// The dialogue counts as touched at this moment of the clock, at most 2^62: for a caller that puts its
+    /// end off until all lapses of the moment are told. It takes no memory (own).
+    pub fn touch(&mut self, clock: u64)
+        requires { clock ≤ moment_limit }
+        ensures { self.new ≡ touched_at self.old clock }
+    {
+        self.touched = clock;
+    }
+
+    /// How many invocations are Queued or Sent: so many are told at the end of the dialogue. It takes no
+    /// memory.
+    pub fn open_count(&self) -> usize
+        ensures { result ≡ length (ended_at self.now.invocations.rows) }
+    {
+        self.invocations.open_count()
+    }
+
+    /// The dialogue is over: takes out the first invocation that is Queued or Sent and gives its number
+    /// and identifier, or nothing where there is none. It takes no memory.
+    pub fn close_one(&mut self) -> Option<(u64, i8)>
+        ensures told { result ≡ first_ended_at self.old.invocations.rows }
+        ensures dialogue { self.new ≡ with_invocations self.old (after_close_one self.old.invocations) }
+        // What is told from here on is the rest.
+        ensures rest { IfSome result (λ one. ended_at self.old.invocations.rows ≡ one ∷ ended_at self.new.invocations.rows) }
+    {
+        self.invocations.close_one()
     }
 
     /// How many Sent invocations have a deadline at most the clock.
