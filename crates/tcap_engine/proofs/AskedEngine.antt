@@ -57,7 +57,7 @@ move-of w d r o e = ap (requested_in w d r) e
 module _ (limits : Limits) (next_dialogue number clock d : ℕ) (ps : List Place) (r : Request) (sound : IsSound limits next_dialogue number clock ps) where
   -- the engine with other places and another next number
   abbrev pub engine_with : ℕ → List Place → World
-  engine_with next qs = record { max_dialogues = limits.max_dialogues; reject_ms = limits.reject_ms; next_dialogue = next_dialogue; next_number = next; clock = clock; dialogues = dialogues_of qs }
+  engine_with next qs = record { max_dialogues = limits.max_dialogues; reject_ms = limits.reject_ms; idle_ms = limits.idle_ms; next_dialogue = next_dialogue; next_number = next; clock = clock; dialogues = dialogues_of qs }
 
   abbrev pub says : Dialogue → Outcome
   says x = outcome (table_move (asked clock number) x (DialogueEvent.request r))
@@ -70,7 +70,7 @@ module _ (limits : Limits) (next_dialogue number clock d : ℕ) (ps : List Place
       let m : Moved = table_move (asked clock number) x (DialogueEvent.request r) in
       let there : dialogue_in d (dialogues_of ps) ≡ Some x = found-in d 0 ps sound.from ∙ found in
       let is : engine_move before (Event.on_dialogue d r) ≡ moved_in before d m = move-of before d r (Some x) there in
-      let whole : ℕ → List Dialogue → World = λ n ds. record { max_dialogues = limits.max_dialogues; reject_ms = limits.reject_ms; next_dialogue = next_dialogue; next_number = n; clock = clock; dialogues = ds } in
+      let whole : ℕ → List Dialogue → World = λ n ds. record { max_dialogues = limits.max_dialogues; reject_ms = limits.reject_ms; idle_ms = limits.idle_ms; next_dialogue = next_dialogue; next_number = n; clock = clock; dialogues = ds } in
       let table : dialogues_of qs ≡ with_dialogue d (left_standing m) (dialogues_of ps) = ap dialogues_of p.1 ∙ dialogues-with d (left_standing m) ps sound.from in (
         p.0 ∙ sym (ap (λ (v : EngineMoved). v.answer) is),
         ap (λ n. whole n (dialogues_of qs)) (ap (λ (a : Answer). number_after a number) p.0) ∙ ap (whole (number_after m.answer number)) table ∙ sym (ap (λ (v : EngineMoved). v.after) is),

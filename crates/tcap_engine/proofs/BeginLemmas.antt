@@ -5,7 +5,7 @@ use Rattle.tcap_model.specs.Table.Dialogue.{fresh_dialogue}
 use Rattle.tcap_model.specs.Table.TableMove.{Setting, born}
 use Rattle.tcap_engine.proofs.KeptLemmas.{IsKept, fit-walked}
 
-pub kept_born : (s : Setting) (identifier reject_ms next : ℕ) (origin : List ℕ) (context : Option (List ℕ)) (info components : List ℕ)
-    → IsKept identifier reject_ms next (born s identifier reject_ms origin context info components).after
-kept_born s identifier reject_ms next origin context info components =
-    (refl, fit-walked reject_ms next identifier s.clock (fresh_dialogue identifier reject_ms).invocations (components_of components) (refl, tt))
+pub kept_born : (s : Setting) (identifier reject_ms idle_ms next : ℕ) (origin : List ℕ) (context : Option (List ℕ)) (info components : List ℕ)
+    → IsKept identifier reject_ms next (born s identifier reject_ms idle_ms origin context info components).after
+kept_born s identifier reject_ms idle_ms next origin context info components =
+    (refl, fit-walked reject_ms next identifier s.clock (fresh_dialogue identifier reject_ms idle_ms).invocations (components_of components) (refl, tt))

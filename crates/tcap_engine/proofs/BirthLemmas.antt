@@ -45,7 +45,7 @@ room-to-be-born w e = go (nat_le w.max_dialogues (length w.dialogues)) refl e
     go false free e = grind (arith, tests, free)
 
 -- A dialogue is born where nothing stands in the way.
-pub born_by : (w : World) → birth_fault_in w ≡ None → engine_move w Event.new_dialogue ≡ born_in w (Answer.new_dialogue w.next_dialogue) (fresh_dialogue w.next_dialogue w.reject_ms)
+pub born_by : (w : World) → birth_fault_in w ≡ None → engine_move w Event.new_dialogue ≡ born_in w (Answer.new_dialogue w.next_dialogue) (fresh_dialogue w.next_dialogue w.reject_ms w.idle_ms)
 unfolding engine_move
 born_by w e = ap (asked_in w) e
 

@@ -1,11 +1,12 @@
 -- What is first of all dialogues is what is first in the dialogue whose timer runs out first.
-use Rattle.std.proofs.Common.{◌≡◌, ◌⊎◌, inl, inr, ℕ, ◌+◌, ◌<◌, ◌≤◌, Bool, true, false, cond, nat_eq, nat_lt, List, [], ◌∷◌, ◌++◌, Option, Some, None, refl, ap, sym, subst, ◌∙◌, arith, tests}
+use Rattle.std.proofs.Common.{◌≡◌, ◌⊎◌, inl, inr, ℕ, ◌+◌, ◌<◌, ◌≤◌, Bool, true, false, cond, nat_eq, nat_lt, List, [], ◌∷◌, ◌++◌, Option, Some, None, option_to_list, refl, ap, sym, subst, ◌∙◌, arith, tests}
 use Rattle.std.proofs.lemmas.Bool.{cases_Bool, eqb-true}
 use Rattle.std.specs.Prelude.{IfSome}
 use Rattle.std.specs.Map.{lookup}
 use Rattle.std.specs.Option.{option_map}
-use Rattle.tcap_engine.specs.Lapsing.{AreBehind, IsFirstTimer, due_from, timer_of}
-use Rattle.tcap_engine.specs.NextTimer.{timers_in}
+use Rattle.tcap_engine.specs.Lapsing.{AreBehind, IsFirstTimer, due_from, rows_timer, timer_of}
+use Rattle.tcap_dialogue.specs.Timers.{earliest}
+use Rattle.tcap_engine.specs.NextTimer.{times_in, timers_in}
 use Rattle.tcap_engine.specs.Table.{Place, AreFrom, dialogues_of}
 use Rattle.tcap_engine.proofs.DueLemmas.{is_sooner, first_in, first-cons, named, order}
 use Rattle.tcap_engine.proofs.OrderLemmas.{in_order-append, front_of, put_all-in_order, first-put_all}
@@ -16,7 +17,7 @@ use Rattle.tcap_invocation.specs.Lapses.{first_due_at}
 use Rattle.tcap_invocation.specs.Order.{in_order_by, first_of}
 use Rattle.tcap_invocation.specs.Timers.{times_of}
 use Rattle.tcap_invocation.proofs.CallerLemmas.{ordered_in_order}
-use Rattle.tcap_model.specs.Table.Dialogue.{Dialogue}
+use Rattle.tcap_model.specs.Table.Dialogue.{Dialogue, idle_end}
 use Rattle.timed_table.specs.Row.{is_before}
 
 -- ---- the first of all, where each dialogue has at most one
@@ -96,15 +97,25 @@ module _ (now t d : ℕ) (l : Lapse) (at : l.deadline ≡ t) where
       let later : is_sooner (named p.1.standing.identifier z) (due_from d l) ≡ false = grind (arith, tests, own, other, behind, le, at) in
       (later, inl sooner)
 
-  ahead-lapse : (p : Place) → p.1.standing.identifier ≡ p.0 → IfSome (timer_of p.1) (λ time. is_before (time, p.0) (t, d) ≡ false) → nat_eq d p.0 ≡ false → IfSome (first_in now p.1) (IsAhead is_sooner (first_in now) (due_from d l))
-  ahead-lapse p own behind other = go (timer_of p.1) refl behind (first_due_at now p.1.invocations.rows) refl
+  -- the timer of its invocations runs out behind too
+  rows-behind : (i : ℕ) (a b : Option ℕ) → IfSome (earliest a b) (λ time. is_before (time, i) (t, d) ≡ false) → IfSome a (λ time. is_before (time, i) (t, d) ≡ false)
+  rows-behind i None b h = tt
+  rows-behind i (Some x) None h = h
+  rows-behind i (Some x) (Some y) h = go (nat_lt y x) refl h
     where
-      go : (o : Option ℕ) → timer_of p.1 ≡ o → IfSome o (λ time. is_before (time, p.0) (t, d) ≡ false) → (z : Option Lapse) → first_due_at now p.1.invocations.rows ≡ z
+      go : (b : Bool) → nat_lt y x ≡ b → is_before (cond b y x, i) (t, d) ≡ false → is_before (x, i) (t, d) ≡ false
+      go true e h = grind (arith, tests, e, h)
+      go false e h = h
+
+  ahead-lapse : (p : Place) → p.1.standing.identifier ≡ p.0 → IfSome (timer_of p.1) (λ time. is_before (time, p.0) (t, d) ≡ false) → nat_eq d p.0 ≡ false → IfSome (first_in now p.1) (IsAhead is_sooner (first_in now) (due_from d l))
+  ahead-lapse p own behind other = go (rows_timer p.1) refl (rows-behind p.0 (rows_timer p.1) (idle_end p.1) behind) (first_due_at now p.1.invocations.rows) refl
+    where
+      go : (o : Option ℕ) → rows_timer p.1 ≡ o → IfSome o (λ time. is_before (time, p.0) (t, d) ≡ false) → (z : Option Lapse) → first_due_at now p.1.invocations.rows ≡ z
           → IfSome (option_map (named p.1.standing.identifier) z) (IsAhead is_sooner (first_in now) (due_from d l))
       go o e b None k = tt
       go None e b (Some z) k = idle-due p.1 e z k
         where
-          idle-due : (w : Dialogue) → timer_of w ≡ None → (z : Lapse) → first_due_at now w.invocations.rows ≡ Some z → IsAhead is_sooner (first_in now) (due_from d l) (named p.1.standing.identifier z)
+          idle-due : (w : Dialogue) → rows_timer w ≡ None → (z : Lapse) → first_due_at now w.invocations.rows ≡ Some z → IsAhead is_sooner (first_in now) (due_from d l) (named p.1.standing.identifier z)
           idle-due w e z k = absurd (let q = first-from now (z.deadline + 1) w.invocations.rows (none-least (z.deadline + 1) (times_of w.invocations.rows) e) in let late : z.deadline + 1 ≤ z.deadline = subst (λ o. IfSome o (λ y. z.deadline + 1 ≤ y.deadline)) k q in omega (arith, late))
       go (Some time) e b (Some z) k =
           let from = subst (λ o. IfSome o (λ y. time ≤ y.deadline)) k (first-from now time p.1.invocations.rows (least-from time (times_of p.1.invocations.rows) e)) in
@@ -138,9 +149,27 @@ first-append xs ys =
     through : (a b c : ℕ) → nat_lt a b ≡ true → nat_lt b c ≡ true → nat_lt a c ≡ true
     through a b c h k = grind (arith, tests, h, k)
 
+least-one : (o : Option ℕ) → least (option_to_list o) ≡ o
+least-one None = refl
+least-one (Some x) = refl
+
+front-earliest : (a b : Option ℕ) → front_of nat_lt a b ≡ earliest a b
+front-earliest None b = refl
+front-earliest (Some x) None = refl
+front-earliest (Some x) (Some y) = refl
+
+pub least-times : (d : Dialogue) → least (times_in d) ≡ timer_of d
+least-times d =
+    first-append (times_of d.invocations.rows) (option_to_list (idle_end d))
+    ∙ ap (front_of nat_lt (rows_timer d)) (least-one (idle_end d))
+    ∙ front-earliest (rows_timer d) (idle_end d)
+
 least-all : (ps : List Place) → least (timers_in (dialogues_of ps)) ≡ first_all nat_lt timer_of ps
 least-all [] = refl
-least-all (p ∷ ps) = first-append (times_of p.1.invocations.rows) (timers_in (dialogues_of ps)) ∙ ap (front_of nat_lt (timer_of p.1)) (least-all ps)
+least-all (p ∷ ps) =
+    first-append (times_in p.1) (timers_in (dialogues_of ps))
+    ∙ ap (λ o. front_of nat_lt o (least (timers_in (dialogues_of ps)))) (least-times p.1)
+    ∙ ap (front_of nat_lt (timer_of p.1)) (least-all ps)
 
 ahead-timer : (t d : ℕ) (p : Place) (o : Option ℕ) → IfSome o (λ time. is_before (time, p.0) (t, d) ≡ false) → IfSome o (IsAhead nat_lt timer_of t)
 ahead-timer t d p None h = tt

@@ -1,5 +1,5 @@
 -- The first timer of all runs out: its lapse is told, and after it the rest.
-use Rattle.std.proofs.Common.{◌≡◌, ℕ, ◌+◌, ◌<◌, Bool, true, false, cond, nat_eq, List, [], ◌∷◌, ◌++◌, length, map, Option, Some, None, option_to_list, refl, ap, sym, ◌∙◌, arith, tests}
+use Rattle.std.proofs.Common.{◌≡◌, ℕ, ◌+◌, ◌<◌, ◌≤◌, Bool, true, false, cond, nat_eq, nat_lt, List, [], ◌∷◌, ◌++◌, length, map, Option, Some, None, option_to_list, refl, ap, sym, ◌∙◌, arith, tests}
 use Rattle.std.proofs.lemmas.Bool.{eqb-true}
 use Rattle.std.proofs.lemmas.List.{length-map}
 use Rattle.std.specs.Prelude.{IfSome}
@@ -9,15 +9,23 @@ use Rattle.tcap_invocation.specs.declared.invocations.lapse.Lapse.{Lapse}
 use Rattle.tcap_invocation.specs.Lapses.{told_at}
 use Rattle.tcap_invocation.specs.Order.{put_by, first_of}
 use Rattle.tcap_invocation.proofs.CallerLemmas.{length-in_order}
-use Rattle.tcap_model.specs.Table.Dialogue.{Dialogue}
-use Rattle.tcap_model.specs.Table.DueLapses.{DueLapse, all_due, all_told, due_told}
-use Rattle.tcap_engine.specs.Lapsing.{IsFirstTimer, IsPassed, IsPassedIn, due_from, row_count, timer_of}
+use Rattle.tcap_model.specs.Table.Dialogue.{Dialogue, idle_end, with_invocations}
+use Rattle.tcap_model.specs.Table.DueLapses.{DueLapse, all_due, all_told, at_moment, due_told, idle_told}
+use Rattle.tcap_dialogue.specs.Timers.{earliest}
+use Rattle.tcap_engine.specs.Ending.{idle_ids}
+use Rattle.tcap_engine.specs.Lapsing.{AreBehind, IsFirstTimer, IsPassed, IsPassedIn, IsPutOff, IsRunOut, due_from, idle_of, row_count, rows_timer, timer_of, told_of}
+use Rattle.tcap_engine.specs.declared.engine.moment.Passed.{Passed}
+use Rattle.tcap_engine.specs.declared.engine.moment.Passed.TheVariants as passed
 use Rattle.tcap_engine.specs.Table.{Place, AreFrom, dialogues_of}
 use Rattle.tcap_engine.proofs.OrderLemmas.{put_all, put-put, put-first}
 use Rattle.tcap_engine.proofs.DueLemmas.{is_sooner, sooner-never, sooner-once, sooner-behind, sooner-through, named, told_in, order, order-cons}
 use Rattle.tcap_engine.proofs.FirstLemmas.{first-told}
 use Rattle.tcap_engine.proofs.TableLemmas.{from-set, found-own}
-use Rattle.tcap_engine.proofs.MomentLemmas.{place_at-set_value}
+use Rattle.tcap_engine.proofs.EndLemmas.{ends-set, left-set}
+use Rattle.tcap_engine.proofs.IdleLemmas.{AreIdleBehind, idle-first, idle-same}
+use Rattle.tcap_model.specs.Table.TableMove.{ended_told}
+use Rattle.tcap_model.specs.Words.Output.{Output, AbortCause, DialogueIndication}
+use Rattle.timed_table.specs.Row.{is_before}
 
 -- ---- the rest
 
@@ -100,23 +108,91 @@ row_count-set d old new (p ∷ ps) found fewer = go (nat_eq d p.0) found (λ f. 
     go true f ih = let is : p.1 ≡ old = cc in let same = ap (λ (w : Dialogue). length w.invocations.rows) is in omega (arith, same, fewer)
     go false f ih = let rest = ih f in omega (arith, rest)
 
--- The first timer of all has run out, in the dialogue that was written.
-pub passed-set : (now t d : ℕ) (lapse : Option Lapse) (ps : List Place) (old new : Dialogue) → AreFrom 0 ps → IsFirstTimer ps (t, d) → lookup (nat_eq d) ps ≡ Some old → IsPassedIn now t lapse old new → IsPassed now d lapse ps (set_value (nat_eq d) ps new)
-passed-set now t d lapse ps old new from timer found h = record {
-  told = go lapse h.first h.told;
-  rest = place_at-set_value now d old new ps found h.rest;
-  from = from-set d 0 new ps own from;
-  fewer = row_count-set d old new ps found h.fewer;
-}
+row_count-same : (d : ℕ) (old new : Dialogue) (ps : List Place) → lookup (nat_eq d) ps ≡ Some old → length new.invocations.rows ≡ length old.invocations.rows → row_count (set_value (nat_eq d) ps new) ≡ row_count ps
+row_count-same d old new [] found same = refl
+row_count-same d old new (p ∷ ps) found same = go (nat_eq d p.0) found (λ f. row_count-same d old new ps f same)
   where
-    own : new.standing.identifier ≡ d
-    own = h.own ∙ found-own d 0 old ps from found
+    go : (b : Bool) → cond b (Some p.1) (lookup (nat_eq d) ps) ≡ Some old → (lookup (nat_eq d) ps ≡ Some old → row_count (set_value (nat_eq d) ps new) ≡ row_count ps)
+        → row_count (cond b ((p.0, new) ∷ ps) (p ∷ set_value (nat_eq d) ps new)) ≡ row_count (p ∷ ps)
+    go true f ih = let is : p.1 ≡ old = cc in ap (λ n. n + row_count ps) (same ∙ ap (λ (w : Dialogue). length w.invocations.rows) (sym is))
+    go false f ih = ap (λ n. length p.1.invocations.rows + n) (ih f)
+
+-- The ends of the others are behind.
+idle-behind : (first : ℕ × ℕ) (ps : List Place) → AreBehind first ps → AreIdleBehind first ps
+idle-behind first [] h = tt
+idle-behind first (p ∷ ps) h = (one (rows_timer p.1) (idle_end p.1) h.0, idle-behind first ps h.1)
+  where
+    one : (a b : Option ℕ) → IfSome (earliest a b) (λ time. is_before (time, p.0) first ≡ false) → IfSome b (λ time. is_before (time, p.0) first ≡ false)
+    one a None h = tt
+    one None (Some y) h = h
+    one (Some x) (Some y) h = go (nat_lt y x) refl h
+      where
+        go : (b : Bool) → nat_lt y x ≡ b → is_before (cond b y x, p.0) first ≡ false → is_before (y, p.0) first ≡ false
+        go true e h = h
+        go false e h = grind (arith, tests, e, h)
+
+-- A timer of its invocations has run out, in the dialogue that was written.
+run-out-told : (now t d : ℕ) (lapse : Option Lapse) (ps : List Place) (old new : Dialogue) → AreFrom 0 ps → IsFirstTimer ps (t, d) → lookup (nat_eq d) ps ≡ Some old → IsRunOut now t lapse old new → new.standing.identifier ≡ d
+    → all_told now (dialogues_of ps) ≡ option_to_list (option_map (λ l. due_told (due_from d l)) lapse) ++ all_told now (dialogues_of (set_value (nat_eq d) ps new))
+run-out-told now t d lapse ps old new from timer found h own = go lapse h.first h.told
+  where
+    alike : new.standing.identifier ≡ old.standing.identifier
+    alike = ap (λ (w : Dialogue). w.standing.identifier) h.alike
 
     go : (o : Option Lapse) → IfSome o (λ l. l.deadline ≡ t) → told_at now old.invocations.rows ≡ option_to_list o ++ told_at now new.invocations.rows
         → all_told now (dialogues_of ps) ≡ option_to_list (option_map (λ l. due_told (due_from d l)) o) ++ all_told now (dialogues_of (set_value (nat_eq d) ps new))
     go None at told =
-        ap (map due_told) (sym (order-same now d old new ps found (ap (λ i. map (named i) (told_at now new.invocations.rows)) h.own ∙ ap (map (named old.standing.identifier)) (sym told))))
+        ap (map due_told) (sym (order-same now d old new ps found (ap (λ i. map (named i) (told_at now new.invocations.rows)) alike ∙ ap (map (named old.standing.identifier)) (sym told))))
     go (Some l) at told = least-first now ps (due_from d l) old new from (first-told now t d l at ps old from found timer.least (ap first_of told)) found own told
+
+module _ (now t d : ℕ) (ps : List Place) (old new : Dialogue) (from : AreFrom 0 ps) (timer : IsFirstTimer ps (t, d)) (found : lookup (nat_eq d) ps ≡ Some old) where
+  abbrev after : List Place
+  after = set_value (nat_eq d) ps new
+
+  named-so : old.standing.identifier ≡ d
+  named-so = found-own d 0 old ps from found
+
+  -- what it leaves is the same: only what is told of lapses is to be said
+  run-out : (what : Passed) (lapse : Option Lapse) → told_of d what ≡ option_to_list (option_map (λ l. due_told (due_from d l)) lapse) → idle_of d what ≡ [] → IsRunOut now t lapse old new → IsPassed now d what ps after
+  run-out what lapse tells none h = record {
+    told = run-out-told now t d lapse ps old new from timer found h own ∙ ap (λ os. os ++ all_told now (dialogues_of after)) (sym tells);
+    idle = sym same ∙ ap (λ ids. ids ++ idle_ids now after) (sym none);
+    ends = ends-set now d old new ps found (idle-told-same h.alike h.rest);
+    left = λ ids among. left-set now d old new ids ps from found (λ other. h.rest);
+    from = from-set d 0 new ps own from;
+    fewer = let rows = row_count-set d old new ps found h.fewer in let ids = ap (λ (l : List ℕ). length l) same in omega (arith, rows, ids);
+  }
+    where
+      own : new.standing.identifier ≡ d
+      own = ap (λ (w : Dialogue). w.standing.identifier) h.alike ∙ named-so
+
+      same : idle_ids now after ≡ idle_ids now ps
+      same = idle-same now d old new ps found h.alike
+
+      idle-told-same : new ≡ with_invocations old new.invocations → at_moment now new ≡ at_moment now old → idle_told now new ≡ idle_told now old
+      idle-told-same e rest =
+          ap (λ (w : Dialogue). Output.dialogue (DialogueIndication.p_abort w.standing.identifier AbortCause.idle) ∷ ended_told w.standing.identifier w.invocations) rest
+
+  -- its end is put off
+  put-off : IsPutOff now t old new → t ≤ now → IsPassed now d passed.Idle ps after
+  put-off h reached = record {
+    told = ap (map due_told) (sym (order-same now d old new ps found (ap (told_in now) h.is_touched)));
+    idle = idle-first now t d old ps from found h.ends reached (idle-behind (t, d) ps timer.least) ∙ ap (λ (w : Dialogue). d ∷ idle_ids now (set_value (nat_eq d) ps w)) (sym h.is_touched);
+    ends = ends-set now d old new ps found (ap (idle_told now) h.is_touched);
+    left = λ ids among. left-set now d old new ids ps from found (λ other. absurd (let is = among refl in let never : true ≡ false = sym is ∙ other in cc));
+    from = from-set d 0 new ps (ap (λ (w : Dialogue). w.standing.identifier) h.is_touched ∙ named-so) from;
+    fewer = let first = idle-first now t d old ps from found h.ends reached (idle-behind (t, d) ps timer.least) in
+        let ids = ap (λ (l : List ℕ). length l) first in
+        let here = ap (λ (w : Dialogue). length (idle_ids now (set_value (nat_eq d) ps w))) h.is_touched in
+        let rows = row_count-same d old new ps found (ap (λ (w : Dialogue). length w.invocations.rows) h.is_touched) in
+        omega (arith, ids, here, rows);
+  }
+
+-- The first timer of all has run out, in the dialogue that was written.
+pub passed-set : (now t d : ℕ) (what : Passed) (ps : List Place) (old new : Dialogue) → AreFrom 0 ps → IsFirstTimer ps (t, d) → t ≤ now → lookup (nat_eq d) ps ≡ Some old → IsPassedIn now t what old new → IsPassed now d what ps (set_value (nat_eq d) ps new)
+passed-set now t d (passed.Lapsed lapse) ps old new from timer le found h = run-out now t d ps old new from timer found (passed.Lapsed lapse) (Some lapse) refl refl h
+passed-set now t d passed.Freed ps old new from timer le found h = run-out now t d ps old new from timer found passed.Freed None refl refl h
+passed-set now t d passed.Idle ps old new from timer le found h = put-off now t d ps old new from timer found h le
 
 -- The dialogue of the first timer is the one that is found.
 pub same-first : (ps : List Place) (t d : ℕ) (w : Dialogue) → IsFirstTimer ps (t, d) → lookup (nat_eq d) ps ≡ Some w → timer_of w ≡ Some t

@@ -2,7 +2,7 @@
 use Rattle.std.proofs.Common.{◌≡◌, ℕ, zero, suc, ◌+◌, ◌<◌, ◌≤◌, Bool, true, false, cond, nat_eq, List, [], ◌∷◌, length, map, Some, refl, ap, sym, ◌∙◌, arith}
 use Rattle.std.proofs.lemmas.List.{length-map}
 use Rattle.std.specs.Map.{lookup, set_value}
-use Rattle.tcap_engine.specs.Lapsing.{place_at}
+use Rattle.tcap_engine.specs.Ending.{place_at}
 use Rattle.tcap_engine.specs.Table.{Place, AreFrom, AreDrawn, AreWithin, IsSound, dialogues_of}
 use Rattle.tcap_engine.specs.declared.limits.Limits.{Limits}
 use Rattle.tcap_invocation.specs.Stage.{moment_limit}

@@ -5,7 +5,7 @@ use Rattle.std.specs.Prelude.{IfSome}
 use Rattle.std.specs.Ordering.{int_eq}
 use Rattle.std.specs.List.{cons_option}
 use Rattle.std.specs.Map.{lookup, remove_entry}
-use Rattle.tcap_engine.specs.Lapsing.{IsPassedIn, timer_of}
+use Rattle.tcap_engine.specs.Lapsing.{IsRunOut, rows_timer}
 use Rattle.tcap_engine.proofs.TimerLemmas.{AllFrom, IsIn, least-from, least-in, first-from}
 use Rattle.tcap_invocation.specs.declared.invocations.Invocation.{Invocation}
 use Rattle.tcap_invocation.specs.declared.invocations.lapse.Lapse.{Lapse}
@@ -146,13 +146,13 @@ stays-held now (r ∷ rs) = go r.1.stage refl (stays-held now rs)
         wait false d = ih ∙ ap (λ b. cond b (r ∷ left) left) (sym (ap (stays now) e ∙ d))
 
 -- A dialogue whose first timer a moment has reached and that has nothing that lapses at it: a wait is over.
-pub freed-passed : (now t : ℕ) (old new : Dialogue) → timer_of old ≡ Some t → t ≤ now → IfSome (first_due_at now old.invocations.rows) (λ l. l.deadline ≢ t)
-    → new ≡ with_invocations old (after_free_due old.invocations now) → IsPassedIn now t None old new
+pub freed-passed : (now t : ℕ) (old new : Dialogue) → rows_timer old ≡ Some t → t ≤ now → IfSome (first_due_at now old.invocations.rows) (λ l. l.deadline ≢ t)
+    → new ≡ with_invocations old (after_free_due old.invocations now) → IsRunOut now t None old new
 freed-passed now t old new timer le never e = record {
   told = ap (in_order_by is_before) (sym (due-held now old.invocations.rows)) ∙ ap (λ (d : Dialogue). told_at now d.invocations.rows) (sym e);
   first = tt;
   rest = ap (at_moment now) e ∙ ap (λ (rows : List Row). with_invocations old (with_rows old.invocations rows)) (stays-held now old.invocations.rows);
-  own = ap (λ (d : Dialogue). d.standing.identifier) e;
+  alike = e ∙ ap (with_invocations old) (sym (ap (λ (d : Dialogue). d.invocations) e));
   fewer = subst (λ (d : Dialogue). length d.invocations.rows < length old.invocations.rows) (sym e) (go (runs-out now t old.invocations.rows le (least-from t (times_of old.invocations.rows) timer) (least-in t (times_of old.invocations.rows) timer)));
 }
   where
@@ -193,12 +193,12 @@ pub lapse-passed : (now t : ℕ) (old new : Dialogue) (l : Lapse) → first_due_
     → new ≡ with_invocations old (after_lapse_one old.invocations l.id now)
     → IfSome (first_due_at now old.invocations.rows) (λ z. z.id ≡ l.id → told_at now old.invocations.rows ≡ z ∷ told_at now new.invocations.rows)
     → after_lapse new.invocations now ≡ after_lapse old.invocations now
-    → IsPassedIn now t (Some l) old new
+    → IsRunOut now t (Some l) old new
 lapse-passed now t old new l first at e tells rest = record {
   told = told;
   first = at;
   rest = ap (at_moment now) e ∙ ap (with_invocations old) (ap (λ (d : Dialogue). after_lapse d.invocations now) (sym e) ∙ rest);
-  own = ap (λ (d : Dialogue). d.standing.identifier) e;
+  alike = e ∙ ap (with_invocations old) (sym (ap (λ (d : Dialogue). d.invocations) e));
   fewer =
       let other : told_at now old.invocations.rows ≢ told_at now (after_lapse_one old.invocations l.id now).rows =
       longer l (told_at now (after_lapse_one old.invocations l.id now).rows) (told_at now old.invocations.rows) (told ∙ ap (λ (d : Dialogue). l ∷ told_at now d.invocations.rows) e) in

@@ -61,7 +61,7 @@ module _ (limits : Limits) (next_dialogue number clock d : ℕ) (ps : List Place
     (keeps : (x : Dialogue) → IsWithin limits.reject_ms number x → IsKept x.standing.identifier limits.reject_ms number (move x).after) where
   -- the engine with other places
   abbrev pub engine_of : List Place → World
-  engine_of qs = record { max_dialogues = limits.max_dialogues; reject_ms = limits.reject_ms; next_dialogue = next_dialogue; next_number = number; clock = clock; dialogues = dialogues_of qs }
+  engine_of qs = record { max_dialogues = limits.max_dialogues; reject_ms = limits.reject_ms; idle_ms = limits.idle_ms; next_dialogue = next_dialogue; next_number = number; clock = clock; dialogues = dialogues_of qs }
 
   reached-engine : (x : Dialogue) (abort : Option Output) (told : List Output) (qs : List Place) → lookup (nat_eq d) ps ≡ Some x
       → PlacesMove (outcome (move x)) d (Answer.outputs told) ps qs
@@ -69,7 +69,7 @@ module _ (limits : Limits) (next_dialogue number clock d : ℕ) (ps : List Place
   reached-engine x abort told qs found p =
       let m : Moved = move x in
       let is : m.answer ≡ Answer.outputs told = sym p.0 in
-      let whole : List Dialogue → World = λ ds. record { max_dialogues = limits.max_dialogues; reject_ms = limits.reject_ms; next_dialogue = next_dialogue; next_number = number; clock = clock; dialogues = ds } in
+      let whole : List Dialogue → World = λ ds. record { max_dialogues = limits.max_dialogues; reject_ms = limits.reject_ms; idle_ms = limits.idle_ms; next_dialogue = next_dialogue; next_number = number; clock = clock; dialogues = ds } in
       let table : dialogues_of qs ≡ with_dialogue d (left_standing m) (dialogues_of ps) = ap dialogues_of p.1 ∙ dialogues-with d (left_standing m) ps sound.from in
       let moves : Answer → EngineMoved = λ a. moved_in (engine_of ps) d (aborting abort (record m { answer = a })) in
       subst (λ (a : Answer). Moves (moves a) (Answer.outputs (option_to_list abort ++ told)) (engine_of qs)) (sym is) (refl, ap whole table)

@@ -66,7 +66,7 @@ from-set d low w (p ∷ ps) is h = go (nat_eq d p.0) refl (from-set d (p.0 + 1) 
     go false e ih = rw e (h.0, h.1, ih)
 
 -- The identifiers from a later one on are those from an earlier one on.
-from-lower : (low high : ℕ) (ps : List Place) → low ≤ high → AreFrom high ps → AreFrom low ps
+pub from-lower : (low high : ℕ) (ps : List Place) → low ≤ high → AreFrom high ps → AreFrom low ps
 from-lower low high [] le h = h
 from-lower low high (p ∷ ps) le h = (omega (arith, le, h.0), h.1, h.2)
 

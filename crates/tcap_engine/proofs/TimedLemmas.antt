@@ -2,7 +2,7 @@
 use Rattle.std.proofs.Common.{◌≡◌, ℕ, ◌+◌, ◌<◌, ◌≤◌, Bool, true, false, cond, nat_eq, List, [], ◌∷◌, ◌++◌, Option, Some, None, refl, ap, sym, ◌∙◌, arith, tests}
 use Rattle.std.specs.Prelude.{IfSome, MatchOption}
 use Rattle.std.specs.Map.{lookup}
-use Rattle.tcap_engine.specs.Lapsing.{AreBehind, AreIdle, IsFirstTimer, timer_of}
+use Rattle.tcap_engine.specs.Lapsing.{AreBehind, AreUntimed, IsFirstTimer, timer_of}
 use Rattle.tcap_engine.specs.Table.{AreDrawn}
 use Rattle.tcap_engine.specs.Timed.{AreTimed}
 use Rattle.tcap_model.specs.Table.Dialogue.{Dialogue}
@@ -39,6 +39,15 @@ timed-gone d new (r ∷ rows) h = go (nat_eq d r.identifier) refl (timed-gone d 
     go true e ih = rw e h.1
     go false e ih = rw e (h.0, ih)
 
+-- One that was taken out as it was.
+pub timed-without : (d : ℕ) (rows : List (Row Dialogue)) → AreTimed rows → AreTimed (without d rows)
+timed-without d [] h = tt
+timed-without d (r ∷ rows) h = go (nat_eq d r.identifier) (timed-without d rows h.1)
+  where
+    go : (b : Bool) → AreTimed (without d rows) → AreTimed (cond b rows (r ∷ without d rows))
+    go true ih = h.1
+    go false ih = (h.0, ih)
+
 -- After a step the dialogue is gone, or stands with its timer of then.
 pub timed-settled : (is_over : Bool) (d : ℕ) (new : Dialogue) (rows : List (Row Dialogue)) → AreTimed rows → AreTimed (cond is_over (without d (with_value d new rows)) (with_time d (timer_of new) (with_value d new rows)))
 timed-settled true d new rows h = timed-gone d new rows h
@@ -62,14 +71,14 @@ row-here r rows = let same : nat_eq r.identifier r.identifier ≡ true = grind (
 row-later : (id : ℕ) (r : Row Dialogue) (rows : List (Row Dialogue)) → r.identifier < id → row_of id (r ∷ rows) ≡ row_of id rows
 row-later id r rows lt = let other : nat_eq id r.identifier ≡ false = grind (arith, tests, lt) in rw other refl
 
-idle-from : (low : ℕ) (rows : List (Row Dialogue)) → IsRising low rows → AreTimed rows → ((id : ℕ) → low ≤ id → time_in (row_of id rows) ≡ None) → AreIdle (entries_of rows)
+idle-from : (low : ℕ) (rows : List (Row Dialogue)) → IsRising low rows → AreTimed rows → ((id : ℕ) → low ≤ id → time_in (row_of id rows) ≡ None) → AreUntimed (entries_of rows)
 idle-from low [] rising timed none = tt
 idle-from low (r ∷ rows) rising timed none = (
   sym timed.0 ∙ ap time_in (sym (row-here r rows)) ∙ none r.identifier rising.0,
   idle-from (r.identifier + 1) rows rising.1 timed.1 (λ id le. ap time_in (sym (row-later id r rows (omega (arith, le)))) ∙ none id (let up = rising.0 in omega (arith, le, up))),
 )
 
-idle-rows : (rows : List (Row Dialogue)) → IsRising 0 rows → AreTimed rows → HasNoTime rows → AreIdle (entries_of rows)
+idle-rows : (rows : List (Row Dialogue)) → IsRising 0 rows → AreTimed rows → HasNoTime rows → AreUntimed (entries_of rows)
 idle-rows rows rising timed none = idle-from 0 rows rising timed (λ id le. none id)
 
 behind-from : (low : ℕ) (first : ℕ × ℕ) (rows : List (Row Dialogue)) → IsRising low rows → AreTimed rows
@@ -103,6 +112,6 @@ first-rows rows first rising timed h =
     let there = is-there first.1 first.0 rows timed h.has in
     record { dialogue = there.dialogue; stands = there.stands; timer = there.timer; least = behind-from 0 first rows rising timed (λ id time le has. h.least id time has) }
 
-pub first-if-any : (rows : List (Row Dialogue)) (first : Option (ℕ × ℕ)) → IsRising 0 rows → AreTimed rows → MatchOption first (HasNoTime rows) (IsFirst rows) → MatchOption first (AreIdle (entries_of rows)) (IsFirstTimer (entries_of rows))
+pub first-if-any : (rows : List (Row Dialogue)) (first : Option (ℕ × ℕ)) → IsRising 0 rows → AreTimed rows → MatchOption first (HasNoTime rows) (IsFirst rows) → MatchOption first (AreUntimed (entries_of rows)) (IsFirstTimer (entries_of rows))
 first-if-any rows None rising timed h = idle-rows rows rising timed h
 first-if-any rows (Some first) rising timed h = first-rows rows first rising timed h

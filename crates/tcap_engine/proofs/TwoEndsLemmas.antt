@@ -5,7 +5,7 @@ use Rattle.std.specs.List.{list_any}
 use Rattle.std.proofs.lemmas.Bool.{or_cases, or_right}
 use Rattle.tcap_engine.proofs.AloneLemmas.{added}
 use Rattle.tcap_engine.specs.Running.{after_events, replies}
-use Rattle.tcap_engine.specs.TwoEnds.{happened, net_after, AreCarried, HearOneAnother, NewOnesHear, IsGiven, EachAnswerIsGiven, EachCallIsHeard, EachRunIsHeard, EachSendIsSent, EachSendStays, EachBothRely}
+use Rattle.tcap_engine.specs.TwoEnds.{marked_pair, happened, net_after, AreCarried, HearOneAnother, NewOnesHear, IsGiven, EachAnswerIsGiven, EachCallIsHeard, EachRunIsHeard, EachSendIsSent, EachSendStays, EachBothRely}
 use Rattle.tcap_laws.proofs.CallerLemmas.{two_ends}
 use Rattle.tcap_model.specs.Histories.History.{History, Start}
 use Rattle.tcap_model.specs.Histories.Pair.{Pair}
@@ -26,44 +26,44 @@ at start engine trace = record { start = start; pairs = side engine trace }
 abbrev replied : Start → Engine → Event → Trace → Trace
 replied start engine event trace = record {
   engine = engine;
-  pair = record { event = event; answer = reply (at start engine trace) event };
+  pair = record { event = event; answer = reply (at start engine trace) event; idle_ms = start.idle_ms };
 } ∷ trace
 
 -- The engine's own history has the events, each with the reply.
 own : (start : Start) (engine : Engine) (events : List Event) (trace : Trace)
-    → at start engine (happened engine events (replies (at start engine trace) events) trace)
+    → at start engine (happened start.idle_ms engine events (replies (at start engine trace) events) trace)
     ≡ after_events (at start engine trace) events
 own start engine [] trace = refl
 own start Engine.a (event ∷ events) trace = own start Engine.a events (replied start Engine.a event trace)
 own start Engine.b (event ∷ events) trace = own start Engine.b events (replied start Engine.b event trace)
 
 -- That of the other engine stays.
-others : (engine : Engine) (events : List Event) (answers : List Answer) (trace : Trace)
-    → side (far engine) (happened engine events answers trace) ≡ side (far engine) trace
-others engine [] answers trace = refl
-others engine (event ∷ events) [] trace = refl
-others Engine.a (event ∷ events) (answer ∷ answers) trace = others Engine.a events answers (_ ∷ trace)
-others Engine.b (event ∷ events) (answer ∷ answers) trace = others Engine.b events answers (_ ∷ trace)
+others : (idle_ms : ℕ) (engine : Engine) (events : List Event) (answers : List Answer) (trace : Trace)
+    → side (far engine) (happened idle_ms engine events answers trace) ≡ side (far engine) trace
+others idle_ms engine [] answers trace = refl
+others idle_ms engine (event ∷ events) [] trace = refl
+others idle_ms Engine.a (event ∷ events) (answer ∷ answers) trace = others idle_ms Engine.a events answers (_ ∷ trace)
+others idle_ms Engine.b (event ∷ events) (answer ∷ answers) trace = others idle_ms Engine.b events answers (_ ∷ trace)
 
 -- ---- what is received
 
 -- What one engine did is not needed for what it may receive.
-carried-later : (engine : Engine) (events : List Event) (event : Event) (answer : Answer) (trace : Trace)
+carried-later : (idle_ms : ℕ) (engine : Engine) (events : List Event) (event : Event) (answer : Answer) (trace : Trace)
     → AreCarried engine events trace
-    → AreCarried engine events (record { engine = engine; pair = record { event = event; answer = answer } } ∷ trace)
-carried-later engine [] event answer trace c = tt
-carried-later engine (Event.new_dialogue ∷ events) event answer trace c = (tt, carried-later engine events event answer trace c.1)
-carried-later engine (Event.on_dialogue dialogue request ∷ events) event answer trace c = (tt, carried-later engine events event answer trace c.1)
-carried-later Engine.a (Event.received bytes ∷ events) event answer trace c = (c.0, carried-later Engine.a events event answer trace c.1)
-carried-later Engine.b (Event.received bytes ∷ events) event answer trace c = (c.0, carried-later Engine.b events event answer trace c.1)
-carried-later engine (Event.moment now ∷ events) event answer trace c = (tt, carried-later engine events event answer trace c.1)
+    → AreCarried engine events (marked_pair idle_ms engine event answer ∷ trace)
+carried-later idle_ms engine [] event answer trace c = tt
+carried-later idle_ms engine (Event.new_dialogue ∷ events) event answer trace c = (tt, carried-later idle_ms engine events event answer trace c.1)
+carried-later idle_ms engine (Event.on_dialogue dialogue request ∷ events) event answer trace c = (tt, carried-later idle_ms engine events event answer trace c.1)
+carried-later idle_ms Engine.a (Event.received bytes ∷ events) event answer trace c = (c.0, carried-later idle_ms Engine.a events event answer trace c.1)
+carried-later idle_ms Engine.b (Event.received bytes ∷ events) event answer trace c = (c.0, carried-later idle_ms Engine.b events event answer trace c.1)
+carried-later idle_ms engine (Event.moment now ∷ events) event answer trace c = (tt, carried-later idle_ms engine events event answer trace c.1)
 
-carried : (engine : Engine) (events : List Event) (answers : List Answer) (trace : Trace)
-    → AreCarried engine events trace → IsCarried trace → IsCarried (happened engine events answers trace)
-carried engine [] answers trace c all = all
-carried engine (event ∷ events) [] trace c all = all
-carried engine (event ∷ events) (answer ∷ answers) trace c all =
-    carried engine events answers (_ ∷ trace) (carried-later engine events event answer trace c.1) (c.0, all)
+carried : (idle_ms : ℕ) (engine : Engine) (events : List Event) (answers : List Answer) (trace : Trace)
+    → AreCarried engine events trace → IsCarried trace → IsCarried (happened idle_ms engine events answers trace)
+carried idle_ms engine [] answers trace c all = all
+carried idle_ms engine (event ∷ events) [] trace c all = all
+carried idle_ms engine (event ∷ events) (answer ∷ answers) trace c all =
+    carried idle_ms engine events answers (_ ∷ trace) (carried-later idle_ms engine events event answer trace c.1) (c.0, all)
 
 -- ---- both engines
 
@@ -92,10 +92,10 @@ heard net old new engine events hear c stands still =
     let answers : List Answer = replies (history_in net engine net.trace) events in
     record {
       stands =
-          both-at net.start net.trace (happened engine events answers net.trace) old new engine hear.stands
+          both-at net.start net.trace (happened (net.start engine).idle_ms engine events answers net.trace) old new engine hear.stands
           (subst (λ (h : History). StandsAt h (new engine)) (sym (own (net.start engine) engine events net.trace)) stands)
-          (others engine events answers net.trace) still;
-      is_carried = carried engine events answers net.trace c hear.is_carried;
+          (others (net.start engine).idle_ms engine events answers net.trace) still;
+      is_carried = carried (net.start engine).idle_ms engine events answers net.trace c hear.is_carried;
     }
 
 -- An engine with these counters, and nothing else but its limits.
@@ -146,13 +146,13 @@ stays-once bytes Engine.a Engine.b pair trace e = e
 stays-once bytes Engine.b Engine.a pair trace e = e
 stays-once bytes Engine.b Engine.b pair trace e = or_right (answer_sends bytes pair.answer) _ e
 
-stays : (bytes : List ℕ) (engine other : Engine) (events : List Event) (answers : List Answer) (trace : Trace)
+stays : (idle_ms : ℕ) (bytes : List ℕ) (engine other : Engine) (events : List Event) (answers : List Answer) (trace : Trace)
     → was_sent bytes (side engine trace) ≡ true
-    → was_sent bytes (side engine (happened other events answers trace)) ≡ true
-stays bytes engine other [] answers trace e = e
-stays bytes engine other (event ∷ events) [] trace e = e
-stays bytes engine other (event ∷ events) (answer ∷ answers) trace e =
-    stays bytes engine other events answers (_ ∷ trace) (stays-once bytes engine other _ trace e)
+    → was_sent bytes (side engine (happened idle_ms other events answers trace)) ≡ true
+stays idle_ms bytes engine other [] answers trace e = e
+stays idle_ms bytes engine other (event ∷ events) [] trace e = e
+stays idle_ms bytes engine other (event ∷ events) (answer ∷ answers) trace e =
+    stays idle_ms bytes engine other events answers (_ ∷ trace) (stays-once bytes engine other _ trace e)
 
 -- A Send in the answer of the newest pair was sent.
 sent-now : (bytes : List ℕ) (engine : Engine) (pair : Pair) (trace : Trace) → answer_sends bytes pair.answer ≡ true
@@ -162,13 +162,13 @@ sent-now bytes Engine.b pair trace e = rw e refl
 
 sent-among : (bytes : List ℕ) (h : History) (engine : Engine) (events : List Event) (trace : Trace)
     → list_any (answer_sends bytes) (replies h events) ≡ true
-    → was_sent bytes (side engine (happened engine events (replies h events) trace)) ≡ true
+    → was_sent bytes (side engine (happened h.start.idle_ms engine events (replies h events) trace)) ≡ true
 sent-among bytes h engine [] trace e = absurd cc
 sent-among bytes h engine (event ∷ events) trace e =
     elim (or_cases (answer_sends bytes (reply h event)) _ e) [
       | inl here ↦
-          stays bytes engine engine events (replies (with_pair h event) events) (_ ∷ trace)
-          (sent-now bytes engine (record { event = event; answer = reply h event }) trace here)
+          stays h.start.idle_ms bytes engine engine events (replies (with_pair h event) events) (_ ∷ trace)
+          (sent-now bytes engine (record { event = event; answer = reply h event; idle_ms = h.start.idle_ms }) trace here)
       | inr later ↦ sent-among bytes (with_pair h event) engine events (_ ∷ trace) later
     ]
 
@@ -178,31 +178,31 @@ send-sent h trace engine events world before after bytes s sends =
     rw is (sent-among bytes h engine events trace (subst (λ (xs : List Answer). IsTrue (list_any (answer_sends bytes) xs)) is sends))
 
 pub send-stays : EachSendStays
-send-stays trace engine other events answers bytes sent = stays bytes engine other events answers trace sent
+send-stays trace idle_ms engine other events answers bytes sent = stays idle_ms bytes engine other events answers trace sent
 
 -- ---- what was answered
 
 -- What happened before stays.
-adds : (engine : Engine) (events : List Event) (answers : List Answer) (trace : Trace)
-    → (later : Trace) × (happened engine events answers trace ≡ later ++ trace)
-adds engine [] answers trace = ([], refl)
-adds engine (event ∷ events) [] trace = ([], refl)
-adds engine (event ∷ events) (answer ∷ answers) trace =
-    let here : Trace = record { engine = engine; pair = record { event = event; answer = answer } } ∷ [] in
-    let more = adds engine events answers (here ++ trace) in
+adds : (idle_ms : ℕ) (engine : Engine) (events : List Event) (answers : List Answer) (trace : Trace)
+    → (later : Trace) × (happened idle_ms engine events answers trace ≡ later ++ trace)
+adds idle_ms engine [] answers trace = ([], refl)
+adds idle_ms engine (event ∷ events) [] trace = ([], refl)
+adds idle_ms engine (event ∷ events) (answer ∷ answers) trace =
+    let here : Trace = marked_pair idle_ms engine event answer ∷ [] in
+    let more = adds idle_ms engine events answers (here ++ trace) in
     (more.0 ++ here, more.1 ∙ sym (append_assoc more.0 here trace))
 
 given : (h : History) (engine : Engine) (events : List Event) (earlier later : List Answer) (answer : Answer) (trace : Trace)
     → replies h events ≡ earlier ++ answer ∷ later
-    → IsGiven engine answer (happened engine events (replies h events) trace)
+    → IsGiven engine answer (happened h.start.idle_ms engine events (replies h events) trace)
 given h engine [] [] later answer trace e = absurd cc
 given h engine [] (other ∷ earlier) later answer trace e = absurd cc
 given h engine (event ∷ events) [] later answer trace e =
     let is : reply h event ≡ answer = cc in
-    let first : Marked = record { engine = engine; pair = record { event = event; answer = reply h event } } in
-    let more = adds engine events (replies (with_pair h event) events) (first ∷ trace) in
-    subst (λ (x : Answer). IsGiven engine x (happened engine (event ∷ events) (replies h (event ∷ events)) trace)) is
-    (record { event = event; before = trace; happens = record { later = more.0; is_trace = more.1 } })
+    let first : Marked = marked_pair h.start.idle_ms engine event (reply h event) in
+    let more = adds h.start.idle_ms engine events (replies (with_pair h event) events) (first ∷ trace) in
+    subst (λ (x : Answer). IsGiven engine x (happened h.start.idle_ms engine (event ∷ events) (replies h (event ∷ events)) trace)) is
+    (record { event = event; idle_ms = h.start.idle_ms; before = trace; happens = record { later = more.0; is_trace = more.1 } })
 given h engine (event ∷ events) (other ∷ earlier) later answer trace e =
     given (with_pair h event) engine events earlier later answer (_ ∷ trace) cc
 

@@ -1,23 +1,33 @@
 -- What lapses at a moment, what a moment leaves, and which timer runs out first.
-use Rattle.std.specs.Prelude.{◌≡◌, ℕ, ◌+◌, ◌<◌, false, nat_eq, List, [], ◌∷◌, ◌++◌, map, length, option_to_list, Option, Some, None, IfSome}
+use Rattle.std.specs.Prelude.{◌≡◌, ℕ, ◌+◌, ◌<◌, true, false, nat_eq, List, [], ◌∷◌, ◌++◌, map, length, option_to_list, Option, Some, None, IfSome}
 use Rattle.std.specs.Map.{lookup}
-use Rattle.std.specs.Option.{option_map}
+use Rattle.tcap_engine.specs.Ending.{ends_in, idle_ids, is_among, left_by, place_at}
 use Rattle.tcap_engine.specs.Table.{Place, AreFrom, dialogues_of}
 use Rattle.tcap_invocation.specs.declared.invocations.lapse.Lapse.{Lapse}
 use Rattle.tcap_invocation.specs.Lapses.{told_at}
 use Rattle.tcap_invocation.specs.Timers.{next_timer_at}
-use Rattle.tcap_model.specs.Table.Dialogue.{Dialogue}
+use Rattle.tcap_dialogue.specs.Timers.{earliest}
+use Rattle.tcap_engine.specs.declared.engine.moment.Passed.{Passed}
+use Rattle.tcap_engine.specs.declared.engine.moment.Passed.TheVariants as passed
+use Rattle.tcap_model.specs.Table.Dialogue.{Dialogue, idle_end, touched_at, with_invocations}
+use Rattle.tcap_model.specs.Words.Output.{Output}
 use Rattle.tcap_model.specs.Table.DueLapses.{DueLapse, due_told, all_told, at_moment}
 use Rattle.timed_table.specs.Row.{is_before}
 
--- The moment at which time next changes a dialogue (Q.774, Invocation timer; Q.774, Reject timer).
+-- The moment at which an invocation of a dialogue lapses or a wait ends first
+-- (Q.774, Invocation timer; Q.774, Reject timer).
+abbrev pub rows_timer : Dialogue → Option ℕ
+rows_timer d = next_timer_at d.invocations.rows
+
+-- The moment at which time next changes a dialogue: that, or the one at which it has stood still too long
+-- (Q.774, Invocation timer; Q.774, Reject timer; the last is own).
 abbrev pub timer_of : Dialogue → Option ℕ
-timer_of d = next_timer_at d.invocations.rows
+timer_of d = earliest (rows_timer d) (idle_end d)
 
 -- No timer runs in any dialogue (own).
-abbrev pub AreIdle : List Place → Type 0
-AreIdle [] = Unit {0}
-AreIdle (p ∷ ps) = (timer_of p.1 ≡ None) × AreIdle ps
+abbrev pub AreUntimed : List Place → Type 0
+AreUntimed [] = Unit {0}
+AreUntimed (p ∷ ps) = (timer_of p.1 ≡ None) × AreUntimed ps
 
 -- The timer of each dialogue runs out behind this moment and identifier, or is the one of both (own).
 abbrev pub AreBehind : ℕ × ℕ → List Place → Type 0
@@ -32,24 +42,33 @@ pub record IsFirstTimer (ps : List Place) (first : ℕ × ℕ) : Type 0 where
   pub timer : timer_of dialogue ≡ Some first.0
   pub least : AreBehind first ps
 
--- A dialogue in its place after a moment (Q.774, Invocation timer; Q.774, Reject timer).
-abbrev pub place_at : ℕ → Place → Place
-place_at now p = (p.0, at_moment now p.1)
-
--- A moment tells nothing and leaves each dialogue as it is (own).
+-- A moment tells nothing, ends none and leaves each dialogue as it is (own).
 pub record IsQuiet (now : ℕ) (ps : List Place) : Type 0 where
   pub told : all_told now (dialogues_of ps) ≡ []
+  pub idle : idle_ids now ps ≡ []
   pub rest : map (place_at now) ps ≡ ps
 
--- The first timer of a dialogue, which a moment has reached, ran out: an invocation lapsed then, the first that
--- is told at the moment, or identifiers are free that have waited. What the moment leaves is the same, and
--- there are fewer invocations (Q.774, Invocation timer; Q.774, Reject timer).
-pub record IsPassedIn (now time : ℕ) (lapse : Option Lapse) (old new : Dialogue) : Type 0 where
+-- A timer of the invocations of a dialogue, which a moment has reached, ran out: an invocation lapsed then, the
+-- first that is told at the moment, or identifiers are free that have waited. What the moment leaves is the
+-- same, and there are fewer invocations (Q.774, Invocation timer; Q.774, Reject timer).
+pub record IsRunOut (now time : ℕ) (lapse : Option Lapse) (old new : Dialogue) : Type 0 where
   pub told : told_at now old.invocations.rows ≡ option_to_list lapse ++ told_at now new.invocations.rows
   pub first : IfSome lapse (λ l. l.deadline ≡ time)
   pub rest : at_moment now new ≡ at_moment now old
-  pub own : new.standing.identifier ≡ old.standing.identifier
+  pub alike : new ≡ with_invocations old new.invocations
   pub fewer : length new.invocations.rows < length old.invocations.rows
+
+-- A dialogue has stood still too long: its end is put off, as if it were touched now, until all lapses are told
+-- (own).
+pub record IsPutOff (now time : ℕ) (old new : Dialogue) : Type 0 where
+  pub ends : idle_end old ≡ Some time
+  pub is_touched : new ≡ touched_at old now
+
+-- The first timer of a dialogue, which a moment has reached, ran out (own).
+abbrev pub IsPassedIn : ℕ → ℕ → Passed → Dialogue → Dialogue → Type 0
+IsPassedIn now time (passed.Lapsed lapse) old new = IsRunOut now time (Some lapse) old new
+IsPassedIn now time passed.Freed old new = IsRunOut now time None old new
+IsPassedIn now time passed.Idle old new = IsPutOff now time old new
 
 -- How many invocations stand in all dialogues (own).
 abbrev pub row_count : List Place → ℕ
@@ -60,11 +79,33 @@ row_count (p ∷ ps) = length p.1.invocations.rows + row_count ps
 abbrev pub due_from : ℕ → Lapse → DueLapse
 due_from dialogue lapse = record { dialogue = dialogue; lapse = lapse }
 
+-- What is told of a dialogue when its first timer runs out: the lapse, if it was one
+-- (Q.774, Invocation timer).
+abbrev pub told_of : ℕ → Passed → List Output
+told_of d (passed.Lapsed lapse) = due_told (due_from d lapse) ∷ []
+told_of d passed.Freed = []
+told_of d passed.Idle = []
+
+-- The dialogue, where its end is put off (own).
+abbrev pub idle_of : ℕ → Passed → List ℕ
+idle_of d (passed.Lapsed lapse) = []
+idle_of d passed.Freed = []
+idle_of d passed.Idle = d ∷ []
+
+-- How much time may still do at a moment: a step for each invocation, and one for each dialogue that has stood
+-- still too long (own).
+abbrev pub step_count : ℕ → List Place → ℕ
+step_count now ps = row_count ps + length (idle_ids now ps)
+
 -- The first timer of all, which a moment has reached, ran out: what is told at the moment is the lapse, if it was
--- one, and then the rest; what the moment leaves is the same, the identifiers rise as before, and there are
--- fewer invocations (Q.774, Invocation timer; Q.774, Reject timer).
-pub record IsPassed (now d : ℕ) (lapse : Option Lapse) (old new : List Place) : Type 0 where
-  pub told : all_told now (dialogues_of old) ≡ option_to_list (option_map (λ l. due_told (due_from d l)) lapse) ++ all_told now (dialogues_of new)
-  pub rest : map (place_at now) new ≡ map (place_at now) old
+-- one, and then the rest; of the dialogues that have stood still too long it is the first, if its end is put off,
+-- and then the rest, and what is told of each is the same. What the moment leaves, but for some dialogues that
+-- are over and that one among them, is the same; the identifiers rise as before
+-- (Q.774, Invocation timer; Q.774, Reject timer).
+pub record IsPassed (now d : ℕ) (what : Passed) (old new : List Place) : Type 0 where
+  pub told : all_told now (dialogues_of old) ≡ told_of d what ++ all_told now (dialogues_of new)
+  pub idle : idle_ids now old ≡ idle_of d what ++ idle_ids now new
+  pub ends : (id : ℕ) → ends_in now new id ≡ ends_in now old id
+  pub left : (ids : List ℕ) → (what ≡ passed.Idle → is_among ids d ≡ true) → left_by now ids new ≡ left_by now ids old
   pub from : AreFrom 0 new
-  pub fewer : row_count new < row_count old
+  pub fewer : step_count now new < step_count now old

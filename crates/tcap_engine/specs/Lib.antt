@@ -2,6 +2,7 @@ pub mod Alone
 pub mod Answering
 pub mod AskedKinds
 pub mod Asking
+pub mod Ending
 pub mod EventViews
 pub mod HistoryForm
 pub mod Lapsing

@@ -7,8 +7,10 @@ use Rattle.tcap_invocation.specs.Stage.{moment_limit}
 abbrev pub most_dialogues : ℕ
 most_dialogues = 65535
 
--- An engine of one dialogue at least, whose identifiers wait for no longer than a moment may be (own).
+-- An engine of one dialogue at least, whose identifiers wait, and whose dialogues stand still, for no longer
+-- than a moment may be (own).
 pub record AreLimits (limits : Limits) : Type 0 where
   pub one : 1 ≤ limits.max_dialogues
   pub most : limits.max_dialogues ≤ most_dialogues
   pub wait : limits.reject_ms ≤ moment_limit
+  pub idle : limits.idle_ms ≤ moment_limit

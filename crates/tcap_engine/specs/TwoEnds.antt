@@ -6,7 +6,7 @@ use Rattle.tcap_engine.specs.Running.{StandsThrough, new_answers}
 use Rattle.tcap_model.specs.Histories.History.{History, Start}
 use Rattle.tcap_model.specs.Replies.Legal.{is_start}
 use Rattle.tcap_model.specs.Statements.FarAnswer.{Happens}
-use Rattle.tcap_model.specs.Statements.Net.{Engine, far, Trace, Net, side, answer_sends, was_sent, IsCarriedTo, IsCarried, IsNet, history_in}
+use Rattle.tcap_model.specs.Statements.Net.{Marked, Engine, far, Trace, Net, side, answer_sends, was_sent, IsCarriedTo, IsCarried, IsNet, history_in}
 use Rattle.tcap_model.specs.Statements.TwoEnds.{TwoEnds}
 use Rattle.tcap_model.specs.Table.World.{World, StandsAt, first_world}
 use Rattle.tcap_model.specs.Words.Answer.{Answer}
@@ -14,17 +14,24 @@ use Rattle.tcap_model.specs.Words.Event.{Event}
 
 -- ---- what happened
 
--- What happened to two engines, where some events came to one of them and were answered so, in order of
--- time, after what happened before (own).
-abbrev pub happened : Engine → List Event → List Answer → Trace → Trace
-happened engine [] answers trace = trace
-happened engine (event ∷ events) [] trace = trace
-happened engine (event ∷ events) (answer ∷ answers) trace =
-    happened engine events answers (record { engine = engine; pair = record { event = event; answer = answer } } ∷ trace)
+-- An event that came to one of two engines, which has this idle limit, and its answer (own).
+abbrev pub marked_pair : ℕ → Engine → Event → Answer → Marked
+marked_pair idle_ms engine event answer =
+    record { engine = engine; pair = record { event = event; answer = answer; idle_ms = idle_ms } }
+
+-- What happened to two engines, where some events came to one of them, which has this idle limit, and were
+-- answered so, in order of time, after what happened before (own).
+abbrev pub happened : ℕ → Engine → List Event → List Answer → Trace → Trace
+happened idle_ms engine [] answers trace = trace
+happened idle_ms engine (event ∷ events) [] trace = trace
+happened idle_ms engine (event ∷ events) (answer ∷ answers) trace =
+    happened idle_ms engine events answers (marked_pair idle_ms engine event answer ∷ trace)
 
 -- The same, with what both engines started with (own).
 abbrev pub net_after : Engine → List Event → List Answer → Net → Net
-net_after engine events answers net = record net { trace = happened engine events answers net.trace }
+net_after engine events answers net = record net {
+  trace = happened (net.start engine).idle_ms engine events answers net.trace;
+}
 
 -- What one engine receives among some events is a Send in an earlier answer of the other (own).
 abbrev pub AreCarried : Engine → List Event → Trace → Type 0
@@ -76,20 +83,21 @@ EachSendIsSent =
     (h : History) (trace : Trace) (engine : Engine) (events : List Event) (world : World)
     (before after : List Answer) (bytes : List ℕ) → StandsThrough h events world before after →
     IsTrue (list_any (answer_sends bytes) (new_answers before after)) →
-    IsTrue (was_sent bytes (side engine (happened engine events (new_answers before after) trace)))
+    IsTrue (was_sent bytes (side engine (happened h.start.idle_ms engine events (new_answers before after) trace)))
 
 -- What was sent before may be received after a run of either engine too (own).
 abbrev pub EachSendStays : Type 0
 EachSendStays =
-    (trace : Trace) (engine other : Engine) (events : List Event) (answers : List Answer) (bytes : List ℕ) →
+    (trace : Trace) (idle_ms : ℕ) (engine other : Engine) (events : List Event) (answers : List Answer) (bytes : List ℕ) →
     IsTrue (was_sent bytes (side engine trace)) →
-    IsTrue (was_sent bytes (side engine (happened other events answers trace)))
+    IsTrue (was_sent bytes (side engine (happened idle_ms other events answers trace)))
 
 -- An engine gave an answer: it is that of a pair in the list of what happened to both (own).
 pub record IsGiven (engine : Engine) (answer : Answer) (trace : Trace) : Type 0 where
   pub event : Event
+  pub idle_ms : ℕ
   pub before : Trace
-  pub happens : Happens engine (record { event = event; answer = answer }) before trace
+  pub happens : Happens engine (record { event = event; answer = answer; idle_ms = idle_ms }) before trace
 
 -- Each answer that a run adds is (own).
 abbrev pub EachAnswerIsGiven : Type 0
@@ -97,7 +105,7 @@ EachAnswerIsGiven =
     (h : History) (trace : Trace) (engine : Engine) (events : List Event) (world : World)
     (before after earlier later : List Answer) (answer : Answer) → StandsThrough h events world before after →
     new_answers before after ≡ earlier ++ answer ∷ later →
-    IsGiven engine answer (happened engine events (new_answers before after) trace)
+    IsGiven engine answer (happened h.start.idle_ms engine events (new_answers before after) trace)
 
 -- What happened to two engines that hear one another meets Net, and of their answers both users may rely
 -- on the origin of each answer, that it comes after the Invoke, that one closes at most, and on the

@@ -1,10 +1,12 @@
 //! The dialogues that stand, and of each the moment at which time next changes it.
 
-ghost use Rattle.std.specs.Prelude.{◌≡◌, ◌-◌, ◌++◌, ◌∷◌, ◌^◌, [], nat_eq, length, min, option_copied, OnErr, OnOk, MatchOption, if◌then◌else◌};
+ghost use Rattle.std.specs.Prelude.{◌≡◌, ◌≢◌, ◌≤◌, ◌⊎◌, ◌+◌, ◌-◌, ◌++◌, ◌∷◌, ◌^◌, [], nat_eq, length, min, option_copied, OnErr, OnOk, MatchOption, if◌then◌else◌};
 ghost use Rattle.std.specs.Map.{lookup, remove_entry};
-ghost use Rattle.tcap_engine.specs.Lapsing.{AreIdle, IsFirstTimer};
+ghost use Rattle.tcap_engine.specs.Ending.{idle_ids};
+ghost use Rattle.tcap_engine.specs.Lapsing.{AreUntimed, IsFirstTimer};
 ghost use Rattle.tcap_engine.specs.Table.{AreDrawn, dialogues_of};
-ghost use Rattle.tcap_model.specs.Table.DueLapses.{all_due};
+ghost use Rattle.tcap_model.specs.Table.Dialogue.{is_idle_at};
+ghost use Rattle.tcap_model.specs.Table.DueLapses.{all_told, all_idle_told};
 ghost use Rattle.timed_table.specs.Row.{entries_of, with_time, without};
 
 use ber_core::OutOfMemory;
@@ -19,6 +21,15 @@ use timed_table::Table;
 #[derive(Debug, Drop)]
 pub(crate) struct Dialogues<A: Allocator + Copy = Global> {
     pub(crate) rows: Table<Dialogue<A>, A>,
+}
+
+/// How much room the answer to a moment needs.
+#[derive(Clone, Copy)]
+pub(crate) struct Room {
+    /// For what is told.
+    pub(crate) told: usize,
+    /// For the identifiers of the dialogues that have stood still too long.
+    pub(crate) idle: usize,
 }
 
 impl<A: Allocator + Copy> Model for Dialogues<A> {
@@ -79,21 +90,36 @@ impl<A: Allocator + Copy> Dialogues<A> {
 
     /// The least timer of all, and of the dialogues that share it the least identifier.
     pub(crate) fn first_timer(&self) -> Option<(u64, u32)>
-        ensures { MatchOption result (AreIdle self.now) (IsFirstTimer self.now) }
+        ensures { MatchOption result (AreUntimed self.now) (IsFirstTimer self.now) }
     {
         self.rows.first()
     }
 
-    /// How many invocations lapse at a moment, as far as a `usize` can tell.
-    pub(crate) fn due_count(&self, now: u64) -> usize
-        ensures { result ≡ min (length (all_due now (dialogues_of self.now))) (2 ^ 64 - 1) }
+    /// How much room the answer to a moment needs, as far as a `usize` can tell: none for outputs where
+    /// nothing is told.
+    pub(crate) fn room_at(&self, now: u64) -> Room
+        ensures enough { length (all_told now (dialogues_of self.now)) + length (all_idle_told now (dialogues_of self.now)) ≤ result.told ⊎ (result.told ≡ 2 ^ 64 - 1) }
+        ensures some { result.told ≢ 0 → all_told now (dialogues_of self.now) ++ all_idle_told now (dialogues_of self.now) ≢ [] }
+        ensures idle { result.idle ≡ min (length (idle_ids now self.now)) (2 ^ 64 - 1) }
     {
-        let mut count: usize = 0;
+        let mut told: usize = 0;
+        let mut idle: usize = 0;
         for dialogue in self.rows.due(now) {
-            count = count.saturating_add(dialogue.due_count(now));
+            told = told.saturating_add(dialogue.due_count(now));
+            if is_idle(dialogue, now) {
+                told = told.saturating_add(dialogue.open_count()).saturating_add(1);
+                idle = idle.saturating_add(1);
+            }
         }
-        count
+        Room { told, idle }
     }
+}
+
+/// Whether a dialogue has stood still too long at a moment.
+fn is_idle<A: Allocator + Copy>(dialogue: &Dialogue<A>, now: u64) -> bool
+    ensures { result ≡ is_idle_at now dialogue.now }
+{
+    dialogue.idle_at().is_some_and(|time| time <= now)
 }
 
 /// After the dialogue of an identifier was written: it is taken out where it is over; else this is its next

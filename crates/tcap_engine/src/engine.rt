@@ -4,6 +4,7 @@ pub(crate) mod births;
 pub(crate) mod component_requests;
 pub(crate) mod dialogue_requests;
 pub(crate) mod handling;
+pub(crate) mod idle;
 pub(crate) mod kinds;
 pub(crate) mod moment;
 pub(crate) mod opening;
@@ -45,6 +46,7 @@ impl<A: Allocator + Copy> Model for Engine<A> {
     ghost view = { λ e. record {
       max_dialogues = e.limits.max_dialogues;
       reject_ms = e.limits.reject_ms;
+      idle_ms = e.limits.idle_ms;
       next_dialogue = e.next_dialogue;
       next_number = e.next_number;
       clock = e.clock;

@@ -8,6 +8,7 @@ ghost use Rattle.tcap_model.specs.Table.EngineMove.{engine_move, advanced};
 ghost use Rattle.tcap_model.specs.Words.Event.{Event};
 
 use super::Engine;
+use super::idle::end_all;
 use super::moment::tell_due;
 use crate::ranges;
 use std::alloc::Allocator;
@@ -17,7 +18,9 @@ use tcap_invocation::MAX_MOMENT;
 impl<A: Allocator + Copy> Engine<A> {
     /// The clock is at this moment, in milliseconds, at most 2^62: tells each invocation whose deadline
     /// was reached, by deadline, then dialogue, then number (TC-L-CANCEL indication), and frees each
-    /// identifier that has waited. A moment below the clock does nothing. Faults: `MomentTooLate`,
+    /// identifier that has waited. Then each dialogue that has stood still too long is over, by the moment
+    /// at which it had, then dialogue: TC-P-ABORT indication, and each invocation that is left, by number;
+    /// no message goes out (own). A moment below the clock does nothing. Faults: `MomentTooLate`,
     /// `OutOfMemory`.
     #[tactic(auto, using(crate::proofs::StandingLemmas::stands_after))]
     pub fn advance<'m>(&mut self, now: u64) -> Result<Vec<Output<'m, A>, A>, Fault>
@@ -52,9 +55,12 @@ impl<A: Allocator + Copy> Engine<A> {
         ensures moves { EngineAnswers outputs_answer result (advanced self.old now) self.old self.new }
         ensures err { OnErr result (self.new ≡ self.old) }
     {
-        let count = self.table.due_count(now);
-        let mut outputs = Vec::with_capacity(self.table.allocator(), count)?;
-        tell_due(&mut self.table, now, &mut outputs);
+        let alloc = self.table.allocator();
+        let room = self.table.room_at(now);
+        let mut outputs = Vec::with_capacity(alloc, room.told)?;
+        let mut idle = Vec::with_capacity(alloc, room.idle)?;
+        tell_due(&mut self.table, now, &mut outputs, &mut idle);
+        end_all(&mut self.table, &idle, &mut outputs);
         self.clock = now;
         Ok(outputs)
     }

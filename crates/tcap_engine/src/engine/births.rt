@@ -44,7 +44,8 @@ impl<A: Allocator + Copy> Engine<A> {
         }
         let identifier = self.next_dialogue;
         let alloc = self.table.allocator();
-        self.keep(Dialogue::fresh(alloc, identifier, self.limits.reject_ms))?;
+        let limits = self.limits;
+        self.keep(Dialogue::fresh(alloc, identifier, limits.reject_ms, limits.idle_ms))?;
         Ok(identifier)
     }
 
@@ -58,13 +59,14 @@ impl<A: Allocator + Copy> Engine<A> {
     ) -> Result<Vec<Output<'m, A>, A>, OutOfMemory>
         requires free { birth_fault_in self.old ≡ None }
         requires named { IfSome request (λ r. IsObjectIdentifier r.0.now) }
-        ensures ok { IfOk result (λ os. Moves (begun_in self.old (born (setting_in self.old) self.old.next_dialogue self.old.reject_ms origin.now (context_given request.entry) (info_given request.entry) components.now)) (outputs_answer os) self.new) }
+        ensures ok { IfOk result (λ os. Moves (begun_in self.old (born (setting_in self.old) self.old.next_dialogue self.old.reject_ms self.old.idle_ms origin.now (context_given request.entry) (info_given request.entry) components.now)) (outputs_answer os) self.new) }
         ensures err { OnErr result (self.new ≡ self.old) }
     {
         let (dialogue, outputs) = Dialogue::accept(
             self.table.allocator(),
             self.next_dialogue,
             self.limits.reject_ms,
+            self.limits.idle_ms,
             origin,
             request,
             components,

@@ -1,15 +1,27 @@
-//! What lapses at a moment in all dialogues.
+//! What lapses at a moment in all dialogues, and which of them have stood still too long.
 
-ghost use Rattle.std.specs.Prelude.{◌≡◌, ◌≢◌, ◌≤◌, ◌+◌, ◌++◌, length, map, vec_len, vec_capacity, IfSome, IfNone, Some, MatchOption};
+ghost use Rattle.std.specs.Prelude.{◌≡◌, ◌≢◌, ◌≤◌, ◌+◌, ◌++◌, [], length, vec_len, vec_capacity, ℕ, IfSome, IfNone, Some, MatchOption};
 ghost use Rattle.tcap_dialogue.specs.OutputViews.{all_shown};
-ghost use Rattle.tcap_engine.specs.Lapsing.{IsFirstTimer, IsPassed, IsPassedIn, IsQuiet, place_at, timer_of};
+ghost use Rattle.tcap_engine.specs.Ending.{ends_in, idle_ids, left_by};
+ghost use Rattle.tcap_engine.specs.Lapsing.{IsFirstTimer, IsPassed, IsPassedIn, IsQuiet, timer_of};
 ghost use Rattle.tcap_engine.specs.Table.{AreFrom, dialogues_of};
+ghost use Rattle.tcap_invocation.specs.Stage.{moment_limit};
 ghost use Rattle.tcap_model.specs.Table.DueLapses.{all_told};
 
 use crate::dialogues::Dialogues;
 use std::alloc::Allocator;
 use tcap_dialogue::{Dialogue, Output};
 use tcap_invocation::Lapse;
+
+/// What became of a dialogue whose first timer ran out.
+pub(crate) enum Passed {
+    /// This invocation lapsed.
+    Lapsed(Lapse),
+    /// Identifiers are free that have waited.
+    Freed,
+    /// It has stood still too long; its end is put off until all lapses are told.
+    Idle,
+}
 
 /// The first timer of all that runs out by a moment, and its dialogue.
 fn first_by<A: Allocator + Copy>(table: &Dialogues<A>, now: u64) -> Option<(u64, u32)>
@@ -33,63 +45,72 @@ fn lapse_at(first: Option<Lapse>, time: u64) -> Option<Lapse>
     }
 }
 
-/// The first timer of a dialogue runs out: the lapse that is told, or none where identifiers are free that have
-/// waited.
-fn pass_in<A: Allocator + Copy>(dialogue: &mut Dialogue<A>, now: u64, time: u64) -> Option<Lapse>
+/// The first timer of a dialogue runs out.
+fn pass_in<A: Allocator + Copy>(dialogue: &mut Dialogue<A>, now: u64, time: u64) -> Passed
     requires timer { timer_of dialogue.old ≡ Some time }
     requires reached { time ≤ now }
+    requires late { now ≤ moment_limit }
     ensures { IsPassedIn now time result dialogue.old dialogue.new }
 {
-    match lapse_at(dialogue.first_due(now), time) {
-        Some(lapse) => {
-            dialogue.lapse_one(lapse.id, now);
-            Some(lapse)
-        }
-        None => {
-            dialogue.free_due(now);
-            None
-        }
+    if let Some(lapse) = lapse_at(dialogue.first_due(now), time) {
+        dialogue.lapse_one(lapse.id, now);
+        Passed::Lapsed(lapse)
+    } else if dialogue.idle_at() == Some(time) {
+        dialogue.touch(now);
+        Passed::Idle
+    } else {
+        dialogue.free_due(now);
+        Passed::Freed
     }
 }
 
 /// The same of the first timer of all, whose dialogue has this identifier.
-fn pass_first<A: Allocator + Copy>(
-    table: &mut Dialogues<A>,
-    now: u64,
-    time: u64,
-    d: u32,
-) -> Option<Lapse>
+fn pass_first<A: Allocator + Copy>(table: &mut Dialogues<A>, now: u64, time: u64, d: u32) -> Passed
     requires from { AreFrom 0 table.old }
     requires first { IsFirstTimer table.old (time, d) }
     requires reached { time ≤ now }
+    requires late { now ≤ moment_limit }
     ensures { IsPassed now d result table.old table.new }
 {
-    let dialogue = table.rows.get_mut(d)?;
-    let lapse = pass_in(dialogue, now, time);
+    let Some(dialogue) = table.rows.get_mut(d) else {
+        return Passed::Freed;
+    };
+    let passed = pass_in(dialogue, now, time);
     let timer = dialogue.next_timer();
     table.rows.set_time(d, timer);
-    lapse
+    passed
 }
 
-/// Tells what is due, the first first, and frees each identifier whose wait is over; there is room for all that
-/// is told.
+/// Tells what lapses, the first first, frees each identifier whose wait is over, and puts off the end of each
+/// dialogue that has stood still too long: these are the identifiers, the first first. There is room for all.
 pub(super) fn tell_due<'m, A: Allocator + Copy>(
     table: &mut Dialogues<A>,
     now: u64,
     outputs: &mut Vec<Output<'m, A>, A>,
+    idle: &mut Vec<u32, A>,
 )
     requires from { AreFrom 0 table.old }
+    requires late { now ≤ moment_limit }
     requires room { vec_len outputs.old + length (all_told now (dialogues_of table.old)) ≤ vec_capacity outputs.old }
+    requires empty { idle.old.items ≡ [] }
+    requires space { length (idle_ids now table.old) ≤ vec_capacity idle.old }
     ensures told { all_shown outputs.new.items ≡ all_shown outputs.old.items ++ all_told now (dialogues_of table.old) }
-    ensures table { table.new ≡ map (place_at now) table.old }
+    ensures room { vec_capacity outputs.new ≡ vec_capacity outputs.old }
+    ensures idle { idle.new.items ≡ idle_ids now table.old }
+    ensures ends { (id : ℕ) → ends_in now table.new id ≡ ends_in now table.old id }
+    ensures left { left_by now (idle_ids now table.old) table.new ≡ left_by now (idle_ids now table.old) table.old }
+    ensures quiet { IsQuiet now table.new }
+    ensures from { AreFrom 0 table.new }
 {
     while let Some((time, d)) = first_by(table, now) {
-        if let Some(lapse) = pass_first(table, now, time, d) {
-            outputs.push_reserved(Output::Lapsed {
+        match pass_first(table, now, time, d) {
+            Passed::Lapsed(lapse) => outputs.push_reserved(Output::Lapsed {
                 dialogue: d,
                 number: lapse.number,
                 id: lapse.id,
-            });
+            }),
+            Passed::Idle => idle.push_reserved(d),
+            Passed::Freed => {}
         }
     }
 }

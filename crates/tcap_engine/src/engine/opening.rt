@@ -19,7 +19,7 @@ impl<A: Allocator + Copy> Engine<A> {
     /// An engine with clock 0 and no dialogues, whose first dialogue and first invocation are 1.
     pub fn new(alloc: A, limits: Limits) -> Engine<A>
         requires { AreLimits limits }
-        ensures { result ≡ first_world (record { max_dialogues = limits.max_dialogues; reject_ms = limits.reject_ms; next_dialogue = 1; next_number = 1 }) }
+        ensures { result ≡ first_world (record { max_dialogues = limits.max_dialogues; reject_ms = limits.reject_ms; idle_ms = limits.idle_ms; next_dialogue = 1; next_number = 1 }) }
     {
         Engine::resume(alloc, limits, 1, 1)
     }
@@ -28,7 +28,7 @@ impl<A: Allocator + Copy> Engine<A> {
     /// first dialogue and the number of its first invocation.
     pub fn resume(alloc: A, limits: Limits, next_dialogue: u32, next_number: u64) -> Engine<A>
         requires { AreLimits limits }
-        ensures { result ≡ first_world (record { max_dialogues = limits.max_dialogues; reject_ms = limits.reject_ms; next_dialogue = next_dialogue; next_number = next_number }) }
+        ensures { result ≡ first_world (record { max_dialogues = limits.max_dialogues; reject_ms = limits.reject_ms; idle_ms = limits.idle_ms; next_dialogue = next_dialogue; next_number = next_number }) }
     {
         Engine {
             limits,
@@ -53,8 +53,8 @@ impl<A: Allocator + Copy> Engine<A> {
         self.dialogue_at(d).map(Dialogue::state)
     }
 
-    /// The least moment, in milliseconds, at which `advance` tells something or frees an identifier; `None` where
-    /// none is. A caller may sleep until then. It takes no memory (our own).
+    /// The least moment, in milliseconds, at which `advance` tells something, frees an identifier or ends a
+    /// dialogue; `None` where none is. A caller may sleep until then. It takes no memory (our own).
     pub fn next_timer(&self) -> Option<u64>
         ensures value { result ≡ next_timer_in self.now }
         // A moment below it does nothing but set the clock; one from it on changes a dialogue.

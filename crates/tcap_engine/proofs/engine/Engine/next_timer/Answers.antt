@@ -1,5 +1,5 @@
 use Rattle.std.proofs.Common.{rules, arith, tests, sym, ap, ◌∙◌, ◌<◌, ◌≤◌, List}
-use Rattle.tcap_engine.specs.Lapsing.{AreIdle, IsFirstTimer}
+use Rattle.tcap_engine.specs.Lapsing.{AreUntimed, IsFirstTimer}
 use Rattle.tcap_engine.specs.Table.{Place}
 use Rattle.tcap_engine.proofs.NextTimerLemmas.{late-still, reached-changed, next-none, next-first, is-within, is-beyond}
 use Rattle.tcap_engine.proofs.QuietLemmas.{idle-late, behind-late}
@@ -10,13 +10,13 @@ use Rattle.tcap_engine.proofs.engine.Engine.next_timer.Goals as goal
 pub returns-in_err-first-clause-value : goal.returns-in_err-first-clause-value
 returns-in_err-first-clause-value g c =
     let ps : List Place = c.self.inside.table in
-    let idle : AreIdle ps = search rules in
+    let idle : AreUntimed ps = search rules in
     c.from_residual.ensures ∙ sym (next-none c.args.self.now ps (sym (ap (λ (w : World). w.dialogues) c.self.view_is)) idle)
 
 pub returns-in_err-first-clause-before : goal.returns-in_err-first-clause-before
 returns-in_err-first-clause-before g c =
     let ps : List Place = c.self.inside.table in
-    let idle : AreIdle ps = search rules in
+    let idle : AreUntimed ps = search rules in
     λ now accepted e. late-still c.args.self.now now ps (sym (ap (λ (w : World). w.dialogues) c.self.view_is)) accepted (idle-late now ps idle)
 
 pub returns-then-first-le-MAX_MOMENT-clause-value : goal.returns-then-first-le-MAX_MOMENT-clause-value

@@ -1,53 +1,94 @@
-use Rattle.std.proofs.Common.{rules, arith, sym, ap, refl, ◌≡◌, ◌∙◌, ◌<◌, List, [], ◌++◌, length, map}
+use Rattle.std.proofs.Common.{rules, arith, sym, ap, refl, subst, ◌≡◌, ◌∙◌, ◌+◌, ◌<◌, ◌≤◌, List, [], ◌++◌, ℕ, length, map, filter_map, inl, inr, length-append}
+use Rattle.std.proofs.lemmas.List.{length-map}
 use Rattle.std.proofs.lemmas.Result.{err_from_is_err_and}
+use Rattle.std.specs.List.{flat_map}
 use Rattle.std.specs.Prelude.{IsTrue}
 use Rattle.tcap_dialogue.specs.FaultViews.{takes_memory}
-use Rattle.tcap_dialogue.specs.OutputViews.{all_shown}
-use Rattle.tcap_engine.specs.Lapsing.{place_at}
-use Rattle.tcap_engine.specs.Table.{Place, dialogues_of}
-use Rattle.tcap_engine.proofs.LeastLemmas.{length-all_told}
-use Rattle.tcap_engine.proofs.MomentLemmas.{sound-at, dialogues-at, some-told, not-zero}
+use Rattle.tcap_dialogue.specs.OutputViews.{all_shown, shown}
+use Rattle.tcap_engine.specs.Ending.{AreApart, ends_in, idle_ids, left_by, over_in, place_at, without_all}
+use Rattle.tcap_engine.specs.Table.{Place, IsSound, dialogues_of}
+use Rattle.tcap_engine.proofs.EndLemmas.{ends-all, left-all}
+use Rattle.tcap_engine.proofs.IdleLemmas.{idle-distinct}
+use Rattle.tcap_engine.proofs.MomentLemmas.{sound-at, not-zero}
+use Rattle.tcap_engine.proofs.OverLemmas.{ends-some, over-all, sound-without, takes-some}
+use Rattle.tcap_engine.proofs.RoomLemmas.{is-long}
 use Rattle.tcap_model.specs.Table.Dialogue.{Dialogue}
-use Rattle.tcap_model.specs.Table.DueLapses.{all_told}
+use Rattle.tcap_model.specs.Table.DueLapses.{all_told, all_idle_told, left_at}
 use Rattle.tcap_model.specs.Table.EngineMove.{advanced}
 use Rattle.tcap_model.specs.Table.World.{World}
 use Rattle.tcap_model.specs.Words.Answer.{Answer}
+use Rattle.tcap_model.specs.Words.Output.{Output}
 use Rattle.tcap_engine.proofs.engine.Engine.pass.Goals as goal
 
-pub returns-in_err-outputs-clause-moves : goal.returns-in_err-outputs-clause-moves
-returns-in_err-outputs-clause-moves g c =
+pub returns-in_err-idle-clause-moves : goal.returns-in_err-idle-clause-moves
+returns-in_err-idle-clause-moves g c =
     let now = c.args.now in
     let ps : List Place = c.self.inside.table in
-    let refused = c.in_err-outputs.ensures.succeeds in
-    let due : 0 < c.due_count-count.result = not-zero c.due_count-count.result (λ z. let no = refused z in absurd cc) in
-    let many = length-all_told now (dialogues_of ps) in
-    let count = c.due_count-count.ensures in
-    let some : 0 < length (all_told now (dialogues_of ps)) = omega (arith, due, many, count) in
-    let told : IsTrue (takes_memory (advanced c.args.self.now now).answer) = rw (sym c.self.view_is) (some-told (all_told now (dialogues_of ps)) some) in
-    let p = err_from_is_err_and c.from_residual.result c.from_residual.ensures.1 in
+    let refused = c.in_err-idle.ensures.succeeds in
+    let some : 0 < c.room_at-room.result.idle = not-zero c.room_at-room.result.idle (λ z. let no = refused z in absurd cc) in
+    let count = c.room_at-room.ensures.idle in
+    let idle : 0 < length (idle_ids now ps) = omega (arith, some, count) in
+    let ends = ends-some now ps idle in
+    let told : IsTrue (takes_memory (advanced c.args.self.now now).answer) =
+    rw (sym c.self.view_is) (takes-some (all_told now (dialogues_of ps) ++ all_idle_told now (dialogues_of ps))
+    (is-long (all_told now (dialogues_of ps)) (all_idle_told now (dialogues_of ps)) (omega (arith, ends)))) in
+    let p = err_from_is_err_and c.from_residual-in_err-idle.result c.from_residual-in_err-idle.ensures.1 in
     rw (p.1, p.2) (refl, told)
 
-pub tell_due-requires-clause-room : goal.tell_due-requires-clause-room
-tell_due-requires-clause-room g c =
+pub end_all-requires-clause-apart : goal.end_all-requires-clause-apart
+end_all-requires-clause-apart g c =
+    let ps : List Place = c.self.inside.table in
+    subst AreApart (sym (c.deref.ensures.value ∙ c.tell_due.ensures.idle)) (idle-distinct c.args.now ps c.self.invariant.from)
+
+pub end_all-requires-clause-room : goal.end_all-requires-clause-room
+end_all-requires-clause-room g c =
+    let now = c.args.now in
+    let ps : List Place = c.self.inside.table in
+    let after : List Place = c.tell_due.new.table in
+    let ids : List ℕ = c.deref.result.now in
+    let are : ids ≡ idle_ids now ps = c.deref.ensures.value ∙ c.tell_due.ensures.idle in
+    let over : flat_map (over_in after) ids ≡ all_idle_told now (dialogues_of ps) =
+    ap (flat_map (over_in after)) are ∙ over-all now (idle_ids now ps) after ps c.tell_due.ensures.quiet.rest c.tell_due.ensures.ends ∙ ends-all now ps c.self.invariant.from in
+    let ends = ap (λ (os : List Output). length os) over in
+    let empty : c.in_ok-outputs.outputs.items ≡ [] = search rules in
+    let told : all_shown c.tell_due.new.outputs.items ≡ all_told now (dialogues_of ps) = c.tell_due.ensures.told ∙ ap (λ xs. all_shown xs ++ all_told now (dialogues_of ps)) empty in
+    let lapses = ap (λ (os : List Output). length os) told in
+    let counted = length-map c.tell_due.new.outputs.items shown in
     let small = c.in_ok-outputs.outputs.small in
-    let many = length-all_told c.args.now (dialogues_of c.self.inside.table) in
-    let count = c.due_count-count.ensures in
-    let none = c.in_ok-outputs.ensures.len in
-    let room = c.in_ok-outputs.ensures.exact in
-    omega (arith, small, many, count, none, room)
+    let exact = c.in_ok-outputs.ensures.exact in
+    let same = c.tell_due.ensures.room in
+    elim c.room_at-room.ensures.enough [
+      | inl enough ↦ omega (arith, enough, ends, lapses, counted, exact, same)
+      | inr most ↦ absurd (omega (arith, most, small, exact))
+    ]
 
 pub invariant_of-self : goal.invariant_of-self
 invariant_of-self g c =
-    rw c.tell_due.ensures.table (sound-at c.args.now c.self.inside.limits c.self.inside.next_dialogue c.self.inside.next_number c.self.inside.clock c.self.inside.table c.requires.late c.self.invariant)
+    let now = c.args.now in
+    let ps : List Place = c.self.inside.table in
+    let after : List Place = c.tell_due.new.table in
+    let are : c.deref.result.now ≡ idle_ids now ps = c.deref.ensures.value ∙ c.tell_due.ensures.idle in
+    let left : c.end_all.new.table ≡ left_by now (idle_ids now ps) ps =
+    c.end_all.ensures.table ∙ ap (λ l. without_all l after) are ∙ ap (without_all (idle_ids now ps)) (sym c.tell_due.ensures.quiet.rest) ∙ c.tell_due.ensures.left in
+    rw left (sound-without (idle_ids now ps) c.self.inside.limits c.self.inside.next_dialogue c.self.inside.next_number now (map (place_at now) ps)
+    (sound-at now c.self.inside.limits c.self.inside.next_dialogue c.self.inside.next_number c.self.inside.clock ps c.requires.late c.self.invariant))
 
 pub returns-clause-moves : goal.returns-clause-moves
 returns-clause-moves g c =
     let now = c.args.now in
     let ps : List Place = c.self.inside.table in
-    let table : dialogues_of c.tell_due.new.table ≡ dialogues_of (map (place_at now) ps) = ap dialogues_of c.tell_due.ensures.table in
+    let after : List Place = c.tell_due.new.table in
+    let are : c.deref.result.now ≡ idle_ids now ps = c.deref.ensures.value ∙ c.tell_due.ensures.idle in
+    let over : flat_map (over_in after) c.deref.result.now ≡ all_idle_told now (dialogues_of ps) =
+    ap (flat_map (over_in after)) are ∙ over-all now (idle_ids now ps) after ps c.tell_due.ensures.quiet.rest c.tell_due.ensures.ends ∙ ends-all now ps c.self.invariant.from in
     let empty : c.in_ok-outputs.outputs.items ≡ [] = search rules in
-    let told : all_shown c.tell_due.new.outputs.items ≡ all_told now (dialogues_of ps) = c.tell_due.ensures.told ∙ ap (λ xs. all_shown xs ++ all_told now (dialogues_of ps)) empty in
-    let whole : List Dialogue → World = λ ds. record { max_dialogues = c.self.inside.limits.max_dialogues; reject_ms = c.self.inside.limits.reject_ms; next_dialogue = c.self.inside.next_dialogue; next_number = c.self.inside.next_number; clock = now; dialogues = ds } in (
+    let lapses : all_shown c.tell_due.new.outputs.items ≡ all_told now (dialogues_of ps) = c.tell_due.ensures.told ∙ ap (λ xs. all_shown xs ++ all_told now (dialogues_of ps)) empty in
+    let told : all_shown c.end_all.new.outputs.items ≡ all_told now (dialogues_of ps) ++ all_idle_told now (dialogues_of ps) =
+    c.end_all.ensures.told ∙ ap (λ os. os ++ flat_map (over_in after) c.deref.result.now) lapses ∙ ap (λ os. all_told now (dialogues_of ps) ++ os) over in
+    let left : c.end_all.new.table ≡ left_by now (idle_ids now ps) ps =
+    c.end_all.ensures.table ∙ ap (λ l. without_all l after) are ∙ ap (without_all (idle_ids now ps)) (sym c.tell_due.ensures.quiet.rest) ∙ c.tell_due.ensures.left in
+    let table : dialogues_of c.end_all.new.table ≡ filter_map (left_at now) (dialogues_of ps) = ap dialogues_of left ∙ left-all now ps c.self.invariant.from in
+    let whole : List Dialogue → World = λ ds. record { max_dialogues = c.self.inside.limits.max_dialogues; reject_ms = c.self.inside.limits.reject_ms; idle_ms = c.self.inside.limits.idle_ms; next_dialogue = c.self.inside.next_dialogue; next_number = c.self.inside.next_number; clock = now; dialogues = ds } in (
       ap Answer.outputs told ∙ ap (λ (w : World). (advanced w now).answer) c.self.view_is,
-      ap whole (table ∙ dialogues-at now ps) ∙ ap (λ (w : World). (advanced w now).after) c.self.view_is,
+      ap whole table ∙ ap (λ (w : World). (advanced w now).after) c.self.view_is,
     )

@@ -1,5 +1,5 @@
 use Rattle.std.proofs.Common.{rules, arith, ◌<◌, List}
-use Rattle.tcap_engine.specs.Lapsing.{AreIdle, IsFirstTimer}
+use Rattle.tcap_engine.specs.Lapsing.{AreUntimed, IsFirstTimer}
 use Rattle.tcap_engine.specs.Table.{Place}
 use Rattle.tcap_engine.proofs.QuietLemmas.{late-quiet, idle-late, behind-late}
 use Rattle.tcap_engine.proofs.engine.moment.first_by.Goals as goal
@@ -7,7 +7,7 @@ use Rattle.tcap_engine.proofs.engine.moment.first_by.Goals as goal
 pub returns-in_err-first-clause-first : goal.returns-in_err-first-clause-first
 returns-in_err-first-clause-first g c =
     let ps : List Place = c.args.table.now in
-    let idle : AreIdle ps = search rules in
+    let idle : AreUntimed ps = search rules in
     rw c.from_residual.ensures (late-quiet c.args.now ps (idle-late c.args.now ps idle))
 
 pub returns-else-first-now-clause-first : goal.returns-else-first-now-clause-first

@@ -1,7 +1,8 @@
-use Rattle.std.proofs.Common.{◌≡◌, ◌++◌, ◌+◌, ◌≤◌, map, length, vec_len, vec_capacity}
+use Rattle.std.proofs.Common.{◌≡◌, ◌++◌, ◌+◌, ◌≤◌, ℕ, length, vec_len, vec_capacity}
 use Rattle.tcap_dialogue.specs.OutputViews.{all_shown}
 use Rattle.tcap_model.specs.Table.DueLapses.{all_told}
-use Rattle.tcap_engine.specs.Lapsing.{place_at, row_count}
+use Rattle.tcap_engine.specs.Ending.{ends_in, idle_ids, left_by}
+use Rattle.tcap_engine.specs.Lapsing.{step_count}
 use Rattle.tcap_engine.specs.Table.{AreFrom, dialogues_of}
 use Rattle.tcap_engine.proofs.engine.moment.tell_due.Given as goal
 
@@ -9,9 +10,13 @@ abbrev pub invariant-loop-time : goal.invariant-loop-time
 invariant-loop-time g l = record {
   from : AreFrom 0 l.table;
   room : vec_len l.outputs + length (all_told l.now (dialogues_of l.table)) ≤ vec_capacity l.outputs;
+  whole : vec_capacity l.outputs ≡ vec_capacity l.initial.outputs;
+  space : vec_len l.idle + length (idle_ids l.now l.table) ≤ vec_capacity l.idle;
   told : all_shown l.outputs.items ++ all_told l.now (dialogues_of l.table) ≡ all_shown l.initial.outputs.items ++ all_told l.now (dialogues_of l.initial.table);
-  rest : map (place_at l.now) l.table ≡ map (place_at l.now) l.initial.table;
+  idle : l.idle.items ++ idle_ids l.now l.table ≡ idle_ids l.now l.initial.table;
+  ends : (id : ℕ) → ends_in l.now l.table id ≡ ends_in l.now l.initial.table id;
+  left : left_by l.now (idle_ids l.now l.initial.table) l.table ≡ left_by l.now (idle_ids l.now l.initial.table) l.initial.table;
 }
 
 abbrev pub decreases-loop-time : goal.decreases-loop-time
-decreases-loop-time g l = row_count l.table
+decreases-loop-time g l = step_count l.now l.table

@@ -1,0 +1,46 @@
+use Rattle.std.proofs.Common.{rules, arith, ◌≡◌, ◌+◌, ◌<◌, ◌≤◌, ◌∙◌, ◌++◌, ap, sym, refl, nat_eq, List, ℕ, [], drop, get_or, length, vec_len, append_assoc, length-append}
+use Rattle.std.proofs.lemmas.List.{length-map}
+use Rattle.std.proofs.Math.ListN.{drop_of_length-le}
+use Rattle.std.specs.List.{flat_map}
+use Rattle.std.specs.Map.{remove_entry}
+use Rattle.tcap_dialogue.specs.OutputViews.{all_shown, shown}
+use Rattle.tcap_engine.specs.Ending.{AreApart, over_in, without_all}
+use Rattle.tcap_engine.specs.Table.{AreFrom}
+use Rattle.tcap_engine.proofs.OverLemmas.{OverStep, over-step, none-without}
+use Rattle.tcap_engine.proofs.engine.idle.end_all.Goals as goal
+
+pub loop-d-preserved : goal.loop-d-preserved
+loop-d-preserved g c =
+    let ids : List ℕ = c.args.ids.now in
+    let i = c.loop-d.d-index in
+    let inv = c.loop-d.invariant in
+    let ps = c.loop-d.table in
+    let new = c.end_one.new.table in
+    let before = all_shown c.loop-d.outputs.items in
+    let d = get_or ids i 0 in
+    let step : OverStep (drop i ids) (drop (i + 1) ids) d ps = over-step i ids ps c.loop-d-test.true inv.from inv.apart in
+    let gone : new ≡ remove_entry (nat_eq d) ps = c.end_one.ensures.table in
+    let rest = flat_map (over_in new) (drop (i + 1) ids) in
+    let told : all_shown c.end_one.new.outputs.items ≡ before ++ over_in ps d = c.end_one.ensures.told in
+    let all : flat_map (over_in ps) (drop i ids) ≡ over_in ps d ++ rest = step.told ∙ ap (λ qs. over_in ps d ++ flat_map (over_in qs) (drop (i + 1) ids)) (sym gone) in
+    let long = ap length all in
+    let parts = length-append (over_in ps d) rest in
+    let shown_length : length (all_shown c.end_one.new.outputs.items) ≡ length before + length (over_in ps d) = ap length told ∙ length-append before (over_in ps d) in
+    record {
+      told = ap (λ os. os ++ rest) told ∙ append_assoc before (over_in ps d) rest ∙ ap (λ os. before ++ os) (sym all) ∙ inv.told;
+      room =
+          let inside = inv.room in
+          let whole = c.end_one.ensures.room in
+          let counted = length-map c.end_one.new.outputs.items shown in
+          let before_counted = length-map c.loop-d.outputs.items shown in
+          omega (arith, inside, whole, shown_length, long, parts, counted, before_counted);
+      left = ap (without_all (drop (i + 1) ids)) gone ∙ step.left ∙ inv.left;
+      from = rw gone step.from;
+      apart = step.apart;
+    }
+
+pub returns-clause-table : goal.returns-clause-table
+returns-clause-table g c =
+    let ids : List ℕ = c.args.ids.now in
+    let none : drop c.loop-d.d-index ids ≡ [] = drop_of_length-le ids (search (rules, arith)) in
+    sym (none-without c.loop-d.table) ∙ ap (λ l. without_all l c.loop-d.table) (sym none) ∙ c.loop-d.invariant.left

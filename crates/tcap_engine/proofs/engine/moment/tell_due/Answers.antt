@@ -1,0 +1,27 @@
+use Rattle.std.proofs.Common.{rules, arith, ◌≡◌, ◌+◌, ◌≤◌, ◌∷◌, [], ◌++◌, ◌∙◌, ap, sym, refl, subst, List, ℕ, true, length, vec_len, vec_capacity, append_assoc}
+use Rattle.tcap_dialogue.specs.OutputViews.{all_shown}
+use Rattle.tcap_engine.specs.Ending.{idle_ids, is_among}
+use Rattle.tcap_engine.proofs.IdleLemmas.{among-here}
+use Rattle.tcap_engine.proofs.engine.moment.tell_due.Goals as goal
+
+pub loop-time-preserved-in-Idle : goal.loop-time-preserved-in-Idle
+loop-time-preserved-in-Idle g c =
+    let inv = c.loop-time.invariant in
+    let d = c.in-Some.d in
+    let idle_before = c.loop-time.idle.items in
+    let rest = idle_ids c.args.now c.pass_first.new.table in
+    let pushed : c.push_reserved-in-Idle.new.self.items ≡ idle_before ++ d ∷ [] = search rules in
+    let first : idle_ids c.args.now c.loop-time.table ≡ d ∷ rest = search rules in
+    let whole : idle_before ++ (d ∷ rest) ≡ idle_ids c.args.now c.args.table.now = ap (λ ids. idle_before ++ ids) (sym first) ∙ inv.idle in
+    let long = ap length first in
+    let among : is_among (idle_ids c.args.now c.args.table.now) d ≡ true = subst (λ ids. is_among ids d ≡ true) whole (among-here idle_before rest d) in
+    record {
+      from = search rules;
+      room = search rules;
+      whole = inv.whole;
+      space = search (rules, arith, long);
+      told = search rules;
+      idle = ap (λ ids. ids ++ rest) pushed ∙ append_assoc idle_before (d ∷ []) rest ∙ whole;
+      ends = λ id. c.pass_first.ensures.ends id ∙ inv.ends id;
+      left = c.pass_first.ensures.left (idle_ids c.args.now c.args.table.now) (λ is. among) ∙ inv.left;
+    }
