@@ -4,6 +4,7 @@ use Rattle.std.proofs.Common.{◌≡◌, ℕ, pos, [], ◌∷◌, None, refl, ar
 use Rattle.std.specs.Prelude.{drop, take}
 use Rattle.tcap_component.specs.Component.{CodeParts}
 use Rattle.tcap_invocation.specs.declared.class.Class.TheVariants.{One}
+use Rattle.tcap_examples.proofs.LegalHistories.{legal}
 use Rattle.tcap_examples.proofs.EndPremises.{answers_what_it_was_told, uses_once, not_told, not_opened}
 use Rattle.tcap_examples.proofs.PlaceLemmas.{not_sent}
 use Rattle.tcap_model.specs.Words.Answer.{Answer}
@@ -73,23 +74,8 @@ ahead-untold told =
 
 heard-legal : (engine : Engine) → IsLegal (history_in heard_as_one engine heard_as_one.trace)
 unfolding computing
-heard-legal Engine.a = (
-  refl,
-  (
-    refl,
-    refl,
-    (
-      refl,
-      refl,
-      (
-        refl,
-        refl,
-        (refl, refl, (refl, refl, (refl, refl, (refl, refl, (refl, refl, tt))))),
-      ),
-    ),
-  ),
-)
-heard-legal Engine.b = (refl, (refl, refl, (refl, refl, (refl, refl, (refl, refl, (refl, refl, (refl, refl, tt)))))))
+heard-legal Engine.a = legal (history_in heard_as_one Engine.a heard_as_one.trace) refl refl refl refl
+heard-legal Engine.b = legal (history_in heard_as_one Engine.b heard_as_one.trace) refl refl refl refl
 
 pub heard-net : IsNet heard_as_one
 heard-net = record {
@@ -147,23 +133,8 @@ begun = Output.dialogue (DialogueIndication.begin 1 None [])
 
 again-legal : (engine : Engine) → IsLegal (history_in used_again engine used_again.trace)
 unfolding computing
-again-legal Engine.a = (
-  refl,
-  (
-    refl,
-    refl,
-    (
-      refl,
-      refl,
-      (
-        refl,
-        refl,
-        (refl, refl, (refl, refl, (refl, refl, (refl, refl, (refl, refl, tt))))),
-      ),
-    ),
-  ),
-)
-again-legal Engine.b = (refl, (refl, refl, (refl, refl, (refl, refl, tt))))
+again-legal Engine.a = legal (history_in used_again Engine.a used_again.trace) refl refl refl refl
+again-legal Engine.b = legal (history_in used_again Engine.b used_again.trace) refl refl refl refl
 
 pub again-net : IsNet used_again
 again-net = record {

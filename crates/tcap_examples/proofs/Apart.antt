@@ -1,5 +1,5 @@
 -- Answers and closing indications that aren't the same.
-use Rattle.std.proofs.Common.{◌≡◌, ℕ, ◌+◌, ◌*◌, false, List, length, ap, arith}
+use Rattle.std.proofs.Common.{◌≡◌, ℕ, ◌+◌, ◌*◌, false, List, [], ◌∷◌, length, ap, arith}
 use Rattle.std.specs.Prelude.{◌==◌, sum, sum_by}
 use Rattle.tcap_model.specs.Words.Answer.{Answer}
 use Rattle.tcap_model.specs.Invocations.Closings.{Told}
@@ -51,3 +51,15 @@ answer_number (Answer.refused fault) = 50000 + fault_number fault
 -- A number for some closing indications: where two have different ones, they aren't the same.
 abbrev pub told_number : List Told → ℕ
 told_number told = sum_by (λ (t : Told). closing_number t.closing + 100 * length t.place) told
+
+-- A number for the first output of an answer, and for the dialogue where this is TC-P-ABORT: where two have
+-- different ones, the answers aren't the same, nor in the same order.
+abbrev pub first_number : Answer → ℕ
+first_number (Answer.outputs (Output.dialogue (DialogueIndication.p_abort dialogue why) ∷ outputs)) = 1000 + dialogue
+first_number (Answer.outputs (output ∷ outputs)) = output_number output
+first_number (Answer.outputs []) = 0
+first_number (Answer.new_dialogue dialogue) = 0
+first_number (Answer.number n) = 0
+first_number Answer.done = 0
+first_number (Answer.given_up n) = 0
+first_number (Answer.refused fault) = 0

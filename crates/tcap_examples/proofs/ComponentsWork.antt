@@ -4,7 +4,8 @@ use Rattle.std.specs.Prelude.{take, ◌==◌}
 use Rattle.std.proofs.lemmas.Bool.{false≢true}
 use Rattle.tcap_pdu.proofs.CallerLemmas.{frame_takes}
 use Rattle.tcap_component.specs.Component.{ComponentParts, CodeParts, component_tag}
-use Rattle.tcap_examples.proofs.Apart.{apart, answer_number}
+use Rattle.tcap_examples.proofs.LegalHistories.{goes_wrong}
+use Rattle.tcap_examples.proofs.Apart.{apart}
 use Rattle.tcap_examples.proofs.ComponentPremises.{first_fault_at, told_from}
 use Rattle.tcap_examples.proofs.PlaceLemmas.{at_place}
 use Rattle.tcap_model.specs.Statements.ToldFrom.{StandsFor, IsOfComponent, ToldFromOne, ToldFrom}
@@ -94,11 +95,7 @@ begin-told = told_from begin_received ((tt, tt), ((tt, (begun-told-from, tt)), t
 
 pub crossed-wrong : GoesWrong crossed_queues
 unfolding computing
-crossed-wrong = record {
-  legal_before = (refl, (refl, refl, (refl, refl, (refl, refl, tt))));
-  not_legal =
-      λ legal. apart answer_number legal.1.1 refl;
-}
+crossed-wrong = goes_wrong crossed_queues refl refl refl refl refl
 
 -- The dialogue of a request; 0 of any other event.
 abbrev asked : Event → ℕ

@@ -2,6 +2,7 @@
 use Rattle.std.proofs.Common.{◌≡◌, pos, [], ◌∷◌, Some, None, refl, ℕ, false, negsuc, sym, ap, ◌∙◌}
 use Rattle.std.specs.Prelude.{drop, take, ◌==◌}
 use Rattle.tcap_component.specs.Component.{CodeParts}
+use Rattle.tcap_examples.proofs.LegalHistories.{legal}
 use Rattle.tcap_examples.proofs.EndPremises.{not_both}
 use Rattle.tcap_examples.proofs.PlaceLemmas.{at_happening, at_place}
 use Rattle.tcap_examples.specs.Computing.{computing}
@@ -31,8 +32,8 @@ invoked = Output.component (ComponentIndication.invoked (Some 1) (pos 1) None (c
 
 pub forged-legal : (engine : Engine) → IsLegal (history_in forged engine forged.trace)
 unfolding computing
-forged-legal Engine.a = (refl, (refl, refl, (refl, refl, (refl, refl, (refl, refl, (refl, refl, (refl, refl, tt)))))))
-forged-legal Engine.b = (refl, (refl, refl, tt))
+forged-legal Engine.a = legal (history_in forged Engine.a forged.trace) refl refl refl refl
+forged-legal Engine.b = legal (history_in forged Engine.b forged.trace) refl refl refl refl
 
 pub forged-not_carried : IsCarried forged.trace → ⊥
 forged-not_carried carried = false≢true carried.0

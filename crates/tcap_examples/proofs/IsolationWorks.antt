@@ -1,5 +1,6 @@
 -- Isolation on a worked history of two dialogues.
 use Rattle.std.specs.Prelude.{◌≢◌, refl}
+use Rattle.tcap_examples.proofs.LegalHistories.{legal}
 use Rattle.tcap_examples.proofs.Apart.{apart, answer_number}
 use Rattle.tcap_model.specs.Words.Answer.{Answer}
 use Rattle.tcap_examples.specs.Computing.{computing}
@@ -12,18 +13,7 @@ use Rattle.tcap_examples.specs.Statements.IsolationExamples.{two_left, of_one_be
 
 pub two-legal : IsLegal two_dialogues
 unfolding computing
-two-legal = (
-  refl,
-  (
-    refl,
-    refl,
-    (
-      refl,
-      refl,
-      (refl, refl, (refl, refl, (refl, refl, (refl, refl, (refl, refl, (refl, refl, tt)))))),
-    ),
-  ),
-)
+two-legal = legal two_dialogues refl refl refl refl
 
 pub invoke-left : reply before_the_invoke first_invokes ≢ Answer.refused Fault.numbers_spent
 unfolding computing

@@ -2,6 +2,7 @@
 use Rattle.std.proofs.Common.{◌≡◌, ℕ, pos, Bool, false, List, [], ◌∷◌, Option, Some, None, refl, sym, ap, ◌∙◌}
 use Rattle.std.specs.Prelude.{bytes_eq, drop}
 use Rattle.std.proofs.lemmas.Bool.{false≢true}
+use Rattle.tcap_examples.proofs.LegalHistories.{legal}
 use Rattle.tcap_examples.proofs.EndPremises.{not_both}
 use Rattle.tcap_examples.proofs.PlaceLemmas.{Everywhere, at_happening}
 use Rattle.tcap_examples.specs.Computing.{computing}
@@ -76,7 +77,7 @@ crossed-carried = (refl, (tt, (tt, (refl, (refl, (tt, (tt, (tt, (tt, (tt, (tt, t
 
 pub crossed-legal : IsLegal (history_in crossed_queues Engine.a crossed_queues.trace)
 unfolding computing
-crossed-legal = (refl, (refl, refl, (refl, refl, (refl, refl, (refl, refl, (refl, refl, (refl, refl, (refl, refl, tt))))))))
+crossed-legal = legal (history_in crossed_queues Engine.a crossed_queues.trace) refl refl refl refl
 
 -- No last result is asked for in a dialogue whose peer is the second of the first engine.
 abbrev Other : Marked → Trace → Type 0

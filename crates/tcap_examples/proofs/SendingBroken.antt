@@ -6,6 +6,7 @@ use Rattle.tcap_component.specs.Component.{ComponentParts}
 use Rattle.tcap_component.specs.Written.{written_component}
 use Rattle.tcap_invocation.specs.declared.class.Class.TheVariants.{One}
 use Rattle.tcap_model.specs.Words.Answer.{Answer}
+use Rattle.tcap_examples.proofs.LegalHistories.{goes_wrong, goes_wrong_by}
 use Rattle.tcap_examples.specs.Computing.{computing}
 use Rattle.tcap_model.specs.Words.Event.{Event}
 use Rattle.tcap_examples.specs.Values.DialogueValues.{code}
@@ -16,7 +17,7 @@ use Rattle.tcap_model.specs.Statements.Submitted.{is_sending}
 use Rattle.tcap_examples.specs.Statements.SendingExamples.{invoke_of, first_sent, first_message, again_sent, again_message, sent_twice, swapped_sent, swapped_message, sent_swapped, sent_though_given_up, bare_sent, bare_message, not_sent}
 use Rattle.tcap_examples.specs.Values.HistoryWords.{dialogue_born, invoke_pair, begin_request, continue_request}
 use Rattle.tcap_examples.specs.Wrong.WrongHistories.{Wrong, GoesWrong, whole}
-use Rattle.tcap_examples.proofs.Apart.{apart, answer_number}
+use Rattle.tcap_examples.proofs.Apart.{apart}
 use Rattle.tcap_examples.proofs.ComponentPremises.{sent_from}
 use Rattle.tcap_examples.proofs.SendingWorks.{AreRead, read-same}
 use Rattle.tcap_model.specs.Statements.SentFrom.{ComesFrom, SentFrom, SentFromOne}
@@ -54,10 +55,7 @@ from_one request past cs each =
 
 pub twice-wrong : GoesWrong sent_twice
 unfolding computing
-twice-wrong = record {
-  legal_before = (refl, (refl, refl, (refl, refl, (refl, refl, (refl, refl, tt)))));
-  not_legal = λ legal. apart answer_number legal.1.1 refl;
-}
+twice-wrong = goes_wrong sent_twice refl refl refl refl refl
 
 twice-read : AreRead (first_sent ∷ again_sent ∷ []) (invoke_of 1 ∷ invoke_of 1 ∷ [])
 unfolding computing
@@ -85,10 +83,7 @@ fifteenth answer = get_or (flat_map (λ octets. octets) (octets_in answer)) 14 0
 
 pub swapped-wrong : GoesWrong sent_swapped
 unfolding computing
-swapped-wrong = record {
-  legal_before = (refl, (refl, refl, (refl, refl, (refl, refl, tt))));
-  not_legal = λ legal. apart fifteenth legal.1.1 refl;
-}
+swapped-wrong = goes_wrong_by fifteenth sent_swapped refl refl refl refl refl
 
 swapped-read : AreRead (swapped_sent ∷ []) (invoke_of 2 ∷ invoke_of 1 ∷ [])
 unfolding computing
@@ -108,10 +103,7 @@ swapped-not_in_order =
 
 pub given_up-wrong : GoesWrong sent_though_given_up
 unfolding computing
-given_up-wrong = record {
-  legal_before = (refl, (refl, refl, (refl, refl, (refl, refl, tt))));
-  not_legal = λ legal. apart answer_number legal.1.1 refl;
-}
+given_up-wrong = goes_wrong sent_though_given_up refl refl refl refl refl
 
 given_up-read : AreRead (first_sent ∷ []) (invoke_of 1 ∷ [])
 unfolding computing
@@ -126,10 +118,7 @@ given_up-not_in_order =
 
 pub missing-wrong : GoesWrong not_sent
 unfolding computing
-missing-wrong = record {
-  legal_before = (refl, (refl, refl, (refl, refl, tt)));
-  not_legal = λ legal. apart answer_number legal.1.1 refl;
-}
+missing-wrong = goes_wrong not_sent refl refl refl refl refl
 
 missing-read : AreRead (bare_sent ∷ []) []
 unfolding computing

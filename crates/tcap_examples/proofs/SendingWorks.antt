@@ -7,6 +7,7 @@ use Rattle.tcap_pdu.proofs.CallerLemmas.{frame_takes}
 use Rattle.tcap_component.specs.Component.{ComponentParts}
 use Rattle.tcap_component.specs.ComponentList.{items}
 use Rattle.tcap_component.specs.ComponentReading.{components_of}
+use Rattle.tcap_examples.proofs.LegalHistories.{legal}
 use Rattle.tcap_examples.specs.Computing.{computing}
 use Rattle.tcap_model.specs.Replies.Legal.{IsLegal}
 use Rattle.tcap_model.specs.Statements.Places.{StandsIn}
@@ -59,46 +60,7 @@ read-same (bytes ∷ messages) cs ds are have =
 
 pub parts-legal : IsLegal sent_in_parts
 unfolding computing
-parts-legal = (
-  refl,
-  (
-    refl,
-    refl,
-    (
-      refl,
-      refl,
-      (
-        refl,
-        refl,
-        (
-          refl,
-          refl,
-          (
-            refl,
-            refl,
-            (
-              refl,
-              refl,
-              (
-                refl,
-                refl,
-                (
-                  refl,
-                  refl,
-                  (
-                    refl,
-                    refl,
-                    (refl, refl, (refl, refl, tt)),
-                  ),
-                ),
-              ),
-            ),
-          ),
-        ),
-      ),
-    ),
-  ),
-)
+parts-legal = legal sent_in_parts refl refl refl refl
 
 -- Up to the Continue it is legal, and two components wait.
 pub waiting-legal : IsLegal up_to_the_continue
@@ -138,7 +100,7 @@ parts-have = read-have (begin_sent ∷ continue_sent ∷ abort_sent ∷ []) all_
 
 pub answer-legal : IsLegal begun_by_the_peer
 unfolding computing
-answer-legal = (refl, (refl, refl, (refl, refl, tt)))
+answer-legal = legal begun_by_the_peer refl refl refl refl
 
 pub answer-submitted : components_submitted 1 unknown_linked_identifier.history.pairs ≡ reject_of_invoke ∷ []
 unfolding computing

@@ -2,6 +2,9 @@ pub mod Closing
 pub mod Ends
 pub mod EngineSteps
 pub mod EngineWalks
+pub mod IdleLimit
+pub mod IdleRows
+pub mod IdleWalks
 pub mod LapseRows
 pub mod MarkRows
 pub mod NamedDialogues

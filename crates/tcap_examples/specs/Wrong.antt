@@ -1,4 +1,6 @@
+pub mod TurnedIdle
 pub mod TurnedMoves
 pub mod WrongAnswers
 pub mod WrongEnds
 pub mod WrongHistories
+pub mod WrongIdle

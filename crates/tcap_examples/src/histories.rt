@@ -3,6 +3,8 @@
 
 pub mod closing;
 pub mod ends;
+pub mod idle_limit;
+pub mod idle_moves;
 pub mod lapses;
 pub mod marks;
 pub mod moves;
@@ -12,8 +14,10 @@ pub mod readings;
 pub mod reception;
 pub mod refusals;
 pub mod requests;
+pub mod turned_idle;
 pub mod turned_moves;
 pub mod worked_moves;
 pub mod worlds;
 pub mod wrong_answers;
 pub mod wrong_ends;
+pub mod wrong_idle;

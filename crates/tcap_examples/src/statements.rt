@@ -4,6 +4,7 @@
 pub mod components;
 pub mod grammar;
 pub mod headline;
+pub mod idle;
 pub mod isolation;
 pub mod sending;
 pub mod two_ends;

@@ -51,7 +51,7 @@ first_setting = record { clock = 0; number = 1; limit = queue_limit }
 -- A new dialogue of identifier 1, where identifiers wait so long for a Reject, in milliseconds (own).
 abbrev pub opened_with : ℕ → Played
 opened_with reject_ms =
-    record { setting = first_setting; dialogue = fresh_dialogue 1 reject_ms; answers = []; is_over = false }
+    record { setting = first_setting; dialogue = fresh_dialogue 1 reject_ms 0; answers = []; is_over = false }
 
 -- A new dialogue where identifiers wait 1000 milliseconds for a Reject (own).
 abbrev pub opened : Played
@@ -90,7 +90,7 @@ begun_by (Reception.dropped why) = unborn
 begun_by (Reception.aborted abort) = unborn
 begun_by (Reception.unidirectional context info components) = unborn
 begun_by (Reception.begun origin context info components) =
-    after_birth (born first_setting 1 1000 origin context info components)
+    after_birth (born first_setting 1 1000 0 origin context info components)
 begun_by (Reception.taken dialogue message) = unborn
 begun_by (Reception.broken dialogue abort cause) = unborn
 

@@ -22,11 +22,13 @@ use Rattle.tcap_model.specs.Words.State.{State}
 
 -- ---- two dialogues
 
--- Dialogue 2 in this state, with its queue and its invocations (own).
+-- Dialogue 2 in this state, with its queue and its invocations, touched at clock 0 if at all (own).
 abbrev pub dialogue_2 : State → List Waits → List Row → Dialogue
 dialogue_2 state queue rows = record {
   standing = record { identifier = 2; state = state; context = None; queue = queue };
   invocations = record { reject_ms = 1000; rows = rows };
+  idle_ms = 0;
+  touched = 0;
 }
 
 -- The engine where both dialogues were born (own).

@@ -18,15 +18,16 @@ use Rattle.tcap_examples.specs.Values.Asked as asks
 
 -- ---- engines
 
--- At most four dialogues, a second to wait for a Reject, and both counters at 1 (own).
+-- At most four dialogues, a second to wait for a Reject, no idle limit, and both counters at 1 (own).
 abbrev pub steps_start : Start
-steps_start = record { max_dialogues = 4; reject_ms = 1000; next_dialogue = 1; next_number = 1 }
+steps_start = record { max_dialogues = 4; reject_ms = 1000; idle_ms = 0; next_dialogue = 1; next_number = 1 }
 
 -- The engine before its first dialogue (own).
 abbrev pub empty_engine : World
 empty_engine = record {
   max_dialogues = 4;
   reject_ms = 1000;
+  idle_ms = 0;
   next_dialogue = 1;
   next_number = 1;
   clock = 0;
@@ -41,6 +42,7 @@ engine_with clock next_number dialogues =
     record {
       max_dialogues = 4;
       reject_ms = 1000;
+      idle_ms = 0;
       next_dialogue = 2;
       next_number = next_number;
       clock =
@@ -57,11 +59,14 @@ engine_of_one clock next_number dialogue = engine_with clock next_number (dialog
 abbrev pub engine_after : ℕ → ℕ → World
 engine_after clock next_number = engine_with clock next_number []
 
--- Dialogue 1 in this state, with its application context, its queue and its invocations (own).
+-- Dialogue 1 in this state, with its application context, its queue and its invocations, touched at clock
+-- 0 if at all (own).
 abbrev pub dialogue_1 : State → Option (List ℕ) → List Queued → List Row → Dialogue
 dialogue_1 state context queue rows = record {
   standing = record { identifier = 1; state = state; context = context; queue = queue };
   invocations = record { reject_ms = 1000; rows = rows };
+  idle_ms = 0;
+  touched = 0;
 }
 
 -- An Invoke in the queue: its octets, and the number of its invocation, which is of class 1 (own).

@@ -4,6 +4,8 @@ use Rattle.tcap_invocation.specs.declared.stage.Stage.TheVariants.{Queued, Sent,
 use Rattle.tcap_model.specs.Words.Answer.{Answer}
 use Rattle.tcap_examples.specs.Values.DialogueValues.{context, aarq, aare, result_of_first, of_result}
 use Rattle.tcap_examples.specs.Values.Hex.{hex}
+use Rattle.tcap_model.specs.Procedures.QueueRules.{Queued as Waits}
+use Rattle.tcap_model.specs.Table.Dialogue.{Dialogue}
 use Rattle.tcap_model.specs.Words.Output.{Output, Closing, AbortCause}
 use Rattle.tcap_model.specs.Words.State.{State}
 use Rattle.tcap_examples.specs.Histories.Steps.{Walk}
@@ -109,6 +111,10 @@ identifier_freed_steps = walk (
 abbrev pub reject_sent : List ℕ
 reject_sent = hex 24 0x6516_480400000001_490400000005_6C08_A406020101820100
 
+-- Dialogue 1 in Active with this queue, touched at clock 1000 (own).
+abbrev pub answered_late : List Waits → Dialogue
+answered_late queue = record (dialogue_1 (State.active peer) None queue []) { touched = 1000 }
+
 -- The invocation lapses at its deadline, not before; its result then has no invocation and is rejected
 -- with Return Result problem 0, which the next Continue carries. A moment below the clock is nothing for
 -- the dialogue, and the engine after it is the one before it
@@ -126,9 +132,9 @@ late_result_steps = walk (
     ∷ moment_step 1000 (told.closed 1 1 (pos 1) Closing.lapsed ∷ [])
     (engine_of_one 1000 2 (dialogue_1 State.sent None [] []))
     ∷ receive_step result_of_first (told.go_on 1 None [] ∷ told.local_reject (Some 1) (Some (pos 1)) (of_result 0) ∷ [])
-    (engine_of_one 1000 2 (dialogue_1 (State.active peer) None (queued_reject (reject_1 0) ∷ []) []))
+    (engine_of_one 1000 2 (answered_late (queued_reject (reject_1 0) ∷ [])))
     ∷ request_step (asks.go_on None []) (Answer.outputs (Output.send reject_sent ∷ []))
-    (engine_of_one 1000 2 (dialogue_1 (State.active peer) None [] []))
+    (engine_of_one 1000 2 (answered_late []))
     ∷ moment_step 5 []
-    (engine_of_one 1000 2 (dialogue_1 (State.active peer) None [] []))
+    (engine_of_one 1000 2 (answered_late []))
     ∷ [])

@@ -30,7 +30,10 @@ nothing_happened start = record { start = start; pairs = [] }
 
 -- The history after a step (own).
 abbrev pub after_step : History → Step → History
-after_step h step = record { start = h.start; pairs = record { event = step.event; answer = step.answer } ∷ h.pairs }
+after_step h step = record {
+  start = h.start;
+  pairs = record { event = step.event; answer = step.answer; idle_ms = h.start.idle_ms } ∷ h.pairs;
+}
 
 -- ---- what the dialogue does
 
@@ -65,17 +68,17 @@ Moves s before (Some event) answer (after ∷ another ∷ others) = ⊥
 
 -- The dialogues after an event, where none stands before it: the one that was asked for is Idle
 -- (own).
-abbrev pub first_dialogues : ℕ → Answer → List Dialogue
-first_dialogues reject_ms (Answer.new_dialogue dialogue) = fresh_dialogue dialogue reject_ms ∷ []
-first_dialogues reject_ms (Answer.number number) = []
-first_dialogues reject_ms Answer.done = []
-first_dialogues reject_ms (Answer.given_up number) = []
-first_dialogues reject_ms (Answer.outputs outputs) = []
-first_dialogues reject_ms (Answer.refused fault) = []
+abbrev pub first_dialogues : ℕ → ℕ → Answer → List Dialogue
+first_dialogues reject_ms idle_ms (Answer.new_dialogue dialogue) = fresh_dialogue dialogue reject_ms idle_ms ∷ []
+first_dialogues reject_ms idle_ms (Answer.number number) = []
+first_dialogues reject_ms idle_ms Answer.done = []
+first_dialogues reject_ms idle_ms (Answer.given_up number) = []
+first_dialogues reject_ms idle_ms (Answer.outputs outputs) = []
+first_dialogues reject_ms idle_ms (Answer.refused fault) = []
 
 -- From the dialogues before an event, at most one, to those after it (own).
 abbrev pub LeadsTo : World → List Dialogue → Step → Type 0
-LeadsTo w [] step = step.after.dialogues ≡ first_dialogues w.reject_ms step.answer
+LeadsTo w [] step = step.after.dialogues ≡ first_dialogues w.reject_ms w.idle_ms step.answer
 LeadsTo w (before ∷ []) step =
     Moves (setting_in w) before (dialogue_event w.clock step.event) step.answer step.after.dialogues
 LeadsTo w (before ∷ another ∷ others) step = ⊥

@@ -19,9 +19,10 @@ use Rattle.tcap_examples.specs.Values.HistoryWords.{dialogue_born, invoke_pair, 
 use Rattle.tcap_examples.specs.Values.Asked as asks
 use Rattle.tcap_examples.specs.Values.Told as told
 
--- The start of the engines of a play: at most 16 dialogues, a second to wait for a Reject (own).
+-- The start of the engines of a play: at most 16 dialogues, a second to wait for a Reject, and no idle
+-- limit (own).
 abbrev pub play_start : Start
-play_start = record { max_dialogues = 16; reject_ms = 1000; next_dialogue = 1; next_number = 1 }
+play_start = record { max_dialogues = 16; reject_ms = 1000; idle_ms = 0; next_dialogue = 1; next_number = 1 }
 
 -- Two such engines, and what happens to both, in order of time (own).
 abbrev pub played : List Marked → Net

@@ -26,7 +26,7 @@ last = 2 ^ 64 - 2
 
 -- An engine that has two invocation numbers left (own).
 abbrev pub two_left : Start
-two_left = record { max_dialogues = 4; reject_ms = 1000; next_dialogue = 1; next_number = last_but_one }
+two_left = record { max_dialogues = 4; reject_ms = 1000; idle_ms = 0; next_dialogue = 1; next_number = last_but_one }
 
 -- A dialogue begins with an Invoke (own).
 abbrev pub begins : ℕ → List ℕ → Pair

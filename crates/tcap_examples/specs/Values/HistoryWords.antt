@@ -14,15 +14,15 @@ use Rattle.tcap_model.specs.Words.Request.{Request}
 use Rattle.tcap_examples.specs.Values.Asked as asks
 use Rattle.tcap_examples.specs.Values.Told as told
 
--- ---- events and answers
+-- ---- events and answers, where there is no idle limit
 
 -- A dialogue is asked for, and this one is born (own).
 abbrev pub dialogue_born : ℕ → Pair
-dialogue_born dialogue = record { event = Event.new_dialogue; answer = Answer.new_dialogue dialogue }
+dialogue_born dialogue = record { event = Event.new_dialogue; answer = Answer.new_dialogue dialogue; idle_ms = 0 }
 
 -- A dialogue is asked for, and refused (own).
 abbrev pub birth_refused : Fault → Pair
-birth_refused fault = record { event = Event.new_dialogue; answer = Answer.refused fault }
+birth_refused fault = record { event = Event.new_dialogue; answer = Answer.refused fault; idle_ms = 0 }
 
 -- TC-INVOKE in a dialogue with this identifier, class, local operation code and timeout, without
 -- parameter and linked identifier (own).
@@ -31,23 +31,24 @@ invoke_pair dialogue id class code timeout answer =
     record {
       event = Event.on_dialogue dialogue (asks.invoke id class (CodeParts.local code) None None timeout);
       answer = answer;
+      idle_ms = 0;
     }
 
 -- A request on a dialogue (own).
 abbrev pub request_pair : ℕ → Request → Answer → Pair
-request_pair dialogue r answer = record { event = Event.on_dialogue dialogue r; answer = answer }
+request_pair dialogue r answer = record { event = Event.on_dialogue dialogue r; answer = answer; idle_ms = 0 }
 
 -- Bytes are received, and this is sent and told (own).
 abbrev pub received_pair : List ℕ → List Output → Pair
-received_pair bytes outputs = record { event = Event.received bytes; answer = Answer.outputs outputs }
+received_pair bytes outputs = record { event = Event.received bytes; answer = Answer.outputs outputs; idle_ms = 0 }
 
 -- A moment, and what is told (own).
 abbrev pub moment_pair : ℕ → List Output → Pair
-moment_pair now outputs = record { event = Event.moment now; answer = Answer.outputs outputs }
+moment_pair now outputs = record { event = Event.moment now; answer = Answer.outputs outputs; idle_ms = 0 }
 
 -- A moment is refused (own).
 abbrev pub moment_refused : ℕ → Fault → Pair
-moment_refused now fault = record { event = Event.moment now; answer = Answer.refused fault }
+moment_refused now fault = record { event = Event.moment now; answer = Answer.refused fault; idle_ms = 0 }
 
 -- ---- requests without parameters
 
@@ -75,9 +76,9 @@ empty_result = Closing.result_last None
 
 -- ---- starts and beginnings
 
--- An engine with at most four dialogues and a second to wait for a Reject (own).
+-- An engine with at most four dialogues, a second to wait for a Reject, and no idle limit (own).
 abbrev pub usual_start : Start
-usual_start = record { max_dialogues = 4; reject_ms = 1000; next_dialogue = 1; next_number = 1 }
+usual_start = record { max_dialogues = 4; reject_ms = 1000; idle_ms = 0; next_dialogue = 1; next_number = 1 }
 
 -- Dialogue 1 is opened with one Invoke: identifier 1, class 1, operation 10, with this timeout; its
 -- number is 1 (own).

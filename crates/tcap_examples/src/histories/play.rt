@@ -1,5 +1,5 @@
 //! Two engines: a Begin that is delivered twice, and an End that is lost.
-#![tactic(auto, unfolding(crate::specs::Computing::computing))]
+#![tactic(auto, using(crate::proofs::RepeatedNets::repeated_nets), unfolding(crate::specs::Computing::computing))]
 
 ghost use Rattle.tcap_model.specs.Statements.Net.{IsNet};
 ghost use Rattle.tcap_examples.specs.Histories.Worked.{Works};

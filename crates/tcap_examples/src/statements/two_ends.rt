@@ -1,6 +1,6 @@
 //! The statements about two ends on a worked list of two engines, and two lists that break a premise of
 //! "after the Invoke".
-#![tactic(auto, using(crate::proofs::RepeatedBegin::repeated_begin_works, crate::proofs::AnswersAhead::answers_ahead, crate::proofs::LastMessages::last_messages, crate::proofs::TwoEndsWork::repeated_begin_is_two_ended), unfolding(crate::specs::Computing::computing))]
+#![tactic(auto, using(crate::proofs::RepeatedNets::repeated_nets, crate::proofs::RepeatedBegin::repeated_begin_works, crate::proofs::AnswersAhead::answers_ahead, crate::proofs::LastMessages::last_messages, crate::proofs::TwoEndsWork::repeated_begin_is_two_ended), unfolding(crate::specs::Computing::computing))]
 
 ghost use Rattle.std.specs.Prelude.{◌≡◌, ◌≤◌, pos, length, drop, None};
 ghost use Rattle.tcap_component.specs.Component.{CodeParts};
