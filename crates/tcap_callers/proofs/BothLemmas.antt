@@ -150,7 +150,7 @@ comes-back new rely start begins one other one_asked other_heard other_replied o
     let stands = last.given t.earlier t.later t.answer t.is_answers in
     let answer : FarAnswer after_last.trace = record {
       engine = Engine.a;
-      pair = record { event = stands.event; answer = t.answer };
+      pair = record { event = stands.event; answer = t.answer; idle_ms = stands.idle_ms };
       before = stands.before;
       dialogue = dialogue;
       number = number;

@@ -132,6 +132,7 @@ pub fn operate<A: Allocator + Copy>(alloc: A) -> Option<(u32, u64)>
     let limits = Limits {
         max_dialogues: 1,
         reject_ms: 0,
+        idle_ms: 0,
     };
     let mut one = Engine::new(alloc, limits);
     let mut other = Engine::new(alloc, limits);

@@ -16,7 +16,7 @@ returns g c =
     let told_it = subst (λ xs. Hears (answers_view xs) told c.answered-asked.new.engine c.hand_on-told.new.engine) c.as_slice-2.ensures.value c.hand_on-told.ensures in
     IfSome_then c.told_result.result c.told_result.ensures
     (λ r tells. comes-back c.two_engines.ensures.begin c.two_engines.ensures.rely
-    (record { max_dialogues = 1; reject_ms = 0; next_dialogue = 1; next_number = 1 }) refl
+    (record { max_dialogues = 1; reject_ms = 0; idle_ms = 0; next_dialogue = 1; next_number = 1 }) refl
     c.new-one.result c.new-other.result c.answered-asked.new.engine c.hand_on-heard.new.engine c.answered-replied.new.engine c.hand_on-told.new.engine
     c.new-one.ensures c.new-other.ensures
     (events_view c.asked_events.result) (events_view c.answering_events.result) asked heard replied told
