@@ -1,5 +1,5 @@
 -- The first piece of a list, and those behind it.
-use Rattle.std.proofs.Common.{◌≡◌, ◌<◌, ◌+◌, ◌-◌, ℕ, zero, suc, List, [], ◌∷◌, refl, sym, ap, ◌∙◌, length, take, drop, slice_index, arith, Option, Some, None, Bor}
+use Rattle.std.proofs.Common.{◌≡◌, ◌<◌, ◌+◌, ◌-◌, ℕ, zero, suc, List, [], ◌∷◌, refl, sym, ap, ◌∙◌, length, take, drop, slice_index, arith}
 use Rattle.std.proofs.Math.Seq.{take-length}
 use Rattle.std.proofs.lemmas.List.{length-drop}
 use Rattle.tcap_play.specs.Pieces.{pieces}
@@ -28,13 +28,3 @@ cut_piece mark (octet ∷ octets) (suc place) low is lacks =
 -- all that stands behind a place
 pub rest_behind : (octets : List ℕ) (place : ℕ) → take (length octets - (place + 1)) (drop (place + 1) octets) ≡ drop (place + 1) octets
 rest_behind octets place = ap (λ n. take n (drop (place + 1) octets)) (sym (length-drop (place + 1) octets)) ∙ take-length (drop (place + 1) octets)
-
--- the pieces of what is left
-abbrev pub pieces_left : ℕ → Option (Bor (List ℕ)) → List (List ℕ)
-pieces_left mark None = []
-pieces_left mark (Some rest) = pieces mark rest.now
-
--- how much is left
-abbrev pub left : Option (Bor (List ℕ)) → ℕ
-left None = 0
-left (Some rest) = 1 + length rest.now

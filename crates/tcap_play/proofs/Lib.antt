@@ -3,7 +3,9 @@ pub mod MessagePlaces
 pub mod Nets
 pub mod Numerals
 pub mod Octets
+pub mod Openings
 pub mod PlayLines
+pub mod PlayStarts
 pub mod PlaySteps
 pub mod StreamEnds
 pub mod StreamGoing

@@ -1,4 +1,5 @@
 pub mod LineRanges
+pub mod OpenedScripts
 pub mod PlayMessages
 pub mod PlayShown
 pub mod SoundPlays

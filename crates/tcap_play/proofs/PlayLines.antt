@@ -1,7 +1,8 @@
 -- What is printed from a line on.
 use Rattle.std.proofs.Common.{◌≡◌, ◌++◌, ◌+◌, ◌∙◌, ℕ, Bool, true, false, List, [], ◌∷◌, Option, Some, None, refl, sym, ap}
 use Rattle.std.proofs.lemmas.List.{append_assoc, append-nil}
-use Rattle.tcap_play.specs.Play.{Played, Printed, Stepped, bad_line, behind, is_skipped, printed_by, printed_from, step_by}
+use Rattle.tcap_play.specs.Pieces.{is_skipped}
+use Rattle.tcap_play.specs.Play.{Played, Printed, Stepped, bad_line, behind, printed_by, printed_from, step_by}
 use Rattle.tcap_play.specs.PlayViews.{Does, GoesOn, IsAt}
 use Rattle.tcap_play.specs.declared.station.Station.{Station}
 

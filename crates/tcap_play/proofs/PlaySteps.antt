@@ -32,16 +32,16 @@ module _ {A : Type 0} where
             → Does (option_map (received_from (record { engine = Engine.a; number = number }) Fate.delivered p) found) done a' b' before after
         go None does = does
         go (Some octets) does =
-            let hands = does.2 (history_of Engine.b p.trace) at.b_stands in (
+            let hands = does.2 (history_of Engine.b p) at.b_stands in (
               does.0,
               record {
                 is_at = record {
                   a_stands = rw kept at.a_stands;
                   b_stands = hands.stands;
                   a_sent = rw at.a_sent (sym does.1);
-                  b_sent = ap (λ xs. xs ++ messages_in (reply (history_of Engine.b p.trace) (Event.received octets))) at.b_sent ∙ sym hands.keeps;
+                  b_sent = ap (λ xs. xs ++ messages_in (reply (history_of Engine.b p) (Event.received octets))) at.b_sent ∙ sym hands.keeps;
                 };
-                is_text = hands.prints ∙ ap (λ n. before ++ answer_lines Engine.b n (reply (history_of Engine.b p.trace) (Event.received octets))) (as_many b.sent.items p.from_b at.b_sent);
+                is_text = hands.prints ∙ ap (λ n. before ++ answer_lines Engine.b n (reply (history_of Engine.b p) (Event.received octets))) (as_many b.sent.items p.from_b at.b_sent);
               },
             )
 
@@ -55,15 +55,15 @@ module _ {A : Type 0} where
             → Does (option_map (received_from (record { engine = Engine.b; number = number }) Fate.delivered p) found) done a' b' before after
         go None does = does
         go (Some octets) does =
-            let hands = does.2 (history_of Engine.a p.trace) at.a_stands in (
+            let hands = does.2 (history_of Engine.a p) at.a_stands in (
               does.0,
               record {
                 is_at = record {
                   a_stands = hands.stands;
                   b_stands = rw kept at.b_stands;
-                  a_sent = ap (λ xs. xs ++ messages_in (reply (history_of Engine.a p.trace) (Event.received octets))) at.a_sent ∙ sym hands.keeps;
+                  a_sent = ap (λ xs. xs ++ messages_in (reply (history_of Engine.a p) (Event.received octets))) at.a_sent ∙ sym hands.keeps;
                   b_sent = rw at.b_sent (sym does.1);
                 };
-                is_text = hands.prints ∙ ap (λ n. before ++ answer_lines Engine.a n (reply (history_of Engine.a p.trace) (Event.received octets))) (as_many a.sent.items p.from_a at.a_sent);
+                is_text = hands.prints ∙ ap (λ n. before ++ answer_lines Engine.a n (reply (history_of Engine.a p) (Event.received octets))) (as_many a.sent.items p.from_a at.a_sent);
               },
             )

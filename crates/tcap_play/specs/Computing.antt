@@ -17,11 +17,12 @@ use Rattle.tcap_pdu.specs.Front.{front_at}
 use Rattle.tcap_component.specs.ComponentReading.{identifier_of, identifier_at, linked_at, code_at, body_at, result_at, rejected_at, problem_kind, problem_code, problem_at, invoke_at, result_last_at, error_at, reject_at, result_more_at, form_at, second_is_listed, is_structured, front_identifier, component_at, components_by}
 use Rattle.tcap_component.specs.Written.{write_fault}
 use Rattle.tcap_text.specs.Verdict.{message_of}
+use Rattle.tcap_play.specs.Opening.{opening_from}
 use Rattle.tcap_play.specs.Pieces.{pieces}
 use Rattle.tcap_play.specs.Play.{printed_from}
 use Rattle.tcap_play.specs.PlayNet.{played_from}
 
 -- Whoever unfolds this name can run all that reads, cuts, judges, writes, answers and prints (own).
 unfoldable pub computing : Unit {0}
-unfolding digits decode_pairs encode_with end_at contents_by after_at element_at further_at tag_at length_at head_at signed_after integer_at number_after items_by item_at subidentifiers_at is_object_identifier tagged first_whole only_at alone_at one_octet one_at information_at version_of version_at context_at opening_at number_at diagnostic_at request_at response_at abort_at structured_at unstructured_at foreign_by pdu_by pdu_at dialogue_at written_external written_dialogue id_at portions_at cause_at reason_at unidirectional_at begin_at frame_end_at go_on_at frame_abort_at type_at frame_at front_at identifier_of identifier_at linked_at code_at body_at result_at rejected_at problem_kind problem_code problem_at invoke_at result_last_at error_at reject_at result_more_at form_at second_is_listed is_structured front_identifier component_at components_by write_fault cut_by message_of pieces printed_from played_from
+unfolding digits decode_pairs encode_with end_at contents_by after_at element_at further_at tag_at length_at head_at signed_after integer_at number_after items_by item_at subidentifiers_at is_object_identifier tagged first_whole only_at alone_at one_octet one_at information_at version_of version_at context_at opening_at number_at diagnostic_at request_at response_at abort_at structured_at unstructured_at foreign_by pdu_by pdu_at dialogue_at written_external written_dialogue id_at portions_at cause_at reason_at unidirectional_at begin_at frame_end_at go_on_at frame_abort_at type_at frame_at front_at identifier_of identifier_at linked_at code_at body_at result_at rejected_at problem_kind problem_code problem_at invoke_at result_last_at error_at reject_at result_more_at form_at second_is_listed is_structured front_identifier component_at components_by write_fault cut_by message_of pieces opening_from printed_from played_from
 computing = tt

@@ -3,6 +3,8 @@ pub mod Computing
 pub mod Examples
 pub mod LineViews
 pub mod Numbers
+pub mod Opening
+pub mod OpeningView
 pub mod OutputParts
 pub mod OutputText
 pub mod Pieces

@@ -37,6 +37,7 @@ abbrev pub cause_words : AbortCause → List ℕ
 cause_words (AbortCause.cause number) = codes "cause " ++ decimal number
 cause_words AbortCause.abnormal = codes "abnormal"
 cause_words AbortCause.no_common = codes "nocommon"
+cause_words AbortCause.idle = codes "idle"
 
 -- An indication of dialogue handling (own).
 abbrev pub dialogue_words : DialogueIndication → List ℕ

@@ -9,7 +9,8 @@ use Rattle.tcap_model.specs.Words.Answer.{Answer}
 use Rattle.tcap_model.specs.Words.Event.{Event}
 use Rattle.tcap_model.specs.Words.Output.{Output}
 use Rattle.tcap_play.specs.AnswerText.{answer_lines}
-use Rattle.tcap_play.specs.Pieces.{lines_of, words_of}
+use Rattle.tcap_play.specs.Opening.{Opening, opening_of}
+use Rattle.tcap_play.specs.Pieces.{is_skipped, words_of}
 use Rattle.tcap_play.specs.ScriptLine.{ScriptLine, line_of}
 use Rattle.tcap_play.specs.ScriptWords.{MessageName}
 
@@ -24,9 +25,10 @@ pub record Message : Type 0 where
   pub octets : List ℕ
   pub fate : Fate
 
--- What happened to both engines, the newest pair first, and the messages that each sent, in their order
--- (own).
+-- The idle limit of both engines, in milliseconds, 0 for none; what happened to them, the newest pair
+-- first; and the messages that each sent, in their order (own).
 pub record Played : Type 0 where
+  pub idle_ms : ℕ
   pub trace : Trace
   pub from_a : List Message
   pub from_b : List Message
@@ -38,18 +40,18 @@ pub record Stepped : Type 0 where
 
 -- ---- engines and messages
 
--- Each engine lets 16 dialogues stand, and an identifier waits a second for a Reject of its answer; its
--- first dialogue and its first invocation are 1 (own).
-abbrev pub play_start : Start
-play_start = record { max_dialogues = 16; reject_ms = 1000; next_dialogue = 1; next_number = 1 }
+-- Each engine lets 16 dialogues stand, and an identifier waits a second for a Reject of its answer; how
+-- long a dialogue may stand still the script says; the first dialogue and the first invocation are 1 (own).
+abbrev pub play_start : ℕ → Start
+play_start idle_ms = record { max_dialogues = 16; reject_ms = 1000; idle_ms = idle_ms; next_dialogue = 1; next_number = 1 }
 
--- Before the first line (own).
-abbrev pub not_begun : Played
-not_begun = record { trace = []; from_a = []; from_b = [] }
+-- Before the first line, with this idle limit (own).
+abbrev pub not_begun : ℕ → Played
+not_begun idle_ms = record { idle_ms = idle_ms; trace = []; from_a = []; from_b = [] }
 
 -- The history of an engine (own).
-abbrev pub history_of : Engine → Trace → History
-history_of engine trace = record { start = play_start; pairs = side engine trace }
+abbrev pub history_of : Engine → Played → History
+history_of engine p = record { start = play_start p.idle_ms; pairs = side engine p.trace }
 
 -- The messages that an engine sent (own).
 abbrev pub sent_by : Engine → Played → List Message
@@ -112,12 +114,12 @@ with_fate fate number octets messages = set messages (number - 1) (record { octe
 abbrev pub answered : Engine → Event → Answer → Played → Stepped
 answered engine event answer p = record {
   text = answer_lines engine (length (sent_by engine p)) answer;
-  after = with_sent engine (sent_by engine p ++ messages_in answer) (record p { trace = record { engine = engine; pair = record { event = event; answer = answer } } ∷ p.trace });
+  after = with_sent engine (sent_by engine p ++ messages_in answer) (record p { trace = record { engine = engine; pair = record { event = event; answer = answer; idle_ms = p.idle_ms } } ∷ p.trace });
 }
 
 -- An engine is handed an event; its answer is the reply after all that was handed to it before (own).
 abbrev pub handed : Engine → Event → Played → Stepped
-handed engine event p = answered engine event (reply (history_of engine p.trace) event) p
+handed engine event p = answered engine event (reply (history_of engine p) event) p
 
 -- A message with these octets is received on the side that didn't send it, and is in a new state (own).
 abbrev pub received_from : MessageName → Fate → Played → List ℕ → Stepped
@@ -152,11 +154,6 @@ step p (ScriptLine.advance now) =
 abbrev pub step_by : Played → List ℕ → Option Stepped
 step_by p line = option_and_then (step p) (line_of (words_of line))
 
--- A line that is skipped: it is empty or begins with `#` (own).
-abbrev pub is_skipped : List ℕ → Bool
-is_skipped [] = true
-is_skipped (first ∷ rest) = first == 35
-
 -- ---- scripts
 
 -- What is printed, and whether it is good (own).
@@ -184,9 +181,13 @@ printed_from number p (line ∷ lines) =
     if is_skipped line then printed_from (number + 1) p lines
     else printed_by number (λ q. printed_from (number + 1) q lines) (step_by p line)
 
+-- What the play prints of a script that opens so (own).
+abbrev pub printed_behind : Opening → Printed
+printed_behind opening = printed_from (opening.passed + 1) (not_begun opening.idle_ms) opening.lines
+
 -- What the play of a script prints (own).
 abbrev pub printed_of : List ℕ → Printed
-printed_of script = printed_from 1 not_begun (lines_of script)
+printed_of script = printed_behind (opening_of script)
 
 -- Its text (own).
 abbrev pub play_text_of : List ℕ → List ℕ

@@ -6,8 +6,9 @@ use Rattle.tcap_model.specs.Statements.Net.{IsNet, Net, Trace, side}
 use Rattle.tcap_model.specs.Statements.TwoEnds.{TwoEnds}
 use Rattle.tcap_model.specs.Words.Event.{Event}
 use Rattle.tcap_play.specs.AnswerText.{answer_lines}
-use Rattle.tcap_play.specs.Pieces.{lines_of, words_of}
-use Rattle.tcap_play.specs.Play.{Played, Stepped, bad_line, is_skipped, messages_in, not_begun, play_start, play_text_of, play_is_good, step_by}
+use Rattle.tcap_play.specs.Opening.{Opening, opening_of}
+use Rattle.tcap_play.specs.Pieces.{is_skipped, lines_of, words_of}
+use Rattle.tcap_play.specs.Play.{Played, Stepped, bad_line, messages_in, not_begun, play_start, play_text_of, play_is_good, step_by}
 use Rattle.tcap_play.specs.ScriptLine.{ScriptLine, line_of}
 
 -- ---- raw lines
@@ -53,13 +54,17 @@ played_from p [] = p
 played_from p (line ∷ lines) =
     if is_skipped line then played_from p lines else played_by (λ q. played_from q lines) p (step_by p line)
 
+-- The play of a script that opens so (own).
+abbrev pub played_behind : Opening → Played
+played_behind opening = played_from (not_begun opening.idle_ms) opening.lines
+
 -- The play of a script: all that happened to both engines, up to its first bad line (own).
 abbrev pub played_of : List ℕ → Played
-played_of script = played_from not_begun (lines_of script)
+played_of script = played_behind (opening_of script)
 
--- The two engines of a script, each with the start of a play, and the pairs of both in its order (own).
+-- The two engines of a script, each with the start of its play, and the pairs of both in its order (own).
 abbrev pub net_of : List ℕ → Net
-net_of script = record { start = λ engine. play_start; trace = (played_of script).trace }
+net_of script = record { start = λ engine. play_start (played_of script).idle_ms; trace = (played_of script).trace }
 
 -- ---- its text
 

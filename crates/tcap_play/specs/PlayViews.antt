@@ -37,8 +37,8 @@ pub record Hands {A : Type 0} (h : History) (engine : Engine) (event : Event) (o
 
 -- These two sides stand at a play: each engine at its history, with the messages that it sent (own).
 pub record IsAt {A : Type 0} (p : Played) (a b : Station A) : Type 0 where
-  pub a_stands : StandsAt (history_of Engine.a p.trace) a.engine
-  pub b_stands : StandsAt (history_of Engine.b p.trace) b.engine
+  pub a_stands : StandsAt (history_of Engine.a p) a.engine
+  pub b_stands : StandsAt (history_of Engine.b p) b.engine
   pub a_sent : p.from_a ≡ messages_view a.sent.items
   pub b_sent : p.from_b ≡ messages_view b.sent.items
 

@@ -7,6 +7,7 @@ use Rattle.tcap_component.specs.declared.problem.Kind.TheVariants as kind
 use Rattle.tcap_component.specs.Component.{CodeParts, BodyParts}
 use Rattle.tcap_component.specs.Component.CodeParts.{local}
 use Rattle.tcap_component.specs.Problem.{ProblemParts}
+use Rattle.tcap_invocation.specs.Stage.{moment_limit}
 use Rattle.tcap_invocation.specs.declared.class.Class.{Class}
 use Rattle.tcap_invocation.specs.declared.class.Class.TheVariants as class
 use Rattle.tcap_model.specs.Statements.Net.{Engine}
@@ -38,6 +39,10 @@ name_of (letter ∷ digits) = do
 -- A moment or a timeout, in milliseconds (own).
 abbrev pub milliseconds_of : List ℕ → Option ℕ
 milliseconds_of word = number_up_to 18446744073709551615 word
+
+-- An idle limit, in milliseconds, at most 2^62; 0 for none (own).
+abbrev pub idle_limit_of : List ℕ → Option ℕ
+idle_limit_of word = number_up_to moment_limit word
 
 -- The identifier of a dialogue (own).
 abbrev pub dialogue_of : List ℕ → Option ℕ

@@ -17,6 +17,23 @@ pub fn lost_end()
     ensures delivered { PrintsUpTo (codes "A new\nA invoke 1 1 1 10 5000 - -\nA begin 1 - -\ndeliver A1\nB more 1 1 10 0401AA\nB continue 1 - -\ndeliver B1\nagain B1\nB last 1 1 10 0401BB\nB end 1 - -\nlose B2\nadvance 5000\nA prearranged 1\ndeliver B2\n") (codes "A new 1\nA number 1\nA send A1 62104804000000016c08a10602010102010a\nB begin 1 context - info -\nB invoked 1 id 1 linked - op local 10 param -\nB done\nB send B1 651b4804000000014904000000016c0da70b020101300602010a0401aa\nA continue 1 context - info -\nA more 1 id 1 number 1 op local 10 param 0401aa\nA continue 1 context - info -\nA more 1 id 1 number 1 op local 10 param 0401aa\nB done\nB send B2 64154904000000016c0da20b020101300602010a0401bb\nA lapsed 1 id 1 number 1\nline 14 bad\n") }
 {}
 
+/// An idle limit: the first line that isn't skipped sets it for both engines, and prints nothing; anywhere else
+/// such a line is bad. It is 0 to 2^62 milliseconds, 0 for none.
+pub fn idle_limit()
+    ensures text { Prints (codes "idle 500\nA new\nA begin 1 - -\nadvance 500") (codes "A new 1\nA send A1 6206480400000001\nA pabort 1 idle\n") }
+    ensures other { Prints (codes "# both\n\nidle 500\nB new\nB begin 1 - -\nadvance 500") (codes "B new 1\nB send B1 6206480400000001\nB pabort 1 idle\n") }
+    ensures alone { Prints (codes "idle 1") [] }
+    ensures least { Prints (codes "idle 0") [] }
+    ensures most { Prints (codes "idle 4611686018427387904") [] }
+    ensures above { PrintsUpTo (codes "idle 4611686018427387905") (codes "line 1 bad\n") }
+    ensures padded { PrintsUpTo (codes "idle 01") (codes "line 1 bad\n") }
+    ensures no_limit { PrintsUpTo (codes "idle") (codes "line 1 bad\n") }
+    ensures two_limits { PrintsUpTo (codes "idle 1 1") (codes "line 1 bad\n") }
+    ensures twice { PrintsUpTo (codes "# x\n\nidle 1\nidle 1") (codes "line 4 bad\n") }
+    ensures late { PrintsUpTo (codes "A new\nidle 1") (codes "A new 1\nline 2 bad\n") }
+    ensures plain { HasNoRaw (codes "idle 1\nA new") }
+{}
+
 /// The empty script, and one that ends with a bad line.
 pub fn endings()
     ensures empty { Prints [] [] }

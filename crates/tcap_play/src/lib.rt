@@ -10,6 +10,7 @@ mod fault;
 pub mod laws;
 mod message;
 mod numbers;
+mod opening;
 mod output_text;
 mod pieces;
 mod play;

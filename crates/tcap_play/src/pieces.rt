@@ -1,7 +1,7 @@
 //! Lines of a script and words of a line.
 
 ghost use Rattle.std.specs.Prelude.{◌≡◌, ◌∷◌, [], length, ◌<◌, IfSome, MatchOption};
-ghost use Rattle.tcap_play.specs.Pieces.{pieces};
+ghost use Rattle.tcap_play.specs.Pieces.{is_skipped, pieces};
 
 /// The octets before the first mark, and those behind it, None where there is none.
 pub(crate) fn first_piece(octets: &[u8], mark: u8) -> (&[u8], Option<&[u8]>)
@@ -14,4 +14,11 @@ pub(crate) fn first_piece(octets: &[u8], mark: u8) -> (&[u8], Option<&[u8]>)
         Some(place) => (&octets[..place], Some(&octets[place + 1..])),
         None => (octets, None),
     }
+}
+
+/// Whether a line is skipped: it is empty or begins with `#`.
+pub(crate) fn is_skipped(line: &[u8]) -> bool
+    ensures { result ≡ is_skipped line.now }
+{
+    matches!(line, [] | [b'#', ..])
 }

@@ -1,18 +1,20 @@
 //! The play of a script.
 
-ghost use Rattle.std.specs.Prelude.{◌≡◌, ℕ, List, [], IfOk, OnOk, string_bytes, option_map};
+ghost use Rattle.std.specs.Prelude.{◌≡◌, ◌≤◌, ◌+◌, ℕ, List, [], IfOk, OnOk, string_bytes, option_map};
 ghost use Rattle.tcap_engine.specs.EventViews.{event_view};
+ghost use Rattle.tcap_invocation.specs.Stage.{moment_limit};
 ghost use Rattle.tcap_model.specs.Statements.Net.{Engine as Which};
 ghost use Rattle.tcap_model.specs.Table.World.{first_world};
 ghost use Rattle.tcap_model.specs.Words.Event.{Event as Happened};
 ghost use Rattle.tcap_play.specs.LineViews.{line_view, name_view};
-ghost use Rattle.tcap_play.specs.Pieces.{lines_of};
-ghost use Rattle.tcap_play.specs.Play.{Fate as Became, Played, behind, followed, handed, is_skipped, lost_from, octets_at, play_is_good, play_start, play_text_of, printed_from, received_from, sent_by, step, step_by};
+ghost use Rattle.tcap_play.specs.Pieces.{left, pieces_left};
+ghost use Rattle.tcap_play.specs.Play.{Fate as Became, Played, behind, followed, handed, lost_from, octets_at, play_is_good, play_start, play_text_of, printed_from, received_from, sent_by, step, step_by};
 ghost use Rattle.tcap_play.specs.PlayViews.{Does, GoesOn, HasStepped, IsAt, Loses, Receives, fate_view, messages_view};
 ghost use Rattle.tcap_play.specs.SideView.{side_view};
 
 use crate::message::{Fate, octets_if, set_fate};
-use crate::pieces::first_piece;
+use crate::opening::{Opening, opening_of};
+use crate::pieces::{first_piece, is_skipped};
 use crate::script::line::{Line, line_of};
 use crate::script::values::Name;
 use crate::script::words::words_of;
@@ -154,21 +156,16 @@ fn act_by<A: Allocator + Copy>(
     }
 }
 
-/// Whether a line is skipped: it is empty or begins with `#`.
-fn is_skipped(line: &[u8]) -> bool
-    ensures { result ≡ is_skipped line.now }
-{
-    matches!(line, [] | [b'#', ..])
-}
-
-/// A side before the first line.
-fn begun<A: Allocator + Copy>(alloc: A) -> Station<A>
-    ensures engine { result.engine ≡ first_world play_start }
+/// A side before the first line, with this idle limit.
+fn begun<A: Allocator + Copy>(alloc: A, idle_ms: u64) -> Station<A>
+    requires { idle_ms ≤ moment_limit }
+    ensures engine { result.engine ≡ first_world (play_start idle_ms) }
     ensures sent { result.sent.items ≡ [] }
 {
     let limits = Limits {
         max_dialogues: 16,
         reject_ms: 1_000,
+        idle_ms,
     };
     Station {
         engine: Engine::new(alloc, limits),
@@ -198,18 +195,19 @@ fn go_on<A: Allocator + Copy>(
     Ok(false)
 }
 
-/// Does what the lines of a script ask for, and tells whether all of them could be done.
+/// Does what the lines of a play ask for, and tells whether all of them could be done.
 fn play_lines<A: Allocator + Copy>(
     alloc: A,
-    script: &[u8],
+    opening: Opening<'_>,
     a: &mut Station<A>,
     b: &mut Station<A>,
     text: &mut String<A>,
 ) -> Result<bool, OutOfMemory>
-    ensures { IfOk result (λ good. (p : Played) → IsAt p a.old b.old → behind (string_bytes text.old) (printed_from 1 p (lines_of script.now)) ≡ record { text = string_bytes text.new; good = good }) }
+    requires { opening.passed + left opening.rest ≤ 18446744073709551615 }
+    ensures { IfOk result (λ good. (p : Played) → IsAt p a.old b.old → behind (string_bytes text.old) (printed_from (opening.entry.passed + 1) p (pieces_left 10 opening.entry.rest)) ≡ record { text = string_bytes text.new; good = good }) }
 {
-    let mut number = 0u64;
-    let mut rest = Some(script);
+    let mut number = opening.passed;
+    let mut rest = opening.rest;
     while let Some(lines) = rest {
         let (line, more) = first_piece(lines, b'\n');
         number += 1;
@@ -223,7 +221,7 @@ fn play_lines<A: Allocator + Copy>(
 
 /// The text of a script, and whether it is good: two engines, A and B, are handed what its lines ask for,
 /// and their answers are printed. A line that has no form of a script, or that names a message which
-/// can't be so treated, ends the play, which isn't good then.
+/// can't be so treated, ends the play, which isn't good then. A first line may set the idle limit of both.
 ///
 /// ```rust
 /// let played = tcap_play::play_text(rt.alloc(), b"A new\nA new 1\n")?;
@@ -234,10 +232,11 @@ pub fn play_text<A: Allocator + Copy>(alloc: A, script: &[u8]) -> Result<Shown<A
     ensures text { IfOk result (λ shown. shown.text.items ≡ play_text_of script.now) }
     ensures good { IfOk result (λ shown. shown.good ≡ play_is_good script.now) }
 {
-    let mut a = begun(alloc);
-    let mut b = begun(alloc);
+    let opening = opening_of(alloc, script)?;
+    let mut a = begun(alloc, opening.idle_ms);
+    let mut b = begun(alloc, opening.idle_ms);
     let mut text = String::new(alloc);
-    let good = play_lines(alloc, script, &mut a, &mut b, &mut text)?;
+    let good = play_lines(alloc, opening, &mut a, &mut b, &mut text)?;
     Ok(Shown {
         text: text.into_bytes(),
         good,

@@ -50,7 +50,7 @@ pub sent-before : (start : Start) (past : Past) (bytes : List ℕ) → AreReplie
 sent-before start [] bytes legal e = absurd cc
 sent-before start (pair ∷ past) bytes legal e = elim (or_cases (answer_sends bytes pair.answer) (was_sent bytes past) e) [
   | inl here ↦
-      sent-octets (record { start = start; pairs = past }) pair.event bytes legal.2 legal.0
+      sent-octets (record { start = start; pairs = past }) pair.event bytes legal.2 legal.0.in_range
       (subst (λ (a : Answer). Tells a (Output.send bytes)) legal.1 (answer-tells bytes pair.answer here))
   | inr earlier ↦ sent-before start past bytes legal.2 earlier
 ]

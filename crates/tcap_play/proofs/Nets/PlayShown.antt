@@ -7,8 +7,9 @@ use Rattle.tcap_model.specs.Replies.Reply.{reply}
 use Rattle.tcap_model.specs.Statements.Net.{Engine, Trace, far, side}
 use Rattle.tcap_model.specs.Words.Event.{Event}
 use Rattle.tcap_play.specs.AnswerText.{answer_lines}
-use Rattle.tcap_play.specs.Pieces.{lines_of, words_of}
-use Rattle.tcap_play.specs.Play.{Fate, Message, Played, Printed, Stepped, followed, handed, history_of, is_skipped, lost_from, messages_in, not_begun, octets_at, printed_by, printed_from, received_from, sent_by, step, step_by, with_fate, with_sent}
+use Rattle.tcap_play.specs.Opening.{opening_of}
+use Rattle.tcap_play.specs.Pieces.{is_skipped, words_of}
+use Rattle.tcap_play.specs.Play.{Fate, Message, Played, Printed, Stepped, followed, handed, history_of, lost_from, messages_in, not_begun, octets_at, printed_by, printed_from, received_from, sent_by, step, step_by, with_fate, with_sent}
 use Rattle.tcap_play.specs.PlayNet.{IsShown, PlaysShowTheirAnswers, played_by, played_from, sent_count, shown_text}
 use Rattle.tcap_play.specs.ScriptLine.{ScriptLine, line_of}
 use Rattle.tcap_play.specs.ScriptWords.{MessageName}
@@ -43,7 +44,7 @@ record ShownBy (p : Played) (stepped : Stepped) : Type 0 where
 
 handed-shown : (engine : Engine) (event : Event) (p : Played) → Counted p → ShownBy p (handed engine event p)
 handed-shown Engine.a event p counted =
-    let answer = reply (history_of Engine.a p.trace) event in
+    let answer = reply (history_of Engine.a p) event in
     record {
       counted = go;
       shown = ap (λ n. shown_text p.trace ++ answer_lines Engine.a n answer) (sym (counted Engine.a));
@@ -51,11 +52,11 @@ handed-shown Engine.a event p counted =
   where
     go : Counted (handed Engine.a event p).after
     go Engine.a =
-        length-append p.from_a (messages_in (reply (history_of Engine.a p.trace) event))
-        ∙ ap (λ n. n + length (messages_in (reply (history_of Engine.a p.trace) event))) (counted Engine.a)
+        length-append p.from_a (messages_in (reply (history_of Engine.a p) event))
+        ∙ ap (λ n. n + length (messages_in (reply (history_of Engine.a p) event))) (counted Engine.a)
     go Engine.b = counted Engine.b
 handed-shown Engine.b event p counted =
-    let answer = reply (history_of Engine.b p.trace) event in
+    let answer = reply (history_of Engine.b p) event in
     record {
       counted = go;
       shown = ap (λ n. shown_text p.trace ++ answer_lines Engine.b n answer) (sym (counted Engine.b));
@@ -64,8 +65,8 @@ handed-shown Engine.b event p counted =
     go : Counted (handed Engine.b event p).after
     go Engine.a = counted Engine.a
     go Engine.b =
-        length-append p.from_b (messages_in (reply (history_of Engine.b p.trace) event))
-        ∙ ap (λ n. n + length (messages_in (reply (history_of Engine.b p.trace) event))) (counted Engine.b)
+        length-append p.from_b (messages_in (reply (history_of Engine.b p) event))
+        ∙ ap (λ n. n + length (messages_in (reply (history_of Engine.b p) event))) (counted Engine.b)
 
 received-shown : (name : MessageName) (fate : Fate) (p : Played) (octets : Option (List ℕ)) → Counted p
     → Holds (ShownBy p) (option_map (received_from name fate p) octets)
@@ -143,9 +144,11 @@ lines-shown (line ∷ lines) number p counted = elim (cases_Bool (is_skipped lin
       (line-shown p (line_of (words_of line)) counted) (λ q more. lines-shown lines (number + 1) q more))
 ]
 
-none-counted : Counted not_begun
-none-counted Engine.a = refl
-none-counted Engine.b = refl
+none-counted : (idle_ms : ℕ) → Counted (not_begun idle_ms)
+none-counted idle_ms Engine.a = refl
+none-counted idle_ms Engine.b = refl
 
 pub plays-shown : PlaysShowTheirAnswers
-plays-shown script = lines-shown (lines_of script) 1 not_begun none-counted
+plays-shown script =
+    let opening = opening_of script in
+    lines-shown opening.lines (opening.passed + 1) (not_begun opening.idle_ms) (none-counted opening.idle_ms)

@@ -1,29 +1,32 @@
 -- What happens to both engines in a play without a raw line meets Net.
-use Rattle.std.proofs.Common.{◌≡◌, ◌-◌, ◌&&◌, not, ℕ, Bool, true, false, List, [], ◌∷◌, Option, Some, None, refl, sym, inl, inr}
+use Rattle.std.proofs.Common.{◌≡◌, ◌-◌, ◌&&◌, not, nat_le, ℕ, Bool, true, false, List, [], ◌∷◌, Option, Some, None, refl, sym, inl, inr}
 use Rattle.std.specs.List.{list_all}
 use Rattle.std.specs.Option.{option_map, option_and_then}
 use Rattle.std.proofs.lemmas.Bool.{and_parts, cases_Bool, true≢false}
+use Rattle.tcap_invocation.specs.Stage.{moment_limit}
 use Rattle.tcap_laws.proofs.CallerLemmas.{two_ends}
 use Rattle.tcap_model.specs.Histories.Pair.{Pair}
-use Rattle.tcap_model.specs.Replies.Legal.{IsLegal}
+use Rattle.tcap_model.specs.Replies.Legal.{IsLegal, Suits}
 use Rattle.tcap_model.specs.Replies.Reply.{reply}
 use Rattle.tcap_model.specs.Statements.Net.{Engine, IsCarried, IsCarriedTo, far, side, was_sent}
 use Rattle.tcap_model.specs.Words.Event.{Event}
 use Rattle.tcap_model.specs.Words.InRange.{InRange}
-use Rattle.tcap_play.specs.Pieces.{lines_of, words_of}
-use Rattle.tcap_play.specs.Play.{Fate, Played, Stepped, handed, history_of, is_skipped, lost_from, not_begun, octets_at, play_start, received_from, sent_by, step, step_by, with_fate, with_sent}
+use Rattle.tcap_play.specs.Opening.{opening_of}
+use Rattle.tcap_play.specs.Pieces.{is_skipped, lines_of, words_of}
+use Rattle.tcap_play.specs.Play.{Fate, Played, Stepped, handed, history_of, lost_from, not_begun, octets_at, play_start, received_from, sent_by, step, step_by, with_fate, with_sent}
 use Rattle.tcap_play.specs.PlayNet.{PlaysHaveTwoEnds, PlaysMeetNet, is_raw, is_raw_line, net_of, played_by, played_from}
 use Rattle.tcap_play.specs.ScriptLine.{ScriptLine, line_of}
 use Rattle.tcap_play.specs.ScriptWords.{MessageName}
 use Rattle.tcap_play.proofs.Nets.LineRanges.{LineIn, line-in}
 use Rattle.tcap_play.proofs.Nets.WordRanges.{Holds}
+use Rattle.tcap_play.proofs.Nets.OpenedScripts.{opening-all, opening-low, play-starts}
 use Rattle.tcap_play.proofs.Nets.PlayMessages.{WereSent, sent-before, answered-sent, set-sent, found-sent}
 
 -- ---- a play
 
 -- both sides' histories are legal, what was received was sent before, and so were the messages that there are
 record Sound (p : Played) : Type 0 where
-  pub is_legal : (engine : Engine) → IsLegal (history_of engine p.trace)
+  pub is_legal : (engine : Engine) → IsLegal (history_of engine p)
   pub is_carried : IsCarried p.trace
   pub were_sent : (engine : Engine) → WereSent (side engine p.trace) (sent_by engine p)
 
@@ -33,10 +36,13 @@ handed-sound Engine.a event p sound within carried =
     record { is_legal = legal; is_carried = (carried, sound.is_carried); were_sent = sent }
   where
     pair : Pair
-    pair = record { event = event; answer = reply (history_of Engine.a p.trace) event }
+    pair = record { event = event; answer = reply (history_of Engine.a p) event; idle_ms = p.idle_ms }
 
-    legal : (engine : Engine) → IsLegal (history_of engine (handed Engine.a event p).after.trace)
-    legal Engine.a = let before = sound.is_legal Engine.a in (before.0, (within, refl, before.1))
+    suits : Suits (play_start p.idle_ms) pair
+    suits = record { in_range = within; is_limited = refl }
+
+    legal : (engine : Engine) → IsLegal (history_of engine (handed Engine.a event p).after)
+    legal Engine.a = let before = sound.is_legal Engine.a in (before.0, (suits, refl, before.1))
     legal Engine.b = sound.is_legal Engine.b
 
     sent : (engine : Engine) → WereSent (side engine (handed Engine.a event p).after.trace) (sent_by engine (handed Engine.a event p).after)
@@ -46,11 +52,14 @@ handed-sound Engine.b event p sound within carried =
     record { is_legal = legal; is_carried = (carried, sound.is_carried); were_sent = sent }
   where
     pair : Pair
-    pair = record { event = event; answer = reply (history_of Engine.b p.trace) event }
+    pair = record { event = event; answer = reply (history_of Engine.b p) event; idle_ms = p.idle_ms }
 
-    legal : (engine : Engine) → IsLegal (history_of engine (handed Engine.b event p).after.trace)
+    suits : Suits (play_start p.idle_ms) pair
+    suits = record { in_range = within; is_limited = refl }
+
+    legal : (engine : Engine) → IsLegal (history_of engine (handed Engine.b event p).after)
     legal Engine.a = sound.is_legal Engine.a
-    legal Engine.b = let before = sound.is_legal Engine.b in (before.0, (within, refl, before.1))
+    legal Engine.b = let before = sound.is_legal Engine.b in (before.0, (suits, refl, before.1))
 
     sent : (engine : Engine) → WereSent (side engine (handed Engine.b event p).after.trace) (sent_by engine (handed Engine.b event p).after)
     sent Engine.a = sound.were_sent Engine.a
@@ -79,11 +88,11 @@ receipt-sound : (engine : Engine) (fate : Fate) (number : ℕ) (octets : List �
 receipt-sound Engine.a fate number octets p sound this =
     handed-sound Engine.b (Event.received octets) (with_sent Engine.a (with_fate fate number octets p.from_a) p)
     (fate-sound Engine.a fate number octets p sound this)
-    (sent-before play_start (side Engine.a p.trace) octets (sound.is_legal Engine.a).1 this) this
+    (sent-before (play_start p.idle_ms) (side Engine.a p.trace) octets (sound.is_legal Engine.a).1 this) this
 receipt-sound Engine.b fate number octets p sound this =
     handed-sound Engine.a (Event.received octets) (with_sent Engine.b (with_fate fate number octets p.from_b) p)
     (fate-sound Engine.b fate number octets p sound this)
-    (sent-before play_start (side Engine.b p.trace) octets (sound.is_legal Engine.b).1 this) this
+    (sent-before (play_start p.idle_ms) (side Engine.b p.trace) octets (sound.is_legal Engine.b).1 this) this
 
 -- ---- lines
 
@@ -151,19 +160,25 @@ lines-sound (line ∷ lines) p sound plain =
           (λ q more. lines-sound lines q more both.1))
     ]
 
-none-sound : Sound not_begun
-none-sound = record { is_legal = λ engine. legal engine; is_carried = tt; were_sent = λ engine. sent engine }
-  where
-    legal : (engine : Engine) → IsLegal (history_of engine [])
-    legal engine = (refl, tt)
+-- ---- scripts
 
-    sent : (engine : Engine) → WereSent [] (sent_by engine not_begun)
+none-sound : (idle_ms : ℕ) → nat_le idle_ms moment_limit ≡ true → Sound (not_begun idle_ms)
+none-sound idle_ms low = record { is_legal = λ engine. legal engine; is_carried = tt; were_sent = λ engine. sent engine }
+  where
+    legal : (engine : Engine) → IsLegal (history_of engine (not_begun idle_ms))
+    legal engine = (play-starts idle_ms low, tt)
+
+    sent : (engine : Engine) → WereSent [] (sent_by engine (not_begun idle_ms))
     sent Engine.a = tt
     sent Engine.b = tt
 
 pub plays-meet : PlaysMeetNet
 plays-meet script plain =
-    let sound = lines-sound (lines_of script) not_begun none-sound plain in
+    let opening = opening_of script in
+    let sound =
+    lines-sound opening.lines (not_begun opening.idle_ms)
+    (none-sound opening.idle_ms (opening-low 0 (lines_of script)))
+    (opening-all (λ line. not (is_raw_line line)) 0 (lines_of script) plain) in
     record { is_legal = sound.is_legal; is_carried = sound.is_carried }
 
 pub plays-two-ended : PlaysHaveTwoEnds

@@ -11,10 +11,11 @@ use Rattle.tcap_component.specs.Component.{CodeParts, BodyParts}
 use Rattle.tcap_component.specs.Component.CodeParts.{local}
 use Rattle.tcap_component.specs.declared.problem.Kind.{Kind}
 use Rattle.tcap_component.specs.Problem.{ProblemParts}
+use Rattle.tcap_invocation.specs.Stage.{moment_limit}
 use Rattle.tcap_model.specs.Words.InRange.{are_octets_if_any, is_body, is_code, is_identifier, is_identifier_if_any, is_long, is_problem, is_short}
 use Rattle.tcap_text.specs.Spelling.{octets_if_read}
 use Rattle.tcap_play.specs.Numbers.{number, at_most, number_up_to, signed_number, between, number_between}
-use Rattle.tcap_play.specs.ScriptWords.{milliseconds_of, dialogue_of, identifier_of, optional_identifier_of, code_of, spelled_in, octets_of, optional_octets_of, body_with, body_of, kind_of, problem_of}
+use Rattle.tcap_play.specs.ScriptWords.{milliseconds_of, idle_limit_of, dialogue_of, identifier_of, optional_identifier_of, code_of, spelled_in, octets_of, optional_octets_of, body_with, body_of, kind_of, problem_of}
 use Rattle.tcap_play.proofs.Octets.OctetLists.{Octets, octets-cons}
 
 -- ---- what is found, if anything is
@@ -54,6 +55,9 @@ dialogue-in word = short-number (dialogue_of word) (at_most-low 4294967295 (numb
 
 pub milliseconds-in : (word : List ℕ) → Holds (λ (x : ℕ). is_long x ≡ true) (milliseconds_of word)
 milliseconds-in word = long-number (milliseconds_of word) (at_most-low 18446744073709551615 (number word))
+
+pub idle-limit-in : (word : List ℕ) → Holds (λ (x : ℕ). nat_le x moment_limit ≡ true) (idle_limit_of word)
+idle-limit-in word = at_most-low moment_limit (number word)
 
 between-in : (least most : ℤ) (z : Option ℤ)
     → Holds (λ (x : ℤ). (int_le least x && int_le x most) ≡ true) (option_and_then (between least most) z)

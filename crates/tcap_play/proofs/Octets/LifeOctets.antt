@@ -1,5 +1,5 @@
 -- The peer's identifier and the application context that a dialogue keeps are octets.
-use Rattle.std.proofs.Common.{◌≡◌, ℕ, Bool, true, false, List, [], ◌∷◌, Option, Some, None, Result, Ok, Err, refl}
+use Rattle.std.proofs.Common.{◌≡◌, ◌&&◌, ℕ, Bool, true, false, List, [], ◌∷◌, Option, Some, None, Result, Ok, Err, if◌then◌else◌, refl}
 use Rattle.std.specs.List.{AllByRecursion}
 use Rattle.std.proofs.lemmas.Bool.{and_parts}
 use Rattle.ber_core.specs.Sequence.Field.{may}
@@ -12,7 +12,7 @@ use Rattle.tcap_pdu.specs.FrameReading.{frame_at}
 use Rattle.tcap_pdu.specs.FrameSpelling.{Message}
 use Rattle.tcap_pdu.proofs.CallerLemmas.{frame_takes, dialogue_takes}
 use Rattle.tcap_model.specs.Histories.Birth.{is_birth_of}
-use Rattle.tcap_model.specs.Histories.Life.{Life, begin_context, begun_life, born_life, life_at_birth, life_by_request, life_if_accepted, state_after_continue, life_by_verdict, life_by_message, life_if_live, life_by_event, life_if_named, life_after, life}
+use Rattle.tcap_model.specs.Histories.Life.{Life, begin_context, begun_life, born_life, life_at_birth, life_by_request, life_if_accepted, state_after_continue, life_by_verdict, life_by_message, life_if_live, life_by_moment, life_by_event, life_if_named, life_after, touched, life}
 use Rattle.tcap_model.specs.Histories.Names.{names}
 use Rattle.tcap_model.specs.Histories.Pair.{Pair, Past}
 use Rattle.tcap_model.specs.Procedures.PortionRules.{begin_verdict, begin_verdict_by, PortionVerdict, portion_verdict}
@@ -21,6 +21,7 @@ use Rattle.tcap_model.specs.Words.Event.{Event}
 use Rattle.tcap_model.specs.Words.InRange.{InRange, are_octets, are_octets_if_any, is_request, is_short}
 use Rattle.tcap_model.specs.Words.Request.{Request, DialogueRequest}
 use Rattle.tcap_model.specs.Words.State.{State, is_live, activated}
+use Rattle.tcap_model.specs.Words.Time.{is_idle}
 use Rattle.tcap_play.proofs.Octets.OctetLists.{Octets}
 use Rattle.tcap_play.proofs.Octets.ReadOctets.{FieldOctets, frame-octets, request-context}
 
@@ -142,30 +143,43 @@ live-octets : (live : Bool) (state : State) (context : Option (List ℕ)) (bytes
 live-octets true state context bytes are octets = message-octets bytes are state context (frame_at bytes) refl octets
 live-octets false state context bytes are octets = octets
 
+-- ---- moments
+
+live_or_over-octets : (live : Bool) (life : Life) → LifeOctets life → LifeOctets (if live then Life.over else life)
+live_or_over-octets true life octets = tt
+live_or_over-octets false life octets = octets
+
+moment-octets : (reached : Bool) (state : State) (context : Option (List ℕ)) → LifeOctets (Life.standing state context)
+    → LifeOctets (life_by_moment reached state context)
+moment-octets true state context octets = live_or_over-octets (is_live state) (Life.standing state context) octets
+moment-octets false state context octets = octets
+
 -- ---- the whole life
 
-event-octets : (state : State) (context : Option (List ℕ)) (event : Event) (accepted : Bool) → InRange event
-    → LifeOctets (Life.standing state context) → LifeOctets (life_by_event state context event accepted)
-event-octets state context Event.new_dialogue accepted within octets = octets
-event-octets state context (Event.on_dialogue dialogue request) accepted within octets =
+event-octets : (idle_ms last : ℕ) (state : State) (context : Option (List ℕ)) (event : Event) (accepted : Bool) → InRange event
+    → LifeOctets (Life.standing state context) → LifeOctets (life_by_event idle_ms last state context event accepted)
+event-octets idle_ms last state context Event.new_dialogue accepted within octets = octets
+event-octets idle_ms last state context (Event.on_dialogue dialogue request) accepted within octets =
     accepted-octets accepted state context request (and_parts (is_short dialogue) (is_request request) within).1 octets
-event-octets state context (Event.received bytes) accepted within octets =
+event-octets idle_ms last state context (Event.received bytes) accepted within octets =
     live-octets (is_live state) state context bytes within octets
-event-octets state context (Event.moment now) accepted within octets = octets
+event-octets idle_ms last state context (Event.moment now) accepted within octets =
+    moment-octets (accepted && is_idle idle_ms last now) state context octets
 
-named-octets : (named : Bool) (state : State) (context : Option (List ℕ)) (pair : Pair) → InRange pair.event
-    → LifeOctets (Life.standing state context) → LifeOctets (life_if_named named state context pair)
-named-octets true state context pair within octets = event-octets state context pair.event (is_accepted pair.answer) within octets
-named-octets false state context pair within octets = octets
+named-octets : (named : Bool) (last : ℕ) (state : State) (context : Option (List ℕ)) (pair : Pair) → InRange pair.event
+    → LifeOctets (Life.standing state context) → LifeOctets (life_if_named named last state context pair)
+named-octets true last state context pair within octets =
+    event-octets pair.idle_ms last state context pair.event (is_accepted pair.answer) within octets
+named-octets false last state context pair within octets = octets
 
-after-octets : (dialogue : ℕ) (before : Life) (pair : Pair) → InRange pair.event → LifeOctets before
-    → LifeOctets (life_after dialogue before pair)
-after-octets dialogue Life.unborn pair within octets = birth-octets (is_birth_of dialogue pair) pair.event within
-after-octets dialogue (Life.standing state context) pair within octets =
-    named-octets (names pair.event dialogue) state context pair within octets
-after-octets dialogue Life.over pair within octets = tt
+after-octets : (dialogue last : ℕ) (before : Life) (pair : Pair) → InRange pair.event → LifeOctets before
+    → LifeOctets (life_after dialogue last before pair)
+after-octets dialogue last Life.unborn pair within octets = birth-octets (is_birth_of dialogue pair) pair.event within
+after-octets dialogue last (Life.standing state context) pair within octets =
+    named-octets (names pair.event dialogue) last state context pair within octets
+after-octets dialogue last Life.over pair within octets = tt
 
 pub life-octets : (dialogue : ℕ) (past : Past) → AllInRange past → LifeOctets (life dialogue past)
 life-octets dialogue [] all = tt
 life-octets dialogue (pair ∷ past) all =
-    after-octets dialogue (life dialogue past) pair all.0 (life-octets dialogue past all.1)
+    after-octets dialogue (touched dialogue past) (life dialogue past) pair all.0 (life-octets dialogue past all.1)

@@ -21,7 +21,7 @@ use Rattle.tcap_model.specs.Procedures.AbortRules.{is_no_common, portion_told, a
 use Rattle.tcap_model.specs.Procedures.ComponentHandling.{Item, SentInvocation, handled, last_by, more_by, error_by, reject_by, subject_of, told_of, uni_told}
 use Rattle.tcap_model.specs.Procedures.Problems.{is_of_answer}
 use Rattle.tcap_model.specs.Replies.Queue.{handled_after, handled_in}
-use Rattle.tcap_model.specs.Replies.Reply.{ended_of, ended_in}
+use Rattle.tcap_model.specs.Replies.Reply.{ended_of, ended_in, marks_up_to_moment, ended_at_moment, idle_told}
 use Rattle.tcap_model.specs.Words.Output.{Output, Closing, ComponentIndication}
 use Rattle.tcap_play.proofs.Octets.OctetLists.{FieldsFine}
 
@@ -94,20 +94,32 @@ pub uni-told : (all : List Item) → AllSendFine (uni_told all)
 uni-told [] = tt
 uni-told (item ∷ all) = (handled-told None None item, uni-told all)
 
+-- an invocation that is told as ended, if it is
+one-ended : (dialogue : ℕ) (i : Invocation) (others : List Output) (test : Bool) → AllSendFine others
+    → AllSendFine (cons_option (if test then Some (Output.component (ComponentIndication.closed dialogue i.number i.id Closing.ended)) else None) others)
+one-ended dialogue i others true all = (tt, all)
+one-ended dialogue i others false all = all
+
 pub ended-told : (dialogue : ℕ) (past : Past) (components : List Item) → AllSendFine (ended_in dialogue past components)
 ended-told dialogue past components = go (invocations past)
   where
-    one : (i : Invocation) (others : List Output) (test : Bool) → AllSendFine others
-        → AllSendFine (cons_option (if test then Some (Output.component (ComponentIndication.closed dialogue i.number i.id Closing.ended)) else None) others)
-    one i others true all = (tt, all)
-    one i others false all = all
-
     still_open : Invocation → Bool
     still_open i = is_none (first_closing i.class i.timeout (marks_up_to past components i))
 
     go : (is : List Invocation) → AllSendFine (filter_map (ended_of dialogue past components) is)
     go [] = tt
-    go (i ∷ is) = one i (filter_map (ended_of dialogue past components) is) ((i.dialogue == dialogue) && still_open i) (go is)
+    go (i ∷ is) = one-ended dialogue i (filter_map (ended_of dialogue past components) is) ((i.dialogue == dialogue) && still_open i) (go is)
+
+-- what is told of a dialogue that stood still too long
+pub idle-told : (past : Past) (now dialogue : ℕ) → AllSendFine (idle_told past now dialogue)
+idle-told past now dialogue = (tt, go (invocations past))
+  where
+    still_open : Invocation → Bool
+    still_open i = is_none (first_closing i.class i.timeout (marks_up_to_moment past now i))
+
+    go : (is : List Invocation) → AllSendFine (filter_map (ended_at_moment dialogue past now) is)
+    go [] = tt
+    go (i ∷ is) = one-ended dialogue i (filter_map (ended_at_moment dialogue past now) is) ((i.dialogue == dialogue) && still_open i) (go is)
 
 response-told : (dialogue : ℕ) (version1 : Bool) (context : List ℕ) (diagnostic : Source) (info : List ℕ)
     → SendsFine (portion_told dialogue (Ok (aare version1 context false diagnostic info)))

@@ -1,5 +1,6 @@
 -- Each message that an engine sends is octets, so that another may receive it.
 use Rattle.std.proofs.Common.{◌≡◌, ℕ, Bool, true, false, List, [], ◌∷◌, ◌++◌, map, nat_lt, is_some, filter_map, Option, Some, None, Ok, if◌then◌else◌, subst}
+use Rattle.std.specs.List.{flat_map}
 use Rattle.std.proofs.lemmas.Bool.{and_parts}
 use Rattle.tcap_pdu.specs.FrameReading.{frame_at}
 use Rattle.tcap_pdu.specs.FrameSpelling.{Message}
@@ -17,7 +18,7 @@ use Rattle.tcap_model.specs.Procedures.Reception.{Reception, reception}
 use Rattle.tcap_model.specs.Procedures.Standing.{Standing}
 use Rattle.tcap_model.specs.Replies.Due.{birth_due, standing_of}
 use Rattle.tcap_model.specs.Replies.Legal.{AreReplies}
-use Rattle.tcap_model.specs.Replies.Reply.{reply, birth_answer, continue_outputs, end_outputs, message_outputs, taken_outputs, reception_outputs, moment_answer, lapses, Lapsing, lapse_told, lapse_key, lapsing_at}
+use Rattle.tcap_model.specs.Replies.Reply.{reply, birth_answer, continue_outputs, end_outputs, message_outputs, taken_outputs, reception_outputs, moment_answer, moment_outputs, idle_dialogues, idle_told, lapses, Lapsing, lapse_told, lapse_key, lapsing_at}
 use Rattle.tcap_model.specs.Statements.Places.{Tells}
 use Rattle.tcap_model.specs.Words.Answer.{Answer}
 use Rattle.tcap_model.specs.Words.Event.{Event}
@@ -32,7 +33,7 @@ use Rattle.tcap_play.proofs.Octets.LifeOctets.{AllInRange, LifeOctets, StateOcte
 use Rattle.tcap_play.proofs.Octets.OctetLists.{Octets}
 use Rattle.tcap_play.proofs.Octets.ReadOctets.{frame-octets}
 use Rattle.tcap_play.proofs.Octets.ReceptionOctets.{IsFine, abnormal-sends, reception-fine}
-use Rattle.tcap_play.proofs.Octets.ReplyOctets.{FineMessage, SendsFine, AllSendFine, sends-append, components-told, uni-told, ended-told, abort-told}
+use Rattle.tcap_play.proofs.Octets.ReplyOctets.{FineMessage, SendsFine, AllSendFine, sends-append, components-told, uni-told, ended-told, idle-told, abort-told}
 use Rattle.tcap_play.proofs.Octets.RequestOctets.{IfFine, message-fine}
 use Rattle.tcap_play.proofs.Octets.WaitingOctets.{queue-fine}
 use Rattle.tcap_play.proofs.Octets.WrittenOctets.{frame-written}
@@ -136,13 +137,21 @@ lapses-told : (all : List Lapsing) → AllSendFine (map lapse_told all)
 lapses-told [] = tt
 lapses-told (l ∷ all) = (tt, lapses-told all)
 
-moment-fine : (past : Past) (now : ℕ) (fault : Option Fault) → AnswerFine (moment_answer past now fault)
-moment-fine past now (Some f) = tt
-moment-fine past now None = chosen (nat_lt now (clock past))
+all-idle-told : (past : Past) (now : ℕ) (ids : List ℕ) → AllSendFine (flat_map (idle_told past now) ids)
+all-idle-told past now [] = tt
+all-idle-told past now (dialogue ∷ ids) =
+    sends-append (idle_told past now dialogue) (flat_map (idle_told past now) ids) (idle-told past now dialogue) (all-idle-told past now ids)
+
+moment-fine : (idle_ms : ℕ) (past : Past) (now : ℕ) (fault : Option Fault) → AnswerFine (moment_answer idle_ms past now fault)
+moment-fine idle_ms past now (Some f) = tt
+moment-fine idle_ms past now None = chosen (nat_lt now (clock past))
   where
-    chosen : (early : Bool) → AnswerFine (if early then Answer.outputs [] else Answer.outputs (lapses past now))
+    chosen : (early : Bool) → AnswerFine (if early then Answer.outputs [] else Answer.outputs (moment_outputs idle_ms past now))
     chosen true = tt
-    chosen false = lapses-told (in_order lapse_key (filter_map (lapsing_at past now) (invocations past)))
+    chosen false =
+        sends-append (lapses past now) (flat_map (idle_told past now) (idle_dialogues idle_ms past now))
+        (lapses-told (in_order lapse_key (filter_map (lapsing_at past now) (invocations past))))
+        (all-idle-told past now (idle_dialogues idle_ms past now))
 
 sends-fine : (h : History) (event : Event) (bytes : List ℕ) → AllInRange h.pairs → InRange event
     → Tells (reply h event) (Output.send bytes) → FineMessage bytes
@@ -156,13 +165,13 @@ sends-fine h (Event.received octets) bytes range within tells =
     tells-fine (reply h (Event.received octets)) bytes
     (received-fine h octets (reception live full octets) range within (reception-fine live full octets within)) tells
 sends-fine h (Event.moment now) bytes range within tells =
-    tells-fine (reply h (Event.moment now)) bytes (moment-fine h.pairs now (moment_fault now)) tells
+    tells-fine (reply h (Event.moment now)) bytes (moment-fine h.start.idle_ms h.pairs now (moment_fault now)) tells
 
 -- ---- all of a history
 
 pub in-range : (start : Start) (past : Past) → AreReplies start past → AllInRange past
 in-range start [] legal = tt
-in-range start (pair ∷ past) legal = (legal.0, in-range start past legal.2)
+in-range start (pair ∷ past) legal = (legal.0.in_range, in-range start past legal.2)
 
 -- what an answer sends is octets
 pub sent-octets : (h : History) (event : Event) (bytes : List ℕ) → AreReplies h.start h.pairs → InRange event

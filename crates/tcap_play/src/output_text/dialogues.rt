@@ -81,6 +81,7 @@ fn provider_abort_text<A: Allocator + Copy>(
         Why::Cause(number) => Ok(format!(in alloc; "pabort {dialogue} cause {number}")?),
         Why::Abnormal => Ok(format!(in alloc; "pabort {dialogue} abnormal")?),
         Why::NoCommon => Ok(format!(in alloc; "pabort {dialogue} nocommon")?),
+        Why::Idle => Ok(format!(in alloc; "pabort {dialogue} idle")?),
     }
 }
 

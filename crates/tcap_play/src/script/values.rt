@@ -1,10 +1,11 @@
 //! What words stand for.
 
-ghost use Rattle.std.specs.Prelude.{◌≡◌, bytes_eq, option_map, option_copied};
+ghost use Rattle.std.specs.Prelude.{◌≡◌, ◌≤◌, IfSome, bytes_eq, option_map, option_copied};
 ghost use Rattle.tcap_component.specs.Views.{body_parts, code_parts, problem_parts};
 ghost use Rattle.tcap_dialogue.specs.RequestViews.{reason_view};
+ghost use Rattle.tcap_invocation.specs.Stage.{moment_limit};
 ghost use Rattle.tcap_play.specs.LineViews.{name_view, text_of};
-ghost use Rattle.tcap_play.specs.ScriptWords.{engine_of, name_of, milliseconds_of, dialogue_of, identifier_of, optional_identifier_of, class_of, code_of, octets_of, optional_octets_of, body_with, body_of, kind_of, problem_of, reason_of};
+ghost use Rattle.tcap_play.specs.ScriptWords.{engine_of, name_of, milliseconds_of, idle_limit_of, dialogue_of, identifier_of, optional_identifier_of, class_of, code_of, octets_of, optional_octets_of, body_with, body_of, kind_of, problem_of, reason_of};
 ghost use Rattle.tcap_play.specs.SideView.{side_view};
 
 use crate::numbers::{number, number_of_32_bits, signed, signed_of_8_bits};
@@ -13,7 +14,7 @@ use crate::side::Side;
 use std::alloc::Allocator;
 use tcap_component::{Body, Code, Kind, Problem};
 use tcap_dialogue::AbortWhy;
-use tcap_invocation::Class;
+use tcap_invocation::{Class, MAX_MOMENT};
 
 /// What a message is called: the side that sent it, and its number among those that this side sent,
 /// from 1.
@@ -57,6 +58,18 @@ pub(crate) fn milliseconds(word: &[u8]) -> Option<u64>
     ensures { result ≡ milliseconds_of word.now }
 {
     number(word)
+}
+
+/// An idle limit, in milliseconds, at most 2^62.
+pub(crate) fn idle_limit(word: &[u8]) -> Option<u64>
+    ensures value { result ≡ idle_limit_of word.now }
+    ensures limited { IfSome result (λ limit. limit ≤ moment_limit) }
+{
+    let limit = number(word)?;
+    if limit > MAX_MOMENT {
+        return None;
+    }
+    Some(limit)
 }
 
 /// The identifier of a dialogue.

@@ -1,5 +1,6 @@
 use Rattle.std.proofs.Common.{rules, ◌≡◌, ◌++◌, ◌∙◌, sym, true, false, string_bytes}
-use Rattle.tcap_play.specs.Play.{bad_line, is_skipped}
+use Rattle.tcap_play.specs.Pieces.{is_skipped}
+use Rattle.tcap_play.specs.Play.{bad_line}
 use Rattle.tcap_play.proofs.PlayLines.{skips, goes, ends}
 use Rattle.tcap_play.proofs.play.go_on.Goals as goal
 

@@ -1,6 +1,6 @@
 use Rattle.std.proofs.Common.{◌∙◌, ◌+◌, ap, string_bytes}
+use Rattle.tcap_play.specs.Pieces.{pieces_left}
 use Rattle.tcap_play.specs.Play.{behind, printed_from}
-use Rattle.tcap_play.proofs.FirstPieces.{pieces_left}
 use Rattle.tcap_play.proofs.PlayLines.{ended}
 use Rattle.tcap_play.proofs.play.play_lines.Goals as goal
 

@@ -1,7 +1,6 @@
 use Rattle.std.proofs.Common.{◌≡◌, ◌++◌}
 use Rattle.tcap_play.specs.LineViews.{texts_of}
-use Rattle.tcap_play.specs.Pieces.{words_of}
-use Rattle.tcap_play.proofs.FirstPieces.{pieces_left, left}
+use Rattle.tcap_play.specs.Pieces.{left, pieces_left, words_of}
 use Rattle.tcap_play.proofs.script.words.words_of.Given as goal
 
 abbrev pub invariant-loop-rest : goal.invariant-loop-rest
