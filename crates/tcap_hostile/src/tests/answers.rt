@@ -34,6 +34,7 @@ fn abort_reason(alloc: Global, why: Why) -> Option<String> {
         Why::Cause(cause) => format!(in alloc; "cause {cause}").ok(),
         Why::Abnormal => format!(in alloc; "abnormal").ok(),
         Why::NoCommon => format!(in alloc; "nocommon").ok(),
+        Why::Idle => format!(in alloc; "idle").ok(),
     }
 }
 

@@ -126,9 +126,10 @@ fn speaks(engine: &mut Engine, d: u32) -> Option<bool> {
     }
 }
 
-/// An engine with one invocation, which was sent; its deadline is 1,000.
+/// An engine with one invocation, which was sent; its deadline is 1,000. A dialogue may stand still for 500
+/// milliseconds.
 fn waiting_engine(alloc: Global) -> Option<Engine> {
-    let mut engine = new_engine(alloc, false);
+    let mut engine = new_engine(alloc, "idle");
     engine.new_dialogue().ok()?;
     let code = Code::Local(10);
     engine
@@ -154,7 +155,8 @@ fn is_bounded(engine: &Engine, octets: usize, told: &[Output<'_>]) -> Option<boo
 }
 
 /// Whether such an engine takes these octets within its bounds, and the invocation has one closing indication
-/// once its deadline has come. All that is sent, then and later, can be read.
+/// once its deadline has come. All that is sent, then and later, can be read. By then no dialogue stands, since
+/// none may stand still for so long.
 fn is_heard(alloc: Global, octets: &[u8]) -> Option<bool> {
     let mut engine = waiting_engine(alloc)?;
     let told = engine.receive(octets).ok()?;
@@ -163,7 +165,8 @@ fn is_heard(alloc: Global, octets: &[u8]) -> Option<bool> {
     let second_speaks = speaks(&mut engine, 2)?;
     let lapsed = engine.advance(1000).ok()?;
     let closed = closings(told.as_slice())?.saturating_add(closings(lapsed.as_slice())?);
-    Some(in_bounds & first_speaks & second_speaks & (closed == 1))
+    let is_over = engine.state_of(1).is_none() & engine.state_of(2).is_none();
+    Some(in_bounds & first_speaks & second_speaks & (closed == 1) & is_over)
 }
 
 /// Whether these octets do no harm, whatever they are given to.

@@ -82,7 +82,7 @@ fn invoke<A: Allocator + Copy>(
     else {
         return None;
     };
-    let mut fresh = Dialogue::fresh(heap, 1, 1000);
+    let mut fresh = Dialogue::fresh(heap, 1, 1000, 0);
     let invoked = fresh.invoke(1, id, class, code, parameter, linked, timeout_ms);
     *dialogue = fresh;
     match invoked {

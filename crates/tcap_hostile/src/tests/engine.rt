@@ -6,19 +6,13 @@ use super::words::{Word, event_of, text};
 use std::alloc::{Allocator, Global};
 use tcap_engine::{Answer, Engine, Event, Fault, Limits, Request};
 
-/// A new engine of at most so many dialogues, 4 or 1.
-pub(super) fn new_engine<A: Allocator + Copy>(heap: A, is_small: bool) -> Engine<A> {
-    let reject_ms = 1000;
-    let limits = if is_small {
-        Limits {
-            max_dialogues: 1,
-            reject_ms,
-        }
-    } else {
-        Limits {
-            max_dialogues: 4,
-            reject_ms,
-        }
+/// A new engine of at most 4 dialogues, or at `1` of at most one; at `idle` with an idle limit of 500
+/// milliseconds.
+pub(super) fn new_engine<A: Allocator + Copy>(heap: A, kind: &str) -> Engine<A> {
+    let limits = Limits {
+        max_dialogues: if kind == "1" { 1 } else { 4 },
+        reject_ms: 1000,
+        idle_ms: if kind == "idle" { 500 } else { 0 },
     };
     Engine::new(heap, limits)
 }
@@ -32,6 +26,7 @@ pub(super) fn resumed<A: Allocator + Copy>(
     let limits = Limits {
         max_dialogues: 4,
         reject_ms: 1000,
+        idle_ms: 0,
     };
     Engine::resume(heap, limits, next_dialogue, next_number)
 }

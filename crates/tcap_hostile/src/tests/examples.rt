@@ -6,12 +6,14 @@
 
 mod codec;
 mod dialogues;
+mod idle;
 mod messages;
 mod outcomes;
 mod requests;
 
 pub(super) use codec::{CODEC, FEEDS};
 pub(super) use dialogues::{DIALOGUES, INVOCATIONS};
+pub(super) use idle::IDLE;
 pub(super) use messages::MESSAGES;
 pub(super) use outcomes::OUTCOMES;
 pub(super) use requests::{CALLS, REQUESTS};

@@ -1,7 +1,9 @@
 //! Each example with each growth refused in turn, at last with none, and with the first growth of each call
 //! refused; those of an engine by `run` too.
 
-use super::examples::{CALLS, CODEC, DIALOGUES, FEEDS, INVOCATIONS, MESSAGES, OUTCOMES, REQUESTS};
+use super::examples::{
+    CALLS, CODEC, DIALOGUES, FEEDS, IDLE, INVOCATIONS, MESSAGES, OUTCOMES, REQUESTS,
+};
 use super::played::{Refusal, growths, play};
 use super::runs::run_growths;
 use refusing::Refusing;
@@ -41,6 +43,7 @@ fn examples_with_each_growth_refused(rt: HostRuntime) -> Result<(), Fail> {
         MESSAGES.as_slice(),
         OUTCOMES.as_slice(),
         REQUESTS.as_slice(),
+        IDLE.as_slice(),
         CALLS.as_slice(),
         DIALOGUES.as_slice(),
         INVOCATIONS.as_slice(),
@@ -60,6 +63,7 @@ fn runs_with_each_growth_refused(rt: HostRuntime) -> Result<(), Fail> {
         MESSAGES.as_slice(),
         OUTCOMES.as_slice(),
         REQUESTS.as_slice(),
+        IDLE.as_slice(),
     ] {
         total = total.saturating_add(handed_growths(rt.alloc(), examples)?);
     }

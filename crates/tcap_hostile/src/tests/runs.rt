@@ -3,7 +3,7 @@
 use super::answers::add_answer;
 use super::engine::new_engine;
 use super::subject::Heap;
-use super::words::{Word, event_of, words_of};
+use super::words::{Word, event_of, text, words_of};
 use std::alloc::Global;
 use tcap_engine::{Answer, Event, run};
 
@@ -50,8 +50,13 @@ fn wanted_of(alloc: Global, example: &str) -> Option<String> {
 
 /// What came of a run and, where memory was refused to it, of a second one over the events that the first
 /// left: all answers, and how often memory was refused.
-fn run_twice(alloc: Global, heap: Heap<'_>, events: &[Event<'_>]) -> Option<(String, u64)> {
-    let mut engine = new_engine(heap, false);
+fn run_twice(
+    alloc: Global,
+    heap: Heap<'_>,
+    kind: &str,
+    events: &[Event<'_>],
+) -> Option<(String, u64)> {
+    let mut engine = new_engine(heap, kind);
     let mut answers = Vec::new(heap);
     if run(&mut engine, events, &mut answers).is_ok() {
         return Some((text_of(alloc, answers.as_slice())?, 0));
@@ -67,10 +72,12 @@ pub(super) fn run_growths(alloc: Global, heap: Heap<'_>, example: &str) -> Optio
     let lines = event_lines(alloc, example)?;
     let events = events_of(alloc, lines.as_slice())?;
     let wanted = wanted_of(alloc, example)?;
+    let first = words_of(alloc, example.lines().next()?)?;
+    let kind = text(first.as_slice(), 1);
     for number in 1..1_000u64 {
         heap.refuse(number);
-        let (text, refusals) = run_twice(alloc, heap, events.as_slice())?;
-        if text != wanted {
+        let (answers, refusals) = run_twice(alloc, heap, kind, events.as_slice())?;
+        if answers != wanted {
             return None;
         }
         if heap.is_armed() {

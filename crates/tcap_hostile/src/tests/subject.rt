@@ -26,8 +26,9 @@ pub(super) enum Told {
 /// What an example is about; its first line says which.
 #[derive(Debug, Drop)]
 pub(super) enum Subject<'h> {
-    /// `engine`, of at most 4 dialogues; `engine 1`, of at most one; `engine from DIALOGUE NUMBER`, by its
-    /// counters. It waits 1,000 milliseconds for a Reject.
+    /// `engine`, of at most 4 dialogues; `engine 1`, of at most one; `engine idle`, whose dialogues may stand
+    /// still for 500 milliseconds; `engine from DIALOGUE NUMBER`, by its counters. It waits 1,000 milliseconds
+    /// for a Reject.
     Engine(Engine<Heap<'h>>),
     /// `dialogue`, of the identifier 1.
     Dialogue(Dialogue<Heap<'h>>),
@@ -49,8 +50,8 @@ impl<'h> Subject<'h> {
                 let engine = engine::resumed(heap, next_dialogue, next_number);
                 Some(Subject::Engine(engine))
             }
-            ("engine", most) => Some(Subject::Engine(engine::new_engine(heap, most == "1"))),
-            ("dialogue", _) => Some(Subject::Dialogue(Dialogue::fresh(heap, 1, 1000))),
+            ("engine", kind) => Some(Subject::Engine(engine::new_engine(heap, kind))),
+            ("dialogue", _) => Some(Subject::Dialogue(Dialogue::fresh(heap, 1, 1000, 0))),
             ("invocations", _) => Some(Subject::Invocations(Invocations::new(heap, 1000))),
             ("feed", _) => Some(Subject::Feed(Feed::new(heap))),
             ("codec", _) => Some(Subject::Codec),

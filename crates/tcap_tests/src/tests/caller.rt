@@ -23,6 +23,7 @@ fn clocks_and_histories_of_an_engine(rt: HostRuntime) -> Result<(), Fail> {
     let limits = Limits {
         max_dialogues: 1,
         reject_ms: 0,
+        idle_ms: 0,
     };
     let mut engine = Engine::new(rt.alloc(), limits);
     assert_eq!(rt; clock_after(&mut engine, 5), Ok(5));

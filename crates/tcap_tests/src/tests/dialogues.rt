@@ -119,7 +119,7 @@ fn wanted(alloc: Global, call: Call) -> Option<String> {
 
 /// A new dialogue with the invocation, and how often memory was refused before, as `made` counts it.
 fn invoked<A: Allocator + Copy + Debug>(alloc: Global, heap: A) -> Option<(Dialogue<A>, u64)> {
-    let mut dialogue = Dialogue::fresh(heap, 1, 1000);
+    let mut dialogue = Dialogue::fresh(heap, 1, 1000, 0);
     let before = printed(alloc, &dialogue).ok()?;
     match dialogue.invoke(1, 1, Class::One, Code::Local(10), None, None, 1000) {
         Ok(_) => Some((dialogue, 0)),

@@ -1,3 +1,4 @@
+use super::plays::{IDLE_SCRIPT, IDLE_TEXT};
 use refusing::Refusing;
 use std::alloc::Global;
 use std::test::Fail;
@@ -124,13 +125,20 @@ fn outcome_of_run(
 fn command_with_each_growth_refused(rt: HostRuntime) -> Result<(), Fail> {
     let alloc = rt.alloc();
     let heap = Refusing::new(alloc);
-    let rows: [(&[&str], &[u8], (u8, &[u8]), &[&[u8]], u64); 5] = [
+    let rows: [(&[&str], &[u8], (u8, &[u8]), &[&[u8]], u64); 6] = [
         // The words, the input; the status and what is written; what may stand written where memory was
         // refused, and the least number of growths.
         (&["show", BEGIN], b"", (0, SHOWN), &LINES[..1], 2),
         (&["check", BEGIN], b"", (0, b"good\n"), &LINES[..1], 2),
         (&["canon", BEGIN], b"", (0, REWRITTEN), &LINES[..1], 6),
         (&["play"], SCRIPT, (0, PLAYED), &LINES[..1], 20),
+        (
+            &["play"],
+            IDLE_SCRIPT.as_bytes(),
+            (0, IDLE_TEXT.as_bytes()),
+            &LINES[..1],
+            6,
+        ),
         (&["stream"], STREAM, (1, LINES[3]), &LINES[..3], 4),
     ];
     for (words, input, wanted, left, least) in rows {

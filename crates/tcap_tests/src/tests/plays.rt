@@ -76,6 +76,24 @@ fn reads_of_a_play(rt: HostRuntime) -> Result<(), Fail> {
     Ok(())
 }
 
+/// The example "Idle limit played".
+pub(super) const IDLE_SCRIPT: &str = "idle 500\nA new\nA begin 1 - -\nadvance 500\n";
+
+/// What it prints.
+pub(super) const IDLE_TEXT: &str = "A new 1\nA send A1 6206480400000001\nA pabort 1 idle\n";
+
+/// The limit is the other engine's too, and begins one millisecond later there.
+const IDLE_FAR_SCRIPT: &str =
+    "\n# both\nidle 7\nadvance 1\nB new\nB begin 1 - -\nadvance 7\nadvance 8\n";
+
+const IDLE_FAR_TEXT: &str = "B new 1\nB send B1 6206480400000001\nB pabort 1 idle\n";
+
+/// Without a limit a dialogue stands to the last moment that there is.
+const UNLIMITED_SCRIPT: &str =
+    "A new\nA begin 1 - -\nadvance 4611686018427387904\nA prearranged 1\n";
+
+const UNLIMITED_TEXT: &str = "A new 1\nA send A1 6206480400000001\n";
+
 #[test]
 fn plays_of_the_command(rt: HostRuntime) -> Result<(), Fail> {
     let alloc = rt.alloc();
@@ -89,6 +107,19 @@ fn plays_of_the_command(rt: HostRuntime) -> Result<(), Fail> {
         ("A new\n", 3, 2, "A n", failed),
         ("A knew\n", 0, 2, "", failed),
         ("\n# none\n", 0, 0, "", ""),
+        // An idle limit, in the first line that isn't skipped, and nowhere else.
+        (IDLE_SCRIPT, 99, 0, IDLE_TEXT, ""),
+        ("idle 500\n", 0, 0, "", ""),
+        ("idle 0", 0, 0, "", ""),
+        ("idle 4611686018427387904\n", 0, 0, "", ""),
+        ("idle 4611686018427387905\n", 99, 1, "line 1 bad\n", ""),
+        ("idle 01\n", 99, 1, "line 1 bad\n", ""),
+        ("idle\n", 99, 1, "line 1 bad\n", ""),
+        ("idle 1 1\n", 99, 1, "line 1 bad\n", ""),
+        ("# x\n\nidle 1\nidle 1\n", 99, 1, "line 4 bad\n", ""),
+        ("A new\nidle 1\n", 99, 1, "A new 1\nline 2 bad\n", ""),
+        (IDLE_FAR_SCRIPT, 99, 0, IDLE_FAR_TEXT, ""),
+        (UNLIMITED_SCRIPT, 99, 0, UNLIMITED_TEXT, ""),
     ];
     for (script, room, status, written, told) in rows {
         let mut input = script.as_bytes();

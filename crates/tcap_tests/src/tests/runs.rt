@@ -29,6 +29,7 @@ fn continue_to_no_dialogue(rt: HostRuntime) -> Result<(), Fail> {
     let limits = Limits {
         max_dialogues: 1,
         reject_ms: 0,
+        idle_ms: 0,
     };
     let mut engine = Engine::new(rt.alloc(), limits);
     let mut answers = Vec::new(rt.alloc());
