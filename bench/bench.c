@@ -20,7 +20,7 @@
  * MODE feed4096, feed16, feed1: hands the message to a new feed in pieces of so many octets. MODE
  * stream4096, stream16, stream1: hands 1,000 of it to a new feed. MODE copy: takes memory for the message,
  * copies it there and gives the memory back.
- * MODE answer: reads that message, SIZE 1 the Continue, 2 the End. MODE engine1 to engine4: an engine
+ * MODE answer: reads that message, SIZE 1 the Continue, 2 the End. MODE engine1 to engine6: an engine
  * with SIZE dialogues open does COUNT laps of SIZE steps of that kind. MODE lapses1, lapses1000: an engine
  * with SIZE Active dialogues does COUNT laps, in which each lapses once, so many at a moment. MODE
  * invocations1 to invocations3: a dialogue with SIZE invocations Sent does COUNT laps of SIZE steps.
@@ -200,8 +200,8 @@ static double nanoseconds(void) {
 
 /* Few steps of each kind; each stops where it gives other outputs. */
 static void test_steps(void) {
-  static const char *const modes[] = {"engine1", "engine2",    "engine3",      "engine4",      "lapses1",
-                                      "lapses2", "lapses1000", "invocations1", "invocations2", "invocations3"};
+  static const char *const modes[] = {"engine1", "engine2", "engine3",    "engine4",      "engine5",      "engine6",
+                                      "lapses1", "lapses2", "lapses1000", "invocations1", "invocations2", "invocations3"};
   for (size_t i = 0; i < sizeof modes / sizeof *modes; i++) run_steps(modes[i], 3, 2);
 }
 

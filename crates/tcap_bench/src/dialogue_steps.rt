@@ -39,7 +39,7 @@ fn count_begun(dialogue: &mut Dialogue, steps: u8, message: &[u8]) -> Option<u64
 fn count_steps(alloc: Global, steps: u8, message: &[u8]) -> Option<u64>
     ensures { (steps < 2) → IfSome result (λ count. count ≡ 0) }
 {
-    let mut dialogue = Dialogue::fresh(alloc, 1, 1000);
+    let mut dialogue = Dialogue::fresh(alloc, 1, 1000, 0);
     if steps == 0 {
         return Some(0);
     }

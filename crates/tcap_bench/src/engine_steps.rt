@@ -23,6 +23,9 @@ pub(crate) const BEGIN: [u8; 18] = [
 /// How long an invocation may take, in milliseconds: longer than any run.
 const TIMEOUT_MS: u64 = 1 << 40;
 
+/// The idle limit of the fifth kind of step, in milliseconds: longer than any run.
+const IDLE_MS: u64 = 1 << 40;
+
 /// An End to a dialogue with the result of an invocation.
 pub(crate) fn end_to(dialogue: u32, id: i8) -> [u8; 15] {
     let [a, b, c, d] = dialogue.to_be_bytes();
@@ -39,6 +42,14 @@ pub(crate) fn result_to(dialogue: u32, id: i8) -> [u8; 21] {
     [
         0x65, 0x13, 0x48, 0x04, 0x00, 0x00, 0x00, 0x05, 0x49, 0x04, a, b, c, d, 0x6c, 0x05, 0xa2,
         0x03, 0x02, 0x01, id,
+    ]
+}
+
+/// A Continue to a dialogue, without components.
+pub(crate) fn continue_to(dialogue: u32) -> [u8; 14] {
+    let [a, b, c, d] = dialogue.to_be_bytes();
+    [
+        0x65, 0x0c, 0x48, 0x04, 0x00, 0x00, 0x00, 0x05, 0x49, 0x04, a, b, c, d,
     ]
 }
 
@@ -112,18 +123,37 @@ fn pass(engine: &mut Engine) -> Option<u64> {
     Some(engine.advance(moment).ok()?.len() as u64)
 }
 
+/// The clock moves on by one, and then the peer goes on: how many outputs that gives.
+fn touch(engine: &mut Engine, dialogue: u32) -> Option<u64> {
+    let passed = pass(engine)?;
+    let told = engine.receive(&continue_to(dialogue)).ok()?.len() as u64;
+    Some(passed.saturating_add(told))
+}
+
+/// A dialogue is begun without components, and the peer goes on.
+fn begin_bare(engine: &mut Engine) -> Option<Open> {
+    let dialogue = engine.new_dialogue().ok()?;
+    engine.begin(dialogue, None, &[]).ok()?;
+    touch(engine, dialogue)?;
+    Some(Open { dialogue, id: 1 })
+}
+
 /// One step on a dialogue: how many outputs it gives.
 fn step_once(engine: &mut Engine, step: u8, open: &mut Open) -> Option<u64> {
     match step {
         1 => begin_and_end(engine, open),
         2 => receive_and_answer(engine, open),
         3 => go_on(engine, open),
-        _ => pass(engine),
+        4 => pass(engine),
+        _ => touch(engine, open.dialogue),
     }
 }
 
-/// A dialogue as the step finds it: for the third it is Active.
+/// A dialogue as the step finds it: for the third and from the fifth on it is Active.
 fn open_one(engine: &mut Engine, step: u8) -> Option<Open> {
+    if step > 4 {
+        return begin_bare(engine);
+    }
     if step == 2 {
         return Some(receive_one(engine)?.0);
     }
@@ -155,13 +185,24 @@ fn drawn(all: &mut [Open], seed: u32) -> Option<&mut Open> {
     all.get_mut(at)
 }
 
-/// As many steps as there are dialogues, each on one drawn by lot, those of the third kind with a moment
-/// behind them, at which each identifier that waited is free: how many outputs the steps give.
+/// The dialogue that a step takes: from the fifth kind on the one whose turn it is, else the one that a number
+/// draws.
+fn taken(all: &mut [Open], step: u8, turn: usize, seed: u32) -> Option<&mut Open> {
+    if step > 4 {
+        all.get_mut(turn)
+    } else {
+        drawn(all, seed)
+    }
+}
+
+/// As many steps as there are dialogues, each on one drawn by lot, but from the fifth kind on in turn; those
+/// of the third kind with a moment behind them, at which each identifier that waited is free: how many
+/// outputs the steps give.
 fn count_lap(engine: &mut Engine, step: u8, all: &mut [Open], seed: &mut u32) -> Option<u64> {
     let mut count = 0u64;
-    for _ in 0..all.len() {
+    for turn in 0..all.len() {
         *seed = next_seed(*seed);
-        let given = step_once(engine, step, drawn(all, *seed)?)?;
+        let given = step_once(engine, step, taken(all, step, turn, *seed)?)?;
         count = count.saturating_add(given);
     }
     if step == 3 {
@@ -177,6 +218,7 @@ fn count_laps(alloc: Global, step: u8, dialogues: u16, laps: u32) -> Option<u64>
     let limits = Limits {
         max_dialogues: 65_535,
         reject_ms: 0,
+        idle_ms: if step == 5 { IDLE_MS } else { 0 },
     };
     let mut engine = Engine::new(alloc, limits);
     let mut all = open_all(alloc, &mut engine, step, dialogues)?;

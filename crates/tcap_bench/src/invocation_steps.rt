@@ -129,6 +129,7 @@ fn count_laps(alloc: Global, step: u8, invocations: u16, laps: u32) -> Option<u6
     let limits = Limits {
         max_dialogues: 1,
         reject_ms: 0,
+        idle_ms: 0,
     };
     let mut engine = Engine::new(alloc, limits);
     let dialogue = open_dialogue(&mut engine, step, invocations)?;

@@ -57,6 +57,7 @@ fn count_laps(alloc: Global, dialogues: u16, together: u16, laps: u32) -> Option
     let limits = Limits {
         max_dialogues: 65_535,
         reject_ms: 0,
+        idle_ms: 0,
     };
     let mut engine = Engine::new(alloc, limits);
     let moments = open_all(&mut engine, dialogues, together)?;

@@ -116,6 +116,7 @@ fn digest_of(alloc: Global, seed: u64, dialogues: u16, turns: u32) -> Option<u64
     let limits = Limits {
         max_dialogues: 65_535,
         reject_ms: REJECT_MS,
+        idle_ms: 0,
     };
     let mut places = vec![in alloc; 0u32; dialogues as usize].ok()?;
     let mut traffic = Traffic {
