@@ -118,6 +118,7 @@ impl<T: Drop, A: Allocator + Copy> Table<T, A> {
     }
 
     /// Takes out the row of an identifier, and answers its value; takes no memory.
+    #[inline(always)]
     pub fn remove(&mut self, id: u32) -> Option<T>
         ensures value { result ≡ lookup (nat_eq id) (entries_of self.old) }
         ensures rows { self.new ≡ without id self.old }
