@@ -79,6 +79,7 @@ pub(crate) fn insert_row<T: Drop, A: Allocator + Copy>(
 }
 
 /// Takes out the row of an identifier.
+#[inline(always)]
 pub(crate) fn remove_row<T: Drop, A: Allocator + Copy>(
     values: &mut Slab<T, A>,
     keys: &mut Keys<A>,
