@@ -1,8 +1,9 @@
 //! Time.
 
-ghost use Rattle.std.specs.Prelude.{◌≡◌, ◌≤◌, OnErr};
+ghost use Rattle.std.specs.Prelude.{◌≡◌, ◌≤◌, OnErr, false};
 ghost use Rattle.tcap_engine.specs.Answering.{EngineAnswers, outputs_answer};
 ghost use Rattle.tcap_engine.specs.HistoryForm.{Stands};
+ghost use Rattle.tcap_engine.specs.NextTimer.{IsAccepted, IsStill};
 ghost use Rattle.tcap_invocation.specs.Stage.{moment_limit};
 ghost use Rattle.tcap_model.specs.Table.EngineMove.{engine_move, advanced};
 ghost use Rattle.tcap_model.specs.Words.Event.{Event};
@@ -45,7 +46,18 @@ impl<A: Allocator + Copy> Engine<A> {
         if now < self.clock {
             return Ok(Vec::new(self.table.allocator()));
         }
+        if !self.has_reached(now) {
+            self.clock = now;
+            return Ok(Vec::new(self.table.allocator()));
+        }
         self.pass(now)
+    }
+
+    /// Whether a moment has reached the first timer of all.
+    fn has_reached(&self, now: u64) -> bool
+        ensures { result ≡ false → IsAccepted self.now now → IsStill self.now now }
+    {
+        self.next_timer().is_some_and(|time| time <= now)
     }
 
     /// The clock moves on to this moment.
