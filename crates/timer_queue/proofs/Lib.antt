@@ -1,6 +1,7 @@
 pub mod CallerLemmas
 pub mod ChangeLemmas
 pub mod DueLemmas
+pub mod HoleLemmas
 pub mod OrderLemmas
 pub mod SiftLemmas
 pub mod TieLemmas

@@ -60,6 +60,13 @@ heap_swapped heap a b = slice_set (slice_set heap a (item_at heap b)) b (item_at
 abbrev pub places_swapped : List ℕ → List ℕ → ℕ → ℕ → List ℕ
 places_swapped heap places a b = slice_set (slice_set places (item_at heap b) a) (item_at heap a) b
 
+-- The heap and the places with an item put at a place (own).
+abbrev pub heap_with : List ℕ → ℕ → ℕ → List ℕ
+heap_with heap place item = slice_set heap place item
+
+abbrev pub places_with : List ℕ → ℕ → ℕ → List ℕ
+places_with places place item = slice_set places item place
+
 -- What a queue keeps: every item is in the heap, also one without a timer, which comes after all that
 -- have one (own).
 pub record IsSound (heap places : List ℕ) (timers : List (Option Timer)) : Type 0 where

@@ -1,6 +1,6 @@
 ghost use Rattle.std.specs.Prelude.{◌≡◌, ◌≢◌, ◌<◌, ◌+◌, ◌*◌, ◌≤◌, ℕ, false, length};
 ghost use Rattle.timer_queue.specs.Order.{comes_before, timer_at};
-ghost use Rattle.timer_queue.specs.Heap.{IsChild, IsOrdered, IsOrderedBut, IsFineBelow, IsFineAbove, IsTied, item_at, key_at, heap_swapped, places_swapped};
+ghost use Rattle.timer_queue.specs.Heap.{IsChild, IsOrdered, IsOrderedBut, IsFineBelow, IsFineAbove, IsTied, item_at, key_at, heap_swapped, heap_with, places_swapped, places_with};
 
 use crate::timer::{Timer, comes_before};
 
@@ -80,12 +80,20 @@ fn least_child(heap: &[usize], timers: &[Option<Timer>], at: usize) -> usize
     }
 }
 
-/// Moves the item at a place down to where none is below it, past the earlier one of each two places
-/// below, and tells where it is then.
-fn sink(heap: &mut [usize], places: &mut [usize], timers: &[Option<Timer>], at: usize) -> usize
+/// Moves an item down from a place to where none is below it, past the earlier one of each two places below,
+/// and tells where it is then. The place is a hole until the item is put into the last one.
+fn sink(
+    heap: &mut [usize],
+    places: &mut [usize],
+    timers: &[Option<Timer>],
+    at: usize,
+    item: usize,
+) -> usize
     requires at { at < length timers.now }
-    requires tied { IsTied heap.old places.old (length timers.now) }
-    requires but { IsOrderedBut (key_at timers.now heap.old) (length timers.now) at }
+    requires hole { item_at heap.old at < length timers.now }
+    requires item { item < length places.old }
+    requires tied { IsTied (heap_with heap.old at item) (places_with places.old at item) (length timers.now) }
+    requires but { IsOrderedBut (key_at timers.now (heap_with heap.old at item)) (length timers.now) at }
     ensures at { result < length timers.now }
     ensures tied { IsTied heap.new places.new (length timers.now) }
     ensures but { IsOrderedBut (key_at timers.now heap.new) (length timers.now) result }
@@ -94,9 +102,13 @@ fn sink(heap: &mut [usize], places: &mut [usize], timers: &[Option<Timer>], at: 
     // Half of the places have none below them, and twice a place past those might not fit.
     if at < heap.len() / 2 {
         let child = least_child(heap, timers, at);
-        swap_places(heap, places, at, child);
-        sink(heap, places, timers, child)
+        let other = heap[child];
+        heap[at] = other;
+        places[other] = at;
+        sink(heap, places, timers, child, item)
     } else {
+        heap[at] = item;
+        places[item] = at;
         at
     }
 }
@@ -121,7 +133,8 @@ pub(crate) fn sift_down(
     }
     let child = least_child(heap, timers, at);
     if is_before(heap, timers, child, at) {
-        let last = sink(heap, places, timers, at);
+        let item = heap[at];
+        let last = sink(heap, places, timers, at, item);
         sift_up(heap, places, timers, last);
     }
 }
