@@ -60,10 +60,11 @@ heap_swapped heap a b = slice_set (slice_set heap a (item_at heap b)) b (item_at
 abbrev pub places_swapped : List ℕ → List ℕ → ℕ → ℕ → List ℕ
 places_swapped heap places a b = slice_set (slice_set places (item_at heap b) a) (item_at heap a) b
 
--- The heap and the places with an item put at a place (own).
+-- The heap with an item put at a place (own).
 abbrev pub heap_with : List ℕ → ℕ → ℕ → List ℕ
 heap_with heap place item = slice_set heap place item
 
+-- The places after that (own).
 abbrev pub places_with : List ℕ → ℕ → ℕ → List ℕ
 places_with places place item = slice_set places item place
 
