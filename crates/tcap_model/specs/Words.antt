@@ -1,3 +1,4 @@
+pub mod Address
 pub mod Answer
 pub mod Event
 pub mod Fault

@@ -11,7 +11,7 @@ use Rattle.tcap_model.specs.Histories.Pair.{Pair, Past, gathered}
 
 -- The dialogue of a TC-BEGIN indication (Q.771, Dialogue begin).
 abbrev pub dialogue_begun : Output → Option ℕ
-dialogue_begun (Output.send bytes) = None
+dialogue_begun (Output.send to bytes) = None
 dialogue_begun (Output.dialogue (DialogueIndication.uni context info)) = None
 dialogue_begun (Output.dialogue (DialogueIndication.begin dialogue context info)) = Some dialogue
 dialogue_begun (Output.dialogue (DialogueIndication.go_on dialogue context info)) = None
@@ -48,7 +48,7 @@ born_on_message (Answer.refused fault) = None
 abbrev pub born_of : Event → Answer → Option ℕ
 born_of Event.new_dialogue answer = born_on_request answer
 born_of (Event.on_dialogue dialogue request) answer = None
-born_of (Event.received bytes) answer = born_on_message answer
+born_of (Event.received from bytes) answer = born_on_message answer
 born_of (Event.moment now) answer = None
 
 -- The dialogue that a pair gives birth to, if any (own).

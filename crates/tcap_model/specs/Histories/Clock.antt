@@ -9,7 +9,7 @@ use Rattle.tcap_model.specs.Histories.Pair.{Past}
 abbrev pub clock_after : ℕ → Event → Bool → ℕ
 clock_after before new_dialogue accepted = before
 clock_after before (on_dialogue dialogue request) accepted = before
-clock_after before (received bytes) accepted = before
+clock_after before (received from bytes) accepted = before
 clock_after before (moment now) true = max before now
 clock_after before (moment now) false = before
 

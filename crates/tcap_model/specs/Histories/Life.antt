@@ -64,7 +64,7 @@ begun_life (Err fault) = Life.unborn
 abbrev pub born_life : Event → Life
 born_life Event.new_dialogue = Life.standing State.fresh None
 born_life (Event.on_dialogue dialogue request) = Life.unborn
-born_life (Event.received bytes) = begun_life (frame_at bytes)
+born_life (Event.received from bytes) = begun_life (frame_at bytes)
 born_life (Event.moment now) = Life.unborn
 
 -- Before its birth nothing changes a dialogue; the first argument tells whether this is its birth
@@ -80,8 +80,8 @@ life_at_birth true event = born_life event
 -- (Q.774, Transaction state machine).
 abbrev pub life_by_request : State → Option (List ℕ) → Request → Life
 life_by_request state context (Request.component asked) = Life.standing state context
-life_by_request state context (Request.dialogue (DialogueRequest.uni asked info)) = Life.over
-life_by_request state context (Request.dialogue (DialogueRequest.begin asked info)) = Life.standing State.sent asked
+life_by_request state context (Request.dialogue (DialogueRequest.uni to asked info)) = Life.over
+life_by_request state context (Request.dialogue (DialogueRequest.begin to asked info)) = Life.standing State.sent asked
 life_by_request state context (Request.dialogue (DialogueRequest.go_on asked info)) =
     Life.standing (activated state) context
 life_by_request state context (Request.dialogue (DialogueRequest.finish ending asked info)) = Life.over
@@ -142,7 +142,7 @@ abbrev pub life_by_event : ℕ → ℕ → State → Option (List ℕ) → Event
 life_by_event idle_ms touched state context Event.new_dialogue accepted = Life.standing state context
 life_by_event idle_ms touched state context (Event.on_dialogue dialogue request) accepted =
     life_if_accepted accepted state context request
-life_by_event idle_ms touched state context (Event.received bytes) accepted =
+life_by_event idle_ms touched state context (Event.received from bytes) accepted =
     life_if_live (is_live state) state context bytes
 life_by_event idle_ms touched state context (Event.moment now) accepted =
     life_by_moment (accepted && is_idle idle_ms touched now) state context
@@ -165,8 +165,8 @@ life_after dialogue touched Life.over pair = Life.over
 -- TC-BEGIN and TC-CONTINUE touch their dialogue; no other request does (own).
 abbrev pub touches_as_request : Request → Bool
 touches_as_request (Request.component asked) = false
-touches_as_request (Request.dialogue (DialogueRequest.uni asked info)) = false
-touches_as_request (Request.dialogue (DialogueRequest.begin asked info)) = true
+touches_as_request (Request.dialogue (DialogueRequest.uni to asked info)) = false
+touches_as_request (Request.dialogue (DialogueRequest.begin to asked info)) = true
 touches_as_request (Request.dialogue (DialogueRequest.go_on asked info)) = true
 touches_as_request (Request.dialogue (DialogueRequest.finish ending asked info)) = false
 touches_as_request (Request.dialogue (DialogueRequest.u_abort why info)) = false
@@ -191,7 +191,7 @@ touches_as_message state context (Err fault) = false
 abbrev pub touches_as_event : State → Option (List ℕ) → Event → Bool → Bool
 touches_as_event state context Event.new_dialogue accepted = false
 touches_as_event state context (Event.on_dialogue dialogue request) accepted = accepted && touches_as_request request
-touches_as_event state context (Event.received bytes) accepted =
+touches_as_event state context (Event.received from bytes) accepted =
     is_live state && touches_as_message state context (frame_at bytes)
 touches_as_event state context (Event.moment now) accepted = false
 

@@ -22,5 +22,5 @@ named_within true dialogue bytes = is_destined dialogue (destination_of bytes)
 abbrev pub names : Event → ℕ → Bool
 names new_dialogue dialogue = false
 names (on_dialogue asked request) dialogue = asked == dialogue
-names (received bytes) dialogue = named_within (nat_le (length bytes) message_limit) dialogue bytes
+names (received from bytes) dialogue = named_within (nat_le (length bytes) message_limit) dialogue bytes
 names (moment now) dialogue = true

@@ -20,7 +20,7 @@ told_if n number told = if number == n then told ∷ [] else []
 
 -- What an output tells of the end of the invocation of a number (own).
 abbrev pub told_by_output : ℕ → Past → Output → List Told
-told_by_output n place (Output.send bytes) = []
+told_by_output n place (Output.send to bytes) = []
 told_by_output n place (Output.dialogue indication) = []
 told_by_output n place (Output.component (ComponentIndication.invoked dialogue id linked code parameter)) = []
 told_by_output n place (Output.component (ComponentIndication.result_more dialogue number id body)) = []
@@ -46,7 +46,7 @@ given_up_by n place dialogue (Request.dialogue asked) number = []
 abbrev pub given_up_at : ℕ → Past → Event → ℕ → List Told
 given_up_at n place Event.new_dialogue number = []
 given_up_at n place (Event.on_dialogue dialogue request) number = given_up_by n place dialogue request number
-given_up_at n place (Event.received bytes) number = []
+given_up_at n place (Event.received from bytes) number = []
 given_up_at n place (Event.moment now) number = []
 
 -- What an answer tells of the end of the invocation of a number (own).

@@ -36,7 +36,7 @@ invoked_under dialogue (Request.dialogue asked) (Some n) = None
 abbrev pub invoked_of : Event → Answer → Option Invocation
 invoked_of Event.new_dialogue answer = None
 invoked_of (Event.on_dialogue dialogue request) answer = invoked_under dialogue request (number_of answer)
-invoked_of (Event.received bytes) answer = None
+invoked_of (Event.received from bytes) answer = None
 invoked_of (Event.moment now) answer = None
 
 -- The invocation that a pair makes, if any (own).

@@ -73,9 +73,9 @@ component_marks id (Err fault ∷ others) = []
 -- a basic TC-END send it and end the dialogue, TC-U-CANCEL gives up the invocation that it names. Any
 -- other has no special meaning (Q.774, Invocation state machine).
 abbrev pub marks_of_request : ℤ → Request → Option (List Mark)
-marks_of_request id (Request.dialogue (DialogueRequest.begin context info)) = Some (Mark.sent ∷ [])
+marks_of_request id (Request.dialogue (DialogueRequest.begin to context info)) = Some (Mark.sent ∷ [])
 marks_of_request id (Request.dialogue (DialogueRequest.go_on context info)) = Some (Mark.sent ∷ [])
-marks_of_request id (Request.dialogue (DialogueRequest.uni context info)) = Some (Mark.sent ∷ Mark.end ∷ [])
+marks_of_request id (Request.dialogue (DialogueRequest.uni to context info)) = Some (Mark.sent ∷ Mark.end ∷ [])
 marks_of_request id (Request.dialogue (DialogueRequest.finish Ending.basic context info)) =
     Some (Mark.sent ∷ Mark.end ∷ [])
 marks_of_request id (Request.dialogue (DialogueRequest.finish Ending.prearranged context info)) = None
@@ -129,7 +129,7 @@ abbrev pub special_marks : ℤ → Life → Life → Event → Bool → Option (
 special_marks id before after Event.new_dialogue accepted = None
 special_marks id before after (Event.on_dialogue dialogue request) true = marks_of_request id request
 special_marks id before after (Event.on_dialogue dialogue request) false = None
-special_marks id before after (Event.received bytes) accepted = marks_of_bytes id before bytes
+special_marks id before after (Event.received from bytes) accepted = marks_of_bytes id before bytes
 special_marks id before after (Event.moment now) true = Some (Mark.moment now ∷ end_if_over before after)
 special_marks id before after (Event.moment now) false = None
 

@@ -9,6 +9,7 @@ use Rattle.tcap_pdu.specs.DialogueReading.{dialogue_at}
 use Rattle.tcap_pdu.specs.DialogueWritten.{written_dialogue}
 use Rattle.tcap_pdu.specs.FrameSpelling.{Message, Reason}
 use Rattle.tcap_pdu.specs.FrameWritten.{written_frame}
+use Rattle.tcap_model.specs.Words.Address.{Address}
 use Rattle.tcap_model.specs.Words.Output.{Output, AbortCause, DialogueIndication}
 
 -- ---- received
@@ -53,31 +54,30 @@ abort_told d (Reason.portion content) = portion_told d (dialogue_at content)
 
 -- ---- sent
 
--- A message of ours as it is sent (own).
-abbrev pub message_sent : Message → Output
-message_sent m = Output.send (written_frame m)
+-- A message of ours as it is sent to an address (own).
+abbrev pub message_sent : Address → Message → Output
+message_sent to m = Output.send to (written_frame m)
 
--- What is sent, if anything is (own).
-abbrev pub sent_if_any : Option Message → List Output
-sent_if_any None = []
-sent_if_any (Some m) = message_sent m ∷ []
+-- What is sent to an address, if anything is (own).
+abbrev pub sent_if_any : Address → Option Message → List Output
+sent_if_any to None = []
+sent_if_any to (Some m) = message_sent to m ∷ []
 
 -- The Abort with a P-Abort cause to a peer (Q.774, Abort by the provider).
-abbrev pub abort_with : ℕ → List ℕ → Output
-abort_with number peer = message_sent (Message.abort peer (Reason.cause number))
+abbrev pub abort_with : ℕ → List ℕ → Message
+abort_with number peer = Message.abort peer (Reason.cause number)
 
 -- The Abort to the peer of a message whose dialogue portion is abnormal: an ABRT by the provider
 -- (Q.774, Abnormal procedures relating to dialogue control).
-abbrev pub abnormal_abort : List ℕ → Output
-abnormal_abort peer = message_sent (Message.abort peer (Reason.portion (written_dialogue (PduValue.abrt true []))))
+abbrev pub abnormal_abort : List ℕ → Message
+abnormal_abort peer = Message.abort peer (Reason.portion (written_dialogue (PduValue.abrt true [])))
 
 -- The Abort to the peer of a Begin whose version isn't ours: an AARE with the context of the AARQ, not
 -- accepted, diagnostic "no common dialogue portion" by the provider; a context has at most 255 octets,
 -- so that it fits into a message (Q.774, Dialogue begin).
-abbrev pub version_abort : List ℕ → List ℕ → Output
+abbrev pub version_abort : List ℕ → List ℕ → Message
 version_abort context peer =
-    message_sent (Message.abort peer (Reason.portion
-    (written_dialogue (PduValue.aare true context false (Source.provider 2) []))))
+    Message.abort peer (Reason.portion (written_dialogue (PduValue.aare true context false (Source.provider 2) [])))
 
 -- The P-Abort cause of a faulty message: 0 unrecognized message type, 2 badly formatted transaction
 -- portion, 3 incorrect transaction portion (Q.773, P-Abort cause).

@@ -5,7 +5,7 @@ use Rattle.tcap_pdu.specs.FrameSpelling.{Message}
 use Rattle.tcap_pdu.specs.FrameReading.{frame_at}
 use Rattle.tcap_pdu.specs.FrameWritten.{message_limit}
 use Rattle.tcap_pdu.specs.Front.{front_at}
-use Rattle.tcap_model.specs.Words.Output.{Output, DropCause}
+use Rattle.tcap_model.specs.Words.Output.{DropCause}
 use Rattle.tcap_model.specs.Words.LocalId.{dialogue_named}
 use Rattle.tcap_model.specs.Procedures.PortionRules.{BeginVerdict, PortionVerdict, begin_verdict, uni_verdict}
 use Rattle.tcap_model.specs.Procedures.AbortRules.{abort_with, abnormal_abort, version_abort, fault_cause, unrecognized_id, resource_limitation}
@@ -15,7 +15,7 @@ pub data Reception : Type 0 where
   -- the message is dropped
   dropped : (why : DropCause) → Reception
   -- an Abort goes to the originator, and nothing else happens
-  aborted : (abort : Output) → Reception
+  aborted : (abort : Message) → Reception
   -- a Unidirectional is told, with its components
   unidirectional : (context : Option (List ℕ)) (info components : List ℕ) → Reception
   -- a Begin is accepted: a dialogue is born, with the originator as its peer
@@ -23,7 +23,7 @@ pub data Reception : Type 0 where
   -- a dialogue that is live takes a Continue, an End or an Abort
   taken : (dialogue : ℕ) (message : Message) → Reception
   -- a faulty message ends a dialogue that is live; an Abort goes to the originator, if it is known
-  broken : (dialogue : ℕ) (abort : Option Output) (cause : ℕ) → Reception
+  broken : (dialogue : ℕ) (abort : Option Message) (cause : ℕ) → Reception
 
 -- The dialogue of these octets, if it is live (own).
 abbrev pub live_named : (ℕ → Bool) → Option ℕ → Option ℕ
@@ -83,18 +83,18 @@ message_by is_live is_full (Message.abort to reason) = final_message_by (address
 
 -- The Abort with the cause of a faulty message to its originator, if that is known
 -- (Q.774, Abnormal procedures).
-abbrev pub fault_abort : FrameFault → Option (List ℕ) → Option Output
+abbrev pub fault_abort : FrameFault → Option (List ℕ) → Option Message
 fault_abort f None = None
 fault_abort f (Some origin) = Some (abort_with (fault_cause f) origin)
 
 -- An Abort goes out, or the message is dropped where the originator isn't known
 -- (Q.774, Abnormal procedures).
-abbrev pub aborted_or_dropped : Option Output → Reception
+abbrev pub aborted_or_dropped : Option Message → Reception
 aborted_or_dropped None = Reception.dropped DropCause.bad_message
-aborted_or_dropped (Some abort) = Reception.aborted abort
+aborted_or_dropped (Some message) = Reception.aborted message
 
 -- A faulty Continue: it ends the live dialogue that it names, and is aborted (own).
-abbrev pub faulty_continue : Option ℕ → Option Output → FrameFault → Reception
+abbrev pub faulty_continue : Option ℕ → Option Message → FrameFault → Reception
 faulty_continue (Some d) abort f = Reception.broken d abort (fault_cause f)
 faulty_continue None abort f = aborted_or_dropped abort
 
@@ -107,7 +107,7 @@ faulty_last None f = Reception.dropped DropCause.bad_message
 -- What becomes of a faulty message, by its first octet alone: 61 is dropped; 65 is a faulty Continue,
 -- 64 and 67 a faulty End and Abort; anything else is treated as a Begin
 -- (Q.774, Abnormal procedures; the choice by the first octet is own).
-abbrev pub fault_by : ℕ → Option ℕ → Option Output → FrameFault → Reception
+abbrev pub fault_by : ℕ → Option ℕ → Option Message → FrameFault → Reception
 fault_by first named abort f =
     if first == 0x61 then Reception.dropped DropCause.bad_message
     else if first == 0x64 then faulty_last named f

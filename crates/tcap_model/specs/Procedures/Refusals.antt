@@ -36,10 +36,10 @@ faults_of (Request.component (ComponentRequest.error_back id code parameter)) =
 faults_of (Request.component (ComponentRequest.u_reject id problem)) =
     Fault.unknown_dialogue ∷ Fault.wrong_state ∷ Fault.too_long ∷ Fault.out_of_memory ∷ []
 faults_of (Request.component (ComponentRequest.u_cancel id)) = Fault.unknown_dialogue ∷ Fault.no_such_invocation ∷ []
-faults_of (Request.dialogue (DialogueRequest.uni context info)) =
+faults_of (Request.dialogue (DialogueRequest.uni to context info)) =
     Fault.unknown_dialogue ∷ Fault.wrong_state ∷ Fault.bad_oid ∷ Fault.bad_parameter ∷ Fault.no_context
     ∷ Fault.not_class_four ∷ Fault.too_long ∷ Fault.out_of_memory ∷ []
-faults_of (Request.dialogue (DialogueRequest.begin context info)) =
+faults_of (Request.dialogue (DialogueRequest.begin to context info)) =
     Fault.unknown_dialogue ∷ Fault.wrong_state ∷ Fault.bad_oid ∷ Fault.bad_parameter ∷ Fault.no_context ∷ Fault.too_long
     ∷ Fault.out_of_memory ∷ []
 faults_of (Request.dialogue (DialogueRequest.go_on context info)) =
@@ -73,8 +73,8 @@ has_bad_timeout (Request.dialogue asked) = false
 -- The application context that a request gives (Q.771, Dialogue handling).
 abbrev pub context_given : Request → Option (List ℕ)
 context_given (Request.component asked) = None
-context_given (Request.dialogue (DialogueRequest.uni context info)) = context
-context_given (Request.dialogue (DialogueRequest.begin context info)) = context
+context_given (Request.dialogue (DialogueRequest.uni to context info)) = context
+context_given (Request.dialogue (DialogueRequest.begin to context info)) = context
 context_given (Request.dialogue (DialogueRequest.go_on context info)) = context
 context_given (Request.dialogue (DialogueRequest.finish ending context info)) = context
 context_given (Request.dialogue (DialogueRequest.u_abort why info)) = None
@@ -82,8 +82,8 @@ context_given (Request.dialogue (DialogueRequest.u_abort why info)) = None
 -- The user information that a request gives (Q.771, Dialogue handling).
 abbrev pub information_given : Request → List ℕ
 information_given (Request.component asked) = []
-information_given (Request.dialogue (DialogueRequest.uni context info)) = info
-information_given (Request.dialogue (DialogueRequest.begin context info)) = info
+information_given (Request.dialogue (DialogueRequest.uni to context info)) = info
+information_given (Request.dialogue (DialogueRequest.begin to context info)) = info
 information_given (Request.dialogue (DialogueRequest.go_on context info)) = info
 information_given (Request.dialogue (DialogueRequest.finish ending context info)) = info
 information_given (Request.dialogue (DialogueRequest.u_abort why info)) = info
@@ -129,8 +129,8 @@ lacks_context context info = is_none context && is_filled info
 -- portion for it (own).
 abbrev pub has_no_context : State → Option (List ℕ) → Request → Bool
 has_no_context state known (Request.component asked) = false
-has_no_context state known (Request.dialogue (DialogueRequest.uni context info)) = lacks_context context info
-has_no_context state known (Request.dialogue (DialogueRequest.begin context info)) = lacks_context context info
+has_no_context state known (Request.dialogue (DialogueRequest.uni to context info)) = lacks_context context info
+has_no_context state known (Request.dialogue (DialogueRequest.begin to context info)) = lacks_context context info
 has_no_context state known (Request.dialogue (DialogueRequest.go_on context info)) =
     not (is_asked state known) && gives_any context info
 has_no_context state known (Request.dialogue (DialogueRequest.finish Ending.basic context info)) =
@@ -145,8 +145,8 @@ has_no_context state known (Request.dialogue (DialogueRequest.u_abort AbortReaso
 -- (Q.774, Unstructured dialogue).
 abbrev pub is_not_class_four : List Queued → Request → Bool
 is_not_class_four queue (Request.component asked) = false
-is_not_class_four queue (Request.dialogue (DialogueRequest.uni context info)) = not (can_go_alone queue)
-is_not_class_four queue (Request.dialogue (DialogueRequest.begin context info)) = false
+is_not_class_four queue (Request.dialogue (DialogueRequest.uni to context info)) = not (can_go_alone queue)
+is_not_class_four queue (Request.dialogue (DialogueRequest.begin to context info)) = false
 is_not_class_four queue (Request.dialogue (DialogueRequest.go_on context info)) = false
 is_not_class_four queue (Request.dialogue (DialogueRequest.finish ending context info)) = false
 is_not_class_four queue (Request.dialogue (DialogueRequest.u_abort why info)) = false

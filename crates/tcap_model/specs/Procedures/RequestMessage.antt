@@ -3,6 +3,7 @@ use Rattle.std.specs.Prelude.{ℕ, true, false, List, Option, Some, None, unwrap
 use Rattle.tcap_pdu.specs.DialogueSpelling.{PduValue, Source}
 use Rattle.tcap_pdu.specs.DialogueWritten.{written_dialogue}
 use Rattle.tcap_pdu.specs.FrameSpelling.{Message, Reason}
+use Rattle.tcap_model.specs.Words.Address.{Address}
 use Rattle.tcap_model.specs.Words.State.{State}
 use Rattle.tcap_model.specs.Words.LocalId.{local_id}
 use Rattle.tcap_model.specs.Procedures.QueueRules.{joined}
@@ -85,9 +86,9 @@ refusing_message state (Some context) info = abort_message state (refusing_abort
 -- (Q.774, Dialogue control).
 abbrev pub message_of : Standing → Request → Option Message
 message_of d (Request.component asked) = None
-message_of d (Request.dialogue (DialogueRequest.uni context info)) =
+message_of d (Request.dialogue (DialogueRequest.uni to context info)) =
     Some (Message.unidirectional (uni_portion context info) (joined d.queue))
-message_of d (Request.dialogue (DialogueRequest.begin context info)) =
+message_of d (Request.dialogue (DialogueRequest.begin to context info)) =
     Some (Message.begin (local_id d.identifier) (begin_portion context info) (joined d.queue))
 message_of d (Request.dialogue (DialogueRequest.go_on context info)) =
     continue_message d d.state (answer_portion d.state d.context context info)
@@ -98,3 +99,13 @@ message_of d (Request.dialogue (DialogueRequest.u_abort AbortReason.by_user info
     abort_message d.state (user_abort d.context info)
 message_of d (Request.dialogue (DialogueRequest.u_abort AbortReason.not_supported info)) =
     refusing_message d.state d.context info
+
+-- Where the message of a request goes: a Unidirectional and a Begin to the destination that their user
+-- names, any other to the address that the dialogue keeps (own).
+abbrev pub request_address : Address → Request → Address
+request_address kept (Request.component asked) = kept
+request_address kept (Request.dialogue (DialogueRequest.uni to context info)) = to
+request_address kept (Request.dialogue (DialogueRequest.begin to context info)) = to
+request_address kept (Request.dialogue (DialogueRequest.go_on context info)) = kept
+request_address kept (Request.dialogue (DialogueRequest.finish ending context info)) = kept
+request_address kept (Request.dialogue (DialogueRequest.u_abort why info)) = kept

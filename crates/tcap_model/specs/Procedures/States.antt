@@ -35,8 +35,8 @@ has_request state context (Request.component (ComponentRequest.result_more id bo
 has_request state context (Request.component (ComponentRequest.error_back id code parameter)) = has_peer state
 has_request state context (Request.component (ComponentRequest.u_reject id problem)) = has_peer state
 has_request state context (Request.component (ComponentRequest.u_cancel id)) = true
-has_request state context (Request.dialogue (DialogueRequest.uni given info)) = is_fresh state
-has_request state context (Request.dialogue (DialogueRequest.begin given info)) = is_fresh state
+has_request state context (Request.dialogue (DialogueRequest.uni to given info)) = is_fresh state
+has_request state context (Request.dialogue (DialogueRequest.begin to given info)) = is_fresh state
 has_request state context (Request.dialogue (DialogueRequest.go_on given info)) = has_peer state
 has_request state context (Request.dialogue (DialogueRequest.finish Ending.basic given info)) = has_peer state
 has_request state context (Request.dialogue (DialogueRequest.finish Ending.prearranged given info)) = true

@@ -41,7 +41,7 @@ rejects_answer id (Request.dialogue asked) = false
 abbrev pub ends_wait : ℕ → ℕ → ℤ → Event → Bool
 ends_wait until dialogue id Event.new_dialogue = false
 ends_wait until dialogue id (Event.on_dialogue named request) = (named == dialogue) && rejects_answer id request
-ends_wait until dialogue id (Event.received bytes) = false
+ends_wait until dialogue id (Event.received from bytes) = false
 ends_wait until dialogue id (Event.moment now) = nat_le until now
 
 -- The same of a pair: what is refused ends no wait (own).

@@ -103,8 +103,8 @@ queue_by_request queue (Request.component (ComponentRequest.error_back id code p
 queue_by_request queue (Request.component (ComponentRequest.u_reject id problem)) answer =
     queue ++ option_to_list (queued_for 0 (Request.component (ComponentRequest.u_reject id problem)))
 queue_by_request queue (Request.component (ComponentRequest.u_cancel id)) answer = queue_after_cancel answer queue
-queue_by_request queue (Request.dialogue (DialogueRequest.uni context info)) answer = []
-queue_by_request queue (Request.dialogue (DialogueRequest.begin context info)) answer = []
+queue_by_request queue (Request.dialogue (DialogueRequest.uni to context info)) answer = []
+queue_by_request queue (Request.dialogue (DialogueRequest.begin to context info)) answer = []
 queue_by_request queue (Request.dialogue (DialogueRequest.go_on context info)) answer = []
 queue_by_request queue (Request.dialogue (DialogueRequest.finish Ending.basic context info)) answer = []
 queue_by_request queue (Request.dialogue (DialogueRequest.finish Ending.prearranged context info)) answer = queue
@@ -127,7 +127,7 @@ abbrev pub queue_by_event : ℕ → Past → List Queued → Event → Answer �
 queue_by_event dialogue past queue Event.new_dialogue answer = queue
 queue_by_event dialogue past queue (Event.on_dialogue named request) answer =
     queue_if_accepted (is_accepted answer) queue request answer
-queue_by_event dialogue past queue (Event.received bytes) answer =
+queue_by_event dialogue past queue (Event.received from bytes) answer =
     queue_by_bytes dialogue past (life dialogue past) queue bytes
 queue_by_event dialogue past queue (Event.moment now) answer = queue
 
@@ -135,7 +135,7 @@ queue_by_event dialogue past queue (Event.moment now) answer = queue
 abbrev pub queue_born : ℕ → Past → Event → List Queued
 queue_born dialogue past Event.new_dialogue = []
 queue_born dialogue past (Event.on_dialogue named request) = []
-queue_born dialogue past (Event.received bytes) = queue_at_birth dialogue past (frame_at bytes)
+queue_born dialogue past (Event.received from bytes) = queue_at_birth dialogue past (frame_at bytes)
 queue_born dialogue past (Event.moment now) = []
 
 -- The queue after a pair (own).

@@ -1,9 +1,10 @@
 -- What is answered to an event, from the history alone.
-use Rattle.std.specs.Prelude.{ℕ, ◌+◌, ◌==◌, ◌&&◌, Bool, nat_lt, nat_le, List, [], ◌∷◌, ◌++◌, map, option_to_list, filter_map, Option, Some, None, is_none, is_some, if◌then◌else◌, filter}
+use Rattle.std.specs.Prelude.{ℕ, ◌+◌, ◌==◌, ◌&&◌, Bool, nat_lt, nat_le, List, [], ◌∷◌, ◌++◌, map, filter_map, Option, Some, None, is_none, is_some, if◌then◌else◌, filter}
 use Rattle.std.specs.List.{flat_map}
 use Rattle.tcap_pdu.specs.FrameSpelling.{Message}
 use Rattle.tcap_component.specs.ComponentReading.{components_of}
-use Rattle.tcap_model.specs.Procedures.AbortRules.{sent_if_any, abort_told, abnormal_abort}
+use Rattle.tcap_model.specs.Procedures.AbortRules.{message_sent, sent_if_any, abort_told, abnormal_abort}
+use Rattle.tcap_model.specs.Words.Address.{Address}
 use Rattle.tcap_model.specs.Words.Answer.{Answer}
 use Rattle.tcap_model.specs.Histories.Birth.{next_dialogue, dialogues}
 use Rattle.tcap_model.specs.Histories.Clock.{clock}
@@ -15,6 +16,7 @@ use Rattle.tcap_model.specs.Words.Fault.{Fault}
 use Rattle.tcap_model.specs.Replies.Held.{pending}
 use Rattle.tcap_model.specs.Histories.History.{History}
 use Rattle.tcap_model.specs.Invocations.Invocation.{Invocation, invocations, next_number}
+use Rattle.tcap_model.specs.Histories.Kept.{kept_address}
 use Rattle.tcap_model.specs.Histories.Life.{Life, life, touched, live_in}
 use Rattle.tcap_model.specs.Invocations.Marks.{Mark, Noted}
 use Rattle.tcap_model.specs.Invocations.Outcome.{first_closing, is_sent_in}
@@ -26,10 +28,10 @@ use Rattle.tcap_model.specs.Replies.Queue.{handled_in}
 use Rattle.tcap_model.specs.Invocations.SentThere.{marks_up_to}
 use Rattle.tcap_model.specs.Procedures.Reception.{Reception, reception}
 use Rattle.tcap_model.specs.Words.Request.{Request, ComponentRequest, DialogueRequest}
-use Rattle.tcap_model.specs.Procedures.RequestMessage.{message_of}
+use Rattle.tcap_model.specs.Procedures.RequestMessage.{message_of, request_address}
 use Rattle.tcap_model.specs.Invocations.Span.{span}
 use Rattle.tcap_model.specs.Procedures.Standing.{Standing}
-use Rattle.tcap_model.specs.Words.State.{State, peer_by}
+use Rattle.tcap_model.specs.Words.State.{State, peer_by, address_by}
 use Rattle.tcap_model.specs.Words.Time.{moment_fault, is_idle}
 
 -- ---- the end of a dialogue
@@ -53,10 +55,15 @@ abbrev pub given_up_answer : Option ℕ → Answer
 given_up_answer None = Answer.refused Fault.no_such_invocation
 given_up_answer (Some number) = Answer.given_up number
 
+-- What is sent for a request: its message, to where it goes (Q.774, Dialogue control; where it goes is own).
+abbrev pub request_sent : Past → Standing → Request → List Output
+request_sent past d request =
+    sent_if_any (request_address (kept_address d.identifier past) request) (message_of d request)
+
 -- The answer to a request that ends its dialogue: the message, and then what is ended
 -- (Q.774, Component handling).
-abbrev pub last_answer : ℕ → Past → Option Message → Answer
-last_answer dialogue past message = Answer.outputs (sent_if_any message ++ ended_in dialogue past [])
+abbrev pub last_answer : Past → Standing → Request → Answer
+last_answer past d request = Answer.outputs (request_sent past d request ++ ended_in d.identifier past [])
 
 -- The answer to a request for which no fault is due (Q.774, Component handling; Q.774, Dialogue control).
 abbrev pub accepted_answer : History → Standing → Request → Answer
@@ -68,16 +75,16 @@ accepted_answer h d (Request.component (ComponentRequest.error_back id code para
 accepted_answer h d (Request.component (ComponentRequest.u_reject id problem)) = Answer.done
 accepted_answer h d (Request.component (ComponentRequest.u_cancel id)) =
     given_up_answer (pending d.identifier id h.pairs)
-accepted_answer h d (Request.dialogue (DialogueRequest.uni context info)) =
-    last_answer d.identifier h.pairs (message_of d (Request.dialogue (DialogueRequest.uni context info)))
-accepted_answer h d (Request.dialogue (DialogueRequest.begin context info)) =
-    Answer.outputs (sent_if_any (message_of d (Request.dialogue (DialogueRequest.begin context info))))
+accepted_answer h d (Request.dialogue (DialogueRequest.uni to context info)) =
+    last_answer h.pairs d (Request.dialogue (DialogueRequest.uni to context info))
+accepted_answer h d (Request.dialogue (DialogueRequest.begin to context info)) =
+    Answer.outputs (request_sent h.pairs d (Request.dialogue (DialogueRequest.begin to context info)))
 accepted_answer h d (Request.dialogue (DialogueRequest.go_on context info)) =
-    Answer.outputs (sent_if_any (message_of d (Request.dialogue (DialogueRequest.go_on context info))))
+    Answer.outputs (request_sent h.pairs d (Request.dialogue (DialogueRequest.go_on context info)))
 accepted_answer h d (Request.dialogue (DialogueRequest.finish ending context info)) =
-    last_answer d.identifier h.pairs (message_of d (Request.dialogue (DialogueRequest.finish ending context info)))
+    last_answer h.pairs d (Request.dialogue (DialogueRequest.finish ending context info))
 accepted_answer h d (Request.dialogue (DialogueRequest.u_abort why info)) =
-    last_answer d.identifier h.pairs (message_of d (Request.dialogue (DialogueRequest.u_abort why info)))
+    last_answer h.pairs d (Request.dialogue (DialogueRequest.u_abort why info))
 
 -- The answer to a request, by the fault that is due (own).
 abbrev pub request_answer : History → ℕ → Request → Life → Option Fault → Answer
@@ -89,14 +96,15 @@ request_answer h dialogue request (Life.standing state context) None =
 
 -- ---- messages
 
--- A Continue to a live dialogue is told with its components, or it is abnormal and ends the dialogue
+-- A Continue to a live dialogue is told with its components, or it is abnormal and ends the dialogue, and
+-- the Abort goes to the dialogue's peer
 -- (Q.774, Dialogue continuation; Q.774, Abnormal procedures relating to dialogue control).
-abbrev pub continue_outputs : ℕ → Past → State → List ℕ → List ℕ → PortionVerdict → List Output
-continue_outputs dialogue past state origin components (PortionVerdict.normal context info) =
+abbrev pub continue_outputs : ℕ → Past → State → Address → List ℕ → List ℕ → PortionVerdict → List Output
+continue_outputs dialogue past state from origin components (PortionVerdict.normal context info) =
     Output.dialogue (DialogueIndication.go_on dialogue context info) ∷ told_of (handled_in dialogue past components)
-continue_outputs dialogue past state origin components PortionVerdict.abnormal =
-    abnormal_abort (peer_by state origin) ∷ Output.dialogue (DialogueIndication.p_abort dialogue AbortCause.abnormal)
-    ∷ ended_in dialogue past []
+continue_outputs dialogue past state from origin components PortionVerdict.abnormal =
+    message_sent (address_by state (kept_address dialogue past) from) (abnormal_abort (peer_by state origin))
+    ∷ Output.dialogue (DialogueIndication.p_abort dialogue AbortCause.abnormal) ∷ ended_in dialogue past []
 
 -- An End to a live dialogue is told with its components, or it is abnormal; the dialogue is over
 -- (Q.774, Dialogue end; Q.774, Abnormal procedures relating to dialogue control).
@@ -109,34 +117,37 @@ end_outputs dialogue past components PortionVerdict.abnormal =
 
 -- What a message to a live dialogue gives; a Unidirectional and a Begin are to none
 -- (Q.774, Transaction sublayer procedures).
-abbrev pub message_outputs : ℕ → Past → State → Option (List ℕ) → Message → List Output
-message_outputs dialogue past state context (Message.go_on origin to portion components) =
-    continue_outputs dialogue past state origin components (portion_verdict state context portion)
-message_outputs dialogue past state context (Message.end to portion components) =
+abbrev pub message_outputs : ℕ → Past → State → Option (List ℕ) → Address → Message → List Output
+message_outputs dialogue past state context from (Message.go_on origin to portion components) =
+    continue_outputs dialogue past state from origin components (portion_verdict state context portion)
+message_outputs dialogue past state context from (Message.end to portion components) =
     end_outputs dialogue past components (portion_verdict state context portion)
-message_outputs dialogue past state context (Message.abort to reason) =
+message_outputs dialogue past state context from (Message.abort to reason) =
     abort_told dialogue reason ∷ ended_in dialogue past []
-message_outputs dialogue past state context (Message.unidirectional portion components) = []
-message_outputs dialogue past state context (Message.begin origin portion components) = []
+message_outputs dialogue past state context from (Message.unidirectional portion components) = []
+message_outputs dialogue past state context from (Message.begin origin portion components) = []
 
 -- The same, by the dialogue's life; only one that stands takes a message (own).
-abbrev pub taken_outputs : ℕ → Past → Life → Message → List Output
-taken_outputs dialogue past Life.unborn message = []
-taken_outputs dialogue past (Life.standing state context) message = message_outputs dialogue past state context message
-taken_outputs dialogue past Life.over message = []
+abbrev pub taken_outputs : ℕ → Past → Life → Address → Message → List Output
+taken_outputs dialogue past Life.unborn from message = []
+taken_outputs dialogue past (Life.standing state context) from message =
+    message_outputs dialogue past state context from message
+taken_outputs dialogue past Life.over from message = []
 
--- What is sent and told of received bytes (Q.774, Transaction sublayer procedures).
-abbrev pub reception_outputs : History → Reception → List Output
-reception_outputs h (Reception.dropped why) = Output.dropped why ∷ []
-reception_outputs h (Reception.aborted abort) = abort ∷ []
-reception_outputs h (Reception.unidirectional context info components) =
+-- What is sent and told of bytes received from an address, to which each Abort goes but that of an
+-- abnormal Continue (Q.774, Transaction sublayer procedures; where they go is own).
+abbrev pub reception_outputs : History → Address → Reception → List Output
+reception_outputs h from (Reception.dropped why) = Output.dropped why ∷ []
+reception_outputs h from (Reception.aborted message) = message_sent from message ∷ []
+reception_outputs h from (Reception.unidirectional context info components) =
     Output.dialogue (DialogueIndication.uni context info) ∷ uni_told (components_of components)
-reception_outputs h (Reception.begun origin context info components) =
+reception_outputs h from (Reception.begun origin context info components) =
     Output.dialogue (DialogueIndication.begin (next_dialogue h) context info)
     ∷ told_of (handled_in (next_dialogue h) h.pairs components)
-reception_outputs h (Reception.taken dialogue message) = taken_outputs dialogue h.pairs (life dialogue h.pairs) message
-reception_outputs h (Reception.broken dialogue abort cause) =
-    option_to_list abort ++ Output.dialogue (DialogueIndication.p_abort dialogue (AbortCause.cause cause))
+reception_outputs h from (Reception.taken dialogue message) =
+    taken_outputs dialogue h.pairs (life dialogue h.pairs) from message
+reception_outputs h from (Reception.broken dialogue abort cause) =
+    sent_if_any from abort ++ Output.dialogue (DialogueIndication.p_abort dialogue (AbortCause.cause cause))
     ∷ ended_in dialogue h.pairs []
 
 -- ---- moments
@@ -227,7 +238,7 @@ abbrev pub reply : History → Event → Answer
 reply h Event.new_dialogue = birth_answer h (birth_due h)
 reply h (Event.on_dialogue dialogue request) =
     request_answer h dialogue request (life dialogue h.pairs) (due h dialogue request)
-reply h (Event.received bytes) =
-    Answer.outputs (reception_outputs h (reception (λ dialogue. live_in (life dialogue h.pairs)) (is_some (birth_due h))
-    bytes))
+reply h (Event.received from bytes) =
+    Answer.outputs (reception_outputs h from (reception (λ dialogue. live_in (life dialogue h.pairs))
+    (is_some (birth_due h)) bytes))
 reply h (Event.moment now) = moment_answer h.start.idle_ms h.pairs now (moment_fault now)

@@ -27,7 +27,7 @@ without_number (Answer.refused fault) = Answer.refused fault
 abbrev pub compared : ℕ → Event → Answer → Answer
 compared dialogue Event.new_dialogue answer = answer
 compared dialogue (Event.on_dialogue named request) answer = without_number answer
-compared dialogue (Event.received bytes) answer = answer
+compared dialogue (Event.received from bytes) answer = answer
 compared dialogue (Event.moment now) answer = answer_within dialogue answer
 
 -- The reply to an event is the one that the dialogue's own history gives, as far as it is compared

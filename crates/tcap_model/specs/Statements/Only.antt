@@ -10,7 +10,7 @@ use Rattle.tcap_model.specs.Histories.Pair.{Pair, Past}
 
 -- The dialogue of an output (own).
 abbrev pub dialogue_of : Output → Option ℕ
-dialogue_of (Output.send bytes) = None
+dialogue_of (Output.send to bytes) = None
 dialogue_of (Output.dialogue (DialogueIndication.uni context info)) = None
 dialogue_of (Output.dialogue (DialogueIndication.begin dialogue context info)) = Some dialogue
 dialogue_of (Output.dialogue (DialogueIndication.go_on dialogue context info)) = Some dialogue
@@ -43,8 +43,8 @@ pair_within dialogue Event.new_dialogue answer idle_ms =
     record { event = Event.new_dialogue; answer = answer; idle_ms = idle_ms }
 pair_within dialogue (Event.on_dialogue asked request) answer idle_ms =
     record { event = Event.on_dialogue asked request; answer = answer; idle_ms = idle_ms }
-pair_within dialogue (Event.received bytes) answer idle_ms =
-    record { event = Event.received bytes; answer = answer; idle_ms = idle_ms }
+pair_within dialogue (Event.received from bytes) answer idle_ms =
+    record { event = Event.received from bytes; answer = answer; idle_ms = idle_ms }
 pair_within dialogue (Event.moment now) answer idle_ms =
     record { event = Event.moment now; answer = answer_within dialogue answer; idle_ms = idle_ms }
 
@@ -52,7 +52,7 @@ pair_within dialogue (Event.moment now) answer idle_ms =
 abbrev pub is_moment : Event → Bool
 is_moment Event.new_dialogue = false
 is_moment (Event.on_dialogue asked request) = false
-is_moment (Event.received bytes) = false
+is_moment (Event.received from bytes) = false
 is_moment (Event.moment now) = true
 
 -- A dialogue sees every moment, its birth, and after it what names it (own).

@@ -7,6 +7,7 @@ use Rattle.tcap_component.specs.Component.{ComponentParts}
 use Rattle.tcap_component.specs.ComponentFault.{FaultParts}
 use Rattle.tcap_component.specs.ComponentList.{FirstFault}
 use Rattle.tcap_model.specs.Histories.Clock.{clock}
+use Rattle.tcap_model.specs.Words.Address.{Address}
 use Rattle.tcap_model.specs.Words.Event.{Event}
 use Rattle.tcap_model.specs.Histories.Life.{Life, life}
 use Rattle.tcap_model.specs.Invocations.Marks.{Mark, Noted, marks_of_component}
@@ -19,7 +20,8 @@ use Rattle.tcap_model.specs.Words.State.{State, is_live}
 -- (Q.774, Transaction state machine).
 pub record Reaches (dialogue : ℕ) (state : State) (context : Option (List ℕ)) (bytes : List ℕ) (pair : Pair)
     (past : Past) : Type 0 where
-  pub is_event : pair.event ≡ Event.received bytes
+  pub from : Address
+  pub is_event : pair.event ≡ Event.received from bytes
   pub names_it : NamesDialogue dialogue bytes
   pub is_life : life dialogue past ≡ Life.standing state context
   pub is_live : IsTrue (is_live state)

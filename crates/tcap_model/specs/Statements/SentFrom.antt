@@ -7,6 +7,7 @@ use Rattle.tcap_component.specs.Problem.{ProblemParts}
 use Rattle.tcap_component.specs.Component.{ComponentParts}
 use Rattle.tcap_component.specs.ComponentFault.{FaultParts}
 use Rattle.tcap_component.specs.ComponentList.{FirstFault}
+use Rattle.tcap_model.specs.Words.Address.{Address}
 use Rattle.tcap_model.specs.Words.Answer.{is_accepted}
 use Rattle.tcap_model.specs.Procedures.ComponentRequest.{component_of}
 use Rattle.tcap_model.specs.Words.Event.{Event}
@@ -41,12 +42,13 @@ IsLocalReject dialogue id problem output =
 pub record WasFormed (dialogue : ℕ) (component : ComponentParts) (past : Past) : Type 0 where
   pub pair : Pair
   pub before : Past
+  pub from : Address
   pub bytes : List ℕ
   pub id : Option ℤ
   pub problem : ProblemParts
   pub output : Output
   pub stands : StandsIn pair before past
-  pub is_event : pair.event ≡ Event.received bytes
+  pub is_event : pair.event ≡ Event.received from bytes
   pub is_component : component ≡ ComponentParts.reject_back id problem
   pub tells : Tells pair.answer output
   pub is_told : IsLocalReject dialogue id problem output
@@ -70,12 +72,13 @@ pub record SentFromOne (event : Event) (past : Past) (components : List Componen
 pub record SentPortion (past : Past) : Type 0 where
   pub pair : Pair
   pub before : Past
+  pub to : Address
   pub bytes : List ℕ
   pub message : Message
   pub components : List ComponentParts
   pub fault : Option FaultParts
   pub stands : StandsIn pair before past
-  pub tells : Tells pair.answer (Output.send bytes)
+  pub tells : Tells pair.answer (Output.send to bytes)
   pub spelled : SpellsFrame message bytes
   pub read : FirstFault components fault (portion_of message)
 

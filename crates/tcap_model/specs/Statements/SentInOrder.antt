@@ -4,6 +4,7 @@ use Rattle.tcap_pdu.specs.FrameSpelling.{Message, SpellsFrame}
 use Rattle.tcap_component.specs.Component.{ComponentParts}
 use Rattle.tcap_component.specs.ComponentList.{FirstFault}
 use Rattle.tcap_component.specs.Written.{written_component}
+use Rattle.tcap_model.specs.Words.Address.{Address}
 use Rattle.tcap_model.specs.Words.Answer.{Answer}
 use Rattle.tcap_model.specs.Words.Event.{Event}
 use Rattle.tcap_model.specs.Histories.History.{History}
@@ -20,7 +21,7 @@ use Rattle.tcap_model.specs.Statements.ComponentPortion.{portion_of}
 
 -- The octets of a Send (own).
 abbrev pub octets_of : Output → List (List ℕ)
-octets_of (Output.send bytes) = bytes ∷ []
+octets_of (Output.send to bytes) = bytes ∷ []
 octets_of (Output.dialogue indication) = []
 octets_of (Output.component indication) = []
 octets_of (Output.dropped why) = []
@@ -38,7 +39,7 @@ octets_in (Answer.refused fault) = []
 abbrev pub octets_on : ℕ → Event → Answer → List (List ℕ)
 octets_on dialogue Event.new_dialogue answer = []
 octets_on dialogue (Event.on_dialogue named request) answer = if named == dialogue then octets_in answer else []
-octets_on dialogue (Event.received bytes) answer = []
+octets_on dialogue (Event.received from bytes) answer = []
 octets_on dialogue (Event.moment now) answer = []
 
 -- The octets of all Sends of a dialogue, in order of time: those that answer requests on it (own).
@@ -79,8 +80,8 @@ pub record SentInOrder (past : Past) : Type 0 where
   pub in_order : (dialogue : ℕ) (pair : Pair) (before : Past) →
       StandsIn pair before past → is_sending dialogue pair ≡ true →
       HaveComponents (octets_sent dialogue (pair ∷ before)) (components_submitted dialogue before)
-  pub no_others : (pair : Pair) (before : Past) (bytes : List ℕ) →
-      StandsIn pair before past → SendsNone pair → Tells pair.answer (Output.send bytes) → HasComponents bytes []
+  pub no_others : (pair : Pair) (before : Past) (to : Address) (bytes : List ℕ) →
+      StandsIn pair before past → SendsNone pair → Tells pair.answer (Output.send to bytes) → HasComponents bytes []
 
 -- Each component is sent once and in order, at every legal history (own).
 abbrev pub EachIsSentInOrder : Type 0

@@ -30,8 +30,8 @@ pub record Submitted : Type 0 where
 -- (Q.774, Component handling).
 abbrev pub sends_components : Request → Bool
 sends_components (Request.component asked) = false
-sends_components (Request.dialogue (DialogueRequest.uni context info)) = true
-sends_components (Request.dialogue (DialogueRequest.begin context info)) = true
+sends_components (Request.dialogue (DialogueRequest.uni to context info)) = true
+sends_components (Request.dialogue (DialogueRequest.begin to context info)) = true
 sends_components (Request.dialogue (DialogueRequest.go_on context info)) = true
 sends_components (Request.dialogue (DialogueRequest.finish Ending.basic context info)) = true
 sends_components (Request.dialogue (DialogueRequest.finish Ending.prearranged context info)) = false
@@ -41,7 +41,7 @@ sends_components (Request.dialogue (DialogueRequest.u_abort why info)) = false
 abbrev pub asks_to_send : ℕ → Event → Bool
 asks_to_send dialogue Event.new_dialogue = false
 asks_to_send dialogue (Event.on_dialogue named request) = (named == dialogue) && sends_components request
-asks_to_send dialogue (Event.received bytes) = false
+asks_to_send dialogue (Event.received from bytes) = false
 asks_to_send dialogue (Event.moment now) = false
 
 -- Whether a pair is an accepted request on the dialogue that sends the components that wait (own).
@@ -64,7 +64,7 @@ given_up_in (Answer.refused fault) = []
 abbrev pub given_up_on : ℕ → Event → Answer → List ℕ
 given_up_on dialogue Event.new_dialogue answer = []
 given_up_on dialogue (Event.on_dialogue named request) answer = if named == dialogue then given_up_in answer else []
-given_up_on dialogue (Event.received bytes) answer = []
+given_up_on dialogue (Event.received from bytes) answer = []
 given_up_on dialogue (Event.moment now) answer = []
 
 -- Whether a number is one of these (own).
@@ -97,7 +97,7 @@ fitting waiting (c ∷ cs) =
 -- The TC-BEGIN indication of the dialogue, and a TC-CONTINUE indication of it: the message wasn't abnormal
 -- (Q.771, Dialogue begin; Q.771, Dialogue continuation).
 abbrev pub begins_or_continues : ℕ → Output → Bool
-begins_or_continues dialogue (Output.send bytes) = false
+begins_or_continues dialogue (Output.send to bytes) = false
 begins_or_continues dialogue (Output.dialogue (DialogueIndication.uni context info)) = false
 begins_or_continues dialogue (Output.dialogue (DialogueIndication.begin begun context info)) = begun == dialogue
 begins_or_continues dialogue (Output.dialogue (DialogueIndication.go_on continued context info)) = continued == dialogue
@@ -137,7 +137,7 @@ abbrev pub submitted_by : ℕ → ℕ → Past → Event → Answer → List Sub
 submitted_by dialogue waiting past Event.new_dialogue answer = []
 submitted_by dialogue waiting past (Event.on_dialogue named request) answer =
     if (named == dialogue) && is_accepted answer then asked_for request answer else []
-submitted_by dialogue waiting past (Event.received bytes) answer =
+submitted_by dialogue waiting past (Event.received from bytes) answer =
     if is_taken dialogue answer
     then map submitted_reject (fitting waiting (rejects_formed dialogue past (frame_at bytes)))
     else []

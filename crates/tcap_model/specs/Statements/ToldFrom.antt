@@ -6,6 +6,7 @@ use Rattle.tcap_component.specs.Problem.{ProblemParts}
 use Rattle.tcap_component.specs.Component.{ComponentParts, CodeParts, BodyParts}
 use Rattle.tcap_component.specs.ComponentFault.{FaultParts}
 use Rattle.tcap_component.specs.ComponentList.{FirstFault}
+use Rattle.tcap_model.specs.Words.Address.{Address}
 use Rattle.tcap_model.specs.Words.Event.{Event}
 use Rattle.tcap_model.specs.Histories.History.{History}
 use Rattle.tcap_model.specs.Replies.Legal.{IsLegal}
@@ -50,13 +51,14 @@ pub data IsOfComponent : Output → Type 0 where
 -- An indication in the answer to received bytes stands for one of the components that these spell
 -- before the first that can't be read (own).
 pub record ToldFromOne (event : Event) (output : Output) : Type 0 where
+  pub from : Address
   pub bytes : List ℕ
   pub message : Message
   pub earlier : List ComponentParts
   pub component : ComponentParts
   pub later : List ComponentParts
   pub fault : Option FaultParts
-  pub is_event : event ≡ Event.received bytes
+  pub is_event : event ≡ Event.received from bytes
   pub spelled : SpellsFrame message bytes
   pub read : FirstFault (earlier ++ component ∷ later) fault (portion_of message)
   pub stands_for : StandsFor output component

@@ -1,4 +1,4 @@
--- What is to be proved of two engines that hear one another and nobody else.
+-- What is to be proved of engines that hear one another and nobody else.
 use Rattle.std.specs.Prelude.{◌≡◌, ℕ, ℤ, ◌≤◌, true, List, length, Option, Some}
 use Rattle.tcap_component.specs.declared.problem.Kind.TheVariants as kind
 use Rattle.tcap_component.specs.Component.{CodeParts, BodyParts}
@@ -7,8 +7,8 @@ use Rattle.tcap_model.specs.Words.Answer.{Answer, is_accepted}
 use Rattle.tcap_model.specs.Invocations.Closings.{closings}
 use Rattle.tcap_model.specs.Words.Event.{Event}
 use Rattle.tcap_model.specs.Invocations.Invocation.{Invocation, invocation_of, invoked_by}
-use Rattle.tcap_model.specs.Statements.FarAnswer.{Happens, FarAnswer, FarSource}
-use Rattle.tcap_model.specs.Statements.Net.{Engine, far, Trace, side, Net, IsNet}
+use Rattle.tcap_model.specs.Statements.FarAnswer.{Happens, Hears, FarAnswer, FarSource}
+use Rattle.tcap_model.specs.Statements.Net.{Engine, Trace, side, Places, Net, IsNet}
 use Rattle.tcap_model.specs.Invocations.Outcome.{was_sent_in}
 use Rattle.tcap_model.specs.Words.Output.{Output, ComponentIndication}
 use Rattle.tcap_model.specs.Histories.Pair.{Pair, Past}
@@ -19,9 +19,10 @@ use Rattle.tcap_model.specs.Invocations.Span.{span}
 -- ---- origin
 
 -- Origin: each answer that is told of an invocation comes from an earlier accepted request of the far
--- user, for its identifier and with its contents, in a far dialogue whose peer is this one (own).
-abbrev pub Origin : Trace → Type 0
-Origin trace = (answer : FarAnswer trace) → FarSource answer
+-- user, for its identifier and with its contents, in a far dialogue whose peer is this one and which keeps
+-- an address of this engine; far is the engine at whose addresses the sender of the message is (own).
+abbrev pub Origin : Places → Trace → Type 0
+Origin places trace = (answer : FarAnswer trace) → FarSource places answer
 
 -- ---- after the Invoke
 
@@ -97,18 +98,18 @@ pub record WasSent (number : ℕ) (past : Past) : Type 0 where
   pub is_invocation : invocation_of number past ≡ Some invocation
   pub is_sent : was_sent_in invocation.class invocation.timeout (span invocation past) ≡ true
 
--- The three premises, of the dialogue of an engine (own).
-pub record IsOrderly (engine : Engine) (dialogue : ℕ) (trace : Trace) : Type 0 where
+-- The three premises, of the dialogue of an engine and of a far one (own).
+pub record IsOrderly (engine : Engine) (dialogue : ℕ) (far : Engine) (trace : Trace) : Type 0 where
   pub uses_once : UsesOnce engine dialogue trace
-  pub answers_told : AnswersWhatItWasTold (far engine) trace
+  pub answers_told : AnswersWhatItWasTold far trace
   pub opened : WasOpened engine dialogue trace
 
 -- After the Invoke: every far request that an answer to an invocation may come from was made after the
 -- invocation's Invoke was sent (own).
-abbrev pub AfterInvoke : Trace → Type 0
-AfterInvoke trace =
-    (answer : FarAnswer trace) → IsOrderly answer.engine answer.dialogue trace → (source : FarSource answer) →
-    WasSent answer.number (side answer.engine source.before)
+abbrev pub AfterInvoke : Places → Trace → Type 0
+AfterInvoke places trace =
+    (answer : FarAnswer trace) → (source : FarSource places answer) →
+    IsOrderly answer.engine answer.dialogue source.far trace → WasSent answer.number (side answer.engine source.before)
 
 -- ---- once, and operations
 
@@ -143,22 +144,29 @@ pub record ToldInvoke (engine : Engine) (dialogue : Option ℕ) (trace : Trace) 
   pub happens : Happens engine pair before trace
   pub tells : Tells pair.answer (Output.component (ComponentIndication.invoked dialogue id linked code parameter))
 
--- Operations: each Invoke that one user is told was asked for by the other's, accepted and sent before
--- (own).
-abbrev pub Operations : Trace → Type 0
-Operations trace =
+-- An Invoke was asked for by the user of the engine that an event hears (own).
+pub record WasAskedFar (places : Places) (event : Event) (id : ℤ) (linked : Option ℤ) (code : CodeParts)
+    (parameter : Option (List ℕ)) (trace : Trace) : Type 0 where
+  pub far : Engine
+  pub hears : Hears places far event
+  pub was_asked : WasAsked id linked code parameter (side far trace)
+
+-- Operations: each Invoke that one user is told was asked for by that of the engine at whose addresses the
+-- sender of the message is, accepted and sent before (own).
+abbrev pub Operations : Places → Trace → Type 0
+Operations places trace =
     (engine : Engine) (dialogue : Option ℕ) (told : ToldInvoke engine dialogue trace) →
-    WasAsked told.id told.linked told.code told.parameter (side (far engine) told.before)
+    WasAskedFar places told.pair.event told.id told.linked told.code told.parameter told.before
 
 -- ---- the statement
 
--- What both users may rely on (own).
-pub record TwoEnds (trace : Trace) : Type 0 where
-  pub origin : Origin trace
-  pub after_invoke : AfterInvoke trace
+-- What the users at both ends may rely on (own).
+pub record TwoEnds (places : Places) (trace : Trace) : Type 0 where
+  pub origin : Origin places trace
+  pub after_invoke : AfterInvoke places trace
   pub once : Once trace
-  pub operations : Operations trace
+  pub operations : Operations places trace
 
--- It holds of all that two engines may do that hear one another and nobody else (own).
+-- It holds of all that engines may do that hear one another and nobody else (own).
 abbrev pub EachIsTwoEnded : Type 0
-EachIsTwoEnded = (net : Net) → IsNet net → TwoEnds net.trace
+EachIsTwoEnded = (net : Net) → IsNet net → TwoEnds net.places net.trace

@@ -18,8 +18,8 @@ setting_at h = record { clock = clock h.pairs; number = next_number h; limit = q
 -- (Q.774, Transaction state machine).
 abbrev pub leaves_standing : Request → Bool
 leaves_standing (Request.component asked) = true
-leaves_standing (Request.dialogue (DialogueRequest.uni context info)) = false
-leaves_standing (Request.dialogue (DialogueRequest.begin context info)) = true
+leaves_standing (Request.dialogue (DialogueRequest.uni to context info)) = false
+leaves_standing (Request.dialogue (DialogueRequest.begin to context info)) = true
 leaves_standing (Request.dialogue (DialogueRequest.go_on context info)) = true
 leaves_standing (Request.dialogue (DialogueRequest.finish ending context info)) = false
 leaves_standing (Request.dialogue (DialogueRequest.u_abort why info)) = false

@@ -2,6 +2,7 @@
 use Rattle.std.specs.Prelude.{ℕ, ℤ, ◌+◌, ◌&&◌, Bool, nat_lt, List, [], Option, Some, None, if◌then◌else◌}
 use Rattle.tcap_invocation.specs.declared.invocations.Invocation.{Invocation}
 use Rattle.tcap_invocation.specs.Invocations.{InvocationList, sent_at}
+use Rattle.tcap_model.specs.Words.Address.{Address}
 use Rattle.tcap_model.specs.Words.State.{State, is_live}
 use Rattle.tcap_model.specs.Words.Time.{is_idle}
 use Rattle.tcap_model.specs.Procedures.QueueRules.{Queued}
@@ -10,12 +11,13 @@ use Rattle.tcap_model.specs.Procedures.ComponentHandling.{SentInvocation}
 
 -- A dialogue: its identifier, state, application context and queue; its invocations by rising number,
 -- with how long an identifier waits for a Reject; its idle limit, 0 for none, and the clock when it was
--- touched last (own).
+-- touched last; the address that it keeps, empty before there is one (own).
 pub record Dialogue : Type 0 where
   pub standing : Standing
   pub invocations : InvocationList
   pub idle_ms : ℕ
   pub touched : ℕ
+  pub kept : Address
 
 -- A new dialogue: Idle, without context, components and invocations
 -- (Q.774, Transaction state machine).
@@ -25,6 +27,7 @@ fresh_dialogue identifier reject_ms idle_ms = record {
   invocations = record { reject_ms = reject_ms; rows = [] };
   idle_ms = idle_ms;
   touched = 0;
+  kept = [];
 }
 
 -- The dialogue with another queue (own).
@@ -46,6 +49,10 @@ in_context d context = record d { standing = record d.standing { context = conte
 -- The dialogue, touched when the clock stands at a moment (own).
 abbrev pub touched_at : Dialogue → ℕ → Dialogue
 touched_at d now = record d { touched = now }
+
+-- The dialogue, which keeps another address (own).
+abbrev pub keeping : Dialogue → Address → Dialogue
+keeping d address = record d { kept = address }
 
 -- Whether a dialogue is live and has stood still too long at a moment (own).
 abbrev pub is_idle_at : ℕ → Dialogue → Bool

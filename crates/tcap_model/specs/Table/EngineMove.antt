@@ -1,7 +1,8 @@
 -- What the engine does: to each event its answer, and the engine after it.
 use Rattle.std.specs.Prelude.{ℕ, ◌+◌, Bool, false, nat_eq, nat_lt, List, [], ◌∷◌, ◌++◌, length, map, filter_map}
-use Rattle.std.specs.Prelude.{option_to_list, is_some, Option, Some, None, if◌then◌else◌}
+use Rattle.std.specs.Prelude.{is_some, Option, Some, None, if◌then◌else◌}
 use Rattle.tcap_component.specs.ComponentReading.{components_of}
+use Rattle.tcap_model.specs.Procedures.AbortRules.{message_sent, sent_if_any}
 use Rattle.tcap_model.specs.Procedures.ComponentHandling.{uni_told}
 use Rattle.tcap_model.specs.Procedures.QueueRules.{queue_limit}
 use Rattle.tcap_model.specs.Procedures.Reception.{Reception, reception}
@@ -9,6 +10,7 @@ use Rattle.tcap_model.specs.Table.Dialogue.{Dialogue, fresh_dialogue}
 use Rattle.tcap_model.specs.Table.DueLapses.{all_told, all_idle_told, left_at}
 use Rattle.tcap_model.specs.Table.TableMove.{Setting, Moved, DialogueEvent, table_move, born, left_standing}
 use Rattle.tcap_model.specs.Table.World.{World}
+use Rattle.tcap_model.specs.Words.Address.{Address}
 use Rattle.tcap_model.specs.Words.Answer.{Answer}
 use Rattle.tcap_model.specs.Words.Event.{Event}
 use Rattle.tcap_model.specs.Words.Fault.{Fault}
@@ -117,35 +119,36 @@ told_first first Answer.done = Answer.done
 told_first first (Answer.given_up number) = Answer.given_up number
 told_first first (Answer.refused fault) = Answer.refused fault
 
--- A dialogue moves, and an Abort goes out before what it tells, if there is one (own).
-abbrev pub aborting : Option Output → Moved → Moved
-aborting abort m = record m { answer = told_first (option_to_list abort) m.answer }
+-- A dialogue moves, and what is sent goes out before what it tells (own).
+abbrev pub sending_first : List Output → Moved → Moved
+sending_first sent m = record m { answer = told_first sent m.answer }
 
--- A message to the dialogue of an identifier, or a faulty one, with the Abort that goes out; where none
+-- A message to the dialogue of an identifier, or a faulty one, with what is sent for it first; where none
 -- stands nothing happens (Q.774, Transaction sublayer procedures).
-abbrev pub reached_in : World → ℕ → Option Output → DialogueEvent → Option Dialogue → EngineMoved
-reached_in w identifier abort event None = unmoved w (Answer.outputs [])
-reached_in w identifier abort event (Some d) =
-    moved_in w identifier (aborting abort (table_move (setting_in w) d event))
+abbrev pub reached_in : World → ℕ → List Output → DialogueEvent → Option Dialogue → EngineMoved
+reached_in w identifier sent event None = unmoved w (Answer.outputs [])
+reached_in w identifier sent event (Some d) =
+    moved_in w identifier (sending_first sent (table_move (setting_in w) d event))
 
 -- A dialogue that a Begin gives birth to (Q.774, Dialogue begin).
 abbrev pub begun_in : World → Moved → EngineMoved
 begun_in w m = born_in w m.answer m.after
 
--- What becomes of received bytes: they are dropped or aborted, told as a Unidirectional, give birth to
--- a dialogue, or reach the one that they name (Q.774, Transaction sublayer procedures).
-abbrev pub received_in : World → Reception → EngineMoved
-received_in w (Reception.dropped why) = unmoved w (Answer.outputs (Output.dropped why ∷ []))
-received_in w (Reception.aborted abort) = unmoved w (Answer.outputs (abort ∷ []))
-received_in w (Reception.unidirectional context info components) =
+-- What becomes of bytes received from an address: they are dropped or aborted, told as a Unidirectional,
+-- give birth to a dialogue, or reach the one that they name; an Abort goes to the address that they came
+-- from (Q.774, Transaction sublayer procedures; where it goes is own).
+abbrev pub received_in : World → Address → Reception → EngineMoved
+received_in w from (Reception.dropped why) = unmoved w (Answer.outputs (Output.dropped why ∷ []))
+received_in w from (Reception.aborted message) = unmoved w (Answer.outputs (message_sent from message ∷ []))
+received_in w from (Reception.unidirectional context info components) =
     unmoved w
     (Answer.outputs (Output.dialogue (DialogueIndication.uni context info) ∷ uni_told (components_of components)))
-received_in w (Reception.begun origin context info components) =
-    begun_in w (born (setting_in w) w.next_dialogue w.reject_ms w.idle_ms origin context info components)
-received_in w (Reception.taken identifier message) =
-    reached_in w identifier None (DialogueEvent.frame message) (dialogue_in identifier w.dialogues)
-received_in w (Reception.broken identifier abort cause) =
-    reached_in w identifier abort (DialogueEvent.fault cause) (dialogue_in identifier w.dialogues)
+received_in w from (Reception.begun origin context info components) =
+    begun_in w (born (setting_in w) w.next_dialogue w.reject_ms w.idle_ms from origin context info components)
+received_in w from (Reception.taken identifier message) =
+    reached_in w identifier [] (DialogueEvent.frame from message) (dialogue_in identifier w.dialogues)
+received_in w from (Reception.broken identifier abort cause) =
+    reached_in w identifier (sent_if_any from abort) (DialogueEvent.fault cause) (dialogue_in identifier w.dialogues)
 
 -- ---- moments
 
@@ -170,6 +173,6 @@ unfoldable pub engine_move : World → Event → EngineMoved
 engine_move w Event.new_dialogue = asked_in w (birth_fault_in w)
 engine_move w (Event.on_dialogue identifier request) =
     requested_in w identifier request (dialogue_in identifier w.dialogues)
-engine_move w (Event.received bytes) =
-    received_in w (reception (is_live_in w.dialogues) (is_some (birth_fault_in w)) bytes)
+engine_move w (Event.received from bytes) =
+    received_in w from (reception (is_live_in w.dialogues) (is_some (birth_fault_in w)) bytes)
 engine_move w (Event.moment now) = moment_in w now (moment_fault now)

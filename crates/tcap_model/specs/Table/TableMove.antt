@@ -13,19 +13,20 @@ use Rattle.tcap_invocation.specs.Answers.{after_received, after_reject}
 use Rattle.tcap_invocation.specs.Closing.{given_up_at, after_give_up, after_free_wait, ended_at}
 use Rattle.tcap_invocation.specs.Lapses.{told_at, after_lapse}
 use Rattle.tcap_model.specs.Words.Answer.{Answer}
+use Rattle.tcap_model.specs.Words.Address.{Address}
 use Rattle.tcap_model.specs.Words.Output.{Output, Closing, AbortCause, ComponentIndication, DialogueIndication}
 use Rattle.tcap_model.specs.Words.Fault.{Fault}
-use Rattle.tcap_model.specs.Words.State.{State, activated, peer_by}
+use Rattle.tcap_model.specs.Words.State.{State, activated, peer_by, address_by}
 use Rattle.tcap_model.specs.Words.Request.{Request, ComponentRequest, DialogueRequest}
 use Rattle.tcap_model.specs.Procedures.QueueRules.{Queued, queued, queue_each, without_invoke}
 use Rattle.tcap_model.specs.Procedures.ComponentRequest.{identifier_of, queued_for}
-use Rattle.tcap_model.specs.Procedures.RequestMessage.{message_of}
+use Rattle.tcap_model.specs.Procedures.RequestMessage.{message_of, request_address}
 use Rattle.tcap_model.specs.Procedures.Refusals.{Situation, due_on}
 use Rattle.tcap_model.specs.Words.Identifiers.{are_numbers_spent}
 use Rattle.tcap_model.specs.Procedures.PortionRules.{PortionVerdict, portion_verdict}
-use Rattle.tcap_model.specs.Procedures.AbortRules.{sent_if_any, abort_told, abnormal_abort}
+use Rattle.tcap_model.specs.Procedures.AbortRules.{message_sent, sent_if_any, abort_told, abnormal_abort}
 use Rattle.tcap_model.specs.Procedures.ComponentHandling.{Item, Handled, handled, subject_of}
-use Rattle.tcap_model.specs.Table.Dialogue.{Dialogue, fresh_dialogue, with_queue, with_invocations, in_state, in_context, touched_at, is_idle_at, sent_by_rows}
+use Rattle.tcap_model.specs.Table.Dialogue.{Dialogue, fresh_dialogue, with_queue, with_invocations, in_state, in_context, touched_at, keeping, is_idle_at, sent_by_rows}
 
 -- What happens around the dialogue: the clock, the number that an invocation would get, and the limit
 -- of a queue (own).
@@ -34,11 +35,11 @@ pub record Setting : Type 0 where
   pub number : ℕ
   pub limit : ℕ
 
--- What happens to a dialogue: a request; a Continue, an End or an Abort to it while it is live; a
--- faulty message that names it while it is live; a moment (own).
+-- What happens to a dialogue: a request; a Continue, an End or an Abort to it from an address while it is
+-- live; a faulty message that names it while it is live; a moment (own).
 pub data DialogueEvent : Type 0 where
   request : Request → DialogueEvent
-  frame : Message → DialogueEvent
+  frame : Address → Message → DialogueEvent
   fault : (cause : ℕ) → DialogueEvent
   moment : ℕ → DialogueEvent
 
@@ -145,6 +146,11 @@ giving_up d id (Some number) =
     answering (with_queue (with_invocations d (after_give_up d.invocations id))
     (without_invoke number d.standing.queue)) (Answer.given_up number)
 
+-- What is sent for a request: its message, to where it goes
+-- (Q.774, Dialogue control; where it goes is own).
+abbrev pub sent_for_request : Dialogue → Request → List Output
+sent_for_request d asked = sent_if_any (request_address d.kept asked) (message_of d.standing asked)
+
 -- A request that is accepted (Q.774, Component handling; Q.774, Dialogue control).
 abbrev pub accepted : Setting → Dialogue → Request → Moved
 accepted s d (Request.component (ComponentRequest.invoke id class code parameter linked timeout)) =
@@ -164,21 +170,18 @@ accepted s d (Request.component (ComponentRequest.u_reject id problem)) =
     answering (with_queued (with_invocations d (freed_by d.invocations id problem.kind))
     (queued_for s.number (Request.component (ComponentRequest.u_reject id problem)))) Answer.done
 accepted s d (Request.component (ComponentRequest.u_cancel id)) = giving_up d id (given_up_at d.invocations.rows id)
-accepted s d (Request.dialogue (DialogueRequest.uni context info)) =
-    over_with d (sent_if_any (message_of d.standing (Request.dialogue (DialogueRequest.uni context info))))
-    d.invocations
-accepted s d (Request.dialogue (DialogueRequest.begin context info)) =
-    answering (touched_at (in_context (in_state (gone_out s d) State.sent) context) s.clock)
-    (Answer.outputs (sent_if_any (message_of d.standing (Request.dialogue (DialogueRequest.begin context info)))))
+accepted s d (Request.dialogue (DialogueRequest.uni to context info)) =
+    over_with d (sent_for_request d (Request.dialogue (DialogueRequest.uni to context info))) d.invocations
+accepted s d (Request.dialogue (DialogueRequest.begin to context info)) =
+    answering (keeping (touched_at (in_context (in_state (gone_out s d) State.sent) context) s.clock) to)
+    (Answer.outputs (sent_for_request d (Request.dialogue (DialogueRequest.begin to context info))))
 accepted s d (Request.dialogue (DialogueRequest.go_on context info)) =
     answering (touched_at (in_state (gone_out s d) (activated d.standing.state)) s.clock)
-    (Answer.outputs (sent_if_any (message_of d.standing (Request.dialogue (DialogueRequest.go_on context info)))))
+    (Answer.outputs (sent_for_request d (Request.dialogue (DialogueRequest.go_on context info))))
 accepted s d (Request.dialogue (DialogueRequest.finish ending context info)) =
-    over_with d (sent_if_any (message_of d.standing (Request.dialogue (DialogueRequest.finish ending context info))))
-    d.invocations
+    over_with d (sent_for_request d (Request.dialogue (DialogueRequest.finish ending context info))) d.invocations
 accepted s d (Request.dialogue (DialogueRequest.u_abort why info)) =
-    over_with d (sent_if_any (message_of d.standing (Request.dialogue (DialogueRequest.u_abort why info))))
-    d.invocations
+    over_with d (sent_for_request d (Request.dialogue (DialogueRequest.u_abort why info))) d.invocations
 
 -- Whether an identifier is in use, by the rows (Q.774, Invocation state machine).
 abbrev pub in_use_by_rows : InvocationList → Option ℤ → Bool
@@ -211,16 +214,17 @@ requested_by s d r None = accepted s d r
 -- A Continue is told with its components, and the Rejects of these are queued, or it is abnormal, and
 -- the dialogue is aborted on both sides
 -- (Q.774, Dialogue continuation; Q.774, Abnormal procedures relating to dialogue control).
-abbrev pub continued_by : Setting → Dialogue → List ℕ → PortionVerdict → Walked → Moved
-continued_by s d origin (PortionVerdict.normal context info) w = record {
+abbrev pub continued_by : Setting → Dialogue → Address → List ℕ → PortionVerdict → Walked → Moved
+continued_by s d from origin (PortionVerdict.normal context info) w = record {
   answer = Answer.outputs (Output.dialogue (DialogueIndication.go_on d.standing.identifier context info) ∷ w.told);
-  after = touched_at (with_queue
+  after = keeping (touched_at (with_queue
       (with_invocations (in_state d (State.active (peer_by d.standing.state origin))) w.invocations)
-      (queue_each s.limit d.standing.queue w.rejects)) s.clock;
+      (queue_each s.limit d.standing.queue w.rejects)) s.clock) (address_by d.standing.state d.kept from);
   is_over = false;
 }
-continued_by s d origin PortionVerdict.abnormal w =
-    over_with d (abnormal_abort (peer_by d.standing.state origin)
+continued_by s d from origin PortionVerdict.abnormal w =
+    over_with d (message_sent (address_by d.standing.state d.kept from)
+    (abnormal_abort (peer_by d.standing.state origin))
     ∷ Output.dialogue (DialogueIndication.p_abort d.standing.identifier AbortCause.abnormal) ∷ []) d.invocations
 
 -- An End is told with its components, whose Rejects don't go out, or it is abnormal; the dialogue is
@@ -234,31 +238,31 @@ ended_by d PortionVerdict.abnormal w =
 
 -- A message to a dialogue that is live; a Unidirectional and a Begin are never to one
 -- (Q.774, Transaction sublayer procedures).
-abbrev pub framed : Setting → Dialogue → Message → Moved
-framed s d (Message.unidirectional portion components) = answering d (Answer.outputs [])
-framed s d (Message.begin origin portion components) = answering d (Answer.outputs [])
-framed s d (Message.go_on origin to portion components) =
-    continued_by s d origin (portion_verdict d.standing.state d.standing.context portion)
+abbrev pub framed : Setting → Dialogue → Address → Message → Moved
+framed s d from (Message.unidirectional portion components) = answering d (Answer.outputs [])
+framed s d from (Message.begin origin portion components) = answering d (Answer.outputs [])
+framed s d from (Message.go_on origin to portion components) =
+    continued_by s d from origin (portion_verdict d.standing.state d.standing.context portion)
     (walked_in s.clock d components)
-framed s d (Message.end to portion components) =
+framed s d from (Message.end to portion components) =
     ended_by d (portion_verdict d.standing.state d.standing.context portion) (walked_in s.clock d components)
-framed s d (Message.abort to reason) = over_with d (abort_told d.standing.identifier reason ∷ []) d.invocations
+framed s d from (Message.abort to reason) = over_with d (abort_told d.standing.identifier reason ∷ []) d.invocations
 
 -- A dialogue that is born by a Begin: it is told with its components, and the Rejects of these are
--- queued (Q.774, Dialogue begin).
-abbrev pub begun_with : Setting → ℕ → ℕ → ℕ → List ℕ → Option (List ℕ) → List ℕ → Walked → Moved
-begun_with s identifier reject_ms idle_ms origin context info w = record {
+-- queued; the address from which the Begin came is kept (Q.774, Dialogue begin; the address is own).
+abbrev pub begun_with : Setting → ℕ → ℕ → ℕ → Address → List ℕ → Option (List ℕ) → List ℕ → Walked → Moved
+begun_with s identifier reject_ms idle_ms from origin context info w = record {
   answer = Answer.outputs (Output.dialogue (DialogueIndication.begin identifier context info) ∷ w.told);
-  after = with_queue (in_context (in_state
+  after = keeping (with_queue (in_context (in_state
       (with_invocations (fresh_dialogue identifier reject_ms idle_ms) w.invocations)
-      (State.received origin)) context) (queue_each s.limit [] w.rejects);
+      (State.received origin)) context) (queue_each s.limit [] w.rejects)) from;
   is_over = false;
 }
 
 -- The same, from the contents of the Begin's component portion (Q.774, Dialogue begin).
-abbrev pub born : Setting → ℕ → ℕ → ℕ → List ℕ → Option (List ℕ) → List ℕ → List ℕ → Moved
-born s identifier reject_ms idle_ms origin context info components =
-    begun_with s identifier reject_ms idle_ms origin context info
+abbrev pub born : Setting → ℕ → ℕ → ℕ → Address → List ℕ → Option (List ℕ) → List ℕ → List ℕ → Moved
+born s identifier reject_ms idle_ms from origin context info components =
+    begun_with s identifier reject_ms idle_ms from origin context info
     (walked_in s.clock (fresh_dialogue identifier reject_ms idle_ms) components)
 
 -- ---- moments
@@ -283,7 +287,7 @@ idled d now = over_with d (map (row_lapse_told d.standing.identifier) (told_at n
 -- What a dialogue does (Q.774, Transaction sublayer procedures; Q.774, Component handling).
 unfoldable pub table_move : Setting → Dialogue → DialogueEvent → Moved
 table_move s d (DialogueEvent.request r) = requested_by s d r (due_on (situation s d r) r)
-table_move s d (DialogueEvent.frame m) = framed s d m
+table_move s d (DialogueEvent.frame from m) = framed s d from m
 table_move s d (DialogueEvent.fault cause) =
     over_with d (Output.dialogue (DialogueIndication.p_abort d.standing.identifier (AbortCause.cause cause)) ∷ [])
     d.invocations

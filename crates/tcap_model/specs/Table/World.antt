@@ -14,6 +14,7 @@ use Rattle.tcap_model.specs.Replies.Held.{is_waiting}
 use Rattle.tcap_model.specs.Histories.History.{Start, History}
 use Rattle.tcap_model.specs.Invocations.Invocation.{Invocation, invocations, latest, next_number}
 use Rattle.tcap_model.specs.Replies.Legal.{IsLegal}
+use Rattle.tcap_model.specs.Histories.Kept.{kept_address}
 use Rattle.tcap_model.specs.Histories.Life.{Life, life, touched}
 use Rattle.tcap_model.specs.Histories.Pair.{Past}
 
@@ -83,8 +84,8 @@ rows_of reject_ms dialogue past = filter_map (row_of reject_ms dialogue past) (i
 
 -- ---- the dialogues
 
--- A dialogue, if it stands: with all that its life says, its queue, its invocations, and when it was
--- touched last (own).
+-- A dialogue, if it stands: with all that its life says, its queue, its invocations, when it was touched
+-- last, and the address that it keeps (own).
 abbrev pub dialogue_by : ℕ → ℕ → ℕ → Past → Life → Option Dialogue
 dialogue_by reject_ms idle_ms dialogue past Life.unborn = None
 dialogue_by reject_ms idle_ms dialogue past (Life.standing state context) = Some (record {
@@ -92,6 +93,7 @@ dialogue_by reject_ms idle_ms dialogue past (Life.standing state context) = Some
   invocations = record { reject_ms = reject_ms; rows = rows_of reject_ms dialogue past };
   idle_ms = idle_ms;
   touched = touched dialogue past;
+  kept = kept_address dialogue past;
 })
 dialogue_by reject_ms idle_ms dialogue past Life.over = None
 

@@ -1,9 +1,11 @@
 -- The numbers of an event are those that its types hold.
-use Rattle.std.specs.Prelude.{ℕ, ℤ, pos, negsuc, ◌^◌, ◌-◌, ◌&&◌, Bool, true, List, Option, Some, None, IsTrue, nat_lt, nat_le, int_le}
+use Rattle.std.specs.Prelude.{ℕ, ℤ, pos, negsuc, ◌^◌, ◌-◌, ◌&&◌, Bool, true, List, length, Option, Some, None}
+use Rattle.std.specs.Prelude.{IsTrue, nat_lt, nat_le, int_le}
 use Rattle.std.specs.List.{list_all}
 use Rattle.tcap_component.specs.Problem.{ProblemParts, problem_limit}
 use Rattle.tcap_component.specs.Component.{CodeParts, BodyParts}
 use Rattle.tcap_component.specs.Component.CodeParts.{local, global}
+use Rattle.tcap_model.specs.Words.Address.{Address}
 use Rattle.tcap_model.specs.Words.Request.{Request, ComponentRequest, DialogueRequest}
 use Rattle.tcap_model.specs.Words.Event.{Event}
 use Rattle.tcap_model.specs.Words.Event.Event.{new_dialogue, on_dialogue, received, moment}
@@ -16,6 +18,10 @@ are_octets bytes = list_all (λ b. nat_lt b 0x100) bytes
 abbrev pub are_octets_if_any : Option (List ℕ) → Bool
 are_octets_if_any None = true
 are_octets_if_any (Some bytes) = are_octets bytes
+
+-- An address has at most 255 octets (own).
+abbrev pub is_address : Address → Bool
+is_address address = nat_le (length address) 255 && are_octets address
 
 -- An invoke identifier is a number from -128 to 127 (Q.773, Invoke ID).
 abbrev pub is_identifier : ℤ → Bool
@@ -58,8 +64,10 @@ is_request (Request.component (ComponentRequest.error_back id code parameter)) =
     is_identifier id && is_code code && are_octets_if_any parameter
 is_request (Request.component (ComponentRequest.u_reject id problem)) = is_identifier_if_any id && is_problem problem
 is_request (Request.component (ComponentRequest.u_cancel id)) = is_identifier id
-is_request (Request.dialogue (DialogueRequest.uni context info)) = are_octets_if_any context && are_octets info
-is_request (Request.dialogue (DialogueRequest.begin context info)) = are_octets_if_any context && are_octets info
+is_request (Request.dialogue (DialogueRequest.uni to context info)) =
+    is_address to && are_octets_if_any context && are_octets info
+is_request (Request.dialogue (DialogueRequest.begin to context info)) =
+    is_address to && are_octets_if_any context && are_octets info
 is_request (Request.dialogue (DialogueRequest.go_on context info)) = are_octets_if_any context && are_octets info
 is_request (Request.dialogue (DialogueRequest.finish ending context info)) =
     are_octets_if_any context && are_octets info
@@ -69,7 +77,7 @@ is_request (Request.dialogue (DialogueRequest.u_abort why info)) = are_octets in
 abbrev pub is_in_range : Event → Bool
 is_in_range new_dialogue = true
 is_in_range (on_dialogue dialogue r) = is_short dialogue && is_request r
-is_in_range (received bytes) = are_octets bytes
+is_in_range (received from bytes) = is_address from && are_octets bytes
 is_in_range (moment now) = is_long now
 
 -- The same, as a statement (own).

@@ -3,6 +3,7 @@ use Rattle.std.specs.Prelude.{ℕ, ℤ, List, Option}
 use Rattle.tcap_pdu.specs.DialogueSpelling.{PduValue}
 use Rattle.tcap_component.specs.Component.{CodeParts, BodyParts}
 use Rattle.tcap_component.specs.Problem.{ProblemParts}
+use Rattle.tcap_model.specs.Words.Address.{Address}
 
 -- Why the provider aborted: the cause that the message has, or that of a faulty message; an abnormal
 -- dialogue portion; no common dialogue portion; the dialogue stood still too long
@@ -65,10 +66,10 @@ pub data DialogueIndication : Type 0 where
   -- TC-P-ABORT
   p_abort : (dialogue : ℕ) (why : AbortCause) → DialogueIndication
 
--- What the engine gives: a message to the peer, an indication to the user, or that a message was
+-- What the engine gives: a message to an address, an indication to the user, or that a message was
 -- dropped (Q.771, Component handling; Q.771, Dialogue handling; that a drop is told is own).
 pub data Output : Type 0 where
-  send : (bytes : List ℕ) → Output
+  send : (to : Address) (bytes : List ℕ) → Output
   dialogue : (told : DialogueIndication) → Output
   component : (told : ComponentIndication) → Output
   dropped : (why : DropCause) → Output

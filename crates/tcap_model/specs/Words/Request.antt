@@ -3,6 +3,7 @@ use Rattle.std.specs.Prelude.{ℕ, ℤ, List, Option}
 use Rattle.tcap_component.specs.Component.{CodeParts, BodyParts}
 use Rattle.tcap_component.specs.Problem.{ProblemParts}
 use Rattle.tcap_invocation.specs.declared.class.Class.{Class}
+use Rattle.tcap_model.specs.Words.Address.{Address}
 
 -- How a dialogue ends: basic, with an End to the peer, or prearranged, with none
 -- (Q.771, Dialogue end).
@@ -34,14 +35,14 @@ pub data ComponentRequest : Type 0 where
   -- TC-U-CANCEL
   u_cancel : (id : ℤ) → ComponentRequest
 
--- The requests of dialogue handling, with their parameters: an application context is given by the
--- contents octets of its object identifier; user information is a list of EXTERNALs, empty where there
--- is none (Q.771, Dialogue handling).
+-- The requests of dialogue handling, with their parameters: the destination address where none is kept
+-- yet; an application context is given by the contents octets of its object identifier; user information
+-- is a list of EXTERNALs, empty where there is none (Q.771, Dialogue handling).
 pub data DialogueRequest : Type 0 where
   -- TC-UNI
-  uni : (context : Option (List ℕ)) (info : List ℕ) → DialogueRequest
+  uni : (to : Address) (context : Option (List ℕ)) (info : List ℕ) → DialogueRequest
   -- TC-BEGIN
-  begin : (context : Option (List ℕ)) (info : List ℕ) → DialogueRequest
+  begin : (to : Address) (context : Option (List ℕ)) (info : List ℕ) → DialogueRequest
   -- TC-CONTINUE
   go_on : (context : Option (List ℕ)) (info : List ℕ) → DialogueRequest
   -- TC-END

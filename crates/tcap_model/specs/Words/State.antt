@@ -1,5 +1,6 @@
 -- How far a dialogue is.
 use Rattle.std.specs.Prelude.{Bool, true, false, List, ℕ, Option, Some, None}
+use Rattle.tcap_model.specs.Words.Address.{Address}
 
 -- The states of a dialogue: Idle, Initiation Sent, Initiation Received and Active. The peer's
 -- transaction identifier, by its octets, is known from the first message of the peer on
@@ -38,3 +39,11 @@ peer_by fresh origin = origin
 peer_by sent origin = origin
 peer_by (received peer) origin = peer
 peer_by (active peer) origin = peer
+
+-- The address of the peer of a Continue: the one that is kept, or in Initiation Sent that of its sender
+-- (own).
+abbrev pub address_by : State → Address → Address → Address
+address_by fresh kept from = kept
+address_by sent kept from = from
+address_by (received peer) kept from = kept
+address_by (active peer) kept from = kept
