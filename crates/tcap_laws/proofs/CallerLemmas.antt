@@ -17,7 +17,7 @@ pub use Rattle.tcap_laws.proofs.FarEnds.ClosedOnce.{once}
 pub use Rattle.tcap_laws.proofs.Rows.InvocationsLeft.{ended-agrees}
 pub use Rattle.tcap_laws.proofs.Table.LastAnswersAlike.{fault-agrees, abort-agrees, continue-agrees, end-agrees, components-rejected, request-agrees}
 pub use Rattle.tcap_laws.proofs.Table.EndMessagesAlike.{end-answered}
-pub use Rattle.tcap_laws.proofs.FarEnds.FarOrigins.{origin}
+pub use Rattle.tcap_laws.proofs.FarEnds.FarOrigins.{origin, far-other}
 pub use Rattle.tcap_laws.proofs.Spans.LatestInvocations.{latest_is}
 pub use Rattle.tcap_laws.proofs.Births.Lives.{born-stays, over-step, over-later}
 pub use Rattle.tcap_laws.proofs.Births.DrawnNumbers.{reply-numbered, number-next, numbers-drawn, numbers-rise, numbers-invocations}
@@ -25,7 +25,7 @@ pub use Rattle.tcap_laws.proofs.Births.NumbersFound.{invocation_of-found, number
 pub use Rattle.tcap_laws.proofs.Isolation.SeenBytes.{alone-bytes}
 pub use Rattle.tcap_laws.proofs.Isolation.SeenDecisions.{only_decision, only_held, only_pending}
 pub use Rattle.tcap_laws.proofs.Isolation.SeenInvocations.{found_own, found_only, found_span, found_deadline, only_outcome}
-pub use Rattle.tcap_laws.proofs.Isolation.SeenLives.{only_clock, only_born, only_life, unseen, unseen_marks, seen_marks}
+pub use Rattle.tcap_laws.proofs.Isolation.SeenLives.{only_clock, only_born, only_kept, only_life, unseen, unseen_marks, seen_marks}
 pub use Rattle.tcap_laws.proofs.Isolation.SeenMoments.{each-alone, only_lapses, alone-moment}
 pub use Rattle.tcap_laws.proofs.Isolation.SeenQueues.{only_handled, only_queue}
 pub use Rattle.tcap_laws.proofs.Isolation.SeenRequests.{only_ended, only_due, alone_request}

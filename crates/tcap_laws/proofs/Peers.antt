@@ -2,6 +2,8 @@ pub mod CarriedComponents
 pub mod FarPeers
 pub mod FarSenders
 pub mod HeardPeers
+pub mod KeptAddresses
 pub mod NetPlaces
 pub mod OpenedApart
 pub mod OwnDialogues
+pub mod SentPlaces

@@ -1,4 +1,5 @@
 pub mod AcceptedRequests
+pub mod BytesNames
 pub mod EachComponent
 pub mod EachMoment
 pub mod EachOutput
@@ -11,6 +12,7 @@ pub mod PeerIdentifiers
 pub mod ProviderAborts
 pub mod ReachedReplies
 pub mod ReceivedMarks
+pub mod SentAddresses
 pub mod SentMessages
 pub mod SentRequests
 pub mod SoundReceptions

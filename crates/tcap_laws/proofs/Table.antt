@@ -2,6 +2,7 @@ pub mod BegunAlike
 pub mod BoundedIdentifiers
 pub mod EndMessagesAlike
 pub mod LastAnswersAlike
+pub mod LivesThen
 pub mod MessagesMovedAlike
 pub mod OtherDialogues
 pub mod RequestPairs

@@ -2,6 +2,7 @@
 
 ghost use Rattle.std.specs.Prelude.{is_some, ◌≡◌, ℕ, List, Option, Some, None, ◌∷◌, true, false, Ok, Err};
 ghost use Rattle.tcap_model.specs.Table.Agreement.{setting_at, due_pair};
+ghost use Rattle.tcap_model.specs.Words.Address.{Address};
 ghost use Rattle.tcap_model.specs.Words.Answer.{Answer};
 ghost use Rattle.tcap_model.specs.Histories.Birth.{next_dialogue};
 ghost use Rattle.tcap_model.specs.Table.Dialogue.{Dialogue, fresh_dialogue};
@@ -27,10 +28,11 @@ ghost use Rattle.tcap_pdu.specs.FrameSpelling.{Message};
 /// components are told, and then each invocation that is still Queued or Sent after them
 /// (Q.774, Dialogue end; Q.774, Component handling).
 pub fn ends_answered_alike()
-    ensures { (h : History) (dialogue : ℕ) (d : Dialogue) (to : List ℕ) (portion : Option (List ℕ))
-        (components : List ℕ) → IsLegal h → dialogue_at h.start.reject_ms h.start.idle_ms h.pairs dialogue ≡ Some d →
-        (table_move (setting_at h) d (DialogueEvent.frame (Message.end to portion components))).answer
-        ≡ Answer.outputs (taken_outputs dialogue h.pairs (life dialogue h.pairs)
+    ensures { (h : History) (dialogue : ℕ) (d : Dialogue) (from : Address) (to : List ℕ)
+        (portion : Option (List ℕ)) (components : List ℕ) → IsLegal h →
+        dialogue_at h.start.reject_ms h.start.idle_ms h.pairs dialogue ≡ Some d →
+        (table_move (setting_at h) d (DialogueEvent.frame from (Message.end to portion components))).answer
+        ≡ Answer.outputs (taken_outputs dialogue h.pairs (life dialogue h.pairs) from
         (Message.end to portion components)) }
 {}
 
@@ -43,15 +45,18 @@ pub fn dialogues_moved_alike()
         dialogue_at h.start.reject_ms h.start.idle_ms (due_pair h (Event.on_dialogue dialogue request) ∷ h.pairs)
         dialogue
         ≡ left_standing (table_move (setting_at h) d (DialogueEvent.request request)) }
-    ensures taken { (h : History) (dialogue : ℕ) (d : Dialogue) (bytes : List ℕ) (m : Message) → IsLegal h
+    ensures taken { (h : History) (dialogue : ℕ) (d : Dialogue) (from : Address) (bytes : List ℕ) (m : Message)
+        → IsLegal h
         → dialogue_at h.start.reject_ms h.start.idle_ms h.pairs dialogue ≡ Some d →
-        names (Event.received bytes) dialogue ≡ true → is_live d.standing.state ≡ true → frame_at bytes ≡ Ok m →
-        dialogue_at h.start.reject_ms h.start.idle_ms (due_pair h (Event.received bytes) ∷ h.pairs) dialogue
-        ≡ left_standing (table_move (setting_at h) d (DialogueEvent.frame m)) }
-    ensures broken { (h : History) (dialogue : ℕ) (d : Dialogue) (bytes : List ℕ) (fault : FrameFault) (cause : ℕ)
-        → IsLegal h → dialogue_at h.start.reject_ms h.start.idle_ms h.pairs dialogue ≡ Some d →
-        names (Event.received bytes) dialogue ≡ true → is_live d.standing.state ≡ true → frame_at bytes ≡ Err fault →
-        dialogue_at h.start.reject_ms h.start.idle_ms (due_pair h (Event.received bytes) ∷ h.pairs) dialogue
+        names (Event.received from bytes) dialogue ≡ true → is_live d.standing.state ≡ true → frame_at bytes ≡ Ok m →
+        dialogue_at h.start.reject_ms h.start.idle_ms (due_pair h (Event.received from bytes) ∷ h.pairs) dialogue
+        ≡ left_standing (table_move (setting_at h) d (DialogueEvent.frame from m)) }
+    ensures broken { (h : History) (dialogue : ℕ) (d : Dialogue) (from : Address) (bytes : List ℕ)
+        (fault : FrameFault) (cause : ℕ) → IsLegal h → dialogue_at h.start.reject_ms h.start.idle_ms h.pairs dialogue
+        ≡ Some d →
+        names (Event.received from bytes) dialogue ≡ true → is_live d.standing.state ≡ true → frame_at bytes
+        ≡ Err fault →
+        dialogue_at h.start.reject_ms h.start.idle_ms (due_pair h (Event.received from bytes) ∷ h.pairs) dialogue
         ≡ left_standing (table_move (setting_at h) d (DialogueEvent.fault cause)) }
     ensures lapsed { (h : History) (dialogue : ℕ) (d : Dialogue) (now : ℕ) → IsLegal h
         → dialogue_at h.start.reject_ms h.start.idle_ms h.pairs dialogue ≡ Some d → moment_fault now ≡ None →
@@ -77,18 +82,21 @@ pub fn fresh_is_born()
 /// A Begin that is accepted is answered by the dialogue that it gives birth to, and that dialogue is
 /// what the history says (Q.774, Dialogue begin).
 pub fn begun_is_born()
-    ensures answer { (h : History) (bytes : List ℕ) (origin : List ℕ) (context : Option (List ℕ))
+    ensures answer { (h : History) (from : Address) (bytes : List ℕ) (origin : List ℕ) (context : Option (List ℕ))
         (info components : List ℕ) → IsLegal h →
         reception (λ dialogue. live_in (life dialogue h.pairs)) (is_some (birth_due h)) bytes
         ≡ Reception.begun origin context info components →
-        (born (setting_at h) (next_dialogue h) h.start.reject_ms h.start.idle_ms origin context info components).answer
-        ≡ reply h (Event.received bytes) }
-    ensures dialogue { (h : History) (bytes : List ℕ) (origin : List ℕ) (portion : Option (List ℕ))
+        (born (setting_at h) (next_dialogue h) h.start.reject_ms h.start.idle_ms from origin context info
+        components).answer
+        ≡ reply h (Event.received from bytes) }
+    ensures dialogue { (h : History) (from : Address) (bytes : List ℕ) (origin : List ℕ) (portion : Option (List ℕ))
         (context : Option (List ℕ)) (info components : List ℕ) → IsLegal h
         → frame_at bytes ≡ Ok (Message.begin origin portion components) →
         reception (λ dialogue. live_in (life dialogue h.pairs)) (is_some (birth_due h)) bytes
         ≡ Reception.begun origin context info components →
-        dialogue_at h.start.reject_ms h.start.idle_ms (due_pair h (Event.received bytes) ∷ h.pairs) (next_dialogue h)
-        ≡ left_standing (born (setting_at h) (next_dialogue h) h.start.reject_ms h.start.idle_ms origin context info
+        dialogue_at h.start.reject_ms h.start.idle_ms (due_pair h (Event.received from bytes) ∷ h.pairs)
+        (next_dialogue h)
+        ≡ left_standing
+        (born (setting_at h) (next_dialogue h) h.start.reject_ms h.start.idle_ms from origin context info
         components) }
 {}

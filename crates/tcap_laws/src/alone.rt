@@ -1,6 +1,7 @@
 //! What one dialogue sees of a history: no other dialogue.
 
 ghost use Rattle.std.specs.Prelude.{◌≡◌, ◌≢◌, ◌==◌, ℕ, ℤ, List, [], ◌∷◌, true, false, Some, filter, option_map, IsTrue};
+ghost use Rattle.tcap_model.specs.Words.Address.{Address};
 ghost use Rattle.tcap_model.specs.Words.Answer.{Answer};
 ghost use Rattle.tcap_model.specs.Histories.Birth.{was_born};
 ghost use Rattle.tcap_model.specs.Histories.Clock.{clock};
@@ -16,6 +17,7 @@ ghost use Rattle.tcap_model.specs.Histories.History.{History};
 ghost use Rattle.tcap_model.specs.Invocations.Invocation.{Invocation, invocation_of, invocations, latest};
 ghost use Rattle.tcap_model.specs.Statements.Isolation.{IsAlone, history_of, EachIsAlone};
 ghost use Rattle.tcap_model.specs.Replies.Legal.{IsLegal};
+ghost use Rattle.tcap_model.specs.Histories.Kept.{kept_address};
 ghost use Rattle.tcap_model.specs.Histories.Life.{life};
 ghost use Rattle.tcap_model.specs.Invocations.Marks.{marks};
 ghost use Rattle.tcap_model.specs.Histories.Names.{names};
@@ -27,12 +29,15 @@ ghost use Rattle.tcap_model.specs.Replies.Reply.{ended_in, reply, lapses};
 ghost use Rattle.tcap_model.specs.Words.Request.{Request};
 ghost use Rattle.tcap_model.specs.Invocations.Span.{span};
 
-/// What a dialogue sees of a history tells the clock, its birth and its life; a pair that it doesn't
-/// see means nothing for its identifiers, and one that it sees the same as in the history (our own).
+/// What a dialogue sees of a history tells the clock, its birth, its life and the address that it keeps; a
+/// pair that it doesn't see means nothing for its identifiers, and one that it sees the same as in the
+/// history (our own).
 pub fn only_tells_life()
     ensures clock { (dialogue : ℕ) (past : Past) → clock (only dialogue past) ≡ clock past }
     ensures born { (dialogue : ℕ) (past : Past) → was_born dialogue (only dialogue past) ≡ was_born dialogue past }
     ensures life { (dialogue : ℕ) (past : Past) → life dialogue (only dialogue past) ≡ life dialogue past }
+    ensures kept { (dialogue : ℕ) (past : Past) →
+        kept_address dialogue (only dialogue past) ≡ kept_address dialogue past }
     ensures unseen { (dialogue : ℕ) (id : ℤ) (pair : Pair) (past : Past) → is_seen_by dialogue pair past ≡ false →
         marks dialogue id pair past ≡ [] }
     ensures seen { (dialogue : ℕ) (id : ℤ) (pair : Pair) (past : Past) →
@@ -105,9 +110,9 @@ pub fn only_tells_requests()
 /// Received bytes that name a dialogue are answered by what the dialogue sees of a legal history (our
 /// own).
 pub fn only_tells_bytes()
-    ensures { (h : History) (dialogue : ℕ) (bytes : List ℕ) → IsLegal h
-        → IsTrue (names (Event.received bytes) dialogue) →
-        IsAlone h dialogue (Event.received bytes) }
+    ensures { (h : History) (dialogue : ℕ) (from : Address) (bytes : List ℕ) → IsLegal h
+        → IsTrue (names (Event.received from bytes) dialogue) →
+        IsAlone h dialogue (Event.received from bytes) }
 {}
 
 /// A moment tells a dialogue, of all that lapses at it, exactly what it would tell the dialogue alone, in

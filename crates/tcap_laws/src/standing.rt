@@ -7,6 +7,7 @@ ghost use Rattle.std.specs.Ordering.{int_eq};
 ghost use Rattle.tcap_invocation.specs.Closing.{given_up_at};
 ghost use Rattle.tcap_invocation.specs.Invocations.{entry_at};
 ghost use Rattle.tcap_model.specs.Table.Agreement.{setting_at, leaves_standing};
+ghost use Rattle.tcap_model.specs.Words.Address.{Address};
 ghost use Rattle.tcap_model.specs.Words.Answer.{Answer};
 ghost use Rattle.tcap_model.specs.Histories.Clock.{clock};
 ghost use Rattle.tcap_model.specs.Table.Dialogue.{Dialogue, sent_by_rows};
@@ -94,20 +95,23 @@ pub fn messages_told_alike()
         (table_move (setting_at h) d (DialogueEvent.fault cause)).answer
         ≡ Answer.outputs (Output.dialogue (DialogueIndication.p_abort dialogue (AbortCause.cause cause))
         ∷ ended_in dialogue h.pairs []) }
-    ensures abort { (h : History) (dialogue : ℕ) (d : Dialogue) (to : List ℕ) (reason : Reason) → IsLegal h
+    ensures abort { (h : History) (dialogue : ℕ) (d : Dialogue) (from : Address) (to : List ℕ) (reason : Reason)
+        → IsLegal h
         → dialogue_at h.start.reject_ms h.start.idle_ms h.pairs dialogue ≡ Some d →
-        (table_move (setting_at h) d (DialogueEvent.frame (Message.abort to reason))).answer
-        ≡ Answer.outputs (taken_outputs dialogue h.pairs (life dialogue h.pairs) (Message.abort to reason)) }
-    ensures continued { (h : History) (dialogue : ℕ) (d : Dialogue) (origin to : List ℕ) (portion : Option (List ℕ))
-        (components : List ℕ) → IsLegal h → dialogue_at h.start.reject_ms h.start.idle_ms h.pairs dialogue ≡ Some d →
-        (table_move (setting_at h) d (DialogueEvent.frame (Message.go_on origin to portion components))).answer
-        ≡ Answer.outputs (taken_outputs dialogue h.pairs (life dialogue h.pairs)
+        (table_move (setting_at h) d (DialogueEvent.frame from (Message.abort to reason))).answer
+        ≡ Answer.outputs (taken_outputs dialogue h.pairs (life dialogue h.pairs) from (Message.abort to reason)) }
+    ensures continued { (h : History) (dialogue : ℕ) (d : Dialogue) (from : Address) (origin to : List ℕ)
+        (portion : Option (List ℕ)) (components : List ℕ) → IsLegal h →
+        dialogue_at h.start.reject_ms h.start.idle_ms h.pairs dialogue ≡ Some d →
+        (table_move (setting_at h) d (DialogueEvent.frame from (Message.go_on origin to portion components))).answer
+        ≡ Answer.outputs (taken_outputs dialogue h.pairs (life dialogue h.pairs) from
         (Message.go_on origin to portion components)) }
-    ensures abnormal_end { (h : History) (dialogue : ℕ) (d : Dialogue) (to : List ℕ) (portion : Option (List ℕ))
-        (components : List ℕ) → IsLegal h → dialogue_at h.start.reject_ms h.start.idle_ms h.pairs dialogue ≡ Some d →
+    ensures abnormal_end { (h : History) (dialogue : ℕ) (d : Dialogue) (from : Address) (to : List ℕ)
+        (portion : Option (List ℕ)) (components : List ℕ) → IsLegal h →
+        dialogue_at h.start.reject_ms h.start.idle_ms h.pairs dialogue ≡ Some d →
         portion_verdict d.standing.state d.standing.context portion ≡ PortionVerdict.abnormal →
-        (table_move (setting_at h) d (DialogueEvent.frame (Message.end to portion components))).answer
-        ≡ Answer.outputs (taken_outputs dialogue h.pairs (life dialogue h.pairs)
+        (table_move (setting_at h) d (DialogueEvent.frame from (Message.end to portion components))).answer
+        ≡ Answer.outputs (taken_outputs dialogue h.pairs (life dialogue h.pairs) from
         (Message.end to portion components)) }
 {}
 

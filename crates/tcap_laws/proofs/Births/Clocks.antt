@@ -9,7 +9,7 @@ use Rattle.tcap_model.specs.Histories.Pair.{Pair, Past}
 clock_after-le : (before : ℕ) (event : Event) (accepted : Bool) → before ≤ clock_after before event accepted
 clock_after-le before new_dialogue accepted = omega arith
 clock_after-le before (on_dialogue dialogue request) accepted = omega arith
-clock_after-le before (received bytes) accepted = omega arith
+clock_after-le before (received from bytes) accepted = omega arith
 clock_after-le before (moment now) true = omega arith
 clock_after-le before (moment now) false = omega arith
 

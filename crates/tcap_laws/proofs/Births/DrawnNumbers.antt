@@ -51,8 +51,8 @@ accepted-numbered h dialogue d (Request.component (ComponentRequest.u_reject id 
 accepted-numbered h dialogue d (Request.component (ComponentRequest.u_cancel id)) =
     given_up-numbered (next_number h) dialogue (Request.component (ComponentRequest.u_cancel id))
     (pending d.identifier id h.pairs)
-accepted-numbered h dialogue d (Request.dialogue (DialogueRequest.uni context info)) = (refl, inl refl)
-accepted-numbered h dialogue d (Request.dialogue (DialogueRequest.begin context info)) = (refl, inl refl)
+accepted-numbered h dialogue d (Request.dialogue (DialogueRequest.uni to context info)) = (refl, inl refl)
+accepted-numbered h dialogue d (Request.dialogue (DialogueRequest.begin to context info)) = (refl, inl refl)
 accepted-numbered h dialogue d (Request.dialogue (DialogueRequest.go_on context info)) = (refl, inl refl)
 accepted-numbered h dialogue d (Request.dialogue (DialogueRequest.finish ending context info)) = (refl, inl refl)
 accepted-numbered h dialogue d (Request.dialogue (DialogueRequest.u_abort why info)) = (refl, inl refl)
@@ -79,7 +79,7 @@ pub reply-numbered : (h : History) (event : Event) → IsNumbered (next_number h
 reply-numbered h Event.new_dialogue = birth-numbered h (birth_due h)
 reply-numbered h (Event.on_dialogue dialogue request) =
     request-numbered h dialogue request (life dialogue h.pairs) (due h dialogue request)
-reply-numbered h (Event.received bytes) = (refl, inl refl)
+reply-numbered h (Event.received from bytes) = (refl, inl refl)
 reply-numbered h (Event.moment now) = moment-numbered (next_number h) h.start.idle_ms h.pairs now (moment_fault now)
 
 -- ---- legal histories

@@ -41,8 +41,8 @@ request-was_born state context (Request.component (ComponentRequest.result_more 
 request-was_born state context (Request.component (ComponentRequest.error_back id code parameter)) = tt
 request-was_born state context (Request.component (ComponentRequest.u_reject id problem)) = tt
 request-was_born state context (Request.component (ComponentRequest.u_cancel id)) = tt
-request-was_born state context (Request.dialogue (DialogueRequest.uni asked info)) = tt
-request-was_born state context (Request.dialogue (DialogueRequest.begin asked info)) = tt
+request-was_born state context (Request.dialogue (DialogueRequest.uni to asked info)) = tt
+request-was_born state context (Request.dialogue (DialogueRequest.begin to asked info)) = tt
 request-was_born state context (Request.dialogue (DialogueRequest.go_on asked info)) = tt
 request-was_born state context (Request.dialogue (DialogueRequest.finish ending asked info)) = tt
 request-was_born state context (Request.dialogue (DialogueRequest.u_abort why info)) = tt
@@ -85,7 +85,8 @@ event-born : (idle_ms last : ℕ) (state : State) (context : Option (List ℕ)) 
 event-born idle_ms last state context Event.new_dialogue accepted = tt
 event-born idle_ms last state context (Event.on_dialogue dialogue request) accepted =
     accepted-born accepted state context request
-event-born idle_ms last state context (Event.received bytes) accepted = live-born (is_live state) state context bytes
+event-born idle_ms last state context (Event.received from bytes) accepted =
+    live-born (is_live state) state context bytes
 event-born idle_ms last state context (Event.moment now) accepted =
     moment-born (accepted && is_idle idle_ms last now) state context
 

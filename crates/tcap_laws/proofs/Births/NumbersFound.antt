@@ -72,8 +72,9 @@ accepted-unspent h dialogue state context (Request.component (ComponentRequest.u
     given_up-none : (found : Option ℕ) (n : ℕ) → number_of (given_up_answer found) ≡ Some n → ⊥
     given_up-none None n e = cc
     given_up-none (Some m) n e = cc
-accepted-unspent h dialogue state context (Request.dialogue (DialogueRequest.uni context' info)) n due e = absurd cc
-accepted-unspent h dialogue state context (Request.dialogue (DialogueRequest.begin context' info)) n due e = absurd cc
+accepted-unspent h dialogue state context (Request.dialogue (DialogueRequest.uni to context' info)) n due e = absurd cc
+accepted-unspent h dialogue state context (Request.dialogue (DialogueRequest.begin to context' info)) n due e =
+    absurd cc
 accepted-unspent h dialogue state context (Request.dialogue (DialogueRequest.go_on context' info)) n due e = absurd cc
 accepted-unspent h dialogue state context (Request.dialogue (DialogueRequest.finish ending context' info)) n due e =
     absurd cc
@@ -107,7 +108,7 @@ reply-unspent : (h : History) (event : Event) (n : ℕ) → number_of (reply h e
 reply-unspent h Event.new_dialogue n e = absurd (birth-none h (birth_due h) n e)
 reply-unspent h (Event.on_dialogue dialogue request) n e =
     request-unspent h dialogue request (life dialogue h.pairs) (due h dialogue request) n refl e
-reply-unspent h (Event.received bytes) n e = absurd cc
+reply-unspent h (Event.received from bytes) n e = absurd cc
 reply-unspent h (Event.moment now) n e = absurd (moment-none h.start.idle_ms h.pairs now (moment_fault now) n e)
 
 number_counter-below : (a n : ℕ) (i : Option Invocation) (drawn : Option ℕ) → drawn ≡ option_map number i

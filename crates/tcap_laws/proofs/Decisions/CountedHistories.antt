@@ -66,9 +66,9 @@ module _ (class : Class) (timeout : ℕ) (c : ℕ) (before : List Noted) where
     request_closes (Request.component (ComponentRequest.error_back named code parameter)) e = absurd cc
     request_closes (Request.component (ComponentRequest.u_reject named problem)) e = absurd cc
     request_closes (Request.component (ComponentRequest.u_cancel named)) e = absurd cc
-    request_closes (Request.dialogue (DialogueRequest.begin asked info)) e = absurd cc
+    request_closes (Request.dialogue (DialogueRequest.begin to asked info)) e = absurd cc
     request_closes (Request.dialogue (DialogueRequest.go_on asked info)) e = absurd cc
-    request_closes (Request.dialogue (DialogueRequest.uni asked info)) e = end_last (Mark.sent ∷ [])
+    request_closes (Request.dialogue (DialogueRequest.uni to asked info)) e = end_last (Mark.sent ∷ [])
     request_closes (Request.dialogue (DialogueRequest.finish Ending.basic asked info)) e = end_last (Mark.sent ∷ [])
     request_closes (Request.dialogue (DialogueRequest.finish Ending.prearranged asked info)) e = end_last []
     request_closes (Request.dialogue (DialogueRequest.u_abort why info)) e = end_last []
@@ -106,7 +106,7 @@ module _ (class : Class) (timeout : ℕ) (c : ℕ) (before : List Noted) where
     event_closes idle_ms last Event.new_dialogue accepted e = absurd cc
     event_closes idle_ms last (Event.on_dialogue d r) true e = request_closes r e
     event_closes idle_ms last (Event.on_dialogue d r) false e = absurd cc
-    event_closes idle_ms last (Event.received bytes) accepted e = bytes_close (is_live s) bytes e
+    event_closes idle_ms last (Event.received from bytes) accepted e = bytes_close (is_live s) bytes e
     event_closes idle_ms last (Event.moment now) true e = end_last (Mark.moment now ∷ [])
     event_closes idle_ms last (Event.moment now) false e = absurd cc
 
@@ -129,8 +129,8 @@ invoke_leaves d s c i r answer (Some n) q e true last idle_ms over = go r (is_ac
     go (Request.component (ComponentRequest.error_back id code parameter)) true e over = absurd cc
     go (Request.component (ComponentRequest.u_reject id problem)) true e over = absurd cc
     go (Request.component (ComponentRequest.u_cancel id)) true e over = absurd cc
-    go (Request.dialogue (DialogueRequest.uni context info)) true e over = absurd cc
-    go (Request.dialogue (DialogueRequest.begin context info)) true e over = absurd cc
+    go (Request.dialogue (DialogueRequest.uni to context info)) true e over = absurd cc
+    go (Request.dialogue (DialogueRequest.begin to context info)) true e over = absurd cc
     go (Request.dialogue (DialogueRequest.go_on context info)) true e over = absurd cc
     go (Request.dialogue (DialogueRequest.finish how context info)) true e over = absurd cc
     go (Request.dialogue (DialogueRequest.u_abort why info)) true e over = absurd cc
@@ -141,7 +141,7 @@ invoked_leaves : (event : Event) (answer : Answer) (i : Invocation) (s : State) 
 invoked_leaves Event.new_dialogue answer i s c e b last idle_ms over = absurd cc
 invoked_leaves (Event.on_dialogue d r) answer i s c e b last idle_ms over =
     invoke_leaves d s c i r answer (number_of answer) refl e b last idle_ms over
-invoked_leaves (Event.received bytes) answer i s c e b last idle_ms over = absurd cc
+invoked_leaves (Event.received from bytes) answer i s c e b last idle_ms over = absurd cc
 invoked_leaves (Event.moment now) answer i s c e b last idle_ms over = absurd cc
 
 module _ (start : Start) (pair : Pair) (past : Past) (n : ℕ) (i : Invocation) (legal : AreReplies start (pair ∷ past))

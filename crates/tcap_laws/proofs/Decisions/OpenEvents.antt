@@ -30,6 +30,7 @@ use Rattle.tcap_model.specs.Words.Time.{moment_fault}
 use Rattle.tcap_pdu.specs.declared.fault.FrameFault.{FrameFault}
 use Rattle.tcap_pdu.specs.FrameReading.{frame_at}
 use Rattle.tcap_pdu.specs.FrameSpelling.{Message}
+use Rattle.tcap_model.specs.Words.Address.{Address}
 
 module _ (start : Start) (past place : Past) (n : ℕ) (i : Invocation) (legal : AreReplies start past)
     (found : invocation_of n past ≡ Some i) (here : latest i.dialogue i.id past ≡ Some i) where
@@ -50,9 +51,9 @@ module _ (start : Start) (past place : Past) (n : ℕ) (i : Invocation) (legal :
       ∙ found_alive start past n i legal found) in
       cc
 
-  module _ (bytes : List ℕ) (answer : Answer) where
+  module _ (from : Address) (bytes : List ℕ) (answer : Answer) where
     abbrev received : Event
-    received = Event.received bytes
+    received = Event.received from bytes
 
     abbrev added : List Noted
     added = marks i.dialogue i.id (record { event = received; answer = answer; idle_ms = start.idle_ms }) past
@@ -84,15 +85,15 @@ module _ (start : Start) (past place : Past) (n : ℕ) (i : Invocation) (legal :
 
     taken_here : (m : Message) → names received i.dialogue ≡ true → is_live_in h i.dialogue ≡ true
         → frame_at bytes ≡ Ok m
-        → told n place (taken_outputs i.dialogue past (life i.dialogue past) m) ≡ wanted place past i added
+        → told n place (taken_outputs i.dialogue past (life i.dialogue past) from m) ≡ wanted place past i added
     taken_here m e live q = go (life i.dialogue past) refl live
       where
         go : (l : Life) → life i.dialogue past ≡ l → live_in l ≡ true
-            → told n place (taken_outputs i.dialogue past l m) ≡ wanted place past i added
+            → told n place (taken_outputs i.dialogue past l from m) ≡ wanted place past i added
         go Life.unborn p v = absurd cc
         go Life.over p v = absurd cc
         go (Life.standing s c) p v =
-            message_here start past place n i legal found here s c m
+            message_here start past place n i legal found here s c from m
             ∙ (ap (λ r. wanted place past i (noted_at_clock (clock past)
             (unwrap_or (marks_of_message i.id s c r) (end_if_over (Life.standing s c) (life_by_message s c r)))))
             (sym q)
@@ -114,7 +115,7 @@ module _ (start : Start) (past place : Past) (n : ℕ) (i : Invocation) (legal :
             (sym q)
             ∙ ap (wanted place past i) (sym (standing_then s c true p v e)))
 
-    bytes_wanted : Wants n place h i.dialogue bytes (wanted place past i added)
+    bytes_wanted : Wants n place h i.dialogue from bytes (wanted place past i added)
     bytes_wanted = record {
       elsewhere = λ d e. quiet_elsewhere start past place n i legal found d
           (λ same. let is : (d == i.dialogue) ≡ true = grind (arith, nat_tests) in cc);
@@ -125,16 +126,17 @@ module _ (start : Start) (past place : Past) (n : ℕ) (i : Invocation) (legal :
       broken = broken_here;
     }
 
-  on_bytes : (bytes : List ℕ) → Answers start past place n i legal found here (Event.received bytes)
-      (reply h (Event.received bytes))
-  on_bytes bytes =
-      reception_tells n place h i.dialogue bytes (wanted place past i
+  on_bytes : (from : Address) (bytes : List ℕ)
+      → Answers start past place n i legal found here (Event.received from bytes)
+      (reply h (Event.received from bytes))
+  on_bytes from bytes =
+      reception_tells n place h i.dialogue from bytes (wanted place past i
       (marks i.dialogue i.id (record {
-        event = Event.received bytes;
-        answer = reply h (Event.received bytes);
+        event = Event.received from bytes;
+        answer = reply h (Event.received from bytes);
         idle_ms = start.idle_ms;
       }) past))
-      (bytes_wanted bytes (reply h (Event.received bytes))) (is_some (birth_due h))
+      (bytes_wanted from bytes (reply h (Event.received from bytes))) (is_some (birth_due h))
 
   -- ---- every event
 
@@ -148,5 +150,5 @@ module _ (start : Start) (past place : Past) (n : ℕ) (i : Invocation) (legal :
       (birth_silent (birth_due h)) (unnamed_marks i.dialogue i.id Event.new_dialogue (reply h Event.new_dialogue)
       start.idle_ms past refl)
   reply_open (Event.on_dialogue d r) = on_any_dialogue start past place n i legal found here d r
-  reply_open (Event.received bytes) = on_bytes bytes
+  reply_open (Event.received from bytes) = on_bytes from bytes
   reply_open (Event.moment now) = on_moment start past place n i legal found here now (moment_fault now)

@@ -10,9 +10,8 @@ use Rattle.tcap_laws.proofs.Decisions.ComponentTellings.{unless, unless_nothing,
 use Rattle.tcap_laws.proofs.Spans.DecisionSteps.{closing_after-append, first_closing-append}
 use Rattle.tcap_laws.proofs.Decisions.QuietDialogues.{IsQuiet}
 use Rattle.tcap_laws.proofs.Decisions.ToldInvocations.{told_one, ended_told, ended_number, told_if_any}
-use Rattle.tcap_laws.proofs.Decisions.ToldOutputs.{told, told-append, sent_silent, abort_silent}
+use Rattle.tcap_laws.proofs.Decisions.ToldOutputs.{told, told-append, abort_silent, asked_silent}
 use Rattle.tcap_laws.proofs.Decisions.ToldParts.{gain, in_turn, own, other_latest, other_there, message_parts}
-use Rattle.tcap_model.specs.Procedures.AbortRules.{sent_if_any}
 use Rattle.tcap_model.specs.Histories.Clock.{clock}
 use Rattle.tcap_model.specs.Invocations.Closings.{Told}
 use Rattle.tcap_model.specs.Procedures.ComponentHandling.{Item, told_of}
@@ -23,15 +22,18 @@ use Rattle.tcap_model.specs.Replies.Legal.{AreReplies}
 use Rattle.tcap_model.specs.Histories.Life.{Life, life_by_message, life_by_verdict}
 use Rattle.tcap_model.specs.Invocations.Marks.{Mark, Noted, end_if_over, if_normal, marks_of_message, component_marks}
 use Rattle.tcap_model.specs.Invocations.Outcome.{closing_after, first_closing, outcome}
+use Rattle.tcap_model.specs.Words.Request.{Request}
 use Rattle.tcap_model.specs.Words.Output.{Output, Closing, ComponentIndication}
 use Rattle.tcap_model.specs.Histories.Pair.{Past}
 use Rattle.tcap_model.specs.Procedures.PortionRules.{PortionVerdict, portion_verdict}
 use Rattle.tcap_model.specs.Replies.Queue.{handled_in}
 use Rattle.tcap_model.specs.Invocations.SentThere.{marks_up_to}
-use Rattle.tcap_model.specs.Replies.Reply.{ended_in, continue_outputs, end_outputs, message_outputs}
+use Rattle.tcap_model.specs.Replies.Reply.{ended_in, continue_outputs, end_outputs, message_outputs, request_sent}
 use Rattle.tcap_model.specs.Invocations.Span.{span}
 use Rattle.tcap_model.specs.Words.State.{State}
 use Rattle.tcap_pdu.specs.FrameSpelling.{Message}
+use Rattle.tcap_model.specs.Words.Address.{Address}
+use Rattle.tcap_model.specs.Procedures.Standing.{Standing}
 
 -- what is to be told of an invocation, where these marks are added to its span
 abbrev pub wanted : Past → Past → Invocation → List Noted → List Told
@@ -139,13 +141,13 @@ module _ (start : Start) (past place : Past) (n : ℕ) (i : Invocation) (legal :
         ms = noted_at_clock (clock past) (component_marks i.id (components_of content))
 
     module _ (state : State) (context : Option (List ℕ)) where
-      continue_here : (origin content : List ℕ) (v : PortionVerdict)
-          → told n place (continue_outputs i.dialogue past state origin content v)
+      continue_here : (from : Address) (origin content : List ℕ) (v : PortionVerdict)
+          → told n place (continue_outputs i.dialogue past state from origin content v)
           ≡ wanted place past i (noted_at_clock (clock past)
           (unwrap_or (if_normal v (component_marks i.id (components_of content)))
           (end_if_over (Life.standing state context) (life_by_verdict state context origin v))))
-      continue_here origin content (PortionVerdict.normal told info) = parts content
-      continue_here origin content PortionVerdict.abnormal = ended_only
+      continue_here from origin content (PortionVerdict.normal told info) = parts content
+      continue_here from origin content PortionVerdict.abnormal = ended_only
 
       end_here : (content : List ℕ) (v : PortionVerdict) → told n place (end_outputs i.dialogue past content v)
           ≡ wanted place past i (noted_at_clock (clock past)
@@ -154,20 +156,22 @@ module _ (start : Start) (past place : Past) (n : ℕ) (i : Invocation) (legal :
       end_here content (PortionVerdict.normal told info) = parts_and_end content
       end_here content PortionVerdict.abnormal = ended_only
 
-      pub message_here : (m : Message) → told n place (message_outputs i.dialogue past state context m)
+      pub message_here : (from : Address) (m : Message)
+          → told n place (message_outputs i.dialogue past state context from m)
           ≡ wanted place past i (noted_at_clock (clock past)
           (unwrap_or (marks_of_message i.id state context (Ok m))
           (end_if_over (Life.standing state context) (life_by_message state context (Ok m)))))
-      message_here (Message.go_on origin to portion components) =
-          continue_here origin components (portion_verdict state context portion)
-      message_here (Message.end to portion components) = end_here components (portion_verdict state context portion)
-      message_here (Message.abort to reason) =
+      message_here from (Message.go_on origin to portion components) =
+          continue_here from origin components (portion_verdict state context portion)
+      message_here from (Message.end to portion components) =
+          end_here components (portion_verdict state context portion)
+      message_here from (Message.abort to reason) =
           ap (λ z. z ++ told n place (ended_in i.dialogue past [])) (abort_silent n place i.dialogue reason)
           ∙ ended_only
-      message_here (Message.unidirectional portion components) = sym (nothing_wanted place past i)
-      message_here (Message.begin origin portion components) = sym (nothing_wanted place past i)
+      message_here from (Message.unidirectional portion components) = sym (nothing_wanted place past i)
+      message_here from (Message.begin origin portion components) = sym (nothing_wanted place past i)
 
-  pub last_here : (message : Option Message) → told n place (sent_if_any message ++ ended_in i.dialogue past [])
+  pub last_here : (d : Standing) (r : Request) → told n place (request_sent past d r ++ ended_in i.dialogue past [])
       ≡ wanted place past i (noted_at_clock (clock past) (Mark.end ∷ []))
-  last_here message = told-append n place (sent_if_any message) (ended_in i.dialogue past [])
-      ∙ (ap (λ z. z ++ told n place (ended_in i.dialogue past [])) (sent_silent n place message) ∙ ended_only)
+  last_here d r = told-append n place (request_sent past d r) (ended_in i.dialogue past [])
+      ∙ (ap (λ z. z ++ told n place (ended_in i.dialogue past [])) (asked_silent n place past d r) ∙ ended_only)

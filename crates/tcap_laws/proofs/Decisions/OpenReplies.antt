@@ -11,7 +11,7 @@ use Rattle.tcap_laws.proofs.Spans.EventMarks.{unnamed_marks, standing_marks, ove
 use Rattle.tcap_laws.proofs.Decisions.OpenNumbers.{wanted, nothing_wanted, other_identifier, quiet_elsewhere, last_here}
 use Rattle.tcap_laws.proofs.Decisions.QuietDialogues.{request_quiet}
 use Rattle.tcap_laws.proofs.Spans.SupersededInvocations.{found_own}
-use Rattle.tcap_laws.proofs.Decisions.ToldOutputs.{sent_silent}
+use Rattle.tcap_laws.proofs.Decisions.ToldOutputs.{asked_silent}
 use Rattle.tcap_laws.proofs.Decisions.ToldParts.{gain, own}
 use Rattle.tcap_model.specs.Words.Answer.{Answer, is_accepted}
 use Rattle.tcap_model.specs.Histories.Clock.{clock}
@@ -30,7 +30,6 @@ use Rattle.tcap_model.specs.Words.Output.{Closing}
 use Rattle.tcap_model.specs.Histories.Pair.{Past}
 use Rattle.tcap_model.specs.Replies.Reply.{given_up_answer, accepted_answer, request_answer, reply}
 use Rattle.tcap_model.specs.Words.Request.{Request, Ending, ComponentRequest, DialogueRequest}
-use Rattle.tcap_model.specs.Procedures.RequestMessage.{message_of}
 use Rattle.tcap_model.specs.Invocations.Span.{span}
 use Rattle.tcap_model.specs.Words.State.{State}
 
@@ -121,24 +120,24 @@ module _ (start : Start) (past place : Past) (n : ℕ) (i : Invocation) (legal :
     accepted_here (Request.component (ComponentRequest.error_back id code parameter)) = sym nothing
     accepted_here (Request.component (ComponentRequest.u_reject id problem)) = sym nothing
     accepted_here (Request.component (ComponentRequest.u_cancel id)) = cancel_here id (pending i.dialogue id past) refl
-    accepted_here (Request.dialogue (DialogueRequest.uni asked info)) =
-        last_here start past place n i legal found (message_of (standing_of i.dialogue past s c)
-        (Request.dialogue (DialogueRequest.uni asked info)))
-    accepted_here (Request.dialogue (DialogueRequest.begin asked info)) =
-        sent_silent n place (message_of (standing_of i.dialogue past s c)
-        (Request.dialogue (DialogueRequest.begin asked info))) ∙ sym nothing
+    accepted_here (Request.dialogue (DialogueRequest.uni to asked info)) =
+        last_here start past place n i legal found (standing_of i.dialogue past s c)
+        (Request.dialogue (DialogueRequest.uni to asked info))
+    accepted_here (Request.dialogue (DialogueRequest.begin to asked info)) =
+        asked_silent n place past (standing_of i.dialogue past s c)
+        (Request.dialogue (DialogueRequest.begin to asked info)) ∙ sym nothing
     accepted_here (Request.dialogue (DialogueRequest.go_on asked info)) =
-        sent_silent n place (message_of (standing_of i.dialogue past s c)
-        (Request.dialogue (DialogueRequest.go_on asked info))) ∙ sym nothing
+        asked_silent n place past (standing_of i.dialogue past s c)
+        (Request.dialogue (DialogueRequest.go_on asked info)) ∙ sym nothing
     accepted_here (Request.dialogue (DialogueRequest.finish Ending.basic asked info)) =
-        last_here start past place n i legal found (message_of (standing_of i.dialogue past s c)
-        (Request.dialogue (DialogueRequest.finish Ending.basic asked info)))
+        last_here start past place n i legal found (standing_of i.dialogue past s c)
+        (Request.dialogue (DialogueRequest.finish Ending.basic asked info))
     accepted_here (Request.dialogue (DialogueRequest.finish Ending.prearranged asked info)) =
-        last_here start past place n i legal found (message_of (standing_of i.dialogue past s c)
-        (Request.dialogue (DialogueRequest.finish Ending.prearranged asked info)))
+        last_here start past place n i legal found (standing_of i.dialogue past s c)
+        (Request.dialogue (DialogueRequest.finish Ending.prearranged asked info))
     accepted_here (Request.dialogue (DialogueRequest.u_abort why info)) =
-        last_here start past place n i legal found (message_of (standing_of i.dialogue past s c)
-        (Request.dialogue (DialogueRequest.u_abort why info)))
+        last_here start past place n i legal found (standing_of i.dialogue past s c)
+        (Request.dialogue (DialogueRequest.u_abort why info))
 
     request_here : (r : Request) (f : Option Fault) → AnswersTo r (request_answer h i.dialogue r (Life.standing s c) f)
     request_here r (Some f) = sym nothing

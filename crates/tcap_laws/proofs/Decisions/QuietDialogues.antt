@@ -2,8 +2,7 @@
 use Rattle.std.proofs.Common.{◌≡◌, ℕ, ℤ, ◌==◌, false, List, [], ◌++◌, Option, Some, None, refl, ap, ◌∙◌}
 use Rattle.tcap_component.specs.ComponentReading.{components_of}
 use Rattle.tcap_laws.proofs.Decisions.ComponentTellings.{components_other}
-use Rattle.tcap_laws.proofs.Decisions.ToldOutputs.{told, told-append, IsOther, sent_silent, abort_silent}
-use Rattle.tcap_model.specs.Procedures.AbortRules.{sent_if_any}
+use Rattle.tcap_laws.proofs.Decisions.ToldOutputs.{told, told-append, IsOther, abort_silent, asked_silent}
 use Rattle.tcap_model.specs.Invocations.Closings.{told_by_answer}
 use Rattle.tcap_model.specs.Procedures.ComponentHandling.{Item, told_of}
 use Rattle.tcap_model.specs.Replies.Due.{standing_of}
@@ -17,11 +16,12 @@ use Rattle.tcap_model.specs.Histories.Pair.{Past}
 use Rattle.tcap_model.specs.Procedures.PortionRules.{PortionVerdict, portion_verdict}
 use Rattle.tcap_model.specs.Replies.Queue.{handled_in}
 use Rattle.tcap_model.specs.Invocations.SentThere.{if_sent}
-use Rattle.tcap_model.specs.Replies.Reply.{ended_in, given_up_answer, accepted_answer, request_answer, continue_outputs, end_outputs, message_outputs, taken_outputs}
+use Rattle.tcap_model.specs.Replies.Reply.{ended_in, given_up_answer, accepted_answer, request_answer, continue_outputs, end_outputs, message_outputs, taken_outputs, request_sent}
 use Rattle.tcap_model.specs.Words.Request.{Request, ComponentRequest, DialogueRequest}
-use Rattle.tcap_model.specs.Procedures.RequestMessage.{message_of}
 use Rattle.tcap_model.specs.Words.State.{State}
 use Rattle.tcap_pdu.specs.FrameSpelling.{Message}
+use Rattle.tcap_model.specs.Words.Address.{Address}
+use Rattle.tcap_model.specs.Procedures.Standing.{Standing}
 
 -- a dialogue in which nothing can be told of the number
 pub record IsQuiet (n : ℕ) (place past : Past) (dialogue : ℕ) : Type 0 where
@@ -33,10 +33,10 @@ module _ (n : ℕ) (place past : Past) (dialogue : ℕ) (quiet : IsQuiet n place
   pub components_quiet : (content : List ℕ) → told n place (told_of (handled_in dialogue past content)) ≡ []
   components_quiet content = components_other n place past dialogue quiet.subjects [] (components_of content)
 
-  continue_quiet : (state : State) (origin content : List ℕ) (v : PortionVerdict)
-      → told n place (continue_outputs dialogue past state origin content v) ≡ []
-  continue_quiet state origin content (PortionVerdict.normal context info) = components_quiet content
-  continue_quiet state origin content PortionVerdict.abnormal = quiet.ends []
+  continue_quiet : (state : State) (from : Address) (origin content : List ℕ) (v : PortionVerdict)
+      → told n place (continue_outputs dialogue past state from origin content v) ≡ []
+  continue_quiet state from origin content (PortionVerdict.normal context info) = components_quiet content
+  continue_quiet state from origin content PortionVerdict.abnormal = quiet.ends []
 
   end_quiet : (content : List ℕ) (v : PortionVerdict) → told n place (end_outputs dialogue past content v) ≡ []
   end_quiet content (PortionVerdict.normal context info) =
@@ -45,26 +45,26 @@ module _ (n : ℕ) (place past : Past) (dialogue : ℕ) (quiet : IsQuiet n place
       ∙ quiet.ends (components_of content))
   end_quiet content PortionVerdict.abnormal = quiet.ends []
 
-  message_quiet : (state : State) (context : Option (List ℕ)) (m : Message)
-      → told n place (message_outputs dialogue past state context m) ≡ []
-  message_quiet state context (Message.go_on origin to portion components) =
-      continue_quiet state origin components (portion_verdict state context portion)
-  message_quiet state context (Message.end to portion components) =
+  message_quiet : (state : State) (context : Option (List ℕ)) (from : Address) (m : Message)
+      → told n place (message_outputs dialogue past state context from m) ≡ []
+  message_quiet state context from (Message.go_on origin to portion components) =
+      continue_quiet state from origin components (portion_verdict state context portion)
+  message_quiet state context from (Message.end to portion components) =
       end_quiet components (portion_verdict state context portion)
-  message_quiet state context (Message.abort to reason) =
+  message_quiet state context from (Message.abort to reason) =
       ap (λ z. z ++ told n place (ended_in dialogue past [])) (abort_silent n place dialogue reason) ∙ quiet.ends []
-  message_quiet state context (Message.unidirectional portion components) = refl
-  message_quiet state context (Message.begin origin portion components) = refl
+  message_quiet state context from (Message.unidirectional portion components) = refl
+  message_quiet state context from (Message.begin origin portion components) = refl
 
-  pub taken_quiet : (l : Life) (m : Message) → told n place (taken_outputs dialogue past l m) ≡ []
-  taken_quiet Life.unborn m = refl
-  taken_quiet (Life.standing state context) m = message_quiet state context m
-  taken_quiet Life.over m = refl
+  pub taken_quiet : (l : Life) (from : Address) (m : Message) → told n place (taken_outputs dialogue past l from m) ≡ []
+  taken_quiet Life.unborn from m = refl
+  taken_quiet (Life.standing state context) from m = message_quiet state context from m
+  taken_quiet Life.over from m = refl
 
-  last_quiet : (message : Option Message) → told n place (sent_if_any message ++ ended_in dialogue past []) ≡ []
-  last_quiet message =
-      told-append n place (sent_if_any message) (ended_in dialogue past [])
-      ∙ (ap (λ z. z ++ told n place (ended_in dialogue past [])) (sent_silent n place message) ∙ quiet.ends [])
+  last_quiet : (d : Standing) (r : Request) → told n place (request_sent past d r ++ ended_in dialogue past []) ≡ []
+  last_quiet d r =
+      told-append n place (request_sent past d r) (ended_in dialogue past [])
+      ∙ (ap (λ z. z ++ told n place (ended_in dialogue past [])) (asked_silent n place past d r) ∙ quiet.ends [])
 
   cancel_quiet : (id : ℤ) (o : Option ℕ) → pending dialogue id past ≡ o
       → told_by_answer n place (Event.on_dialogue dialogue (Request.component (ComponentRequest.u_cancel id)))
@@ -84,21 +84,21 @@ module _ (n : ℕ) (place : Past) (h : History) (dialogue : ℕ) (quiet : IsQuie
   accepted_quiet state context (Request.component (ComponentRequest.u_reject id problem)) = refl
   accepted_quiet state context (Request.component (ComponentRequest.u_cancel id)) =
       cancel_quiet n place h.pairs dialogue quiet id (pending dialogue id h.pairs) refl
-  accepted_quiet state context (Request.dialogue (DialogueRequest.uni asked info)) =
-      last_quiet n place h.pairs dialogue quiet (message_of (standing_of dialogue h.pairs state context)
-      (Request.dialogue (DialogueRequest.uni asked info)))
-  accepted_quiet state context (Request.dialogue (DialogueRequest.begin asked info)) =
-      sent_silent n place (message_of (standing_of dialogue h.pairs state context)
-      (Request.dialogue (DialogueRequest.begin asked info)))
+  accepted_quiet state context (Request.dialogue (DialogueRequest.uni to asked info)) =
+      last_quiet n place h.pairs dialogue quiet (standing_of dialogue h.pairs state context)
+      (Request.dialogue (DialogueRequest.uni to asked info))
+  accepted_quiet state context (Request.dialogue (DialogueRequest.begin to asked info)) =
+      asked_silent n place h.pairs (standing_of dialogue h.pairs state context)
+      (Request.dialogue (DialogueRequest.begin to asked info))
   accepted_quiet state context (Request.dialogue (DialogueRequest.go_on asked info)) =
-      sent_silent n place (message_of (standing_of dialogue h.pairs state context)
-      (Request.dialogue (DialogueRequest.go_on asked info)))
+      asked_silent n place h.pairs (standing_of dialogue h.pairs state context)
+      (Request.dialogue (DialogueRequest.go_on asked info))
   accepted_quiet state context (Request.dialogue (DialogueRequest.finish ending asked info)) =
-      last_quiet n place h.pairs dialogue quiet (message_of (standing_of dialogue h.pairs state context)
-      (Request.dialogue (DialogueRequest.finish ending asked info)))
+      last_quiet n place h.pairs dialogue quiet (standing_of dialogue h.pairs state context)
+      (Request.dialogue (DialogueRequest.finish ending asked info))
   accepted_quiet state context (Request.dialogue (DialogueRequest.u_abort why info)) =
-      last_quiet n place h.pairs dialogue quiet (message_of (standing_of dialogue h.pairs state context)
-      (Request.dialogue (DialogueRequest.u_abort why info)))
+      last_quiet n place h.pairs dialogue quiet (standing_of dialogue h.pairs state context)
+      (Request.dialogue (DialogueRequest.u_abort why info))
 
   pub request_quiet : (r : Request) (l : Life) (f : Option Fault)
       → told_by_answer n place (Event.on_dialogue dialogue r) (request_answer h dialogue r l f) ≡ []

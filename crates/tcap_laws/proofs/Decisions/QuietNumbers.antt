@@ -32,6 +32,7 @@ use Rattle.tcap_model.specs.Invocations.SentThere.{marks_up_to, if_sent}
 use Rattle.tcap_model.specs.Replies.Reply.{birth_answer, ended_in, lapses, is_idle_by, idle_dialogues, marks_up_to_moment, idle_told, moment_answer, reply}
 use Rattle.tcap_model.specs.Invocations.Span.{span}
 use Rattle.tcap_model.specs.Words.Time.{moment_fault}
+use Rattle.tcap_model.specs.Words.Address.{Address}
 
 -- whatever invocation has the number is decided
 abbrev pub IsSettled : ℕ → Past → Type 0
@@ -185,18 +186,19 @@ module _ (start : Start) (past place : Past) (n : ℕ) (legal : AreReplies start
           ∙ (ap (λ z. z ++ told n place (flat_map (idle_told past now) (idle_dialogues idle_ms past now)))
           (lapses_quiet now) ∙ idles_quiet idle_ms now))
 
-  bytes_wanted : (bytes : List ℕ) → Wants n place h 0 bytes []
-  bytes_wanted bytes = record {
+  bytes_wanted : (from : Address) (bytes : List ℕ) → Wants n place h 0 from bytes []
+  bytes_wanted from bytes = record {
     elsewhere = λ d e. all_quiet d;
     next = all_quiet (next_dialogue h);
     unnamed = λ e. refl;
     dead = λ e. refl;
-    taken = λ m e live q. taken_quiet n place past 0 (all_quiet 0) (life 0 past) m;
+    taken = λ m e live q. taken_quiet n place past 0 (all_quiet 0) (life 0 past) from m;
     broken = λ f e live q. ends_quiet 0 [];
   }
 
   pub reply_quiet : (event : Event) → told_by_answer n place event (reply h event) ≡ []
   reply_quiet Event.new_dialogue = birth_quiet (birth_due h)
   reply_quiet (Event.on_dialogue d r) = request_quiet n place h d (all_quiet d) r (life d past) (due h d r)
-  reply_quiet (Event.received bytes) = reception_tells n place h 0 bytes [] (bytes_wanted bytes) (is_some (birth_due h))
+  reply_quiet (Event.received from bytes) = reception_tells n place h 0 from bytes [] (bytes_wanted from bytes)
+      (is_some (birth_due h))
   reply_quiet (Event.moment now) = moment_quiet start.idle_ms now (moment_fault now)

@@ -8,9 +8,15 @@ use Rattle.tcap_laws.proofs.Receptions.HandledComponents.{ComesOf, comes_of}
 use Rattle.tcap_model.specs.Procedures.AbortRules.{abort_told, sent_if_any}
 use Rattle.tcap_model.specs.Invocations.Closings.{Told, told_by_output}
 use Rattle.tcap_model.specs.Procedures.ComponentHandling.{Item, SentInvocation, Handled, handled, invoke_handled, uni_told}
+use Rattle.tcap_model.specs.Words.Request.{Request}
 use Rattle.tcap_model.specs.Words.Output.{Output}
 use Rattle.tcap_model.specs.Histories.Pair.{Past}
 use Rattle.tcap_pdu.specs.FrameSpelling.{Message, Reason}
+use Rattle.tcap_model.specs.Words.Address.{Address}
+use Rattle.tcap_model.specs.Histories.Kept.{kept_address}
+use Rattle.tcap_model.specs.Replies.Reply.{request_sent}
+use Rattle.tcap_model.specs.Procedures.RequestMessage.{request_address, message_of}
+use Rattle.tcap_model.specs.Procedures.Standing.{Standing}
 
 -- what some outputs tell of the number n, at a place
 abbrev pub told : ℕ → Past → List Output → List Told
@@ -57,9 +63,12 @@ module _ (n : ℕ) (place : Past) where
 
   -- ---- outputs that are about no invocation
 
-  pub sent_silent : (message : Option Message) → told n place (sent_if_any message) ≡ []
-  sent_silent None = refl
-  sent_silent (Some m) = refl
+  pub sent_silent : (to : Address) (message : Option Message) → told n place (sent_if_any to message) ≡ []
+  sent_silent to None = refl
+  sent_silent to (Some m) = refl
+
+  pub asked_silent : (past : Past) (d : Standing) (r : Request) → told n place (request_sent past d r) ≡ []
+  asked_silent past d r = sent_silent (request_address (kept_address d.identifier past) r) (message_of d r)
 
   pub abort_silent : (d : ℕ) (reason : Reason) → told_by_output n place (abort_told d reason) ≡ []
   abort_silent = of-abort (λ output. told_by_output n place output ≡ []) (λ d pdu. refl) (λ d why. refl)

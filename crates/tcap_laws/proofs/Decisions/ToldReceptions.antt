@@ -1,19 +1,17 @@
 -- What received bytes tell of the number n, by what its dialogue tells.
 use Rattle.std.proofs.Common.{◌≡◌, ℕ, ◌==◌, Bool, true, false, cond, ◌||◌, nat_le, nat_lt, List, [], ◌∷◌, ◌++◌, length, Option, Some, None, Result, Ok, Err, refl, ap, sym, ◌∙◌, subst, arith}
 use Rattle.std.proofs.lemmas.Bool.Decides.{nat_tests}
-use Rattle.std.specs.Prelude.{option_to_list}
 use Rattle.tcap_component.specs.ComponentReading.{components_of}
 use Rattle.tcap_laws.proofs.Decisions.QuietDialogues.{IsQuiet, components_quiet, taken_quiet}
 use Rattle.tcap_laws.proofs.Decisions.ToldOutputs.{told, told-append, uni_silent}
-use Rattle.tcap_model.specs.Procedures.AbortRules.{fault_cause}
+use Rattle.tcap_model.specs.Procedures.AbortRules.{fault_cause, sent_if_any}
 use Rattle.tcap_model.specs.Histories.Birth.{next_dialogue}
 use Rattle.tcap_model.specs.Invocations.Closings.{Told}
 use Rattle.tcap_model.specs.Procedures.Destination.{destination_by}
-use Rattle.tcap_model.specs.Words.Event.{Event}
 use Rattle.tcap_model.specs.Histories.History.{History}
 use Rattle.tcap_model.specs.Histories.Life.{life, live_in}
 use Rattle.tcap_model.specs.Words.LocalId.{dialogue_named, is_that}
-use Rattle.tcap_model.specs.Histories.Names.{names, named_within, is_destined}
+use Rattle.tcap_model.specs.Histories.Names.{named_within, is_destined}
 use Rattle.tcap_model.specs.Words.Output.{Output, AbortCause, DropCause, DialogueIndication}
 use Rattle.tcap_model.specs.Histories.Pair.{Past}
 use Rattle.tcap_model.specs.Procedures.PortionRules.{BeginVerdict, begin_verdict, PortionVerdict, uni_verdict}
@@ -24,44 +22,47 @@ use Rattle.tcap_pdu.specs.FrameReading.{frame_at}
 use Rattle.tcap_pdu.specs.FrameSpelling.{Message}
 use Rattle.tcap_pdu.specs.FrameWritten.{message_limit}
 use Rattle.tcap_pdu.specs.Front.{front_at}
+use Rattle.tcap_model.specs.Words.Address.{Address}
+use Rattle.tcap_laws.proofs.Receptions.BytesNames.{names_in}
 
 abbrev pub is_live_in : History → ℕ → Bool
 is_live_in h dialogue = live_in (life dialogue h.pairs)
 
 -- what is wanted of some bytes: nothing where they don't name the dialogue, or where it isn't live; else
 -- what the dialogue tells of the message, or of its end
-pub record Wants (n : ℕ) (place : Past) (h : History) (dialogue : ℕ) (bytes : List ℕ) (wanted : List Told) : Type 0
+pub record Wants (n : ℕ) (place : Past) (h : History) (dialogue : ℕ) (from : Address) (bytes : List ℕ)
+    (wanted : List Told) : Type 0
   where
     pub elsewhere : (d : ℕ) → (d == dialogue) ≡ false → IsQuiet n place h.pairs d
     pub next : IsQuiet n place h.pairs (next_dialogue h)
-    pub unnamed : names (Event.received bytes) dialogue ≡ false → wanted ≡ []
+    pub unnamed : names_in bytes dialogue ≡ false → wanted ≡ []
     pub dead : is_live_in h dialogue ≡ false → wanted ≡ []
-    pub taken : (m : Message) → names (Event.received bytes) dialogue ≡ true → is_live_in h dialogue ≡ true
-        → frame_at bytes ≡ Ok m → told n place (taken_outputs dialogue h.pairs (life dialogue h.pairs) m) ≡ wanted
-    pub broken : (f : FrameFault) → names (Event.received bytes) dialogue ≡ true → is_live_in h dialogue ≡ true
+    pub taken : (m : Message) → names_in bytes dialogue ≡ true → is_live_in h dialogue ≡ true
+        → frame_at bytes ≡ Ok m → told n place (taken_outputs dialogue h.pairs (life dialogue h.pairs) from m) ≡ wanted
+    pub broken : (f : FrameFault) → names_in bytes dialogue ≡ true → is_live_in h dialogue ≡ true
         → frame_at bytes ≡ Err f → told n place (ended_in dialogue h.pairs []) ≡ wanted
 
-module _ (n : ℕ) (place : Past) (h : History) (dialogue : ℕ) (bytes : List ℕ) (wanted : List Told)
-    (w : Wants n place h dialogue bytes wanted) where
+module _ (n : ℕ) (place : Past) (h : History) (dialogue : ℕ) (from : Address) (bytes : List ℕ) (wanted : List Told)
+    (w : Wants n place h dialogue from bytes wanted) where
   abbrev Tells : Reception → Type 0
-  Tells r = told n place (reception_outputs h r) ≡ wanted
+  Tells r = told n place (reception_outputs h from r) ≡ wanted
 
   named_is : nat_lt message_limit (length bytes) ≡ false → (r : Result Message FrameFault) → frame_at bytes ≡ r
-      → names (Event.received bytes) dialogue ≡ is_destined dialogue (destination_by bytes r)
+      → names_in bytes dialogue ≡ is_destined dialogue (destination_by bytes r)
   named_is short r q =
       let within : nat_le (length bytes) message_limit ≡ true = grind (arith, nat_tests) in
       ap (λ b. named_within b dialogue bytes) within ∙ ap (λ r. is_destined dialogue (destination_by bytes r)) q
 
   -- a destination, whatever becomes of it where no live dialogue has it
   addressed_tells : (octets : List ℕ) (by : Option ℕ → Reception)
-      → names (Event.received bytes) dialogue ≡ is_destined dialogue (Some octets)
+      → names_in bytes dialogue ≡ is_destined dialogue (Some octets)
       → (wanted ≡ [] → Tells (by None)) → ((d : ℕ) → IsQuiet n place h.pairs d → wanted ≡ [] → Tells (by (Some d)))
-      → (names (Event.received bytes) dialogue ≡ true → is_live_in h dialogue ≡ true → Tells (by (Some dialogue)))
+      → (names_in bytes dialogue ≡ true → is_live_in h dialogue ≡ true → Tells (by (Some dialogue)))
       → Tells (by (addressed (is_live_in h) octets))
   addressed_tells octets by named none other here = go (dialogue_named octets) named
     where
       at : (d : ℕ) (live same : Bool) → is_live_in h d ≡ live → (d == dialogue) ≡ same
-          → names (Event.received bytes) dialogue ≡ (d == dialogue) → Tells (by (cond live (Some d) None))
+          → names_in bytes dialogue ≡ (d == dialogue) → Tells (by (cond live (Some d) None))
       at d false true p q e =
           let is : d ≡ dialogue = grind (arith, nat_tests) in
           none (w.dead (ap (is_live_in h) (sym is) ∙ p))
@@ -71,7 +72,7 @@ module _ (n : ℕ) (place : Past) (h : History) (dialogue : ℕ) (bytes : List �
           subst (λ (d : ℕ). Tells (by (Some d))) (sym is) (here (e ∙ q) (ap (is_live_in h) (sym is) ∙ p))
       at d true false p q e = other d (w.elsewhere d q) (w.unnamed (e ∙ q))
 
-      go : (o : Option ℕ) → names (Event.received bytes) dialogue ≡ is_that dialogue o
+      go : (o : Option ℕ) → names_in bytes dialogue ≡ is_that dialogue o
           → Tells (by (live_named (is_live_in h) o))
       go None e = none (w.unnamed e)
       go (Some d) e = at d (is_live_in h d) (d == dialogue) refl refl e
@@ -106,23 +107,23 @@ module _ (n : ℕ) (place : Past) (h : History) (dialogue : ℕ) (bytes : List �
   message_tells short is_full (Message.go_on origin to portion components) q =
       let m : Message = Message.go_on origin to portion components in
       addressed_tells to (λ o. continue_by o origin m) (named_is short (Ok m) q) (λ none. sym none)
-      (λ d quiet none. taken_quiet n place h.pairs d quiet (life d h.pairs) m ∙ sym none)
+      (λ d quiet none. taken_quiet n place h.pairs d quiet (life d h.pairs) from m ∙ sym none)
       (λ e live. w.taken m e live q)
   message_tells short is_full (Message.end to portion components) q =
       let m : Message = Message.end to portion components in
       addressed_tells to (λ o. final_message_by o m) (named_is short (Ok m) q) (λ none. sym none)
-      (λ d quiet none. taken_quiet n place h.pairs d quiet (life d h.pairs) m ∙ sym none)
+      (λ d quiet none. taken_quiet n place h.pairs d quiet (life d h.pairs) from m ∙ sym none)
       (λ e live. w.taken m e live q)
   message_tells short is_full (Message.abort to reason) q =
       let m : Message = Message.abort to reason in
       addressed_tells to (λ o. final_message_by o m) (named_is short (Ok m) q) (λ none. sym none)
-      (λ d quiet none. taken_quiet n place h.pairs d quiet (life d h.pairs) m ∙ sym none)
+      (λ d quiet none. taken_quiet n place h.pairs d quiet (life d h.pairs) from m ∙ sym none)
       (λ e live. w.taken m e live q)
 
   -- ---- faulty messages
 
   abort_told_of : (f : FrameFault) (origin : Option (List ℕ))
-      → told n place (option_to_list (fault_abort f origin)) ≡ []
+      → told n place (sent_if_any from (fault_abort f origin)) ≡ []
   abort_told_of f None = refl
   abort_told_of f (Some octets) = refl
 
@@ -134,13 +135,13 @@ module _ (n : ℕ) (place : Past) (h : History) (dialogue : ℕ) (bytes : List �
   broken_by : (f : FrameFault) (origin : Option (List ℕ)) (d cause : ℕ) → told n place (ended_in d h.pairs []) ≡ wanted
       → Tells (Reception.broken d (fault_abort f origin) cause)
   broken_by f origin d cause e =
-      told-append n place (option_to_list (fault_abort f origin))
+      told-append n place (sent_if_any from (fault_abort f origin))
       (Output.dialogue (DialogueIndication.p_abort d (AbortCause.cause cause)) ∷ ended_in d h.pairs [])
       ∙ (ap (λ z. z ++ told n place (ended_in d h.pairs [])) (abort_told_of f origin) ∙ e)
 
   -- a destination at the front of a faulty message
   front_tells : (front : Option (List ℕ)) (by : Option ℕ → Reception)
-      → names (Event.received bytes) dialogue ≡ is_destined dialogue front
+      → names_in bytes dialogue ≡ is_destined dialogue front
       → (wanted ≡ [] → Tells (by None)) → ((d : ℕ) → told n place (ended_in d h.pairs []) ≡ wanted
       → Tells (by (Some d))) → (f : FrameFault) → frame_at bytes ≡ Err f
       → Tells (by (addressed_if_any (is_live_in h) front))
@@ -150,19 +151,19 @@ module _ (n : ℕ) (place : Past) (h : History) (dialogue : ℕ) (bytes : List �
       (λ e live. some dialogue (w.broken f e live q))
 
   faulty_continue_tells : (f : FrameFault) (front origin : Option (List ℕ)) → frame_at bytes ≡ Err f
-      → names (Event.received bytes) dialogue ≡ is_destined dialogue front
+      → names_in bytes dialogue ≡ is_destined dialogue front
       → Tells (faulty_continue (addressed_if_any (is_live_in h) front) (fault_abort f origin) f)
   faulty_continue_tells f front origin q named =
       front_tells front (λ o. faulty_continue o (fault_abort f origin) f) named (λ none. aborted_tells none f origin)
       (λ d e. broken_by f origin d (fault_cause f) e) f q
 
   faulty_last_tells : (f : FrameFault) (front : Option (List ℕ)) → frame_at bytes ≡ Err f
-      → names (Event.received bytes) dialogue ≡ is_destined dialogue front
+      → names_in bytes dialogue ≡ is_destined dialogue front
       → Tells (faulty_last (addressed_if_any (is_live_in h) front) f)
   faulty_last_tells f front q named = front_tells front (λ o. faulty_last o f) named (λ none. sym none) (λ d e. e) f q
 
   first_tells : (f : FrameFault) (front origin : Option (List ℕ)) → frame_at bytes ≡ Err f → (a b c d : Bool)
-      → (a ≡ true → (b || c || d) ≡ false) → names (Event.received bytes) dialogue
+      → (a ≡ true → (b || c || d) ≡ false) → names_in bytes dialogue
       ≡ is_destined dialogue (cond (b || c || d) front None)
       → Tells (cond a (Reception.dropped DropCause.bad_message)
       (cond b (faulty_last (addressed_if_any (is_live_in h) front) f)
@@ -199,7 +200,8 @@ module _ (n : ℕ) (place : Past) (h : History) (dialogue : ℕ) (bytes : List �
   read_tells short is_full (Ok m) q = message_tells short is_full m q
   read_tells short is_full (Err f) q = faulty_tells f bytes refl short q
 
-  pub reception_tells : (is_full : Bool) → told n place (reception_outputs h (reception (is_live_in h) is_full bytes))
+  pub reception_tells : (is_full : Bool) →
+      told n place (reception_outputs h from (reception (is_live_in h) is_full bytes))
       ≡ wanted
   reception_tells is_full = go (nat_lt message_limit (length bytes)) refl
     where

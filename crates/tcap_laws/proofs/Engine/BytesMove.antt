@@ -1,9 +1,9 @@
 -- Received bytes move the engine as the history says.
-use Rattle.std.proofs.Common.{◌≡◌, ℕ, Bool, true, false, nat_eq, List, [], ◌∷◌, is_some, option_to_list, Option, Some}
+use Rattle.std.proofs.Common.{◌≡◌, ℕ, Bool, true, false, nat_eq, List, [], ◌∷◌, is_some, Option, Some}
 use Rattle.std.proofs.Common.{None, Result, Ok, Err, refl, sym, ap, subst, ◌∙◌}
 use Rattle.std.proofs.lemmas.Bool.{eq-eqb, true≢false}
 use Rattle.tcap_component.specs.ComponentReading.{components_of}
-use Rattle.tcap_laws.proofs.Births.BirthReplies.{none-begun, told-begun, sends-begun, if_sends-begun, taken-begun}
+use Rattle.tcap_laws.proofs.Births.BirthReplies.{told-begun, sent_first-begun, taken-begun}
 use Rattle.tcap_laws.proofs.Engine.DialoguesFound.{looked-up, live-alike, births-alike}
 use Rattle.tcap_laws.proofs.Engine.ReceptionsAlike.{reception-alike}
 use Rattle.tcap_laws.proofs.Engine.RequestsMove.{dialogue-moves}
@@ -31,7 +31,7 @@ use Rattle.tcap_model.specs.Replies.Reply.{ended_in, reception_outputs, reply, t
 use Rattle.tcap_model.specs.Statements.EngineMoves.{moved_at}
 use Rattle.tcap_model.specs.Table.Agreement.{setting_at}
 use Rattle.tcap_model.specs.Table.Dialogue.{Dialogue}
-use Rattle.tcap_model.specs.Table.EngineMove.{aborting, birth_fault_in, is_live_in, reached_in, received_in, told_first}
+use Rattle.tcap_model.specs.Table.EngineMove.{birth_fault_in, is_live_in, reached_in, received_in, told_first, sending_first}
 use Rattle.tcap_model.specs.Table.TableMove.{DialogueEvent, Moved, born, table_move}
 use Rattle.tcap_model.specs.Table.World.{dialogue_by, world_of}
 use Rattle.tcap_model.specs.Words.Answer.{Answer}
@@ -41,45 +41,48 @@ use Rattle.tcap_model.specs.Words.State.{is_live}
 use Rattle.tcap_pdu.specs.declared.fault.FrameFault.{FrameFault}
 use Rattle.tcap_pdu.specs.FrameReading.{frame_at}
 use Rattle.tcap_pdu.specs.FrameSpelling.{Message}
+use Rattle.tcap_model.specs.Words.Address.{Address}
+use Rattle.tcap_model.specs.Procedures.AbortRules.{sent_if_any}
 
 -- the dialogue that bytes reach
 abbrev reaches : Reception → Option ℕ
 reaches (Reception.dropped why) = None
-reaches (Reception.aborted abort) = None
+reaches (Reception.aborted aborting) = None
 reaches (Reception.unidirectional context info components) = None
 reaches (Reception.begun origin context info components) = None
 reaches (Reception.taken dialogue message) = Some dialogue
-reaches (Reception.broken dialogue abort cause) = Some dialogue
+reaches (Reception.broken dialogue aborting cause) = Some dialogue
 
 module _ (h : History) (legal : IsLegal h) where
   -- ---- what a dialogue that takes a message answers
 
-  nothing_taken : (dialogue : ℕ) (l : Life) (portion : Option (List ℕ)) (components : List ℕ)
-      → taken_outputs dialogue h.pairs l (Message.unidirectional portion components) ≡ []
-  nothing_taken dialogue Life.unborn portion components = refl
-  nothing_taken dialogue (Life.standing state context) portion components = refl
-  nothing_taken dialogue Life.over portion components = refl
+  nothing_taken : (dialogue : ℕ) (l : Life) (from : Address) (portion : Option (List ℕ)) (components : List ℕ)
+      → taken_outputs dialogue h.pairs l from (Message.unidirectional portion components) ≡ []
+  nothing_taken dialogue Life.unborn from portion components = refl
+  nothing_taken dialogue (Life.standing state context) from portion components = refl
+  nothing_taken dialogue Life.over from portion components = refl
 
-  nothing_begun : (dialogue : ℕ) (l : Life) (origin : List ℕ) (portion : Option (List ℕ)) (components : List ℕ)
-      → taken_outputs dialogue h.pairs l (Message.begin origin portion components) ≡ []
-  nothing_begun dialogue Life.unborn origin portion components = refl
-  nothing_begun dialogue (Life.standing state context) origin portion components = refl
-  nothing_begun dialogue Life.over origin portion components = refl
+  nothing_begun : (dialogue : ℕ) (l : Life) (from : Address) (origin : List ℕ) (portion : Option (List ℕ))
+      (components : List ℕ)
+      → taken_outputs dialogue h.pairs l from (Message.begin origin portion components) ≡ []
+  nothing_begun dialogue Life.unborn from origin portion components = refl
+  nothing_begun dialogue (Life.standing state context) from origin portion components = refl
+  nothing_begun dialogue Life.over from origin portion components = refl
 
-  message_answers : (dialogue : ℕ) (d : Dialogue) (m : Message)
+  message_answers : (dialogue : ℕ) (d : Dialogue) (from : Address) (m : Message)
       → dialogue_by h.start.reject_ms h.start.idle_ms dialogue h.pairs (life dialogue h.pairs) ≡ Some d
-      → (table_move (setting_at h) d (DialogueEvent.frame m)).answer ≡ Answer.outputs
-      (taken_outputs dialogue h.pairs (life dialogue h.pairs) m)
+      → (table_move (setting_at h) d (DialogueEvent.frame from m)).answer ≡ Answer.outputs
+      (taken_outputs dialogue h.pairs (life dialogue h.pairs) from m)
   unfolding table_move
-  message_answers dialogue d (Message.unidirectional portion components) e =
-      ap Answer.outputs (sym (nothing_taken dialogue (life dialogue h.pairs) portion components))
-  message_answers dialogue d (Message.begin origin portion components) e =
-      ap Answer.outputs (sym (nothing_begun dialogue (life dialogue h.pairs) origin portion components))
-  message_answers dialogue d (Message.go_on origin to portion components) e =
-      continue-agrees h dialogue legal d origin to portion components e
-  message_answers dialogue d (Message.end to portion components) e =
-      end-answered h dialogue legal d to portion components e
-  message_answers dialogue d (Message.abort to reason) e = abort-agrees h dialogue legal d to reason e
+  message_answers dialogue d from (Message.unidirectional portion components) e =
+      ap Answer.outputs (sym (nothing_taken dialogue (life dialogue h.pairs) from portion components))
+  message_answers dialogue d from (Message.begin origin portion components) e =
+      ap Answer.outputs (sym (nothing_begun dialogue (life dialogue h.pairs) from origin portion components))
+  message_answers dialogue d from (Message.go_on origin to portion components) e =
+      continue-agrees h dialogue legal d from origin to portion components e
+  message_answers dialogue d from (Message.end to portion components) e =
+      end-answered h dialogue legal d from to portion components e
+  message_answers dialogue d from (Message.abort to reason) e = abort-agrees h dialogue legal d from to reason e
 
   -- ---- the dialogues that are live
 
@@ -89,9 +92,9 @@ module _ (h : History) (legal : IsLegal h) where
   stands i (Life.standing state context) e = (standing_dialogue h i state context, refl, e)
   stands i Life.over e = absurd (true≢false (sym e))
 
-  module _ (bytes : List ℕ) where
+  module _ (from : Address) (bytes : List ℕ) where
     abbrev event : Event
-    event = Event.received bytes
+    event = Event.received from bytes
 
     abbrev live : ℕ → Bool
     live dialogue = live_in (life dialogue h.pairs)
@@ -107,8 +110,8 @@ module _ (h : History) (legal : IsLegal h) where
         go (Err f) e = ap reaches (named-broken live full i bytes named lives f e)
 
     module _ (r : Reception) (e : reception live full bytes ≡ r) where
-      answered : reply h event ≡ Answer.outputs (reception_outputs h r)
-      answered = ap (λ z. Answer.outputs (reception_outputs h z)) e
+      answered : reply h event ≡ Answer.outputs (reception_outputs h from r)
+      answered = ap (λ z. Answer.outputs (reception_outputs h from z)) e
 
       -- all that aren't reached stay
       stays : (i : ℕ) (d : Dialogue) → before h event i ≡ Some d → (reaches r ≡ Some i → ⊥) → later h event i ≡ Some d
@@ -119,7 +122,7 @@ module _ (h : History) (legal : IsLegal h) where
 
           go : (n : Bool) → names event i ≡ n → (l : Bool) → is_live d.standing.state ≡ l → later h event i ≡ Some d
           go false p l q = unnamed-stays h i d event legal there p
-          go true p false q = deaf-stays h i d bytes legal there p q
+          go true p false q = deaf-stays h i d from bytes legal there p q
           go true p true q = absurd (apart (sym (ap reaches e) ∙ reached i p (alive ∙ q)))
 
       others : born_by (here h event) ≡ None → (dialogue : ℕ) → reaches r ≡ Some dialogue → (i : ℕ)
@@ -136,89 +139,86 @@ module _ (h : History) (legal : IsLegal h) where
               inside x y q = cc
 
       -- bytes that reach none
-      none_moves : reaches r ≡ None → born_of event (Answer.outputs (reception_outputs h r)) ≡ None
-          → record { answer = Answer.outputs (reception_outputs h r); after = world_of h } ≡ moved_at h event
+      none_moves : reaches r ≡ None → born_of event (Answer.outputs (reception_outputs h from r)) ≡ None
+          → record { answer = Answer.outputs (reception_outputs h from r); after = world_of h } ≡ moved_at h event
       none_moves none unborn =
-          moved-made h event (Answer.outputs (reception_outputs h r)) (world_of h) (sym answered)
+          moved-made h event (Answer.outputs (reception_outputs h from r)) (world_of h) (sym answered)
           (world-stays h event (ap (born_of event) answered ∙ unborn) refl refl
           (λ i d there. stays i d there (λ some. let never : None ≡ Some i = sym none ∙ some in absurd cc)))
 
     -- a message that a dialogue takes
     taken_moves : (dialogue : ℕ) (m : Message) → reception live full bytes ≡ Reception.taken dialogue m
-        → received_in (world_of h) (Reception.taken dialogue m) ≡ moved_at h event
+        → received_in (world_of h) from (Reception.taken dialogue m) ≡ moved_at h event
     taken_moves dialogue m e =
         let reached_it : IsNamed live bytes (Reception.taken dialogue m) =
         subst (λ (z : Reception). IsNamed live bytes z) e (reception-named live full bytes) in
         let it = stands dialogue (life dialogue h.pairs) reached_it.1 in
         let none : born_by (here h event) ≡ None =
         ap (born_of event) (answered (Reception.taken dialogue m) e)
-        ∙ taken-begun dialogue h.pairs (life dialogue h.pairs) m in
-        ap (reached_in (world_of h) dialogue None (DialogueEvent.frame m)) (looked-up h legal dialogue (Some it.0) it.1)
+        ∙ taken-begun dialogue h.pairs (life dialogue h.pairs) from m in
+        ap (reached_in (world_of h) dialogue [] (DialogueEvent.frame from m))
+        (looked-up h legal dialogue (Some it.0) it.1)
         ∙ dialogue-moves h event dialogue it.0 it.1
-        (aborting None (table_move (setting_at h) it.0 (DialogueEvent.frame m)))
-        (ap (told_first []) (message_answers dialogue it.0 m it.1) ∙ sym (answered (Reception.taken dialogue m) e))
+        (sending_first [] (table_move (setting_at h) it.0 (DialogueEvent.frame from m)))
+        (ap (told_first []) (message_answers dialogue it.0 from m it.1) ∙ sym (answered (Reception.taken dialogue m) e))
         (next-kept h event none) refl (dialogues-kept h event none)
-        (taken-moves h dialogue it.0 bytes m legal it.1 reached_it.0 it.2 reached_it.2)
+        (taken-moves h dialogue it.0 from bytes m legal it.1 reached_it.0 it.2 reached_it.2)
         (others (Reception.taken dialogue m) e none dialogue refl)
 
     -- a faulty message that ends a dialogue
-    broken_moves : (dialogue : ℕ) (abort : Option Output) (cause : ℕ)
-        → reception live full bytes ≡ Reception.broken dialogue abort cause
-        → received_in (world_of h) (Reception.broken dialogue abort cause) ≡ moved_at h event
-    broken_moves dialogue abort cause e =
-        let reached_it : IsNamed live bytes (Reception.broken dialogue abort cause) =
+    broken_moves : (dialogue : ℕ) (aborting : Option Message) (cause : ℕ)
+        → reception live full bytes ≡ Reception.broken dialogue aborting cause
+        → received_in (world_of h) from (Reception.broken dialogue aborting cause) ≡ moved_at h event
+    broken_moves dialogue aborting cause e =
+        let reached_it : IsNamed live bytes (Reception.broken dialogue aborting cause) =
         subst (λ (z : Reception). IsNamed live bytes z) e (reception-named live full bytes) in
-        let sound : IsSound full bytes (Reception.broken dialogue abort cause) =
-        subst (λ (z : Reception). IsSound full bytes z) e (reception-sound live full bytes) in
         let it = stands dialogue (life dialogue h.pairs) reached_it.1 in
         let none : born_by (here h event) ≡ None =
-        ap (born_of event) (answered (Reception.broken dialogue abort cause) e)
-        ∙ if_sends-begun abort (Output.dialogue (DialogueIndication.p_abort dialogue (AbortCause.cause cause))
-        ∷ ended_in dialogue h.pairs []) sound
+        ap (born_of event) (answered (Reception.broken dialogue aborting cause) e)
+        ∙ sent_first-begun from aborting (Output.dialogue (DialogueIndication.p_abort dialogue (AbortCause.cause cause))
+        ∷ ended_in dialogue h.pairs [])
         (told-begun (ended_in dialogue h.pairs []) (ended-told dialogue h.pairs [])) in
-        ap (reached_in (world_of h) dialogue abort (DialogueEvent.fault cause))
+        ap (reached_in (world_of h) dialogue (sent_if_any from aborting) (DialogueEvent.fault cause))
         (looked-up h legal dialogue (Some it.0) it.1)
         ∙ dialogue-moves h event dialogue it.0 it.1
-        (aborting abort (table_move (setting_at h) it.0 (DialogueEvent.fault cause)))
-        (ap (told_first (option_to_list abort)) (fault-agrees h dialogue legal it.0 cause it.1)
-        ∙ sym (answered (Reception.broken dialogue abort cause) e))
+        (sending_first (sent_if_any from aborting) (table_move (setting_at h) it.0 (DialogueEvent.fault cause)))
+        (ap (told_first (sent_if_any from aborting)) (fault-agrees h dialogue legal it.0 cause it.1)
+        ∙ sym (answered (Reception.broken dialogue aborting cause) e))
         (next-kept h event none) refl (dialogues-kept h event none)
-        (broken-moves h dialogue it.0 bytes reached_it.2 cause legal it.1 reached_it.0 it.2 reached_it.3)
-        (others (Reception.broken dialogue abort cause) e none dialogue refl)
+        (broken-moves h dialogue it.0 from bytes reached_it.2 cause legal it.1 reached_it.0 it.2 reached_it.3)
+        (others (Reception.broken dialogue aborting cause) e none dialogue refl)
 
     -- a Begin that is accepted
     begun_moves : (origin : List ℕ) (context : Option (List ℕ)) (info components : List ℕ)
         → reception live full bytes ≡ Reception.begun origin context info components
-        → received_in (world_of h) (Reception.begun origin context info components) ≡ moved_at h event
+        → received_in (world_of h) from (Reception.begun origin context info components) ≡ moved_at h event
     begun_moves origin context info components e =
         let sound : IsSound full bytes (Reception.begun origin context info components) =
         subst (λ (z : Reception). IsSound full bytes z) e (reception-sound live full bytes) in
         let m : Moved =
-        born (setting_at h) (next_dialogue h) h.start.reject_ms h.start.idle_ms origin context info components in
-        moved-made h event m.answer (received_in (world_of h) (Reception.begun origin context info components)).after
-        (begun-answered h legal bytes origin context info components e)
+        born (setting_at h) (next_dialogue h) h.start.reject_ms h.start.idle_ms from origin context info components in
+        moved-made h event m.answer
+        (received_in (world_of h) from (Reception.begun origin context info components)).after
+        (begun-answered h legal from bytes origin context info components e)
         (world-born h event legal (ap (born_of event)
         (answered (Reception.begun origin context info components) e)) m.after refl refl
-        (begun-born h legal bytes origin context info components e sound.0 sound.1)
+        (begun-born h legal from bytes origin context info components e sound.0 sound.1)
         (λ i d there. stays (Reception.begun origin context info components) e i d there (λ some. absurd cc)))
 
-    by_reception : (r : Reception) → reception live full bytes ≡ r → received_in (world_of h) r ≡ moved_at h event
+    by_reception : (r : Reception) → reception live full bytes ≡ r → received_in (world_of h) from r ≡ moved_at h event
     by_reception (Reception.dropped why) e = none_moves (Reception.dropped why) e refl refl
-    by_reception (Reception.aborted abort) e =
-        let sound : IsSound full bytes (Reception.aborted abort) =
-        subst (λ (z : Reception). IsSound full bytes z) e (reception-sound live full bytes) in
-        none_moves (Reception.aborted abort) e refl (none-begun abort [] (sends-begun abort sound) refl)
+    by_reception (Reception.aborted aborting) e = none_moves (Reception.aborted aborting) e refl refl
     by_reception (Reception.unidirectional context info components) e =
         none_moves (Reception.unidirectional context info components) e refl
         (told-begun (uni_told (components_of components)) (uni-told (components_of components)))
     by_reception (Reception.begun origin context info components) e = begun_moves origin context info components e
     by_reception (Reception.taken dialogue m) e = taken_moves dialogue m e
-    by_reception (Reception.broken dialogue abort cause) e = broken_moves dialogue abort cause e
+    by_reception (Reception.broken dialogue aborting cause) e = broken_moves dialogue aborting cause e
 
-    pub bytes-move : received_in (world_of h)
+    pub bytes-move : received_in (world_of h) from
         (reception (is_live_in (world_of h).dialogues) (is_some (birth_fault_in (world_of h))) bytes) ≡ moved_at h event
     bytes-move =
-        ap (received_in (world_of h))
+        ap (received_in (world_of h) from)
         (reception-alike (is_live_in (world_of h).dialogues) live (live-alike h legal)
         (is_some (birth_fault_in (world_of h))) bytes
         ∙ ap (λ f. reception live (is_some f) bytes) (births-alike h))

@@ -26,7 +26,7 @@ pub move-is-said : EachMoveIsSaid
 unfolding engine_move
 move-is-said h Event.new_dialogue legal within = births-move h legal
 move-is-said h (Event.on_dialogue dialogue request) legal within = requests-move h legal dialogue request within
-move-is-said h (Event.received bytes) legal within = bytes-move h legal bytes
+move-is-said h (Event.received from bytes) legal within = bytes-move h legal from bytes
 move-is-said h (Event.moment now) legal within = moments-move h legal now
 
 pub moves-alike : EachMovesAlike
@@ -55,7 +55,7 @@ clock_step : (h : History) (event : Event) → clock h.pairs ≤ moment_limit
     → clock_after (clock h.pairs) event (is_accepted (reply h event)) ≤ moment_limit
 clock_step h Event.new_dialogue within = within
 clock_step h (Event.on_dialogue dialogue request) within = within
-clock_step h (Event.received bytes) within = within
+clock_step h (Event.received from bytes) within = within
 clock_step h (Event.moment now) within = go (moment_fault now) refl
   where
     accepted : now ≤ moment_limit → (b : Bool) → clock_after (clock h.pairs) (Event.moment now) b ≤ moment_limit

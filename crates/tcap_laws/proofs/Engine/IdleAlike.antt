@@ -18,6 +18,7 @@ use Rattle.tcap_model.specs.Words.KeyOrder.{comes_before, key_before, put, in_or
 use Rattle.tcap_model.specs.Words.Output.{Output, AbortCause, DialogueIndication}
 use Rattle.tcap_model.specs.Words.State.{State, is_live}
 use Rattle.tcap_model.specs.Words.Time.{is_idle}
+use Rattle.tcap_model.specs.Histories.Kept.{kept_address}
 
 -- ---- what is made of each, in order
 
@@ -85,6 +86,7 @@ module _ (start : Start) (past : Past) (legal : AreReplies start past) (now reje
         invocations = record { reject_ms = reject_ms; rows = rows_of reject_ms dialogue past };
         idle_ms = idle_ms;
         touched = touched dialogue past;
+        kept = kept_address dialogue past;
       }
 
   abbrev idle : List ℕ → List ℕ

@@ -16,7 +16,7 @@ use Rattle.tcap_laws.proofs.Spans.MarksAfterBirth.{noted_at_clock}
 use Rattle.tcap_laws.proofs.Spans.SentClocks.{at_moment}
 use Rattle.tcap_laws.proofs.Table.MessagesMovedAlike.{by_life}
 use Rattle.tcap_laws.proofs.Table.RequestsJudgedAlike.{standing_dialogue}
-use Rattle.tcap_laws.proofs.Table.StandingPairs.{life_named, queue_named, touched_named, assembled}
+use Rattle.tcap_laws.proofs.Table.StandingPairs.{life_named, queue_named, touched_named, assembled, kept_named}
 use Rattle.tcap_model.specs.Histories.Clock.{clock}
 use Rattle.tcap_model.specs.Histories.History.{History, Start}
 use Rattle.tcap_model.specs.Histories.Life.{Life, life, touched, life_by_event, life_by_moment, life_if_live, touches_as_event}
@@ -39,6 +39,9 @@ use Rattle.tcap_model.specs.Words.Fault.{Fault}
 use Rattle.tcap_model.specs.Words.State.{State, is_live}
 use Rattle.tcap_model.specs.Words.Time.{moment_fault, is_idle}
 use Rattle.tcap_pdu.specs.FrameReading.{frame_at}
+use Rattle.tcap_model.specs.Words.Address.{Address}
+use Rattle.tcap_laws.proofs.Receptions.BytesNames.{names_in}
+use Rattle.tcap_model.specs.Histories.Kept.{kept_address, kept_by_event, kept_by_message}
 
 -- ---- the rows, where a moment is below the clock
 
@@ -89,30 +92,35 @@ module _ (h : History) (dialogue : ℕ) (legal : IsLegal h) (state : State) (con
       ≡ Life.standing state context
       → queue_by_event dialogue h.pairs (queue dialogue h.pairs) event (reply h event) ≡ queue dialogue h.pairs
       → rows_of h.start.reject_ms dialogue (due_pair h event ∷ h.pairs) ≡ rows_of h.start.reject_ms dialogue h.pairs
-      → touches_as_event state context event (is_accepted (reply h event)) ≡ false → Stays event
-  stays_named event named same queued rows untouched =
+      → touches_as_event state context event (is_accepted (reply h event)) ≡ false
+      → kept_by_event (kept_address dialogue h.pairs) state context event (is_accepted (reply h event))
+      ≡ kept_address dialogue h.pairs → Stays event
+  stays_named event named same queued rows untouched kept =
       life_named h dialogue legal state context stands event named (Life.standing state context) same
       ∙ assembled h dialogue legal state context stands event state context (queue dialogue h.pairs)
-      (rows_of h.start.reject_ms dialogue h.pairs) (touched dialogue h.pairs)
+      (rows_of h.start.reject_ms dialogue h.pairs) (touched dialogue h.pairs) (kept_address dialogue h.pairs)
       (queue_named h dialogue legal state context stands event named ∙ queued) rows
       (touched_named h dialogue legal state context stands event named false untouched)
+      (kept_named h dialogue legal state context stands event named ∙ kept)
 
   -- ---- bytes to a dialogue that isn't live
 
-  deaf_stays : (bytes : List ℕ) → names (Event.received bytes) dialogue ≡ true → is_live state ≡ false
-      → Stays (Event.received bytes)
-  deaf_stays bytes named deaf =
-      stays_named (Event.received bytes) named (ap (λ b. life_if_live b state context bytes) deaf)
+  deaf_stays : (from : Address) (bytes : List ℕ) → names_in bytes dialogue ≡ true → is_live state ≡ false
+      → Stays (Event.received from bytes)
+  deaf_stays from bytes named deaf =
+      stays_named (Event.received from bytes) named (ap (λ b. life_if_live b state context bytes) deaf)
       (ap (λ l. queue_by_bytes dialogue h.pairs l (queue dialogue h.pairs) bytes) stands
       ∙ ap (λ b. cond b (queue_by_message dialogue h.pairs (Life.standing state context) (queue dialogue h.pairs)
       (frame_at bytes)) (queue dialogue h.pairs)) deaf)
-      (rows_kept h.start.reject_ms h.start (due_pair h (Event.received bytes)) h.pairs legal.1 refl dialogue
-      (λ k. standing_marks dialogue k (Event.received bytes)
-      (reply h (Event.received bytes)) h.start.idle_ms h.pairs state context stands named
+      (rows_kept h.start.reject_ms h.start (due_pair h (Event.received from bytes)) h.pairs legal.1 refl dialogue
+      (λ k. standing_marks dialogue k (Event.received from bytes)
+      (reply h (Event.received from bytes)) h.start.idle_ms h.pairs state context stands named
       ∙ ap (λ b. noted_at_clock (clock h.pairs) (unwrap_or (marks_if_live b k state context bytes)
       (end_if_over (Life.standing state context) (life_if_live b state context bytes)))) deaf)
-      (λ k u. and_false (is_accepted (reply h (Event.received bytes)))))
+      (λ k u. and_false (is_accepted (reply h (Event.received from bytes)))))
       (ap (λ b. b && touches_as_message state context (frame_at bytes)) deaf)
+      (ap (λ b. cond b (kept_by_message (kept_address dialogue h.pairs) from state context (frame_at bytes))
+      (kept_address dialogue h.pairs)) deaf)
 
   -- ---- moments
 
@@ -131,7 +139,7 @@ module _ (h : History) (dialogue : ℕ) (legal : IsLegal h) (state : State) (con
       (is_accepted (reply h (Event.moment now))))) same
       ∙ ap (λ b. noted_at_clock (clock h.pairs)
       (marks_by_event k (Life.standing state context) (Life.standing state context) (Event.moment now) b)) refused))
-      (λ k u. ap (λ b. b && nat_le u now) refused)) refl
+      (λ k u. ap (λ b. b && nat_le u now) refused)) refl refl
 
   early_stays : (now : ℕ) → moment_fault now ≡ None → now < clock h.pairs → Stays (Event.moment now)
   early_stays now e early =
@@ -139,7 +147,7 @@ module _ (h : History) (dialogue : ℕ) (legal : IsLegal h) (state : State) (con
       (ap (λ b. life_by_moment (b && is_idle h.start.idle_ms (touched dialogue h.pairs) now) state context) accepted
       ∙ same_life (is_live state) refl) refl
       (rows_still h.start h.pairs legal.1 now (reply h (Event.moment now)) accepted early h.start.reject_ms dialogue)
-      refl
+      refl refl
     where
       -- it hasn't stood still too long
       same_life : (b : Bool) → is_live state ≡ b
@@ -164,15 +172,16 @@ module _ (h : History) (dialogue : ℕ) (legal : IsLegal h) (state : State) (con
 
 -- ---- a dialogue that is found
 
-pub deaf-stays : (h : History) (dialogue : ℕ) (d : Dialogue) (bytes : List ℕ) → IsLegal h
+pub deaf-stays : (h : History) (dialogue : ℕ) (d : Dialogue) (from : Address) (bytes : List ℕ) → IsLegal h
     → dialogue_at h.start.reject_ms h.start.idle_ms h.pairs dialogue ≡ Some d
-    → names (Event.received bytes) dialogue ≡ true → is_live d.standing.state ≡ false
-    → dialogue_at h.start.reject_ms h.start.idle_ms (due_pair h (Event.received bytes) ∷ h.pairs) dialogue ≡ Some d
-deaf-stays h dialogue d bytes legal e named =
+    → names_in bytes dialogue ≡ true → is_live d.standing.state ≡ false
+    → dialogue_at h.start.reject_ms h.start.idle_ms (due_pair h (Event.received from bytes) ∷ h.pairs) dialogue ≡ Some d
+deaf-stays h dialogue d from bytes legal e named =
     by_life (λ d. is_live d.standing.state ≡ false
-    → dialogue_at h.start.reject_ms h.start.idle_ms (due_pair h (Event.received bytes) ∷ h.pairs) dialogue ≡ Some d) h
+    → dialogue_at h.start.reject_ms h.start.idle_ms (due_pair h (Event.received from bytes) ∷ h.pairs) dialogue
+    ≡ Some d) h
     dialogue d
-    (λ state context q deaf. deaf_stays h dialogue legal state context q bytes named deaf) e
+    (λ state context q deaf. deaf_stays h dialogue legal state context q from bytes named deaf) e
 
 pub refused-stays : (h : History) (dialogue : ℕ) (d : Dialogue) (now : ℕ) (fault : Fault) → IsLegal h
     → dialogue_at h.start.reject_ms h.start.idle_ms h.pairs dialogue ≡ Some d → moment_fault now ≡ Some fault

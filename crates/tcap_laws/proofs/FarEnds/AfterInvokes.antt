@@ -13,7 +13,7 @@ use Rattle.tcap_model.specs.Invocations.Invocation.{Invocation, invocation_of, i
 use Rattle.tcap_model.specs.Replies.Legal.{AreReplies}
 use Rattle.tcap_model.specs.Histories.Life.{Life, life}
 use Rattle.tcap_model.specs.Words.LocalId.{local_id}
-use Rattle.tcap_model.specs.Statements.Net.{Engine, far, side, history_in, Net, IsNet}
+use Rattle.tcap_model.specs.Statements.Net.{Engine, side, history_in, Net, IsNet}
 use Rattle.tcap_model.specs.Words.Output.{Output, ComponentIndication}
 use Rattle.tcap_model.specs.Histories.Pair.{Pair, Past}
 use Rattle.tcap_model.specs.Statements.Places.{StandsIn, Tells}
@@ -28,7 +28,7 @@ use Rattle.tcap_laws.proofs.FarEnds.FarInvokes.{Facing, invoke-told, invoke-from
 use Rattle.tcap_laws.proofs.FarEnds.FarOrigins.{origin}
 use Rattle.tcap_laws.proofs.Peers.HeardPeers.{IsPeered}
 use Rattle.tcap_laws.proofs.Peers.NetPlaces.{happens-rest, happens-stands, IsAt, stands-happens}
-use Rattle.tcap_laws.proofs.Peers.OpenedApart.{NeverBegun, net-before, never-before}
+use Rattle.tcap_laws.proofs.Peers.OpenedApart.{NeverBegun, earlier_net, net-before, never-before}
 use Rattle.tcap_laws.proofs.Peers.OwnDialogues.{opened-never, opened-short}
 use Rattle.tcap_laws.proofs.FarEnds.PlacedTellings.{IsOf, RejectsInvoke, Placed, reply-placed}
 use Rattle.tcap_laws.proofs.FarEnds.SentInvokes.{HasSource, stands-for-invoke, source, invoke-sent, sent-later, operations}
@@ -88,11 +88,7 @@ answer-of past bytes born {id = id} (IsAnswer.a_reject problem) placed = (placed
     rejects kind.Result is = absurd is
     rejects kind.Error is = absurd is
 
--- ---- two engines
-
-far-far : (engine : Engine) → far (far engine) ≡ engine
-far-far Engine.a = refl
-far-far Engine.b = refl
+-- ---- the two ends
 
 is-peered : (peer : List ℕ) (l : Life) → peer_in l ≡ Some peer → IsPeered peer l
 is-peered peer Life.unborn e = absurd cc
@@ -108,9 +104,10 @@ stands-within pair before past whole stands part = record {
 }
 
 module _ (net : Net) (is : IsNet net) (answer : FarAnswer net.trace)
-    (orderly : IsOrderly answer.engine answer.dialogue net.trace) (asking : FarSource answer) where
+    (asking : FarSource net.places answer)
+    (orderly : IsOrderly answer.engine answer.dialogue asking.far net.trace) where
   abbrev other : Engine
-  other = far answer.engine
+  other = asking.far
 
   abbrev f : ℕ
   f = asking.is_request.far_dialogue
@@ -132,10 +129,10 @@ module _ (net : Net) (is : IsNet net) (answer : FarAnswer net.trace)
         tells = answer.tells;
         is_of_component = answer-indicates answer.is_answer;
       }) in
-      let placed = reply-placed h legal.2 told.bytes answer.output
+      let placed = reply-placed h legal.2 told.from told.bytes answer.output
       (subst (λ (e : Event). Tells (reply h e) answer.output) told.is_event
       (subst (λ (a : Answer). Tells a answer.output) legal.1 answer.tells)) in
-      answer-of (side answer.engine answer.before) told.bytes (born_on_message (reply h (Event.received told.bytes)))
+      answer-of (side answer.engine answer.before) told.bytes (born_on_message (reply h (Event.received told.from told.bytes)))
       answer.is_answer placed
 
   here-in : (e : Engine) → IsIn (side e answer.before) (side e net.trace)
@@ -166,10 +163,10 @@ module _ (net : Net) (is : IsNet net) (answer : FarAnswer net.trace)
   at = stands-happens other was.pair was.before asking.before was.stands
 
   abbrev then : Net
-  then = record { start = net.start; trace = asking.before }
+  then = earlier_net net asking.before
 
   then-is : IsNet then
-  then-is = net-before (record { start = net.start; trace = answer.before })
+  then-is = net-before (earlier_net net answer.before)
       (net-before net is answer.engine answer.pair answer.before answer.happens) other asking.pair asking.before
       asking.happens
 
@@ -185,13 +182,12 @@ module _ (net : Net) (is : IsNet net) (answer : FarAnswer net.trace)
   facing = record {
     engine = answer.engine;
     other = other;
-    is_far = refl;
-    is_near = far-far answer.engine;
     dialogue = answer.dialogue;
     far_dialogue = f;
     is_short = opened-short net is answer.engine answer.dialogue orderly.opened;
     never_begun = never;
     is_peered = peered;
+    is_kept = asking.is_request.is_kept;
   }
 
   abbrev told_invoke : ToldInvoke other (Some f) asking.before
@@ -212,7 +208,7 @@ module _ (net : Net) (is : IsNet net) (answer : FarAnswer net.trace)
   it : Carried then other at.before was.pair.event told
   it = invoke-told then then-is facing told_invoke
 
-  from-here : it.sent.dialogue ≡ answer.dialogue
+  from-here : (it.far ≡ answer.engine) × (it.sent.dialogue ≡ answer.dialogue)
   unfolding it
   from-here = invoke-from then then-is facing told_invoke
 
@@ -226,11 +222,11 @@ module _ (net : Net) (is : IsNet net) (answer : FarAnswer net.trace)
 
   was-sent : WasSent from.number (side answer.engine asking.before)
   was-sent =
-      let sent : WasSent from.number (side (far other) at.before) =
+      let sent : WasSent from.number (side it.far at.before) =
       invoke-sent then then-is other was.pair at.before at.happens told it answer.id was.linked was.code
       was.parameter from in
       subst (WasSent from.number) (sym at-in.1) (sent-later from.number at-in.0 (side answer.engine at.before)
-      (subst (λ (e : Engine). WasSent from.number (side e at.before)) (far-far answer.engine) sent))
+      (subst (λ (e : Engine). WasSent from.number (side e at.before)) from-here.0 sent))
 
   -- it is the Invoke of the invocation that is answered
   same : from.number ≡ answer.number
@@ -243,8 +239,8 @@ module _ (net : Net) (is : IsNet net) (answer : FarAnswer net.trace)
       (Request.component (ComponentRequest.invoke a.id a.class a.code a.parameter a.linked a.timeout)))) a.is_answer
       in
       let stands-at : StandsIn a.pair a.before (side answer.engine at.before) =
-      subst (λ (e : Engine). StandsIn a.pair a.before (side e at.before)) (far-far answer.engine)
-      (stands-before a.pair it.sender a.before it.past (side (far other) at.before) a.stands it.stands) in
+      subst (λ (e : Engine). StandsIn a.pair a.before (side e at.before)) from-here.0
+      (stands-before a.pair it.sender a.before it.past (side it.far at.before) a.stands it.stands) in
       let within = in-in (side answer.engine at.before) (side answer.engine asking.before)
       (side answer.engine net.trace) at-in (in-in (side answer.engine asking.before)
       (side answer.engine answer.before) (side answer.engine net.trace) (earlier-in answer.engine)
@@ -268,13 +264,13 @@ module _ (net : Net) (is : IsNet net) (answer : FarAnswer net.trace)
             m.stands (here-in answer.engine);
         makes = m.makes;
       } in
-      orderly.uses_once new old from-here of.dialogue_is (from.is_id ∙ sym of.id_is) ∙ of.number_is
+      orderly.uses_once new old from-here.1 of.dialogue_is (from.is_id ∙ sym of.id_is) ∙ of.number_is
 
   pub sent-before : WasSent answer.number (side answer.engine asking.before)
   sent-before = subst (λ (n : ℕ). WasSent n (side answer.engine asking.before)) same was-sent
 
-pub after-invoke : (net : Net) → IsNet net → AfterInvoke net.trace
-after-invoke net is answer orderly asking = sent-before net is answer orderly asking
+pub after-invoke : (net : Net) → IsNet net → AfterInvoke net.places net.trace
+after-invoke net is answer asking orderly = sent-before net is answer asking orderly
 
 -- ---- the whole
 

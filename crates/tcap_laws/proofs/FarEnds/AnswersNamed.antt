@@ -30,7 +30,7 @@ use Rattle.tcap_laws.proofs.FarEnds.WaitingInvokes.{IsNoInvoke}
 
 -- the component that an indication stands for
 abbrev component_told : Output → Option ComponentParts
-component_told (Output.send bytes) = None
+component_told (Output.send to bytes) = None
 component_told (Output.dialogue indication) = None
 component_told (Output.component (ComponentIndication.invoked dialogue id linked code parameter)) =
     Some (invoke id linked code parameter)

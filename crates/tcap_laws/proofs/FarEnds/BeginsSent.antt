@@ -1,6 +1,7 @@
 -- Parts of a history, and the request that sends a Begin.
 use Rattle.std.proofs.Common.{◌≡◌, ℕ, List, [], ◌∷◌, ◌++◌, Option, Some, None, refl, sym, ap, ◌∙◌, append_assoc}
 use Rattle.tcap_pdu.specs.FrameSpelling.{Message}
+use Rattle.tcap_model.specs.Words.Address.{Address}
 use Rattle.tcap_model.specs.Histories.Life.{Life}
 use Rattle.tcap_model.specs.Histories.Pair.{Pair, Past}
 use Rattle.tcap_model.specs.Statements.Places.{StandsIn}
@@ -71,12 +72,13 @@ refuses-none state (Some context) info is = aborts-none state (refusing_abort co
 
 abbrev pub IsBeginRequest : Request → Type 0
 IsBeginRequest request =
-    (context : Option (List ℕ)) × (info : List ℕ) × (request ≡ Request.dialogue (DialogueRequest.begin context info))
+    (to : Address) × (context : Option (List ℕ)) × (info : List ℕ)
+    × (request ≡ Request.dialogue (DialogueRequest.begin to context info))
 
 pub begin-request : (d : Standing) (request : Request) → IfAnyBegin (message_of d request) → IsBeginRequest request
 begin-request d (Request.component asked) is = absurd is
-begin-request d (Request.dialogue (DialogueRequest.uni context info)) is = absurd is
-begin-request d (Request.dialogue (DialogueRequest.begin context info)) is = (context, info, refl)
+begin-request d (Request.dialogue (DialogueRequest.uni to context info)) is = absurd is
+begin-request d (Request.dialogue (DialogueRequest.begin to context info)) is = (to, context, info, refl)
 begin-request d (Request.dialogue (DialogueRequest.go_on context info)) is =
     absurd (begins-none d d.state (answer_portion d.state d.context context info) is)
 begin-request d (Request.dialogue (DialogueRequest.finish Ending.basic context info)) is =

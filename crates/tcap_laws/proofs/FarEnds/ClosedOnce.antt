@@ -1,4 +1,4 @@
--- An invocation is closed at most once, on each of two sides.
+-- An invocation is closed at most once, on each side.
 use Rattle.std.proofs.Common.{ℕ, ◌≤◌, length, Option, Some, None, sym, ap, subst, arith}
 use Rattle.tcap_model.specs.Invocations.Closings.{Told}
 use Rattle.tcap_model.specs.Invocations.Decision.{decision, as_list}

@@ -9,12 +9,12 @@ use Rattle.tcap_component.specs.Problem.{is_by_provider}
 use Rattle.tcap_model.specs.Histories.Birth.{next_dialogue}
 use Rattle.tcap_model.specs.Procedures.ComponentHandling.{Item, SentInvocation, Handled, subject_of, handled}
 use Rattle.tcap_model.specs.Procedures.Reception.{Reception}
+use Rattle.tcap_model.specs.Words.Address.{Address}
 use Rattle.tcap_model.specs.Words.Event.{Event}
 use Rattle.tcap_model.specs.Histories.History.{History, Start}
 use Rattle.tcap_model.specs.Invocations.Invocation.{Invocation, invoked_by, latest, with_id, has_id}
 use Rattle.tcap_model.specs.Replies.Legal.{AreReplies}
 use Rattle.tcap_model.specs.Histories.Life.{Life, life, touched}
-use Rattle.tcap_model.specs.Histories.Names.{names}
 use Rattle.tcap_model.specs.Words.Output.{Output, Closing, Rejector, ComponentIndication}
 use Rattle.tcap_model.specs.Histories.Pair.{Past}
 use Rattle.tcap_model.specs.Replies.Reply.{reply}
@@ -23,6 +23,7 @@ use Rattle.tcap_laws.proofs.Births.DrawnDialogues.{beyond-unborn, unborn-life}
 use Rattle.tcap_laws.proofs.Spans.MarksAfterBirth.{was_alive, stays_alive}
 use Rattle.tcap_laws.proofs.Spans.DrawnInvocations.{draws}
 use Rattle.tcap_laws.proofs.Queues.FormedRejects.{IsSentOf, sent_there-of}
+use Rattle.tcap_laws.proofs.Receptions.BytesNames.{names_in}
 use Rattle.tcap_laws.proofs.Receptions.EachComponent.{IsReadIn}
 use Rattle.tcap_laws.proofs.Receptions.EachOutput.{HoldsBesides, HoldsOfEach, received_at, one-received}
 use Rattle.tcap_laws.proofs.Receptions.HandledComponents.{ComesOf, comes_of}
@@ -32,8 +33,9 @@ use Rattle.tcap_model.specs.Statements.ComponentPortion.{portion_of}
 
 -- ---- fair tellings
 
+-- bytes name a dialogue, from wherever they come
 abbrev pub IsNamedBy : List ℕ → ℕ → Type 0
-IsNamedBy bytes dialogue = names (Event.received bytes) dialogue ≡ true
+IsNamedBy bytes dialogue = names_in bytes dialogue ≡ true
 
 abbrev pub FairClosing : List ℕ → ℕ → Closing → Type 0
 FairClosing bytes dialogue (Closing.result_last body) = IsNamedBy bytes dialogue
@@ -47,7 +49,7 @@ FairClosing bytes dialogue Closing.ended = Unit {0}
 FairClosing bytes dialogue Closing.given_up = Unit {0}
 
 abbrev pub Fair : List ℕ → Output → Type 0
-Fair bytes (Output.send octets) = Unit {0}
+Fair bytes (Output.send to octets) = Unit {0}
 Fair bytes (Output.dialogue indication) = Unit {0}
 Fair bytes (Output.component (ComponentIndication.invoked dialogue id linked code parameter)) = Unit {0}
 Fair bytes (Output.component (ComponentIndication.result_more dialogue number id body)) = IsNamedBy bytes dialogue
@@ -150,12 +152,12 @@ next-reached bytes h legal earlier (Some id) =
 
 -- ---- all that is told
 
-module _ (h : History) (legal : AreReplies h.start h.pairs) (bytes : List ℕ) where
+module _ (h : History) (legal : AreReplies h.start h.pairs) (from : Address) (bytes : List ℕ) where
   besides-fair : HoldsBesides (Fair bytes)
   besides-fair =
-      record { sends = λ octets. tt; tells = λ indication. tt; ends = λ dialogue number id. tt; drops = λ why. tt }
+      record { sends = λ to octets. tt; tells = λ indication. tt; ends = λ dialogue number id. tt; drops = λ why. tt }
 
-  each-fair : (r : Reception) → HoldsOfEach (Fair bytes) h bytes r
+  each-fair : (r : Reception) → HoldsOfEach (Fair bytes) h from bytes r
   each-fair r = record {
     of_uni = λ m spelled item read. handled-fair bytes (portion_of m) None None item tt read;
     of_named = λ m spelled dialogue named earlier item read.
@@ -168,6 +170,6 @@ module _ (h : History) (legal : AreReplies h.start h.pairs) (bytes : List ℕ) w
         handled-fair bytes (portion_of m) (Some (next_dialogue h)) sent item reached read;
   }
 
-  pub reply-fair : (output : Output) → Tells (reply h (Event.received bytes)) output → Fair bytes output
+  pub reply-fair : (output : Output) → Tells (reply h (Event.received from bytes)) output → Fair bytes output
   reply-fair output tells =
-      one-received (Fair bytes) besides-fair h bytes (each-fair (received_at h bytes)) output tells
+      one-received (Fair bytes) besides-fair h from bytes (each-fair (received_at h bytes)) output tells

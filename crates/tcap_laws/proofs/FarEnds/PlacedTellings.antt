@@ -9,6 +9,7 @@ use Rattle.tcap_model.specs.Histories.Birth.{next_dialogue, first_begun, born_on
 use Rattle.tcap_model.specs.Procedures.ComponentHandling.{Item, SentInvocation, Handled, subject_of, handled}
 use Rattle.tcap_model.specs.Procedures.Problems.{is_of_answer}
 use Rattle.tcap_model.specs.Histories.History.{History, Start}
+use Rattle.tcap_model.specs.Words.Address.{Address}
 use Rattle.tcap_model.specs.Words.Event.{Event}
 use Rattle.tcap_model.specs.Invocations.Invocation.{Invocation, invocation_of, latest}
 use Rattle.tcap_model.specs.Replies.Legal.{AreReplies}
@@ -58,7 +59,7 @@ PlacedClosing past dialogue number id Closing.ended = Unit {0}
 PlacedClosing past dialogue number id Closing.given_up = Unit {0}
 
 abbrev pub Placed : Past → List ℕ → Option ℕ → Output → Type 0
-Placed past bytes born (Output.send octets) = Unit {0}
+Placed past bytes born (Output.send to octets) = Unit {0}
 Placed past bytes born (Output.dialogue indication) = Unit {0}
 Placed past bytes born (Output.component (ComponentIndication.invoked dialogue id linked code parameter)) =
     IsPlaced bytes born dialogue
@@ -137,18 +138,18 @@ module _ (past : Past) (bytes : List ℕ) (born : Option ℕ) where
 
   besides-placed : HoldsBesides (Placed past bytes born)
   besides-placed =
-      record { sends = λ octets. tt; tells = λ indication. tt; ends = λ dialogue number id. tt; drops = λ why. tt }
+      record { sends = λ to octets. tt; tells = λ indication. tt; ends = λ dialogue number id. tt; drops = λ why. tt }
 
 -- ---- all that is told
 
-module _ (h : History) (legal : AreReplies h.start h.pairs) (bytes : List ℕ) where
+module _ (h : History) (legal : AreReplies h.start h.pairs) (from : Address) (bytes : List ℕ) where
   abbrev born_then : Option ℕ
-  born_then = first_begun (reception_outputs h (received_at h bytes))
+  born_then = first_begun (reception_outputs h from (received_at h bytes))
 
   is-born : (born : Option ℕ) → born ≡ Some (next_dialogue h) → IsPlaced bytes born (Some (next_dialogue h))
   is-born born e = inr (ap (is_that (next_dialogue h)) e ∙ eq-eqb (next_dialogue h) (next_dialogue h) refl)
 
-  each-placed : HoldsOfEach (Placed h.pairs bytes born_then) h bytes (received_at h bytes)
+  each-placed : HoldsOfEach (Placed h.pairs bytes born_then) h from bytes (received_at h bytes)
   each-placed = record {
     of_uni = λ m spelled item read.
         handled-placed h.pairs bytes born_then None None item tt (none-about h.pairs (subject_of item));
@@ -162,7 +163,7 @@ module _ (h : History) (legal : AreReplies h.start h.pairs) (bytes : List ℕ) w
         handled-placed h.pairs bytes born_then (Some (next_dialogue h)) sent item (is-born born_then begun) about;
   }
 
-  pub reply-placed : (output : Output) → Tells (reply h (Event.received bytes)) output
-      → Placed h.pairs bytes (born_on_message (reply h (Event.received bytes))) output
+  pub reply-placed : (output : Output) → Tells (reply h (Event.received from bytes)) output
+      → Placed h.pairs bytes (born_on_message (reply h (Event.received from bytes))) output
   reply-placed =
-      one-received (Placed h.pairs bytes born_then) (besides-placed h.pairs bytes born_then) h bytes each-placed
+      one-received (Placed h.pairs bytes born_then) (besides-placed h.pairs bytes born_then) h from bytes each-placed

@@ -1,4 +1,4 @@
--- Each Invoke that is told was asked for by the far user, and was sent.
+-- Each Invoke that is told was asked for by the user of the engine from which it came, and was sent.
 use Rattle.std.proofs.Common.{◌≡◌, ℕ, ℤ, Bool, true, false, ◌||◌, List, [], ◌∷◌, ◌++◌, Option, Some, None, refl, sym, ap, subst, ◌∙◌, inl, inr}
 use Rattle.std.specs.List.{AllByRecursion}
 use Rattle.std.specs.Prelude.{is_some}
@@ -18,7 +18,7 @@ use Rattle.tcap_model.specs.Replies.Legal.{AreReplies}
 use Rattle.tcap_model.specs.Histories.Life.{Life, life_by_event, touched}
 use Rattle.tcap_model.specs.Invocations.Marks.{Mark, Noted, marks, marks_by_event}
 use Rattle.tcap_model.specs.Histories.Names.{names}
-use Rattle.tcap_model.specs.Statements.Net.{Engine, Trace, far, side, Net, IsNet}
+use Rattle.tcap_model.specs.Statements.Net.{Engine, Trace, side, Net, IsNet}
 use Rattle.tcap_model.specs.Invocations.Numbers.{number_of}
 use Rattle.tcap_model.specs.Invocations.Outcome.{outcome, outcome_of, was_sent_in}
 use Rattle.tcap_model.specs.Words.Output.{Output, ComponentIndication}
@@ -32,7 +32,7 @@ use Rattle.tcap_model.specs.Invocations.Span.{is_invoked, span}
 use Rattle.tcap_model.specs.Statements.TwoEnds.{WasSent, WasAsked, Operations}
 use Rattle.tcap_model.specs.Statements.FarAnswer.{Happens}
 use Rattle.tcap_laws.proofs.Spans.MarksAfterBirth.{noted_at_clock}
-use Rattle.tcap_laws.proofs.Peers.CarriedComponents.{Carried, carried, stands-before}
+use Rattle.tcap_laws.proofs.Peers.CarriedComponents.{Carried, carried, hears-far, stands-before}
 use Rattle.tcap_laws.proofs.Spans.DecisionSteps.{made_found, invocation_stays}
 use Rattle.tcap_laws.proofs.Spans.EventMarks.{standing_marks}
 use Rattle.tcap_laws.proofs.Spans.QueuedMarks.{IsStanding}
@@ -199,7 +199,7 @@ module _ (net : Net) (is : IsNet net) (engine : Engine) (pair : Pair) (before : 
       let sent = it.sent in
       let waits = queue sent.dialogue it.past in
       let all = joined-waits sent.dialogue it.past waits
-      (queue-waits (net.start (far engine)) sent.dialogue it.past it.is_legal.2
+      (queue-waits (net.start it.far) sent.dialogue it.past it.is_legal.2
       (subst IsStanding (sym sent.is_life) tt)) in
       let read = first_fault_again (told.earlier ++ told.component ∷ told.later) told.fault _ told.read in
       let whole = first_fault_again all.0 None (joined waits) (all-first all.0 (joined waits) all.1) in
@@ -213,13 +213,13 @@ module _ (net : Net) (is : IsNet net) (engine : Engine) (pair : Pair) (before : 
   pub invoke-sent : (output : Output) (it : Carried net engine before pair.event output) (id : ℤ) (linked : Option ℤ)
       (code : CodeParts) (parameter : Option (List ℕ))
       → (from : HasSource it.sent.dialogue it.past id linked code parameter) →
-      WasSent from.number (side (far engine) before)
+      WasSent from.number (side it.far before)
   invoke-sent output it id linked code parameter from =
       let asked = from.asked in
       let sent = it.sent in
       let sender : Pair = it.sender in
       let accepted : is_accepted sender.answer ≡ true =
-      answers-outputs sender.answer (Output.send it.told.bytes) it.tells in
+      answers-outputs sender.answer (Output.send it.to it.told.bytes) it.tells in
       let named : names sender.event sent.dialogue ≡ true =
       ap (λ (e : Event). names e sent.dialogue) sent.is_event ∙ eq-eqb sent.dialogue sent.dialogue refl in
       let none : invoked_by sender ≡ None =
@@ -240,12 +240,12 @@ module _ (net : Net) (is : IsNet net) (engine : Engine) (pair : Pair) (before : 
       ∙ marked.1)) in
       subst (WasSent from.number) (sym it.stands.is_past)
       (sent-later from.number it.stands.later (sender ∷ it.past)
-      (sent-here (net.start (far engine)) it.past sender it.is_legal.2 accepted from.octets
+      (sent-here (net.start it.far) it.past sender it.is_legal.2 accepted from.octets
       from.number sent.dialogue asked marked.0 none made))
 
   was-asked : (output : Output) (it : Carried net engine before pair.event output) (id : ℤ) (linked : Option ℤ)
       (code : CodeParts) (parameter : Option (List ℕ)) → HasSource it.sent.dialogue it.past id linked code parameter →
-      WasAsked id linked code parameter (side (far engine) before)
+      WasAsked id linked code parameter (side it.far before)
   was-asked output it id linked code parameter from =
       let asked = from.asked in
       let sent = it.sent in
@@ -256,7 +256,7 @@ module _ (net : Net) (is : IsNet net) (engine : Engine) (pair : Pair) (before : 
         class = asked.class;
         timeout = asked.timeout;
         number = from.number;
-        stands = stands-before asked.pair it.sender asked.before it.past (side (far engine) before) asked.stands
+        stands = stands-before asked.pair it.sender asked.before it.past (side it.far before) asked.stands
             it.stands;
         is_event = asked.is_event
             ∙ (ap (λ (x : ℤ). Event.on_dialogue sent.dialogue
@@ -275,7 +275,7 @@ module _ (net : Net) (is : IsNet net) (engine : Engine) (pair : Pair) (before : 
         was_sent = invoke-sent output it id linked code parameter from;
       }
 
-pub operations : (net : Net) → IsNet net → Operations net.trace
+pub operations : (net : Net) → IsNet net → Operations net.places net.trace
 operations net is engine dialogue told =
     let output : Output =
     Output.component (ComponentIndication.invoked dialogue told.id told.linked told.code told.parameter) in
@@ -283,6 +283,10 @@ operations net is engine dialogue told =
     let it = carried net is engine told.pair told.before told.happens output told.tells of in
     let is_invoke = stands-for-invoke output it.told.component it.told.stands_for dialogue told.id told.linked told.code
     told.parameter refl in
-    was-asked net is engine told.pair told.before told.happens output it told.id told.linked told.code told.parameter
-    (source net is engine told.pair told.before told.happens output it told.id told.linked told.code told.parameter
-    is_invoke)
+    record {
+      far = it.far;
+      hears = hears-far net engine told.before told.pair.event output it;
+      was_asked = was-asked net is engine told.pair told.before told.happens output it told.id told.linked told.code
+          told.parameter (source net is engine told.pair told.before told.happens output it told.id told.linked
+          told.code told.parameter is_invoke);
+    }

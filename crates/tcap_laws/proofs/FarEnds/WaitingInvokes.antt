@@ -137,7 +137,7 @@ module _ (dialogue : ℕ) (past : Past) where
   pub born-waits : (before : Past) (event : Event) → AllWait dialogue past (queue_born dialogue before event)
   born-waits before Event.new_dialogue = tt
   born-waits before (Event.on_dialogue named request) = tt
-  born-waits before (Event.received bytes) = birth-waits before (frame_at bytes)
+  born-waits before (Event.received from bytes) = birth-waits before (frame_at bytes)
   born-waits before (Event.moment now) = tt
 
   message-waits : (before : Past) (state : State) (context : Option (List ℕ)) (waits : List Queued)

@@ -114,8 +114,8 @@ module _ (h : History) (dialogue : ℕ) (answer : Answer) (idle_ms : ℕ) (s : S
       let is : answer ≡ given_up_answer (pending dialogue id h.pairs) = answer-is r legal.1 accepted in
       subst (λ (a : Answer). AllWait dialogue (with_answer r a ∷ h.pairs) (queue_by_request waits r a)) (sym is)
       (cancelled id (pending dialogue id h.pairs) legal.2 refl (sym (ap is_accepted is) ∙ accepted))
-  request-waits (Request.dialogue (DialogueRequest.uni context info)) legal good accepted stands = tt
-  request-waits (Request.dialogue (DialogueRequest.begin context info)) legal good accepted stands = tt
+  request-waits (Request.dialogue (DialogueRequest.uni to context info)) legal good accepted stands = tt
+  request-waits (Request.dialogue (DialogueRequest.begin to context info)) legal good accepted stands = tt
   request-waits (Request.dialogue (DialogueRequest.go_on context info)) legal good accepted stands = tt
   request-waits (Request.dialogue (DialogueRequest.finish ending context info)) legal good accepted stands =
       absurd stands
@@ -158,8 +158,8 @@ module _ (h : History) (dialogue : ℕ) (answer : Answer) (idle_ms : ℕ) (s : S
       subst (λ (d : ℕ). AllWait dialogue (at (Event.on_dialogue d request) ∷ h.pairs)
       (queue_if_accepted (is_accepted answer) (queue dialogue h.pairs) request answer)) (sym same)
       (asked-waits h dialogue answer idle_ms s c lives all request in_parts here (is_accepted answer) refl stands)
-  event-waits (Event.received bytes) range legal named stands =
-      let e : Event = Event.received bytes in
+  event-waits (Event.received from bytes) range legal named stands =
+      let e : Event = Event.received from bytes in
       subst (λ (l : Life). AllWait dialogue (at e ∷ h.pairs)
       (queue_by_bytes dialogue h.pairs l (queue dialogue h.pairs) bytes)) (sym lives)
       (bytes-wait dialogue (at e ∷ h.pairs) h.pairs s c (queue dialogue h.pairs) bytes

@@ -39,7 +39,7 @@ invoked_names : (event : Event) (answer : Answer) (i : Invocation) → invoked_o
 invoked_names Event.new_dialogue answer i e = absurd cc
 invoked_names (Event.on_dialogue d r) answer i e = let same =
     own_request d r (number_of answer) i e in grind (arith, nat_tests)
-invoked_names (Event.received bytes) answer i e = absurd cc
+invoked_names (Event.received from bytes) answer i e = absurd cc
 invoked_names (Event.moment now) answer i e = absurd cc
 
 -- an invocation of the dialogue
@@ -64,7 +64,7 @@ seen_own dialogue (Event.on_dialogue d r) answer idle_ms past i e q =
     let named : (d == dialogue) ≡ true = and_right (was_born dialogue past) (d == dialogue) e in
     let same = own_request d r (number_of answer) i q in
     grind (arith, nat_tests)
-seen_own dialogue (Event.received bytes) answer idle_ms past i e q = absurd cc
+seen_own dialogue (Event.received from bytes) answer idle_ms past i e q = absurd cc
 seen_own dialogue (Event.moment now) answer idle_ms past i e q = absurd cc
 
 -- ---- lists

@@ -114,7 +114,7 @@ module _ (start : Start) (dialogue : ℕ) where
         ≡ pair_ends_wait until dialogue id (with_answer event answer idle_ms)
     ends_within Event.new_dialogue answer idle_ms = refl
     ends_within (Event.on_dialogue asked request) answer idle_ms = refl
-    ends_within (Event.received bytes) answer idle_ms = refl
+    ends_within (Event.received from bytes) answer idle_ms = refl
     ends_within (Event.moment now) answer idle_ms = ap (λ b. b && nat_le until now) (within_accepted dialogue answer)
 
     unseen_request : (named : ℕ) (r : Request) (answer : Answer) (idle_ms : ℕ) (past : Past)
@@ -139,7 +139,7 @@ module _ (start : Start) (dialogue : ℕ) where
         → pair_ends_wait until dialogue id (with_answer event answer idle_ms) ≡ false
     unseen_ends Event.new_dialogue answer idle_ms past legal is = and_false (is_accepted answer)
     unseen_ends (Event.on_dialogue named r) answer idle_ms past legal is = unseen_request named r answer idle_ms past legal is
-    unseen_ends (Event.received bytes) answer idle_ms past legal is = and_false (is_accepted answer)
+    unseen_ends (Event.received from bytes) answer idle_ms past legal is = and_false (is_accepted answer)
     unseen_ends (Event.moment now) answer idle_ms past legal is = let no = is.no_moment in absurd cc
 
     -- what follows a place, as the dialogue sees it

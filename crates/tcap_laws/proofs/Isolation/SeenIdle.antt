@@ -1,5 +1,5 @@
 -- A moment tells a dialogue of its own idle end what it would tell it alone.
-use Rattle.std.proofs.Common.{◌≡◌, ℕ, ◌+◌, ◌==◌, Bool, true, false, cond, if◌then◌else◌, ◌&&◌, List, [], ◌∷◌, ◌++◌, Contains, Option, Some, None, is_none, append-nil, refl, sym, ap, subst, ◌∙◌}
+use Rattle.std.proofs.Common.{◌≡◌, ℕ, ◌==◌, Bool, true, false, cond, if◌then◌else◌, ◌&&◌, List, [], ◌∷◌, ◌++◌, Contains, Option, Some, None, is_none, append-nil, refl, sym, ap, subst, ◌∙◌}
 use Rattle.std.proofs.lemmas.Bool.{eqb-true}
 use Rattle.std.proofs.lemmas.List.Elements.{filter-append}
 use Rattle.std.specs.List.{AllByRecursion, cons_option, flat_map}
@@ -14,7 +14,7 @@ use Rattle.tcap_model.specs.Histories.Birth.{born_by, dialogues}
 use Rattle.tcap_model.specs.Histories.Clock.{clock}
 use Rattle.tcap_model.specs.Histories.History.{Start}
 use Rattle.tcap_model.specs.Histories.Life.{Life, life, touched, live_in}
-use Rattle.tcap_model.specs.Histories.Pair.{Pair, Past}
+use Rattle.tcap_model.specs.Histories.Pair.{Past}
 use Rattle.tcap_model.specs.Invocations.Invocation.{Invocation, invocations}
 use Rattle.tcap_model.specs.Invocations.Marks.{Mark, Noted}
 use Rattle.tcap_model.specs.Invocations.Outcome.{first_closing}

@@ -14,6 +14,8 @@ use Rattle.tcap_model.specs.Invocations.Marks.{Noted, marks_by_event, marks_afte
 use Rattle.tcap_model.specs.Histories.Names.{names}
 use Rattle.tcap_model.specs.Statements.Only.{answer_within, pair_within, is_moment, is_seen_by, only}
 use Rattle.tcap_model.specs.Histories.Pair.{Pair, Past}
+use Rattle.tcap_model.specs.Words.Address.{Address}
+use Rattle.tcap_model.specs.Histories.Kept.{kept_address, kept_after, kept_by_event, kept_at_birth}
 
 abbrev pub with_answer : Event → Answer → ℕ → Pair
 with_answer event answer idle_ms = record { event = event; answer = answer; idle_ms = idle_ms }
@@ -33,28 +35,28 @@ module _ (dialogue : ℕ) where
       → (pair_within dialogue event answer idle_ms).event ≡ event
   event_within Event.new_dialogue answer idle_ms = refl
   event_within (Event.on_dialogue asked request) answer idle_ms = refl
-  event_within (Event.received bytes) answer idle_ms = refl
+  event_within (Event.received from bytes) answer idle_ms = refl
   event_within (Event.moment now) answer idle_ms = refl
 
   pub accepted_within : (event : Event) (answer : Answer) (idle_ms : ℕ)
       → is_accepted (pair_within dialogue event answer idle_ms).answer ≡ is_accepted answer
   accepted_within Event.new_dialogue answer idle_ms = refl
   accepted_within (Event.on_dialogue asked request) answer idle_ms = refl
-  accepted_within (Event.received bytes) answer idle_ms = refl
+  accepted_within (Event.received from bytes) answer idle_ms = refl
   accepted_within (Event.moment now) answer idle_ms = within_accepted answer
 
   pub born_within : (event : Event) (answer : Answer) (idle_ms : ℕ)
       → born_by (pair_within dialogue event answer idle_ms) ≡ born_of event answer
   born_within Event.new_dialogue answer idle_ms = refl
   born_within (Event.on_dialogue asked request) answer idle_ms = refl
-  born_within (Event.received bytes) answer idle_ms = refl
+  born_within (Event.received from bytes) answer idle_ms = refl
   born_within (Event.moment now) answer idle_ms = refl
 
   pub invoked_within : (event : Event) (answer : Answer) (idle_ms : ℕ)
       → invoked_by (pair_within dialogue event answer idle_ms) ≡ invoked_of event answer
   invoked_within Event.new_dialogue answer idle_ms = refl
   invoked_within (Event.on_dialogue asked request) answer idle_ms = refl
-  invoked_within (Event.received bytes) answer idle_ms = refl
+  invoked_within (Event.received from bytes) answer idle_ms = refl
   invoked_within (Event.moment now) answer idle_ms = refl
 
   clock_within : (before : ℕ) (event : Event) (answer : Answer) (idle_ms : ℕ)
@@ -62,7 +64,7 @@ module _ (dialogue : ℕ) where
       (is_accepted (pair_within dialogue event answer idle_ms).answer) ≡ clock_after before event (is_accepted answer)
   clock_within before Event.new_dialogue answer idle_ms = refl
   clock_within before (Event.on_dialogue asked request) answer idle_ms = refl
-  clock_within before (Event.received bytes) answer idle_ms = refl
+  clock_within before (Event.received from bytes) answer idle_ms = refl
   clock_within before (Event.moment now) answer idle_ms =
       ap (clock_after before (Event.moment now)) (within_accepted answer)
 
@@ -71,7 +73,7 @@ module _ (dialogue : ℕ) where
       ≡ life_after dialogue last before (with_answer event answer idle_ms)
   life_within last before Event.new_dialogue answer idle_ms = refl
   life_within last before (Event.on_dialogue asked request) answer idle_ms = refl
-  life_within last before (Event.received bytes) answer idle_ms = refl
+  life_within last before (Event.received from bytes) answer idle_ms = refl
   life_within last Life.unborn (Event.moment now) answer idle_ms = refl
   life_within last (Life.standing state context) (Event.moment now) answer idle_ms =
       ap (life_by_event idle_ms last state context (Event.moment now)) (within_accepted answer)
@@ -82,17 +84,27 @@ module _ (dialogue : ℕ) where
       ≡ touches dialogue before (with_answer event answer idle_ms)
   touches_within before Event.new_dialogue answer idle_ms = refl
   touches_within before (Event.on_dialogue asked request) answer idle_ms = refl
-  touches_within before (Event.received bytes) answer idle_ms = refl
+  touches_within before (Event.received from bytes) answer idle_ms = refl
   touches_within Life.unborn (Event.moment now) answer idle_ms = refl
   touches_within (Life.standing state context) (Event.moment now) answer idle_ms = refl
   touches_within Life.over (Event.moment now) answer idle_ms = refl
+
+  kept_within : (before : Life) (kept : Address) (event : Event) (answer : Answer) (idle_ms : ℕ)
+      → kept_after dialogue before kept (pair_within dialogue event answer idle_ms)
+      ≡ kept_after dialogue before kept (with_answer event answer idle_ms)
+  kept_within before kept Event.new_dialogue answer idle_ms = refl
+  kept_within before kept (Event.on_dialogue asked request) answer idle_ms = refl
+  kept_within before kept (Event.received from bytes) answer idle_ms = refl
+  kept_within Life.unborn kept (Event.moment now) answer idle_ms = refl
+  kept_within (Life.standing state context) kept (Event.moment now) answer idle_ms = refl
+  kept_within Life.over kept (Event.moment now) answer idle_ms = refl
 
   marks_within : (id : ℤ) (last : ℕ) (before : Life) (event : Event) (answer : Answer) (idle_ms : ℕ)
       → marks_after_birth dialogue id last before (pair_within dialogue event answer idle_ms)
       ≡ marks_after_birth dialogue id last before (with_answer event answer idle_ms)
   marks_within id last before Event.new_dialogue answer idle_ms = refl
   marks_within id last before (Event.on_dialogue asked request) answer idle_ms = refl
-  marks_within id last before (Event.received bytes) answer idle_ms = refl
+  marks_within id last before (Event.received from bytes) answer idle_ms = refl
   marks_within id last Life.unborn (Event.moment now) answer idle_ms = refl
   marks_within id last (Life.standing state context) (Event.moment now) answer idle_ms =
       ap (λ b. marks_by_event id (Life.standing state context)
@@ -138,7 +150,7 @@ module _ (dialogue : ℕ) where
             → clock_after (clock past) event (is_accepted pair.answer) ≡ clock past
         go Event.new_dialogue e = refl
         go (Event.on_dialogue asked request) e = refl
-        go (Event.received bytes) e = refl
+        go (Event.received from bytes) e = refl
         go (Event.moment now) e = absurd cc
 
     pub unnamed_if : (l : Life) → life dialogue past ≡ l → l ≢ Life.unborn → names pair.event dialogue ≡ false
@@ -164,6 +176,18 @@ module _ (dialogue : ℕ) where
     pub unseen_touched : touched dialogue (pair ∷ past) ≡ touched dialogue past
     unseen_touched =
         ap (λ b. if b then clock past else touched dialogue past) (untouched (life dialogue past) refl)
+
+    still_kept : (l : Life) → life dialogue past ≡ l
+        → kept_after dialogue l (kept_address dialogue past) pair ≡ kept_address dialogue past
+    still_kept Life.unborn q =
+        ap (λ b. if b then kept_at_birth pair.event else kept_address dialogue past) is.no_birth
+    still_kept (Life.standing state context) q =
+        ap (λ b. if b then kept_by_event (kept_address dialogue past) state context pair.event (is_accepted pair.answer)
+        else kept_address dialogue past) (unnamed_if (Life.standing state context) q (λ e. cc))
+    still_kept Life.over q = refl
+
+    pub unseen_kept : kept_address dialogue (pair ∷ past) ≡ kept_address dialogue past
+    unseen_kept = still_kept (life dialogue past) refl
 
     pub unseen_marks : (id : ℤ) → marks dialogue id pair past ≡ []
     unseen_marks id = go (life dialogue past) refl
@@ -238,6 +262,21 @@ module _ (dialogue : ℕ) where
 
   pub only_touched : (past : Past) → touched dialogue (only dialogue past) ≡ touched dialogue past
   only_touched past = (only_course past).1
+
+  pub only_kept : (past : Past) → kept_address dialogue (only dialogue past) ≡ kept_address dialogue past
+  only_kept [] = refl
+  only_kept (pair ∷ past) = go (is_seen_by dialogue pair past) refl (only_kept past)
+    where
+      seen : Past
+      seen = only dialogue past
+
+      go : (b : Bool) → is_seen_by dialogue pair past ≡ b → kept_address dialogue seen ≡ kept_address dialogue past
+          → kept_address dialogue (seen_or_not b pair past) ≡ kept_address dialogue (pair ∷ past)
+      go true e same =
+          kept_within (life dialogue seen) (kept_address dialogue seen) pair.event pair.answer pair.idle_ms
+          ∙ (ap (λ l. kept_after dialogue l (kept_address dialogue seen) pair) (only_life past)
+          ∙ ap (λ kept. kept_after dialogue (life dialogue past) kept pair) same)
+      go false e same = same ∙ sym (unseen_kept pair past (unseen pair past e))
 
   pub seen_marks : (id : ℤ) (pair : Pair) (past : Past)
       → marks dialogue id (pair_within dialogue pair.event pair.answer pair.idle_ms) (only dialogue past)

@@ -165,5 +165,5 @@ pub each-alone : EachIsAlone
 each-alone h dialogue Event.new_dialogue legal named left = absurd (true≢false (sym named))
 each-alone h dialogue (Event.on_dialogue asked r) legal named left =
     on-request h dialogue asked r legal (eqb-true asked dialogue named) left
-each-alone h dialogue (Event.received bytes) legal named left = alone-bytes h dialogue legal bytes named
+each-alone h dialogue (Event.received from bytes) legal named left = alone-bytes h dialogue legal from bytes named
 each-alone h dialogue (Event.moment now) legal named left = alone-moment h dialogue legal now

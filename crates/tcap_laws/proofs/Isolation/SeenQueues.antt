@@ -33,6 +33,8 @@ use Rattle.tcap_model.specs.Words.Request.{Request}
 use Rattle.tcap_model.specs.Invocations.Span.{span}
 use Rattle.tcap_model.specs.Words.State.{is_live}
 use Rattle.tcap_laws.proofs.Isolation.OwnInvocations.{only_latest}
+use Rattle.tcap_model.specs.Words.Address.{Address}
+use Rattle.tcap_laws.proofs.Receptions.BytesNames.{names_in}
 
 -- ---- components
 
@@ -109,9 +111,9 @@ module _ (start : Start) (dialogue : ℕ) (past : Past) (legal : AreReplies star
       ≡ queue_after dialogue past q (with_answer event answer idle_ms)
   queue_within q Event.new_dialogue answer idle_ms = refl
   queue_within q (Event.on_dialogue named r) answer idle_ms = refl
-  queue_within q (Event.received bytes) answer idle_ms =
-      let birth = is_birth_of dialogue (with_answer (Event.received bytes) answer idle_ms) in
-      let named = names (Event.received bytes) dialogue in
+  queue_within q (Event.received from bytes) answer idle_ms =
+      let birth = is_birth_of dialogue (with_answer (Event.received from bytes) answer idle_ms) in
+      let named = names (Event.received from bytes) dialogue in
       ap (λ z. if birth then z else (if named then queue_by_bytes dialogue (only dialogue past)
       (life dialogue (only dialogue past)) q bytes else q)) (at_birth (frame_at bytes))
       ∙ ap (λ z. if birth then queue_at_birth dialogue past (frame_at bytes) else (if named then z else q))
@@ -137,14 +139,14 @@ module _ (start : Start) (dialogue : ℕ) where
           ap (λ b. queue_if_accepted b q r answer) (unborn_refused start named r answer idle_ms past legal
           (ap (λ d. life d past) same ∙ unborn-life dialogue past w))
 
-  unseen_bytes : (q : List Queued) (bytes : List ℕ) (answer : Answer) (idle_ms : ℕ) (past : Past)
-      → IsUnseen dialogue (with_answer (Event.received bytes) answer idle_ms) past
-      → (if names (Event.received bytes) dialogue then queue_by_bytes dialogue past (life dialogue past) q bytes else q)
+  unseen_bytes : (q : List Queued) (from : Address) (bytes : List ℕ) (answer : Answer) (idle_ms : ℕ) (past : Past)
+      → IsUnseen dialogue (with_answer (Event.received from bytes) answer idle_ms) past
+      → (if names_in bytes dialogue then queue_by_bytes dialogue past (life dialogue past) q bytes else q)
       ≡ q
-  unseen_bytes q bytes answer idle_ms past is =
-      go (names (Event.received bytes) dialogue) (was_born dialogue past) refl refl
+  unseen_bytes q from bytes answer idle_ms past is =
+      go (names (Event.received from bytes) dialogue) (was_born dialogue past) refl refl
     where
-      go : (a b : Bool) → names (Event.received bytes) dialogue ≡ a → was_born dialogue past ≡ b
+      go : (a b : Bool) → names_in bytes dialogue ≡ a → was_born dialogue past ≡ b
           → (if a then queue_by_bytes dialogue past (life dialogue past) q bytes else q) ≡ q
       go false b p w = refl
       go true true p w = let never : true ≡ false = sym p ∙ is.not_named w in absurd cc
@@ -157,11 +159,11 @@ module _ (start : Start) (dialogue : ℕ) where
   unseen_queue q Event.new_dialogue answer idle_ms past legal is = ap (λ b. if b then [] else q) is.no_birth
   unseen_queue q (Event.on_dialogue named r) answer idle_ms past legal is =
       unseen_request q named r answer idle_ms past legal is
-  unseen_queue q (Event.received bytes) answer idle_ms past legal is =
+  unseen_queue q (Event.received from bytes) answer idle_ms past legal is =
       ap (λ b. if b then queue_at_birth dialogue past (frame_at bytes) else
-      (if names (Event.received bytes) dialogue then queue_by_bytes dialogue past (life dialogue past) q bytes else
+      (if names (Event.received from bytes) dialogue then queue_by_bytes dialogue past (life dialogue past) q bytes else
       q)) is.no_birth
-      ∙ unseen_bytes q bytes answer idle_ms past is
+      ∙ unseen_bytes q from bytes answer idle_ms past is
   unseen_queue q (Event.moment now) answer idle_ms past legal is = let no = is.no_moment in absurd cc
 
   pub only_queue : (past : Past) → AreReplies start past → queue dialogue (only dialogue past) ≡ queue dialogue past

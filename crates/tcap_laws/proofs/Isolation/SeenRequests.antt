@@ -4,10 +4,9 @@ use Rattle.std.proofs.lemmas.Bool.{eqb-false, ne_eqb}
 use Rattle.std.proofs.lemmas.List.Elements.{Contains-append_right}
 use Rattle.std.specs.List.{cons_option}
 use Rattle.std.specs.Prelude.{filter, filter_map, is_none, is_some}
-use Rattle.tcap_pdu.specs.FrameSpelling.{Message}
 use Rattle.tcap_laws.proofs.Births.NumbersFound.{invocation_of-found, numbers-below}
 use Rattle.tcap_laws.proofs.Isolation.SeenDecisions.{only_held, only_pending}
-use Rattle.tcap_laws.proofs.Isolation.SeenLives.{seen_or_not, invoked_within, only_life}
+use Rattle.tcap_laws.proofs.Isolation.SeenLives.{seen_or_not, invoked_within, only_life, only_kept}
 use Rattle.tcap_laws.proofs.Isolation.SeenQueues.{marks_same, only_queue}
 use Rattle.tcap_laws.proofs.Births.StartCounters.{start_number-within}
 use Rattle.tcap_model.specs.Procedures.AbortRules.{sent_if_any}
@@ -30,9 +29,9 @@ use Rattle.tcap_model.specs.Histories.Pair.{Past}
 use Rattle.tcap_model.specs.Invocations.SentThere.{marks_up_to}
 use Rattle.tcap_model.specs.Procedures.QueueRules.{Queued, queue_limit}
 use Rattle.tcap_model.specs.Procedures.Refusals.{Situation, first_that, holds, faults_of, due_on, passes_queue, passes_message}
-use Rattle.tcap_model.specs.Replies.Reply.{ended_of, ended_in, given_up_answer, last_answer, accepted_answer, request_answer, reply}
+use Rattle.tcap_model.specs.Replies.Reply.{ended_of, ended_in, given_up_answer, last_answer, accepted_answer, request_answer, reply, request_sent}
 use Rattle.tcap_model.specs.Words.Request.{Request, ComponentRequest, DialogueRequest}
-use Rattle.tcap_model.specs.Procedures.RequestMessage.{message_of}
+use Rattle.tcap_model.specs.Procedures.RequestMessage.{message_of, request_address}
 use Rattle.tcap_model.specs.Procedures.Standing.{Standing}
 use Rattle.tcap_model.specs.Words.State.{State}
 use Rattle.tcap_laws.proofs.Isolation.OwnInvocations.{is_of_dialogue, only_invocations, own_true}
@@ -111,8 +110,8 @@ passes_same limit queue m n (Request.component (ComponentRequest.result_more id 
 passes_same limit queue m n (Request.component (ComponentRequest.error_back id code parameter)) = refl
 passes_same limit queue m n (Request.component (ComponentRequest.u_reject id problem)) = refl
 passes_same limit queue m n (Request.component (ComponentRequest.u_cancel id)) = refl
-passes_same limit queue m n (Request.dialogue (DialogueRequest.uni context info)) = refl
-passes_same limit queue m n (Request.dialogue (DialogueRequest.begin context info)) = refl
+passes_same limit queue m n (Request.dialogue (DialogueRequest.uni to context info)) = refl
+passes_same limit queue m n (Request.dialogue (DialogueRequest.begin to context info)) = refl
 passes_same limit queue m n (Request.dialogue (DialogueRequest.go_on context info)) = refl
 passes_same limit queue m n (Request.dialogue (DialogueRequest.finish ending context info)) = refl
 passes_same limit queue m n (Request.dialogue (DialogueRequest.u_abort why info)) = refl
@@ -227,9 +226,24 @@ module _ (h : History) (dialogue : ℕ) (legal : IsLegal h) where
 
   -- ---- the answer
 
-  last_same : (m : Option Message) → without_number (last_answer dialogue h.pairs m)
-      ≡ without_number (last_answer dialogue (only dialogue h.pairs) m)
-  last_same m = ap (λ os. Answer.outputs (sent_if_any m ++ os)) (sym (only_ended h.start dialogue h.pairs legal.1 []))
+  -- the dialogue, by its parts
+  abbrev of_parts : State → Option (List ℕ) → List Queued → Standing
+  of_parts state context q = record { identifier = dialogue; state = state; context = context; queue = q }
+
+  sent_same : (state : State) (context : Option (List ℕ)) (q : List Queued) (r : Request)
+      → request_sent h.pairs (of_parts state context q) r
+      ≡ request_sent (only dialogue h.pairs) (of_parts state context q) r
+  sent_same state context q r =
+      ap (λ kept. sent_if_any (request_address kept r) (message_of (of_parts state context q) r))
+      (sym (only_kept dialogue h.pairs))
+
+  last_same : (state : State) (context : Option (List ℕ)) (q : List Queued) (r : Request)
+      → without_number (last_answer h.pairs (of_parts state context q) r)
+      ≡ without_number (last_answer (only dialogue h.pairs) (of_parts state context q) r)
+  last_same state context q r =
+      ap (λ os. Answer.outputs (request_sent h.pairs (of_parts state context q) r ++ os))
+      (sym (only_ended h.start dialogue h.pairs legal.1 []))
+      ∙ ap (λ os. Answer.outputs (os ++ ended_in dialogue (only dialogue h.pairs) [])) (sent_same state context q r)
 
   accepted_same : (state : State) (context : Option (List ℕ)) (q : List Queued) (r : Request)
       → without_number (accepted_answer h (record {
@@ -249,17 +263,15 @@ module _ (h : History) (dialogue : ℕ) (legal : IsLegal h) where
   accepted_same state context q (Request.component (ComponentRequest.u_reject id problem)) = refl
   accepted_same state context q (Request.component (ComponentRequest.u_cancel id)) =
       ap (λ o. without_number (given_up_answer o)) (sym (only_pending h.start dialogue id h.pairs legal.1))
-  accepted_same state context q (Request.dialogue (DialogueRequest.uni asked info)) =
-      last_same (message_of (record { identifier = dialogue; state = state; context = context; queue = q })
-      (Request.dialogue (DialogueRequest.uni asked info)))
-  accepted_same state context q (Request.dialogue (DialogueRequest.begin asked info)) = refl
-  accepted_same state context q (Request.dialogue (DialogueRequest.go_on asked info)) = refl
+  accepted_same state context q (Request.dialogue (DialogueRequest.uni to asked info)) =
+      last_same state context q (Request.dialogue (DialogueRequest.uni to asked info))
+  accepted_same state context q (Request.dialogue (DialogueRequest.begin to asked info)) = refl
+  accepted_same state context q (Request.dialogue (DialogueRequest.go_on asked info)) =
+      ap Answer.outputs (sent_same state context q (Request.dialogue (DialogueRequest.go_on asked info)))
   accepted_same state context q (Request.dialogue (DialogueRequest.finish ending asked info)) =
-      last_same (message_of (record { identifier = dialogue; state = state; context = context; queue = q })
-      (Request.dialogue (DialogueRequest.finish ending asked info)))
+      last_same state context q (Request.dialogue (DialogueRequest.finish ending asked info))
   accepted_same state context q (Request.dialogue (DialogueRequest.u_abort why info)) =
-      last_same (message_of (record { identifier = dialogue; state = state; context = context; queue = q })
-      (Request.dialogue (DialogueRequest.u_abort why info)))
+      last_same state context q (Request.dialogue (DialogueRequest.u_abort why info))
 
   answer_same : (r : Request) (l : Life) (f : Option Fault)
       → without_number (request_answer h dialogue r l f)

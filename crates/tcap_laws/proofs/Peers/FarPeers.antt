@@ -12,6 +12,7 @@ use Rattle.tcap_pdu.specs.declared.fault.FrameFault.{FrameFault}
 use Rattle.tcap_pdu.specs.FrameReading.{frame_at}
 use Rattle.tcap_pdu.specs.FrameSpelling.{Message, fields, reason_fields}
 use Rattle.tcap_pdu.specs.FrameWritten.{written_frame}
+use Rattle.tcap_model.specs.Words.Address.{Address}
 use Rattle.tcap_model.specs.Words.Answer.{Answer, is_accepted}
 use Rattle.tcap_model.specs.Procedures.Destination.{destination}
 use Rattle.tcap_model.specs.Replies.Due.{due, due_by, standing_of, situation_of}
@@ -58,14 +59,15 @@ answered-has peer (State.active known) origin e = e
 -- this is no TC-BEGIN request
 abbrev pub BeginsNone : Request → Type 0
 BeginsNone request =
-    (context : Option (List ℕ)) (info : List ℕ) → request ≡ Request.dialogue (DialogueRequest.begin context info) → ⊥
+    (to : Address) (context : Option (List ℕ)) (info : List ℕ)
+    → request ≡ Request.dialogue (DialogueRequest.begin to context info) → ⊥
 
 request-has : (peer : List ℕ) (state : State) (context : Option (List ℕ)) (request : Request) → BeginsNone request
     → peer_of state ≡ Some peer → HasPeer peer (life_by_request state context request)
 request-has peer state context (Request.component asked) begins e = e
-request-has peer state context (Request.dialogue (DialogueRequest.uni asked info)) begins e = tt
-request-has peer state context (Request.dialogue (DialogueRequest.begin asked info)) begins e =
-    absurd (begins asked info refl)
+request-has peer state context (Request.dialogue (DialogueRequest.uni to asked info)) begins e = tt
+request-has peer state context (Request.dialogue (DialogueRequest.begin to asked info)) begins e =
+    absurd (begins to asked info refl)
 request-has peer state context (Request.dialogue (DialogueRequest.go_on asked info)) begins e =
     activated-has peer state e
 request-has peer state context (Request.dialogue (DialogueRequest.finish ending asked info)) begins e = tt
@@ -114,8 +116,8 @@ module _ (h : History) (dialogue : ℕ) (request : Request) (s : State) (c : Opt
 pub no-begin : (h : History) (dialogue : ℕ) (peer : List ℕ) (s : State) (c : Option (List ℕ))
     → life dialogue h.pairs ≡ Life.standing s c → peer_of s ≡ Some peer → (request : Request)
     → is_accepted (reply h (Event.on_dialogue dialogue request)) ≡ true → BeginsNone request
-no-begin h dialogue peer s c lives e request accepted context info is =
-    let none = none-due h dialogue (Request.dialogue (DialogueRequest.begin context info)) s c lives
+no-begin h dialogue peer s c lives e request accepted to context info is =
+    let none = none-due h dialogue (Request.dialogue (DialogueRequest.begin to context info)) s c lives
     (subst (λ (r : Request). is_accepted (reply h (Event.on_dialogue dialogue r)) ≡ true) is accepted) in
     not-fresh s (if_not_false (is_fresh s) none.1.0) e
   where
@@ -144,7 +146,7 @@ module _ (h : History) (dialogue : ℕ) (peer : List ℕ) (answer : Answer) (idl
       (λ accepted. no-begin h dialogue peer s c lives e request
       (subst (λ (d : ℕ). is_accepted (reply h (Event.on_dialogue d request)) ≡ true) (eqb-true asked dialogue named)
       (sym (ap is_accepted is) ∙ accepted))) e
-  event-has (Event.received bytes) is s c lives named e = live-has peer (is_live s) s c bytes e
+  event-has (Event.received from bytes) is s c lives named e = live-has peer (is_live s) s c bytes e
   event-has (Event.moment now) is s c lives named e =
       moment-has peer (is_accepted answer && is_idle idle_ms last now) s c e
 

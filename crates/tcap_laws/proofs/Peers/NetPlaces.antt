@@ -1,29 +1,26 @@
--- Where the pairs of two engines stand: in the list of both, and in the history of each.
-use Rattle.std.proofs.Common.{◌≡◌, ℕ, true, List, [], ◌∷◌, ◌++◌, refl, sym, ap, subst, ◌∙◌, inl, inr, append_assoc}
+-- Where the pairs of engines stand: in the list of all, and in the history of each.
+use Rattle.std.proofs.Common.{◌≡◌, ℕ, true, nat_eq, bytes_eq, IsTrue, List, [], ◌∷◌, ◌++◌, refl, sym, ap, subst, ◌∙◌, inl, inr, append_assoc}
 use Rattle.std.specs.List.{list_any}
-use Rattle.std.proofs.lemmas.Bool.{cases_Bool, or_cases}
+use Rattle.std.proofs.lemmas.Bool.{and_parts, cases_Bool, eq-eqb, eqb-true, or_cases}
 use Rattle.std.proofs.lemmas.Slice.Eq.{bytes_eq-Decides}
+use Rattle.tcap_model.specs.Words.Address.{Address}
 use Rattle.tcap_model.specs.Words.Answer.{Answer}
-use Rattle.tcap_model.specs.Statements.Net.{Engine, Marked, Trace, is_engine, side, is_send, answer_sends, was_sent, IsCarriedTo, IsCarried}
+use Rattle.tcap_model.specs.Statements.Net.{Engine, Marked, Trace, side, Places, is_at, is_send, answer_sends, was_sent, IsCarriedTo, IsCarried}
 use Rattle.tcap_model.specs.Words.Output.{Output}
 use Rattle.tcap_model.specs.Histories.Pair.{Pair, Past}
 use Rattle.tcap_model.specs.Statements.Places.{StandsIn, Tells}
 use Rattle.tcap_model.specs.Statements.FarAnswer.{Happens}
 
-own : (engine : Engine) → is_engine engine engine ≡ true
-own Engine.a = refl
-own Engine.b = refl
+own : (engine : Engine) → nat_eq engine engine ≡ true
+own engine = eq-eqb engine engine refl
 
-engine_is : (one other : Engine) → is_engine one other ≡ true → other ≡ one
-engine_is Engine.a Engine.a e = refl
-engine_is Engine.a Engine.b e = absurd cc
-engine_is Engine.b Engine.a e = absurd cc
-engine_is Engine.b Engine.b e = refl
+engine_is : (one other : Engine) → nat_eq one other ≡ true → other ≡ one
+engine_is one other e = sym (eqb-true one other e)
 
 side-append : (engine : Engine) (later trace : Trace)
     → side engine (later ++ trace) ≡ side engine later ++ side engine trace
 side-append engine [] trace = refl
-side-append engine (m ∷ later) trace = elim (cases_Bool (is_engine engine m.engine)) [
+side-append engine (m ∷ later) trace = elim (cases_Bool (nat_eq engine m.engine)) [
   | inl here ↦ rw here (ap (λ (p : Past). m.pair ∷ p) (side-append engine later trace))
   | inr there ↦ rw there (side-append engine later trace)
 ]
@@ -32,7 +29,7 @@ side-own : (engine : Engine) (pair : Pair) (before : Trace)
     → side engine (record { engine = engine; pair = pair } ∷ before) ≡ pair ∷ side engine before
 side-own engine pair before = rw (own engine) refl
 
--- what stands before a pair of one engine is the older part of what either did
+-- what stands before a pair of one engine is the older part of what each did
 pub happens-rest : (other engine : Engine) (pair : Pair) (before trace : Trace) → Happens engine pair before trace
     → (later : Past) × (side other trace ≡ later ++ side other before)
 happens-rest other engine pair before trace happens =
@@ -42,7 +39,7 @@ happens-rest other engine pair before trace happens =
           ∙ side-append other (happens.later ++ here) before,
     )
 
--- ---- from both to one, and back
+-- ---- from all to one, and back
 
 pub happens-stands : (engine : Engine) (pair : Pair) (before trace : Trace) → Happens engine pair before trace
     → StandsIn pair (side engine before) (side engine trace)
@@ -78,7 +75,7 @@ stands-at : (engine : Engine) (pair : Pair) (past later : Past) (trace : Trace)
     → side engine trace ≡ later ++ pair ∷ past → IsAt engine pair past trace
 stands-at engine pair past [] [] is = absurd cc
 stands-at engine pair past (p ∷ later) [] is = absurd cc
-stands-at engine pair past later (m ∷ trace) is = elim (cases_Bool (is_engine engine m.engine)) [
+stands-at engine pair past later (m ∷ trace) is = elim (cases_Bool (nat_eq engine m.engine)) [
   | inl here ↦ let is = is in let is : m.pair ∷ side engine trace ≡ later ++ pair ∷ past =
       rw here at is in by-later (λ rest more. stands-at engine pair past rest trace more) later is here
   | inr there ↦ let is = is in let is : side engine trace ≡ later ++ pair ∷ past =
@@ -86,7 +83,7 @@ stands-at engine pair past later (m ∷ trace) is = elim (cases_Bool (is_engine 
 ]
   where
     by-later : ((rest : Past) → side engine trace ≡ rest ++ pair ∷ past → IsAt engine pair past trace) → (later : Past)
-        → m.pair ∷ side engine trace ≡ later ++ pair ∷ past → is_engine engine m.engine ≡ true
+        → m.pair ∷ side engine trace ≡ later ++ pair ∷ past → nat_eq engine m.engine ≡ true
         → IsAt engine pair past (m ∷ trace)
     by-later again [] is here =
         let first : m.pair ≡ pair = cc in
@@ -104,67 +101,99 @@ stands-happens engine pair past trace stands = stands-at engine pair past stands
 
 -- ---- what is carried
 
-carried-after : (later : Trace) (m : Marked) (before : Trace) → IsCarried (later ++ m ∷ before)
-    → IsCarriedTo m.engine m.pair.event before
-carried-after [] m before all = all.0
-carried-after (other ∷ later) m before all = carried-after later m before all.1
+carried-after : (places : Places) (later : Trace) (m : Marked) (before : Trace) → IsCarried places (later ++ m ∷ before)
+    → IsCarriedTo places m.engine m.pair.event before
+carried-after places [] m before all = all.0
+carried-after places (other ∷ later) m before all = carried-after places later m before all.1
 
-pub carried-there : (engine : Engine) (pair : Pair) (before trace : Trace) → Happens engine pair before trace
-    → IsCarried trace → IsCarriedTo engine pair.event before
-carried-there engine pair before trace happens all =
-    carried-after happens.later (record { engine = engine; pair = pair }) before (subst IsCarried happens.is_trace all)
+pub carried-there : (places : Places) (engine : Engine) (pair : Pair) (before trace : Trace)
+    → Happens engine pair before trace → IsCarried places trace → IsCarriedTo places engine pair.event before
+carried-there places engine pair before trace happens all =
+    carried-after places happens.later (record { engine = engine; pair = pair }) before
+    (subst (IsCarried places) happens.is_trace all)
 
 -- ---- the pair that sent some bytes
 
-send-is : (bytes : List ℕ) (output : Output) → is_send bytes output ≡ true → output ≡ Output.send bytes
-send-is bytes (Output.send sent) e = ap (λ (b : List ℕ). Output.send b) ((bytes_eq-Decides sent bytes).0 e)
-send-is bytes (Output.dialogue indication) e = absurd cc
-send-is bytes (Output.component indication) e = absurd cc
-send-is bytes (Output.dropped why) e = absurd cc
+module _ (places : Places) (engine : Engine) (bytes : List ℕ) where
+  -- an output that sends them to the engine
+  abbrev IsSending : Output → Type 0
+  IsSending output = (to : Address) × IsTrue (is_at places engine to) × (output ≡ Output.send to bytes)
 
-found-in : (bytes : List ℕ) (outputs : List Output) → list_any (is_send bytes) outputs ≡ true
-    → (earlier : List Output) × (later : List Output) × (outputs ≡ earlier ++ Output.send bytes ∷ later)
-found-in bytes [] e = absurd cc
-found-in bytes (output ∷ outputs) e = elim (or_cases (is_send bytes output) (list_any (is_send bytes) outputs) e) [
-  | inl here ↦ ([], outputs, ap (λ (o : Output). o ∷ outputs) (send-is bytes output here))
-  | inr there ↦ let found =
-      found-in bytes outputs there in (output ∷ found.0, found.1, ap (λ (os : List Output). output ∷ os) found.2)
-]
+  send-is : (output : Output) → is_send places engine bytes output ≡ true → IsSending output
+  send-is (Output.send to sent) e =
+      let both = and_parts (is_at places engine to) (bytes_eq sent bytes) e in
+      (to, both.0, ap (λ (b : List ℕ). Output.send to b) ((bytes_eq-Decides sent bytes).0 both.1))
+  send-is (Output.dialogue indication) e = absurd cc
+  send-is (Output.component indication) e = absurd cc
+  send-is (Output.dropped why) e = absurd cc
 
-answer-tells : (bytes : List ℕ) (answer : Answer) → answer_sends bytes answer ≡ true → Tells answer (Output.send bytes)
-answer-tells bytes (Answer.outputs outputs) e =
-    let found = found-in bytes outputs e in
-    record { earlier = found.0; later = found.1; is_answer = ap (λ (os : List Output). Answer.outputs os) found.2 }
-answer-tells bytes (Answer.new_dialogue dialogue) e = absurd cc
-answer-tells bytes (Answer.number n) e = absurd cc
-answer-tells bytes Answer.done e = absurd cc
-answer-tells bytes (Answer.given_up n) e = absurd cc
-answer-tells bytes (Answer.refused fault) e = absurd cc
+  -- an output among others
+  abbrev IsAmong : List Output → Type 0
+  IsAmong outputs =
+      (to : Address) × IsTrue (is_at places engine to) × (earlier : List Output) × (later : List Output)
+      × (outputs ≡ earlier ++ Output.send to bytes ∷ later)
 
--- these bytes were sent by this pair
-pub record SentBy (bytes : List ℕ) (past : Past) : Type 0 where
-  pub pair : Pair
-  pub before : Past
-  pub stands : StandsIn pair before past
-  pub tells : Tells pair.answer (Output.send bytes)
+  found-in : (outputs : List Output) → list_any (is_send places engine bytes) outputs ≡ true → IsAmong outputs
+  found-in [] e = absurd cc
+  found-in (output ∷ outputs) e =
+      elim (or_cases (is_send places engine bytes output) (list_any (is_send places engine bytes) outputs) e) [
+        | inl here ↦
+            let sends = send-is output here in
+            (sends.0, sends.1, [], outputs, ap (λ (o : Output). o ∷ outputs) sends.2)
+        | inr there ↦
+            let found = found-in outputs there in
+            (found.0, found.1, output ∷ found.2, found.3, ap (λ (os : List Output). output ∷ os) found.4)
+      ]
 
-bytes_sent-later : (bytes : List ℕ) (pair : Pair) (past : Past) → SentBy bytes past → SentBy bytes (pair ∷ past)
-bytes_sent-later bytes pair past sent = record {
-  pair = sent.pair;
-  before = sent.before;
-  stands = record { later = pair ∷ sent.stands.later; is_past = ap (λ (p : Past). pair ∷ p) sent.stands.is_past };
-  tells = sent.tells;
-}
+  -- an answer has such an output
+  abbrev TellsSend : Answer → Type 0
+  TellsSend answer = (to : Address) × IsTrue (is_at places engine to) × Tells answer (Output.send to bytes)
 
-pub bytes_sent : (bytes : List ℕ) (past : Past) → was_sent bytes past ≡ true → SentBy bytes past
-bytes_sent bytes [] e = absurd cc
-bytes_sent bytes (pair ∷ past) e = elim (or_cases (answer_sends bytes pair.answer) (was_sent bytes past) e) [
-  | inl here ↦ record {
-    pair = pair;
-    before = past;
-    stands = record { later = []; is_past = refl };
-    tells =
-        answer-tells bytes pair.answer here;
+  answer-tells : (answer : Answer) → answer_sends places engine bytes answer ≡ true → TellsSend answer
+  answer-tells (Answer.outputs outputs) e =
+      let found = found-in outputs e in (
+        found.0,
+        found.1,
+        record { earlier = found.2; later = found.3; is_answer = ap (λ (os : List Output). Answer.outputs os) found.4 },
+      )
+  answer-tells (Answer.new_dialogue dialogue) e = absurd cc
+  answer-tells (Answer.number n) e = absurd cc
+  answer-tells Answer.done e = absurd cc
+  answer-tells (Answer.given_up n) e = absurd cc
+  answer-tells (Answer.refused fault) e = absurd cc
+
+  -- these bytes were sent to the engine by this pair
+  pub record SentBy (past : Past) : Type 0 where
+    pub pair : Pair
+    pub before : Past
+    pub to : Address
+    pub is_to : IsTrue (is_at places engine to)
+    pub stands : StandsIn pair before past
+    pub tells : Tells pair.answer (Output.send to bytes)
+
+  bytes_sent-later : (pair : Pair) (past : Past) → SentBy past → SentBy (pair ∷ past)
+  bytes_sent-later pair past sent = record {
+    pair = sent.pair;
+    before = sent.before;
+    to = sent.to;
+    is_to = sent.is_to;
+    stands = record { later = pair ∷ sent.stands.later; is_past = ap (λ (p : Past). pair ∷ p) sent.stands.is_past };
+    tells = sent.tells;
   }
-  | inr there ↦ bytes_sent-later bytes pair past (bytes_sent bytes past there)
-]
+
+  pub bytes_sent : (past : Past) → was_sent places engine bytes past ≡ true → SentBy past
+  bytes_sent [] e = absurd cc
+  bytes_sent (pair ∷ past) e =
+      elim (or_cases (answer_sends places engine bytes pair.answer) (was_sent places engine bytes past) e) [
+        | inl here ↦
+            let found = answer-tells pair.answer here in
+            record {
+              pair = pair;
+              before = past;
+              to = found.0;
+              is_to = found.1;
+              stands = record { later = []; is_past = refl };
+              tells = found.2;
+            }
+        | inr there ↦ bytes_sent-later pair past (bytes_sent past there)
+      ]

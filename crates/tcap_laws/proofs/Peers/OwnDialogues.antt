@@ -1,13 +1,16 @@
--- A dialogue that its user opened, or whose peer wasn't known once, was never begun by a message.
-use Rattle.std.proofs.Common.{◌≡◌, ◌≢◌, ◌⊎◌, ℕ, ◌+◌, ◌<◌, ◌^◌, Bool, true, List, [], ◌∷◌, ◌++◌, Option, Some, None, Result, Ok, Err, refl, sym, ap, subst, ◌∙◌, inl, inr, arith}
+-- A dialogue that its user opened, or whose peer wasn't known once, was never begun by a message; one that a
+-- Begin gave birth to keeps the address of its sender.
+use Rattle.std.proofs.Common.{◌≡◌, ◌≢◌, ◌⊎◌, ℕ, ◌+◌, ◌<◌, ◌^◌, Bool, true, List, [], ◌∷◌, ◌++◌, Option, Some, None, Result, Ok, Err, refl, sym, ap, subst, ◌∙◌, inl, inr, arith, if◌then◌else◌}
 use Rattle.std.proofs.lemmas.Bool.{eq-eqb}
 use Rattle.tcap_pdu.specs.declared.fault.FrameFault.{FrameFault}
 use Rattle.tcap_pdu.specs.FrameReading.{frame_at}
 use Rattle.tcap_pdu.specs.FrameSpelling.{Message}
+use Rattle.tcap_model.specs.Words.Address.{Address}
 use Rattle.tcap_model.specs.Histories.Birth.{born_of, born_by, births, is_birth_of}
 use Rattle.tcap_model.specs.Replies.Due.{birth_due}
 use Rattle.tcap_model.specs.Words.Event.{Event}
 use Rattle.tcap_model.specs.Histories.History.{Start}
+use Rattle.tcap_model.specs.Histories.Kept.{kept_at_birth, kept_after, kept_address}
 use Rattle.tcap_model.specs.Replies.Legal.{AreReplies}
 use Rattle.tcap_model.specs.Histories.Life.{Life, life, life_at_birth, life_after, born_life, begun_life, touched}
 use Rattle.tcap_model.specs.Words.LocalId.{is_that}
@@ -29,12 +32,13 @@ use Rattle.tcap_laws.proofs.Receptions.ToldFromOctets.{legal-before}
 -- ---- a birth
 
 -- the Begin that gave birth to a dialogue
-pub record IsBegun (dialogue : ℕ) (bytes : List ℕ) (pair : Pair) (past : Past) : Type 0 where
+pub record IsBegun (dialogue : ℕ) (from : Address) (bytes : List ℕ) (pair : Pair) (past : Past) : Type 0 where
   pub origin : List ℕ
   pub portion : Option (List ℕ)
   pub components : List ℕ
   pub is_begin : frame_at bytes ≡ Ok (Message.begin origin portion components)
   pub has_peer : HasPeer origin (life dialogue (pair ∷ past))
+  pub is_kept : kept_address dialogue (pair ∷ past) ≡ from
 
 module _ (start : Start) (dialogue : ℕ) (pair : Pair) (past : Past) (legal : AreReplies start (pair ∷ past))
     (birth : is_birth_of dialogue pair ≡ true) where
@@ -57,17 +61,26 @@ module _ (start : Start) (dialogue : ℕ) (pair : Pair) (past : Past) (legal : A
   birth-life = ap (λ (l : Life). life_after dialogue (touched dialogue past) l pair) birth-unborn
       ∙ ap (λ (b : Bool). life_at_birth b pair.event) birth
 
-  pub birth-begun : (bytes : List ℕ) → pair.event ≡ Event.received bytes → IsBegun dialogue bytes pair past
-  birth-begun bytes is = begun (frame_at bytes) refl (sym (ap born_life is) ∙ drawn.is_life)
+  birth-kept : (from : Address) (bytes : List ℕ) → pair.event ≡ Event.received from bytes
+      → kept_address dialogue (pair ∷ past) ≡ from
+  birth-kept from bytes is =
+      let kept : Address = kept_address dialogue past in
+      ap (λ (l : Life). kept_after dialogue l kept pair) birth-unborn
+      ∙ (ap (λ (b : Bool). if b then kept_at_birth pair.event else kept) birth ∙ ap kept_at_birth is)
+
+  pub birth-begun : (from : Address) (bytes : List ℕ) → pair.event ≡ Event.received from bytes
+      → IsBegun dialogue from bytes pair past
+  birth-begun from bytes is = begun (frame_at bytes) refl (sym (ap born_life is) ∙ drawn.is_life)
     where
       begun : (read : Result Message FrameFault) → frame_at bytes ≡ read
-          → begun_life read ≡ Life.standing drawn.state drawn.context → IsBegun dialogue bytes pair past
+          → begun_life read ≡ Life.standing drawn.state drawn.context → IsBegun dialogue from bytes pair past
       begun (Ok (Message.begin origin portion components)) e made = record {
         origin = origin;
         portion = portion;
         components = components;
         is_begin = e;
         has_peer = subst (HasPeer origin) (sym (birth-life ∙ (ap born_life is ∙ ap begun_life e))) refl;
+        is_kept = birth-kept from bytes is;
       }
       begun (Ok (Message.unidirectional portion components)) e made = absurd cc
       begun (Ok (Message.end to portion components)) e made = absurd cc
@@ -81,10 +94,10 @@ module _ (start : Start) (dialogue : ℕ) (pair : Pair) (past : Past) (legal : A
 never-yet : (start : Start) (dialogue : ℕ) (past : Past) (state : State) (context : Option (List ℕ))
     → AreReplies start past → life dialogue past ≡ Life.standing state context → peer_of state ≡ None
     → NeverBegun dialogue past
-never-yet start dialogue past state context legal lives unknown pair before bytes stands is birth =
+never-yet start dialogue past state context legal lives unknown pair before from bytes stands is birth =
     let whole = subst (AreReplies start) stands.is_past legal in
     let begun = birth-begun start dialogue pair before (legal-before start stands.later (pair ∷ before) whole) birth
-    bytes is in
+    from bytes is in
     let has : HasPeer begun.origin (life dialogue (stands.later ++ pair ∷ before)) =
     peer-stays start dialogue begun.origin stands.later (pair ∷ before) whole begun.has_peer in
     let known : peer_of state ≡ Some begun.origin =
@@ -101,13 +114,13 @@ first-or last pair rest before (p ∷ l) e = let others : rest ≡ l ++ pair ∷
 -- nor after that
 never-after : (start : Start) (dialogue : ℕ) (later past : Past) → AreReplies start (later ++ past)
     → life dialogue past ≢ Life.unborn → NeverBegun dialogue past → NeverBegun dialogue (later ++ past)
-never-after start dialogue [] past legal born never pair before bytes stands is birth =
-    never pair before bytes stands is birth
-never-after start dialogue (last ∷ later) past legal born never pair before bytes stands is birth =
+never-after start dialogue [] past legal born never pair before from bytes stands is birth =
+    never pair before from bytes stands is birth
+never-after start dialogue (last ∷ later) past legal born never pair before from bytes stands is birth =
     elim (first-or last pair (later ++ past) before stands.later stands.is_past) [
       | inl first ↦ born-stays dialogue later past born
           (birth-unborn start dialogue last (later ++ past) legal (ap (is_birth_of dialogue) first ∙ birth))
-      | inr others ↦ never-after start dialogue later past legal.2 born never pair before bytes others is birth
+      | inr others ↦ never-after start dialogue later past legal.2 born never pair before from bytes others is birth
     ]
 
 pub never-begun : (start : Start) (dialogue : ℕ) (later past : Past) (state : State) (context : Option (List ℕ))

@@ -166,8 +166,8 @@ module _ (h : History) (dialogue : ℕ) where
       (faultless (Request.component (ComponentRequest.u_reject id problem)) accepted).1.1.0
   request-within (Request.component (ComponentRequest.u_cancel id)) answer accepted within =
       cancel-within queue_limit answer queue_here within
-  request-within (Request.dialogue (DialogueRequest.uni context info)) answer accepted within = empty-within
-  request-within (Request.dialogue (DialogueRequest.begin context info)) answer accepted within = empty-within
+  request-within (Request.dialogue (DialogueRequest.uni to context info)) answer accepted within = empty-within
+  request-within (Request.dialogue (DialogueRequest.begin to context info)) answer accepted within = empty-within
   request-within (Request.dialogue (DialogueRequest.go_on context info)) answer accepted within = empty-within
   request-within (Request.dialogue (DialogueRequest.finish Ending.basic context info)) answer accepted within =
       empty-within
@@ -227,7 +227,7 @@ birth-within dialogue past (Err fault) = omega arith
 born-within : (dialogue : ℕ) (past : Past) (event : Event) → IsWithin queue_limit (queue_born dialogue past event)
 born-within dialogue past Event.new_dialogue = omega arith
 born-within dialogue past (Event.on_dialogue named request) = omega arith
-born-within dialogue past (Event.received bytes) = birth-within dialogue past (frame_at bytes)
+born-within dialogue past (Event.received from bytes) = birth-within dialogue past (frame_at bytes)
 born-within dialogue past (Event.moment now) = omega arith
 
 -- ---- the queue
@@ -240,7 +240,7 @@ event-within h dialogue (Event.on_dialogue asked request) answer named e within 
     let same : asked ≡ dialogue = (Decides-eqb asked dialogue).0 named in
     if_accepted-within h dialogue request answer (is_accepted answer) refl
     (e ∙ ap (λ d. reply h (Event.on_dialogue d request)) same) within
-event-within h dialogue (Event.received bytes) answer named e within =
+event-within h dialogue (Event.received from bytes) answer named e within =
     bytes-within dialogue h.pairs (life dialogue h.pairs) (queue dialogue h.pairs) bytes within
 event-within h dialogue (Event.moment now) answer named e within = within
 

@@ -15,6 +15,7 @@ use Rattle.tcap_model.specs.Replies.Queue.{rejects_of}
 use Rattle.tcap_model.specs.Procedures.QueueRules.{Queued, queued, fits, queue_if_fits, queue_each, asks_for, without_invoke}
 use Rattle.tcap_laws.proofs.Queues.FormedRejects.{IsFormed, HasFormed, reject-can}
 use Rattle.tcap_laws.proofs.ListLemmas.{each-append}
+use Rattle.tcap_model.specs.Words.Address.{Address}
 
 -- what waits is the octets of a component that comes from the dialogue and can be written
 pub record IsKept (dialogue : ℕ) (past : Past) (q : Queued) : Type 0 where
@@ -47,6 +48,7 @@ comes-later dialogue pair past c (inl was) = inl (record {
 comes-later dialogue pair past c (inr was) = inr (record {
   pair = was.pair;
   before = was.before;
+  from = was.from;
   bytes = was.bytes;
   id = was.id;
   problem = was.problem;
@@ -103,9 +105,9 @@ module _ (P : Queued → Type 0) where
 
 -- ---- the Rejects of a message
 
-module _ (dialogue : ℕ) (bytes : List ℕ) (answer : Answer) (idle_ms : ℕ) (past : Past) where
+module _ (dialogue : ℕ) (from : Address) (bytes : List ℕ) (answer : Answer) (idle_ms : ℕ) (past : Past) where
   abbrev here : Pair
-  here = record { event = Event.received bytes; answer = answer; idle_ms = idle_ms }
+  here = record { event = Event.received from bytes; answer = answer; idle_ms = idle_ms }
 
   one-kept : (told : Output) (c : ComponentParts) → Tells answer told → IsFormed dialogue told (Some c)
       → IsKept dialogue (here ∷ past) (queued None c)
@@ -115,6 +117,7 @@ module _ (dialogue : ℕ) (bytes : List ℕ) (answer : Answer) (idle_ms : ℕ) (
     comes = inr (record {
       pair = here;
       before = past;
+      from = from;
       bytes = bytes;
       id = formed.0;
       problem = formed.1;

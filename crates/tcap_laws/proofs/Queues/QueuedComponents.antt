@@ -113,8 +113,10 @@ by-request dialogue (Request.component (ComponentRequest.u_reject id problem)) a
 by-request dialogue (Request.component (ComponentRequest.u_cancel id)) answer idle_ms past queue accepted good kept =
     cancelled (IsKept dialogue (pair_of (Event.on_dialogue dialogue (Request.component (ComponentRequest.u_cancel id)))
     answer idle_ms ∷ past)) answer queue kept
-by-request dialogue (Request.dialogue (DialogueRequest.uni context info)) answer idle_ms past queue accepted good kept = tt
-by-request dialogue (Request.dialogue (DialogueRequest.begin context info)) answer idle_ms past queue accepted good kept = tt
+by-request dialogue
+    (Request.dialogue (DialogueRequest.uni to context info)) answer idle_ms past queue accepted good kept = tt
+by-request dialogue
+    (Request.dialogue (DialogueRequest.begin to context info)) answer idle_ms past queue accepted good kept = tt
 by-request dialogue (Request.dialogue (DialogueRequest.go_on context info)) answer idle_ms past queue accepted good kept = tt
 by-request dialogue (Request.dialogue (DialogueRequest.finish Ending.basic context info)) answer idle_ms past queue accepted
     good kept = tt
@@ -152,18 +154,20 @@ after-pair h dialogue Event.new_dialogue answer idle_ms range is kept =
 after-pair h dialogue (Event.moment now) answer idle_ms range is kept =
     let here : Pair = pair_of (Event.moment now) answer idle_ms in
     kept-later dialogue here h.pairs (queue dialogue h.pairs) kept
-after-pair h dialogue (Event.received bytes) answer idle_ms range is kept =
-    let here : Pair = pair_of (Event.received bytes) answer idle_ms in
+after-pair h dialogue (Event.received from bytes) answer idle_ms range is kept =
+    let here : Pair = pair_of (Event.received from bytes) answer idle_ms in
     let waits = queue dialogue h.pairs in
     let before = kept-later dialogue here h.pairs waits kept in
     either-kept (IsKept dialogue (here ∷ h.pairs)) (is_birth_of dialogue here)
-    (queue_born dialogue h.pairs (Event.received bytes))
-    (if names (Event.received bytes) dialogue then queue_by_event dialogue h.pairs waits (Event.received bytes)
+    (queue_born dialogue h.pairs (Event.received from bytes))
+    (if names (Event.received from bytes) dialogue then queue_by_event dialogue h.pairs waits
+    (Event.received from bytes)
     answer else waits)
-    (λ birth. born-queue h dialogue bytes answer idle_ms is birth)
-    (either-kept (IsKept dialogue (here ∷ h.pairs)) (names (Event.received bytes) dialogue)
-    (queue_by_event dialogue h.pairs waits (Event.received bytes) answer) waits
-    (λ named. named-queue h dialogue bytes answer idle_ms is waits named before (life dialogue h.pairs) refl) before)
+    (λ birth. born-queue h dialogue from bytes answer idle_ms is birth)
+    (either-kept (IsKept dialogue (here ∷ h.pairs)) (names (Event.received from bytes) dialogue)
+    (queue_by_event dialogue h.pairs waits (Event.received from bytes) answer) waits
+    (λ named. named-queue h dialogue from bytes answer idle_ms is waits named before
+    (life dialogue h.pairs) refl) before)
 after-pair h dialogue (Event.on_dialogue asked request) answer idle_ms range is kept =
     let here : Pair = pair_of (Event.on_dialogue asked request) answer idle_ms in
     let waits = queue dialogue h.pairs in

@@ -15,7 +15,7 @@ use Rattle.tcap_model.specs.Words.Event.{Event}
 use Rattle.tcap_model.specs.Histories.History.{History}
 use Rattle.tcap_model.specs.Histories.Life.{Life, life, live_in}
 use Rattle.tcap_model.specs.Words.LocalId.{dialogue_named, is_that}
-use Rattle.tcap_model.specs.Histories.Names.{names, is_destined, named_within}
+use Rattle.tcap_model.specs.Histories.Names.{is_destined, named_within}
 use Rattle.tcap_model.specs.Words.Output.{Output, DropCause, DialogueIndication}
 use Rattle.tcap_model.specs.Histories.Pair.{Pair}
 use Rattle.tcap_model.specs.Procedures.PortionRules.{BeginVerdict, begin_verdict, PortionVerdict, portion_verdict}
@@ -26,15 +26,17 @@ use Rattle.tcap_model.specs.Replies.Reply.{reply, reception_outputs, taken_outpu
 use Rattle.tcap_model.specs.Words.State.{State, is_live}
 use Rattle.tcap_laws.proofs.Queues.FormedRejects.{handled_in-formed}
 use Rattle.tcap_laws.proofs.Queues.KeptQueues.{IsKept, AllKept, rejects-kept, queue_each-each}
+use Rattle.tcap_model.specs.Words.Address.{Address}
+use Rattle.tcap_laws.proofs.Receptions.BytesNames.{names_in}
 
 named-is : (dialogue : ℕ) (named : Option ℕ) → is_that dialogue named ≡ true → named ≡ Some dialogue
 named-is dialogue None e = absurd cc
 named-is dialogue (Some named) e = ap (λ (d : ℕ). Some d) (eqb-true named dialogue e)
 
-module _ (h : History) (dialogue : ℕ) (bytes : List ℕ) (answer : Answer) (idle_ms : ℕ)
-    (is_reply : answer ≡ reply h (Event.received bytes)) where
+module _ (h : History) (dialogue : ℕ) (from : Address) (bytes : List ℕ) (answer : Answer) (idle_ms : ℕ)
+    (is_reply : answer ≡ reply h (Event.received from bytes)) where
   abbrev here : Pair
-  here = record { event = Event.received bytes; answer = answer; idle_ms = idle_ms }
+  here = record { event = Event.received from bytes; answer = answer; idle_ms = idle_ms }
 
   abbrev live : ℕ → Bool
   live d = live_in (life d h.pairs)
@@ -52,17 +54,17 @@ module _ (h : History) (dialogue : ℕ) (bytes : List ℕ) (answer : Answer) (id
   told-keeps first components queue is kept =
       let hs = handled_in dialogue h.pairs components in
       queue_each-each (IsKept dialogue (here ∷ h.pairs)) queue_limit queue (rejects_of hs) kept
-      (rejects-kept dialogue bytes answer idle_ms h.pairs hs (first ∷ []) []
+      (rejects-kept dialogue from bytes answer idle_ms h.pairs hs (first ∷ []) []
       (is ∙ ap (λ (w : List Output). Answer.outputs (first ∷ w)) (sym (append-nil (told_of hs))))
       (handled_in-formed dialogue h.pairs components))
 
   -- ---- a Begin
 
   abbrev IsBirth : Reception → Type 0
-  IsBirth r = is_that dialogue (first_begun (reception_outputs h r)) ≡ true
+  IsBirth r = is_that dialogue (first_begun (reception_outputs h from r)) ≡ true
 
   abbrev IsAnswer : Reception → Type 0
-  IsAnswer r = answer ≡ Answer.outputs (reception_outputs h r)
+  IsAnswer r = answer ≡ Answer.outputs (reception_outputs h from r)
 
   born-keeps : (origin : List ℕ) (context : Option (List ℕ)) (info components : List ℕ)
       → IsBirth (Reception.begun origin context info components)
@@ -118,7 +120,7 @@ module _ (h : History) (dialogue : ℕ) (bytes : List ℕ) (answer : Answer) (id
   within-parts false e = absurd cc
 
   taken-is : (state : State) (context : Option (List ℕ)) (origin to components : List ℕ) (portion : Option (List ℕ)) →
-      names (Event.received bytes) dialogue ≡ true → life dialogue h.pairs ≡ Life.standing state context
+      names_in bytes dialogue ≡ true → life dialogue h.pairs ≡ Life.standing state context
       → is_live state ≡ true → frame_at bytes ≡ Ok (Message.go_on origin to portion components) →
       reception live full bytes ≡ Reception.taken dialogue (Message.go_on origin to portion components)
   taken-is state context origin to components portion named lives is_alive read =
@@ -140,22 +142,22 @@ module _ (h : History) (dialogue : ℕ) (bytes : List ℕ) (answer : Answer) (id
 
   told-is : (state : State) (context : Option (List ℕ)) (origin to components : List ℕ) (portion : Option (List ℕ))
       (verdict : PortionVerdict) →
-      names (Event.received bytes) dialogue ≡ true → life dialogue h.pairs ≡ Life.standing state context
+      names_in bytes dialogue ≡ true → life dialogue h.pairs ≡ Life.standing state context
       → is_live state ≡ true → frame_at bytes ≡ Ok (Message.go_on origin to portion components)
       → portion_verdict state context portion ≡ verdict →
-      answer ≡ Answer.outputs (continue_outputs dialogue h.pairs state origin components verdict)
+      answer ≡ Answer.outputs (continue_outputs dialogue h.pairs state from origin components verdict)
   told-is state context origin to components portion verdict named lives is_alive read judged =
       let m : Message = Message.go_on origin to portion components in
       is_reply
-      ∙ (ap (λ (r : Reception). Answer.outputs (reception_outputs h r))
+      ∙ (ap (λ (r : Reception). Answer.outputs (reception_outputs h from r))
       (taken-is state context origin to components portion named lives is_alive read)
-      ∙ (ap (λ (l : Life). Answer.outputs (taken_outputs dialogue h.pairs l m)) lives
-      ∙ ap (λ (v : PortionVerdict). Answer.outputs (continue_outputs dialogue h.pairs state origin components v))
+      ∙ (ap (λ (l : Life). Answer.outputs (taken_outputs dialogue h.pairs l from m)) lives
+      ∙ ap (λ (v : PortionVerdict). Answer.outputs (continue_outputs dialogue h.pairs state from origin components v))
       judged))
 
   continue-keeps : (state : State) (context : Option (List ℕ)) (origin to components : List ℕ)
       (portion : Option (List ℕ)) (queue : List Queued) →
-      names (Event.received bytes) dialogue ≡ true → life dialogue h.pairs ≡ Life.standing state context
+      names_in bytes dialogue ≡ true → life dialogue h.pairs ≡ Life.standing state context
       → is_live state ≡ true → frame_at bytes ≡ Ok (Message.go_on origin to portion components) → Keeps queue →
       (verdict : PortionVerdict) → portion_verdict state context portion ≡ verdict
       → Keeps (queue_by_verdict verdict queue (handled_in dialogue h.pairs components))
@@ -168,7 +170,7 @@ module _ (h : History) (dialogue : ℕ) (bytes : List ℕ) (answer : Answer) (id
       judged = kept
 
   message-keeps : (state : State) (context : Option (List ℕ)) (queue : List Queued)
-      → names (Event.received bytes) dialogue ≡ true → life dialogue h.pairs ≡ Life.standing state context
+      → names_in bytes dialogue ≡ true → life dialogue h.pairs ≡ Life.standing state context
       → is_live state ≡ true → Keeps queue →
       (read : Result Message FrameFault) → frame_at bytes ≡ read
       → Keeps (queue_by_message dialogue h.pairs (Life.standing state context) queue read)
@@ -182,7 +184,7 @@ module _ (h : History) (dialogue : ℕ) (bytes : List ℕ) (answer : Answer) (id
   message-keeps state context queue named lives is_alive kept (Err f) is = kept
 
   live-keeps : (state : State) (context : Option (List ℕ)) (queue : List Queued)
-      → names (Event.received bytes) dialogue ≡ true → life dialogue h.pairs ≡ Life.standing state context
+      → names_in bytes dialogue ≡ true → life dialogue h.pairs ≡ Life.standing state context
       → Keeps queue →
       (alive : Bool) → is_live state ≡ alive → Keeps
       (if alive then queue_by_message dialogue h.pairs (Life.standing state context) queue (frame_at bytes) else
@@ -191,7 +193,7 @@ module _ (h : History) (dialogue : ℕ) (bytes : List ℕ) (answer : Answer) (id
       message-keeps state context queue named lives is kept (frame_at bytes) refl
   live-keeps state context queue named lives kept false is = kept
 
-  pub named-queue : (queue : List Queued) → names (Event.received bytes) dialogue ≡ true → Keeps queue → (before : Life)
+  pub named-queue : (queue : List Queued) → names_in bytes dialogue ≡ true → Keeps queue → (before : Life)
       → life dialogue h.pairs ≡ before → Keeps (queue_by_bytes dialogue h.pairs before queue bytes)
   named-queue queue named kept Life.unborn lives = kept
   named-queue queue named kept Life.over lives = kept

@@ -140,8 +140,8 @@ module _ (s : Situation) (within : s.limit ≤ 65535) where
         is_short = queued-short s.limit s.standing.queue None (reject_back id problem) within (in-queue r none.1.1.0);
       }
   request-can (Request.component (ComponentRequest.u_cancel id)) due = tt
-  request-can (Request.dialogue (DialogueRequest.uni context info)) due = tt
-  request-can (Request.dialogue (DialogueRequest.begin context info)) due = tt
+  request-can (Request.dialogue (DialogueRequest.uni to context info)) due = tt
+  request-can (Request.dialogue (DialogueRequest.begin to context info)) due = tt
   request-can (Request.dialogue (DialogueRequest.go_on context info)) due = tt
   request-can (Request.dialogue (DialogueRequest.finish ending context info)) due = tt
   request-can (Request.dialogue (DialogueRequest.u_abort why info)) due = tt

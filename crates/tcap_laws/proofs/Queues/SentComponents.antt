@@ -30,6 +30,7 @@ use Rattle.tcap_laws.proofs.Queues.KeptQueues.{AllKept}
 use Rattle.tcap_laws.proofs.Queues.QueuedComponents.{queue-kept}
 use Rattle.tcap_laws.proofs.Receptions.SentMessages.{Nothing, tells-sends, birth-sends, moment-sends, sent_for_bytes, sent_for_request}
 use Rattle.tcap_laws.proofs.Receptions.ToldFromOctets.{legal-before}
+use Rattle.tcap_model.specs.Words.Address.{Address}
 
 -- ---- the octets of a queue are its components
 
@@ -105,8 +106,8 @@ refusing-portion d state (Some context) info = abort-portion d state (refusing_a
 
 message-portion : (d : Standing) (request : Request) → IfPortion d (message_of d request)
 message-portion d (Request.component asked) = tt
-message-portion d (Request.dialogue (DialogueRequest.uni context info)) = inr refl
-message-portion d (Request.dialogue (DialogueRequest.begin context info)) = inr refl
+message-portion d (Request.dialogue (DialogueRequest.uni to context info)) = inr refl
+message-portion d (Request.dialogue (DialogueRequest.begin to context info)) = inr refl
 message-portion d (Request.dialogue (DialogueRequest.go_on context info)) =
     continue-portion d d.state (answer_portion d.state d.context context info)
 message-portion d (Request.dialogue (DialogueRequest.finish Ending.basic context info)) =
@@ -119,7 +120,7 @@ message-portion d (Request.dialogue (DialogueRequest.u_abort AbortReason.not_sup
 
 -- ---- one place
 
-module _ (h : History) (legal : AreReplies h.start h.pairs) (bytes : List ℕ) (m : Message)
+module _ (h : History) (legal : AreReplies h.start h.pairs) (to : Address) (bytes : List ℕ) (m : Message)
     (components : List ComponentParts) (fault : Option FaultParts) (spelled : SpellsFrame m bytes)
     (first : FirstFault components fault (portion_of m)) where
   abbrev Comes : Event → Type 0
@@ -141,18 +142,19 @@ module _ (h : History) (legal : AreReplies h.start h.pairs) (bytes : List ℕ) (
         no_fault = same.1;
       }
 
-  from-event : (event : Event) → Tells (reply h event) (Output.send bytes) → Comes event
+  from-event : (event : Event) → Tells (reply h event) (Output.send to bytes) → Comes event
   from-event Event.new_dialogue tells =
-      absurd (tells-sends Nothing (reply h Event.new_dialogue) bytes (birth-sends h (birth_due h)) tells)
+      absurd (tells-sends Nothing (reply h Event.new_dialogue) to bytes (birth-sends h (birth_due h)) tells)
   from-event (Event.moment now) tells =
-      absurd (tells-sends Nothing (reply h (Event.moment now)) bytes (moment-sends h.start.idle_ms h.pairs now (moment_fault now))
+      absurd (tells-sends Nothing (reply h (Event.moment now)) to bytes
+      (moment-sends h.start.idle_ms h.pairs now (moment_fault now))
       tells)
-  from-event (Event.received octets) tells =
-      let sent = sent_for_bytes h octets bytes tells in
+  from-event (Event.received from octets) tells =
+      let sent = sent_for_bytes h from octets to bytes tells in
       let is = sent.is_message in
       inl (ap portion_of (one_frame m (Message.abort sent.peer sent.reason) bytes spelled is.spelled))
   from-event (Event.on_dialogue dialogue request) tells =
-      let sent = sent_for_request h dialogue request bytes tells in
+      let sent = sent_for_request h dialogue request to bytes tells in
       let is = sent.is_message in
       let d : Standing = standing_of dialogue h.pairs sent.state sent.context in
       let same = ap portion_of (one_frame m sent.message bytes spelled is.spelled) in
@@ -165,6 +167,6 @@ pub sent-from : EachIsSentFrom
 sent-from h legal sent =
     let here = legal-before h.start sent.stands.later (sent.pair ∷ sent.before)
     (subst (AreReplies h.start) sent.stands.is_past legal.1) in
-    from-event (record { start = h.start; pairs = sent.before }) here.2 sent.bytes sent.message sent.components
+    from-event (record { start = h.start; pairs = sent.before }) here.2 sent.to sent.bytes sent.message sent.components
     sent.fault sent.spelled sent.read sent.pair.event
-    (subst (λ (a : Answer). Tells a (Output.send sent.bytes)) here.1 sent.tells)
+    (subst (λ (a : Answer). Tells a (Output.send sent.to sent.bytes)) here.1 sent.tells)

@@ -98,7 +98,7 @@ invoked-of : (event : Event) (answer : Answer) (idle_ms : ℕ) (i : Invocation) 
 invoked-of Event.new_dialogue answer idle_ms i e = absurd cc
 invoked-of (Event.on_dialogue dialogue request) answer idle_ms i e =
     invoked-under dialogue request answer idle_ms i (number_of answer) refl e
-invoked-of (Event.received bytes) answer idle_ms i e = absurd cc
+invoked-of (Event.received from bytes) answer idle_ms i e = absurd cc
 invoked-of (Event.moment now) answer idle_ms i e = absurd cc
 
 pub invoke-made : (pair : Pair) (i : Invocation) → invoked_by pair ≡ Some i → IsInvoke pair i

@@ -10,12 +10,12 @@ use Rattle.tcap_pdu.specs.FrameWritten.{message_limit}
 use Rattle.tcap_pdu.specs.Front.{Front, front_at}
 use Rattle.tcap_pdu.proofs.CallerLemmas.{frame_again, frame_told, frame_takes, frame_fails, front_read, front_again}
 use Rattle.tcap_model.specs.Procedures.Destination.{destination, begins_addressed, destination_by}
-use Rattle.tcap_model.specs.Words.Event.{Event}
 use Rattle.tcap_model.specs.Words.LocalId.{dialogue_named, is_that}
-use Rattle.tcap_model.specs.Histories.Names.{is_destined, named_within, names}
+use Rattle.tcap_model.specs.Histories.Names.{is_destined, named_within}
 use Rattle.tcap_model.specs.Statements.NamesDialogue.{IsDestination, NamesDialogue}
 use Rattle.tcap_model.specs.Statements.NamesDialogue.IsDestination.{of_message, at_front}
 use Rattle.tcap_laws.proofs.Receptions.NamedReceptions.{that-is}
+use Rattle.tcap_laws.proofs.Receptions.BytesNames.{names_in}
 
 -- ---- from the grammar
 
@@ -30,7 +30,7 @@ destination-read bytes to (at_front fault origin _ is begins front) =
     ∙ ap (λ (p : Option (List ℕ) × Option (List ℕ)). p.1) (front_again bytes origin (Some to) front))
 
 pub named-by_grammar : (dialogue : ℕ) (bytes : List ℕ) → NamesDialogue dialogue bytes →
-    names (Event.received bytes) dialogue ≡ true
+    names_in bytes dialogue ≡ true
 named-by_grammar dialogue bytes it =
     rw (le-leb (length bytes) message_limit it.within)
     (ap (is_destined dialogue) (destination-read bytes it.to it.is_destination)
@@ -63,7 +63,7 @@ read-addressed dialogue bytes (Ok m) e is =
 read-addressed dialogue bytes (Err fault) e is =
     faulty-addressed dialogue bytes fault e (begins_addressed bytes) refl is
 
-pub grammar-by_name : (dialogue : ℕ) (bytes : List ℕ) → names (Event.received bytes) dialogue ≡ true →
+pub grammar-by_name : (dialogue : ℕ) (bytes : List ℕ) → names_in bytes dialogue ≡ true →
     NamesDialogue dialogue bytes
 grammar-by_name dialogue bytes named = by (nat_le (length bytes) message_limit) refl named
   where

@@ -8,13 +8,12 @@ use Rattle.tcap_pdu.specs.FrameWritten.{message_limit}
 use Rattle.tcap_pdu.specs.Front.{front_at}
 use Rattle.tcap_model.specs.Procedures.AbortRules.{fault_cause}
 use Rattle.tcap_model.specs.Procedures.Destination.{destination, begins_addressed, destination_by}
-use Rattle.tcap_model.specs.Words.Event.{Event}
 use Rattle.tcap_model.specs.Words.LocalId.{dialogue_named, is_that}
-use Rattle.tcap_model.specs.Histories.Names.{is_destined, named_within, names}
-use Rattle.tcap_model.specs.Words.Output.{Output}
+use Rattle.tcap_model.specs.Histories.Names.{is_destined, named_within}
 use Rattle.tcap_model.specs.Procedures.PortionRules.{BeginVerdict, begin_verdict, PortionVerdict, uni_verdict}
 use Rattle.tcap_model.specs.Statements.FaultAnswer.{fault_answer}
 use Rattle.tcap_model.specs.Procedures.Reception.{Reception, live_named, addressed, addressed_if_any, uni_by, begin_by, continue_by, final_message_by, message_by, fault_abort, aborted_or_dropped, faulty_continue, faulty_last, fault_by, faulty, reading_by, reception}
+use Rattle.tcap_laws.proofs.Receptions.BytesNames.{names_in}
 
 -- ---- the dialogue that is named
 
@@ -50,11 +49,11 @@ live-destined live dialogue (Some octets) e = by-named (dialogue_named octets) e
 -- ---- faulty messages
 
 -- by its first octet
-broken-by : (dialogue first : ℕ) (abort : Option Output) (f : FrameFault)
+broken-by : (dialogue first : ℕ) (aborting : Option Message) (f : FrameFault)
     → (first == 0x64) || (first == 0x65) || (first == 0x67) ≡ true →
-    fault_by first (Some dialogue) abort f ≡ Reception.broken dialogue (if first == 0x65 then abort else None)
+    fault_by first (Some dialogue) aborting f ≡ Reception.broken dialogue (if first == 0x65 then aborting else None)
     (fault_cause f)
-broken-by dialogue first abort f is = elim (or_cases ((first == 0x64) || (first == 0x65)) (first == 0x67) is) [
+broken-by dialogue first aborting f is = elim (or_cases ((first == 0x64) || (first == 0x65)) (first == 0x67) is) [
   | inl others ↦ elim (or_cases (first == 0x64) (first == 0x65) others) [
     | inl end ↦ alike 0x64 (eqb-true first 0x64 end) refl
     | inr go_on ↦ alike 0x65 (eqb-true first 0x65 go_on) refl
@@ -63,8 +62,8 @@ broken-by dialogue first abort f is = elim (or_cases ((first == 0x64) || (first 
 ]
   where
     IsBroken : ℕ → Type 0
-    IsBroken n = fault_by n (Some dialogue) abort f
-        ≡ Reception.broken dialogue (if n == 0x65 then abort else None) (fault_cause f)
+    IsBroken n = fault_by n (Some dialogue) aborting f
+        ≡ Reception.broken dialogue (if n == 0x65 then aborting else None) (fault_cause f)
 
     alike : (n : ℕ) → first ≡ n → IsBroken n → IsBroken first
     alike n same broken = subst IsBroken (sym same) broken
@@ -85,7 +84,7 @@ faulty-broken live dialogue (first ∷ bytes) f is lives = elim (cases_Bool (beg
 -- ---- bytes that name a live dialogue
 
 module _ (live : ℕ → Bool) (full : Bool) (dialogue : ℕ) (bytes : List ℕ)
-    (named : names (Event.received bytes) dialogue ≡ true) (lives : live dialogue ≡ true) where
+    (named : names_in bytes dialogue ≡ true) (lives : live dialogue ≡ true) where
   within : nat_le (length bytes) message_limit ≡ true
   within = by (nat_le (length bytes) message_limit) named
     where
@@ -122,18 +121,18 @@ module _ (live : ℕ → Bool) (full : Bool) (dialogue : ℕ) (bytes : List ℕ)
 -- what a dialogue takes and what breaks it names it, and it is live
 abbrev pub IsNamed : (ℕ → Bool) → List ℕ → Reception → Type 0
 IsNamed live bytes (Reception.dropped why) = Unit {0}
-IsNamed live bytes (Reception.aborted abort) = Unit {0}
+IsNamed live bytes (Reception.aborted aborting) = Unit {0}
 IsNamed live bytes (Reception.unidirectional context info components) = Unit {0}
 IsNamed live bytes (Reception.begun origin context info components) = Unit {0}
 IsNamed live bytes (Reception.taken dialogue message) =
-    (names (Event.received bytes) dialogue ≡ true) × (live dialogue ≡ true) × (frame_at bytes ≡ Ok message)
-IsNamed live bytes (Reception.broken dialogue abort cause) =
-    (names (Event.received bytes) dialogue ≡ true) × (live dialogue ≡ true) × (f : FrameFault)
+    (names_in bytes dialogue ≡ true) × (live dialogue ≡ true) × (frame_at bytes ≡ Ok message)
+IsNamed live bytes (Reception.broken dialogue aborting cause) =
+    (names_in bytes dialogue ≡ true) × (live dialogue ≡ true) × (f : FrameFault)
     × (frame_at bytes ≡ Err f) × (cause ≡ fault_cause f)
 
 module _ (live : ℕ → Bool) (bytes : List ℕ) (short : nat_le (length bytes) message_limit ≡ true) where
   names-by : (dialogue : ℕ) (read : Result Message FrameFault) → frame_at bytes ≡ read
-      → is_destined dialogue (destination_by bytes read) ≡ true → names (Event.received bytes) dialogue ≡ true
+      → is_destined dialogue (destination_by bytes read) ≡ true → names_in bytes dialogue ≡ true
   names-by dialogue read e is = rw (short, e) is
 
   taken-named : (dialogue : ℕ) (m : Message) → frame_at bytes ≡ Ok m
@@ -178,20 +177,20 @@ module _ (live : ℕ → Bool) (bytes : List ℕ) (short : nat_le (length bytes)
       last-named (Message.end to portion components) e (addressed live to) refl
   message-named full (Message.abort to reason) e = last-named (Message.abort to reason) e (addressed live to) refl
 
-aborted-named : (live : ℕ → Bool) (bytes : List ℕ) (abort : Option Output)
-    → IsNamed live bytes (aborted_or_dropped abort)
+aborted-named : (live : ℕ → Bool) (bytes : List ℕ) (aborting : Option Message)
+    → IsNamed live bytes (aborted_or_dropped aborting)
 aborted-named live bytes None = tt
-aborted-named live bytes (Some abort) = tt
+aborted-named live bytes (Some aborting) = tt
 
 module _ (live : ℕ → Bool) (first : ℕ) (bytes : List ℕ) (f : FrameFault)
     (short : nat_le (length (first ∷ bytes)) message_limit ≡ true) (fails : frame_at (first ∷ bytes) ≡ Err f) where
   abbrev to : Option (List ℕ)
   to = (front_at (first ∷ bytes)).1
 
-  broken-named : (dialogue : ℕ) (abort : Option Output) → begins_addressed (first ∷ bytes) ≡ true
+  broken-named : (dialogue : ℕ) (aborting : Option Message) → begins_addressed (first ∷ bytes) ≡ true
       → addressed_if_any live to ≡ Some dialogue → IsNamed live (first ∷ bytes)
-      (Reception.broken dialogue abort (fault_cause f))
-  broken-named dialogue abort begins is =
+      (Reception.broken dialogue aborting (fault_cause f))
+  broken-named dialogue aborting begins is =
       let it = live-destined live dialogue to is in
       (names-by live (first ∷ bytes) short dialogue (Err f) fails (rw begins it.0), it.1, f, fails, refl)
 
@@ -200,24 +199,24 @@ module _ (live : ℕ → Bool) (first : ℕ) (bytes : List ℕ) (f : FrameFault)
   broken-last begins (Some d) is = broken-named d None begins is
   broken-last begins None is = tt
 
-  broken-continue : begins_addressed (first ∷ bytes) ≡ true → (abort : Option Output) (named : Option ℕ)
-      → addressed_if_any live to ≡ named → IsNamed live (first ∷ bytes) (faulty_continue named abort f)
-  broken-continue begins abort (Some d) is = broken-named d abort begins is
-  broken-continue begins abort None is = aborted-named live (first ∷ bytes) abort
+  broken-continue : begins_addressed (first ∷ bytes) ≡ true → (aborting : Option Message) (named : Option ℕ)
+      → addressed_if_any live to ≡ named → IsNamed live (first ∷ bytes) (faulty_continue named aborting f)
+  broken-continue begins aborting (Some d) is = broken-named d aborting begins is
+  broken-continue begins aborting None is = aborted-named live (first ∷ bytes) aborting
 
-  fault-named : (abort : Option Output) → IsNamed live (first ∷ bytes)
-      (fault_by first (addressed_if_any live to) abort f)
-  fault-named abort =
+  fault-named : (aborting : Option Message) → IsNamed live (first ∷ bytes)
+      (fault_by first (addressed_if_any live to) aborting f)
+  fault-named aborting =
       let a = first == 0x64 in
       let b = first == 0x65 in
       let c = first == 0x67 in
       let either = either-named live (first ∷ bytes) short in
       either (first == 0x61) _ _ (λ y. tt)
       (λ n. either a _ _ (λ y. broken-last (or_left (a || b) c (or_left a b y)) (addressed_if_any live to) refl)
-      (λ n. either b _ _ (λ y. broken-continue (or_left (a || b) c (or_right a b y)) abort (addressed_if_any live to)
+      (λ n. either b _ _ (λ y. broken-continue (or_left (a || b) c (or_right a b y)) aborting (addressed_if_any live to)
       refl)
       (λ n. either c _ _ (λ y. broken-last (or_right (a || b) c y) (addressed_if_any live to) refl)
-      (λ n. aborted-named live (first ∷ bytes) abort))))
+      (λ n. aborted-named live (first ∷ bytes) aborting))))
 
 faulty-named : (live : ℕ → Bool) (bytes : List ℕ) (f : FrameFault) → nat_le (length bytes) message_limit ≡ true
     → frame_at bytes ≡ Err f → IsNamed live bytes (faulty live bytes f)

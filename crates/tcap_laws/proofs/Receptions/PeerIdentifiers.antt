@@ -40,7 +40,7 @@ begun-id bytes (Err fault) e = tt
 born-id : (event : Event) → LifeId (born_life event)
 born-id Event.new_dialogue = tt
 born-id (Event.on_dialogue dialogue request) = tt
-born-id (Event.received bytes) = begun-id bytes (frame_at bytes) refl
+born-id (Event.received from bytes) = begun-id bytes (frame_at bytes) refl
 born-id (Event.moment now) = tt
 
 birth-id : (birth : Bool) (event : Event) → LifeId (life_at_birth birth event)
@@ -56,8 +56,8 @@ activated-id (State.active peer) id = id
 request-id : (state : State) (context : Option (List ℕ)) (request : Request) → StateId state
     → LifeId (life_by_request state context request)
 request-id state context (Request.component asked) peer = peer
-request-id state context (Request.dialogue (DialogueRequest.uni asked info)) peer = tt
-request-id state context (Request.dialogue (DialogueRequest.begin asked info)) peer = tt
+request-id state context (Request.dialogue (DialogueRequest.uni to asked info)) peer = tt
+request-id state context (Request.dialogue (DialogueRequest.begin to asked info)) peer = tt
 request-id state context (Request.dialogue (DialogueRequest.go_on asked info)) peer = activated-id state peer
 request-id state context (Request.dialogue (DialogueRequest.finish ending asked info)) peer = tt
 request-id state context (Request.dialogue (DialogueRequest.u_abort why info)) peer = tt
@@ -109,7 +109,7 @@ event-id : (idle_ms last : ℕ) (state : State) (context : Option (List ℕ)) (e
 event-id idle_ms last state context Event.new_dialogue accepted peer = peer
 event-id idle_ms last state context (Event.on_dialogue dialogue request) accepted peer =
     accepted-id accepted state context request peer
-event-id idle_ms last state context (Event.received bytes) accepted peer =
+event-id idle_ms last state context (Event.received from bytes) accepted peer =
     live-id (is_live state) state context bytes peer
 event-id idle_ms last state context (Event.moment now) accepted peer =
     moment-id (accepted && is_idle idle_ms last now) state context peer

@@ -12,8 +12,7 @@ use Rattle.tcap_pdu.specs.FrameSpelling.{Message, Reason, HasIds, HasCause, caus
 use Rattle.tcap_pdu.specs.FrameWritten.{message_limit, written_frame}
 use Rattle.tcap_pdu.specs.TransId.{IsTransId}
 use Rattle.tcap_pdu.proofs.CallerLemmas.{length-own, written_spelled}
-use Rattle.tcap_model.specs.Procedures.AbortRules.{message_sent, abort_with, abnormal_abort, version_abort}
-use Rattle.tcap_model.specs.Words.Output.{Output}
+use Rattle.tcap_model.specs.Procedures.AbortRules.{abort_with, abnormal_abort, version_abort}
 use Rattle.tcap_model.specs.Statements.SentMessage.{IsMessage}
 
 -- a message that can be sent
@@ -22,9 +21,9 @@ pub record CanGo (m : Message) : Type 0 where
   pub has_cause : HasCause m
   pub is_short : length (written_frame m) ≤ message_limit
 
--- an output that sends an Abort
-abbrev pub Sends : Output → Type 0
-Sends output = (peer : List ℕ) × (reason : Reason) × (output ≡ message_sent (Message.abort peer reason))
+-- a message that is an Abort and can be sent
+abbrev pub Sends : Message → Type 0
+Sends aborting = (peer : List ℕ) × (reason : Reason) × (aborting ≡ Message.abort peer reason)
     × CanGo (Message.abort peer reason)
 
 pub goes-spelled : (m : Message) → CanGo m → IsMessage m (written_frame m)

@@ -17,7 +17,7 @@ use Rattle.tcap_model.specs.Procedures.Destination.{destination, destination_by}
 use Rattle.tcap_model.specs.Words.Event.{Event}
 use Rattle.tcap_model.specs.Histories.Life.{Life, life_after, life_by_message, touched}
 use Rattle.tcap_model.specs.Invocations.Marks.{Mark, marks_of_component, component_marks, end_if_over, if_normal, marks_of_message, marks}
-use Rattle.tcap_model.specs.Histories.Names.{is_destined, named_within, names}
+use Rattle.tcap_model.specs.Histories.Names.{is_destined, named_within}
 use Rattle.tcap_model.specs.Histories.Pair.{Pair, Past}
 use Rattle.tcap_model.specs.Procedures.PortionRules.{portion_verdict}
 use Rattle.tcap_model.specs.Statements.ReceivedMark.{Reaches, Means, noted_at, marks_of_components}
@@ -26,6 +26,7 @@ use Rattle.tcap_model.specs.Statements.ReceivedMark.Means.{continued, ended, con
 use Rattle.tcap_model.specs.Words.State.{State}
 use Rattle.tcap_laws.proofs.Receptions.NamedBytes.{named-by_grammar}
 use Rattle.tcap_laws.proofs.Receptions.NormalPortions.{normal-verdict, abnormal-verdict, normal-or-not}
+use Rattle.tcap_laws.proofs.Receptions.BytesNames.{names_in}
 
 -- ---- components
 
@@ -45,14 +46,14 @@ components-marks id components fault content first =
 -- ---- the dialogue that bytes name
 
 pub spelled-names : (dialogue : ℕ) (m : Message) (bytes : List ℕ) → SpellsFrame m bytes → length bytes ≤ message_limit
-    → names (Event.received bytes) dialogue ≡ is_destined dialogue (destination m)
+    → names_in bytes dialogue ≡ is_destined dialogue (destination m)
 spelled-names dialogue m bytes spelled within =
     rw (le-leb (length bytes) message_limit within)
     (ap (λ (read : Result Message FrameFault). is_destined dialogue (destination_by bytes read))
     (frame_again m bytes spelled))
 
 -- a message without destination names none
-pub unaddressed : (dialogue : ℕ) (bytes : List ℕ) → names (Event.received bytes) dialogue ≡ true → (m : Message)
+pub unaddressed : (dialogue : ℕ) (bytes : List ℕ) → names_in bytes dialogue ≡ true → (m : Message)
     → frame_at bytes ≡ Ok m → destination m ≡ None → ⊥
 unaddressed dialogue bytes names_it m e none = by (nat_le (length bytes) message_limit) names_it
   where
@@ -64,13 +65,13 @@ unaddressed dialogue bytes names_it m e none = by (nat_le (length bytes) message
 
 module _ (dialogue : ℕ) (id : ℤ) (state : State) (context : Option (List ℕ)) (bytes : List ℕ) (pair : Pair)
     (past : Past) (reaches : Reaches dialogue state context bytes pair past) where
-  named : names (Event.received bytes) dialogue ≡ true
+  named : names_in bytes dialogue ≡ true
   named = named-by_grammar dialogue bytes reaches.names_it
 
   -- the life after the bytes
   after-is : (answer : Answer) (idle_ms last : ℕ) (read : Result Message FrameFault) → frame_at bytes ≡ read
       → life_after dialogue last (Life.standing state context)
-      (record { event = Event.received bytes; answer = answer; idle_ms = idle_ms })
+      (record { event = Event.received reaches.from bytes; answer = answer; idle_ms = idle_ms })
       ≡ life_by_message state context read
   after-is answer idle_ms last read e = rw (named, reaches.is_live, e) refl
 

@@ -66,8 +66,8 @@ refusing-ids state (Some context) info id = abort-ids state (refusing_abort cont
 
 pub message-ids : (d : Standing) (request : Request) → StateId d.state → IfMessage (message_of d request)
 message-ids d (Request.component asked) peer = tt
-message-ids d (Request.dialogue (DialogueRequest.uni context info)) peer = (tt, tt)
-message-ids d (Request.dialogue (DialogueRequest.begin context info)) peer = (local-id d.identifier, tt)
+message-ids d (Request.dialogue (DialogueRequest.uni to context info)) peer = (tt, tt)
+message-ids d (Request.dialogue (DialogueRequest.begin to context info)) peer = (local-id d.identifier, tt)
 message-ids d (Request.dialogue (DialogueRequest.go_on context info)) peer =
     continue-ids d d.state (answer_portion d.state d.context context info) peer
 message-ids d (Request.dialogue (DialogueRequest.finish Ending.basic context info)) peer =
@@ -89,12 +89,12 @@ not-long s request e =
 not-passing : (s : Situation) (request : Request) → due_on s request ≡ None
     → passes_message (message_of s.standing request) ≡ false
 not-passing s (Request.component asked) due = refl
-not-passing s (Request.dialogue (DialogueRequest.uni context info)) due =
-    let r : Request = Request.dialogue (DialogueRequest.uni context info) in
+not-passing s (Request.dialogue (DialogueRequest.uni to context info)) due =
+    let r : Request = Request.dialogue (DialogueRequest.uni to context info) in
     let none = first_that-none (holds s r) (faults_of r) due in
     not-long s r none.1.1.1.1.1.1.0
-not-passing s (Request.dialogue (DialogueRequest.begin context info)) due =
-    let r : Request = Request.dialogue (DialogueRequest.begin context info) in
+not-passing s (Request.dialogue (DialogueRequest.begin to context info)) due =
+    let r : Request = Request.dialogue (DialogueRequest.begin to context info) in
     let none = first_that-none (holds s r) (faults_of r) due in
     not-long s r none.1.1.1.1.1.0
 not-passing s (Request.dialogue (DialogueRequest.go_on context info)) due =

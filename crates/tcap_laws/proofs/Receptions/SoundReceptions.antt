@@ -16,28 +16,27 @@ use Rattle.tcap_pdu.specs.TransId.{IsTransId, id_of}
 use Rattle.tcap_pdu.proofs.CallerLemmas.{frame_takes, front_read, id_of-is, dialogue_takes, spelled_context}
 use Rattle.tcap_model.specs.Procedures.AbortRules.{fault_cause, unrecognized_id, resource_limitation}
 use Rattle.tcap_model.specs.Histories.Life.{begin_context}
-use Rattle.tcap_model.specs.Words.Output.{Output}
 use Rattle.tcap_model.specs.Procedures.PortionRules.{BeginVerdict, begin_verdict, begin_verdict_by, PortionVerdict, uni_verdict}
 use Rattle.tcap_model.specs.Procedures.Reception.{Reception, addressed, addressed_if_any, uni_by, begin_by, continue_by, final_message_by, message_by, fault_abort, aborted_or_dropped, faulty_continue, faulty_last, fault_by, faulty, reading_by, reception}
 use Rattle.tcap_laws.proofs.Receptions.ProviderAborts.{Sends, cause-sends, abnormal-sends, version-sends}
 
 -- an Abort that goes out, if one does, can be sent
-abbrev pub IfSends : Option Output → Type 0
+abbrev pub IfSends : Option Message → Type 0
 IfSends None = Unit {0}
-IfSends (Some abort) = Sends abort
+IfSends (Some aborting) = Sends aborting
 
 -- what is sent can be sent; a Unidirectional that is told was read as one, what gives birth to a
 -- dialogue as a Begin, and what a dialogue takes as that message
 abbrev pub IsSound : Bool → List ℕ → Reception → Type 0
 IsSound full bytes (Reception.dropped why) = Unit {0}
-IsSound full bytes (Reception.aborted abort) = Sends abort
+IsSound full bytes (Reception.aborted aborting) = Sends aborting
 IsSound full bytes (Reception.unidirectional context info components) =
     (portion : Option (List ℕ)) × (frame_at bytes ≡ Ok (Message.unidirectional portion components))
 IsSound full bytes (Reception.begun origin context info components) =
     (portion : Option (List ℕ)) × (frame_at bytes ≡ Ok (Message.begin origin portion components))
     × (begin_context (begin_verdict portion) ≡ context) × (full ≡ false)
 IsSound full bytes (Reception.taken dialogue message) = frame_at bytes ≡ Ok message
-IsSound full bytes (Reception.broken dialogue abort cause) = IfSends abort
+IsSound full bytes (Reception.broken dialogue aborting cause) = IfSends aborting
 
 -- ---- messages that can be read
 
@@ -136,15 +135,15 @@ abort-if : (f : FrameFault) (origin : Option (List ℕ)) → IfId origin → IfS
 abort-if f None id = tt
 abort-if f (Some origin) id = cause-sends (fault_cause f) origin (cause-within f) id
 
-aborted-sound : (full : Bool) (bytes : List ℕ) (abort : Option Output) → IfSends abort
-    → IsSound full bytes (aborted_or_dropped abort)
+aborted-sound : (full : Bool) (bytes : List ℕ) (aborting : Option Message) → IfSends aborting
+    → IsSound full bytes (aborted_or_dropped aborting)
 aborted-sound full bytes None sends = tt
-aborted-sound full bytes (Some abort) sends = sends
+aborted-sound full bytes (Some aborting) sends = sends
 
-broken-sound : (full : Bool) (bytes : List ℕ) (named : Option ℕ) (abort : Option Output) (f : FrameFault)
-    → IfSends abort → IsSound full bytes (faulty_continue named abort f)
-broken-sound full bytes (Some d) abort f sends = sends
-broken-sound full bytes None abort f sends = aborted-sound full bytes abort sends
+broken-sound : (full : Bool) (bytes : List ℕ) (named : Option ℕ) (aborting : Option Message) (f : FrameFault)
+    → IfSends aborting → IsSound full bytes (faulty_continue named aborting f)
+broken-sound full bytes (Some d) aborting f sends = sends
+broken-sound full bytes None aborting f sends = aborted-sound full bytes aborting sends
 
 ended-sound : (full : Bool) (bytes : List ℕ) (named : Option ℕ) (f : FrameFault)
     → IsSound full bytes (faulty_last named f)
@@ -156,14 +155,14 @@ either-sound : (full : Bool) (bytes : List ℕ) (test : Bool) (x y : Reception) 
 either-sound full bytes true x y p q = p
 either-sound full bytes false x y p q = q
 
-fault-sound : (full : Bool) (bytes : List ℕ) (first : ℕ) (named : Option ℕ) (abort : Option Output) (f : FrameFault)
-    → IfSends abort → IsSound full bytes (fault_by first named abort f)
-fault-sound full bytes first named abort f sends =
+fault-sound : (full : Bool) (bytes : List ℕ) (first : ℕ) (named : Option ℕ) (aborting : Option Message) (f : FrameFault)
+    → IfSends aborting → IsSound full bytes (fault_by first named aborting f)
+fault-sound full bytes first named aborting f sends =
     either-sound full bytes (first == 0x61) _ _ tt
     (either-sound full bytes (first == 0x64) _ _ (ended-sound full bytes named f)
-    (either-sound full bytes (first == 0x65) _ _ (broken-sound full bytes named abort f sends)
+    (either-sound full bytes (first == 0x65) _ _ (broken-sound full bytes named aborting f sends)
     (either-sound full bytes (first == 0x67) _ _ (ended-sound full bytes named f)
-    (aborted-sound full bytes abort sends))))
+    (aborted-sound full bytes aborting sends))))
 
 faulty-sound : (full : Bool) (live : ℕ → Bool) (bytes : List ℕ) (f : FrameFault)
     → IsSound full bytes (faulty live bytes f)

@@ -1,5 +1,5 @@
 -- What a legal history tells of components stands for what was received.
-use Rattle.std.proofs.Common.{ℕ, true, false, Bool, List, [], ◌∷◌, ◌++◌, filter_map, nat_lt, Option, Some, None, Ok, Err, if◌then◌else◌, refl, sym, subst, ◌∙◌}
+use Rattle.std.proofs.Common.{ℕ, true, false, Bool, List, [], ◌∷◌, ◌++◌, nat_lt, Option, Some, None, Ok, Err, if◌then◌else◌, refl, sym, subst, ◌∙◌}
 use Rattle.std.specs.List.{AllByRecursion}
 use Rattle.tcap_pdu.specs.FrameSpelling.{Message, SpellsFrame}
 use Rattle.tcap_model.specs.Procedures.AbortRules.{sent_if_any}
@@ -12,16 +12,14 @@ use Rattle.tcap_model.specs.Words.Event.{Event}
 use Rattle.tcap_model.specs.Words.Fault.{Fault}
 use Rattle.tcap_model.specs.Replies.Held.{pending}
 use Rattle.tcap_model.specs.Histories.History.{History, Start}
-use Rattle.tcap_model.specs.Invocations.Invocation.{invocations}
 use Rattle.tcap_model.specs.Replies.Legal.{AreReplies}
 use Rattle.tcap_model.specs.Histories.Life.{Life, life}
 use Rattle.tcap_model.specs.Words.Output.{Output, Closing, Rejector, ComponentIndication}
 use Rattle.tcap_model.specs.Histories.Pair.{Past}
 use Rattle.tcap_model.specs.Procedures.Reception.{Reception}
-use Rattle.tcap_model.specs.Words.KeyOrder.{in_order}
-use Rattle.tcap_model.specs.Replies.Reply.{ended_in, given_up_answer, last_answer, accepted_answer, request_answer, moment_outputs, moment_answer, birth_answer, reply}
+use Rattle.tcap_model.specs.Replies.Reply.{ended_in, given_up_answer, last_answer, accepted_answer, request_answer, moment_outputs, moment_answer, birth_answer, reply, request_sent}
 use Rattle.tcap_model.specs.Words.Request.{Request, ComponentRequest, DialogueRequest}
-use Rattle.tcap_model.specs.Procedures.RequestMessage.{message_of}
+use Rattle.tcap_model.specs.Procedures.RequestMessage.{message_of, request_address}
 use Rattle.tcap_model.specs.Procedures.Standing.{Standing}
 use Rattle.tcap_model.specs.Words.Time.{moment_fault}
 use Rattle.tcap_laws.proofs.Receptions.EachComponent.{IsReadIn}
@@ -32,6 +30,8 @@ use Rattle.tcap_laws.proofs.ListLemmas.{each-append, one-of}
 use Rattle.tcap_model.specs.Invocations.SentThere.{sent_there}
 use Rattle.tcap_model.specs.Statements.ToldFrom.{EachIsToldFrom, IsOfComponent, StandsFor, ToldFromOne}
 use Rattle.tcap_model.specs.Statements.ComponentPortion.{portion_of}
+use Rattle.tcap_model.specs.Words.Address.{Address}
+use Rattle.tcap_model.specs.Histories.Kept.{kept_address}
 
 -- ---- outputs that are no indication of a component
 
@@ -47,7 +47,7 @@ IsAnswering Closing.given_up = ⊥
 
 -- the indications of components, by their form
 abbrev Indicates : Output → Type 0
-Indicates (Output.send bytes) = ⊥
+Indicates (Output.send to bytes) = ⊥
 Indicates (Output.dialogue indication) = ⊥
 Indicates (Output.component (ComponentIndication.invoked dialogue id linked code parameter)) = Unit {0}
 Indicates (Output.component (ComponentIndication.result_more dialogue number id body)) = Unit {0}
@@ -97,17 +97,18 @@ AllStand event outputs = AllByRecursion (StandsForOne event) outputs
 
 besides-stand : (event : Event) → HoldsBesides (StandsForOne event)
 besides-stand event = record {
-  sends = λ bytes of. absurd (indicates _ of);
+  sends = λ to bytes of. absurd (indicates _ of);
   tells = λ indication of. absurd (indicates _ of);
   ends = λ dialogue number id of. absurd (indicates _ of);
   drops = λ why of. absurd (indicates _ of);
 }
 
-module _ (bytes : List ℕ) (m : Message) (spelled : SpellsFrame m bytes) where
+module _ (from : Address) (bytes : List ℕ) (m : Message) (spelled : SpellsFrame m bytes) where
   one-stands : (item : Item) → IsReadIn (portion_of m) item → (output : Output)
       → (IsOfComponent output → StandsForItem item output)
-      → StandsForOne (Event.received bytes) output
+      → StandsForOne (Event.received from bytes) output
   one-stands (Ok c) read output shown of = record {
+    from = from;
     bytes = bytes;
     message = m;
     earlier = read.earlier;
@@ -122,29 +123,30 @@ module _ (bytes : List ℕ) (m : Message) (spelled : SpellsFrame m bytes) where
   one-stands (Err f) read output shown of = absurd (shown of)
 
   handled-stands : (dialogue : Option ℕ) (sent : Option SentInvocation) (item : Item) → IsReadIn (portion_of m) item
-      → StandsForOne (Event.received bytes) (handled dialogue sent item).told
+      → StandsForOne (Event.received from bytes) (handled dialogue sent item).told
   handled-stands dialogue sent item read =
       one-stands item read (handled dialogue sent item).told
       (shows dialogue sent item (handled dialogue sent item) (comes_of dialogue sent item))
 
-each-stands : (h : History) (bytes : List ℕ) (r : Reception)
-    → HoldsOfEach (StandsForOne (Event.received bytes)) h bytes r
-each-stands h bytes r = record {
-  of_uni = λ m spelled. handled-stands bytes m spelled None None;
+each-stands : (h : History) (from : Address) (bytes : List ℕ) (r : Reception)
+    → HoldsOfEach (StandsForOne (Event.received from bytes)) h from bytes r
+each-stands h from bytes r = record {
+  of_uni = λ m spelled. handled-stands from bytes m spelled None None;
   of_named = λ m spelled dialogue named earlier item read.
-      handled-stands bytes m spelled (Some dialogue) (sent_there dialogue h.pairs earlier (subject_of item)) item read;
+      handled-stands from bytes m spelled (Some dialogue)
+      (sent_there dialogue h.pairs earlier (subject_of item)) item read;
   of_born = λ m spelled begun earlier item read.
       let next = next_dialogue h in
-      handled-stands bytes m spelled (Some next) (sent_there next h.pairs earlier (subject_of item)) item read;
+      handled-stands from bytes m spelled (Some next) (sent_there next h.pairs earlier (subject_of item)) item read;
 }
 
 ended-stand : (event : Event) (dialogue : ℕ) (past : Past) (components : List Item)
     → AllStand event (ended_in dialogue past components)
 ended-stand event = each-ended (StandsForOne event) (λ dialogue number id of. absurd (indicates _ of))
 
-sent_if_any-stand : (event : Event) (message : Option Message) → AllStand event (sent_if_any message)
-sent_if_any-stand event None = tt
-sent_if_any-stand event (Some m) = ((λ of. absurd (indicates _ of)), tt)
+sent_if_any-stand : (event : Event) (to : Address) (message : Option Message) → AllStand event (sent_if_any to message)
+sent_if_any-stand event to None = tt
+sent_if_any-stand event to (Some m) = ((λ of. absurd (indicates _ of)), tt)
 
 -- ---- all replies
 
@@ -156,11 +158,16 @@ AnswerStands event (Answer.given_up n) = Unit {0}
 AnswerStands event (Answer.outputs outputs) = AllStand event outputs
 AnswerStands event (Answer.refused fault) = Unit {0}
 
-last-stands : (event : Event) (dialogue : ℕ) (past : Past) (message : Option Message)
-    → AnswerStands event (last_answer dialogue past message)
-last-stands event dialogue past message =
-    each-append (StandsForOne event) (sent_if_any message) (ended_in dialogue past []) (sent_if_any-stand event message)
-    (ended-stand event dialogue past [])
+request-sent : (event : Event) (past : Past) (d : Standing) (request : Request)
+    → AllStand event (request_sent past d request)
+request-sent event past d request =
+    sent_if_any-stand event (request_address (kept_address d.identifier past) request) (message_of d request)
+
+last-stands : (event : Event) (past : Past) (d : Standing) (request : Request)
+    → AnswerStands event (last_answer past d request)
+last-stands event past d request =
+    each-append (StandsForOne event) (request_sent past d request) (ended_in d.identifier past [])
+    (request-sent event past d request) (ended-stand event d.identifier past [])
 
 given_up-stands : (event : Event) (number : Option ℕ) → AnswerStands event (given_up_answer number)
 given_up-stands event None = tt
@@ -175,17 +182,16 @@ accepted-stands event h d (Request.component (ComponentRequest.error_back id cod
 accepted-stands event h d (Request.component (ComponentRequest.u_reject id problem)) = tt
 accepted-stands event h d (Request.component (ComponentRequest.u_cancel id)) =
     given_up-stands event (pending d.identifier id h.pairs)
-accepted-stands event h d (Request.dialogue (DialogueRequest.uni context info)) =
-    last-stands event d.identifier h.pairs (message_of d (Request.dialogue (DialogueRequest.uni context info)))
-accepted-stands event h d (Request.dialogue (DialogueRequest.begin context info)) =
-    sent_if_any-stand event (message_of d (Request.dialogue (DialogueRequest.begin context info)))
+accepted-stands event h d (Request.dialogue (DialogueRequest.uni to context info)) =
+    last-stands event h.pairs d (Request.dialogue (DialogueRequest.uni to context info))
+accepted-stands event h d (Request.dialogue (DialogueRequest.begin to context info)) =
+    request-sent event h.pairs d (Request.dialogue (DialogueRequest.begin to context info))
 accepted-stands event h d (Request.dialogue (DialogueRequest.go_on context info)) =
-    sent_if_any-stand event (message_of d (Request.dialogue (DialogueRequest.go_on context info)))
+    request-sent event h.pairs d (Request.dialogue (DialogueRequest.go_on context info))
 accepted-stands event h d (Request.dialogue (DialogueRequest.finish ending context info)) =
-    last-stands event d.identifier h.pairs (message_of d
-    (Request.dialogue (DialogueRequest.finish ending context info)))
+    last-stands event h.pairs d (Request.dialogue (DialogueRequest.finish ending context info))
 accepted-stands event h d (Request.dialogue (DialogueRequest.u_abort why info)) =
-    last-stands event d.identifier h.pairs (message_of d (Request.dialogue (DialogueRequest.u_abort why info)))
+    last-stands event h.pairs d (Request.dialogue (DialogueRequest.u_abort why info))
 
 request-stands : (event : Event) (h : History) (dialogue : ℕ) (request : Request) (before : Life) (fault : Option Fault)
     → AnswerStands event (request_answer h dialogue request before fault)
@@ -221,9 +227,9 @@ reply-stands h Event.new_dialogue = birth-stands Event.new_dialogue h (birth_due
 reply-stands h (Event.on_dialogue dialogue request) =
     request-stands (Event.on_dialogue dialogue request) h dialogue request (life dialogue h.pairs)
     (due h dialogue request)
-reply-stands h (Event.received bytes) =
-    each-received (StandsForOne (Event.received bytes)) (besides-stand (Event.received bytes)) h bytes
-    (each-stands h bytes (received_at h bytes))
+reply-stands h (Event.received from bytes) =
+    each-received (StandsForOne (Event.received from bytes)) (besides-stand (Event.received from bytes)) h from bytes
+    (each-stands h from bytes (received_at h bytes))
 reply-stands h (Event.moment now) = moment-stands (Event.moment now) h.start.idle_ms h.pairs now (moment_fault now)
 
 -- ---- legal histories

@@ -16,7 +16,7 @@ use Rattle.tcap_model.specs.Invocations.SentThere.{sent_there}
 
 -- neither a Send nor a TC-BEGIN indication
 abbrev pub IsTold : Output → Type 0
-IsTold (Output.send bytes) = ⊥
+IsTold (Output.send to bytes) = ⊥
 IsTold (Output.dialogue (DialogueIndication.uni context info)) = Unit {0}
 IsTold (Output.dialogue (DialogueIndication.begin dialogue context info)) = ⊥
 IsTold (Output.dialogue (DialogueIndication.go_on dialogue context info)) = Unit {0}

@@ -17,7 +17,7 @@ use Rattle.tcap_model.specs.Histories.History.{Start}
 use Rattle.tcap_model.specs.Histories.Pair.{Past}
 use Rattle.tcap_model.specs.Invocations.Closes.{closing_of}
 use Rattle.tcap_model.specs.Invocations.Closings.{Told}
-use Rattle.tcap_model.specs.Invocations.Deadline.{sent_clock, deadline}
+use Rattle.tcap_model.specs.Invocations.Deadline.{sent_clock}
 use Rattle.tcap_model.specs.Invocations.Decision.{decision}
 use Rattle.tcap_model.specs.Invocations.Invocation.{Invocation, invocations, latest}
 use Rattle.tcap_model.specs.Invocations.Marks.{Mark, Noted}

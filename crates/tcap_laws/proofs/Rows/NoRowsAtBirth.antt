@@ -29,6 +29,8 @@ use Rattle.tcap_model.specs.Replies.Reply.{reply, birth_answer}
 use Rattle.tcap_model.specs.Words.Request.{Request, ComponentRequest}
 use Rattle.tcap_model.specs.Words.State.{State}
 use Rattle.tcap_model.specs.Table.World.{stage_by, row_by, is_number, row_of, rows_of, dialogue_at, dialogue_by}
+use Rattle.tcap_model.specs.Words.Address.{Address}
+use Rattle.tcap_model.specs.Histories.Kept.{kept_address, kept_after}
 
 -- ---- each invocation is of a dialogue that was born
 
@@ -130,18 +132,23 @@ module _ (h : History) (legal : IsLegal h) where
       (life_after next (touched next h.pairs) l here)) next_unborn
       ∙ (ap (λ b. dialogue_by h.start.reject_ms h.start.idle_ms next (here ∷ h.pairs)
       (life_at_birth b Event.new_dialogue)) birth
-      ∙ (ap (λ q. Some (made q (rows_of h.start.reject_ms next (here ∷ h.pairs)) (touched next (here ∷ h.pairs))))
+      ∙ (ap (λ q. Some (made q (rows_of h.start.reject_ms next (here ∷ h.pairs)) (touched next (here ∷ h.pairs))
+      (kept_address next (here ∷ h.pairs))))
       (ap (λ b. cond b [] (queue next h.pairs)) birth)
-      ∙ (ap (λ rows. Some (made [] rows (touched next (here ∷ h.pairs))))
+      ∙ (ap (λ rows. Some (made [] rows (touched next (here ∷ h.pairs)) (kept_address next (here ∷ h.pairs))))
       (rows_born h.start.reject_ms h.start here h.pairs legal.1 refl next next_unborn)
-      ∙ ap (λ t. Some (made [] [] t)) (next_untouched Event.new_dialogue))))
+      ∙ (ap (λ t. Some (made [] [] t (kept_address next (here ∷ h.pairs)))) (next_untouched Event.new_dialogue)
+      ∙ ap (λ kept. Some (made [] [] 0 kept))
+      (ap (λ l. kept_after next l (kept_address next h.pairs) here) next_unborn
+      ∙ ap (λ b. cond b [] (kept_address next h.pairs)) birth)))))
     where
-      made : List Queued → List Row → ℕ → Dialogue
-      made q rows t = record {
+      made : List Queued → List Row → ℕ → Address → Dialogue
+      made q rows t address = record {
         standing =
             record { identifier = next; state = State.fresh; context = None; queue = q };
         invocations =
             record { reject_ms = h.start.reject_ms; rows = rows };
         idle_ms = h.start.idle_ms;
         touched = t;
+        kept = address;
       }

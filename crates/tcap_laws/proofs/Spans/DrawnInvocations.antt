@@ -124,7 +124,7 @@ draws_request h d (Request.dialogue asked) i (Some n) q e = absurd cc
 draws_reply : (h : History) (e : Event) (i : Invocation) → invoked_of e (reply h e) ≡ Some i → Draws h i
 draws_reply h Event.new_dialogue i e = absurd cc
 draws_reply h (Event.on_dialogue d r) i e = draws_request h d r i (number_of (reply h (Event.on_dialogue d r))) refl e
-draws_reply h (Event.received bytes) i e = absurd cc
+draws_reply h (Event.received from bytes) i e = absurd cc
 draws_reply h (Event.moment now) i e = absurd cc
 
 pub draws : (start : Start) (pair : Pair) (past : Past) (i : Invocation) → AreReplies start (pair ∷ past)

@@ -190,9 +190,9 @@ reached_step (Event.on_dialogue d r) answer idle_ms past until now dialogue id r
     ap (λ b. pair_ends_wait until dialogue id (pair_of (Event.on_dialogue d r) answer idle_ms) || b)
     (more early) ∙ or_true (pair_ends_wait until dialogue id
     (pair_of (Event.on_dialogue d r) answer idle_ms))
-reached_step (Event.received bytes) answer idle_ms past until now dialogue id rest at early more =
-    ap (λ b. pair_ends_wait until dialogue id (pair_of (Event.received bytes) answer idle_ms) || b)
-    (more early) ∙ or_true (pair_ends_wait until dialogue id (pair_of (Event.received bytes) answer idle_ms))
+reached_step (Event.received from bytes) answer idle_ms past until now dialogue id rest at early more =
+    ap (λ b. pair_ends_wait until dialogue id (pair_of (Event.received from bytes) answer idle_ms) || b)
+    (more early) ∙ or_true (pair_ends_wait until dialogue id (pair_of (Event.received from bytes) answer idle_ms))
 reached_step (Event.moment m) answer idle_ms past until now dialogue id rest at early more =
     go (is_accepted answer) (nat_le until m) refl refl
   where

@@ -1,5 +1,5 @@
 -- A live dialogue hasn't stood still too long yet: the moment that reached its limit ended it.
-use Rattle.std.proofs.Common.{◌≡◌, ℕ, ◌+◌, ◌<◌, ◌≤◌, Bool, true, false, ◌&&◌, if◌then◌else◌, nat_lt, nat_le, max, List, [], ◌∷◌, ◌++◌, Option, Result, Ok, Err, refl, ap, sym, ◌∙◌, arith}
+use Rattle.std.proofs.Common.{◌≡◌, ℕ, ◌+◌, ◌<◌, ◌≤◌, Bool, true, false, ◌&&◌, if◌then◌else◌, nat_lt, nat_le, max, List, [], ◌∷◌, Option, Result, Ok, Err, refl, ap, sym, ◌∙◌, arith}
 use Rattle.std.proofs.lemmas.Bool.Decides.{nat_tests}
 use Rattle.tcap_pdu.specs.declared.fault.FrameFault.{FrameFault}
 use Rattle.tcap_pdu.specs.FrameSpelling.{Message}
@@ -7,14 +7,14 @@ use Rattle.tcap_pdu.specs.FrameReading.{frame_at}
 use Rattle.tcap_model.specs.Histories.Birth.{is_birth_of}
 use Rattle.tcap_model.specs.Histories.Clock.{clock, clock_after}
 use Rattle.tcap_model.specs.Histories.History.{Start}
-use Rattle.tcap_model.specs.Histories.Life.{Life, begun_life, born_life, life_at_birth, life_by_request, life_if_accepted, life_by_verdict, life_by_message, life_if_live, life_by_moment, life_by_event, life_if_named, life_after, life, touches_as_request, is_normal, touches_as_message, touches_as_event, touches, touched}
+use Rattle.tcap_model.specs.Histories.Life.{Life, begun_life, life_at_birth, life_by_request, life_if_accepted, life_by_verdict, life_by_message, life_if_live, life_by_moment, life_by_event, life_if_named, life_after, life, touches_as_request, is_normal, touches_as_message, touches_as_event, touches, touched}
 use Rattle.tcap_model.specs.Histories.Names.{names}
-use Rattle.tcap_model.specs.Histories.Pair.{Pair, Past, AreLimited}
+use Rattle.tcap_model.specs.Histories.Pair.{Past, AreLimited}
 use Rattle.tcap_model.specs.Procedures.PortionRules.{PortionVerdict, portion_verdict}
 use Rattle.tcap_model.specs.Replies.Legal.{AreReplies}
-use Rattle.tcap_model.specs.Words.Answer.{Answer, is_accepted}
+use Rattle.tcap_model.specs.Words.Answer.{is_accepted}
 use Rattle.tcap_model.specs.Words.Event.{Event}
-use Rattle.tcap_model.specs.Words.Request.{Request, ComponentRequest, DialogueRequest}
+use Rattle.tcap_model.specs.Words.Request.{Request, DialogueRequest}
 use Rattle.tcap_model.specs.Words.State.{State, is_live}
 use Rattle.tcap_model.specs.Words.Time.{is_idle}
 
@@ -74,8 +74,8 @@ module _ (idle_ms last before : ℕ) (s : State) (c : Option (List ℕ)) (timely
   request-timely : (r : Request) → life_by_request s c r ≡ Life.standing t e
       → Within idle_ms (if touches_as_request r then before else last) before
   request-timely (Request.component asked) is = stays-timely is
-  request-timely (Request.dialogue (DialogueRequest.uni asked info)) is = absurd cc
-  request-timely (Request.dialogue (DialogueRequest.begin asked info)) is = touched-timely
+  request-timely (Request.dialogue (DialogueRequest.uni to asked info)) is = absurd cc
+  request-timely (Request.dialogue (DialogueRequest.begin to asked info)) is = touched-timely
   request-timely (Request.dialogue (DialogueRequest.go_on asked info)) is = touched-timely
   request-timely (Request.dialogue (DialogueRequest.finish ending asked info)) is = absurd cc
   request-timely (Request.dialogue (DialogueRequest.u_abort why info)) is = absurd cc
@@ -126,7 +126,7 @@ module _ (idle_ms last before : ℕ) (s : State) (c : Option (List ℕ)) (timely
       → Within idle_ms (if touches_as_event s c event b then before else last) (clock_after before event b)
   event-timely Event.new_dialogue b is = stays-timely is
   event-timely (Event.on_dialogue d r) b is = accepted-timely b r is
-  event-timely (Event.received bytes) b is = bytes-timely (is_live s) bytes is
+  event-timely (Event.received from bytes) b is = bytes-timely (is_live s) bytes is
   event-timely (Event.moment now) true is = moment-timely now (is_idle idle_ms last now) refl is
   event-timely (Event.moment now) false is = stays-timely is
 
@@ -135,7 +135,7 @@ module _ (idle_ms last before : ℕ) (s : State) (c : Option (List ℕ)) (timely
       → Life.standing s c ≡ Life.standing t e → Within idle_ms last (clock_after before event b)
   other-timely Event.new_dialogue dialogue b unnamed is = stays-timely is
   other-timely (Event.on_dialogue d r) dialogue b unnamed is = stays-timely is
-  other-timely (Event.received bytes) dialogue b unnamed is = stays-timely is
+  other-timely (Event.received from bytes) dialogue b unnamed is = stays-timely is
   other-timely (Event.moment now) dialogue b unnamed is = absurd cc
 
 -- ---- a live dialogue is within its limit
@@ -160,7 +160,7 @@ born-isnt-live true Event.new_dialogue s c is live =
     let never : false ≡ true = ap is_live state ∙ live in
     cc
 born-isnt-live true (Event.on_dialogue d r) s c is live = cc
-born-isnt-live true (Event.received bytes) s c is live = begun-isnt-live (frame_at bytes) s c is live
+born-isnt-live true (Event.received from bytes) s c is live = begun-isnt-live (frame_at bytes) s c is live
 born-isnt-live true (Event.moment now) s c is live = cc
 
 pub live-within : (idle_ms dialogue : ℕ) (past : Past) (s : State) (c : Option (List ℕ)) → AreLimited idle_ms past

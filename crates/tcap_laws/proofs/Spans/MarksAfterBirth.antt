@@ -34,8 +34,8 @@ alive_by_request s c (Request.component (ComponentRequest.result_more id body)) 
 alive_by_request s c (Request.component (ComponentRequest.error_back id code parameter)) = refl
 alive_by_request s c (Request.component (ComponentRequest.u_reject id problem)) = refl
 alive_by_request s c (Request.component (ComponentRequest.u_cancel id)) = refl
-alive_by_request s c (Request.dialogue (DialogueRequest.uni asked info)) = refl
-alive_by_request s c (Request.dialogue (DialogueRequest.begin asked info)) = refl
+alive_by_request s c (Request.dialogue (DialogueRequest.uni to asked info)) = refl
+alive_by_request s c (Request.dialogue (DialogueRequest.begin to asked info)) = refl
 alive_by_request s c (Request.dialogue (DialogueRequest.go_on asked info)) = refl
 alive_by_request s c (Request.dialogue (DialogueRequest.finish ending asked info)) = refl
 alive_by_request s c (Request.dialogue (DialogueRequest.u_abort why info)) = refl
@@ -77,7 +77,7 @@ alive_by_event : (idle_ms last : ℕ) (s : State) (c : Option (List ℕ)) (e : E
     → was_alive (life_by_event idle_ms last s c e b) ≡ true
 alive_by_event idle_ms last s c Event.new_dialogue b = refl
 alive_by_event idle_ms last s c (Event.on_dialogue dialogue request) b = alive_if_accepted b s c request
-alive_by_event idle_ms last s c (Event.received bytes) b = alive_if_live (is_live s) s c bytes
+alive_by_event idle_ms last s c (Event.received from bytes) b = alive_if_live (is_live s) s c bytes
 alive_by_event idle_ms last s c (Event.moment now) b = alive_by_moment (b && is_idle idle_ms last now) s c
 
 alive_if_named : (b : Bool) (last : ℕ) (s : State) (c : Option (List ℕ)) (pair : Pair)

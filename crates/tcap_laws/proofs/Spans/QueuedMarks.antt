@@ -183,8 +183,8 @@ SparesAt id (Request.component (ComponentRequest.result_more named body)) = Unit
 SparesAt id (Request.component (ComponentRequest.error_back named code parameter)) = Unit {0}
 SparesAt id (Request.component (ComponentRequest.u_reject named problem)) = Unit {0}
 SparesAt id (Request.component (ComponentRequest.u_cancel named)) = int_eq named id ≡ false
-SparesAt id (Request.dialogue (DialogueRequest.uni context info)) = Unit {0}
-SparesAt id (Request.dialogue (DialogueRequest.begin context info)) = ⊥
+SparesAt id (Request.dialogue (DialogueRequest.uni to context info)) = Unit {0}
+SparesAt id (Request.dialogue (DialogueRequest.begin to context info)) = ⊥
 SparesAt id (Request.dialogue (DialogueRequest.go_on context info)) = ⊥
 SparesAt id (Request.dialogue (DialogueRequest.finish ending context info)) = Unit {0}
 SparesAt id (Request.dialogue (DialogueRequest.u_abort why info)) = Unit {0}
@@ -199,8 +199,8 @@ request-leaves id s c (Request.component (ComponentRequest.result_more named bod
 request-leaves id s c (Request.component (ComponentRequest.error_back named code parameter)) stands spares = tt
 request-leaves id s c (Request.component (ComponentRequest.u_reject named problem)) stands spares = tt
 request-leaves id s c (Request.component (ComponentRequest.u_cancel named)) stands spares = rw spares tt
-request-leaves id s c (Request.dialogue (DialogueRequest.uni context info)) stands spares = absurd stands
-request-leaves id s c (Request.dialogue (DialogueRequest.begin context info)) stands spares = absurd spares
+request-leaves id s c (Request.dialogue (DialogueRequest.uni to context info)) stands spares = absurd stands
+request-leaves id s c (Request.dialogue (DialogueRequest.begin to context info)) stands spares = absurd spares
 request-leaves id s c (Request.dialogue (DialogueRequest.go_on context info)) stands spares = absurd spares
 request-leaves id s c (Request.dialogue (DialogueRequest.finish ending context info)) stands spares = absurd stands
 request-leaves id s c (Request.dialogue (DialogueRequest.u_abort why info)) stands spares = absurd stands
@@ -210,7 +210,7 @@ abbrev pub Spares : ℤ → Event → Bool → Type 0
 Spares id Event.new_dialogue accepted = Unit {0}
 Spares id (Event.on_dialogue dialogue request) true = SparesAt id request
 Spares id (Event.on_dialogue dialogue request) false = Unit {0}
-Spares id (Event.received bytes) accepted = Unit {0}
+Spares id (Event.received from bytes) accepted = Unit {0}
 Spares id (Event.moment now) accepted = Unit {0}
 
 pub event-leaves : (idle_ms last : ℕ) (id : ℤ) (s : State) (c : Option (List ℕ)) (event : Event) (accepted : Bool)
@@ -220,7 +220,7 @@ event-leaves idle_ms last id s c Event.new_dialogue accepted stands spares = tt
 event-leaves idle_ms last id s c (Event.on_dialogue dialogue request) true stands spares =
     request-leaves id s c request stands spares
 event-leaves idle_ms last id s c (Event.on_dialogue dialogue request) false stands spares = tt
-event-leaves idle_ms last id s c (Event.received bytes) accepted stands spares = bytes-leave id s c bytes stands
+event-leaves idle_ms last id s c (Event.received from bytes) accepted stands spares = bytes-leave id s c bytes stands
 event-leaves idle_ms last id s c (Event.moment now) true stands spares =
     (tt, no-ending s c (life_by_moment (is_idle idle_ms last now) s c) stands)
 event-leaves idle_ms last id s c (Event.moment now) false stands spares = tt

@@ -220,7 +220,7 @@ module _ (i : Invocation) (past : Past) (made : is_some (invocation_of i.number 
       → clock (record { event = event; answer = answer; idle_ms = idle_ms } ∷ past) < s + max 1 i.timeout
   pair_within Event.new_dialogue answer idle_ms e = still_within
   pair_within (Event.on_dialogue d r) answer idle_ms e = still_within
-  pair_within (Event.received bytes) answer idle_ms e = still_within
+  pair_within (Event.received from bytes) answer idle_ms e = still_within
   pair_within (Event.moment now) answer idle_ms e = go (is_accepted answer) refl
     where
       go : (b : Bool) → is_accepted answer ≡ b → clock (at_moment now answer idle_ms ∷ past) < s + max 1 i.timeout

@@ -15,7 +15,7 @@ use Rattle.tcap_laws.proofs.Receptions.ToldOutputKinds.{IsTold, AreTold}
 
 pub told-first : (output : Output) (outputs : List Output) → IsTold output → first_begun outputs ≡ None →
     first_begun (output ∷ outputs) ≡ None
-told-first (Output.send bytes) outputs told e = absurd told
+told-first (Output.send to bytes) outputs told e = absurd told
 told-first (Output.dialogue (DialogueIndication.uni context info)) outputs told e = e
 told-first (Output.dialogue (DialogueIndication.begin dialogue context info)) outputs told e = absurd told
 told-first (Output.dialogue (DialogueIndication.go_on dialogue context info)) outputs told e = e

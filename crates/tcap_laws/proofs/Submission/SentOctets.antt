@@ -18,9 +18,9 @@ use Rattle.tcap_model.specs.Words.Output.{Output, ComponentIndication, DialogueI
 use Rattle.tcap_model.specs.Replies.Queue.{queue}
 use Rattle.tcap_model.specs.Procedures.QueueRules.{joined}
 use Rattle.tcap_model.specs.Procedures.Refusals.{Situation, due_on, faults_of, holds}
-use Rattle.tcap_model.specs.Replies.Reply.{accepted_answer, ended_in, given_up_answer}
+use Rattle.tcap_model.specs.Replies.Reply.{accepted_answer, ended_in, given_up_answer, request_sent}
 use Rattle.tcap_model.specs.Words.Request.{Request, Ending, AbortReason, ComponentRequest, DialogueRequest}
-use Rattle.tcap_model.specs.Procedures.RequestMessage.{answer_portion, user_abort, refusing_abort, continue_message, end_message, abort_message, refusing_message, message_of}
+use Rattle.tcap_model.specs.Procedures.RequestMessage.{answer_portion, user_abort, refusing_abort, continue_message, end_message, abort_message, refusing_message, message_of, request_address}
 use Rattle.tcap_model.specs.Statements.SentInOrder.{octets_of, octets_in, HasComponents, HaveComponents}
 use Rattle.tcap_model.specs.Procedures.Standing.{Standing}
 use Rattle.tcap_model.specs.Words.State.{State}
@@ -35,11 +35,13 @@ use Rattle.tcap_laws.proofs.Submission.SubmittedParts.{components, joined-spelle
 use Rattle.tcap_laws.proofs.Submission.SubmittedRequests.{WaitsUnsent, waits-now}
 use Rattle.tcap_laws.proofs.Receptions.ToldOutputKinds.{IsTold, AreTold, ended-told}
 use Rattle.tcap_model.specs.Statements.ComponentPortion.{portion_of}
+use Rattle.tcap_model.specs.Words.Address.{Address}
+use Rattle.tcap_model.specs.Histories.Kept.{kept_address}
 
 -- ---- what is told besides has no octets
 
 told-octets : (output : Output) → IsTold output → octets_of output ≡ []
-told-octets (Output.send bytes) told = absurd told
+told-octets (Output.send to bytes) told = absurd told
 told-octets (Output.dialogue (DialogueIndication.uni context info)) told = refl
 told-octets (Output.dialogue (DialogueIndication.begin dialogue context info)) told = refl
 told-octets (Output.dialogue (DialogueIndication.go_on dialogue context info)) told = refl
@@ -110,8 +112,8 @@ others-bare d (Request.component (ComponentRequest.result_more id body)) none = 
 others-bare d (Request.component (ComponentRequest.error_back id code parameter)) none = tt
 others-bare d (Request.component (ComponentRequest.u_reject id problem)) none = tt
 others-bare d (Request.component (ComponentRequest.u_cancel id)) none = tt
-others-bare d (Request.dialogue (DialogueRequest.uni context info)) none = absurd (true≢false none)
-others-bare d (Request.dialogue (DialogueRequest.begin context info)) none = absurd (true≢false none)
+others-bare d (Request.dialogue (DialogueRequest.uni to context info)) none = absurd (true≢false none)
+others-bare d (Request.dialogue (DialogueRequest.begin to context info)) none = absurd (true≢false none)
 others-bare d (Request.dialogue (DialogueRequest.go_on context info)) none = absurd (true≢false none)
 others-bare d (Request.dialogue (DialogueRequest.finish Ending.basic context info)) none = absurd (true≢false none)
 others-bare d (Request.dialogue (DialogueRequest.finish Ending.prearranged context info)) none = tt
@@ -175,6 +177,10 @@ module _ (h : History) (dialogue : ℕ) (state : State) (context : Option (List 
   abbrev IsDue : Request → Type 0
   IsDue request = due_on (situation request) request ≡ None
 
+  -- to where the message of a request goes
+  abbrev goes_to : Request → Address
+  goes_to request = request_address (kept_address dialogue h.pairs) request
+
   abbrev waiting : List ComponentParts
   waiting = components (unsent dialogue [] h.pairs)
 
@@ -187,17 +193,18 @@ module _ (h : History) (dialogue : ℕ) (state : State) (context : Option (List 
       request-goes (situation request) request id due
 
   -- a message with all that waits
-  all-sent : (asked : Option Message) (later : List Output) → IfGoes asked → TakesAll d asked → AreTold later →
-      Sends (sent_if_any asked ++ later) waiting
-  all-sent asked later can takes told =
+  all-sent : (to : Address) (asked : Option Message) (later : List Output) → IfGoes asked → TakesAll d asked →
+      AreTold later →
+      Sends (sent_if_any to asked ++ later) waiting
+  all-sent to asked later can takes told =
       let m : Message = takes.message in
       let go : IfGoes (Some m) = subst IfGoes takes.is_asked can in
       let queued : SpellsComponents waiting (joined (queue dialogue h.pairs)) =
       joined-spelled (unsent dialogue [] h.pairs) (queue dialogue h.pairs) (waits-now dialogue h.pairs waits) in
       let portion : SpellsComponents waiting (portion_of m) =
       subst (SpellsComponents waiting) (sym takes.is_portion) queued in
-      let octets : flat_map octets_of (sent_if_any asked ++ later) ≡ written_frame m ∷ [] =
-      ap (λ (o : Option Message). flat_map octets_of (sent_if_any o ++ later)) takes.is_asked
+      let octets : flat_map octets_of (sent_if_any to asked ++ later) ≡ written_frame m ∷ [] =
+      ap (λ (o : Option Message). flat_map octets_of (sent_if_any to o ++ later)) takes.is_asked
       ∙ ap (λ (os : List (List ℕ)). written_frame m ∷ os) (none-sent later told) in
       let has : HasComponents (written_frame m) waiting =
       record {
@@ -208,10 +215,11 @@ module _ (h : History) (dialogue : ℕ) (state : State) (context : Option (List 
       subst (λ os. HaveComponents os waiting) (sym octets) (have-one (written_frame m) waiting has)
 
   -- a message without components
-  none-with : (asked : Option Message) (later : List Output) → IfGoes asked → IsBare asked → AreTold later →
-      Sends (sent_if_any asked ++ later) []
-  none-with None later can bare told = none-have (flat_map octets_of later) (none-sent later told)
-  none-with (Some m) later can bare told =
+  none-with : (to : Address) (asked : Option Message) (later : List Output) → IfGoes asked → IsBare asked →
+      AreTold later →
+      Sends (sent_if_any to asked ++ later) []
+  none-with to None later can bare told = none-have (flat_map octets_of later) (none-sent later told)
+  none-with to (Some m) later can bare told =
       let has = none-bare (written_frame m) m (goes-spelled m can).spelled bare in
       subst (λ os. HaveComponents (written_frame m ∷ os) []) (sym (none-sent later told))
       (have-one (written_frame m) [] has)
@@ -239,27 +247,27 @@ module _ (h : History) (dialogue : ℕ) (state : State) (context : Option (List 
   accepted-sends (Request.component (ComponentRequest.u_reject id problem)) due = refl
   accepted-sends (Request.component (ComponentRequest.u_cancel id)) due =
       none-have (octets_in (given_up_answer (pending dialogue id h.pairs))) (cancel-sends (pending dialogue id h.pairs))
-  accepted-sends (Request.dialogue (DialogueRequest.uni asked info)) due =
-      let r : Request = Request.dialogue (DialogueRequest.uni asked info) in
+  accepted-sends (Request.dialogue (DialogueRequest.uni to asked info)) due =
+      let r : Request = Request.dialogue (DialogueRequest.uni to asked info) in
       let takes : TakesAll d (message_of d r) = record { message = _; is_asked = refl; is_portion = refl } in
-      all-sent (message_of d r) ended (goes r due) takes all-told
-  accepted-sends (Request.dialogue (DialogueRequest.begin asked info)) due =
-      let r : Request = Request.dialogue (DialogueRequest.begin asked info) in
+      all-sent (goes_to r) (message_of d r) ended (goes r due) takes all-told
+  accepted-sends (Request.dialogue (DialogueRequest.begin to asked info)) due =
+      let r : Request = Request.dialogue (DialogueRequest.begin to asked info) in
       let takes : TakesAll d (message_of d r) = record { message = _; is_asked = refl; is_portion = refl } in
-      all-sent (message_of d r) [] (goes r due) takes tt
+      all-sent (goes_to r) (message_of d r) [] (goes r due) takes tt
   accepted-sends (Request.dialogue (DialogueRequest.go_on asked info)) due =
       let r : Request = Request.dialogue (DialogueRequest.go_on asked info) in
       let none = first_that-none (holds (situation r) r) (faults_of r) due in
       let takes = continue-sent_takes d state (answer_portion state context asked info) (right r none.1.0) in
-      subst (λ (os : List Output). Sends os waiting) (append-nil (sent_if_any (message_of d r)))
-      (all-sent (message_of d r) [] (goes r due) takes tt)
+      subst (λ (os : List Output). Sends os waiting) (append-nil (request_sent h.pairs d r))
+      (all-sent (goes_to r) (message_of d r) [] (goes r due) takes tt)
   accepted-sends (Request.dialogue (DialogueRequest.finish Ending.basic asked info)) due =
       let r : Request = Request.dialogue (DialogueRequest.finish Ending.basic asked info) in
       let none = first_that-none (holds (situation r) r) (faults_of r) due in
       let takes = end-sent_takes d state (answer_portion state context asked info) (right r none.1.0) in
-      all-sent (message_of d r) ended (goes r due) takes all-told
+      all-sent (goes_to r) (message_of d r) ended (goes r due) takes all-told
   accepted-sends (Request.dialogue (DialogueRequest.finish Ending.prearranged asked info)) due =
       none-have (flat_map octets_of ended) (none-sent ended all-told)
   accepted-sends (Request.dialogue (DialogueRequest.u_abort why info)) due =
       let r : Request = Request.dialogue (DialogueRequest.u_abort why info) in
-      none-with (message_of d r) ended (goes r due) (abort-request-bare d why info) all-told
+      none-with (goes_to r) (message_of d r) ended (goes r due) (abort-request-bare d why info) all-told

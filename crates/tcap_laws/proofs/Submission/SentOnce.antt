@@ -29,6 +29,7 @@ use Rattle.tcap_laws.proofs.Submission.SubmittedQueues.{queue-unsent}
 use Rattle.tcap_laws.proofs.Submission.SubmittedRequests.{WaitsUnsent, waits-now}
 use Rattle.tcap_laws.proofs.Receptions.ToldFromOctets.{legal-before}
 use Rattle.tcap_laws.proofs.BoolLemmas.{and_false, and_true}
+use Rattle.tcap_model.specs.Words.Address.{Address}
 
 -- ---- what is submitted is sent, or it isn't sent yet
 
@@ -45,8 +46,8 @@ no-component (Request.component (ComponentRequest.result_more id body)) e = absu
 no-component (Request.component (ComponentRequest.error_back id code parameter)) e = absurd (true≢false (sym e))
 no-component (Request.component (ComponentRequest.u_reject id problem)) e = absurd (true≢false (sym e))
 no-component (Request.component (ComponentRequest.u_cancel id)) e = refl
-no-component (Request.dialogue (DialogueRequest.uni context info)) e = refl
-no-component (Request.dialogue (DialogueRequest.begin context info)) e = refl
+no-component (Request.dialogue (DialogueRequest.uni to context info)) e = refl
+no-component (Request.dialogue (DialogueRequest.begin to context info)) e = refl
 no-component (Request.dialogue (DialogueRequest.go_on context info)) e = refl
 no-component (Request.dialogue (DialogueRequest.finish ending context info)) e = refl
 no-component (Request.dialogue (DialogueRequest.u_abort why info)) e = refl
@@ -60,7 +61,7 @@ none-asked request answer e =
 sending-submits : (d waiting : ℕ) (event : Event) (answer : Answer) (idle_ms : ℕ) (past : Past) →
     is_sending d (record { event = event; answer = answer; idle_ms = idle_ms }) ≡ true → submitted_by d waiting past event answer ≡ []
 sending-submits d waiting Event.new_dialogue answer idle_ms past e = refl
-sending-submits d waiting (Event.received bytes) answer idle_ms past e = absurd (true≢false (sym e))
+sending-submits d waiting (Event.received from bytes) answer idle_ms past e = absurd (true≢false (sym e))
 sending-submits d waiting (Event.moment now) answer idle_ms past e = refl
 sending-submits d waiting (Event.on_dialogue named request) answer idle_ms past e =
     let asks = (and_parts ((named == d) && sends_components request) (is_accepted answer) e).0 in
@@ -136,7 +137,7 @@ module _ (h : History) (d : ℕ) (waits : WaitsUnsent d h.pairs) where
 
   event-sends : (event : Event) → Sends (octets_on d event (reply h event)) (is_sending d (answered event))
   event-sends Event.new_dialogue = refl
-  event-sends (Event.received bytes) = refl
+  event-sends (Event.received from bytes) = refl
   event-sends (Event.moment now) = refl
   event-sends (Event.on_dialogue named request) = by (named == d) refl
     where
@@ -196,16 +197,16 @@ module _ (start : Start) (d : ℕ) where
 
 -- ---- no other Send has components
 
-module _ (h : History) (bytes : List ℕ) where
+module _ (h : History) (to : Address) (bytes : List ℕ) where
   no-others : (event : Event) → SendsNone (record { event = event; answer = reply h event; idle_ms = h.start.idle_ms }) →
-      Tells (reply h event) (Output.send bytes) → HasComponents bytes []
+      Tells (reply h event) (Output.send to bytes) → HasComponents bytes []
   no-others Event.new_dialogue none tells =
-      absurd (tells-sends Nothing (reply h Event.new_dialogue) bytes (birth-sends h (birth_due h)) tells)
+      absurd (tells-sends Nothing (reply h Event.new_dialogue) to bytes (birth-sends h (birth_due h)) tells)
   no-others (Event.moment now) none tells =
       let sends = moment-sends h.start.idle_ms h.pairs now (moment_fault now) in
-      absurd (tells-sends Nothing (reply h (Event.moment now)) bytes sends tells)
-  no-others (Event.received octets) none tells =
-      let sent = sent_for_bytes h octets bytes tells in
+      absurd (tells-sends Nothing (reply h (Event.moment now)) to bytes sends tells)
+  no-others (Event.received from octets) none tells =
+      let sent = sent_for_bytes h from octets to bytes tells in
       none-bare bytes (Message.abort sent.peer sent.reason) sent.is_message.spelled refl
   no-others (Event.on_dialogue named request) none tells =
       let answer : Answer = reply h (Event.on_dialogue named request) in
@@ -214,7 +215,7 @@ module _ (h : History) (bytes : List ℕ) where
       let here : (sends && is_accepted answer) ≡ false =
       sym (ap (λ (b : Bool). (b && sends) && is_accepted answer) (eq-eqb named named refl)) ∙ none named in
       let other : sends ≡ false = sym (and_true sends) ∙ (ap (λ (b : Bool). sends && b) (sym accepted) ∙ here) in
-      let sent = sent_for_request h named request bytes tells in
+      let sent = sent_for_request h named request to bytes tells in
       let bare = others-bare (standing_of named h.pairs sent.state sent.context) request other in
       none-bare bytes sent.message sent.is_message.spelled (subst IsBare sent.is_asked bare)
 
@@ -226,12 +227,12 @@ sent-once h legal = record {
       let here = legal-before h.start stands.later (pair ∷ before)
       (subst (AreReplies h.start) stands.is_past legal.1) in
       in-order h.start d pair before here sends;
-  no_others = λ pair before bytes stands none tells.
+  no_others = λ pair before to bytes stands none tells.
       let here = legal-before h.start stands.later (pair ∷ before)
       (subst (AreReplies h.start) stands.is_past legal.1) in
-      no-others (record { start = h.start; pairs = before }) bytes pair.event
+      no-others (record { start = h.start; pairs = before }) to bytes pair.event
       (λ d. sym (ap (λ (a : Answer). is_sending d (record { event = pair.event; answer = a; idle_ms = pair.idle_ms })) here.1) ∙ none d)
-      (subst (λ (a : Answer). Tells a (Output.send bytes)) here.1 tells);
+      (subst (λ (a : Answer). Tells a (Output.send to bytes)) here.1 tells);
 }
 
 pub queue-is-unsent : EachQueueIsUnsent

@@ -31,6 +31,7 @@ use Rattle.tcap_laws.proofs.Submission.SubmittedParts.{octets-counted, written_a
 use Rattle.tcap_laws.proofs.Submission.SubmittedReceptions.{received-agrees}
 use Rattle.tcap_laws.proofs.Submission.SubmittedRequests.{WaitsUnsent, waits-now, step, stays, more, request-waits}
 use Rattle.tcap_model.specs.Statements.ComponentPortion.{portion_of}
+use Rattle.tcap_model.specs.Words.Address.{Address}
 
 -- ---- before its birth nothing waits for a dialogue
 
@@ -56,10 +57,10 @@ module _ (start : Start) (d idle_ms : ℕ) where
           let lives : life named past ≡ Life.unborn = ap (λ (n : ℕ). life n past) (eqb-true named d e) ∙ unborn in
           ap (λ (b : Bool). queue_if_accepted b (queue d past) request answer)
           (unborn_refused start named request answer idle_ms past legal lives) ∙ empty
-  unborn-step (Event.received bytes) answer past legal unborn empty none =
+  unborn-step (Event.received from bytes) answer past legal unborn empty none =
       ap (λ (b : Bool). if b then queue_at_birth d past (frame_at bytes)
-      else named_queue past bytes (names (Event.received bytes) d)) none
-      ∙ by (names (Event.received bytes) d)
+      else named_queue past bytes (names (Event.received from bytes) d)) none
+      ∙ by (names (Event.received from bytes) d)
     where
       by : (b : Bool) → named_queue past bytes b ≡ []
       by true = ap (λ (l : Life). queue_by_bytes d past l (queue d past) bytes) unborn ∙ empty
@@ -127,9 +128,9 @@ module _ (h : History) (d idle_ms : ℕ) (legal : AreReplies h.start h.pairs) (w
           sym (next-empty (sym (dialogue-next h Event.new_dialogue d
           (ap (born_of Event.new_dialogue) (sym is_reply) ∙ born))))
 
-  module _ (bytes : List ℕ) where
+  module _ (from : Address) (bytes : List ℕ) where
     abbrev here : Pair
-    here = with_answer (Event.received bytes) (reply h (Event.received bytes))
+    here = with_answer (Event.received from bytes) (reply h (Event.received from bytes))
 
     abbrev rejects : List ComponentParts
     rejects = rejects_formed d h.pairs (frame_at bytes)
@@ -140,13 +141,13 @@ module _ (h : History) (d idle_ms : ℕ) (legal : AreReplies h.start h.pairs) (w
 
     grown : is_taken d here.answer ≡ true → queue d (here ∷ h.pairs) ≡ waiting ++ written_all fit
     grown e =
-        received-agrees h d bytes waiting next-empty
+        received-agrees h d from bytes waiting next-empty
         ∙ (ap (λ b. if b then queue_each queue_limit waiting (written_all rejects) else waiting) e
         ∙ each-fitting rejects waiting)
 
     kept : is_taken d here.answer ≡ false → queue d (here ∷ h.pairs) ≡ waiting
     kept e =
-        received-agrees h d bytes waiting next-empty
+        received-agrees h d from bytes waiting next-empty
         ∙ ap (λ b. if b then queue_each queue_limit waiting (written_all rejects) else waiting) e
 
     -- the Rejects that are submitted
@@ -191,9 +192,9 @@ module _ (h : History) (d idle_ms : ℕ) (legal : AreReplies h.start h.pairs) (w
           (ap (λ (b : Bool). if b && is_accepted answer then asked_for request answer else []) e)
           (ap (λ b. if b then queue_if_accepted (is_accepted answer) waiting request answer else waiting) e)
           (stays d here h.pairs waits)
-  pair-waits (Event.received bytes) answer range is_reply =
-      subst (λ (a : Answer). WaitsUnsent d (with_answer (Event.received bytes) a ∷ h.pairs)) (sym is_reply)
-      (received-waits bytes)
+  pair-waits (Event.received from bytes) answer range is_reply =
+      subst (λ (a : Answer). WaitsUnsent d (with_answer (Event.received from bytes) a ∷ h.pairs)) (sym is_reply)
+      (received-waits from bytes)
   pair-waits (Event.moment now) answer range is_reply =
       let here : Pair = with_answer (Event.moment now) answer in
       step d here h.pairs waits false [] [] waiting refl refl refl refl (stays d here h.pairs waits)

@@ -1,20 +1,18 @@
 -- What received bytes submit for a dialogue is what they add to its queue.
-use Rattle.std.proofs.Common.{◌≡◌, ℕ, ◌==◌, true, false, Bool, List, [], ◌∷◌, ◌++◌, is_some, option_to_list, Option, Some, None, Result, Ok, Err, if◌then◌else◌, refl, sym, ap, subst, ◌∙◌}
+use Rattle.std.proofs.Common.{◌≡◌, ℕ, ◌==◌, true, false, Bool, List, [], ◌∷◌, ◌++◌, is_some, Option, Some, None, Result, Ok, Err, if◌then◌else◌, refl, sym, ap, subst, ◌∙◌}
 use Rattle.std.proofs.lemmas.Bool.{eqb-true, eq-eqb, true≢false}
 use Rattle.tcap_pdu.specs.declared.fault.FrameFault.{FrameFault}
 use Rattle.tcap_pdu.specs.FrameReading.{frame_at}
 use Rattle.tcap_pdu.specs.FrameSpelling.{Message}
 use Rattle.tcap_component.specs.ComponentReading.{components_of}
-use Rattle.tcap_model.specs.Procedures.AbortRules.{abort_told}
+use Rattle.tcap_model.specs.Procedures.AbortRules.{abort_told, message_sent, sent_if_any}
 use Rattle.tcap_model.specs.Words.Answer.{Answer}
 use Rattle.tcap_model.specs.Histories.Birth.{first_begun, next_dialogue}
 use Rattle.tcap_model.specs.Procedures.ComponentHandling.{uni_told, told_of}
 use Rattle.tcap_model.specs.Replies.Due.{birth_due}
-use Rattle.tcap_model.specs.Words.Event.{Event}
 use Rattle.tcap_model.specs.Histories.History.{History}
 use Rattle.tcap_model.specs.Histories.Life.{Life, life, live_in}
 use Rattle.tcap_model.specs.Words.LocalId.{is_that}
-use Rattle.tcap_model.specs.Histories.Names.{names}
 use Rattle.tcap_model.specs.Words.Output.{Output, AbortCause, DialogueIndication}
 use Rattle.tcap_model.specs.Procedures.PortionRules.{PortionVerdict, portion_verdict}
 use Rattle.tcap_model.specs.Replies.Queue.{handled_in, rejects_of, queue_by_verdict, queue_by_message, queue_at_birth, queue_by_bytes}
@@ -22,35 +20,36 @@ use Rattle.tcap_model.specs.Procedures.QueueRules.{Queued, queue_limit, queue_ea
 use Rattle.tcap_model.specs.Procedures.Reception.{Reception, reception}
 use Rattle.tcap_model.specs.Replies.Reply.{ended_in, continue_outputs, end_outputs, message_outputs, taken_outputs, reception_outputs}
 use Rattle.tcap_model.specs.Words.State.{State, is_live}
-use Rattle.tcap_model.specs.Statements.Submitted.{begins_or_continues, is_taken, rejects_formed}
+use Rattle.tcap_model.specs.Statements.Submitted.{is_taken, rejects_formed}
 use Rattle.tcap_laws.proofs.Submission.FirstOutputs.{told-first, no-begin_first, abort-aborts}
 use Rattle.tcap_laws.proofs.Receptions.NamedReceptions.{named-taken, named-broken, IsNamed, reception-named}
 use Rattle.tcap_laws.proofs.Receptions.ReceivedMarks.{unaddressed}
-use Rattle.tcap_laws.proofs.Receptions.ProviderAborts.{Sends}
-use Rattle.tcap_laws.proofs.Receptions.SoundReceptions.{IfSends, IsSound, reception-sound}
+use Rattle.tcap_laws.proofs.Receptions.SoundReceptions.{IsSound, reception-sound}
 use Rattle.tcap_laws.proofs.Submission.SubmittedParts.{written_all}
 use Rattle.tcap_laws.proofs.Receptions.ToldOutputKinds.{IsTold, components-told, uni-told, ended-told, abort-told}
 use Rattle.tcap_laws.proofs.ListLemmas.{each-append}
+use Rattle.tcap_model.specs.Words.Address.{Address}
+use Rattle.tcap_laws.proofs.Receptions.BytesNames.{names_in}
 
 -- whether a live dialogue takes the bytes
 abbrev is_reached : Reception → Bool
 is_reached (Reception.dropped why) = false
-is_reached (Reception.aborted abort) = false
+is_reached (Reception.aborted aborting) = false
 is_reached (Reception.unidirectional context info components) = false
 is_reached (Reception.begun origin context info components) = false
 is_reached (Reception.taken dialogue message) = true
-is_reached (Reception.broken dialogue abort cause) = true
+is_reached (Reception.broken dialogue aborting cause) = true
 
 -- the dialogue that takes them
 abbrev reached_by : Reception → ℕ
 reached_by (Reception.dropped why) = 0
-reached_by (Reception.aborted abort) = 0
+reached_by (Reception.aborted aborting) = 0
 reached_by (Reception.unidirectional context info components) = 0
 reached_by (Reception.begun origin context info components) = 0
 reached_by (Reception.taken dialogue message) = dialogue
-reached_by (Reception.broken dialogue abort cause) = dialogue
+reached_by (Reception.broken dialogue aborting cause) = dialogue
 
-module _ (h : History) (d : ℕ) (bytes : List ℕ) (q : List Queued) where
+module _ (h : History) (d : ℕ) (from : Address) (bytes : List ℕ) (q : List Queued) where
   abbrev live : ℕ → Bool
   live dialogue = live_in (life dialogue h.pairs)
 
@@ -58,7 +57,7 @@ module _ (h : History) (d : ℕ) (bytes : List ℕ) (q : List Queued) where
   received = reception live (is_some (birth_due h)) bytes
 
   abbrev IsNamedBy : ℕ → Type 0
-  IsNamedBy dialogue = names (Event.received bytes) dialogue ≡ true
+  IsNamedBy dialogue = names_in bytes dialogue ≡ true
 
   -- ---- the queue after received bytes
 
@@ -70,7 +69,7 @@ module _ (h : History) (d : ℕ) (bytes : List ℕ) (q : List Queued) where
   queue_named named = if named then queue_by_bytes d h.pairs (life d h.pairs) q bytes else q
 
   abbrev named_queue : List Queued
-  named_queue = queue_named (names (Event.received bytes) d)
+  named_queue = queue_named (names_in bytes d)
 
   -- by whether the dialogue was born of them
   abbrev queue_by : Bool → List Queued
@@ -85,7 +84,7 @@ module _ (h : History) (d : ℕ) (bytes : List ℕ) (q : List Queued) where
       queue_by (is_that d (first_begun outputs)) ≡ (if is_taken d (Answer.outputs outputs) then grown else q)
 
   abbrev Agrees : Reception → Type 0
-  Agrees r = AgreesWith (reception_outputs h r)
+  Agrees r = AgreesWith (reception_outputs h from r)
 
   -- nothing is told first that begins or continues the dialogue, and the queue stays
   quiet : (outputs : List Output) → first_begun outputs ≡ None → is_taken d (Answer.outputs outputs) ≡ false →
@@ -112,7 +111,7 @@ module _ (h : History) (d : ℕ) (bytes : List ℕ) (q : List Queued) where
   -- where the queue stays for a message that the dialogue takes, it stays
   stays : ((state : State) (context : Option (List ℕ)) → life d h.pairs ≡ Life.standing state context →
       is_live state ≡ true → IsNamedBy d → queue_live state context true ≡ q) → named_queue ≡ q
-  stays same = by-name (names (Event.received bytes) d) refl
+  stays same = by-name (names_in bytes d) refl
     where
       by-state : (state : State) (context : Option (List ℕ)) → life d h.pairs ≡ Life.standing state context →
           IsNamedBy d → (alive : Bool) → is_live state ≡ alive → queue_live state context alive ≡ q
@@ -124,7 +123,7 @@ module _ (h : History) (d : ℕ) (bytes : List ℕ) (q : List Queued) where
       by-life Life.over lives named = refl
       by-life (Life.standing state context) lives named = by-state state context lives named (is_live state) refl
 
-      by-name : (named : Bool) → names (Event.received bytes) d ≡ named → queue_named named ≡ q
+      by-name : (named : Bool) → names_in bytes d ≡ named → queue_named named ≡ q
       by-name true e = by-life (life d h.pairs) refl e
       by-name false e = refl
 
@@ -140,12 +139,10 @@ module _ (h : History) (d : ℕ) (bytes : List ℕ) (q : List Queued) where
 
   -- ---- no dialogue takes the bytes
 
-  aborted-agrees : (abort : Output) → Sends abort → received ≡ Reception.aborted abort →
-      Agrees (Reception.aborted abort)
-  aborted-agrees abort sends is =
-      quiet (abort ∷ []) (subst (λ (o : Output). first_begun (o ∷ []) ≡ None) (sym sends.2) refl)
-      (subst (λ (o : Output). begins_or_continues d o ≡ false) (sym sends.2) refl)
-      (unreached (Reception.aborted abort) is refl)
+  aborted-agrees : (aborting : Message) → received ≡ Reception.aborted aborting →
+      Agrees (Reception.aborted aborting)
+  aborted-agrees aborting is =
+      quiet (message_sent from aborting ∷ []) refl refl (unreached (Reception.aborted aborting) is refl)
 
   begun-agrees : (origin : List ℕ) (context : Option (List ℕ)) (info components : List ℕ) (portion : Option (List ℕ)) →
       (next_dialogue h ≡ d → q ≡ []) → frame_at bytes ≡ Ok (Message.begin origin portion components) →
@@ -167,24 +164,21 @@ module _ (h : History) (d : ℕ) (bytes : List ℕ) (q : List Queued) where
   broken_told named cause =
       Output.dialogue (DialogueIndication.p_abort named (AbortCause.cause cause)) ∷ ended_in named h.pairs []
 
-  broken-none : (named cause : ℕ) (abort : Option Output) → IfSends abort →
-      first_begun (option_to_list abort ++ broken_told named cause) ≡ None
-  broken-none named cause None sends = no-begin_first (ended_in named h.pairs []) (ended-told named h.pairs [])
-  broken-none named cause (Some output) sends =
-      subst (λ (o : Output). first_begun (o ∷ broken_told named cause) ≡ None) (sym sends.2)
-      (no-begin_first (ended_in named h.pairs []) (ended-told named h.pairs []))
+  broken-none : (named cause : ℕ) (aborting : Option Message) →
+      first_begun (sent_if_any from aborting ++ broken_told named cause) ≡ None
+  broken-none named cause None = no-begin_first (ended_in named h.pairs []) (ended-told named h.pairs [])
+  broken-none named cause (Some aborting) = no-begin_first (ended_in named h.pairs []) (ended-told named h.pairs [])
 
-  broken-untaken : (named cause : ℕ) (abort : Option Output) → IfSends abort →
-      is_taken d (Answer.outputs (option_to_list abort ++ broken_told named cause)) ≡ false
-  broken-untaken named cause None sends = refl
-  broken-untaken named cause (Some output) sends =
-      subst (λ (o : Output). begins_or_continues d o ≡ false) (sym sends.2) refl
+  broken-untaken : (named cause : ℕ) (aborting : Option Message) →
+      is_taken d (Answer.outputs (sent_if_any from aborting ++ broken_told named cause)) ≡ false
+  broken-untaken named cause None = refl
+  broken-untaken named cause (Some aborting) = refl
 
-  broken-agrees : (named : ℕ) (abort : Option Output) (cause : ℕ) (f : FrameFault) → IfSends abort →
-      frame_at bytes ≡ Err f → Agrees (Reception.broken named abort cause)
-  broken-agrees named abort cause f sends read =
-      quiet (option_to_list abort ++ broken_told named cause)
-      (broken-none named cause abort sends) (broken-untaken named cause abort sends)
+  broken-agrees : (named : ℕ) (aborting : Option Message) (cause : ℕ) (f : FrameFault) →
+      frame_at bytes ≡ Err f → Agrees (Reception.broken named aborting cause)
+  broken-agrees named aborting cause f read =
+      quiet (sent_if_any from aborting ++ broken_told named cause)
+      (broken-none named cause aborting) (broken-untaken named cause aborting)
       (stays (λ state context lives alive it. ap (queue_by_message d h.pairs (Life.standing state context) q) read))
 
   module _ (named : ℕ) (state : State) (context : Option (List ℕ))
@@ -212,7 +206,7 @@ module _ (h : History) (d : ℕ) (bytes : List ℕ) (q : List Queued) where
         frame_at bytes ≡ Ok (Message.go_on origin to portion components) →
         received ≡ Reception.taken named (Message.go_on origin to portion components) →
         (verdict : PortionVerdict) → portion_verdict state context portion ≡ verdict →
-        AgreesWith (continue_outputs named h.pairs state origin components verdict)
+        AgreesWith (continue_outputs named h.pairs state from origin components verdict)
     continue-agrees origin to portion components read is (PortionVerdict.normal given info) judged =
         ap (λ (o : Option ℕ). queue_by (is_that d o))
         (no-begin_first (told_of (handled_in named h.pairs components)) (components-told named h.pairs components))
@@ -225,7 +219,7 @@ module _ (h : History) (d : ℕ) (bytes : List ℕ) (q : List Queued) where
             ∙ sym (ap (λ cs. queue_each queue_limit q (written_all cs)) (ap (rejects_formed d h.pairs) read)))
         by false e = another (Reception.taken named (Message.go_on origin to portion components)) is e
     continue-agrees origin to portion components read is PortionVerdict.abnormal judged =
-        quiet (continue_outputs named h.pairs state origin components PortionVerdict.abnormal)
+        quiet (continue_outputs named h.pairs state from origin components PortionVerdict.abnormal)
         (no-begin_first (ended_in named h.pairs []) (ended-told named h.pairs [])) refl (by (named == d) refl)
       where
         by : (b : Bool) → (named == d) ≡ b → named_queue ≡ q
@@ -247,7 +241,7 @@ module _ (h : History) (d : ℕ) (bytes : List ℕ) (q : List Queued) where
         (no-begin_first (ended_in named h.pairs []) (ended-told named h.pairs []), refl)
 
     message-agrees : (m : Message) → frame_at bytes ≡ Ok m → received ≡ Reception.taken named m →
-        AgreesWith (message_outputs named h.pairs state context m)
+        AgreesWith (message_outputs named h.pairs state context from m)
     message-agrees (Message.go_on origin to portion components) read is =
         continue-agrees origin to portion components read is (portion_verdict state context portion) refl
     message-agrees (Message.end to portion components) read is =
@@ -267,7 +261,7 @@ module _ (h : History) (d : ℕ) (bytes : List ℕ) (q : List Queued) where
 
   taken-agrees : (named : ℕ) (m : Message) → IsNamedBy named → frame_at bytes ≡ Ok m →
       received ≡ Reception.taken named m → (before : Life) → life named h.pairs ≡ before → live_in before ≡ true →
-      AgreesWith (taken_outputs named h.pairs before m)
+      AgreesWith (taken_outputs named h.pairs before from m)
   taken-agrees named m names_it read is Life.unborn lives alive = absurd (true≢false (sym alive))
   taken-agrees named m names_it read is Life.over lives alive = absurd (true≢false (sym alive))
   taken-agrees named m names_it read is (Life.standing state context) lives alive =
@@ -277,7 +271,7 @@ module _ (h : History) (d : ℕ) (bytes : List ℕ) (q : List Queued) where
       IsSound (is_some (birth_due h)) bytes r → Agrees r
   agrees empty (Reception.dropped why) is named sound =
       quiet (Output.dropped why ∷ []) refl refl (unreached (Reception.dropped why) is refl)
-  agrees empty (Reception.aborted abort) is named sound = aborted-agrees abort sound is
+  agrees empty (Reception.aborted aborting) is named sound = aborted-agrees aborting is
   agrees empty (Reception.unidirectional context info components) is named sound =
       let told = uni_told (components_of components) in
       quiet (Output.dialogue (DialogueIndication.uni context info) ∷ told)
@@ -287,8 +281,8 @@ module _ (h : History) (d : ℕ) (bytes : List ℕ) (q : List Queued) where
       begun-agrees origin context info components sound.0 empty sound.1 is
   agrees empty (Reception.taken dialogue m) is named sound =
       taken-agrees dialogue m named.0 sound is (life dialogue h.pairs) refl named.1
-  agrees empty (Reception.broken dialogue abort cause) is named sound =
-      broken-agrees dialogue abort cause named.2 sound named.3
+  agrees empty (Reception.broken dialogue aborting cause) is named sound =
+      broken-agrees dialogue aborting cause named.2 named.3
 
   pub received-agrees : (next_dialogue h ≡ d → q ≡ []) → Agrees received
   received-agrees empty =

@@ -168,12 +168,12 @@ module _ (h : History) (d named idle_ms : ℕ) (same : (named == d) ≡ true) (w
       plain (Request.component (ComponentRequest.u_reject id problem)) (reject_back id problem) refl good refl refl
   accepted-waits (Request.component (ComponentRequest.u_cancel id)) s c good accepted =
       cancelled id (pending named id h.pairs) accepted
-  accepted-waits (Request.dialogue (DialogueRequest.uni context info)) s c good accepted =
-      sent (Request.dialogue (DialogueRequest.uni context info))
-      (accepted_to s c (Request.dialogue (DialogueRequest.uni context info))) refl refl refl refl
-  accepted-waits (Request.dialogue (DialogueRequest.begin context info)) s c good accepted =
-      sent (Request.dialogue (DialogueRequest.begin context info))
-      (accepted_to s c (Request.dialogue (DialogueRequest.begin context info))) refl refl refl refl
+  accepted-waits (Request.dialogue (DialogueRequest.uni to context info)) s c good accepted =
+      sent (Request.dialogue (DialogueRequest.uni to context info))
+      (accepted_to s c (Request.dialogue (DialogueRequest.uni to context info))) refl refl refl refl
+  accepted-waits (Request.dialogue (DialogueRequest.begin to context info)) s c good accepted =
+      sent (Request.dialogue (DialogueRequest.begin to context info))
+      (accepted_to s c (Request.dialogue (DialogueRequest.begin to context info))) refl refl refl refl
   accepted-waits (Request.dialogue (DialogueRequest.go_on context info)) s c good accepted =
       sent (Request.dialogue (DialogueRequest.go_on context info))
       (accepted_to s c (Request.dialogue (DialogueRequest.go_on context info))) refl refl refl refl

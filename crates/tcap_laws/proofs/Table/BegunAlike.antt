@@ -29,7 +29,6 @@ use Rattle.tcap_model.specs.Histories.Pair.{Pair}
 use Rattle.tcap_model.specs.Procedures.PortionRules.{BeginVerdict, begin_verdict}
 use Rattle.tcap_model.specs.Replies.Queue.{queue, queue_by_event, queue_born, queue_at_birth, handled_in, rejects_of}
 use Rattle.tcap_model.specs.Procedures.QueueRules.{Queued, queue_limit, queue_each}
-use Rattle.tcap_model.specs.Histories.Names.{names}
 use Rattle.tcap_model.specs.Procedures.Reception.{Reception, begin_by, message_by, reading_by, reception}
 use Rattle.tcap_model.specs.Replies.Reply.{reply, reception_outputs}
 use Rattle.tcap_model.specs.Words.State.{State}
@@ -38,6 +37,9 @@ use Rattle.tcap_model.specs.Table.World.{row_by, stage_by, is_number, rows_of, d
 use Rattle.tcap_pdu.specs.FrameReading.{frame_at}
 use Rattle.tcap_pdu.specs.FrameSpelling.{Message}
 use Rattle.tcap_pdu.specs.FrameWritten.{message_limit}
+use Rattle.tcap_model.specs.Words.Address.{Address}
+use Rattle.tcap_laws.proofs.Receptions.BytesNames.{names_in}
+use Rattle.tcap_model.specs.Histories.Kept.{kept_address, kept_after}
 
 -- ---- the application context of an accepted Begin
 
@@ -120,52 +122,58 @@ module _ (h : History) (legal : IsLegal h) where
 
   -- ---- the answer and the dialogue
 
-  module _ (bytes origin : List ℕ) (context : Option (List ℕ)) (info components : List ℕ)
+  module _ (from : Address) (bytes origin : List ℕ) (context : Option (List ℕ)) (info components : List ℕ)
       (accepted : reception (λ dialogue. live_in (life dialogue h.pairs)) (is_some (birth_due h)) bytes
       ≡ Reception.begun origin context info components) where
-    reply_is : reply h (Event.received bytes) ≡ Answer.outputs
+    reply_is : reply h (Event.received from bytes) ≡ Answer.outputs
         (Output.dialogue (DialogueIndication.begin (next_dialogue h) context info)
         ∷ told_of (handled_in (next_dialogue h) h.pairs components))
-    reply_is = ap (λ r. Answer.outputs (reception_outputs h r)) accepted
+    reply_is = ap (λ r. Answer.outputs (reception_outputs h from r)) accepted
 
-    pub begun-answered : (born (setting_at h) (next_dialogue h) h.start.reject_ms h.start.idle_ms origin context info
+    pub begun-answered :
+        (born (setting_at h) (next_dialogue h) h.start.reject_ms h.start.idle_ms from origin context info
         components).answer
-        ≡ reply h (Event.received bytes)
+        ≡ reply h (Event.received from bytes)
     begun-answered = ap (λ z. Answer.outputs (Output.dialogue (DialogueIndication.begin (next_dialogue h) context info)
         ∷ z)) (told_is components) ∙ sym reply_is
 
     abbrev here : Pair
-    here = due_pair h (Event.received bytes)
+    here = due_pair h (Event.received from bytes)
 
     birth : is_birth_of (next_dialogue h) here ≡ true
-    birth = ap (λ a. is_that (next_dialogue h) (born_of (Event.received bytes) a)) reply_is ∙ own
+    birth = ap (λ a. is_that (next_dialogue h) (born_of (Event.received from bytes) a)) reply_is ∙ own
       where
         own : (next_dialogue h == next_dialogue h) ≡ true
         own = grind (arith, nat_tests)
 
-    abbrev made : Option (List ℕ) → List Queued → InvocationList → ℕ → Option Dialogue
-    made c q list t = Some (record {
+    abbrev made : Option (List ℕ) → List Queued → InvocationList → ℕ → Address → Option Dialogue
+    made c q list t address = Some (record {
       standing =
           record { identifier = next_dialogue h; state = State.received origin; context = c; queue = q };
       invocations =
           list;
       idle_ms = h.start.idle_ms;
       touched = t;
+      kept = address;
     })
 
     abbrev last : ℕ
     last = touched (next_dialogue h) (here ∷ h.pairs)
 
+    abbrev kept_then : Address
+    kept_then = kept_address (next_dialogue h) (here ∷ h.pairs)
+
     pub begun-born : (portion : Option (List ℕ)) → frame_at bytes ≡ Ok (Message.begin origin portion components)
         → dialogue_at h.start.reject_ms h.start.idle_ms (here ∷ h.pairs) (next_dialogue h)
-        ≡ left_standing (born (setting_at h) (next_dialogue h) h.start.reject_ms h.start.idle_ms origin context info
+        ≡ left_standing
+        (born (setting_at h) (next_dialogue h) h.start.reject_ms h.start.idle_ms from origin context info
         components)
     begun-born portion frame =
         ap (λ l. dialogue_by h.start.reject_ms h.start.idle_ms (next_dialogue h) (here ∷ h.pairs)
         (life_after (next_dialogue h) (touched (next_dialogue h) h.pairs) l here))
         (next_unborn h legal)
         ∙ (ap (λ b. dialogue_by h.start.reject_ms h.start.idle_ms (next_dialogue h) (here ∷ h.pairs)
-        (life_at_birth b (Event.received bytes))) birth
+        (life_at_birth b (Event.received from bytes))) birth
         ∙ (ap (λ r. dialogue_by h.start.reject_ms h.start.idle_ms (next_dialogue h) (here ∷ h.pairs) (begun_life r))
         frame
         ∙ (ap (λ c. made c (queue (next_dialogue h) (here ∷ h.pairs))
@@ -173,26 +181,34 @@ module _ (h : History) (legal : IsLegal h) where
           reject_ms = h.start.reject_ms;
           rows =
               rows_of h.start.reject_ms (next_dialogue h) (here ∷ h.pairs);
-        }) last)
+        }) last kept_then)
         (context_is (λ dialogue. live_in (life dialogue h.pairs)) (is_some (birth_due h)) bytes origin portion context
         info components frame accepted)
         ∙ (ap (λ q. made context q (record {
           reject_ms = h.start.reject_ms;
           rows =
               rows_of h.start.reject_ms (next_dialogue h) (here ∷ h.pairs);
-        }) last) queue_is
+        }) last kept_then) queue_is
         ∙ (ap (λ z. made context (queue_each queue_limit [] (walk components).rejects)
-        (record { reject_ms = h.start.reject_ms; rows = z }) last)
+        (record { reject_ms = h.start.reject_ms; rows = z }) last kept_then)
         (rows_born h.start.reject_ms h.start here h.pairs legal.1 refl (next_dialogue h) (next_unborn h legal))
-        ∙ (ap (λ l. made context (queue_each queue_limit [] (walk components).rejects) l last) (left_is components)
-        ∙ ap (made context (queue_each queue_limit [] (walk components).rejects) (walk components).invocations)
-        (next_untouched h legal (Event.received bytes))))))))
+        ∙ (ap (λ l. made context (queue_each queue_limit [] (walk components).rejects) l last kept_then)
+        (left_is components)
+        ∙ (ap (λ t. made context (queue_each queue_limit [] (walk components).rejects) (walk components).invocations t
+        kept_then) (next_untouched h legal (Event.received from bytes))
+        ∙ ap (made context (queue_each queue_limit [] (walk components).rejects) (walk components).invocations 0)
+        kept_is)))))))
       where
+        kept_is : kept_then ≡ from
+        kept_is =
+            ap (λ l. kept_after (next_dialogue h) l (kept_address (next_dialogue h) h.pairs) here) (next_unborn h legal)
+            ∙ ap (λ b. cond b from (kept_address (next_dialogue h) h.pairs)) birth
+
         queue_is : queue (next_dialogue h) (here ∷ h.pairs) ≡ queue_each queue_limit [] (walk components).rejects
         queue_is =
-            ap (λ b. cond b (queue_born (next_dialogue h) h.pairs (Event.received bytes))
-            (cond (names (Event.received bytes) (next_dialogue h))
-            (queue_by_event (next_dialogue h) h.pairs (queue (next_dialogue h) h.pairs) (Event.received bytes)
+            ap (λ b. cond b (queue_born (next_dialogue h) h.pairs (Event.received from bytes))
+            (cond (names_in bytes (next_dialogue h))
+            (queue_by_event (next_dialogue h) h.pairs (queue (next_dialogue h) h.pairs) (Event.received from bytes)
             here.answer) (queue (next_dialogue h) h.pairs))) birth
             ∙ (ap (queue_at_birth (next_dialogue h) h.pairs) frame
             ∙ ap (queue_each queue_limit []) (rejects_is components))

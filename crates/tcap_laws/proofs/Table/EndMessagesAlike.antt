@@ -21,6 +21,7 @@ use Rattle.tcap_model.specs.Table.TableMove.{DialogueEvent, Walked, ended_told, 
 use Rattle.tcap_model.specs.Table.World.{dialogue_at}
 use Rattle.tcap_pdu.specs.FrameSpelling.{Message}
 use Rattle.tcap_laws.proofs.Rows.EndsAfterComponents.{ended_after}
+use Rattle.tcap_model.specs.Words.Address.{Address}
 
 module _ (h : History) (dialogue : ℕ) (legal : IsLegal h) where
   any-end : (state : State) (context : Option (List ℕ)) (components : List ℕ) (verdict : PortionVerdict)
@@ -41,13 +42,14 @@ module _ (h : History) (dialogue : ℕ) (legal : IsLegal h) where
       ∙ ap (λ z. Answer.outputs (Output.dialogue (DialogueIndication.end dialogue told info) ∷ first ++ z))
       (ended_after h.start h.pairs legal.1 h.start.reject_ms dialogue (components_of components)))
 
-  pub end-answered : (d : Dialogue) (to : List ℕ) (portion : Option (List ℕ)) (components : List ℕ)
+  pub end-answered : (d : Dialogue) (from : Address) (to : List ℕ) (portion : Option (List ℕ)) (components : List ℕ)
       → dialogue_at h.start.reject_ms h.start.idle_ms h.pairs dialogue ≡ Some d
-      → (table_move (setting_at h) d (DialogueEvent.frame (Message.end to portion components))).answer
-      ≡ Answer.outputs (taken_outputs dialogue h.pairs (life dialogue h.pairs) (Message.end to portion components))
+      → (table_move (setting_at h) d (DialogueEvent.frame from (Message.end to portion components))).answer
+      ≡ Answer.outputs (taken_outputs dialogue h.pairs (life dialogue h.pairs) from (Message.end to portion components))
   unfolding table_move
-  end-answered d to portion components e =
-      at_life (λ l d. (table_move (setting_at h) d (DialogueEvent.frame (Message.end to portion components))).answer
-      ≡ Answer.outputs (taken_outputs dialogue h.pairs l (Message.end to portion components))) h dialogue d
+  end-answered d from to portion components e =
+      at_life (λ l d.
+      (table_move (setting_at h) d (DialogueEvent.frame from (Message.end to portion components))).answer
+      ≡ Answer.outputs (taken_outputs dialogue h.pairs l from (Message.end to portion components))) h dialogue d
       (λ state context. any-end state context components (portion_verdict state context portion))
       (life dialogue h.pairs) e

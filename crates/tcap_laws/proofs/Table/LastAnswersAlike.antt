@@ -6,7 +6,7 @@ use Rattle.tcap_laws.proofs.Table.RequestsJudgedAlike.{standing_dialogue, at_lif
 use Rattle.tcap_laws.proofs.Rows.DistinctRows.{rows_distinct}
 use Rattle.tcap_laws.proofs.Rows.SentInRows.{sent-rows}
 use Rattle.tcap_laws.proofs.Rows.ComponentsAlike.{IsLike, fault_last, walk_tells, walk_rejects}
-use Rattle.tcap_model.specs.Procedures.AbortRules.{sent_if_any, abort_told, abnormal_abort}
+use Rattle.tcap_model.specs.Procedures.AbortRules.{abort_told, abnormal_abort, message_sent}
 use Rattle.tcap_model.specs.Table.Agreement.{setting_at}
 use Rattle.tcap_model.specs.Words.Answer.{Answer}
 use Rattle.tcap_model.specs.Histories.Clock.{clock}
@@ -21,13 +21,14 @@ use Rattle.tcap_model.specs.Histories.Life.{Life, life}
 use Rattle.tcap_model.specs.Words.Output.{Output, AbortCause, DialogueIndication}
 use Rattle.tcap_model.specs.Procedures.PortionRules.{PortionVerdict, portion_verdict}
 use Rattle.tcap_model.specs.Replies.Queue.{handled_in, rejects_of}
-use Rattle.tcap_model.specs.Replies.Reply.{reply, request_answer, accepted_answer, taken_outputs, continue_outputs, end_outputs, ended_in}
+use Rattle.tcap_model.specs.Replies.Reply.{reply, request_answer, accepted_answer, taken_outputs, continue_outputs, end_outputs, ended_in, request_sent}
 use Rattle.tcap_model.specs.Words.Request.{Request, ComponentRequest, DialogueRequest}
-use Rattle.tcap_model.specs.Procedures.RequestMessage.{message_of}
-use Rattle.tcap_model.specs.Words.State.{State, peer_by}
+use Rattle.tcap_model.specs.Words.State.{State, peer_by, address_by}
 use Rattle.tcap_model.specs.Table.TableMove.{DialogueEvent, accepted, requested_by, over_with, walked_in, continued_by, ended_by, table_move}
 use Rattle.tcap_model.specs.Table.World.{dialogue_at, rows_of}
 use Rattle.tcap_pdu.specs.FrameSpelling.{Message, Reason}
+use Rattle.tcap_model.specs.Words.Address.{Address}
+use Rattle.tcap_model.specs.Histories.Kept.{kept_address}
 
 module _ (h : History) (dialogue : ℕ) (legal : IsLegal h) where
   abbrev pub dialogue_in : State → Option (List ℕ) → Dialogue
@@ -51,17 +52,17 @@ module _ (h : History) (dialogue : ℕ) (legal : IsLegal h) where
   all-accepted state context (Request.component (ComponentRequest.u_reject id problem)) = refl
   all-accepted state context (Request.component (ComponentRequest.u_cancel id)) =
       accepted-agrees h dialogue state context (Request.component (ComponentRequest.u_cancel id)) refl
-  all-accepted state context (Request.dialogue (DialogueRequest.uni given info)) =
-      over-answer state context (sent_if_any (message_of (standing_of dialogue h.pairs state context)
-      (Request.dialogue (DialogueRequest.uni given info))))
-  all-accepted state context (Request.dialogue (DialogueRequest.begin given info)) = refl
+  all-accepted state context (Request.dialogue (DialogueRequest.uni to given info)) =
+      over-answer state context (request_sent h.pairs (standing_of dialogue h.pairs state context)
+      (Request.dialogue (DialogueRequest.uni to given info)))
+  all-accepted state context (Request.dialogue (DialogueRequest.begin to given info)) = refl
   all-accepted state context (Request.dialogue (DialogueRequest.go_on given info)) = refl
   all-accepted state context (Request.dialogue (DialogueRequest.finish ending given info)) =
-      over-answer state context (sent_if_any (message_of (standing_of dialogue h.pairs state context)
-      (Request.dialogue (DialogueRequest.finish ending given info))))
+      over-answer state context (request_sent h.pairs (standing_of dialogue h.pairs state context)
+      (Request.dialogue (DialogueRequest.finish ending given info)))
   all-accepted state context (Request.dialogue (DialogueRequest.u_abort why info)) =
-      over-answer state context (sent_if_any (message_of (standing_of dialogue h.pairs state context)
-      (Request.dialogue (DialogueRequest.u_abort why info))))
+      over-answer state context (request_sent h.pairs (standing_of dialogue h.pairs state context)
+      (Request.dialogue (DialogueRequest.u_abort why info)))
 
   all-requested : (state : State) (context : Option (List ℕ)) (request : Request) (fault : Option Fault)
       → (requested_by (setting_at h) (dialogue_in state context) request fault).answer
@@ -96,14 +97,14 @@ module _ (h : History) (dialogue : ℕ) (legal : IsLegal h) where
       (λ state context. over-answer state context (Output.dialogue
       (DialogueIndication.p_abort dialogue (AbortCause.cause cause)) ∷ [])) (life dialogue h.pairs) e
 
-  pub abort-agrees : (d : Dialogue) (to : List ℕ) (reason : Reason)
+  pub abort-agrees : (d : Dialogue) (from : Address) (to : List ℕ) (reason : Reason)
       → dialogue_at h.start.reject_ms h.start.idle_ms h.pairs dialogue ≡ Some d
-      → (table_move (setting_at h) d (DialogueEvent.frame (Message.abort to reason))).answer
-      ≡ Answer.outputs (taken_outputs dialogue h.pairs (life dialogue h.pairs) (Message.abort to reason))
+      → (table_move (setting_at h) d (DialogueEvent.frame from (Message.abort to reason))).answer
+      ≡ Answer.outputs (taken_outputs dialogue h.pairs (life dialogue h.pairs) from (Message.abort to reason))
   unfolding table_move
-  abort-agrees d to reason e =
-      at_life (λ l d. (table_move (setting_at h) d (DialogueEvent.frame (Message.abort to reason))).answer
-      ≡ Answer.outputs (taken_outputs dialogue h.pairs l (Message.abort to reason))) h dialogue d
+  abort-agrees d from to reason e =
+      at_life (λ l d. (table_move (setting_at h) d (DialogueEvent.frame from (Message.abort to reason))).answer
+      ≡ Answer.outputs (taken_outputs dialogue h.pairs l from (Message.abort to reason))) h dialogue d
       (λ state context. over-answer state context (abort_told dialogue reason ∷ [])) (life dialogue h.pairs) e
 
   -- the rows and the history are alike before the first component
@@ -131,28 +132,32 @@ module _ (h : History) (dialogue : ℕ) (legal : IsLegal h) where
       (fault_last (length components) components) (dialogue_in state context).invocations [] tt like-standing))
       (life dialogue h.pairs) e
 
-  any-continue : (state : State) (context : Option (List ℕ)) (origin components : List ℕ) (verdict : PortionVerdict)
-      → (continued_by (setting_at h) (dialogue_in state context) origin verdict
+  any-continue : (state : State) (context : Option (List ℕ)) (from : Address) (origin components : List ℕ)
+      (verdict : PortionVerdict)
+      → (continued_by (setting_at h) (dialogue_in state context) from origin verdict
       (walked_in (clock h.pairs) (dialogue_in state context) components)).answer
-      ≡ Answer.outputs (continue_outputs dialogue h.pairs state origin components verdict)
-  any-continue state context origin components PortionVerdict.abnormal =
-      over-answer state context (abnormal_abort (peer_by state origin)
+      ≡ Answer.outputs (continue_outputs dialogue h.pairs state from origin components verdict)
+  any-continue state context from origin components PortionVerdict.abnormal =
+      over-answer state context (message_sent (address_by state (kept_address dialogue h.pairs) from)
+      (abnormal_abort (peer_by state origin))
       ∷ Output.dialogue (DialogueIndication.p_abort dialogue AbortCause.abnormal) ∷ [])
-  any-continue state context origin components (PortionVerdict.normal told info) =
+  any-continue state context from origin components (PortionVerdict.normal told info) =
       ap (λ z. Answer.outputs (Output.dialogue (DialogueIndication.go_on dialogue told info) ∷ z))
       (components-told state context components)
 
-  pub continue-agrees : (d : Dialogue) (origin to : List ℕ) (portion : Option (List ℕ)) (components : List ℕ)
+  pub continue-agrees : (d : Dialogue) (from : Address) (origin to : List ℕ) (portion : Option (List ℕ))
+      (components : List ℕ)
       → dialogue_at h.start.reject_ms h.start.idle_ms h.pairs dialogue ≡ Some d
-      → (table_move (setting_at h) d (DialogueEvent.frame (Message.go_on origin to portion components))).answer
-      ≡ Answer.outputs (taken_outputs dialogue h.pairs (life dialogue h.pairs)
+      → (table_move (setting_at h) d (DialogueEvent.frame from (Message.go_on origin to portion components))).answer
+      ≡ Answer.outputs (taken_outputs dialogue h.pairs (life dialogue h.pairs) from
       (Message.go_on origin to portion components))
   unfolding table_move
-  continue-agrees d origin to portion components e =
+  continue-agrees d from origin to portion components e =
       at_life (λ l d. (table_move (setting_at h) d
-      (DialogueEvent.frame (Message.go_on origin to portion components))).answer
-      ≡ Answer.outputs (taken_outputs dialogue h.pairs l (Message.go_on origin to portion components))) h dialogue d
-      (λ state context. any-continue state context origin components (portion_verdict state context portion))
+      (DialogueEvent.frame from (Message.go_on origin to portion components))).answer
+      ≡ Answer.outputs
+      (taken_outputs dialogue h.pairs l from (Message.go_on origin to portion components))) h dialogue d
+      (λ state context. any-continue state context from origin components (portion_verdict state context portion))
       (life dialogue h.pairs) e
 
   abnormal-end : (state : State) (context : Option (List ℕ)) (components : List ℕ) (verdict : PortionVerdict)
@@ -164,15 +169,15 @@ module _ (h : History) (dialogue : ℕ) (legal : IsLegal h) where
       over-answer state context (Output.dialogue (DialogueIndication.p_abort dialogue AbortCause.abnormal) ∷ [])
   abnormal-end state context components (PortionVerdict.normal told info) e = absurd cc
 
-  pub end-agrees : (d : Dialogue) (to : List ℕ) (portion : Option (List ℕ)) (components : List ℕ)
+  pub end-agrees : (d : Dialogue) (from : Address) (to : List ℕ) (portion : Option (List ℕ)) (components : List ℕ)
       → dialogue_at h.start.reject_ms h.start.idle_ms h.pairs dialogue ≡ Some d
       → portion_verdict d.standing.state d.standing.context portion ≡ PortionVerdict.abnormal
-      → (table_move (setting_at h) d (DialogueEvent.frame (Message.end to portion components))).answer
-      ≡ Answer.outputs (taken_outputs dialogue h.pairs (life dialogue h.pairs) (Message.end to portion components))
+      → (table_move (setting_at h) d (DialogueEvent.frame from (Message.end to portion components))).answer
+      ≡ Answer.outputs (taken_outputs dialogue h.pairs (life dialogue h.pairs) from (Message.end to portion components))
   unfolding table_move
-  end-agrees d to portion components e =
+  end-agrees d from to portion components e =
       at_life (λ l d. portion_verdict d.standing.state d.standing.context portion ≡ PortionVerdict.abnormal
-      → (table_move (setting_at h) d (DialogueEvent.frame (Message.end to portion components))).answer
-      ≡ Answer.outputs (taken_outputs dialogue h.pairs l (Message.end to portion components))) h dialogue d
+      → (table_move (setting_at h) d (DialogueEvent.frame from (Message.end to portion components))).answer
+      ≡ Answer.outputs (taken_outputs dialogue h.pairs l from (Message.end to portion components))) h dialogue d
       (λ state context. abnormal-end state context components (portion_verdict state context portion))
       (life dialogue h.pairs) e

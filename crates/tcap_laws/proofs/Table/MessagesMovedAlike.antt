@@ -1,71 +1,48 @@
 -- After a message and after a moment a dialogue that stands is what the history says.
-use Rattle.std.proofs.Common.{◌≡◌, ℕ, ℤ, Bool, true, false, nat_le, nat_lt, cond, List, [], ◌∷◌, ◌&&◌, length, Option, Some, None, Ok, Err, Result, refl, ap, sym, ◌∙◌}
+use Rattle.std.proofs.Common.{◌≡◌, ℕ, ℤ, Bool, true, false, nat_le, cond, List, [], ◌∷◌, ◌&&◌, length, Option, Some, None, Ok, Err, Result, refl, ap, sym, ◌∙◌}
 use Rattle.std.specs.Prelude.{filter, unwrap_or}
 use Rattle.tcap_component.specs.ComponentReading.{components_of}
 use Rattle.tcap_invocation.specs.Invocations.{Row}
 use Rattle.tcap_invocation.specs.Lapses.{stays}
 use Rattle.tcap_laws.proofs.Spans.MarksAfterBirth.{noted_at_clock}
 use Rattle.tcap_laws.proofs.Table.LastAnswersAlike.{components-rejected}
+use Rattle.tcap_laws.proofs.Table.LivesThen.{accepted_by, left_by_moment, answered_is}
 use Rattle.tcap_laws.proofs.Spans.EventMarks.{standing_marks}
 use Rattle.tcap_laws.proofs.Rows.RowsAfterPairs.{rows_kept, rows_lapsed}
 use Rattle.tcap_laws.proofs.Table.RequestsJudgedAlike.{standing_dialogue, at_life}
 use Rattle.tcap_laws.proofs.Rows.Restaged.{passing_rows}
-use Rattle.tcap_laws.proofs.Table.StandingPairs.{here, life_named, queue_named, touched_named, assembled}
+use Rattle.tcap_laws.proofs.Table.StandingPairs.{here, life_named, queue_named, touched_named, assembled, kept_named}
 use Rattle.tcap_laws.proofs.Rows.ComponentsAlike.{fault_last}
 use Rattle.tcap_laws.proofs.Rows.RowsAfterComponents.{walk_at, rows_up}
 use Rattle.tcap_model.specs.Table.Agreement.{setting_at, due_pair}
-use Rattle.tcap_model.specs.Words.Answer.{Answer, is_accepted}
+use Rattle.tcap_model.specs.Words.Answer.{is_accepted}
 use Rattle.tcap_model.specs.Histories.Clock.{clock}
 use Rattle.tcap_model.specs.Table.Dialogue.{Dialogue, is_idle_at}
 use Rattle.tcap_model.specs.Words.Event.{Event}
-use Rattle.tcap_model.specs.Words.Fault.{Fault}
 use Rattle.tcap_model.specs.Replies.Held.{pair_ends_wait}
 use Rattle.tcap_model.specs.Histories.History.{History}
 use Rattle.tcap_model.specs.Replies.Legal.{IsLegal}
-use Rattle.tcap_model.specs.Histories.Life.{Life, life, touched, state_after_continue, life_by_verdict, life_by_message, life_if_live, life_by_moment, life_by_event}
+use Rattle.tcap_model.specs.Histories.Life.{Life, life, touched, life_by_verdict, life_by_message, life_if_live, life_by_moment, life_by_event}
 use Rattle.tcap_model.specs.Histories.Life.{is_normal, touches_as_message}
 use Rattle.tcap_model.specs.Invocations.Marks.{Mark, marks, end_if_over, if_normal, component_marks, marks_of_message, marks_by_event, marks_if_live}
-use Rattle.tcap_model.specs.Histories.Names.{names}
 use Rattle.tcap_model.specs.Procedures.PortionRules.{PortionVerdict, portion_verdict}
 use Rattle.tcap_model.specs.Replies.Queue.{queue, handled_in, queue_by_verdict, queue_by_message, queue_by_bytes}
 use Rattle.tcap_model.specs.Procedures.QueueRules.{queue_limit, queue_each}
-use Rattle.tcap_model.specs.Replies.Reply.{reply, moment_answer, moment_outputs}
-use Rattle.tcap_model.specs.Words.State.{State, is_live, peer_by}
+use Rattle.tcap_model.specs.Replies.Reply.{reply}
+use Rattle.tcap_model.specs.Words.State.{State, is_live, peer_by, address_by}
 use Rattle.tcap_model.specs.Table.TableMove.{DialogueEvent, Walked, walked_in, continued_by, ended_by, idled, lapsed, table_move, left_standing}
 use Rattle.tcap_model.specs.Words.Time.{moment_fault, is_idle}
 use Rattle.tcap_model.specs.Table.World.{dialogue_at, dialogue_by, rows_of}
 use Rattle.tcap_pdu.specs.declared.fault.FrameFault.{FrameFault}
 use Rattle.tcap_pdu.specs.FrameReading.{frame_at}
 use Rattle.tcap_pdu.specs.FrameSpelling.{Message}
-use Rattle.tcap_laws.proofs.BoolLemmas.{and_false, and_true}
+use Rattle.tcap_laws.proofs.BoolLemmas.{and_false}
 use Rattle.tcap_laws.proofs.Rows.EndsAfterComponents.{rows_message}
+use Rattle.tcap_model.specs.Words.Address.{Address}
+use Rattle.tcap_laws.proofs.Receptions.BytesNames.{names_in}
+use Rattle.tcap_model.specs.Histories.Kept.{kept_address, kept_by_message}
 
--- ---- what a history says in any case
-
-accepted_by : (h : History) (now : ℕ) (f : Option Fault) → f ≡ None
-    → is_accepted (moment_answer h.start.idle_ms h.pairs now f) ≡ true
-accepted_by h now (Some f) e = absurd cc
-accepted_by h now None e = go (nat_lt now (clock h.pairs))
-  where
-    go : (b : Bool) → is_accepted (cond b (Answer.outputs [])
-        (Answer.outputs (moment_outputs h.start.idle_ms h.pairs now))) ≡ true
-    go true = refl
-    go false = refl
-
--- a moment ends a dialogue that is live and has stood still too long
-left_by_moment : (idle : Bool) (state : State) (context : Option (List ℕ))
-    → life_by_moment idle state context ≡ cond (is_live state && idle) Life.over (Life.standing state context)
-left_by_moment true state context =
-    ap (λ b. cond b Life.over (Life.standing state context)) (sym (and_true (is_live state)))
-left_by_moment false state context =
-    ap (λ b. cond b Life.over (Life.standing state context)) (sym (and_false (is_live state)))
-
-answered_is : (state : State) (origin : List ℕ) → is_live state ≡ true
-    → state_after_continue state origin ≡ State.active (peer_by state origin)
-answered_is State.fresh origin e = absurd cc
-answered_is State.sent origin e = refl
-answered_is (State.received peer) origin e = absurd cc
-answered_is (State.active peer) origin e = refl
+-- ---- a dialogue that stands
 
 module _ (h : History) (dialogue : ℕ) (legal : IsLegal h) (state : State) (context : Option (List ℕ))
     (stands : life dialogue h.pairs ≡ Life.standing state context) where
@@ -114,12 +91,13 @@ module _ (h : History) (dialogue : ℕ) (legal : IsLegal h) (state : State) (con
         life_named h dialogue legal state context stands (Event.moment now) refl (Life.standing state context)
         (life_then false e)
         ∙ assembled h dialogue legal state context stands (Event.moment now) state context (queue dialogue h.pairs)
-        (filter (λ r. stays now r.1.stage) rows) last
+        (filter (λ r. stays now r.1.stage) rows) last (kept_address dialogue h.pairs)
         (queue_named h dialogue legal state context stands (Event.moment now) refl)
         (rows_lapsed h.start.reject_ms h.start (due_pair h (Event.moment now)) h.pairs legal.1 refl dialogue now
         (lapsed_marks e) (λ k u. ap (λ b. b && nat_le u now) accepted)
         ∙ sym (passing_rows (stays now) rows))
         (touched_named h dialogue legal state context stands (Event.moment now) refl false refl)
+        (kept_named h dialogue legal state context stands (Event.moment now) refl)
 
     moment-moves : found_at (Event.moment now)
         ≡ left_standing (table_move (setting_at h) d (DialogueEvent.moment now))
@@ -128,9 +106,10 @@ module _ (h : History) (dialogue : ℕ) (legal : IsLegal h) (state : State) (con
 
   -- ---- a message
 
-  module _ (bytes : List ℕ) (named : names (Event.received bytes) dialogue ≡ true) (live : is_live state ≡ true) where
+  module _ (from : Address) (bytes : List ℕ) (named : names_in bytes dialogue ≡ true)
+      (live : is_live state ≡ true) where
     abbrev event : Event
-    event = Event.received bytes
+    event = Event.received from bytes
 
     module _ (read : Result Message FrameFault) (frame : frame_at bytes ≡ read) where
       life_read : life_by_event h.start.idle_ms last state context event (is_accepted (reply h event))
@@ -168,6 +147,14 @@ module _ (h : History) (dialogue : ℕ) (legal : IsLegal h) (state : State) (con
           (ap (λ b. b && touches_as_message state context (frame_at bytes)) live
           ∙ ap (touches_as_message state context) frame)
 
+      kept_read : kept_address dialogue (due_pair h event ∷ h.pairs)
+          ≡ kept_by_message (kept_address dialogue h.pairs) from state context read
+      kept_read =
+          kept_named h dialogue legal state context stands event named
+          ∙ (ap (λ b. cond b (kept_by_message (kept_address dialogue h.pairs) from state context (frame_at bytes))
+          (kept_address dialogue h.pairs)) live
+          ∙ ap (kept_by_message (kept_address dialogue h.pairs) from state context) frame)
+
       no_end : (k : ℤ) (u : ℕ) → pair_ends_wait u dialogue k (due_pair h event) ≡ false
       no_end k u = and_false (is_accepted (reply h event))
 
@@ -175,16 +162,18 @@ module _ (h : History) (dialogue : ℕ) (legal : IsLegal h) (state : State) (con
       message_kept : life_by_message state context read ≡ Life.standing state context
           → ((k : ℤ) (other : List Mark) → unwrap_or (marks_of_message k state context read) other ≡ other)
           → queue_by_message dialogue h.pairs (Life.standing state context) (queue dialogue h.pairs) read
-          ≡ queue dialogue h.pairs → touches_as_message state context read ≡ false → found_at event ≡ Some d
-      message_kept same none kept untouched =
+          ≡ queue dialogue h.pairs → touches_as_message state context read ≡ false
+          → kept_by_message (kept_address dialogue h.pairs) from state context read ≡ kept_address dialogue h.pairs
+          → found_at event ≡ Some d
+      message_kept same none kept untouched address =
           found_read (Life.standing state context) same
           ∙ assembled h dialogue legal state context stands event state context (queue dialogue h.pairs)
-          (rows_of h.start.reject_ms dialogue h.pairs) last (queue_read ∙ kept)
+          (rows_of h.start.reject_ms dialogue h.pairs) last (kept_address dialogue h.pairs) (queue_read ∙ kept)
           (rows_kept h.start.reject_ms h.start (due_pair h event) h.pairs legal.1 refl dialogue
           (λ k. marks_read k ∙ (ap (noted_at_clock (clock h.pairs))
           (none k (end_if_over (Life.standing state context) (life_by_message state context read)))
           ∙ ap (λ l. noted_at_clock (clock h.pairs) (end_if_over (Life.standing state context) l)) same))
-          no_end) (touched_read ∙ ap (λ b. cond b (clock h.pairs) last) untouched)
+          no_end) (touched_read ∙ ap (λ b. cond b (clock h.pairs) last) untouched) (kept_read ∙ address)
 
     -- a Continue
     module _ (origin to : List ℕ) (portion : Option (List ℕ)) (components : List ℕ)
@@ -196,7 +185,7 @@ module _ (h : History) (dialogue : ℕ) (legal : IsLegal h) (state : State) (con
       walk = walked_in (clock h.pairs) d components
 
       continue-moves : (v : PortionVerdict) → portion_verdict state context portion ≡ v
-          → found_at event ≡ left_standing (continued_by (setting_at h) d origin v walk)
+          → found_at event ≡ left_standing (continued_by (setting_at h) d from origin v walk)
       continue-moves PortionVerdict.abnormal e =
           found_read read_as frame Life.over (ap (life_by_verdict state context origin) e)
       continue-moves (PortionVerdict.normal told info) e =
@@ -206,6 +195,7 @@ module _ (h : History) (dialogue : ℕ) (legal : IsLegal h) (state : State) (con
           ∙ (assembled h dialogue legal state context stands event (State.active (peer_by state origin)) context
           (queue_each queue_limit (queue dialogue h.pairs) walk.rejects)
           (rows_up h.start h.pairs legal.1 h.start.reject_ms dialogue (components_of components)) (clock h.pairs)
+          (address_by state (kept_address dialogue h.pairs) from)
           (queue_read read_as frame ∙ (ap (λ v. queue_by_verdict v (queue dialogue h.pairs)
           (handled_in dialogue h.pairs components)) e ∙ ap (queue_each queue_limit (queue dialogue h.pairs))
           (sym (components-rejected h dialogue legal d components stands_at))))
@@ -217,6 +207,8 @@ module _ (h : History) (dialogue : ℕ) (legal : IsLegal h) (state : State) (con
           (portion_verdict state context portion))))) e)
           (no_end read_as frame))
           (touched_read read_as frame ∙ ap (λ v. cond (is_normal v) (clock h.pairs) last) e)
+          (kept_read read_as frame ∙ ap (λ v. cond (is_normal v) (address_by state (kept_address dialogue h.pairs) from)
+          (kept_address dialogue h.pairs)) e)
           ∙ ap (λ l. Some (record {
             standing =
                 record {
@@ -229,6 +221,7 @@ module _ (h : History) (dialogue : ℕ) (legal : IsLegal h) (state : State) (con
             invocations = l;
             idle_ms = h.start.idle_ms;
             touched = clock h.pairs;
+            kept = address_by state (kept_address dialogue h.pairs) from;
           }))
           (sym (walk_at h.start h.pairs legal.1 h.start.reject_ms dialogue (components_of components)
           (fault_last (length components) components))))
@@ -238,7 +231,7 @@ module _ (h : History) (dialogue : ℕ) (legal : IsLegal h) (state : State) (con
     ended_none PortionVerdict.abnormal w = refl
 
     message-moves : (m : Message) → frame_at bytes ≡ Ok m
-        → found_at event ≡ left_standing (table_move (setting_at h) d (DialogueEvent.frame m))
+        → found_at event ≡ left_standing (table_move (setting_at h) d (DialogueEvent.frame from m))
     unfolding table_move
     message-moves (Message.go_on origin to portion components) e =
         continue-moves origin to portion components e (portion_verdict state context portion) refl
@@ -247,9 +240,9 @@ module _ (h : History) (dialogue : ℕ) (legal : IsLegal h) (state : State) (con
         ∙ ended_none (portion_verdict state context portion) (walked_in (clock h.pairs) d components)
     message-moves (Message.abort to reason) e = found_read (Ok (Message.abort to reason)) e Life.over refl
     message-moves (Message.unidirectional portion components) e =
-        message_kept (Ok (Message.unidirectional portion components)) e refl (λ k other. refl) refl refl
+        message_kept (Ok (Message.unidirectional portion components)) e refl (λ k other. refl) refl refl refl
     message-moves (Message.begin origin portion components) e =
-        message_kept (Ok (Message.begin origin portion components)) e refl (λ k other. refl) refl refl
+        message_kept (Ok (Message.begin origin portion components)) e refl (λ k other. refl) refl refl refl
 
     fault-moves : (f : FrameFault) (cause : ℕ) → frame_at bytes ≡ Err f
         → found_at event ≡ left_standing (table_move (setting_at h) d (DialogueEvent.fault cause))
@@ -266,27 +259,28 @@ by_life P h dialogue d standing e =
     at_life (λ l d. life dialogue h.pairs ≡ l → P d) h dialogue d (λ state context q. standing state context q)
     (life dialogue h.pairs) e refl
 
-pub taken-moves : (h : History) (dialogue : ℕ) (d : Dialogue) (bytes : List ℕ) (m : Message) → IsLegal h
-    → dialogue_at h.start.reject_ms h.start.idle_ms h.pairs dialogue ≡ Some d
-    → names (Event.received bytes) dialogue ≡ true → is_live d.standing.state ≡ true → frame_at bytes ≡ Ok m
-    → dialogue_at h.start.reject_ms h.start.idle_ms (due_pair h (Event.received bytes) ∷ h.pairs) dialogue
-    ≡ left_standing (table_move (setting_at h) d (DialogueEvent.frame m))
-taken-moves h dialogue d bytes m legal e named live frame =
-    by_life (λ d. is_live d.standing.state ≡ true
-    → dialogue_at h.start.reject_ms h.start.idle_ms (due_pair h (Event.received bytes) ∷ h.pairs) dialogue
-    ≡ left_standing (table_move (setting_at h) d (DialogueEvent.frame m))) h dialogue d
-    (λ state context q live. message-moves h dialogue legal state context q bytes named live m frame) e live
-
-pub broken-moves : (h : History) (dialogue : ℕ) (d : Dialogue) (bytes : List ℕ) (fault : FrameFault) (cause : ℕ)
+pub taken-moves : (h : History) (dialogue : ℕ) (d : Dialogue) (from : Address) (bytes : List ℕ) (m : Message)
     → IsLegal h → dialogue_at h.start.reject_ms h.start.idle_ms h.pairs dialogue ≡ Some d
-    → names (Event.received bytes) dialogue ≡ true → is_live d.standing.state ≡ true → frame_at bytes ≡ Err fault
-    → dialogue_at h.start.reject_ms h.start.idle_ms (due_pair h (Event.received bytes) ∷ h.pairs) dialogue
-    ≡ left_standing (table_move (setting_at h) d (DialogueEvent.fault cause))
-broken-moves h dialogue d bytes fault cause legal e named live frame =
+    → names_in bytes dialogue ≡ true → is_live d.standing.state ≡ true → frame_at bytes ≡ Ok m
+    → dialogue_at h.start.reject_ms h.start.idle_ms (due_pair h (Event.received from bytes) ∷ h.pairs) dialogue
+    ≡ left_standing (table_move (setting_at h) d (DialogueEvent.frame from m))
+taken-moves h dialogue d from bytes m legal e named live frame =
     by_life (λ d. is_live d.standing.state ≡ true
-    → dialogue_at h.start.reject_ms h.start.idle_ms (due_pair h (Event.received bytes) ∷ h.pairs) dialogue
+    → dialogue_at h.start.reject_ms h.start.idle_ms (due_pair h (Event.received from bytes) ∷ h.pairs) dialogue
+    ≡ left_standing (table_move (setting_at h) d (DialogueEvent.frame from m))) h dialogue d
+    (λ state context q live. message-moves h dialogue legal state context q from bytes named live m frame) e live
+
+pub broken-moves : (h : History) (dialogue : ℕ) (d : Dialogue) (from : Address) (bytes : List ℕ) (fault : FrameFault)
+    (cause : ℕ) → IsLegal h → dialogue_at h.start.reject_ms h.start.idle_ms h.pairs dialogue ≡ Some d
+    → names_in bytes dialogue ≡ true → is_live d.standing.state ≡ true → frame_at bytes ≡ Err fault
+    → dialogue_at h.start.reject_ms h.start.idle_ms (due_pair h (Event.received from bytes) ∷ h.pairs) dialogue
+    ≡ left_standing (table_move (setting_at h) d (DialogueEvent.fault cause))
+broken-moves h dialogue d from bytes fault cause legal e named live frame =
+    by_life (λ d. is_live d.standing.state ≡ true
+    → dialogue_at h.start.reject_ms h.start.idle_ms (due_pair h (Event.received from bytes) ∷ h.pairs) dialogue
     ≡ left_standing (table_move (setting_at h) d (DialogueEvent.fault cause))) h dialogue d
-    (λ state context q live. fault-moves h dialogue legal state context q bytes named live fault cause frame) e live
+    (λ state context q live.
+    fault-moves h dialogue legal state context q from bytes named live fault cause frame) e live
 
 pub lapsed-moves : (h : History) (dialogue : ℕ) (d : Dialogue) (now : ℕ) → IsLegal h
     → dialogue_at h.start.reject_ms h.start.idle_ms h.pairs dialogue ≡ Some d → moment_fault now ≡ None

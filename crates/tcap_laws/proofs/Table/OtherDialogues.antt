@@ -16,7 +16,7 @@ use Rattle.tcap_laws.proofs.Rows.RowsAfterPairs.{rows_kept}
 use Rattle.tcap_laws.proofs.Table.RequestsJudgedAlike.{standing_dialogue}
 use Rattle.tcap_laws.proofs.Rows.RowStages.{stage_more, stage_is, stage_then, stage_unless}
 use Rattle.tcap_laws.proofs.Rows.StagesByMarks.{marked_stage}
-use Rattle.tcap_laws.proofs.Table.StandingPairs.{life_unnamed, queue_unnamed, touched_unnamed, assembled}
+use Rattle.tcap_laws.proofs.Table.StandingPairs.{life_unnamed, queue_unnamed, touched_unnamed, assembled, kept_unnamed}
 use Rattle.tcap_laws.proofs.Decisions.ToldInvocations.{IsFound, each_found}
 use Rattle.tcap_model.specs.Table.Agreement.{due_pair}
 use Rattle.tcap_model.specs.Words.Answer.{is_accepted}
@@ -41,6 +41,7 @@ use Rattle.tcap_model.specs.Invocations.Span.{is_invoked, span}
 use Rattle.tcap_model.specs.Words.State.{State}
 use Rattle.tcap_model.specs.Table.World.{stage_by, row_by, is_number, row_of, rows_of, dialogue_at}
 use Rattle.tcap_laws.proofs.BoolLemmas.{and_false}
+use Rattle.tcap_model.specs.Histories.Kept.{kept_address}
 
 -- ---- the rows, where an invocation is made in another dialogue
 
@@ -136,10 +137,11 @@ module _ (h : History) (dialogue : ℕ) (legal : IsLegal h) where
       rows_kept h.start.reject_ms h.start (due_pair h Event.new_dialogue) h.pairs legal.1 refl dialogue
       (λ k. unnamed_marks dialogue k Event.new_dialogue (reply h Event.new_dialogue) h.start.idle_ms h.pairs e)
       (λ k u. and_false (is_accepted (reply h Event.new_dialogue)))
-  rows_unnamed (Event.received bytes) e =
-      rows_kept h.start.reject_ms h.start (due_pair h (Event.received bytes)) h.pairs legal.1 refl dialogue
-      (λ k. unnamed_marks dialogue k (Event.received bytes) (reply h (Event.received bytes)) h.start.idle_ms h.pairs e)
-      (λ k u. and_false (is_accepted (reply h (Event.received bytes))))
+  rows_unnamed (Event.received from bytes) e =
+      rows_kept h.start.reject_ms h.start (due_pair h (Event.received from bytes)) h.pairs legal.1 refl dialogue
+      (λ k. unnamed_marks dialogue k (Event.received from bytes)
+      (reply h (Event.received from bytes)) h.start.idle_ms h.pairs e)
+      (λ k u. and_false (is_accepted (reply h (Event.received from bytes))))
   rows_unnamed (Event.moment now) e = absurd cc
   rows_unnamed (Event.on_dialogue asked request) e = go (invoked_by here) refl
     where
@@ -167,9 +169,10 @@ module _ (h : History) (dialogue : ℕ) (legal : IsLegal h) where
   unnamed_stood state context stands event e =
       life_unnamed h dialogue legal state context stands event e
       ∙ assembled h dialogue legal state context stands event state context (queue dialogue h.pairs)
-      (rows_of h.start.reject_ms dialogue h.pairs) (touched dialogue h.pairs)
+      (rows_of h.start.reject_ms dialogue h.pairs) (touched dialogue h.pairs) (kept_address dialogue h.pairs)
       (queue_unnamed h dialogue legal state context stands event e) (rows_unnamed event e)
       (touched_unnamed h dialogue legal state context stands event e)
+      (kept_unnamed h dialogue legal state context stands event e)
 
 pub unnamed-stays : (h : History) (dialogue : ℕ) (d : Dialogue) (event : Event) → IsLegal h
     → dialogue_at h.start.reject_ms h.start.idle_ms h.pairs dialogue ≡ Some d → names event dialogue ≡ false

@@ -19,7 +19,7 @@ use Rattle.tcap_laws.proofs.Table.RequestsJudgedAlike.{standing_dialogue}
 use Rattle.tcap_laws.proofs.Rows.Restaged.{on_id, restaged, LeavesStage, left_rows, freed_rows}
 use Rattle.tcap_laws.proofs.Rows.DistinctRows.{rows_distinct}
 use Rattle.tcap_laws.proofs.Rows.StagesByMarks.{dropped_stage}
-use Rattle.tcap_laws.proofs.Table.StandingPairs.{life_named, queue_named, touched_named, assembled}
+use Rattle.tcap_laws.proofs.Table.StandingPairs.{life_named, queue_named, touched_named, assembled, kept_named}
 use Rattle.tcap_model.specs.Table.Agreement.{due_pair}
 use Rattle.tcap_model.specs.Words.Answer.{Answer, is_accepted}
 use Rattle.tcap_model.specs.Histories.Clock.{clock}
@@ -41,6 +41,8 @@ use Rattle.tcap_model.specs.Replies.Reply.{reply, request_answer}
 use Rattle.tcap_model.specs.Words.Request.{Request}
 use Rattle.tcap_model.specs.Words.State.{State}
 use Rattle.tcap_model.specs.Table.World.{dialogue_at, dialogue_by, rows_of}
+use Rattle.tcap_model.specs.Words.Address.{Address}
+use Rattle.tcap_model.specs.Histories.Kept.{kept_address, kept_by_request}
 
 -- ---- the rows of the table
 
@@ -159,12 +161,22 @@ module _ (h : History) (dialogue : ℕ) (legal : IsLegal h) (state : State) (con
     touched_by = touched_named h dialogue legal state context stands event own
         (is_accepted a && touches_as_request request) (ap (λ a. is_accepted a && touches_as_request request) is)
 
+    -- the address that it keeps, by the request
+    pub kept_by : kept_address dialogue (due_pair h event ∷ h.pairs)
+        ≡ cond (is_accepted a) (kept_by_request (kept_address dialogue h.pairs) request) (kept_address dialogue h.pairs)
+    kept_by = kept_named h dialogue legal state context stands event own
+        ∙ ap (λ a. cond (is_accepted a) (kept_by_request (kept_address dialogue h.pairs) request)
+        (kept_address dialogue h.pairs)) is
+
     -- the dialogue of these parts
     pub found_of : (s : State) (c : Option (List ℕ)) (q : List Component) (after : List Row) (t : ℕ)
+        (address : Address)
         → life_if_accepted (is_accepted a) state context request ≡ Life.standing s c
         → queue_if_accepted (is_accepted a) (queue dialogue h.pairs) request a ≡ q
         → rows_of h.start.reject_ms dialogue (due_pair h event ∷ h.pairs) ≡ after
         → cond (is_accepted a && touches_as_request request) (clock h.pairs) (touched dialogue h.pairs) ≡ t
+        → cond (is_accepted a) (kept_by_request (kept_address dialogue h.pairs) request) (kept_address dialogue h.pairs)
+        ≡ address
         → found_at ≡ Some (record {
           standing =
               record { identifier = dialogue; state = s; context = c; queue = q };
@@ -172,15 +184,17 @@ module _ (h : History) (dialogue : ℕ) (legal : IsLegal h) (state : State) (con
               record { reject_ms = h.start.reject_ms; rows = after };
           idle_ms = h.start.idle_ms;
           touched = t;
+          kept = address;
         })
-    found_of s c q after t e w v u =
+    found_of s c q after t address e w v u z =
         found_by (Life.standing s c) e ∙ assembled h dialogue legal state context stands event s c q after t
-        (queue_by ∙ w) v (touched_by ∙ u)
+        address (queue_by ∙ w) v (touched_by ∙ u) (kept_by ∙ z)
 
   pub refused_moves : (f : Fault) → reply h event ≡ Answer.refused f → found_at ≡ Some d
   refused_moves f is =
-      found_of (Answer.refused f) is state context (queue dialogue h.pairs) rows (touched dialogue h.pairs) refl refl
-      (rows_quiet (Answer.refused f) is refl (λ k. refl) (λ k. refl)) refl
+      found_of (Answer.refused f) is state context (queue dialogue h.pairs) rows (touched dialogue h.pairs)
+      (kept_address dialogue h.pairs) refl refl
+      (rows_quiet (Answer.refused f) is refl (λ k. refl) (λ k. refl)) refl refl
 
   -- a message that takes the queue
   pub rows_sent : (outputs : List Output) (is : reply h event ≡ Answer.outputs outputs)

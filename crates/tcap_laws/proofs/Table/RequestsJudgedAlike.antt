@@ -20,6 +20,7 @@ use Rattle.tcap_model.specs.Words.Request.{Request, ComponentRequest, DialogueRe
 use Rattle.tcap_model.specs.Words.State.{State}
 use Rattle.tcap_model.specs.Table.TableMove.{DialogueEvent, answering, accepted, requested_by, giving_up, situation, in_use_by_rows, pending_by_rows, table_move}
 use Rattle.tcap_model.specs.Table.World.{rows_of, dialogue_at, dialogue_by}
+use Rattle.tcap_model.specs.Histories.Kept.{kept_address}
 
 -- ---- by what a request is judged
 
@@ -46,6 +47,7 @@ standing_dialogue h dialogue state context =
           list_at h.start.reject_ms dialogue h.pairs;
       idle_ms = h.start.idle_ms;
       touched = touched dialogue h.pairs;
+      kept = kept_address dialogue h.pairs;
     }
 
 situation_by : Situation → Bool → Option ℕ → Situation
@@ -121,8 +123,8 @@ accepted-agrees h dialogue state context (Request.component (ComponentRequest.u_
     given_up-agrees (standing_dialogue h dialogue state context) id
     (given_up_at (rows_of h.start.reject_ms dialogue h.pairs) id)
     ∙ ap given_up_answer (pending-rows h.start.reject_ms dialogue h.pairs id)
-accepted-agrees h dialogue state context (Request.dialogue (DialogueRequest.uni given info)) s = absurd cc
-accepted-agrees h dialogue state context (Request.dialogue (DialogueRequest.begin given info)) s = refl
+accepted-agrees h dialogue state context (Request.dialogue (DialogueRequest.uni to given info)) s = absurd cc
+accepted-agrees h dialogue state context (Request.dialogue (DialogueRequest.begin to given info)) s = refl
 accepted-agrees h dialogue state context (Request.dialogue (DialogueRequest.go_on given info)) s = refl
 accepted-agrees h dialogue state context (Request.dialogue (DialogueRequest.finish ending given info)) s = absurd cc
 accepted-agrees h dialogue state context (Request.dialogue (DialogueRequest.u_abort why info)) s = absurd cc

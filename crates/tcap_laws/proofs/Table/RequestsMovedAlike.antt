@@ -30,13 +30,13 @@ use Rattle.tcap_model.specs.Histories.History.{History}
 use Rattle.tcap_model.specs.Words.InRange.{InRange}
 use Rattle.tcap_model.specs.Invocations.Invocation.{Invocation, invoked_under, next_number}
 use Rattle.tcap_model.specs.Replies.Legal.{IsLegal}
-use Rattle.tcap_model.specs.Histories.Life.{Life, life, touched, life_by_request}
+use Rattle.tcap_model.specs.Histories.Life.{Life, life, life_by_request}
 use Rattle.tcap_model.specs.Invocations.Marks.{Mark, marks, end_if_over, marks_of_request}
 use Rattle.tcap_model.specs.Histories.Pair.{Pair}
 use Rattle.tcap_model.specs.Replies.Queue.{queue, queue_by_request}
 use Rattle.tcap_model.specs.Procedures.QueueRules.{Queued as Component, without_invoke}
 use Rattle.tcap_model.specs.Procedures.Refusals.{due_on, holds, faults_of}
-use Rattle.tcap_model.specs.Replies.Reply.{reply, accepted_answer, given_up_answer}
+use Rattle.tcap_model.specs.Replies.Reply.{reply, accepted_answer, given_up_answer, request_sent}
 use Rattle.tcap_model.specs.Words.Request.{Request, ComponentRequest, DialogueRequest}
 use Rattle.tcap_model.specs.Words.State.{State, activated}
 use Rattle.tcap_model.specs.Table.TableMove.{DialogueEvent, accepted, requested_by, giving_up, freed_by, table_move, left_standing}
@@ -44,11 +44,9 @@ use Rattle.tcap_model.specs.Table.World.{dialogue_at, dialogue_by, rows_of}
 use Rattle.std.proofs.lemmas.List.{append-nil}
 use Rattle.tcap_laws.proofs.Table.RequestPairs.{free_wait, freed_wait, given_up, reply_is, invoked_as, found_by, marks_by, ends_by, rows_quiet, found_of, refused_moves, rows_sent, distinct}
 use Rattle.tcap_laws.proofs.Rows.StagesByMarks.{open_stage, closed_stage, marked_stage}
-use Rattle.tcap_model.specs.Procedures.AbortRules.{sent_if_any}
 use Rattle.tcap_model.specs.Procedures.ComponentRequest.{queued_for}
 use Rattle.tcap_model.specs.Invocations.Deadline.{sent_clock}
 use Rattle.tcap_model.specs.Procedures.Problems.{is_of_answer}
-use Rattle.tcap_model.specs.Procedures.RequestMessage.{message_of}
 use Rattle.tcap_model.specs.Invocations.Span.{span}
 use Rattle.tcap_laws.proofs.BoolLemmas.{and_false, and_true}
 
@@ -98,8 +96,9 @@ module _ (h : History) (dialogue : ℕ) (legal : IsLegal h) (state : State) (con
       → found_after (Request.component asked) ≡ Some (with_parts (with_component asked) stood.invocations)
   queued_moves asked is l e none marked ends =
       found_of h dialogue legal state context stands (Request.component asked) Answer.done is state context
-      (with_component asked) rows stood.touched l e
+      (with_component asked) rows stood.touched stood.kept l e
       (rows_quiet h dialogue legal state context stands (Request.component asked) Answer.done is none marked ends) refl
+      refl
 
   -- ---- a Reject
 
@@ -150,7 +149,8 @@ module _ (h : History) (dialogue : ℕ) (legal : IsLegal h) (state : State) (con
           → found_after rejecting ≡ Some (rejected_with (after_free_wait stood.invocations id))
       freeing_reject e =
           found_of h dialogue legal state context stands rejecting Answer.done is state context
-          (with_component asked_reject) (restaged (on_id id free_wait) rows) stood.touched refl refl (wait_freed e) refl
+          (with_component asked_reject) (restaged (on_id id free_wait) rows) stood.touched stood.kept refl refl
+          (wait_freed e) refl refl
           ∙ ap (λ l. Some (rejected_with l)) (sym (freed_wait stood.invocations id
           (distinct h dialogue legal state context stands rejecting) (entry_at rows id) refl))
 
@@ -173,14 +173,14 @@ module _ (h : History) (dialogue : ℕ) (legal : IsLegal h) (state : State) (con
     cancel_by None e is = refused_moves h dialogue legal state context stands cancelling Fault.no_such_invocation is
     cancel_by (Some n) e is =
         found_of h dialogue legal state context stands cancelling (Answer.given_up n) is state context
-        (without_invoke n waiting) (without rows id) stood.touched refl refl
+        (without_invoke n waiting) (without rows id) stood.touched stood.kept refl refl
         (rows_marked h.start.reject_ms h.start (pair_of cancelling) h.pairs legal.1
         (invoked_as h dialogue legal state context stands cancelling (Answer.given_up n) is) dialogue Mark.given_up
         (int_eq id)
         (λ k. marks_by h dialogue legal state context stands cancelling (Answer.given_up n) is k ∙ noted (int_eq id k))
         (λ k u. ends_by h dialogue legal state context stands cancelling (Answer.given_up n) is k u)
         ∙ given_up stood.invocations id (distinct h dialogue legal state context stands cancelling) n (entry_at rows id)
-        refl e) refl
+        refl e) refl refl
         ∙ ap (λ o. Some (with_parts (without_invoke n waiting) (freed stood.invocations id (is_some o)))) (sym e)
       where
         noted : (b : Bool) → noted_at_clock (clock h.pairs) (cond b (Mark.given_up ∷ []) [])
@@ -212,13 +212,13 @@ module _ (h : History) (dialogue : ℕ) (legal : IsLegal h) (state : State) (con
           found_of h dialogue legal state context stands invoking (Answer.number (next_number h)) is state context
           (waiting ++ option_to_list (queued_for (next_number h) invoking))
           (rows ++ (id, record { number = next_number h; class = class; stage = Queued timeout }) ∷ []) stood.touched
-          refl refl
+          stood.kept refl refl
           (rows_invoked h.start.reject_ms h.start (pair_of invoking) h.pairs
           (record { in_range = within; is_limited = refl }, refl, legal.1) new
           (invoked_as h dialogue legal state context stands invoking (Answer.number (next_number h)) is) refl
           (λ k. marks_by h dialogue legal state context stands invoking (Answer.number (next_number h)) is k)
           (λ k u. ends_by h dialogue legal state context stands invoking (Answer.number (next_number h)) is k u)
-          (free_by e)) refl
+          (free_by e)) refl refl
 
   -- ---- all requests
 
@@ -240,26 +240,26 @@ module _ (h : History) (dialogue : ℕ) (legal : IsLegal h) (state : State) (con
   accepted_moves (Request.component (ComponentRequest.u_cancel id)) within e is =
       cancel_by id (given_up_at rows id) refl (is ∙ ap given_up_answer
       (sym (pending-rows h.start.reject_ms dialogue h.pairs id)))
-  accepted_moves (Request.dialogue (DialogueRequest.uni given info)) within e is =
-      found_by h dialogue legal state context stands (Request.dialogue (DialogueRequest.uni given info))
+  accepted_moves (Request.dialogue (DialogueRequest.uni to given info)) within e is =
+      found_by h dialogue legal state context stands (Request.dialogue (DialogueRequest.uni to given info))
       (accepted_answer h (standing_of dialogue h.pairs state context)
-      (Request.dialogue (DialogueRequest.uni given info))) is Life.over refl
-  accepted_moves (Request.dialogue (DialogueRequest.begin given info)) within e is =
-      found_of h dialogue legal state context stands (Request.dialogue (DialogueRequest.begin given info))
+      (Request.dialogue (DialogueRequest.uni to given info))) is Life.over refl
+  accepted_moves (Request.dialogue (DialogueRequest.begin to given info)) within e is =
+      found_of h dialogue legal state context stands (Request.dialogue (DialogueRequest.begin to given info))
       (accepted_answer h (standing_of dialogue h.pairs state context)
-      (Request.dialogue (DialogueRequest.begin given info))) is State.sent given [] (sent_rows (clock h.pairs) rows)
-      (clock h.pairs) refl refl
-      (rows_sent h dialogue legal state context stands (Request.dialogue (DialogueRequest.begin given info))
-      (sent_if_any (message_of (standing_of dialogue h.pairs state context)
-      (Request.dialogue (DialogueRequest.begin given info)))) is refl (λ k. refl) (λ k. refl)) refl
+      (Request.dialogue (DialogueRequest.begin to given info))) is State.sent given [] (sent_rows (clock h.pairs) rows)
+      (clock h.pairs) to refl refl
+      (rows_sent h dialogue legal state context stands (Request.dialogue (DialogueRequest.begin to given info))
+      (request_sent h.pairs (standing_of dialogue h.pairs state context)
+      (Request.dialogue (DialogueRequest.begin to given info))) is refl (λ k. refl) (λ k. refl)) refl refl
   accepted_moves (Request.dialogue (DialogueRequest.go_on given info)) within e is =
       found_of h dialogue legal state context stands (Request.dialogue (DialogueRequest.go_on given info))
       (accepted_answer h (standing_of dialogue h.pairs state context)
       (Request.dialogue (DialogueRequest.go_on given info))) is (activated state) context []
-      (sent_rows (clock h.pairs) rows) (clock h.pairs) refl refl
+      (sent_rows (clock h.pairs) rows) (clock h.pairs) stood.kept refl refl
       (rows_sent h dialogue legal state context stands (Request.dialogue (DialogueRequest.go_on given info))
-      (sent_if_any (message_of (standing_of dialogue h.pairs state context)
-      (Request.dialogue (DialogueRequest.go_on given info)))) is refl (λ k. refl) (λ k. refl)) refl
+      (request_sent h.pairs (standing_of dialogue h.pairs state context)
+      (Request.dialogue (DialogueRequest.go_on given info))) is refl (λ k. refl) (λ k. refl)) refl refl
   accepted_moves (Request.dialogue (DialogueRequest.finish end_if_over given info)) within e is =
       found_by h dialogue legal state context stands (Request.dialogue (DialogueRequest.finish end_if_over given info))
       (accepted_answer h (standing_of dialogue h.pairs state context)

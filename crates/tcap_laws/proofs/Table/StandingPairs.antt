@@ -19,6 +19,8 @@ use Rattle.tcap_model.specs.Procedures.QueueRules.{Queued}
 use Rattle.tcap_model.specs.Replies.Reply.{reply}
 use Rattle.tcap_model.specs.Words.State.{State}
 use Rattle.tcap_model.specs.Table.World.{dialogue_at, dialogue_by, rows_of}
+use Rattle.tcap_model.specs.Words.Address.{Address}
+use Rattle.tcap_model.specs.Histories.Kept.{kept_address, kept_after, kept_by_event}
 
 module _ (h : History) (dialogue : ℕ) (legal : IsLegal h) (state : State) (context : Option (List ℕ))
     (stands : life dialogue h.pairs ≡ Life.standing state context) (event : Event) where
@@ -78,6 +80,24 @@ module _ (h : History) (dialogue : ℕ) (legal : IsLegal h) (state : State) (con
   pub touched_unnamed : names event dialogue ≡ false → touched dialogue (here ∷ h.pairs) ≡ last
   touched_unnamed named = touched_by false named
 
+  -- the address that is kept, by whether the event names it
+  kept_by : (b : Bool) → names event dialogue ≡ b → kept_address dialogue (here ∷ h.pairs)
+      ≡ cond b (kept_by_event (kept_address dialogue h.pairs) state context event (is_accepted (reply h event)))
+      (kept_address dialogue h.pairs)
+  kept_by b named =
+      ap (λ x. kept_after dialogue x (kept_address dialogue h.pairs) here) stands
+      ∙ ap (λ b. cond b
+      (kept_by_event (kept_address dialogue h.pairs) state context event (is_accepted (reply h event)))
+      (kept_address dialogue h.pairs)) named
+
+  pub kept_named : names event dialogue ≡ true → kept_address dialogue (here ∷ h.pairs)
+      ≡ kept_by_event (kept_address dialogue h.pairs) state context event (is_accepted (reply h event))
+  kept_named named = kept_by true named
+
+  pub kept_unnamed : names event dialogue ≡ false
+      → kept_address dialogue (here ∷ h.pairs) ≡ kept_address dialogue h.pairs
+  kept_unnamed named = kept_by false named
+
   queue_by : (a b : Bool) → is_birth_of dialogue here ≡ a → names event dialogue ≡ b → queue dialogue (here ∷ h.pairs)
       ≡ cond a (queue_born dialogue h.pairs event)
       (cond b (queue_by_event dialogue h.pairs (queue dialogue h.pairs) event (reply h event))
@@ -98,23 +118,26 @@ module _ (h : History) (dialogue : ℕ) (legal : IsLegal h) (state : State) (con
   queue_unnamed named = queue_by false false not_born named
 
   -- a dialogue of these parts
-  abbrev pub made_of : State → Option (List ℕ) → List Queued → List Row → ℕ → Dialogue
-  made_of s c q rows t =
+  abbrev pub made_of : State → Option (List ℕ) → List Queued → List Row → ℕ → Address → Dialogue
+  made_of s c q rows t address =
       record {
         standing = record { identifier = dialogue; state = s; context = c; queue = q };
         invocations =
             record { reject_ms = h.start.reject_ms; rows = rows };
         idle_ms = h.start.idle_ms;
         touched = t;
+        kept = address;
       }
 
-  pub assembled : (s : State) (c : Option (List ℕ)) (q : List Queued) (rows : List Row) (t : ℕ)
+  pub assembled : (s : State) (c : Option (List ℕ)) (q : List Queued) (rows : List Row) (t : ℕ) (address : Address)
       → queue dialogue (here ∷ h.pairs) ≡ q → rows_of h.start.reject_ms dialogue (here ∷ h.pairs) ≡ rows
-      → touched dialogue (here ∷ h.pairs) ≡ t
+      → touched dialogue (here ∷ h.pairs) ≡ t → kept_address dialogue (here ∷ h.pairs) ≡ address
       → dialogue_by h.start.reject_ms h.start.idle_ms dialogue (here ∷ h.pairs) (Life.standing s c)
-      ≡ Some (made_of s c q rows t)
-  assembled s c q rows t e w v =
+      ≡ Some (made_of s c q rows t address)
+  assembled s c q rows t address e w v u =
       ap (λ q. Some (made_of s c q (rows_of h.start.reject_ms dialogue (here ∷ h.pairs))
-      (touched dialogue (here ∷ h.pairs)))) e
-      ∙ (ap (λ rows. Some (made_of s c q rows (touched dialogue (here ∷ h.pairs)))) w
-      ∙ ap (λ t. Some (made_of s c q rows t)) v)
+      (touched dialogue (here ∷ h.pairs)) (kept_address dialogue (here ∷ h.pairs)))) e
+      ∙ (ap (λ rows. Some (made_of s c q rows (touched dialogue (here ∷ h.pairs))
+      (kept_address dialogue (here ∷ h.pairs)))) w
+      ∙ (ap (λ t. Some (made_of s c q rows t (kept_address dialogue (here ∷ h.pairs)))) v
+      ∙ ap (λ kept. Some (made_of s c q rows t kept)) u))

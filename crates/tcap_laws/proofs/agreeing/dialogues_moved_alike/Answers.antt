@@ -6,10 +6,11 @@ pub returns-clause-requested : goal.returns-clause-requested
 returns-clause-requested c h dialogue d request legal = request-moves h dialogue d request legal
 
 pub returns-clause-taken : goal.returns-clause-taken
-returns-clause-taken c h dialogue d bytes m legal = moved.taken-moves h dialogue d bytes m legal
+returns-clause-taken c h dialogue d from bytes m legal = moved.taken-moves h dialogue d from bytes m legal
 
 pub returns-clause-broken : goal.returns-clause-broken
-returns-clause-broken c h dialogue d bytes fault cause legal = moved.broken-moves h dialogue d bytes fault cause legal
+returns-clause-broken c h dialogue d from bytes fault cause legal =
+    moved.broken-moves h dialogue d from bytes fault cause legal
 
 pub returns-clause-lapsed : goal.returns-clause-lapsed
 returns-clause-lapsed c h dialogue d now legal = moved.lapsed-moves h dialogue d now legal

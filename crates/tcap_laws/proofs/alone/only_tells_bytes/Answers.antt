@@ -2,4 +2,4 @@ use Rattle.tcap_laws.proofs.Isolation.SeenBytes.{alone-bytes}
 use Rattle.tcap_laws.proofs.alone.only_tells_bytes.Goals as goal
 
 pub returns : goal.returns
-returns c = λ h dialogue bytes legal named. alone-bytes h dialogue legal bytes named
+returns c = λ h dialogue from bytes legal named. alone-bytes h dialogue legal from bytes named

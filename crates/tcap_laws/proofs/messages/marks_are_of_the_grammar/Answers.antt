@@ -9,10 +9,10 @@ pub returns-clause-components : goal.returns-clause-components
 returns-clause-components c = components-marks
 
 pub returns-clause-named : goal.returns-clause-named
-returns-clause-named c = spelled-names
+returns-clause-named c = λ dialogue m from bytes. spelled-names dialogue m bytes
 
 pub returns-clause-by_grammar : goal.returns-clause-by_grammar
-returns-clause-by_grammar c = λ dialogue bytes. (grammar-by_name dialogue bytes, named-by_grammar dialogue bytes)
+returns-clause-by_grammar c = λ dialogue from bytes. (grammar-by_name dialogue bytes, named-by_grammar dialogue bytes)
 
 pub returns-clause-normal : goal.returns-clause-normal
 returns-clause-normal c = normal-verdict
