@@ -9,16 +9,16 @@ use Rattle.tcap_dialogue.specs.StepViews.{asked, outcome, requested}
 
 -- The fault that is due.
 pub due-same : (clock number : ℕ) (d : Dialogue) (a : DialogueRequest) → due_on (situation (asked clock number) d (Request.dialogue a)) (Request.dialogue a) ≡ due_on (situation (asked 0 0) d (Request.dialogue a)) (Request.dialogue a)
-due-same clock number d (DialogueRequest.uni context info) = refl
-due-same clock number d (DialogueRequest.begin context info) = refl
+due-same clock number d (DialogueRequest.uni to context info) = refl
+due-same clock number d (DialogueRequest.begin to context info) = refl
 due-same clock number d (DialogueRequest.go_on context info) = refl
 due-same clock number d (DialogueRequest.finish ending context info) = refl
 due-same clock number d (DialogueRequest.u_abort why info) = refl
 
 by-same : (clock number : ℕ) (d : Dialogue) (a : DialogueRequest) (due : Option Fault) → outcome (requested_by (asked clock number) d (Request.dialogue a) due) ≡ outcome (requested_by (asked clock 0) d (Request.dialogue a) due)
 by-same clock number d a (Some f) = refl
-by-same clock number d (DialogueRequest.uni context info) None = refl
-by-same clock number d (DialogueRequest.begin context info) None = refl
+by-same clock number d (DialogueRequest.uni to context info) None = refl
+by-same clock number d (DialogueRequest.begin to context info) None = refl
 by-same clock number d (DialogueRequest.go_on context info) None = refl
 by-same clock number d (DialogueRequest.finish ending context info) None = refl
 by-same clock number d (DialogueRequest.u_abort why info) None = refl

@@ -10,8 +10,8 @@ abbrev pub control_faults : List Fault
 control_faults = Fault.wrong_state ∷ Fault.bad_oid ∷ Fault.bad_parameter ∷ Fault.no_context ∷ Fault.not_class_four ∷ Fault.too_long ∷ []
 
 pub control-due : (s : Situation) (a : DialogueRequest) → due_on s (Request.dialogue a) ≡ first_that (holds s (Request.dialogue a)) control_faults
-control-due s (DialogueRequest.uni context info) = refl
-control-due s (DialogueRequest.begin context info) = refl
+control-due s (DialogueRequest.uni to context info) = refl
+control-due s (DialogueRequest.begin to context info) = refl
 control-due s (DialogueRequest.go_on context info) = refl
 control-due s (DialogueRequest.finish ending context info) = refl
 control-due s (DialogueRequest.u_abort why info) = refl

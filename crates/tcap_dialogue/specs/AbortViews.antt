@@ -1,9 +1,8 @@
 -- The Aborts that the provider sends as a contract sees them.
 use Rattle.std.specs.Prelude.{ℕ, ◌≤◌, length}
 use Rattle.ber_core.specs.ObjectIdentifier.{IsObjectIdentifier}
-use Rattle.tcap_pdu.specs.FrameSpelling.{Reason}
+use Rattle.tcap_pdu.specs.FrameSpelling.{Message, Reason}
 use Rattle.tcap_model.specs.Procedures.AbortRules.{abort_with, abnormal_abort, version_abort, fault_cause, unrecognized_id, resource_limitation}
-use Rattle.tcap_model.specs.Words.Output.{Output}
 use Rattle.tcap_dialogue.specs.declared.provider_abort.Cause.{Cause}
 use Rattle.tcap_dialogue.specs.declared.provider_abort.Cause.TheVariants as cause
 use Rattle.tcap_dialogue.specs.declared.provider_abort.Abort.{Abort}
@@ -16,7 +15,7 @@ cause_number cause.UnrecognizedId = unrecognized_id
 cause_number cause.ResourceLimitation = resource_limitation
 
 -- What is sent (Q.774, Abort by the provider).
-abbrev pub abort_sent : Abort → Output
+abbrev pub abort_sent : Abort → Message
 abort_sent (abort.Cause peer c) = abort_with (cause_number c) peer
 abort_sent (abort.Abnormal peer) = abnormal_abort peer
 abort_sent (abort.WrongVersion peer context) = version_abort context.now peer

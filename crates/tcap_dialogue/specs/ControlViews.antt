@@ -7,8 +7,8 @@ use Rattle.tcap_dialogue.specs.declared.control.Control.TheVariants as control
 
 -- A request of dialogue handling, by what its slices hold (own).
 abbrev pub control_view : Control → DialogueRequest
-control_view (control.Uni context info) = DialogueRequest.uni (option_copied context) info.now
-control_view (control.Begin context info) = DialogueRequest.begin (option_copied context) info.now
+control_view (control.Uni to context info) = DialogueRequest.uni to.now (option_copied context) info.now
+control_view (control.Begin to context info) = DialogueRequest.begin to.now (option_copied context) info.now
 control_view (control.Continue context info) = DialogueRequest.go_on (option_copied context) info.now
 control_view (control.End ending context info) =
     DialogueRequest.finish (ending_view ending) (option_copied context) info.now

@@ -37,7 +37,7 @@ drop_view drop.BadDialogue = DropCause.bad_dialogue
 module _ {A : Type 0} where
   -- An output, by what its slices hold (own).
   abbrev pub shown : Output A → model.Output
-  shown (output.Send bytes) = model.Output.send bytes.items
+  shown (output.Send to bytes) = model.Output.send to bytes.items
   shown (output.Uni context info) = model.Output.dialogue (DialogueIndication.uni (option_copied context) info.now)
   shown (output.Begin d context info) = model.Output.dialogue (DialogueIndication.begin d (option_copied context) info.now)
   shown (output.Continue d context info) = model.Output.dialogue (DialogueIndication.go_on d (option_copied context) info.now)

@@ -34,10 +34,10 @@ request_view (request.ErrorBack id code parameter) =
 request_view (request.Reject id problem) =
     model.Request.component (ComponentRequest.u_reject id (problem_parts problem))
 request_view (request.Cancel id) = model.Request.component (ComponentRequest.u_cancel id)
-request_view (request.Uni context info) =
-    model.Request.dialogue (DialogueRequest.uni (option_copied context) info.now)
-request_view (request.Begin context info) =
-    model.Request.dialogue (DialogueRequest.begin (option_copied context) info.now)
+request_view (request.Uni to context info) =
+    model.Request.dialogue (DialogueRequest.uni to.now (option_copied context) info.now)
+request_view (request.Begin to context info) =
+    model.Request.dialogue (DialogueRequest.begin to.now (option_copied context) info.now)
 request_view (request.Continue context info) =
     model.Request.dialogue (DialogueRequest.go_on (option_copied context) info.now)
 request_view (request.End ending context info) =

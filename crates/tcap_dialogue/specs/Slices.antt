@@ -60,7 +60,7 @@ module _ {A : Type 0} where
   -- The slices of an output: a Unidirectional and a Begin tell an AUDT or an AARQ, 60, a Continue and
   -- an End an AARE, 61 (Q.773, Dialogue portion; Q.773, Component portion).
   abbrev pub slices_of : Output A → Slices
-  slices_of (output.Send bytes) = Slices.none
+  slices_of (output.Send to bytes) = Slices.none
   slices_of (output.Uni context info) = Slices.held 0x60 context info
   slices_of (output.Begin d context info) = Slices.held 0x60 context info
   slices_of (output.Continue d context info) = Slices.held 0x61 context info

@@ -5,6 +5,7 @@ ghost use Rattle.tcap_dialogue.specs.ControlViews.{control_view};
 ghost use Rattle.tcap_model.specs.Procedures.Refusals.{can_name, context_given, has_bad_oid, has_bad_parameter, information_given};
 ghost use Rattle.tcap_model.specs.Words.Request.{Request};
 
+use crate::address::Address;
 use crate::request::{AbortWhy, Ending};
 use ber_core::is_oid;
 use tcap_pdu::is_user_information;
@@ -14,11 +15,13 @@ use tcap_pdu::is_user_information;
 pub enum Control<'a> {
     /// TC-UNI.
     Uni {
+        to: &'a Address,
         context: Option<&'a [u8]>,
         info: &'a [u8],
     },
     /// TC-BEGIN.
     Begin {
+        to: &'a Address,
         context: Option<&'a [u8]>,
         info: &'a [u8],
     },

@@ -12,6 +12,7 @@ pub(crate) mod reception;
 pub(crate) mod sending;
 pub(crate) mod timers;
 
+use crate::address::Address;
 use crate::context::Context;
 use crate::output::Output;
 use crate::queue::Queue;
@@ -36,11 +37,11 @@ pub struct Step<'m, A: Allocator = Global> {
 /// - Events from outside: `accept`, which makes the dialogue of a Begin, `take_frame`, `take_fault`;
 ///   time: `lapse`, or one by one `due_count`, `first_due`, `lapse_one` and `free_due`; the end of one
 ///   that stood still too long, one by one: `open_count`, `close_one`; or it is put off by `touch`.
-/// - Getters: `identifier`, `state`, `peer`, `check_invoke`, `next_timer`, `idle_at`.
+/// - Getters: `identifier`, `state`, `peer`, `kept`, `check_invoke`, `next_timer`, `idle_at`.
 ///
 /// Moments are in milliseconds by the caller's clock, at most 2^62. A contract sees the identifier,
-/// state, context, queue, invocations, idle limit and when it was touched, and forgets how much room
-/// there is.
+/// state, context, queue, invocations, idle limit, when it was touched and the kept address, and forgets
+/// how much room there is.
 #[derive(Debug, Drop)]
 pub struct Dialogue<A: Allocator + Copy = Global> {
     identifier: u32,
@@ -52,6 +53,8 @@ pub struct Dialogue<A: Allocator + Copy = Global> {
     idle_ms: u64,
     /// The clock when it was touched last, 0 if it never was.
     touched: u64,
+    /// The address to which its messages go, empty before there is one.
+    kept: Address,
 }
 
 impl<A: Allocator + Copy> Model for Dialogue<A> {
@@ -68,6 +71,7 @@ impl<A: Allocator + Copy> Model for Dialogue<A> {
       invocations = d.invocations;
       idle_ms = d.idle_ms;
       touched = d.touched;
+      kept = d.kept;
     } };
 
     ghost invariant = { λ d. (d.idle_ms ≤ moment_limit) × (d.touched ≤ moment_limit) };

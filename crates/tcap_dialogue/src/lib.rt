@@ -6,6 +6,7 @@
 //! (tcap_model/specs/Table/TableMove.antt), and what a contract sees of a value stands in specs/.
 #![tactic(auto)]
 
+mod address;
 mod context;
 mod control;
 mod dialogue;
@@ -20,6 +21,7 @@ mod request;
 mod sending;
 mod state;
 
+pub use address::Address;
 pub use dialogue::ask::Asked;
 pub use dialogue::beginning::take_uni;
 pub use dialogue::{Dialogue, Step};

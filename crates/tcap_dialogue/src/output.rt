@@ -1,3 +1,4 @@
+use crate::address::Address;
 use std::alloc::{Allocator, Global};
 use tcap_component::{Body, Code, Problem};
 use tcap_pdu::DialoguePdu;
@@ -46,8 +47,11 @@ pub enum DropWhy {
 /// octets of one element; all of them are parts of the message that was received.
 #[derive(Debug, Drop, PartialEq, Eq)]
 pub enum Output<'m, A: Allocator = Global> {
-    /// A message goes to the peer: its octets.
-    Send(Vec<u8, A>),
+    /// A message goes to this address: its octets.
+    Send {
+        to: Address,
+        bytes: Vec<u8, A>,
+    },
     /// TC-UNI indication.
     Uni {
         context: Option<&'m [u8]>,

@@ -2,7 +2,6 @@
 
 ghost use Rattle.std.specs.Prelude.{◌≡◌, ◌≤◌, IfOk, IfErr, length};
 ghost use Rattle.tcap_dialogue.specs.AbortViews.{CanWriteAbort, IsShortReason, abort_sent, cause_number};
-ghost use Rattle.tcap_model.specs.Words.Output.{Output};
 ghost use Rattle.tcap_pdu.specs.DialogueViews.{pdu_value};
 ghost use Rattle.tcap_pdu.specs.DialogueWritten.{IsWritable, HasDiagnostic, written_dialogue};
 ghost use Rattle.tcap_pdu.specs.FrameSpelling.{Message, Reason, IsReason};
@@ -94,7 +93,7 @@ fn write_pdu<A: Allocator + Copy>(
 #[tactic(auto, using(crate::proofs::AbortLemmas::abort_short, crate::proofs::AbortLemmas::abort_writable, crate::proofs::AbortLemmas::response_short, crate::proofs::AbortLemmas::response_writable))]
 fn write_any<A: Allocator + Copy>(alloc: A, abort: &Abort<'_>) -> Result<Vec<u8, A>, PduFault>
     requires { CanWriteAbort abort.now }
-    ensures sent { IfOk result (λ octets. Output.send octets.items ≡ abort_sent abort.now) }
+    ensures sent { IfOk result (λ octets. octets.items ≡ written_frame (abort_sent abort.now)) }
     ensures memory { IfErr result (λ fault. fault ≡ NoMemory) }
 {
     match abort {
@@ -128,7 +127,7 @@ pub fn write_abort<A: Allocator + Copy>(
     abort: &Abort<'_>,
 ) -> Result<Vec<u8, A>, OutOfMemory>
     requires { CanWriteAbort abort.now }
-    ensures { IfOk result (λ octets. Output.send octets.items ≡ abort_sent abort.now) }
+    ensures { IfOk result (λ octets. octets.items ≡ written_frame (abort_sent abort.now)) }
 {
     write_any(alloc, abort).map_err(|_fault| OutOfMemory)
 }

@@ -1,3 +1,4 @@
+use crate::address::Address;
 use tcap_component::{Body, Code, Problem};
 use tcap_invocation::Class;
 
@@ -59,13 +60,15 @@ pub enum Request<'a> {
     Cancel {
         id: i8,
     },
-    /// TC-UNI.
+    /// TC-UNI, to this address.
     Uni {
+        to: &'a Address,
         context: Option<&'a [u8]>,
         info: &'a [u8],
     },
-    /// TC-BEGIN.
+    /// TC-BEGIN, to this address.
     Begin {
+        to: &'a Address,
         context: Option<&'a [u8]>,
         info: &'a [u8],
     },

@@ -11,7 +11,7 @@ ghost use Rattle.tcap_dialogue.specs.StepViews.{outcome, stepped};
 ghost use Rattle.tcap_model.specs.Table.TableMove.{over_with};
 ghost use Rattle.tcap_model.specs.Words.Output as model;
 ghost use Rattle.tcap_model.specs.Words.Output.{DialogueIndication};
-ghost use Rattle.tcap_model.specs.Words.State.{peer_by};
+ghost use Rattle.tcap_model.specs.Words.State.{address_by, peer_by};
 ghost use Rattle.tcap_pdu.specs.DialoguePlace.{PduInPlace};
 ghost use Rattle.tcap_pdu.specs.DialogueReading.{dialogue_at};
 ghost use Rattle.tcap_pdu.specs.DialogueViews.{pdu_value, source};
@@ -20,6 +20,7 @@ ghost use Rattle.tcap_pdu.specs.FrameViews.{reason_of};
 
 use super::ending::tell_ended;
 use super::{Dialogue, Step};
+use crate::address::Address;
 use crate::output::{Output, Why};
 use crate::provider_abort::{Abort, write_abort};
 use crate::state::Phase;
@@ -129,6 +130,17 @@ fn peer_by<'a>(phase: &'a Phase, origin: &'a TransId) -> &'a TransId
     }
 }
 
+/// The address of the peer of a Continue: the one that is kept, or in Sent that of its sender (our own).
+#[inline]
+fn address_by<'a>(phase: &Phase, kept: &'a Address, from: &'a Address) -> &'a Address
+    ensures { result.now ≡ address_by (phase_view phase.now) kept.now from.now }
+{
+    match phase {
+        Phase::Sent => from,
+        Phase::Fresh | Phase::Received(_) | Phase::Active(_) => kept,
+    }
+}
+
 impl<A: Allocator + Copy> Dialogue<A> {
     /// Tells first what the message tells, then each invocation that the end of the dialogue ends.
     fn over_with<'m>(&mut self, first: Output<'m, A>) -> Result<Step<'m, A>, OutOfMemory>
@@ -177,19 +189,21 @@ impl<A: Allocator + Copy> Dialogue<A> {
     /// A Continue whose dialogue portion is abnormal: the peer gets an Abort, and the dialogue is over.
     pub(super) fn abort_abnormal<'m>(
         &mut self,
+        from: &Address,
         origin: &TransId,
     ) -> Result<Step<'m, A>, OutOfMemory>
-        ensures ok { IfOk result (λ s. stepped s self.new ≡ outcome (abnormal_over self.old origin.now)) }
+        ensures ok { IfOk result (λ s. stepped s self.new ≡ outcome (abnormal_over self.old from.now origin.now)) }
         ensures err { OnErr result (self.new ≡ self.old) }
         ensures kept { self.new.standing.identifier ≡ self.old.standing.identifier }
         ensures place { (portion : Option Slice) (components : Slice) → IfOk result (λ s. AllInPlace portion components s.outputs.items) }
     {
         let alloc = *self.queue.octets.allocator();
         let peer = peer_by(&self.phase, origin).copied();
-        let octets = write_abort(alloc, &Abort::Abnormal { peer })?;
+        let bytes = write_abort(alloc, &Abort::Abnormal { peer })?;
         let count = self.invocations.open_count().saturating_add(2);
         let mut outputs = Vec::with_capacity(alloc, count)?;
-        outputs.push_reserved(Output::Send(octets));
+        let to = address_by(&self.phase, &self.kept, from).copied();
+        outputs.push_reserved(Output::Send { to, bytes });
         outputs.push_reserved(Output::PAbort {
             dialogue: self.identifier,
             why: Why::Abnormal,

@@ -60,8 +60,8 @@ impl<A: Allocator + Copy> Dialogue<A> {
             } => of_queued(self.error_back(id, code, parameter)),
             Request::Reject { id, problem } => of_queued(self.u_reject(id, problem)),
             Request::Cancel { id } => of_cancel(self.u_cancel(id)),
-            Request::Uni { context, info } => of_step(self.uni(context, info)),
-            Request::Begin { context, info } => of_step(self.begin(context, info, clock)),
+            Request::Uni { to, context, info } => of_step(self.uni(to, context, info)),
+            Request::Begin { to, context, info } => of_step(self.begin(to, context, info, clock)),
             Request::Continue { context, info } => of_step(self.go_on(context, info, clock)),
             Request::End {
                 ending,

@@ -16,6 +16,7 @@ ghost use Rattle.tcap_model.specs.Words.Output as model;
 ghost use Rattle.tcap_model.specs.Words.Output.{DialogueIndication};
 
 use super::Dialogue;
+use crate::address::Address;
 use crate::context::Context;
 use crate::output::Output;
 use crate::receive::{count_items, walk, walk_alone};
@@ -38,10 +39,11 @@ fn parts_of<'m>(pdu: Option<(&'m [u8], &'m [u8])>) -> (Option<&'m [u8]>, &'m [u8
 }
 
 impl<A: Allocator + Copy> Dialogue<A> {
-    /// The Begin to the dialogue, in which nothing has happened: it is told with its components, and
-    /// the Rejects that answer them are queued. All room is found first.
+    /// The Begin to the dialogue, in which nothing has happened: it is told with its components, the
+    /// Rejects that answer them are queued, and the sender's address is kept. All room is found first.
     fn begin_with<'m>(
         &mut self,
+        from: &Address,
         otid: &TransId,
         context: Option<&'m [u8]>,
         info: &'m [u8],
@@ -50,7 +52,7 @@ impl<A: Allocator + Copy> Dialogue<A> {
     ) -> Result<Vec<Output<'m, A>, A>, OutOfMemory>
         requires clock { clock ≤ moment_limit }
         requires named { can_name (option_copied context) ≡ true }
-        ensures ok { IfOk result (λ outputs. begun outputs.items self.new ≡ outcome (begun_from clock self.old otid.now (option_copied context.entry) info.now components.now)) }
+        ensures ok { IfOk result (λ outputs. begun outputs.items self.new ≡ outcome (begun_from clock self.old from.now otid.now (option_copied context.entry) info.now components.now)) }
         ensures place { (portion : Option Slice) → HeldIn 0x60 context.entry info.entry portion → IfOk result (λ outputs. AllInPlace portion components.entry outputs.items) }
     {
         let alloc = *self.queue.octets.allocator();
@@ -72,19 +74,22 @@ impl<A: Allocator + Copy> Dialogue<A> {
             &mut outputs,
         );
         self.phase = Phase::Received(otid.copied());
+        self.kept.set(from);
         Ok(outputs)
     }
 
     /// The dialogue with this identifier that a Begin gives birth to at this moment, and what is told.
-    /// `reject_ms`, `idle_ms` and `clock` are at most 2^62 milliseconds, `otid` is the originator, `aarq`
-    /// the contents octets of the application context name and the user information of its AARQ, if it
-    /// has one, and `components` the contents of its component portion (Q.774, Dialogue begin).
+    /// `reject_ms`, `idle_ms` and `clock` are at most 2^62 milliseconds, `from` is the address of its sender,
+    /// which is kept, `otid` the originator, `aarq` the contents octets of the application context name and
+    /// the user information of its AARQ, if it has one, and `components` the contents of its component
+    /// portion (Q.774, Dialogue begin).
     #[tactic(auto, using(crate::proofs::PortionNames::named_given))]
     pub fn accept<'m>(
         alloc: A,
         identifier: u32,
         reject_ms: u64,
         idle_ms: u64,
+        from: &Address,
         otid: &TransId,
         aarq: Option<(&'m [u8], &'m [u8])>,
         components: &'m [u8],
@@ -95,13 +100,13 @@ impl<A: Allocator + Copy> Dialogue<A> {
         requires clock { clock ≤ moment_limit }
         requires named { IfSome aarq (λ a. IsObjectIdentifier a.0.now) }
         // What is told, and the dialogue.
-        ensures ok { IfOk result (λ r. begun r.1.items r.0 ≡ outcome (born (at_clock clock) identifier reject_ms idle_ms otid.now (context_given aarq.entry) (info_given aarq.entry) components.now)) }
+        ensures ok { IfOk result (λ r. begun r.1.items r.0 ≡ outcome (born (at_clock clock) identifier reject_ms idle_ms from.now otid.now (context_given aarq.entry) (info_given aarq.entry) components.now)) }
         // The slices that are told are those that were given, and parts of the component portion.
         ensures place { (portion : Option Slice) → GivenIn 0x60 aarq.entry portion → IfOk result (λ r. AllInPlace portion components.entry r.1.items) }
     {
         let (context, info) = parts_of(aarq);
         let mut dialogue = Dialogue::fresh(alloc, identifier, reject_ms, idle_ms);
-        let outputs = dialogue.begin_with(otid, context, info, components, clock)?;
+        let outputs = dialogue.begin_with(from, otid, context, info, components, clock)?;
         Ok((dialogue, outputs))
     }
 }

@@ -7,15 +7,15 @@ ghost use Rattle.tcap_dialogue.specs.OutputViews.{all_shown};
 ghost use Rattle.tcap_dialogue.specs.StateViews.{phase_view};
 ghost use Rattle.tcap_dialogue.specs.StepViews.{asked, outcome, stepped};
 ghost use Rattle.tcap_invocation.specs.Stage.{moment_limit};
-ghost use Rattle.tcap_model.specs.Procedures.AbortRules.{sent_if_any};
 ghost use Rattle.tcap_model.specs.Procedures.Refusals.{can_name, context_given};
-ghost use Rattle.tcap_model.specs.Procedures.RequestMessage.{message_of};
-ghost use Rattle.tcap_model.specs.Table.TableMove.{accepted, gone_out, over_with};
+ghost use Rattle.tcap_model.specs.Procedures.RequestMessage.{message_of, request_address};
+ghost use Rattle.tcap_model.specs.Table.TableMove.{accepted, gone_out, over_with, sent_for_request};
 ghost use Rattle.tcap_model.specs.Words.Request.{DialogueRequest, Request};
 ghost use Rattle.tcap_model.specs.Words.State.{activated};
 
 use super::ending::tell_ended;
 use super::{Dialogue, Step};
+use crate::address::Address;
 use crate::context::Context;
 use crate::control::Control;
 use crate::output::Output;
@@ -35,13 +35,24 @@ fn activated(phase: &Phase) -> Phase
 }
 
 impl<A: Allocator + Copy> Dialogue<A> {
+    /// Where the message of a request goes: to the destination that is named, or else to the kept address.
+    #[inline]
+    fn destination<'a>(&'a self, control: &Control<'a>) -> &'a Address
+        ensures { result.now ≡ request_address self.now.kept (Request.dialogue (control_view control.now)) }
+    {
+        match control {
+            Control::Uni { to, .. } | Control::Begin { to, .. } => to,
+            Control::Continue { .. } | Control::End { .. } | Control::Abort { .. } => &self.kept,
+        }
+    }
+
     /// What a request sends, with room for so many outputs more.
     fn sent_outputs<'m>(
         &self,
         control: &Control<'_>,
         more: usize,
     ) -> Result<Vec<Output<'m, A>, A>, OutOfMemory>
-        ensures sent { IfOk result (λ v. all_shown v.items ≡ sent_if_any (message_of self.now.standing (Request.dialogue (control_view control.now)))) }
+        ensures sent { IfOk result (λ v. all_shown v.items ≡ sent_for_request self.now (Request.dialogue (control_view control.now))) }
         ensures room { IfOk result (λ v. vec_len v + more ≤ vec_capacity v) }
         ensures memory { OnErr result (IsTrue (is_some (message_of self.now.standing (Request.dialogue (control_view control.now))) || nat_lt 0 more)) }
     {
@@ -49,9 +60,10 @@ impl<A: Allocator + Copy> Dialogue<A> {
         match self.sending(control) {
             None => Ok(Vec::with_capacity(alloc, more)?),
             Some(sending) => {
-                let octets = sending.written(alloc)?;
+                let bytes = sending.written(alloc)?;
                 let mut outputs = Vec::with_capacity(alloc, more.saturating_add(1))?;
-                outputs.push_reserved(Output::Send(octets));
+                let to = self.destination(control).copied();
+                outputs.push_reserved(Output::Send { to, bytes });
                 Ok(outputs)
             }
         }
@@ -66,25 +78,27 @@ impl<A: Allocator + Copy> Dialogue<A> {
         self.invocations.sent(clock);
     }
 
-    /// The Begin goes out; the dialogue keeps a copy of the context.
+    /// The Begin goes out; the dialogue keeps a copy of the context, and the destination.
     fn take_begin<'m>(
         &mut self,
+        to: &Address,
         context: Option<&[u8]>,
         info: &[u8],
         clock: u64,
     ) -> Result<Step<'m, A>, OutOfMemory>
         requires clock { clock ≤ moment_limit }
         requires named { can_name (option_copied context) ≡ true }
-        ensures ok { IfOk result (λ s. stepped s self.new ≡ outcome (accepted (asked clock 0) self.old (Request.dialogue (DialogueRequest.begin (option_copied context.entry) info.now)))) }
+        ensures ok { IfOk result (λ s. stepped s self.new ≡ outcome (accepted (asked clock 0) self.old (Request.dialogue (DialogueRequest.begin to.now (option_copied context.entry) info.now)))) }
         ensures err { OnErr result (self.new ≡ self.old) }
         ensures kept { self.new.standing.identifier ≡ self.old.standing.identifier }
     {
-        let kept = Context::of_any(*self.queue.octets.allocator(), context)?;
-        let outputs = self.sent_outputs(&Control::Begin { context, info }, 0)?;
+        let named = Context::of_any(*self.queue.octets.allocator(), context)?;
+        let outputs = self.sent_outputs(&Control::Begin { to, context, info }, 0)?;
         self.go_out(clock);
         self.phase = Phase::Sent;
-        self.context = kept;
+        self.context = named;
         self.touched = clock;
+        self.kept.set(to);
         Ok(Step {
             outputs,
             over: false,
@@ -116,9 +130,9 @@ impl<A: Allocator + Copy> Dialogue<A> {
 
     /// A request goes through with which the dialogue is over.
     fn take_last<'m>(&mut self, control: &Control<'_>) -> Result<Step<'m, A>, OutOfMemory>
-        ensures ok { IfOk result (λ s. stepped s self.new ≡ outcome (over_with self.old (sent_if_any (message_of self.old.standing (Request.dialogue (control_view control.now)))) self.old.invocations)) }
+        ensures ok { IfOk result (λ s. stepped s self.new ≡ outcome (over_with self.old (sent_for_request self.old (Request.dialogue (control_view control.now))) self.old.invocations)) }
         ensures err { OnErr result (self.new ≡ self.old) }
-        ensures memory { OnErr result (IsTrue (takes_memory (over_with self.old (sent_if_any (message_of self.old.standing (Request.dialogue (control_view control.now)))) self.old.invocations).answer)) }
+        ensures memory { OnErr result (IsTrue (takes_memory (over_with self.old (sent_for_request self.old (Request.dialogue (control_view control.now))) self.old.invocations).answer)) }
         ensures kept { self.new.standing.identifier ≡ self.old.standing.identifier }
     {
         let left = self.invocations.open_count();
@@ -144,7 +158,7 @@ impl<A: Allocator + Copy> Dialogue<A> {
         ensures kept { self.new.standing.identifier ≡ self.old.standing.identifier }
     {
         match control {
-            Control::Begin { context, info } => self.take_begin(*context, info, clock),
+            Control::Begin { to, context, info } => self.take_begin(to, *context, info, clock),
             Control::Continue { context, info } => self.take_continue(*context, info, clock),
             Control::Uni { .. } | Control::End { .. } | Control::Abort { .. } => {
                 self.take_last(control)

@@ -98,7 +98,7 @@ impl<A: Allocator + Copy> Dialogue<A> {
         ensures { result ≡ has_no_context self.now.standing.state self.now.standing.context (Request.dialogue (control_view control.now)) }
     {
         match control {
-            Control::Uni { context, info } | Control::Begin { context, info } => {
+            Control::Uni { context, info, .. } | Control::Begin { context, info, .. } => {
                 lacks_context(*context, info)
             }
             Control::Continue { context, info } => !self.is_asked() && gives_any(*context, info),

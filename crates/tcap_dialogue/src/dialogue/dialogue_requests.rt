@@ -9,6 +9,7 @@ ghost use Rattle.tcap_invocation.specs.Stage.{moment_limit};
 ghost use Rattle.tcap_model.specs.Words.Request.{DialogueRequest, Request};
 
 use super::{Dialogue, Step};
+use crate::address::Address;
 use crate::control::Control;
 use crate::fault::Fault;
 use crate::request::{AbortWhy, Ending};
@@ -34,36 +35,43 @@ impl<A: Allocator + Copy> Dialogue<A> {
         Ok(self.take_control(control, clock)?)
     }
 
-    /// TC-UNI request: the queue goes out in a Unidirectional, and the dialogue is over. Faults:
-    /// WrongState unless Fresh, BadOid, BadParameter, NoContext for information without a context,
+    /// TC-UNI request: the queue goes out in a Unidirectional to this address, and the dialogue is over.
+    /// Faults: WrongState unless Fresh, BadOid, BadParameter, NoContext for information without a context,
     /// NotClassFour, TooLong, OutOfMemory (Q.774, Unstructured dialogue).
-    pub fn uni<'m>(&mut self, context: Option<&[u8]>, info: &[u8]) -> Result<Step<'m, A>, Fault>
-        ensures step { Steps result (requested 0 0 self.old (Request.dialogue (DialogueRequest.uni (option_copied context.entry) info.now))) self.old self.new }
+    pub fn uni<'m>(
+        &mut self,
+        to: &Address,
+        context: Option<&[u8]>,
+        info: &[u8],
+    ) -> Result<Step<'m, A>, Fault>
+        ensures step { Steps result (requested 0 0 self.old (Request.dialogue (DialogueRequest.uni to.now (option_copied context.entry) info.now))) self.old self.new }
         ensures kept { self.new.standing.identifier ≡ self.old.standing.identifier }
     {
-        self.control(&Control::Uni { context, info }, 0)
+        self.control(&Control::Uni { to, context, info }, 0)
     }
 
-    /// TC-BEGIN request: the queue goes out in a Begin, with an AARQ where there is a context, and the
-    /// dialogue is Sent. Faults: WrongState unless Fresh, BadOid, BadParameter, NoContext for
-    /// information without a context, TooLong, OutOfMemory (Q.774, Dialogue begin).
+    /// TC-BEGIN request: the queue goes out in a Begin to this address, which is kept, with an AARQ where
+    /// there is a context, and the dialogue is Sent. Faults: WrongState unless Fresh, BadOid,
+    /// BadParameter, NoContext for information without a context, TooLong, OutOfMemory
+    /// (Q.774, Dialogue begin).
     pub fn begin<'m>(
         &mut self,
+        to: &Address,
         context: Option<&[u8]>,
         info: &[u8],
         clock: u64,
     ) -> Result<Step<'m, A>, Fault>
         requires { clock ≤ moment_limit }
-        ensures step { Steps result (requested clock 0 self.old (Request.dialogue (DialogueRequest.begin (option_copied context.entry) info.now))) self.old self.new }
+        ensures step { Steps result (requested clock 0 self.old (Request.dialogue (DialogueRequest.begin to.now (option_copied context.entry) info.now))) self.old self.new }
         ensures kept { self.new.standing.identifier ≡ self.old.standing.identifier }
     {
-        self.control(&Control::Begin { context, info }, clock)
+        self.control(&Control::Begin { to, context, info }, clock)
     }
 
-    /// TC-CONTINUE request: the queue goes out in a Continue, and the dialogue is Active. In Received
-    /// an AARQ is answered, with the context given or else its own. Faults: WrongState unless Received
-    /// or Active, BadOid, BadParameter, NoContext for a context or information where no AARQ is
-    /// answered, TooLong, OutOfMemory (Q.774, Dialogue continuation).
+    /// TC-CONTINUE request: the queue goes out in a Continue to the kept address, and the dialogue is
+    /// Active. In Received an AARQ is answered, with the context given or else its own. Faults:
+    /// WrongState unless Received or Active, BadOid, BadParameter, NoContext for a context or information
+    /// where no AARQ is answered, TooLong, OutOfMemory (Q.774, Dialogue continuation).
     pub fn go_on<'m>(
         &mut self,
         context: Option<&[u8]>,
@@ -77,8 +85,8 @@ impl<A: Allocator + Copy> Dialogue<A> {
         self.control(&Control::Continue { context, info }, clock)
     }
 
-    /// TC-END request: a basic end sends the queue in an End, a prearranged one nothing; the dialogue is
-    /// over. Faults: WrongState for a basic end unless Received or Active, BadOid, BadParameter,
+    /// TC-END request: a basic end sends the queue in an End to the kept address, a prearranged one nothing;
+    /// the dialogue is over. Faults: WrongState for a basic end unless Received or Active, BadOid, BadParameter,
     /// NoContext for a context or information where no AARQ is answered, TooLong, OutOfMemory
     /// (Q.774, Dialogue end).
     pub fn finish<'m>(
@@ -100,9 +108,9 @@ impl<A: Allocator + Copy> Dialogue<A> {
         )
     }
 
-    /// TC-U-ABORT request: in Received and Active an Abort goes out, and the dialogue is over. By the
-    /// user it carries an ABRT where the dialogue has a context; NotSupported refuses the context of an
-    /// AARQ with an AARE. Faults: WrongState where NotSupported answers no AARQ, BadParameter, NoContext
+    /// TC-U-ABORT request: in Received and Active an Abort goes to the kept address, and the dialogue is
+    /// over. By the user it carries an ABRT where the dialogue has a context; NotSupported refuses the
+    /// context of an AARQ with an AARE. Faults: WrongState where NotSupported answers no AARQ, BadParameter, NoContext
     /// for information that no ABRT carries, TooLong, OutOfMemory (Q.774, Abort by the user).
     pub fn u_abort<'m>(&mut self, why: AbortWhy, info: &[u8]) -> Result<Step<'m, A>, Fault>
         ensures step { Steps result (requested 0 0 self.old (Request.dialogue (DialogueRequest.u_abort (reason_view why) info.now))) self.old self.new }

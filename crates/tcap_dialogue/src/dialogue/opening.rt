@@ -7,6 +7,7 @@ ghost use Rattle.tcap_model.specs.Table.Dialogue.{fresh_dialogue};
 ghost use Rattle.tcap_model.specs.Words.State.{peer_of};
 
 use super::Dialogue;
+use crate::address::Address;
 use crate::queue::Queue;
 use crate::state::{Phase, State};
 use std::alloc::Allocator;
@@ -34,6 +35,7 @@ impl<A: Allocator + Copy> Dialogue<A> {
             invocations: Invocations::new(alloc, reject_ms),
             idle_ms,
             touched: 0,
+            kept: Address::empty(),
         }
     }
 
@@ -56,5 +58,15 @@ impl<A: Allocator + Copy> Dialogue<A> {
         ensures { result ≡ peer_of self.now.standing.state }
     {
         self.phase.peer()
+    }
+
+    /// The address to which its messages go: that to which it began, or from which the Begin came that
+    /// made it, or the first Continue to it, if it began; empty before there is one. It takes no memory
+    /// (own).
+    #[inline]
+    pub fn kept(&self) -> &Address
+        ensures { result.now ≡ self.now.kept }
+    {
+        &self.kept
     }
 }

@@ -12,12 +12,13 @@ ghost use Rattle.tcap_invocation.specs.Stage.{moment_limit};
 ghost use Rattle.tcap_model.specs.Procedures.PortionRules.{portion_verdict};
 ghost use Rattle.tcap_model.specs.Procedures.PortionRules.PortionVerdict.{normal};
 ghost use Rattle.tcap_model.specs.Table.TableMove.{DialogueEvent, Setting, continued_by, ended_by, framed, table_move, walked_in};
-ghost use Rattle.tcap_model.specs.Words.State.{State, peer_by};
+ghost use Rattle.tcap_model.specs.Words.State.{State, address_by, peer_by};
 ghost use Rattle.tcap_pdu.specs.FramePortions.{dialogue_slice, components_slice};
 ghost use Rattle.tcap_pdu.specs.FrameViews.{message};
 
 use super::ending::tell_ended;
 use super::{Dialogue, Step};
+use crate::address::Address;
 use crate::output::{Output, Why};
 use crate::portion::{PortionVerdict, judge_portion};
 use crate::queue::{MAX_REJECT, Queue};
@@ -50,11 +51,23 @@ fn continued(phase: &Phase, origin: &TransId) -> Phase
     }
 }
 
+/// The sender of a Continue to a dialogue in Sent is kept; later ones are not (our own).
+#[inline]
+fn keep_sender(phase: &Phase, kept: &mut Address, from: &Address)
+    ensures { kept.new ≡ address_by (phase_view phase.now) kept.old from.now }
+{
+    match phase {
+        Phase::Sent => kept.set(from),
+        Phase::Fresh | Phase::Received(_) | Phase::Active(_) => {}
+    }
+}
+
 impl<A: Allocator + Copy> Dialogue<A> {
     /// A Continue whose dialogue portion is as it should be: it is told with its components, and the
-    /// Rejects that answer them are queued. All room is found first.
+    /// Rejects that answer them are queued; the sender of the first is kept. All room is found first.
     fn continue_normal<'m>(
         &mut self,
+        from: &Address,
         origin: &TransId,
         context: Option<&'m [u8]>,
         info: &'m [u8],
@@ -62,7 +75,7 @@ impl<A: Allocator + Copy> Dialogue<A> {
         clock: u64,
     ) -> Result<Step<'m, A>, OutOfMemory>
         requires { clock ≤ moment_limit }
-        ensures ok { IfOk result (λ s. stepped s self.new ≡ outcome (continued_by (at_clock clock) self.old origin.now (normal (option_copied context.entry) info.now) (walked_in clock self.old components.now))) }
+        ensures ok { IfOk result (λ s. stepped s self.new ≡ outcome (continued_by (at_clock clock) self.old from.now origin.now (normal (option_copied context.entry) info.now) (walked_in clock self.old components.now))) }
         ensures err { OnErr result (self.new ≡ self.old) }
         ensures kept { self.new.standing.identifier ≡ self.old.standing.identifier }
         ensures place { (portion : Option Slice) → HeldIn 0x61 context.entry info.entry portion → IfOk result (λ s. AllInPlace portion components.entry s.outputs.items) }
@@ -86,6 +99,7 @@ impl<A: Allocator + Copy> Dialogue<A> {
             &mut self.queue,
             &mut outputs,
         );
+        keep_sender(&self.phase, &mut self.kept, from);
         self.phase = continued(&self.phase, origin);
         self.touched = clock;
         Ok(Step {
@@ -136,22 +150,23 @@ impl<A: Allocator + Copy> Dialogue<A> {
     /// A Continue (Q.774, Dialogue continuation).
     fn receive_continue<'m>(
         &mut self,
+        from: &Address,
         origin: &TransId,
         dialogue: Option<&'m [u8]>,
         components: &'m [u8],
         clock: u64,
     ) -> Result<Step<'m, A>, OutOfMemory>
         requires { clock ≤ moment_limit }
-        ensures ok { IfOk result (λ s. stepped s self.new ≡ outcome (continued_by (at_clock clock) self.old origin.now (portion_verdict self.old.standing.state self.old.standing.context (option_copied dialogue.entry)) (walked_in clock self.old components.now))) }
+        ensures ok { IfOk result (λ s. stepped s self.new ≡ outcome (continued_by (at_clock clock) self.old from.now origin.now (portion_verdict self.old.standing.state self.old.standing.context (option_copied dialogue.entry)) (walked_in clock self.old components.now))) }
         ensures err { OnErr result (self.new ≡ self.old) }
         ensures kept { self.new.standing.identifier ≡ self.old.standing.identifier }
         ensures place { IfOk result (λ s. AllInPlace dialogue.entry components.entry s.outputs.items) }
     {
         match judge_portion(&self.phase, &self.context, dialogue) {
             PortionVerdict::Normal { context, info } => {
-                self.continue_normal(origin, context, info, components, clock)
+                self.continue_normal(from, origin, context, info, components, clock)
             }
-            PortionVerdict::Abnormal => self.abort_abnormal(origin),
+            PortionVerdict::Abnormal => self.abort_abnormal(from, origin),
         }
     }
 
@@ -179,11 +194,12 @@ impl<A: Allocator + Copy> Dialogue<A> {
     /// The same as `take_frame`, message by message.
     fn receive_message<'m>(
         &mut self,
+        from: &Address,
         frame: &Frame<'m>,
         clock: u64,
     ) -> Result<Step<'m, A>, OutOfMemory>
         requires { clock ≤ moment_limit }
-        ensures ok { IfOk result (λ s. stepped s self.new ≡ outcome (framed (at_clock clock) self.old (message frame.now))) }
+        ensures ok { IfOk result (λ s. stepped s self.new ≡ outcome (framed (at_clock clock) self.old from.now (message frame.now))) }
         ensures err { OnErr result (self.new ≡ self.old) }
         ensures kept { self.new.standing.identifier ≡ self.old.standing.identifier }
         ensures place { (other : Slice) → IfOk result (λ s. AllInPlace (dialogue_slice frame.now) (unwrap_or (components_slice frame.now) other) s.outputs.items) }
@@ -194,7 +210,7 @@ impl<A: Allocator + Copy> Dialogue<A> {
                 dialogue,
                 components,
                 ..
-            } => self.receive_continue(otid, *dialogue, components, clock),
+            } => self.receive_continue(from, otid, *dialogue, components, clock),
             Frame::End {
                 dialogue,
                 components,
@@ -208,25 +224,27 @@ impl<A: Allocator + Copy> Dialogue<A> {
         }
     }
 
-    /// A Continue, an End or an Abort to the dialogue while it is live, in Sent or in Active, at this
-    /// moment, at most 2^62: what is told, and what is sent (Q.774, Transaction sublayer procedures). A
-    /// Unidirectional and a Begin are never to a dialogue, and do nothing.
+    /// A Continue, an End or an Abort from this address to the dialogue while it is live, in Sent or in
+    /// Active, at this moment, at most 2^62: what is told, and what is sent. The first Continue whose
+    /// dialogue portion is as it should be has its sender kept for good. A Unidirectional and a Begin are
+    /// never to a dialogue, and do nothing (Q.774, Transaction sublayer procedures).
     #[tactic(auto, unfolding(tcap_model::specs::Table::TableMove::table_move))]
     pub fn take_frame<'m>(
         &mut self,
+        from: &Address,
         frame: &Frame<'m>,
         clock: u64,
     ) -> Result<Step<'m, A>, OutOfMemory>
         requires { clock ≤ moment_limit }
         // What is told, and the dialogue unless it is over.
-        ensures ok { IfOk result (λ s. stepped s self.new ≡ outcome (table_move (at_clock clock) self.old (DialogueEvent.frame (message frame.now)))) }
+        ensures ok { IfOk result (λ s. stepped s self.new ≡ outcome (table_move (at_clock clock) self.old (DialogueEvent.frame from.now (message frame.now)))) }
         ensures err { OnErr result (self.new ≡ self.old) }
         // The identifier stays, also of one that is over.
         ensures kept { self.new.standing.identifier ≡ self.old.standing.identifier }
         // The slices that are told are the parts of the message, and no equal octets elsewhere.
         ensures place { (other : Slice) → IfOk result (λ s. AllInPlace (dialogue_slice frame.now) (unwrap_or (components_slice frame.now) other) s.outputs.items) }
     {
-        self.receive_message(frame, clock)
+        self.receive_message(from, frame, clock)
     }
 
     /// A faulty message names the dialogue: TC-P-ABORT with this P-Abort cause, 0 to 127, and the

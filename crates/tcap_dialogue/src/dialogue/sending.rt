@@ -5,9 +5,12 @@ ghost use Rattle.std.specs.Option.{option_map};
 ghost use Rattle.tcap_dialogue.specs.ControlViews.{control_view};
 ghost use Rattle.tcap_dialogue.specs.RequestViews.{ending_view, reason_view};
 ghost use Rattle.tcap_dialogue.specs.SendingViews.{CanBear, sending_view};
+ghost use Rattle.tcap_model.specs.Procedures.QueueRules.{joined};
 ghost use Rattle.tcap_model.specs.Procedures.Refusals.{context_given, information_given};
-ghost use Rattle.tcap_model.specs.Procedures.RequestMessage.{abort_message, answer_portion, continue_message, end_message, message_of, refusing_message, user_abort};
+ghost use Rattle.tcap_model.specs.Procedures.RequestMessage.{abort_message, answer_portion, begin_portion, continue_message, end_message, message_of, refusing_message, uni_portion, user_abort};
+ghost use Rattle.tcap_model.specs.Words.LocalId.{local_id};
 ghost use Rattle.tcap_model.specs.Words.Request.{DialogueRequest, Request};
+ghost use Rattle.tcap_pdu.specs.FrameSpelling.{Message};
 
 use super::Dialogue;
 use crate::control::Control;
@@ -20,7 +23,7 @@ use std::alloc::Allocator;
 impl<A: Allocator + Copy> Dialogue<A> {
     /// The Unidirectional with the queue.
     fn uni_sending<'a>(&'a self, context: Option<&'a [u8]>, info: &'a [u8]) -> Sending<'a>
-        ensures message { Some (sending_view result) ≡ message_of self.now.standing (Request.dialogue (DialogueRequest.uni (option_copied context.entry) info.now)) }
+        ensures message { sending_view result ≡ Message.unidirectional (uni_portion (option_copied context.entry) info.now) (joined self.now.standing.queue) }
         ensures sound { CanBear (option_copied context.entry) info.now (Some result) }
     {
         Sending {
@@ -33,7 +36,7 @@ impl<A: Allocator + Copy> Dialogue<A> {
 
     /// The Begin with the queue.
     fn begin_sending<'a>(&'a self, context: Option<&'a [u8]>, info: &'a [u8]) -> Sending<'a>
-        ensures message { Some (sending_view result) ≡ message_of self.now.standing (Request.dialogue (DialogueRequest.begin (option_copied context.entry) info.now)) }
+        ensures message { sending_view result ≡ Message.begin (local_id self.now.standing.identifier) (begin_portion (option_copied context.entry) info.now) (joined self.now.standing.queue) }
         ensures sound { CanBear (option_copied context.entry) info.now (Some result) }
     {
         Sending {
@@ -161,8 +164,8 @@ impl<A: Allocator + Copy> Dialogue<A> {
         ensures sound { CanBear (context_given (Request.dialogue (control_view control.now))) (information_given (Request.dialogue (control_view control.now))) result }
     {
         match control {
-            Control::Uni { context, info } => Some(self.uni_sending(*context, info)),
-            Control::Begin { context, info } => Some(self.begin_sending(*context, info)),
+            Control::Uni { context, info, .. } => Some(self.uni_sending(*context, info)),
+            Control::Begin { context, info, .. } => Some(self.begin_sending(*context, info)),
             Control::Continue { context, info } => self.continue_sending(*context, info),
             Control::End {
                 ending,
