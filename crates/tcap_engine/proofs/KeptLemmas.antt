@@ -16,6 +16,7 @@ use Rattle.tcap_model.specs.Procedures.QueueRules.{Queued}
 use Rattle.tcap_model.specs.Table.Dialogue.{Dialogue, with_invocations}
 use Rattle.tcap_model.specs.Table.EngineMove.{number_after}
 use Rattle.tcap_model.specs.Table.TableMove.{Setting, Walked, after_item, walked, walked_in, with_queued, freed_by, giving_up, accepted, requested_by, framed, continued_by, ended_by, over_with}
+use Rattle.tcap_model.specs.Words.Address.{Address}
 use Rattle.tcap_model.specs.Words.Fault.{Fault}
 use Rattle.tcap_model.specs.Words.Output.{Output}
 use Rattle.tcap_model.specs.Words.Request.{Request, ComponentRequest, DialogueRequest}
@@ -60,23 +61,23 @@ module _ (reject_ms next : ℕ) where
   kept-over : (d : Dialogue) (first : List Output) (list : InvocationList) → IsWithin reject_ms next d → IsKept d.standing.identifier reject_ms next (over_with d first list).after
   kept-over d first list h = (refl, (h.0, tt))
 
-  kept-continued : (s : Setting) (d : Dialogue) (origin : List ℕ) (v : PortionVerdict) (w : Walked) → Fit reject_ms next w.invocations → IsWithin reject_ms next d → IsKept d.standing.identifier reject_ms next (continued_by s d origin v w).after
-  kept-continued s d origin (PortionVerdict.normal context info) w f h = (refl, f)
-  kept-continued s d origin PortionVerdict.abnormal w f h = (refl, (h.0, tt))
+  kept-continued : (s : Setting) (d : Dialogue) (from : Address) (origin : List ℕ) (v : PortionVerdict) (w : Walked) → Fit reject_ms next w.invocations → IsWithin reject_ms next d → IsKept d.standing.identifier reject_ms next (continued_by s d from origin v w).after
+  kept-continued s d from origin (PortionVerdict.normal context info) w f h = (refl, f)
+  kept-continued s d from origin PortionVerdict.abnormal w f h = (refl, (h.0, tt))
 
   kept-ended : (d : Dialogue) (v : PortionVerdict) (w : Walked) → IsWithin reject_ms next d → IsKept d.standing.identifier reject_ms next (ended_by d v w).after
   kept-ended d (PortionVerdict.normal context info) w h = (refl, (h.0, tt))
   kept-ended d PortionVerdict.abnormal w h = (refl, (h.0, tt))
 
   -- A message keeps all of it.
-  pub kept-framed : (s : Setting) (d : Dialogue) (m : Message) → IsWithin reject_ms next d → IsKept d.standing.identifier reject_ms next (framed s d m).after
-  kept-framed s d (Message.unidirectional portion components) h = (refl, h)
-  kept-framed s d (Message.begin origin portion components) h = (refl, h)
-  kept-framed s d (Message.go_on origin to portion components) h =
-      kept-continued s d origin (portion_verdict d.standing.state d.standing.context portion) (walked_in s.clock d components)
+  pub kept-framed : (s : Setting) (d : Dialogue) (from : Address) (m : Message) → IsWithin reject_ms next d → IsKept d.standing.identifier reject_ms next (framed s d from m).after
+  kept-framed s d from (Message.unidirectional portion components) h = (refl, h)
+  kept-framed s d from (Message.begin origin portion components) h = (refl, h)
+  kept-framed s d from (Message.go_on origin to portion components) h =
+      kept-continued s d from origin (portion_verdict d.standing.state d.standing.context portion) (walked_in s.clock d components)
       (fit-walked d.standing.identifier s.clock d.invocations (components_of components) h) h
-  kept-framed s d (Message.end to portion components) h = kept-ended d (portion_verdict d.standing.state d.standing.context portion) (walked_in s.clock d components) h
-  kept-framed s d (Message.abort to reason) h = (refl, (h.0, tt))
+  kept-framed s d from (Message.end to portion components) h = kept-ended d (portion_verdict d.standing.state d.standing.context portion) (walked_in s.clock d components) h
+  kept-framed s d from (Message.abort to reason) h = (refl, (h.0, tt))
 
 -- ---- requests
 
@@ -99,8 +100,8 @@ kept-accepted reject_ms s d (Request.component (ComponentRequest.error_back id c
 kept-accepted reject_ms s d (Request.component (ComponentRequest.u_reject id problem)) h =
     kept-queued reject_ms s.number (with_invocations d (freed_by d.invocations id problem.kind)) (queued_for s.number (Request.component (ComponentRequest.u_reject id problem))) (fit-freed_by reject_ms s.number d.invocations id problem.kind h)
 kept-accepted reject_ms s d (Request.component (ComponentRequest.u_cancel id)) h = kept-given_up reject_ms s.number d id (given_up_at d.invocations.rows id) h
-kept-accepted reject_ms s d (Request.dialogue (DialogueRequest.uni context info)) h = (refl, (h.0, tt))
-kept-accepted reject_ms s d (Request.dialogue (DialogueRequest.begin context info)) h = (refl, (h.0, AllBelow-after_sent s.number d.invocations h.1 s.clock))
+kept-accepted reject_ms s d (Request.dialogue (DialogueRequest.uni to context info)) h = (refl, (h.0, tt))
+kept-accepted reject_ms s d (Request.dialogue (DialogueRequest.begin to context info)) h = (refl, (h.0, AllBelow-after_sent s.number d.invocations h.1 s.clock))
 kept-accepted reject_ms s d (Request.dialogue (DialogueRequest.go_on context info)) h = (refl, (h.0, AllBelow-after_sent s.number d.invocations h.1 s.clock))
 kept-accepted reject_ms s d (Request.dialogue (DialogueRequest.finish ending context info)) h = (refl, (h.0, tt))
 kept-accepted reject_ms s d (Request.dialogue (DialogueRequest.u_abort why info)) h = (refl, (h.0, tt))

@@ -1,5 +1,5 @@
 -- Dialogues that are over, one after the other: what is told of those that follow, and what is left.
-use Rattle.std.proofs.Common.{◌≡◌, ℕ, ◌+◌, ◌<◌, ◌≤◌, Bool, true, false, cond, not, ◌||◌, ◌&&◌, nat_eq, List, [], ◌∷◌, ◌++◌, drop, get_or, length, map, filter, Option, Some, None, refl, ap, sym, subst, ◌∙◌, arith, tests}
+use Rattle.std.proofs.Common.{◌≡◌, ℕ, ◌+◌, ◌<◌, ◌≤◌, Bool, true, false, cond, not, ◌||◌, nat_eq, List, [], ◌∷◌, ◌++◌, drop, get_or, length, map, Some, refl, ap, sym, subst, ◌∙◌, arith, tests}
 use Rattle.std.proofs.lemmas.Bool.{or_parts}
 use Rattle.std.proofs.lemmas.List.{drop_more}
 use Rattle.std.proofs.lemmas.List.Concat.{flat_map-cons}
@@ -7,7 +7,7 @@ use Rattle.std.specs.List.{flat_map}
 use Rattle.std.specs.Map.{lookup, remove_entry}
 use Rattle.tcap_dialogue.specs.FaultViews.{takes_memory}
 use Rattle.tcap_engine.proofs.TableLemmas.{from-lower, from-removed}
-use Rattle.tcap_engine.specs.Ending.{AreApart, ends_in, idle_ids, is_among, left_by, over_in, over_told, place_at, told_if, without_all}
+use Rattle.tcap_engine.specs.Ending.{AreApart, ends_in, idle_ids, is_among, over_in, over_told, place_at, told_if, without_all}
 use Rattle.tcap_engine.specs.Table.{Place, AreFrom, AreDrawn, AreWithin, IsSound, dialogues_of}
 use Rattle.tcap_engine.specs.declared.limits.Limits.{Limits}
 use Rattle.tcap_model.specs.Table.Dialogue.{Dialogue}

@@ -1,6 +1,6 @@
 -- The engine after a message, or a faulty one, reached one of its dialogues.
 use Rattle.std.proofs.Common.{◌≡◌, ℕ, ◌++◌, true, nat_eq, List, Option, Some, None, Ok, Err, refl, ap, sym, ◌∙◌, subst, arith}
-use Rattle.std.specs.Prelude.{option_to_list, IfOk, IsSome, Result}
+use Rattle.std.specs.Prelude.{[], IfOk, IsSome, Result}
 use Rattle.std.specs.Map.{lookup}
 use Rattle.ber_core.specs.declared.fault.OutOfMemory.{OutOfMemory}
 use Rattle.tcap_dialogue.specs.StepViews.{asked, at_clock, outcome}
@@ -14,39 +14,40 @@ use Rattle.tcap_engine.proofs.PlaceLemmas.{dialogues-with, sound-with, found-wit
 use Rattle.tcap_engine.proofs.TableLemmas.{found-in, found-own}
 use Rattle.tcap_model.specs.Procedures.PortionRules.{PortionVerdict, portion_verdict}
 use Rattle.tcap_model.specs.Table.Dialogue.{Dialogue}
-use Rattle.tcap_model.specs.Table.EngineMove.{EngineMoved, dialogue_in, is_live_in, is_live_if_any, reached_in, aborting, moved_in, with_dialogue}
+use Rattle.tcap_model.specs.Table.EngineMove.{EngineMoved, dialogue_in, is_live_in, is_live_if_any, reached_in, sending_first, moved_in, with_dialogue}
 use Rattle.tcap_model.specs.Table.TableMove.{Moved, Walked, DialogueEvent, table_move, continued_by, walked_in, left_standing}
 use Rattle.tcap_model.specs.Table.World.{World}
+use Rattle.tcap_model.specs.Words.Address.{Address}
 use Rattle.tcap_model.specs.Words.Answer.{Answer}
 use Rattle.tcap_model.specs.Words.Output.{Output}
 use Rattle.tcap_pdu.specs.FrameSpelling.{Message}
 
 -- ---- a message draws no number
 
-continued-alike : (clock number : ℕ) (d : Dialogue) (origin : List ℕ) (v : PortionVerdict) (w : Walked)
-    → continued_by (asked clock number) d origin v w ≡ continued_by (at_clock clock) d origin v w
-continued-alike clock number d origin (PortionVerdict.normal context info) w = refl
-continued-alike clock number d origin PortionVerdict.abnormal w = refl
+continued-alike : (clock number : ℕ) (d : Dialogue) (from : Address) (origin : List ℕ) (v : PortionVerdict) (w : Walked)
+    → continued_by (asked clock number) d from origin v w ≡ continued_by (at_clock clock) d from origin v w
+continued-alike clock number d from origin (PortionVerdict.normal context info) w = refl
+continued-alike clock number d from origin PortionVerdict.abnormal w = refl
 
-pub framed-alike : (clock number : ℕ) (d : Dialogue) (m : Message)
-    → table_move (asked clock number) d (DialogueEvent.frame m) ≡ table_move (at_clock clock) d (DialogueEvent.frame m)
+pub framed-alike : (clock number : ℕ) (d : Dialogue) (from : Address) (m : Message)
+    → table_move (asked clock number) d (DialogueEvent.frame from m) ≡ table_move (at_clock clock) d (DialogueEvent.frame from m)
 unfolding table_move
-framed-alike clock number d (Message.unidirectional portion components) = refl
-framed-alike clock number d (Message.begin origin portion components) = refl
-framed-alike clock number d (Message.go_on origin to portion components) =
-    continued-alike clock number d origin (portion_verdict d.standing.state d.standing.context portion) (walked_in clock d components)
-framed-alike clock number d (Message.end to portion components) = refl
-framed-alike clock number d (Message.abort to reason) = refl
+framed-alike clock number d from (Message.unidirectional portion components) = refl
+framed-alike clock number d from (Message.begin origin portion components) = refl
+framed-alike clock number d from (Message.go_on origin to portion components) =
+    continued-alike clock number d from origin (portion_verdict d.standing.state d.standing.context portion) (walked_in clock d components)
+framed-alike clock number d from (Message.end to portion components) = refl
+framed-alike clock number d from (Message.abort to reason) = refl
 
 pub fault-alike : (clock number : ℕ) (d : Dialogue) (cause : ℕ)
     → table_move (asked clock number) d (DialogueEvent.fault cause) ≡ table_move (at_clock 0) d (DialogueEvent.fault cause)
 unfolding table_move
 fault-alike clock number d cause = refl
 
-pub kept-frame : (reject_ms next clock : ℕ) (d : Dialogue) (m : Message) → IsWithin reject_ms next d
-    → IsKept d.standing.identifier reject_ms next (table_move (at_clock clock) d (DialogueEvent.frame m)).after
+pub kept-frame : (reject_ms next clock : ℕ) (d : Dialogue) (from : Address) (m : Message) → IsWithin reject_ms next d
+    → IsKept d.standing.identifier reject_ms next (table_move (at_clock clock) d (DialogueEvent.frame from m)).after
 unfolding table_move
-kept-frame reject_ms next clock d m h = kept-framed reject_ms next (at_clock clock) d m h
+kept-frame reject_ms next clock d from m h = kept-framed reject_ms next (at_clock clock) d from m h
 
 pub kept-fault : (reject_ms next : ℕ) (d : Dialogue) (cause : ℕ) → IsWithin reject_ms next d
     → IsKept d.standing.identifier reject_ms next (table_move (at_clock 0) d (DialogueEvent.fault cause)).after
@@ -63,16 +64,16 @@ module _ (limits : Limits) (next_dialogue number clock d : ℕ) (ps : List Place
   abbrev pub engine_of : List Place → World
   engine_of qs = record { max_dialogues = limits.max_dialogues; reject_ms = limits.reject_ms; idle_ms = limits.idle_ms; next_dialogue = next_dialogue; next_number = number; clock = clock; dialogues = dialogues_of qs }
 
-  reached-engine : (x : Dialogue) (abort : Option Output) (told : List Output) (qs : List Place) → lookup (nat_eq d) ps ≡ Some x
+  reached-engine : (x : Dialogue) (sent : List Output) (told : List Output) (qs : List Place) → lookup (nat_eq d) ps ≡ Some x
       → PlacesMove (outcome (move x)) d (Answer.outputs told) ps qs
-      → Moves (moved_in (engine_of ps) d (aborting abort (move x))) (Answer.outputs (option_to_list abort ++ told)) (engine_of qs)
-  reached-engine x abort told qs found p =
+      → Moves (moved_in (engine_of ps) d (sending_first sent (move x))) (Answer.outputs (sent ++ told)) (engine_of qs)
+  reached-engine x sent told qs found p =
       let m : Moved = move x in
       let is : m.answer ≡ Answer.outputs told = sym p.0 in
       let whole : List Dialogue → World = λ ds. record { max_dialogues = limits.max_dialogues; reject_ms = limits.reject_ms; idle_ms = limits.idle_ms; next_dialogue = next_dialogue; next_number = number; clock = clock; dialogues = ds } in
       let table : dialogues_of qs ≡ with_dialogue d (left_standing m) (dialogues_of ps) = ap dialogues_of p.1 ∙ dialogues-with d (left_standing m) ps sound.from in
-      let moves : Answer → EngineMoved = λ a. moved_in (engine_of ps) d (aborting abort (record m { answer = a })) in
-      subst (λ (a : Answer). Moves (moves a) (Answer.outputs (option_to_list abort ++ told)) (engine_of qs)) (sym is) (refl, ap whole table)
+      let moves : Answer → EngineMoved = λ a. moved_in (engine_of ps) d (sending_first sent (record m { answer = a })) in
+      subst (λ (a : Answer). Moves (moves a) (Answer.outputs (sent ++ told)) (engine_of qs)) (sym is) (refl, ap whole table)
 
   pub reached-sound : (x : Dialogue) (told : List Output) (qs : List Place) → lookup (nat_eq d) ps ≡ Some x
       → PlacesMove (outcome (move x)) d (Answer.outputs told) ps qs → IsSound limits next_dialogue number clock qs
@@ -84,31 +85,31 @@ module _ (limits : Limits) (next_dialogue number clock d : ℕ) (ps : List Place
       sound-with limits next_dialogue number number clock d (left_standing m) ps (omega arith) (kept-left d limits.reject_ms number m kept) sound in
       subst (λ (qs : List Place). IsSound limits next_dialogue number clock qs) (sym p.1) all
 
-  move-of : (abort : Option Output) (x : Dialogue) → lookup (nat_eq d) ps ≡ Some x
-      → reached_in (engine_of ps) d abort event (dialogue_in d (dialogues_of ps)) ≡ moved_in (engine_of ps) d (aborting abort (move x))
-  move-of abort x found =
-      ap (reached_in (engine_of ps) d abort event) (found-in d 0 ps sound.from ∙ found)
-      ∙ ap (λ (m : Moved). moved_in (engine_of ps) d (aborting abort m)) (alike x)
+  move-of : (sent : List Output) (x : Dialogue) → lookup (nat_eq d) ps ≡ Some x
+      → reached_in (engine_of ps) d sent event (dialogue_in d (dialogues_of ps)) ≡ moved_in (engine_of ps) d (sending_first sent (move x))
+  move-of sent x found =
+      ap (reached_in (engine_of ps) d sent event) (found-in d 0 ps sound.from ∙ found)
+      ∙ ap (λ (m : Moved). moved_in (engine_of ps) d (sending_first sent m)) (alike x)
 
   -- What the engine tells and is then, where the dialogue stands.
-  pub reached-some : (x : Dialogue) (abort : Option Output) (told : List Output) (qs : List Place) → lookup (nat_eq d) ps ≡ Some x
+  pub reached-some : (x : Dialogue) (sent : List Output) (told : List Output) (qs : List Place) → lookup (nat_eq d) ps ≡ Some x
       → PlacesMove (outcome (move x)) d (Answer.outputs told) ps qs
-      → Moves (reached_in (engine_of ps) d abort event (dialogue_in d (dialogues_of ps))) (Answer.outputs (option_to_list abort ++ told)) (engine_of qs)
-  reached-some x abort told qs found p =
-      subst (λ (v : EngineMoved). Moves v (Answer.outputs (option_to_list abort ++ told)) (engine_of qs)) (sym (move-of abort x found)) (reached-engine x abort told qs found p)
+      → Moves (reached_in (engine_of ps) d sent event (dialogue_in d (dialogues_of ps))) (Answer.outputs (sent ++ told)) (engine_of qs)
+  reached-some x sent told qs found p =
+      subst (λ (v : EngineMoved). Moves v (Answer.outputs (sent ++ told)) (engine_of qs)) (sym (move-of sent x found)) (reached-engine x sent told qs found p)
 
   -- The same, whether it stands or not.
   pub reached-ok : {T : Type 0} (view : T → List Output) (outputs : T) (qs : List Place)
       → ReachesIn (λ (t : T). Answer.outputs (view t)) (Ok outputs) (λ x. outcome (move x)) d (lookup (nat_eq d) ps) ps qs
-      → Moves (reached_in (engine_of ps) d None event (dialogue_in d (dialogues_of ps))) (Answer.outputs (view outputs)) (engine_of qs)
+      → Moves (reached_in (engine_of ps) d [] event (dialogue_in d (dialogues_of ps))) (Answer.outputs (view outputs)) (engine_of qs)
   reached-ok {T} view outputs qs h = go (lookup (nat_eq d) ps) refl h
     where
       go : (o : Option Dialogue) → lookup (nat_eq d) ps ≡ o → ReachesIn (λ (t : T). Answer.outputs (view t)) (Ok outputs) (λ x. outcome (move x)) d o ps qs
-          → Moves (reached_in (engine_of ps) d None event (dialogue_in d (dialogues_of ps))) (Answer.outputs (view outputs)) (engine_of qs)
+          → Moves (reached_in (engine_of ps) d [] event (dialogue_in d (dialogues_of ps))) (Answer.outputs (view outputs)) (engine_of qs)
       go None e p =
           let absent : dialogue_in d (dialogues_of ps) ≡ None = found-in d 0 ps sound.from ∙ e in
-          subst (λ (o : Option Dialogue). Moves (reached_in (engine_of ps) d None event o) (Answer.outputs (view outputs)) (engine_of qs)) (sym absent) (p.0, ap engine_of p.1)
-      go (Some x) e p = reached-some x None (view outputs) qs e p
+          subst (λ (o : Option Dialogue). Moves (reached_in (engine_of ps) d [] event o) (Answer.outputs (view outputs)) (engine_of qs)) (sym absent) (p.0, ap engine_of p.1)
+      go (Some x) e p = reached-some x [] (view outputs) qs e p
 
   pub sound-reached : {T : Type 0} (view : T → List Output) (result : Result T OutOfMemory) (qs : List Place)
       → ReachesIn (λ (t : T). Answer.outputs (view t)) result (λ x. outcome (move x)) d (lookup (nat_eq d) ps) ps qs → IsSound limits next_dialogue number clock qs
@@ -122,22 +123,22 @@ module _ (limits : Limits) (next_dialogue number clock d : ℕ) (ps : List Place
   -- What was told, if memory wasn't refused.
   pub reached-if : {T : Type 0} (view : T → List Output) (result : Result T OutOfMemory) (qs : List Place)
       → ReachesIn (λ (t : T). Answer.outputs (view t)) result (λ x. outcome (move x)) d (lookup (nat_eq d) ps) ps qs
-      → IfOk result (λ t. Moves (reached_in (engine_of ps) d None event (dialogue_in d (dialogues_of ps))) (Answer.outputs (view t)) (engine_of qs))
+      → IfOk result (λ t. Moves (reached_in (engine_of ps) d [] event (dialogue_in d (dialogues_of ps))) (Answer.outputs (view t)) (engine_of qs))
   reached-if {T} view (Ok t) qs h = reached-ok view t qs h
   reached-if {T} view (Err f) qs h = tt
 
-  -- The same of a dialogue that stands, where an Abort goes out first, if there is one.
-  pub reached-aborting : {T : Type 0} (view : T → List Output) (abort : Option Output) (result : Result T OutOfMemory) (qs : List Place)
+  -- The same of a dialogue that stands, where something is sent first.
+  pub reached-sending : {T : Type 0} (view : T → List Output) (sent : List Output) (result : Result T OutOfMemory) (qs : List Place)
       → IsSome (lookup (nat_eq d) ps)
       → ReachesIn (λ (t : T). Answer.outputs (view t)) result (λ x. outcome (move x)) d (lookup (nat_eq d) ps) ps qs
-      → IfOk result (λ t. Moves (reached_in (engine_of ps) d abort event (dialogue_in d (dialogues_of ps))) (Answer.outputs (option_to_list abort ++ view t)) (engine_of qs))
-  reached-aborting {T} view abort (Err f) qs there h = tt
-  reached-aborting {T} view abort (Ok t) qs there h = go (lookup (nat_eq d) ps) refl there h
+      → IfOk result (λ t. Moves (reached_in (engine_of ps) d sent event (dialogue_in d (dialogues_of ps))) (Answer.outputs (sent ++ view t)) (engine_of qs))
+  reached-sending {T} view sent (Err f) qs there h = tt
+  reached-sending {T} view sent (Ok t) qs there h = go (lookup (nat_eq d) ps) refl there h
     where
       go : (o : Option Dialogue) → lookup (nat_eq d) ps ≡ o → IsSome o → ReachesIn (λ (t : T). Answer.outputs (view t)) (Ok t) (λ x. outcome (move x)) d o ps qs
-          → Moves (reached_in (engine_of ps) d abort event (dialogue_in d (dialogues_of ps))) (Answer.outputs (option_to_list abort ++ view t)) (engine_of qs)
+          → Moves (reached_in (engine_of ps) d sent event (dialogue_in d (dialogues_of ps))) (Answer.outputs (sent ++ view t)) (engine_of qs)
       go None e missing p = absurd cc
-      go (Some x) e there p = reached-some x abort (view t) qs e p
+      go (Some x) e there p = reached-some x sent (view t) qs e p
 
 -- A dialogue that is live stands.
 pub live-found : (d : ℕ) (ps : List Place) → AreFrom 0 ps → is_live_in (dialogues_of ps) d ≡ true → IsSome (lookup (nat_eq d) ps)

@@ -81,8 +81,8 @@ accepted-left s d (Request.component (ComponentRequest.result_more id body)) le 
 accepted-left s d (Request.component (ComponentRequest.error_back id code parameter)) le e = tt
 accepted-left s d (Request.component (ComponentRequest.u_reject id problem)) le e = tt
 accepted-left s d (Request.component (ComponentRequest.u_cancel id)) le e = given-left d id (given_up_at d.invocations.rows id) s.number
-accepted-left s d (Request.dialogue (DialogueRequest.uni context info)) le e = tt
-accepted-left s d (Request.dialogue (DialogueRequest.begin context info)) le e = tt
+accepted-left s d (Request.dialogue (DialogueRequest.uni to context info)) le e = tt
+accepted-left s d (Request.dialogue (DialogueRequest.begin to context info)) le e = tt
 accepted-left s d (Request.dialogue (DialogueRequest.go_on context info)) le e = tt
 accepted-left s d (Request.dialogue (DialogueRequest.finish ending context info)) le e = tt
 accepted-left s d (Request.dialogue (DialogueRequest.u_abort why info)) le e = tt

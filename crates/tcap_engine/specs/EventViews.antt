@@ -14,7 +14,7 @@ use Rattle.tcap_model.specs.Words.Event as model
 abbrev pub event_view : Event → model.Event
 event_view event.NewDialogue = model.Event.new_dialogue
 event_view (event.On dialogue request) = model.Event.on_dialogue dialogue (request_view request)
-event_view (event.Bytes bytes) = model.Event.received bytes.now
+event_view (event.Bytes from bytes) = model.Event.received from.now bytes.now
 event_view (event.Moment now) = model.Event.moment now
 
 -- Events, one after the other (own).

@@ -14,7 +14,7 @@ use Rattle.tcap_model.specs.Words.Event.{Event}
 abbrev pub MayWant : Event → Answer → Type 0
 MayWant Event.new_dialogue answer = IsTrue (takes_memory answer)
 MayWant (Event.on_dialogue dialogue request) answer = IsTrue (takes_memory answer)
-MayWant (Event.received bytes) answer = Unit {0}
+MayWant (Event.received from bytes) answer = Unit {0}
 MayWant (Event.moment now) answer = IsTrue (takes_memory answer)
 
 -- The events that were done: each has left one answer more (own).

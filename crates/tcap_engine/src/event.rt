@@ -1,7 +1,7 @@
 //! What comes to an engine, and what it answers.
 
 use std::alloc::{Allocator, Global};
-use tcap_dialogue::{Fault, Output, Request};
+use tcap_dialogue::{Address, Fault, Output, Request};
 
 /// What comes to an engine: a request of the TC-user, a message, or time (own).
 #[derive(Clone, Copy, Debug, PartialEq, Eq)]
@@ -10,8 +10,8 @@ pub enum Event<'m> {
     NewDialogue,
     /// A request on the dialogue with this identifier.
     On { dialogue: u32, request: Request<'m> },
-    /// These bytes were received.
-    Bytes(&'m [u8]),
+    /// From this address these bytes were received.
+    Bytes(&'m Address, &'m [u8]),
     /// The clock is at this moment, in milliseconds, at most 2^62.
     Moment(u64),
 }

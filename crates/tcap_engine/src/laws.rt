@@ -1,8 +1,9 @@
 //! What holds at every history at which an engine stands: the headline's laws, which the contract of each call
-//! gives on, isolation and where components come from; and what holds of two engines.
+//! gives on, isolation and where components come from; and what holds of engines that hear one
+//! another.
 
 ghost use Rattle.tcap_engine.specs.Alone.{EachAnswerIsAlone, EachRunIsAlone};
-ghost use Rattle.tcap_engine.specs.TwoEnds.{EachAnswerIsGiven, EachBothRely, EachCallIsHeard, EachRunIsHeard, EachSendIsSent, EachSendStays, NewOnesHear};
+ghost use Rattle.tcap_engine.specs.TwoEnds.{EachAnswerIsGiven, EachCallIsHeard, EachMayRely, EachRunIsHeard, EachSendIsSent, EachSendStays, NewOnesHear};
 ghost use Rattle.tcap_model.specs.Statements.Headline.{EachHasOutcome, EachIsBounded, EachIsCounted, EachIsDecided};
 ghost use Rattle.tcap_model.specs.Statements.Isolation.{EachIsAlone};
 ghost use Rattle.tcap_model.specs.Statements.SentFrom.{EachIsSentFrom};
@@ -62,25 +63,27 @@ pub fn sent_once()
     ensures { EachIsSentInOrder }
 {}
 
-/// What both users may rely on whose engines hear one another and nobody else: each answer to an invocation
-/// comes from a request of the far user; under the three premises it was asked for after the Invoke was
-/// sent; at most one closes the invocation; and each Invoke that is told was asked for (our own).
+/// What the users at both ends may rely on whose engines hear one another and nobody else: each answer to an
+/// invocation comes from a request of the far user, in a dialogue that keeps an address of this engine; under
+/// the three premises it was asked for after the Invoke was sent; at most one closes the invocation; and each
+/// Invoke that is told was asked for (our own).
 pub fn two_ends()
     ensures { EachIsTwoEnded }
 {}
 
-/// The same for whoever runs two engines, where each byte string that one receives was sent by the other: at any
-/// time later, in any order, any number of times, or never. From two new engines on, call by call or run by
-/// run, both stand at one list of their events and answers in time (our own).
-pub fn two_engines()
+/// The same for whoever runs any number of engines, each at addresses of its own, where each byte string that
+/// one receives was sent to it by another: at any time later, in any order, any number of times, or never.
+/// From new engines on, call by call or run by run, all stand at one list of their events and answers in time
+/// (our own).
+pub fn several_engines()
     ensures begin { NewOnesHear }
     ensures call { EachCallIsHeard }
     ensures run { EachRunIsHeard }
-    // What the other may receive then: each Send in the answers of a run, and what was sent before.
+    // What another may receive then: each Send to it in the answers of a run, and what was sent before.
     ensures sent { EachSendIsSent }
     ensures kept { EachSendStays }
     // Each answer of a run stands in the list.
     ensures given { EachAnswerIsGiven }
-    // At each such list both users may rely on the answers in it as `two_ends` says.
-    ensures rely { EachBothRely }
+    // At each such list the users may rely on the answers in it as `two_ends` says.
+    ensures rely { EachMayRely }
 {}

@@ -19,4 +19,6 @@ pub use engine::Engine;
 pub use event::{Answer, Event};
 pub use limits::Limits;
 pub use runs::run;
-pub use tcap_dialogue::{AbortWhy, Asked, By, DropWhy, Ending, Fault, Output, Request, State, Why};
+pub use tcap_dialogue::{
+    AbortWhy, Address, Asked, By, DropWhy, Ending, Fault, Output, Request, State, Why,
+};

@@ -6,10 +6,10 @@ ghost use Rattle.std.specs.Option.{option_map};
 ghost use Rattle.tcap_component.specs.Component.{CodeParts};
 ghost use Rattle.tcap_component.specs.Views.{body_parts, code_parts, problem_parts};
 ghost use Rattle.tcap_dialogue.specs.RequestViews.{request_view};
-ghost use Rattle.tcap_model.specs.Words.InRange.{are_octets, are_octets_if_any, is_body, is_code, is_identifier, is_identifier_if_any, is_long, is_problem, is_request, is_short};
+ghost use Rattle.tcap_model.specs.Words.InRange.{are_octets, are_octets_if_any, is_address, is_body, is_code, is_identifier, is_identifier_if_any, is_long, is_problem, is_request, is_short};
 
 use tcap_component::{Body, Code, Problem};
-use tcap_dialogue::Request;
+use tcap_dialogue::{Address, Request};
 
 /// Each octet is below 256.
 pub fn octets(bytes: &[u8])
@@ -23,6 +23,13 @@ fn octets_if_any(bytes: Option<&[u8]>)
     if let Some(bytes) = bytes {
         octets(bytes);
     }
+}
+
+/// An address has at most 255 octets, each below 256.
+pub fn address(given: &Address)
+    ensures { IsTrue (is_address given.now) }
+{
+    octets(given.octets());
 }
 
 /// An invoke identifier is from -128 to 127.
@@ -118,10 +125,12 @@ pub fn request(asked: &Request<'_>)
             problem(*given);
         }
         Request::Cancel { id } => identifier(*id),
-        Request::Uni { context, info }
-        | Request::Begin { context, info }
-        | Request::Continue { context, info }
-        | Request::End { context, info, .. } => {
+        Request::Uni { to, context, info } | Request::Begin { to, context, info } => {
+            address(to);
+            octets_if_any(*context);
+            octets(info);
+        }
+        Request::Continue { context, info } | Request::End { context, info, .. } => {
             octets_if_any(*context);
             octets(info);
         }

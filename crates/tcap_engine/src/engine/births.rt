@@ -17,7 +17,7 @@ use super::Engine;
 use crate::reception::Request;
 use ber_core::OutOfMemory;
 use std::alloc::Allocator;
-use tcap_dialogue::{Dialogue, Fault, Output};
+use tcap_dialogue::{Address, Dialogue, Fault, Output};
 use tcap_pdu::TransId;
 
 impl<A: Allocator + Copy> Engine<A> {
@@ -53,13 +53,14 @@ impl<A: Allocator + Copy> Engine<A> {
     #[tactic(auto, using(crate::proofs::BeginLemmas::kept_born))]
     pub(super) fn accept_begin<'m>(
         &mut self,
+        from: &Address,
         origin: &TransId,
         request: Request<'m>,
         components: &'m [u8],
     ) -> Result<Vec<Output<'m, A>, A>, OutOfMemory>
         requires free { birth_fault_in self.old ≡ None }
         requires named { IfSome request (λ r. IsObjectIdentifier r.0.now) }
-        ensures ok { IfOk result (λ os. Moves (begun_in self.old (born (setting_in self.old) self.old.next_dialogue self.old.reject_ms self.old.idle_ms origin.now (context_given request.entry) (info_given request.entry) components.now)) (outputs_answer os) self.new) }
+        ensures ok { IfOk result (λ os. Moves (begun_in self.old (born (setting_in self.old) self.old.next_dialogue self.old.reject_ms self.old.idle_ms from.now origin.now (context_given request.entry) (info_given request.entry) components.now)) (outputs_answer os) self.new) }
         ensures err { OnErr result (self.new ≡ self.old) }
     {
         let (dialogue, outputs) = Dialogue::accept(
@@ -67,6 +68,7 @@ impl<A: Allocator + Copy> Engine<A> {
             self.next_dialogue,
             self.limits.reject_ms,
             self.limits.idle_ms,
+            from,
             origin,
             request,
             components,

@@ -12,47 +12,51 @@ ghost use Rattle.tcap_model.specs.Words.Request.{DialogueRequest};
 use super::Engine;
 use super::kinds::outputs_of;
 use std::alloc::Allocator;
-use tcap_dialogue::{AbortWhy, Ending, Fault, Output, Request};
+use tcap_dialogue::{AbortWhy, Address, Ending, Fault, Output, Request};
 
 /// In all of these `context` is the contents octets of the application context name, and `info` the user
 /// information: EXTERNALs one after the other, empty where there is none.
 impl<A: Allocator + Copy> Engine<A> {
-    /// TC-UNI request: the queue goes out in a Unidirectional, and the dialogue is over. Faults:
-    /// `UnknownDialogue`, `WrongState` unless Fresh, `BadOid`, `BadParameter`, `NoContext` for information
-    /// without a context, `NotClassFour`, `TooLong`, `OutOfMemory` (Q.774, Unstructured dialogue).
+    /// TC-UNI request: the queue goes out in a Unidirectional to this address, and the dialogue is over.
+    /// Faults: `UnknownDialogue`, `WrongState` unless Fresh, `BadOid`, `BadParameter`, `NoContext` for
+    /// information without a context, `NotClassFour`, `TooLong`, `OutOfMemory`
+    /// (Q.774, Unstructured dialogue).
     pub fn uni<'m>(
         &mut self,
         d: u32,
+        to: &Address,
         context: Option<&[u8]>,
         info: &[u8],
     ) -> Result<Vec<Output<'m, A>, A>, Fault>
-        ensures moves { EngineAnswers outputs_answer result (engine_move self.old (Event.on_dialogue d (model.Request.dialogue (DialogueRequest.uni (option_copied context.entry) info.now)))) self.old self.new }
-        ensures stands { Stands outputs_answer result (Event.on_dialogue d (model.Request.dialogue (DialogueRequest.uni (option_copied context.entry) info.now))) self.old self.new }
+        ensures moves { EngineAnswers outputs_answer result (engine_move self.old (Event.on_dialogue d (model.Request.dialogue (DialogueRequest.uni to.now (option_copied context.entry) info.now)))) self.old self.new }
+        ensures stands { Stands outputs_answer result (Event.on_dialogue d (model.Request.dialogue (DialogueRequest.uni to.now (option_copied context.entry) info.now))) self.old self.new }
         ensures err { OnErr result (self.new ≡ self.old) }
     {
-        outputs_of(self.request(d, &Request::Uni { context, info }))
+        outputs_of(self.request(d, &Request::Uni { to, context, info }))
     }
 
-    /// TC-BEGIN request: the queue goes out in a Begin, with an AARQ where there is a context, and the
-    /// dialogue is Sent. Faults: `UnknownDialogue`, `WrongState` unless Fresh, `BadOid`, `BadParameter`,
-    /// `NoContext` for information without a context, `TooLong`, `OutOfMemory` (Q.774, Dialogue begin).
+    /// TC-BEGIN request: the queue goes out in a Begin to this address, which the dialogue keeps, with an
+    /// AARQ where there is a context, and the dialogue is Sent. Faults: `UnknownDialogue`, `WrongState`
+    /// unless Fresh, `BadOid`, `BadParameter`, `NoContext` for information without a context, `TooLong`,
+    /// `OutOfMemory` (Q.774, Dialogue begin).
     pub fn begin<'m>(
         &mut self,
         d: u32,
+        to: &Address,
         context: Option<&[u8]>,
         info: &[u8],
     ) -> Result<Vec<Output<'m, A>, A>, Fault>
-        ensures moves { EngineAnswers outputs_answer result (engine_move self.old (Event.on_dialogue d (model.Request.dialogue (DialogueRequest.begin (option_copied context.entry) info.now)))) self.old self.new }
-        ensures stands { Stands outputs_answer result (Event.on_dialogue d (model.Request.dialogue (DialogueRequest.begin (option_copied context.entry) info.now))) self.old self.new }
+        ensures moves { EngineAnswers outputs_answer result (engine_move self.old (Event.on_dialogue d (model.Request.dialogue (DialogueRequest.begin to.now (option_copied context.entry) info.now)))) self.old self.new }
+        ensures stands { Stands outputs_answer result (Event.on_dialogue d (model.Request.dialogue (DialogueRequest.begin to.now (option_copied context.entry) info.now))) self.old self.new }
         ensures err { OnErr result (self.new ≡ self.old) }
     {
-        outputs_of(self.request(d, &Request::Begin { context, info }))
+        outputs_of(self.request(d, &Request::Begin { to, context, info }))
     }
 
-    /// TC-CONTINUE request: the queue goes out in a Continue. In Received an AARQ is answered, with the
-    /// context given or else its own. Faults: `UnknownDialogue`, `WrongState` unless Received or Active,
-    /// `BadOid`, `BadParameter`, `NoContext` for a context or information where no AARQ is answered,
-    /// `TooLong`, `OutOfMemory` (Q.774, Dialogue continuation).
+    /// TC-CONTINUE request: the queue goes out in a Continue to the kept address. In Received an AARQ is
+    /// answered, with the context given or else its own. Faults: `UnknownDialogue`, `WrongState` unless
+    /// Received or Active, `BadOid`, `BadParameter`, `NoContext` for a context or information where no AARQ
+    /// is answered, `TooLong`, `OutOfMemory` (Q.774, Dialogue continuation).
     pub fn go_on<'m>(
         &mut self,
         d: u32,
@@ -66,9 +70,9 @@ impl<A: Allocator + Copy> Engine<A> {
         outputs_of(self.request(d, &Request::Continue { context, info }))
     }
 
-    /// TC-END request: a basic end sends the queue in an End, a prearranged one nothing; the dialogue is
-    /// over, and each invocation that is left is told as ended. Faults: `UnknownDialogue`, `WrongState`,
-    /// `BadOid`, `BadParameter`, `NoContext`, `TooLong`, `OutOfMemory` (Q.774, Dialogue end).
+    /// TC-END request: a basic end sends the queue in an End to the kept address, a prearranged one nothing;
+    /// the dialogue is over, and each invocation that is left is told as ended. Faults: `UnknownDialogue`,
+    /// `WrongState`, `BadOid`, `BadParameter`, `NoContext`, `TooLong`, `OutOfMemory` (Q.774, Dialogue end).
     pub fn finish<'m>(
         &mut self,
         d: u32,
@@ -88,8 +92,8 @@ impl<A: Allocator + Copy> Engine<A> {
         outputs_of(self.request(d, &request))
     }
 
-    /// TC-U-ABORT request: an Abort goes out to the peer, if it knows the dialogue; this is over, and each
-    /// invocation that is left is told as ended. Faults: `UnknownDialogue`, `WrongState`, `BadParameter`,
+    /// TC-U-ABORT request: an Abort goes out to the kept address, if the peer knows the dialogue; this is over,
+    /// and each invocation that is left is told as ended. Faults: `UnknownDialogue`, `WrongState`, `BadParameter`,
     /// `NoContext`, `TooLong`, `OutOfMemory` (Q.774, Dialogue abort).
     pub fn u_abort<'m>(
         &mut self,

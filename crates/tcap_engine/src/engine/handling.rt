@@ -98,7 +98,7 @@ impl<A: Allocator + Copy> Engine<A> {
         match event {
             Event::NewDialogue => born(self.new_dialogue()),
             Event::On { dialogue, request } => asked(self.request(*dialogue, request)),
-            Event::Bytes(bytes) => Ok(Answer::Outputs(self.receive(bytes)?)),
+            Event::Bytes(from, bytes) => Ok(Answer::Outputs(self.receive(from, bytes)?)),
             Event::Moment(now) => told(self.advance(*now)),
         }
     }

@@ -6,6 +6,7 @@ ghost use Rattle.tcap_dialogue.specs.OutputViews.{all_shown, shown};
 ghost use Rattle.tcap_engine.specs.Answering.{EngineHears, outputs_answer};
 ghost use Rattle.tcap_engine.specs.HistoryForm.{StandsHeard};
 ghost use Rattle.tcap_engine.specs.ReceptionViews.{CanBear, CanRun, reached, reception_view};
+ghost use Rattle.tcap_model.specs.Procedures.AbortRules.{message_sent};
 ghost use Rattle.tcap_model.specs.Procedures.Destination.{destination};
 ghost use Rattle.tcap_model.specs.Procedures.Reception.{addressed_if_any, reception};
 ghost use Rattle.tcap_model.specs.Table.EngineMove.{birth_fault_in, engine_move, is_live_in, received_in};
@@ -17,7 +18,7 @@ use crate::ranges;
 use crate::reception::{Reception, hear_fault, hear_message};
 use ber_core::OutOfMemory;
 use std::alloc::Allocator;
-use tcap_dialogue::{Abort, DropWhy, Output, State, take_uni, write_abort};
+use tcap_dialogue::{Abort, Address, DropWhy, Output, State, take_uni, write_abort};
 use tcap_pdu::{Frame, MAX_MESSAGE, TransId, front_ids, read_frame};
 
 /// The destination of a message, if it has one.
@@ -83,26 +84,35 @@ impl<A: Allocator + Copy> Engine<A> {
         Ok(outputs)
     }
 
-    /// An Abort of the provider goes out.
-    fn abort<'m>(&self, abort: &Abort<'_>) -> Result<Vec<Output<'m, A>, A>, OutOfMemory>
+    /// An Abort of the provider goes to this address.
+    fn abort<'m>(
+        &self,
+        to: &Address,
+        abort: &Abort<'_>,
+    ) -> Result<Vec<Output<'m, A>, A>, OutOfMemory>
         requires { CanWriteAbort abort.now }
-        ensures { IfOk result (λ os. all_shown os.items ≡ abort_sent abort.now ∷ []) }
+        ensures { IfOk result (λ os. all_shown os.items ≡ message_sent to.now (abort_sent abort.now) ∷ []) }
     {
-        let octets = write_abort(self.table.allocator(), abort)?;
-        self.tell(Output::Send(octets))
+        let bytes = write_abort(self.table.allocator(), abort)?;
+        let to = to.copied();
+        self.tell(Output::Send { to, bytes })
     }
 
-    /// Does what becomes of received bytes.
+    /// Does what becomes of bytes received from an address.
     #[tactic(auto, using(crate::proofs::BirthLemmas::can_be_born))]
-    fn take<'m>(&mut self, reception: Reception<'m>) -> Result<Vec<Output<'m, A>, A>, OutOfMemory>
+    fn take<'m>(
+        &mut self,
+        from: &Address,
+        reception: Reception<'m>,
+    ) -> Result<Vec<Output<'m, A>, A>, OutOfMemory>
         requires can { CanRun reception }
         requires live { IfSome (reached reception) (λ d. is_live_in self.old.dialogues d ≡ true) }
         requires born { CanBear (is_some (birth_fault_in self.old)) reception }
-        ensures { EngineHears outputs_answer result (received_in self.old (reception_view reception.entry)) self.old self.new }
+        ensures { EngineHears outputs_answer result (received_in self.old from.now (reception_view reception.entry)) self.old self.new }
     {
         match reception {
             Reception::Dropped(why) => self.tell(Output::Dropped(why)),
-            Reception::Aborted(abort) => self.abort(&abort),
+            Reception::Aborted(abort) => self.abort(from, &abort),
             Reception::Unidirectional {
                 request,
                 components,
@@ -111,35 +121,44 @@ impl<A: Allocator + Copy> Engine<A> {
                 origin,
                 request,
                 components,
-            } => self.accept_begin(&origin, request, components),
-            Reception::Taken { dialogue, frame } => self.reach(dialogue, &frame),
+            } => self.accept_begin(from, &origin, request, components),
+            Reception::Taken { dialogue, frame } => self.reach(dialogue, from, &frame),
             Reception::Broken {
                 dialogue,
                 origin,
                 fault,
-            } => self.break_off(dialogue, origin, fault),
+            } => self.break_off(dialogue, from, origin, fault),
         }
     }
 
-    /// Bytes were received: what is sent and told (Q.774, Transaction sublayer procedures). They are never
-    /// refused, and something is always told of them; those above 65,535 are dropped. The only error is that
-    /// memory was refused, and then nothing has changed.
+    /// Bytes were received from an address: what is sent and told (Q.774, Transaction sublayer procedures). They
+    /// are never refused, and something is always told of them; those above 65,535 are dropped. The only error
+    /// is that memory was refused, and then nothing has changed.
     #[tactic(auto, using(crate::proofs::StandingLemmas::stands_heard))]
-    pub fn receive<'m>(&mut self, bytes: &'m [u8]) -> Result<Vec<Output<'m, A>, A>, OutOfMemory>
-        ensures moves { EngineHears outputs_answer result (engine_move self.old (Event.received bytes.now)) self.old self.new }
+    pub fn receive<'m>(
+        &mut self,
+        from: &Address,
+        bytes: &'m [u8],
+    ) -> Result<Vec<Output<'m, A>, A>, OutOfMemory>
+        ensures moves { EngineHears outputs_answer result (engine_move self.old (Event.received from.now bytes.now)) self.old self.new }
         // Whatever legal history the engine stood at: the reply, and the history that it stands at then.
-        ensures stands { StandsHeard outputs_answer result (Event.received bytes.now) self.old self.new }
+        ensures stands { StandsHeard outputs_answer result (Event.received from.now bytes.now) self.old self.new }
     {
+        ranges::address(from);
         ranges::octets(bytes);
-        self.hear_and_take(bytes)
+        self.hear_and_take(from, bytes)
     }
 
     /// The same, by the engine's move.
     #[tactic(auto, unfolding(tcap_model::specs::Table::EngineMove::engine_move))]
-    fn hear_and_take<'m>(&mut self, bytes: &'m [u8]) -> Result<Vec<Output<'m, A>, A>, OutOfMemory>
-        ensures { EngineHears outputs_answer result (engine_move self.old (Event.received bytes.now)) self.old self.new }
+    fn hear_and_take<'m>(
+        &mut self,
+        from: &Address,
+        bytes: &'m [u8],
+    ) -> Result<Vec<Output<'m, A>, A>, OutOfMemory>
+        ensures { EngineHears outputs_answer result (engine_move self.old (Event.received from.now bytes.now)) self.old self.new }
     {
         let reception = self.hear(bytes);
-        self.take(reception)
+        self.take(from, reception)
     }
 }

@@ -1,7 +1,7 @@
-use Rattle.std.proofs.Common.{rules, arith, ap, sym, subst, ◌≡◌, ◌≤◌, ◌⊎◌, ◌^◌, ◌-◌, ◌∙◌, ◌∷◌, ◌+◌, [], length, min, ℕ, List}
+use Rattle.std.proofs.Common.{rules, arith, ap, sym, ◌≡◌, ◌^◌, ◌-◌, ◌∙◌, [], length, min, ℕ}
 use Rattle.std.specs.List.{sum_by}
 use Rattle.tcap_engine.specs.Ending.{idle_ids}
-use Rattle.tcap_engine.specs.Table.{Place, dialogues_of}
+use Rattle.tcap_engine.specs.Table.{dialogues_of}
 use Rattle.tcap_engine.proofs.RoomLemmas.{idle_weight, idle-rows-count, moment_weight, room-rows, move-told, is-enough, is-some, is-long}
 use Rattle.tcap_model.specs.Table.DueLapses.{all_told, all_idle_told}
 use Rattle.timed_table.specs.Due.{due_rows_left}

@@ -1,4 +1,4 @@
-use Rattle.std.proofs.Common.{◌≡◌, ◌∙◌, ap, true, None}
+use Rattle.std.proofs.Common.{◌≡◌, ◌∙◌, ap, true, []}
 use Rattle.tcap_dialogue.specs.OutputViews.{all_shown}
 use Rattle.tcap_dialogue.specs.StepViews.{at_clock}
 use Rattle.tcap_model.specs.Procedures.AbortRules.{fault_cause}
@@ -6,7 +6,7 @@ use Rattle.tcap_model.specs.Table.EngineMove.{is_live_in}
 use Rattle.tcap_model.specs.Table.TableMove.{DialogueEvent, table_move}
 use Rattle.tcap_model.specs.Table.World.{World}
 use Rattle.tcap_engine.specs.Table.{dialogues_of}
-use Rattle.tcap_engine.proofs.ReachedEngine.{fault-alike, kept-fault, live-found, sound-reached, reached-aborting}
+use Rattle.tcap_engine.proofs.ReachedEngine.{fault-alike, kept-fault, live-found, sound-reached, reached-sending}
 use Rattle.tcap_engine.proofs.engine.Engine.break_off.Goals as goal
 
 pub break_in-requires : goal.break_in-requires
@@ -29,6 +29,6 @@ returns-in-None-clause-ok g c =
     let cause = fault_cause c.args.fault in
     let live : is_live_in (dialogues_of s.table) c.args.d ≡ true = ap (λ (w : World). is_live_in w.dialogues c.args.d) c.self.view_is ∙ c.requires in
     rw (c.in-None.is, ← c.self.view_is)
-    (reached-aborting s.limits s.next_dialogue s.next_number s.clock c.args.d s.table c.self.invariant (DialogueEvent.fault cause)
+    (reached-sending s.limits s.next_dialogue s.next_number s.clock c.args.d s.table c.self.invariant (DialogueEvent.fault cause)
     (λ x. table_move (at_clock 0) x (DialogueEvent.fault cause)) (λ x. fault-alike s.clock s.next_number x cause) (λ x h. kept-fault s.limits.reject_ms s.next_number x cause h)
-    (λ os. all_shown os.items) None c.break_in.result c.break_in.new.table (live-found c.args.d s.table c.self.invariant.from live) c.break_in.ensures.reached)
+    (λ os. all_shown os.items) [] c.break_in.result c.break_in.new.table (live-found c.args.d s.table c.self.invariant.from live) c.break_in.ensures.reached)

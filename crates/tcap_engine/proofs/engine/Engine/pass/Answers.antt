@@ -1,12 +1,12 @@
-use Rattle.std.proofs.Common.{rules, arith, sym, ap, refl, subst, ◌≡◌, ◌∙◌, ◌+◌, ◌<◌, ◌≤◌, List, [], ◌++◌, ℕ, length, map, filter_map, inl, inr, length-append}
+use Rattle.std.proofs.Common.{rules, arith, sym, ap, refl, subst, ◌≡◌, ◌∙◌, ◌<◌, List, [], ◌++◌, ℕ, length, map, filter_map, inl, inr}
 use Rattle.std.proofs.lemmas.List.{length-map}
 use Rattle.std.proofs.lemmas.Result.{err_from_is_err_and}
 use Rattle.std.specs.List.{flat_map}
 use Rattle.std.specs.Prelude.{IsTrue}
 use Rattle.tcap_dialogue.specs.FaultViews.{takes_memory}
 use Rattle.tcap_dialogue.specs.OutputViews.{all_shown, shown}
-use Rattle.tcap_engine.specs.Ending.{AreApart, ends_in, idle_ids, left_by, over_in, place_at, without_all}
-use Rattle.tcap_engine.specs.Table.{Place, IsSound, dialogues_of}
+use Rattle.tcap_engine.specs.Ending.{AreApart, idle_ids, left_by, over_in, place_at, without_all}
+use Rattle.tcap_engine.specs.Table.{Place, dialogues_of}
 use Rattle.tcap_engine.proofs.EndLemmas.{ends-all, left-all}
 use Rattle.tcap_engine.proofs.IdleLemmas.{idle-distinct}
 use Rattle.tcap_engine.proofs.MomentLemmas.{sound-at, not-zero}

@@ -1,11 +1,10 @@
-use Rattle.std.proofs.Common.{rules, arith, ◌≡◌, ◌+◌, ◌<◌, ◌≤◌, ◌∙◌, ◌++◌, ap, sym, refl, nat_eq, List, ℕ, [], drop, get_or, length, vec_len, append_assoc, length-append}
+use Rattle.std.proofs.Common.{rules, arith, ◌≡◌, ◌+◌, ◌∙◌, ◌++◌, ap, sym, nat_eq, List, ℕ, [], drop, get_or, length, append_assoc, length-append}
 use Rattle.std.proofs.lemmas.List.{length-map}
 use Rattle.std.proofs.Math.ListN.{drop_of_length-le}
 use Rattle.std.specs.List.{flat_map}
 use Rattle.std.specs.Map.{remove_entry}
 use Rattle.tcap_dialogue.specs.OutputViews.{all_shown, shown}
-use Rattle.tcap_engine.specs.Ending.{AreApart, over_in, without_all}
-use Rattle.tcap_engine.specs.Table.{AreFrom}
+use Rattle.tcap_engine.specs.Ending.{over_in, without_all}
 use Rattle.tcap_engine.proofs.OverLemmas.{OverStep, over-step, none-without}
 use Rattle.tcap_engine.proofs.engine.idle.end_all.Goals as goal
 

@@ -1,4 +1,4 @@
-use Rattle.std.proofs.Common.{rules, ◌≡◌, nat_eq, List, Some, None}
+use Rattle.std.proofs.Common.{rules, ◌≡◌, nat_eq, List, Some}
 use Rattle.std.specs.Map.{lookup}
 use Rattle.tcap_engine.specs.Lapsing.{IsFirstTimer}
 use Rattle.tcap_engine.specs.Table.{Place}

@@ -1,5 +1,4 @@
-use Rattle.std.proofs.Common.{rules, arith, ◌≡◌, ◌+◌, ◌≤◌, ◌∷◌, [], ◌++◌, ◌∙◌, ap, sym, refl, subst, List, ℕ, true, length, vec_len, vec_capacity, append_assoc}
-use Rattle.tcap_dialogue.specs.OutputViews.{all_shown}
+use Rattle.std.proofs.Common.{rules, arith, ◌≡◌, ◌∷◌, [], ◌++◌, ◌∙◌, ap, sym, subst, true, length, append_assoc}
 use Rattle.tcap_engine.specs.Ending.{idle_ids, is_among}
 use Rattle.tcap_engine.proofs.IdleLemmas.{among-here}
 use Rattle.tcap_engine.proofs.engine.moment.tell_due.Goals as goal

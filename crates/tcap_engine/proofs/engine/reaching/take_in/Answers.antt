@@ -41,7 +41,7 @@ returns g c =
     let new = c.take_frame.new.self in
     let s = c.in_ok-step.step in
     let found : lookup (nat_eq c.args.d) ps ≡ Some old = search rules in
-    let o : Outcome = outcome (table_move (at_clock c.args.clock) old (DialogueEvent.frame (message c.args.frame.now))) in
+    let o : Outcome = outcome (table_move (at_clock c.args.clock) old (DialogueEvent.frame c.args.from.now (message c.args.frame.now))) in
     rw (← c.table.view_is, found)
     (settled-placed new c.args.d ps s.over (asked.Step s) o (entries_of c.settle.new.rows) c.in_ok-step.ensures.ok refl
     (rw (c.get_mut.follows.holds new).entries at c.settle.ensures.entries))

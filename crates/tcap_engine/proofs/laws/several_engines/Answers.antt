@@ -1,5 +1,5 @@
-use Rattle.tcap_engine.proofs.TwoEndsLemmas.{new-hear, call-heard, run-heard, send-sent, send-stays, answer-given, both-rely}
-use Rattle.tcap_engine.proofs.laws.two_engines.Goals as goal
+use Rattle.tcap_engine.proofs.TwoEndsLemmas.{new-hear, call-heard, run-heard, send-sent, send-stays, answer-given, may-rely}
+use Rattle.tcap_engine.proofs.laws.several_engines.Goals as goal
 
 pub returns-clause-begin : goal.returns-clause-begin
 returns-clause-begin c = new-hear
@@ -17,7 +17,7 @@ pub returns-clause-kept : goal.returns-clause-kept
 returns-clause-kept c = send-stays
 
 pub returns-clause-rely : goal.returns-clause-rely
-returns-clause-rely c = both-rely
+returns-clause-rely c = may-rely
 
 pub returns-clause-given : goal.returns-clause-given
 returns-clause-given c = answer-given
