@@ -10,7 +10,7 @@ ghost use Rattle.tcap_model.specs.Words.Event.{Event};
 
 use ber_core::OutOfMemory;
 use std::alloc::Allocator;
-use tcap_engine::{Engine, Fault, Output};
+use tcap_engine::{Address, Engine, Fault, Output};
 
 /// What one call of an engine tells, or why it refuses.
 type Told<'m, A, F> = Result<Vec<Output<'m, A>, A>, F>;
@@ -25,17 +25,18 @@ pub fn clock_after<A: Allocator + Copy>(engine: &mut Engine<A>, now: u64) -> Res
     Ok(engine.now())
 }
 
-/// Bytes were received, and then the clock is at this moment: what is sent and told of each. Whatever
+/// Bytes were received from an address, and then the clock is at this moment: what is sent and told of each. Whatever
 /// legal history the engine stood at: where neither is refused, what the moment tells is the reply, the
 /// engine stands at the history with both events, and the headline holds there.
 pub fn hear_at<'m, A: Allocator + Copy>(
     engine: &mut Engine<A>,
+    from: &Address,
     bytes: &'m [u8],
     now: u64,
 ) -> (Told<'m, A, OutOfMemory>, Told<'m, A, Fault>)
-    ensures { (h : History) → StandsAt h engine.old → IfOk result.0 (λ _. IfOk result.1 (λ lapsed. StandsOn (with_pair h (Event.received bytes.now)) (Event.moment now) (outputs_answer lapsed) engine.new)) }
+    ensures { (h : History) → StandsAt h engine.old → IfOk result.0 (λ _. IfOk result.1 (λ lapsed. StandsOn (with_pair h (Event.received from.now bytes.now)) (Event.moment now) (outputs_answer lapsed) engine.new)) }
 {
-    let heard = engine.receive(bytes);
+    let heard = engine.receive(from, bytes);
     let lapsed = engine.advance(now);
     (heard, lapsed)
 }

@@ -6,7 +6,7 @@ use Rattle.tcap_callers.proofs.two_engines.answered.Goals as goal
 
 pub returns : goal.returns
 returns g c =
-    let two = c.two_engines.ensures in
+    let two = c.several_engines.ensures in
     let old = c.new-answers.result.items in
     let new = c.run.new.answers.items in
     goes-on two.run two.sent two.given (events_view c.args.events.now) (length new - length old) (answers_view new)
