@@ -25,7 +25,7 @@ closing_number Closing.given_up = 25
 
 -- A number for each output.
 abbrev pub output_number : Output → ℕ
-output_number (Output.send bytes) = 100 + sum bytes
+output_number (Output.send to bytes) = 100 + sum to + 1000 * sum bytes
 output_number (Output.dialogue (DialogueIndication.uni context info)) = 1
 output_number (Output.dialogue (DialogueIndication.begin dialogue context info)) = 2
 output_number (Output.dialogue (DialogueIndication.go_on dialogue context info)) = 3

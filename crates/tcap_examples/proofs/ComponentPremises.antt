@@ -84,7 +84,7 @@ spelled_read bytes m n cs ds f g is listed spells first =
 
 -- A message that is sent comes from its dialogue, read by the reading functions.
 abbrev pub SentSo : Event → Past → Output → Type 0
-SentSo event before (Output.send bytes) =
+SentSo event before (Output.send to bytes) =
     (m : Message) × (cs : List ComponentParts) × (f : Option FaultParts) × (frame_at bytes ≡ Ok m)
     × (components_of (portion_of m) ≡ items cs f) × ((portion_of m ≡ []) ⊎ SentFromOne event before cs f)
 SentSo event before (Output.dialogue indication) = Unit {0}
@@ -93,18 +93,18 @@ SentSo event before (Output.dropped why) = Unit {0}
 
 pub sent_from : (past : Past) → Everywhere (λ (pair : Pair) before.
     AllByRecursion (SentSo pair.event before) (outputs_of pair.answer)) past → SentFrom past
-sent_from past all sent =
-    let pair = sent.pair in
-    let before = sent.before in
-    let bytes = sent.bytes in
-    let m = sent.message in
-    let components = sent.components in
-    let fault = sent.fault in
-    let spells = sent.spelled in
-    let first = sent.read in
+sent_from past all from =
+    let pair = from.pair in
+    let before = from.before in
+    let bytes = from.bytes in
+    let m = from.message in
+    let components = from.components in
+    let fault = from.fault in
+    let spells = from.spelled in
+    let first = from.read in
     let here = at_place (λ (pair : Pair) before. AllByRecursion (SentSo pair.event before) (outputs_of pair.answer))
-    past all pair before sent.stands in
-    let so = told_there (SentSo pair.event before) pair.answer (Output.send bytes) sent.tells here in
+    past all pair before from.stands in
+    let so = told_there (SentSo pair.event before) pair.answer (Output.send from.to bytes) from.tells here in
     let same : so.0 ≡ m = message_is bytes so.0 m so.3 (frame_again m bytes spells) in
     let listed : items so.1 so.2 ≡ items components fault =
     sym so.4 ∙ (ap (λ (n : Message). components_of (portion_of n)) same
@@ -131,7 +131,7 @@ ClosedSo event output Closing.given_up = Unit {0}
 
 -- An indication that stands for a component comes from the bytes received.
 abbrev pub ToldSo : Event → Output → Type 0
-ToldSo event (Output.send bytes) = Unit {0}
+ToldSo event (Output.send to bytes) = Unit {0}
 ToldSo event (Output.dialogue indication) = Unit {0}
 ToldSo event (Output.component (ComponentIndication.invoked dialogue id linked code parameter)) =
     ToldFromOne event (Output.component (ComponentIndication.invoked dialogue id linked code parameter))

@@ -16,6 +16,7 @@ use Rattle.tcap_examples.specs.Values.Hex.{hex}
 use Rattle.tcap_model.specs.Words.Output.{Output, ComponentIndication, DialogueIndication}
 use Rattle.tcap_examples.specs.Statements.ComponentExamples.{begun_message, invoke_read, misread, misread_told}
 use Rattle.tcap_examples.specs.Wrong.WrongHistories.{GoesWrong, whole}
+use Rattle.tcap_examples.specs.Values.Peer.{arrived}
 
 -- Whether a code is that of operation 3.
 abbrev is_three : CodeParts → Bool
@@ -33,7 +34,7 @@ asks_for_three (ComponentParts.result_more id body) = false
 
 -- Whether an output tells operation 3.
 abbrev tells_three : Output → Bool
-tells_three (Output.send bytes) = false
+tells_three (Output.send to bytes) = false
 tells_three (Output.dialogue indication) = false
 tells_three (Output.component (ComponentIndication.invoked dialogue id linked code parameter)) = is_three code
 tells_three (Output.component (ComponentIndication.result_more dialogue number id body)) = false
@@ -54,10 +55,10 @@ stands_for_three output component (StandsFor.a_reject dialogue number id problem
 abbrev bytes_of : Event → List ℕ
 bytes_of Event.new_dialogue = []
 bytes_of (Event.on_dialogue dialogue request) = []
-bytes_of (Event.received bytes) = bytes
+bytes_of (Event.received from bytes) = bytes
 bytes_of (Event.moment now) = []
 
-not_received : ToldFromOne (Event.received begin_with_aarq) misread_told → ⊥
+not_received : ToldFromOne (arrived begin_with_aarq) misread_told → ⊥
 unfolding computing
 not_received told =
     let same : begin_with_aarq ≡ told.bytes = ap bytes_of told.is_event in

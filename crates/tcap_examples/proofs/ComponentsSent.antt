@@ -17,13 +17,14 @@ use Rattle.tcap_model.specs.Statements.Places.{StandsIn, Tells}
 use Rattle.tcap_model.specs.Words.Request.{Request, ComponentRequest}
 use Rattle.tcap_examples.specs.Statements.ComponentExamples.{past, begin_sent, begin_pair, begin_message, two_invokes, before_the_begin, reject_continue, reject_pair, reject_message, reject, before_the_reject, late, first_message, first_invoke, late_message, late_reject, result_received, result_told, result_pair, before_the_result}
 use Rattle.tcap_examples.specs.Values.HistoryWords.{dialogue_born, invoke_pair, received_pair, begin_request, continue_request, continued}
+use Rattle.tcap_examples.specs.Values.Peer.{peer_address, sent}
 
 -- ---- the Begin that is sent
 
 pub begin-stands : StandsIn begin_pair before_the_begin past
 begin-stands = record { later = take 2 past; is_past = refl }
 
-pub begin-tells : Tells begin_pair.answer (Output.send begin_sent)
+pub begin-tells : Tells begin_pair.answer (sent begin_sent)
 begin-tells = record { earlier = []; later = []; is_answer = refl }
 
 pub begin-spelled : SpellsFrame begin_message begin_sent
@@ -71,7 +72,7 @@ begin-sent-from = record {
 pub reject-stands : StandsIn reject_pair before_the_reject past
 reject-stands = record { later = []; is_past = refl }
 
-pub reject-tells : Tells reject_pair.answer (Output.send reject_continue)
+pub reject-tells : Tells reject_pair.answer (sent reject_continue)
 reject-tells = record { earlier = []; later = []; is_answer = refl }
 
 pub reject-spelled : SpellsFrame reject_message reject_continue
@@ -86,6 +87,7 @@ pub formed : WasFormed 1 (ComponentParts.reject_back (Some (pos 7)) (general 0))
 formed = record {
   pair = result_pair;
   before = before_the_result;
+  from = peer_address;
   bytes = result_received;
   id = Some (pos 7);
   problem = general 0;
@@ -138,6 +140,7 @@ late-formed = record {
   pair = received_pair result_of_first (continued 1
       ∷ Output.component (ComponentIndication.local_reject (Some 1) (Some (pos 1)) (of_result 0)) ∷ []);
   before = drop 3 late;
+  from = peer_address;
   bytes = result_of_first;
   id = Some (pos 1);
   problem = of_result 0;

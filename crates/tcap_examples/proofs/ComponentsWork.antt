@@ -22,6 +22,7 @@ use Rattle.tcap_examples.specs.Statements.ComponentExamples.{past, result_receiv
 use Rattle.tcap_examples.specs.Wrong.WrongHistories.{GoesWrong, whole}
 use Rattle.tcap_examples.specs.Values.HistoryWords.{continued}
 use Rattle.tcap_examples.proofs.ComponentsSent.{begin-stands, begin-tells, begin-spelled, begin-first, begin-sent-from, reject-stands, reject-tells, reject-spelled, reject-first, formed, reject-sent-from}
+use Rattle.tcap_examples.specs.Values.Peer.{peer_address}
 
 -- ---- the result that is told
 
@@ -42,6 +43,7 @@ result-is = IsOfComponent.result_last 1 1 (negsuc 127) None
 pub result-told-from : ToldFromOne result_pair.event result_told
 unfolding computing
 result-told-from = record {
+  from = peer_address;
   bytes = result_received;
   message = result_message;
   earlier = [];
@@ -76,6 +78,7 @@ begun-is = IsOfComponent.invoke (Some 1) (pos 1) None (code 2) (Some (hex 5 0x30
 pub begun-told-from : ToldFromOne begun_pair.event invoke_told
 unfolding computing
 begun-told-from = record {
+  from = peer_address;
   bytes = begin_with_aarq;
   message = begun_message;
   earlier = [];
@@ -101,7 +104,7 @@ crossed-wrong = goes_wrong crossed_queues refl refl refl refl refl
 abbrev asked : Event → ℕ
 asked Event.new_dialogue = 0
 asked (Event.on_dialogue dialogue request) = dialogue
-asked (Event.received bytes) = 0
+asked (Event.received from bytes) = 0
 asked (Event.moment now) = 0
 
 not_requested : (component : ComponentParts) → WasRequested 2 component crossed_queues.before → ⊥
@@ -126,6 +129,7 @@ crossed-not-sent-from from =
     let sent : SentPortion (whole crossed_queues) = record {
       pair = crossed_queues.last;
       before = crossed_queues.before;
+      to = peer_address;
       bytes = crossed_sent;
       message = crossed_message;
       components = crossed_invoke ∷ [];

@@ -7,14 +7,11 @@ use Rattle.tcap_component.specs.declared.problem.Kind.TheVariants as kind
 use Rattle.tcap_examples.proofs.PlaceLemmas.{Everywhere, at_place, outputs_of, told_any}
 use Rattle.tcap_model.specs.Words.Event.{Event}
 use Rattle.tcap_model.specs.Invocations.Invocation.{Invocation, invoked_by}
-use Rattle.tcap_model.specs.Statements.Net.{Engine, Trace, side, is_engine}
+use Rattle.tcap_model.specs.Statements.Net.{Engine, Trace, side}
 use Rattle.tcap_model.specs.Words.Output.{Output, ComponentIndication}
 use Rattle.tcap_model.specs.Histories.Pair.{Pair, Past}
 use Rattle.tcap_model.specs.Words.Request.{Request, ComponentRequest}
 use Rattle.tcap_model.specs.Statements.TwoEnds.{AcceptedInvoke, UsesOnce, AnswersInvoke, WasInvoked, AnswersWhatItWasTold, WasOpened}
-
-pub not_both : Engine.a ≡ Engine.b → ⊥
-not_both same = false≢true (sym (ap (is_engine Engine.a) same))
 
 -- ---- one invocation
 
@@ -69,7 +66,7 @@ ToldFor dialogue before (Some id) = WasInvoked dialogue id before
 abbrev pub ToldBefore : Event → Past → Type 0
 ToldBefore Event.new_dialogue before = Unit {0}
 ToldBefore (Event.on_dialogue dialogue request) before = ToldFor dialogue before (far_answered request)
-ToldBefore (Event.received bytes) before = Unit {0}
+ToldBefore (Event.received from bytes) before = Unit {0}
 ToldBefore (Event.moment now) before = Unit {0}
 
 pub answers_what_it_was_told : (engine : Engine) (trace : Trace)
@@ -84,7 +81,7 @@ answers_what_it_was_told engine trace all answer =
 
 -- Whether an output tells an Invoke.
 abbrev pub is_invoke : Output → Bool
-is_invoke (Output.send bytes) = false
+is_invoke (Output.send to bytes) = false
 is_invoke (Output.dialogue indication) = false
 is_invoke (Output.component (ComponentIndication.invoked dialogue id linked code parameter)) = true
 is_invoke (Output.component (ComponentIndication.result_more dialogue number id body)) = false
@@ -109,7 +106,7 @@ not_told dialogue id past none told =
 abbrev pub far_asks : Event → Bool
 far_asks Event.new_dialogue = true
 far_asks (Event.on_dialogue dialogue request) = false
-far_asks (Event.received bytes) = false
+far_asks (Event.received from bytes) = false
 far_asks (Event.moment now) = false
 
 pub not_opened : (engine : Engine) (dialogue : ℕ) (trace : Trace)

@@ -71,7 +71,7 @@ moment_keeps : (dialogue : ℕ) (past : Past) (q : List Queued) (event : Event) 
     → queue_by_event dialogue past q event answer ≡ q
 moment_keeps dialogue past q Event.new_dialogue answer is = absurd (false≢true is)
 moment_keeps dialogue past q (Event.on_dialogue named request) answer is = absurd (false≢true is)
-moment_keeps dialogue past q (Event.received bytes) answer is = absurd (false≢true is)
+moment_keeps dialogue past q (Event.received from bytes) answer is = absurd (false≢true is)
 moment_keeps dialogue past q (Event.moment now) answer is = refl
 
 quiet_queue : (dialogue : ℕ) (past : Past) → AllByRecursion (IsQuiet dialogue) past → queue dialogue past ≡ []

@@ -19,8 +19,11 @@ mod RepeatedBegin
 mod RepeatedNets
 mod SendingBroken
 mod SendingWorks
+mod ThreeEngines
 mod TurnedIdleApart
 mod TurnedMovesApart
 mod TwoEndsWork
+mod TwoEngines
+mod WrongAddressesTold
 mod WrongHistoriesTold
 mod WrongIdleTold

@@ -1,10 +1,10 @@
 -- What is told without a request of the far user has no origin.
-use Rattle.std.proofs.Common.{◌≡◌, ℕ, pos, Bool, false, List, [], ◌∷◌, Option, Some, None, refl, sym, ap, ◌∙◌}
+use Rattle.std.proofs.Common.{◌≡◌, ℕ, pos, Bool, false, List, [], ◌∷◌, Option, Some, None, refl, sym, ap, subst, ◌∙◌}
 use Rattle.std.specs.Prelude.{bytes_eq, drop}
 use Rattle.std.proofs.lemmas.Bool.{false≢true}
 use Rattle.tcap_examples.proofs.LegalHistories.{legal}
-use Rattle.tcap_examples.proofs.EndPremises.{not_both}
 use Rattle.tcap_examples.proofs.PlaceLemmas.{Everywhere, at_happening}
+use Rattle.tcap_examples.proofs.TwoEngines.{from_a, from_b, hears_none, heard_is_b}
 use Rattle.tcap_examples.specs.Computing.{computing}
 use Rattle.tcap_examples.specs.Nets.PlayedNets.{answer}
 use Rattle.tcap_examples.specs.Nets.WrongNets.{crossed_queues, crossed_told, empty_at_a_lapse, empty_told}
@@ -19,6 +19,7 @@ use Rattle.tcap_model.specs.Words.Event.{Event}
 use Rattle.tcap_model.specs.Words.LocalId.{local_id}
 use Rattle.tcap_model.specs.Words.Output.{Output, ComponentIndication}
 use Rattle.tcap_model.specs.Words.Request.{Request, ComponentRequest}
+use Rattle.tcap_examples.specs.Nets.Engines.{engine_a, engine_b, two_places}
 
 -- The empty result that is told in a dialogue, of the invocation with its number.
 abbrev closes : ℕ → Output
@@ -26,15 +27,13 @@ closes dialogue = Output.component (ComponentIndication.closed dialogue dialogue
 
 -- ---- an empty result at a lapse
 
-not_from_far : ComesFromFar Engine.a 1 answer (drop 1 empty_at_a_lapse.trace) → ⊥
-not_from_far from =
-    let All : Marked → Trace → Type 0 = λ m before. m.engine ≡ Engine.a in
-    not_both (sym (at_happening All (drop 1 empty_at_a_lapse.trace) (refl, (refl, (refl, tt))) Engine.b from.pair from.before
-    from.happens))
+-- it is told at a moment, which hears nobody
+not_from_far : ComesFromFar two_places engine_a 1 answer empty_told.event (drop 1 empty_at_a_lapse.trace) → ⊥
+not_from_far from = hears_none from.far 1000 from.hears
 
-pub empty-no_origin : Origin empty_at_a_lapse.trace → ⊥
+pub empty-no_origin : Origin two_places empty_at_a_lapse.trace → ⊥
 empty-no_origin origin = not_from_far (origin (record {
-  engine = Engine.a;
+  engine = engine_a;
   pair = empty_told;
   before = drop 1 empty_at_a_lapse.trace;
   dialogue = 1;
@@ -63,7 +62,7 @@ if_result (Request.dialogue asked) peer = None
 abbrev peer_answered : Event → Past → Option (List ℕ)
 peer_answered Event.new_dialogue past = None
 peer_answered (Event.on_dialogue dialogue request) past = if_result request (peer_in (life dialogue past))
-peer_answered (Event.received bytes) past = None
+peer_answered (Event.received from bytes) past = None
 peer_answered (Event.moment now) past = None
 
 -- Whether it is the second dialogue of the first engine.
@@ -71,32 +70,35 @@ abbrev is_second : Option (List ℕ) → Bool
 is_second None = false
 is_second (Some octets) = bytes_eq octets (local_id 2)
 
-pub crossed-carried : IsCarried crossed_queues.trace
+pub crossed-carried : IsCarried two_places crossed_queues.trace
 unfolding computing
-crossed-carried = (refl, (tt, (tt, (refl, (refl, (tt, (tt, (tt, (tt, (tt, (tt, tt)))))))))))
+crossed-carried = (from_b refl, (tt, (tt, (from_a refl, (from_a refl, (tt, (tt, (tt, (tt, (tt, (tt, tt)))))))))))
 
-pub crossed-legal : IsLegal (history_in crossed_queues Engine.a crossed_queues.trace)
+pub crossed-legal : IsLegal (history_in crossed_queues engine_a crossed_queues.trace)
 unfolding computing
-crossed-legal = legal (history_in crossed_queues Engine.a crossed_queues.trace) refl refl refl refl
+crossed-legal = legal (history_in crossed_queues engine_a crossed_queues.trace) refl refl refl refl
 
 -- No last result is asked for in a dialogue whose peer is the second of the first engine.
 abbrev Other : Marked → Trace → Type 0
-Other m before = is_second (peer_answered m.pair.event (side Engine.b before)) ≡ false
+Other m before = is_second (peer_answered m.pair.event (side engine_b before)) ≡ false
 
 others : Everywhere Other (drop 1 crossed_queues.trace)
 unfolding computing
 others = (refl, (refl, (refl, (refl, (refl, (refl, (refl, (refl, (refl, (refl, tt))))))))))
 
-not_to_second : ComesFromFar Engine.a 2 answer (drop 1 crossed_queues.trace) → ⊥
+not_to_second : ComesFromFar two_places engine_a 2 answer crossed_told.event (drop 1 crossed_queues.trace) → ⊥
 not_to_second from =
-    let past = side Engine.b from.before in
-    false≢true (sym (at_happening Other (drop 1 crossed_queues.trace) others Engine.b from.pair from.before from.happens)
+    let past = side engine_b from.before in
+    let is_b = heard_is_b from.far from.hears in
+    let peer : peer_in (life from.is_request.far_dialogue past) ≡ Some (local_id 2) =
+    subst (λ (far : Engine). peer_in (life from.is_request.far_dialogue (side far from.before)) ≡ Some (local_id 2)) is_b from.is_request.is_peer in
+    false≢true (sym (at_happening Other (drop 1 crossed_queues.trace) others from.far from.pair from.before from.happens)
     ∙ (ap (λ (event : Event). is_second (peer_answered event past)) from.is_request.is_event
-    ∙ ap is_second from.is_request.is_peer))
+    ∙ ap is_second peer))
 
-pub crossed-no_origin : Origin crossed_queues.trace → ⊥
+pub crossed-no_origin : Origin two_places crossed_queues.trace → ⊥
 crossed-no_origin origin = not_to_second (origin (record {
-  engine = Engine.a;
+  engine = engine_a;
   pair = crossed_told;
   before = drop 1 crossed_queues.trace;
   dialogue = 2;

@@ -17,7 +17,7 @@ first_of (Output.component (ComponentIndication.result_more dialogue number id b
 first_of (Output.component (ComponentIndication.local_reject dialogue id problem) ∷ outputs) = 0
 first_of (Output.component (ComponentIndication.remote_reject dialogue id problem by) ∷ outputs) = 0
 first_of (Output.dialogue told ∷ outputs) = 0
-first_of (Output.send bytes ∷ outputs) = 0
+first_of (Output.send to bytes ∷ outputs) = 0
 first_of (Output.dropped why ∷ outputs) = 0
 
 abbrev first_told : EngineMoved → ℕ

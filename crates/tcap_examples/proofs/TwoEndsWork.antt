@@ -1,16 +1,20 @@
 -- All that is stated of two ends, on the net of a repeated Begin.
-use Rattle.std.proofs.Common.{◌≡◌, ℕ, ℤ, Option, Some, None, refl, subst, arith, inl, inr}
-use Rattle.std.specs.Prelude.{◌==◌}
+use Rattle.std.proofs.Common.{◌≡◌, ℕ, ℤ, pos, zero, suc, List, Option, Some, None, refl, subst, arith, inl, inr}
+use Rattle.std.specs.Prelude.{◌==◌, drop}
 use Rattle.std.specs.List.{AllByRecursion}
 use Rattle.std.proofs.lemmas.Bool.{cases_Bool}
 use Rattle.tcap_examples.proofs.RepeatedBegin.{repeat-origin, repeat-after, repeat-asked}
+use Rattle.tcap_examples.proofs.TwoEngines.{above_one, hears_a, side-above}
 use Rattle.tcap_examples.proofs.PlaceLemmas.{Everywhere, at_happening, outputs_of, told_there}
-use Rattle.tcap_model.specs.Statements.Net.{Engine, far, Marked, Trace, side}
+use Rattle.tcap_model.specs.Statements.Net.{Engine, Marked, Trace, side}
 use Rattle.tcap_model.specs.Words.Output.{Output, Closing, Rejector, ComponentIndication}
 use Rattle.tcap_model.specs.Words.Request.{Request, ComponentRequest}
-use Rattle.tcap_model.specs.Statements.TwoEnds.{Origin, WasSent, AfterInvoke, Once, WasAsked, Operations, TwoEnds}
+use Rattle.tcap_model.specs.Statements.TwoEnds.{Origin, WasSent, AfterInvoke, Once, WasAskedFar, Operations, TwoEnds}
 use Rattle.tcap_model.specs.Statements.FarAnswer.{FarAnswer, IsAnswer, ComesFromFar}
-use Rattle.tcap_examples.specs.Nets.PlayedNets.{repeated_begin}
+use Rattle.tcap_examples.specs.Nets.PlayedNets.{repeated_begin, before_the_repeat}
+use Rattle.tcap_examples.specs.Values.DialogueValues.{code}
+use Rattle.tcap_model.specs.Words.Event.{Event}
+use Rattle.tcap_examples.specs.Nets.Engines.{address_of_a, engine_a, two_places}
 
 -- An answer that is told: its dialogue and number, and the request that the far user makes for it.
 record Answered : Type 0 where
@@ -49,7 +53,7 @@ closing_answer dialogue number id Closing.given_up = None
 
 -- The answer that an output tells.
 abbrev answer_in : Output → Option Answered
-answer_in (Output.send bytes) = None
+answer_in (Output.send to bytes) = None
 answer_in (Output.dialogue indication) = None
 answer_in (Output.component (ComponentIndication.invoked dialogue id linked code parameter)) = None
 answer_in (Output.component (ComponentIndication.result_more dialogue number id body)) =
@@ -79,13 +83,13 @@ IfAnswer P None = Unit {0}
 IfAnswer P (Some answer) = P answer
 
 -- A fact of each answer that is told.
-abbrev OfAnswers : (Engine → Trace → Answered → Type 0) → Marked → Trace → Type 0
+abbrev OfAnswers : (Engine → Event → Trace → Answered → Type 0) → Marked → Trace → Type 0
 OfAnswers P m before =
-    AllByRecursion (λ output. IfAnswer (P m.engine before) (answer_in output)) (outputs_of m.pair.answer)
+    AllByRecursion (λ output. IfAnswer (P m.engine m.pair.event before) (answer_in output)) (outputs_of m.pair.answer)
 
-at_answer : (P : Engine → Trace → Answered → Type 0) (trace : Trace) → Everywhere (OfAnswers P) trace
+at_answer : (P : Engine → Event → Trace → Answered → Type 0) (trace : Trace) → Everywhere (OfAnswers P) trace
     → (answer : FarAnswer trace) →
-    P answer.engine answer.before (record {
+    P answer.engine answer.pair.event answer.before (record {
       dialogue = answer.dialogue;
       number = answer.number;
       request =
@@ -93,17 +97,17 @@ at_answer : (P : Engine → Trace → Answered → Type 0) (trace : Trace) → E
     })
 at_answer P trace all answer =
     let here = at_happening (OfAnswers P) trace all answer.engine answer.pair answer.before answer.happens in
-    subst (IfAnswer (P answer.engine answer.before))
+    subst (IfAnswer (P answer.engine answer.pair.event answer.before))
     (is_in answer.dialogue answer.number answer.id answer.output answer.request answer.is_answer)
-    (told_there (λ output. IfAnswer (P answer.engine answer.before) (answer_in output)) answer.pair.answer answer.output
+    (told_there (λ output. IfAnswer (P answer.engine answer.pair.event answer.before) (answer_in output)) answer.pair.answer answer.output
     answer.tells here)
 
 -- ---- origin
 
-abbrev IsFromFar : Engine → Trace → Answered → Type 0
-IsFromFar engine before answer = ComesFromFar engine answer.dialogue answer.request before
+abbrev IsFromFar : Engine → Event → Trace → Answered → Type 0
+IsFromFar engine event before answer = ComesFromFar two_places engine answer.dialogue answer.request event before
 
-origin : Origin repeated_begin.trace
+origin : Origin two_places repeated_begin.trace
 origin = at_answer IsFromFar repeated_begin.trace (
   tt,
   (
@@ -120,13 +124,13 @@ origin = at_answer IsFromFar repeated_begin.trace (
 
 -- ---- after the Invoke
 
-abbrev IsAfter : Engine → Trace → Answered → Type 0
-IsAfter engine before answer =
-    (source : ComesFromFar engine answer.dialogue answer.request before)
+abbrev IsAfter : Engine → Event → Trace → Answered → Type 0
+IsAfter engine event before answer =
+    (source : ComesFromFar two_places engine answer.dialogue answer.request event before)
     → WasSent answer.number (side engine source.before)
 
-after_invoke : AfterInvoke repeated_begin.trace
-after_invoke answer orderly =
+after_invoke : AfterInvoke two_places repeated_begin.trace
+after_invoke answer source orderly =
     at_answer IsAfter repeated_begin.trace (
       tt,
       (
@@ -140,35 +144,45 @@ after_invoke answer orderly =
         ),
       ),
     )
-    answer
+    answer source
 
 -- ---- once
 
 once : Once repeated_begin.trace
-once Engine.a number = elim (cases_Bool (1 == number)) [
+once zero number = elim (cases_Bool (1 == number)) [
   | inl own ↦ rw own (omega arith)
   | inr other ↦ rw other (omega arith)
 ]
-once Engine.b number = omega arith
+once (suc zero) number = omega arith
+once (suc (suc engine)) number =
+    rw (side-above 1 (suc (suc engine)) repeated_begin.trace (above_one engine) refl) (omega arith)
 
 -- ---- operations
 
 -- An Invoke that is told was asked for.
-abbrev AskedFor : Engine → Trace → Output → Type 0
-AskedFor engine before (Output.send bytes) = Unit {0}
-AskedFor engine before (Output.dialogue indication) = Unit {0}
-AskedFor engine before (Output.component (ComponentIndication.invoked dialogue id linked code parameter)) =
-    WasAsked id linked code parameter (side (far engine) before)
-AskedFor engine before (Output.component (ComponentIndication.result_more dialogue number id body)) = Unit {0}
-AskedFor engine before (Output.component (ComponentIndication.local_reject dialogue id problem)) = Unit {0}
-AskedFor engine before (Output.component (ComponentIndication.remote_reject dialogue id problem by)) = Unit {0}
-AskedFor engine before (Output.component (ComponentIndication.closed dialogue number id closing)) = Unit {0}
-AskedFor engine before (Output.dropped why) = Unit {0}
+abbrev AskedFor : Event → Trace → Output → Type 0
+AskedFor event before (Output.send to bytes) = Unit {0}
+AskedFor event before (Output.dialogue indication) = Unit {0}
+AskedFor event before (Output.component (ComponentIndication.invoked dialogue id linked code parameter)) =
+    WasAskedFar two_places event id linked code parameter before
+AskedFor event before (Output.component (ComponentIndication.result_more dialogue number id body)) = Unit {0}
+AskedFor event before (Output.component (ComponentIndication.local_reject dialogue id problem)) = Unit {0}
+AskedFor event before (Output.component (ComponentIndication.remote_reject dialogue id problem by)) = Unit {0}
+AskedFor event before (Output.component (ComponentIndication.closed dialogue number id closing)) = Unit {0}
+AskedFor event before (Output.dropped why) = Unit {0}
 
-operations : Operations repeated_begin.trace
+asked-far : {bytes : List ℕ}
+    → WasAskedFar two_places (Event.received address_of_a bytes) (pos 1) None (code 10) None before_the_repeat
+asked-far = record { far = engine_a; hears = hears_a; was_asked = repeat-asked }
+
+asked-first : {bytes : List ℕ}
+    → WasAskedFar two_places (Event.received address_of_a bytes) (pos 1) None (code 10) None (drop 10 repeated_begin.trace)
+asked-first = record { far = engine_a; hears = hears_a; was_asked = repeat-asked }
+
+operations : Operations two_places repeated_begin.trace
 operations engine dialogue told =
     let Asked : Marked → Trace → Type 0 =
-    λ m before. AllByRecursion (AskedFor m.engine before) (outputs_of m.pair.answer) in
+    λ m before. AllByRecursion (AskedFor m.pair.event before) (outputs_of m.pair.answer) in
     let here = at_happening Asked repeated_begin.trace (
       tt,
       (
@@ -179,17 +193,17 @@ operations engine dialogue told =
             (tt, (tt, tt)),
             (
               (tt, tt),
-              (tt, ((tt, tt), (tt, ((tt, (repeat-asked, tt)), ((tt, (repeat-asked, tt)), ((tt, tt), (tt, (tt, tt)))))))),
+              (tt, ((tt, tt), (tt, ((tt, (asked-far, tt)), ((tt, (asked-first, tt)), ((tt, tt), (tt, (tt, tt)))))))),
             ),
           ),
         ),
       ),
     )
     engine told.pair told.before told.happens in
-    told_there (AskedFor engine told.before) told.pair.answer
+    told_there (AskedFor told.pair.event told.before) told.pair.answer
     (Output.component (ComponentIndication.invoked dialogue told.id told.linked told.code told.parameter)) told.tells
     here
 
-pub repeated_begin_is_two_ended : TwoEnds repeated_begin.trace
+pub repeated_begin_is_two_ended : TwoEnds two_places repeated_begin.trace
 repeated_begin_is_two_ended =
     record { origin = origin; after_invoke = after_invoke; once = once; operations = operations }

@@ -1,3 +1,4 @@
+pub mod Addresses
 pub mod Closing
 pub mod Ends
 pub mod EngineSteps

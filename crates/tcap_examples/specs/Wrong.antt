@@ -1,5 +1,6 @@
 pub mod TurnedIdle
 pub mod TurnedMoves
+pub mod WrongAddresses
 pub mod WrongAnswers
 pub mod WrongEnds
 pub mod WrongHistories

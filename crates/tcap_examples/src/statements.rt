@@ -7,5 +7,6 @@ pub mod headline;
 pub mod idle;
 pub mod isolation;
 pub mod sending;
+pub mod three_engines;
 pub mod two_ends;
 pub mod wrong_nets;

@@ -1,18 +1,20 @@
 -- One dialogue played through: what happens to it, one thing after the other, and what it answers.
-use Rattle.std.specs.Prelude.{◌≡◌, ℕ, ◌+◌, ◌||◌, Bool, true, false, List, [], ◌∷◌, ◌++◌, Result, Ok, Err}
+use Rattle.std.specs.Prelude.{◌≡◌, ℕ, ◌+◌, ◌||◌, Bool, true, false, List, [], ◌∷◌, ◌++◌, Option, Some, None, Result, Ok, Err}
 use Rattle.tcap_pdu.specs.declared.fault.FrameFault.{FrameFault}
 use Rattle.tcap_pdu.specs.FrameSpelling.{Message}
 use Rattle.tcap_pdu.specs.FrameReading.{frame_at}
+use Rattle.tcap_pdu.specs.FrameWritten.{written_frame}
 use Rattle.tcap_model.specs.Words.Answer.{Answer}
 use Rattle.tcap_model.specs.Procedures.AbortRules.{fault_cause}
 use Rattle.tcap_model.specs.Procedures.QueueRules.{queue_limit}
 use Rattle.tcap_model.specs.Table.Dialogue.{Dialogue, fresh_dialogue}
 use Rattle.tcap_model.specs.Procedures.Reception.{Reception, reception}
+use Rattle.tcap_examples.specs.Values.Peer.{peer_address}
 use Rattle.tcap_model.specs.Table.TableMove.{Setting, DialogueEvent, Moved, table_move, born}
 
 -- What a message to a dialogue that is live is for it, as it was read or by its fault (own).
 abbrev pub heard_by : Result Message FrameFault → DialogueEvent
-heard_by (Ok m) = DialogueEvent.frame m
+heard_by (Ok m) = DialogueEvent.frame peer_address m
 heard_by (Err f) = DialogueEvent.fault (fault_cause f)
 
 -- What the bytes of a message to a dialogue that is live are for it (own).
@@ -31,7 +33,7 @@ number_after next (Answer.refused fault) = next
 -- The clock after an event: a moment sets it (own).
 abbrev pub clock_played : ℕ → DialogueEvent → ℕ
 clock_played clock (DialogueEvent.request request) = clock
-clock_played clock (DialogueEvent.frame message) = clock
+clock_played clock (DialogueEvent.frame from message) = clock
 clock_played clock (DialogueEvent.fault cause) = clock
 clock_played clock (DialogueEvent.moment now) = now
 
@@ -87,12 +89,32 @@ unborn = record opened { is_over = true }
 -- The dialogue that is born, if one is (own).
 abbrev pub begun_by : Reception → Played
 begun_by (Reception.dropped why) = unborn
-begun_by (Reception.aborted abort) = unborn
+begun_by (Reception.aborted answer) = unborn
 begun_by (Reception.unidirectional context info components) = unborn
 begun_by (Reception.begun origin context info components) =
-    after_birth (born first_setting 1 1000 0 origin context info components)
+    after_birth (born first_setting 1 1000 0 peer_address origin context info components)
 begun_by (Reception.taken dialogue message) = unborn
-begun_by (Reception.broken dialogue abort cause) = unborn
+begun_by (Reception.broken dialogue answer cause) = unborn
+
+-- The octets of the Abort with which bytes are answered that end no dialogue, if they are so (own).
+abbrev pub aborted_with : Reception → Option (List ℕ)
+aborted_with (Reception.dropped why) = None
+aborted_with (Reception.aborted answer) = Some (written_frame answer)
+aborted_with (Reception.unidirectional context info components) = None
+aborted_with (Reception.begun origin context info components) = None
+aborted_with (Reception.taken dialogue message) = None
+aborted_with (Reception.broken dialogue answer cause) = None
+
+-- The dialogue that faulty bytes end, the octets of the Abort with which they are answered, and the cause,
+-- if they are so (own).
+abbrev pub broken_with : Reception → Option (ℕ × (List ℕ × ℕ))
+broken_with (Reception.dropped why) = None
+broken_with (Reception.aborted answer) = None
+broken_with (Reception.unidirectional context info components) = None
+broken_with (Reception.begun origin context info components) = None
+broken_with (Reception.taken dialogue message) = None
+broken_with (Reception.broken dialogue None cause) = None
+broken_with (Reception.broken dialogue (Some answer) cause) = Some (dialogue, (written_frame answer, cause))
 
 -- Nothing is live before the first message (own).
 abbrev pub is_none_live : ℕ → Bool

@@ -10,6 +10,7 @@ use Rattle.tcap_examples.specs.Histories.Worked.{Worked, worked, closed_at, not_
 use Rattle.tcap_examples.specs.Values.HistoryWords.{dialogue_born, invoke_pair, request_pair, received_pair, moment_pair, begin_request, continue_request, continued, ended, empty_result, usual_start, opened_with_invoke, opened_for}
 use Rattle.tcap_examples.specs.Values.Asked as asks
 use Rattle.tcap_examples.specs.Values.Told as told
+use Rattle.tcap_examples.specs.Values.Peer.{sent}
 
 -- An End with a result closes its invocation by the result; nothing comes after it (own).
 abbrev pub result_in_an_end : Worked
@@ -28,7 +29,7 @@ lapse_and_late_result = worked usual_start (opened_with_invoke (
     ∷ moment_pair 1000 (told.closed 1 1 (pos 1) Closing.lapsed ∷ [])
     ∷ received_pair result_of_first (continued 1 ∷ told.local_reject (Some 1) (Some (pos 1)) (of_result 0) ∷ [])
     ∷ request_pair 1 continue_request (Answer.outputs
-    (Output.send (hex 24 0x6516_480400000001_490400000005_6C08_A406_020101_820100) ∷ []))
+    (sent (hex 24 0x6516_480400000001_490400000005_6C08_A406_020101_820100) ∷ []))
     ∷ moment_pair 5 []
     ∷ []))
     (closed_at 1 5 1 (pos 1) Closing.lapsed ∷ [])
@@ -44,11 +45,11 @@ repeated_aare = worked usual_start (
     ∷ invoke_pair 1 (pos 1) One (pos 10) 1000 (Answer.number 1)
     ∷ invoke_pair 1 (pos 2) One (pos 11) 1000 (Answer.number 2)
     ∷ request_pair 1 (asks.begin (Some context) [])
-    (Answer.outputs (Output.send (hex 8 0x6238_480400000001 ++ aarq
+    (Answer.outputs (sent (hex 8 0x6238_480400000001 ++ aarq
     ++ hex 18 0x6C10_A106_020101_02010A_A106_020102_02010B) ∷ []))
     ∷ received_pair accepting (told.go_on 1 (Some context) [] ∷ told.closed 1 1 (pos 1) empty_result ∷ [])
     ∷ received_pair accepting (
-    Output.send (hex 28 0x671A_490400000005_6B12_2810_060700118605010101_A005_6403_800101)
+    sent (hex 28 0x671A_490400000005_6B12_2810_060700118605010101_A005_6403_800101)
     ∷ told.p_abort 1 AbortCause.abnormal
     ∷ told.closed 1 2 (pos 2) Closing.ended
     ∷ [])
@@ -63,7 +64,7 @@ answers_the_class_forbids = worked usual_start (
     ∷ invoke_pair 1 (pos 2) Three (pos 10) 1000 (Answer.number 2)
     ∷ invoke_pair 1 (pos 3) Four (pos 10) 1000 (Answer.number 3)
     ∷ request_pair 1 begin_request (Answer.outputs
-    (Output.send (hex 34 0x6220_480400000001_6C18_A106_020101_02010A_A106_020102_02010A_A106_020103_02010A) ∷ []))
+    (sent (hex 34 0x6220_480400000001_6C18_A106_020101_02010A_A106_020102_02010A_A106_020103_02010A) ∷ []))
     ∷ received_pair (hex 34 0x6520_480400000005_490400000001_6C12_A203_020101_A306_020102_020101_A703_020103) (
     continued 1
     ∷ told.closed 1 1 (pos 1) (Closing.rejected (of_result 1) Rejector.local)
@@ -113,7 +114,7 @@ each_answer_of_each_class = worked usual_start (
     ∷ invoke_pair 1 (pos 10) Two (pos 10) 1000 (Answer.number 10)
     ∷ invoke_pair 1 (pos 11) Three (pos 10) 1000 (Answer.number 11)
     ∷ invoke_pair 1 (pos 12) Four (pos 10) 1000 (Answer.number 12)
-    ∷ request_pair 1 begin_request (Answer.outputs (Output.send each_class_invoked ∷ []))
+    ∷ request_pair 1 begin_request (Answer.outputs (sent each_class_invoked ∷ []))
     ∷ received_pair each_class_answered (
     continued 1
     ∷ told.closed 1 1 (pos 1) empty_result
@@ -129,7 +130,7 @@ each_answer_of_each_class = worked usual_start (
     ∷ told.closed 1 11 (pos 11) (Closing.rejected (of_error 1) Rejector.local)
     ∷ told.closed 1 12 (pos 12) (Closing.rejected (of_error 1) Rejector.local)
     ∷ [])
-    ∷ request_pair 1 continue_request (Answer.outputs (Output.send each_class_rejects ∷ []))
+    ∷ request_pair 1 continue_request (Answer.outputs (sent each_class_rejects ∷ []))
     ∷ [])
     (closed_at 1 15 1 (pos 1) empty_result
     ∷ closed_at 2 15 1 (pos 2) (Closing.rejected (of_result 1) Rejector.local)
@@ -154,7 +155,7 @@ identifier_held_after_a_result = worked usual_start (opened_for 10000 (
     ∷ moment_pair 1000 []
     ∷ invoke_pair 1 (pos 1) One (pos 10) 10000 (Answer.number 2)
     ∷ request_pair 1 continue_request (Answer.outputs
-    (Output.send (hex 24 0x6516_480400000001_490400000005_6C08_A106_020101_02010A) ∷ []))
+    (sent (hex 24 0x6516_480400000001_490400000005_6C08_A106_020101_02010A) ∷ []))
     ∷ received_pair result_of_first (continued 1 ∷ told.closed 1 2 (pos 1) empty_result ∷ [])
     ∷ []))
     (closed_at 1 4 1 (pos 1) empty_result ∷ closed_at 2 10 1 (pos 1) empty_result ∷ [])
@@ -186,7 +187,7 @@ faulty_second_component = worked usual_start (
     ∷ invoke_pair 1 (negsuc 127) One (pos 10) 1000 (Answer.number 1)
     ∷ invoke_pair 1 (pos 127) One (pos 10) 1000 (Answer.number 2)
     ∷ request_pair 1 begin_request (Answer.outputs
-    (Output.send (hex 26 0x6218_480400000001_6C10_A106_020180_02010A_A106_02017F_02010A) ∷ []))
+    (sent (hex 26 0x6218_480400000001_6C10_A106_020180_02010A_A106_02017F_02010A) ∷ []))
     ∷ received_pair (hex 39
     0x6525_480400000005_490400000001_6C17_A203_020180_A503_020107_A203_02017F_A306_02017F_020101) (
     continued 1
@@ -194,7 +195,7 @@ faulty_second_component = worked usual_start (
     ∷ told.local_reject (Some 1) (Some (pos 7)) (general 0)
     ∷ [])
     ∷ request_pair 1 continue_request (Answer.outputs
-    (Output.send (hex 24 0x6516_480400000001_490400000005_6C08_A406_020107_800100) ∷ []))
+    (sent (hex 24 0x6516_480400000001_490400000005_6C08_A406_020107_800100) ∷ []))
     ∷ [])
     (closed_at 1 5 1 (negsuc 127) empty_result ∷ not_closed 2 ∷ [])
 
@@ -205,6 +206,6 @@ the_peer_stays = worked usual_start (opened_with_invoke (
     ∷ received_pair (hex 21 0x6513_480400000006_490400000001_6C05_A203_020101)
     (continued 1 ∷ told.local_reject (Some 1) (Some (pos 1)) (of_result 0) ∷ [])
     ∷ request_pair 1 continue_request (Answer.outputs
-    (Output.send (hex 24 0x6516_480400000001_490400000005_6C08_A406_020101_820100) ∷ []))
+    (sent (hex 24 0x6516_480400000001_490400000005_6C08_A406_020101_820100) ∷ []))
     ∷ []))
     (closed_at 1 4 1 (pos 1) empty_result ∷ [])

@@ -9,6 +9,7 @@ use Rattle.tcap_examples.specs.Histories.Worked.{Worked, worked, closed_at, not_
 use Rattle.tcap_examples.specs.Values.HistoryWords.{request_pair, received_pair, continued, ended, usual_start, opened_with_invoke}
 use Rattle.tcap_examples.specs.Values.Asked as asks
 use Rattle.tcap_examples.specs.Values.Told as told
+use Rattle.tcap_examples.specs.Values.Peer.{sent}
 
 -- The Abort of a Begin whose version isn't spoken: an AARE, not accepted, "no common dialogue portion"
 -- by the provider (own).
@@ -90,7 +91,7 @@ reject_of_an_invoke = worked usual_start (opened_with_invoke (
 abbrev pub a_faulty_continue : Worked
 a_faulty_continue = worked usual_start (opened_with_invoke (
     received_pair (hex 15 0x650D_480400000005_490400000001_6C) (
-    Output.send (hex 11 0x6709_490400000005_4A0102)
+    sent (hex 11 0x6709_490400000005_4A0102)
     ∷ told.p_abort 1 (AbortCause.cause 2)
     ∷ told.closed 1 1 (pos 1) Closing.ended
     ∷ [])

@@ -4,7 +4,7 @@ use Rattle.tcap_examples.specs.Histories.Steps.{Step, Walk}
 use Rattle.tcap_examples.specs.Histories.SteppedHistories.{invoke_1, peer}
 use Rattle.tcap_examples.specs.Values.Asked as asks
 use Rattle.tcap_examples.specs.Values.Hex.{hex}
-use Rattle.tcap_examples.specs.Histories.StepWords.{steps_start, empty_engine, engine_with, dialogue_1, invoke_queued}
+use Rattle.tcap_examples.specs.Histories.StepWords.{kept_in, steps_start, empty_engine, engine_with, dialogue_1, invoke_queued}
 use Rattle.tcap_examples.specs.Histories.StepWords.{class_one_row, walk, new_dialogue_1, request_step, receive_step}
 use Rattle.tcap_examples.specs.Histories.StepWords.{moment_step, invoke_request}
 use Rattle.tcap_examples.specs.Values.Told as told
@@ -19,6 +19,7 @@ use Rattle.tcap_model.specs.Words.Fault.{Fault}
 use Rattle.tcap_model.specs.Words.Output.{Output, Closing, DropCause}
 use Rattle.tcap_model.specs.Words.Request.{Request}
 use Rattle.tcap_model.specs.Words.State.{State}
+use Rattle.tcap_examples.specs.Values.Peer.{sent}
 
 -- ---- two dialogues
 
@@ -29,6 +30,7 @@ dialogue_2 state queue rows = record {
   invocations = record { reject_ms = 1000; rows = rows };
   idle_ms = 0;
   touched = 0;
+  kept = kept_in state;
 }
 
 -- The engine where both dialogues were born (own).
@@ -100,11 +102,11 @@ two_dialogues = walk (
     ∷ new_dialogue_2 (engine_of_two 0 1 (first_fresh ∷ second_fresh ∷ []))
     ∷ request_step (invoke_request (pos 1) 10 20) (Answer.number 1)
     (engine_of_two 0 2 (first_queued ∷ second_fresh ∷ []))
-    ∷ request_step (asks.begin None []) (Answer.outputs (Output.send first_begun ∷ []))
+    ∷ request_step (asks.begin None []) (Answer.outputs (sent first_begun ∷ []))
     (engine_of_two 0 2 (first_sent ∷ second_fresh ∷ []))
     ∷ request_on_2 (invoke_request (pos 1) 10 10) (Answer.number 2)
     (engine_of_two 0 3 (first_sent ∷ second_queued ∷ []))
-    ∷ request_on_2 (asks.begin None []) (Answer.outputs (Output.send second_begun ∷ [])) both_sent
+    ∷ request_on_2 (asks.begin None []) (Answer.outputs (sent second_begun ∷ [])) both_sent
     ∷ late_moment both_sent
     ∷ moment_step 20 both_lapsed none_left
     ∷ moment_step 5 [] none_left
@@ -122,7 +124,7 @@ peer_begins = hex 8 0x6206_480400000005
 
 -- An Abort to the peer with cause 4, resource limitation (own).
 abbrev pub full_abort : Output
-full_abort = Output.send (hex 11 0x6709_490400000005_4A0104)
+full_abort = sent (hex 11 0x6709_490400000005_4A0104)
 
 -- Where as many dialogues stand as may, neither a peer nor the user gets one, and no identifier is drawn
 -- (own).
@@ -153,7 +155,7 @@ abbrev pub an_end_to_received : Walk
 an_end_to_received = walk (
     receive_step peer_begins (told.begin 1 None [] ∷ []) begun_engine
     ∷ receive_step end_to_1 (Output.dropped DropCause.no_dialogue ∷ []) begun_engine
-    ∷ request_step (asks.go_on None []) (Answer.outputs (Output.send (hex 14 0x650C_480400000001_490400000005) ∷ []))
+    ∷ request_step (asks.go_on None []) (Answer.outputs (sent (hex 14 0x650C_480400000001_490400000005) ∷ []))
     (engine_with 0 1 (dialogue_1 (State.active peer) None [] [] ∷ []))
     ∷ receive_step end_to_1 (told.end 1 None [] ∷ []) (engine_with 0 1 [])
     ∷ request_step (asks.go_on None []) (Answer.refused Fault.unknown_dialogue) (engine_with 0 1 [])

@@ -13,6 +13,7 @@ use Rattle.tcap_examples.specs.Values.HistoryWords.{dialogue_born, invoke_pair, 
 use Rattle.tcap_examples.specs.Values.HistoryWords.{begin_request, continue_request, continued, usual_start}
 use Rattle.tcap_examples.specs.Values.HistoryWords.{opened_with_invoke}
 use Rattle.tcap_examples.specs.Values.Told as told
+use Rattle.tcap_examples.specs.Values.Peer.{sent}
 
 -- ---- an engine with an idle limit
 
@@ -40,7 +41,7 @@ ended_in_1 number = told.closed 1 number (pos number) Closing.ended
 
 -- A Begin of a dialogue without parameters, and the one message that it sends (own).
 abbrev pub begin_sends : ℕ → List ℕ → Pair
-begin_sends dialogue bytes = request_pair dialogue begin_request (Answer.outputs (Output.send bytes ∷ []))
+begin_sends dialogue bytes = request_pair dialogue begin_request (Answer.outputs (sent bytes ∷ []))
 
 -- A Continue without components from the peer to dialogue 1 (own).
 abbrev pub empty_continue : List ℕ
@@ -70,7 +71,7 @@ abbrev pub idle_after_the_begin : Worked
 idle_after_the_begin = idle_worked (opened_with_invoke (
     moment_pair 499 []
     ∷ moment_pair 500 (idle_abort 1 ∷ ended_in_1 1 ∷ [])
-    ∷ received_pair result_of_first (Output.send (hex 11 0x6709_490400000005_4A0101) ∷ [])
+    ∷ received_pair result_of_first (sent (hex 11 0x6709_490400000005_4A0101) ∷ [])
     ∷ []))
     (closed_at 1 5 1 (pos 1) Closing.ended ∷ [])
 
@@ -149,9 +150,9 @@ abbrev pub an_answer_renews_the_limit : Worked
 an_answer_renews_the_limit = idle_worked (
     begin_heard
     ∷ moment_pair 700 []
-    ∷ request_pair 1 continue_request (Answer.outputs (Output.send empty_answer ∷ []))
+    ∷ request_pair 1 continue_request (Answer.outputs (sent empty_answer ∷ []))
     ∷ moment_pair 1100 []
-    ∷ request_pair 1 continue_request (Answer.outputs (Output.send empty_answer ∷ []))
+    ∷ request_pair 1 continue_request (Answer.outputs (sent empty_answer ∷ []))
     ∷ moment_pair 1599 []
     ∷ moment_pair 1600 (idle_abort 1 ∷ [])
     ∷ [])

@@ -20,6 +20,7 @@ use Rattle.tcap_examples.specs.Values.Asked as asks
 use Rattle.tcap_examples.specs.Values.DialogueValues.{result_of_first, shown_begin}
 use Rattle.tcap_examples.specs.Values.Hex.{hex}
 use Rattle.tcap_examples.specs.Values.Told as told
+use Rattle.tcap_examples.specs.Values.Peer.{sent}
 
 -- ---- engines with an idle limit
 
@@ -59,7 +60,7 @@ second_in state clock = touched_then clock (dialogue_2 state [] [])
 
 -- A Begin, and the one message that it sends (own).
 abbrev pub begin_step : List ℕ → World → Step
-begin_step bytes after = request_step (asks.begin None []) (Answer.outputs (Output.send bytes ∷ [])) after
+begin_step bytes after = request_step (asks.begin None []) (Answer.outputs (sent bytes ∷ [])) after
 
 -- ---- one dialogue
 
@@ -84,7 +85,7 @@ abbrev pub idle_after_the_begin_steps : Walk
 idle_after_the_begin_steps = idle_walk (opened_by_steps (
     moment_step 499 [] (idle_engine 499 2 (one_sent ∷ []))
     ∷ moment_step 500 (idle_abort 1 ∷ ended_in_1 1 ∷ []) (idle_engine 500 2 [])
-    ∷ receive_step result_of_first (Output.send (hex 11 0x6709_490400000005_4A0101) ∷ []) (idle_engine 500 2 [])
+    ∷ receive_step result_of_first (sent (hex 11 0x6709_490400000005_4A0101) ∷ []) (idle_engine 500 2 [])
     ∷ []))
 
 -- Another Invoke with operation 10, of identifier 2 (own).
@@ -167,7 +168,7 @@ abbrev pub no_idle_limit_in_received_steps : Walk
 no_idle_limit_in_received_steps = idle_walk (
     receive_step shown_begin begin_told (received_engine 0)
     ∷ moment_step 500 [] (received_engine 500)
-    ∷ request_step (asks.go_on None []) (Answer.outputs (Output.send empty_answer ∷ []))
+    ∷ request_step (asks.go_on None []) (Answer.outputs (sent empty_answer ∷ []))
     (idle_engine 500 1 (first_in (State.active (hex 4 0x00000001)) 500 [] [] ∷ []))
     ∷ moment_step 1000 (idle_abort 1 ∷ []) (idle_engine 1000 1 [])
     ∷ [])
@@ -191,7 +192,7 @@ abbrev pub two_idle_dialogues_steps : Walk
 two_idle_dialogues_steps = idle_walk (
     new_dialogue_1 (idle_engine 0 1 (first_in State.fresh 0 [] [] ∷ []))
     ∷ new_dialogue_2 (idle_engine_of_two 0 (first_in State.fresh 0 [] [] ∷ second_in State.fresh 0 ∷ []))
-    ∷ request_on_2 (asks.begin None []) (Answer.outputs (Output.send second_begun ∷ []))
+    ∷ request_on_2 (asks.begin None []) (Answer.outputs (sent second_begun ∷ []))
     (idle_engine_of_two 0 (first_in State.fresh 0 [] [] ∷ second_in State.sent 0 ∷ []))
     ∷ moment_step 100 [] (idle_engine_of_two 100 (first_in State.fresh 0 [] [] ∷ second_in State.sent 0 ∷ []))
     ∷ begin_step first_begun two_touched

@@ -5,6 +5,7 @@ use Rattle.tcap_model.specs.Words.Answer.{Answer}
 use Rattle.tcap_model.specs.Words.Fault.{Fault}
 use Rattle.tcap_model.specs.Words.Output.{Output, DialogueIndication}
 use Rattle.tcap_model.specs.Words.Request.{Request, Ending, AbortReason, ComponentRequest, DialogueRequest}
+use Rattle.tcap_examples.specs.Values.Asked as asks
 use Rattle.tcap_model.specs.Histories.Pair.{Pair, Past}
 use Rattle.tcap_model.specs.Invocations.Marks.{Mark, Noted, marks}
 use Rattle.tcap_examples.specs.Histories.Closing.{accepting}
@@ -67,7 +68,7 @@ abbrev pub requests : List Meaning
 requests =
     meaning idle (accepted begin_request) (Mark.sent ∷ [])
     ∷ meaning active (accepted continue_request) (Mark.sent ∷ [])
-    ∷ meaning idle (accepted (Request.dialogue (DialogueRequest.uni None []))) (Mark.sent ∷ Mark.end ∷ [])
+    ∷ meaning idle (accepted (asks.uni None [])) (Mark.sent ∷ Mark.end ∷ [])
     ∷ meaning active (accepted (ends_with Ending.basic)) (Mark.sent ∷ Mark.end ∷ [])
     ∷ meaning active (request_pair 1 (Request.component (ComponentRequest.u_cancel (pos 1))) (Answer.given_up 1))
     (Mark.given_up ∷ [])

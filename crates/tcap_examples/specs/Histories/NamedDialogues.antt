@@ -5,6 +5,7 @@ use Rattle.tcap_examples.specs.Values.DialogueValues.{shown_begin, result_of_fir
 use Rattle.tcap_examples.specs.Values.Hex.{hex}
 use Rattle.tcap_model.specs.Histories.Names.{names}
 use Rattle.tcap_examples.specs.Values.HistoryWords.{begin_request}
+use Rattle.tcap_examples.specs.Values.Peer.{arrived}
 
 -- Whether an event names a dialogue, as it is stated (own).
 pub record Named : Type 0 where
@@ -38,37 +39,37 @@ requests_and_moments =
 -- a destination of one octet (own).
 abbrev pub good_messages : List Named
 good_messages =
-    naming 1 (Event.received result_of_first)
-    ∷ not_naming 5 (Event.received result_of_first)
-    ∷ naming 1 (Event.received (hex 15 0x640D_490400000001_6C05_A203_020101))
-    ∷ not_naming 2 (Event.received (hex 15 0x640D_490400000001_6C05_A203_020101))
-    ∷ naming 1 (Event.received (hex 8 0x6706_490400000001))
-    ∷ not_naming 2 (Event.received (hex 8 0x6706_490400000001))
-    ∷ not_naming 1 (Event.received shown_begin)
-    ∷ not_naming 1 (Event.received (hex 12 0x610A_6C08_A106_020101_020107))
-    ∷ not_naming 1 (Event.received (hex 5 0x6403_490101))
+    naming 1 (arrived result_of_first)
+    ∷ not_naming 5 (arrived result_of_first)
+    ∷ naming 1 (arrived (hex 15 0x640D_490400000001_6C05_A203_020101))
+    ∷ not_naming 2 (arrived (hex 15 0x640D_490400000001_6C05_A203_020101))
+    ∷ naming 1 (arrived (hex 8 0x6706_490400000001))
+    ∷ not_naming 2 (arrived (hex 8 0x6706_490400000001))
+    ∷ not_naming 1 (arrived shown_begin)
+    ∷ not_naming 1 (arrived (hex 12 0x610A_6C08_A106_020101_020107))
+    ∷ not_naming 1 (arrived (hex 5 0x6403_490101))
     ∷ []
 
 -- Faulty messages: those that begin with 64, 65 or 67 name the dialogue at their front, if its
 -- identifier has four octets; no others do (own).
 abbrev pub faulty_messages : List Named
 faulty_messages =
-    naming 1 (Event.received (hex 9 0x6407_490400000001_6C))
-    ∷ naming 1 (Event.received (hex 15 0x650D_480400000005_490400000001_6C))
-    ∷ naming 1 (Event.received (hex 9 0x6707_490400000001_4A))
-    ∷ not_naming 5 (Event.received (hex 15 0x650D_480400000005_490400000001_6C))
-    ∷ not_naming 1 (Event.received (hex 7 0x6405_49020001_6C))
-    ∷ not_naming 1 (Event.received (hex 13 0x650B_480400000005_49020001_6C))
-    ∷ not_naming 1 (Event.received (hex 7 0x6705_49020001_4A))
-    ∷ not_naming 1 (Event.received (hex 9 0x6107_490400000001_6C))
-    ∷ not_naming 1 (Event.received (hex 9 0x6207_490400000001_6C))
-    ∷ not_naming 1 (Event.received (hex 14 0x630C_480400000007_490400000001))
-    ∷ not_naming 0 (Event.received [])
+    naming 1 (arrived (hex 9 0x6407_490400000001_6C))
+    ∷ naming 1 (arrived (hex 15 0x650D_480400000005_490400000001_6C))
+    ∷ naming 1 (arrived (hex 9 0x6707_490400000001_4A))
+    ∷ not_naming 5 (arrived (hex 15 0x650D_480400000005_490400000001_6C))
+    ∷ not_naming 1 (arrived (hex 7 0x6405_49020001_6C))
+    ∷ not_naming 1 (arrived (hex 13 0x650B_480400000005_49020001_6C))
+    ∷ not_naming 1 (arrived (hex 7 0x6705_49020001_4A))
+    ∷ not_naming 1 (arrived (hex 9 0x6107_490400000001_6C))
+    ∷ not_naming 1 (arrived (hex 9 0x6207_490400000001_6C))
+    ∷ not_naming 1 (arrived (hex 14 0x630C_480400000007_490400000001))
+    ∷ not_naming 0 (arrived [])
     ∷ []
 
 -- An End of 65,535 bytes, and one of 65,536 (own).
 abbrev pub long_messages : List Named
 long_messages =
-    naming 1 (Event.received (hex 14 0x6482FFFB_490400000001_6C82FFF1 ++ replicate 65521 0))
-    ∷ not_naming 1 (Event.received (hex 14 0x6482FFFC_490400000001_6C82FFF2 ++ replicate 65522 0))
+    naming 1 (arrived (hex 14 0x6482FFFB_490400000001_6C82FFF1 ++ replicate 65521 0))
+    ∷ not_naming 1 (arrived (hex 14 0x6482FFFC_490400000001_6C82FFF2 ++ replicate 65522 0))
     ∷ []

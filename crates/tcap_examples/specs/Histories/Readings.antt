@@ -12,6 +12,7 @@ use Rattle.tcap_examples.specs.Histories.Refusals.{longest_parameter, invoke_wit
 use Rattle.tcap_examples.specs.Values.HistoryWords.{dialogue_born, invoke_pair, request_pair, received_pair, moment_pair, begin_request, continue_request, continued, empty_result, usual_start, opened_with_invoke}
 use Rattle.tcap_examples.specs.Values.Asked as asks
 use Rattle.tcap_examples.specs.Values.Told as told
+use Rattle.tcap_examples.specs.Values.Peer.{sent}
 
 -- ---- dialogues
 
@@ -20,8 +21,8 @@ use Rattle.tcap_examples.specs.Values.Told as told
 abbrev pub resource_limitation_first : Worked
 resource_limitation_first = worked (record usual_start { max_dialogues = 1 }) (
     dialogue_born 1
-    ∷ received_pair (hex 12 0x620A_480400000001_6B02_2800) (Output.send (hex 11 0x6709_490400000001_4A0104) ∷ [])
-    ∷ received_pair (hex 9 0x6215_480400000001_6C) (Output.send (hex 11 0x6709_490400000001_4A0102) ∷ [])
+    ∷ received_pair (hex 12 0x620A_480400000001_6B02_2800) (sent (hex 11 0x6709_490400000001_4A0104) ∷ [])
+    ∷ received_pair (hex 9 0x6215_480400000001_6C) (sent (hex 11 0x6709_490400000001_4A0102) ∷ [])
     ∷ [])
     []
 
@@ -29,7 +30,7 @@ resource_limitation_first = worked (record usual_start { max_dialogues = 1 }) (
 abbrev pub messages_to_an_idle_dialogue : Worked
 messages_to_an_idle_dialogue = worked usual_start (
     dialogue_born 1
-    ∷ received_pair result_of_first (Output.send (hex 11 0x6709_490400000005_4A0101) ∷ [])
+    ∷ received_pair result_of_first (sent (hex 11 0x6709_490400000005_4A0101) ∷ [])
     ∷ received_pair (hex 15 0x640D_490400000001_6C05_A203_020101) (Output.dropped DropCause.no_dialogue ∷ [])
     ∷ received_pair (hex 8 0x6706_490400000001) (Output.dropped DropCause.no_dialogue ∷ [])
     ∷ received_pair (hex 9 0x6407_490400000001_6C) (Output.dropped DropCause.bad_message ∷ [])
@@ -46,7 +47,7 @@ a_short_destination = worked usual_start (opened_with_invoke (
 -- A message of another type is answered with cause 0, though its dialogue isn't ended (own).
 abbrev pub an_unknown_type : Worked
 an_unknown_type = worked usual_start (opened_with_invoke (
-    received_pair (hex 14 0x630C_480400000007_490400000001) (Output.send (hex 11 0x6709_490400000007_4A0100) ∷ [])
+    received_pair (hex 14 0x630C_480400000007_490400000001) (sent (hex 11 0x6709_490400000007_4A0100) ∷ [])
     ∷ []))
     (not_closed 1 ∷ [])
 
@@ -87,7 +88,7 @@ a_result_in_a_begin = worked usual_start (
     received_pair (hex 12 0x620A_480107_6C05_A203_020101)
     (told.begin 1 None [] ∷ told.local_reject (Some 1) (Some (pos 1)) (of_result 0) ∷ [])
     ∷ request_pair 1 continue_request (Answer.outputs
-    (Output.send (hex 21 0x6513_480400000001_490107_6C08_A406_020101_820100) ∷ []))
+    (sent (hex 21 0x6513_480400000001_490107_6C08_A406_020101_820100) ∷ []))
     ∷ [])
     []
 
@@ -106,7 +107,7 @@ queued_at_a_basic_end = worked usual_start (opened_with_invoke (
     invoke_pair 1 (pos 2) One (pos 10) 1000 (Answer.number 2)
     ∷ received_pair (hex 14 0x650C_480400000005_490400000001) (continued 1 ∷ [])
     ∷ request_pair 1 (asks.finish Ending.basic None []) (Answer.outputs (
-    Output.send (hex 18 0x6410_490400000005_6C08_A106_020102_02010A)
+    sent (hex 18 0x6410_490400000005_6C08_A106_020102_02010A)
     ∷ told.closed 1 1 (pos 1) Closing.ended
     ∷ told.closed 1 2 (pos 2) Closing.ended
     ∷ []))
@@ -119,7 +120,7 @@ given_up_before_it_was_sent = worked usual_start (
     dialogue_born 1
     ∷ invoke_pair 1 (pos 1) One (pos 10) 1000 (Answer.number 1)
     ∷ request_pair 1 (asks.u_cancel (pos 1)) (Answer.given_up 1)
-    ∷ request_pair 1 begin_request (Answer.outputs (Output.send (hex 8 0x6206_480400000001) ∷ []))
+    ∷ request_pair 1 begin_request (Answer.outputs (sent (hex 8 0x6206_480400000001) ∷ []))
     ∷ moment_pair 1000 []
     ∷ [])
     (closed_at 1 3 1 (pos 1) Closing.given_up ∷ [])
@@ -155,7 +156,7 @@ no_timer_outlives_its_dialogue = worked usual_start (opened_with_invoke (
     ∷ dialogue_born 2
     ∷ invoke_pair 2 (pos 1) One (pos 10) 5000 (Answer.number 2)
     ∷ request_pair 2 begin_request (Answer.outputs
-    (Output.send (hex 18 0x6210_480400000002_6C08_A106_020101_02010A) ∷ []))
+    (sent (hex 18 0x6210_480400000002_6C08_A106_020101_02010A) ∷ []))
     ∷ moment_pair 1000 []
     ∷ moment_pair 5000 (told.closed 2 2 (pos 1) Closing.lapsed ∷ [])
     ∷ []))
@@ -171,9 +172,9 @@ lapses_in_order = worked usual_start (
     ∷ invoke_pair 1 (pos 7) One (pos 10) 20 (Answer.number 3)
     ∷ invoke_pair 1 (pos 8) One (pos 10) 20 (Answer.number 4)
     ∷ request_pair 2 begin_request (Answer.outputs
-    (Output.send (hex 26 0x6218_480400000002_6C10_A106_020105_02010A_A106_020106_02010A) ∷ []))
+    (sent (hex 26 0x6218_480400000002_6C10_A106_020105_02010A_A106_020106_02010A) ∷ []))
     ∷ request_pair 1 begin_request (Answer.outputs
-    (Output.send (hex 26 0x6218_480400000001_6C10_A106_020107_02010A_A106_020108_02010A) ∷ []))
+    (sent (hex 26 0x6218_480400000001_6C10_A106_020107_02010A_A106_020108_02010A) ∷ []))
     ∷ moment_pair 20 (
     told.closed 2 2 (pos 6) Closing.lapsed
     ∷ told.closed 1 3 (pos 7) Closing.lapsed

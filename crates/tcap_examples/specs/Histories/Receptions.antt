@@ -11,6 +11,7 @@ use Rattle.tcap_examples.specs.Histories.Ends.{no_common_portion}
 use Rattle.tcap_examples.specs.Values.HistoryWords.{dialogue_born, request_pair, received_pair, continue_request, usual_start}
 use Rattle.tcap_examples.specs.Values.Asked as asks
 use Rattle.tcap_examples.specs.Values.Told as told
+use Rattle.tcap_examples.specs.Values.Peer.{sent}
 
 -- A Begin with an AARQ and an Invoke is received (own).
 abbrev pub opened_by_the_peer : List Pair → List Pair
@@ -25,7 +26,7 @@ opened_by_the_peer pairs =
 abbrev pub a_begin_with_aarq : Worked
 a_begin_with_aarq = worked usual_start (opened_by_the_peer (
     request_pair 1 continue_request (Answer.outputs
-    (Output.send (hex 14 0x6538_480400000001_490400000001 ++ aare) ∷ []))
+    (sent (hex 14 0x6538_480400000001_490400000001 ++ aare) ∷ []))
     ∷ []))
     []
 
@@ -33,7 +34,7 @@ a_begin_with_aarq = worked usual_start (opened_by_the_peer (
 abbrev pub dialogue_refused : Worked
 dialogue_refused = worked usual_start (opened_by_the_peer (
     request_pair 1 (asks.u_abort AbortReason.not_supported []) (Answer.outputs (
-    Output.send (hex 8 0x6732_490400000001 ++ aare_result 0xA203020101_A305A103020102)
+    sent (hex 8 0x6732_490400000001 ++ aare_result 0xA203020101_A305A103020102)
     ∷ []))
     ∷ []))
     []
@@ -42,7 +43,7 @@ dialogue_refused = worked usual_start (opened_by_the_peer (
 abbrev pub dialogue_aborted : Worked
 dialogue_aborted = worked usual_start (opened_by_the_peer (
     request_pair 1 (asks.u_abort AbortReason.by_user []) (Answer.outputs (
-    Output.send (hex 28 0x671A_490400000001_6B12_2810_060700118605010101_A005_6403_800100)
+    sent (hex 28 0x671A_490400000001_6B12_2810_060700118605010101_A005_6403_800100)
     ∷ []))
     ∷ []))
     []
@@ -50,7 +51,7 @@ dialogue_aborted = worked usual_start (opened_by_the_peer (
 -- A Begin whose AARQ has another version is refused, and no dialogue is born (own).
 abbrev pub version_refused : Worked
 version_refused = worked usual_start (
-    received_pair (hex 8 0x6226_480400000001 ++ aarq_version 0x80020700) (Output.send no_common_portion ∷ [])
+    received_pair (hex 8 0x6226_480400000001 ++ aarq_version 0x80020700) (sent no_common_portion ∷ [])
     ∷ dialogue_born 1
     ∷ [])
     []
@@ -58,7 +59,7 @@ version_refused = worked usual_start (
 -- A Continue to no dialogue is aborted with cause 1 (own).
 abbrev pub continue_to_no_dialogue : Worked
 continue_to_no_dialogue = worked usual_start (
-    received_pair (hex 14 0x650C_480400000009_4904000000FF) (Output.send (hex 11 0x6709_490400000009_4A0101) ∷ [])
+    received_pair (hex 14 0x650C_480400000009_4904000000FF) (sent (hex 11 0x6709_490400000009_4A0101) ∷ [])
     ∷ [])
     []
 
@@ -66,8 +67,8 @@ continue_to_no_dialogue = worked usual_start (
 -- (own).
 abbrev pub faulty_messages_answered : Worked
 faulty_messages_answered = worked usual_start (
-    received_pair (hex 9 0x6215_480400000001_6C) (Output.send (hex 11 0x6709_490400000001_4A0102) ∷ [])
-    ∷ received_pair (hex 8 0x6306_480400000007) (Output.send (hex 11 0x6709_490400000007_4A0100) ∷ [])
+    received_pair (hex 9 0x6215_480400000001_6C) (sent (hex 11 0x6709_490400000001_4A0102) ∷ [])
+    ∷ received_pair (hex 8 0x6306_480400000007) (sent (hex 11 0x6709_490400000007_4A0100) ∷ [])
     ∷ received_pair (0x00 ∷ []) (Output.dropped DropCause.bad_message ∷ [])
     ∷ received_pair [] (Output.dropped DropCause.bad_message ∷ [])
     ∷ received_pair (hex 4 0x6202_4800) (Output.dropped DropCause.bad_message ∷ [])

@@ -6,18 +6,18 @@ use Rattle.tcap_model.specs.Words.Answer.{Answer}
 use Rattle.tcap_examples.specs.Values.DialogueValues.{shown_begin, code}
 use Rattle.tcap_model.specs.Words.Fault.{Fault}
 use Rattle.tcap_examples.specs.Values.Hex.{hex}
-use Rattle.tcap_model.specs.Words.Output.{Output}
 use Rattle.tcap_model.specs.Words.Request.{Request}
 use Rattle.tcap_examples.specs.Histories.Worked.{Worked, worked, not_closed}
 use Rattle.tcap_examples.specs.Values.HistoryWords.{dialogue_born, birth_refused, invoke_pair, request_pair, received_pair, moment_pair, moment_refused, usual_start}
 use Rattle.tcap_examples.specs.Values.Asked as asks
+use Rattle.tcap_examples.specs.Values.Peer.{sent}
 
 -- As many dialogues stand as may: neither the user nor a peer gets one (own).
 abbrev pub dialogues_full : Worked
 dialogues_full = worked (record usual_start { max_dialogues = 1 }) (
     dialogue_born 1
     ∷ birth_refused Fault.dialogues_full
-    ∷ received_pair shown_begin (Output.send (hex 11 0x6709_490400000001_4A0104) ∷ [])
+    ∷ received_pair shown_begin (sent (hex 11 0x6709_490400000001_4A0104) ∷ [])
     ∷ [])
     []
 

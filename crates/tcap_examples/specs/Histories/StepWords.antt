@@ -5,6 +5,7 @@ use Rattle.tcap_invocation.specs.declared.class.Class.TheVariants.{One}
 use Rattle.tcap_invocation.specs.declared.stage.Stage.{Stage}
 use Rattle.tcap_model.specs.Words.Answer.{Answer}
 use Rattle.tcap_model.specs.Table.Dialogue.{Dialogue}
+use Rattle.tcap_model.specs.Words.Address.{Address}
 use Rattle.tcap_model.specs.Words.Event.{Event}
 use Rattle.tcap_examples.specs.Values.DialogueValues.{code}
 use Rattle.tcap_model.specs.Histories.History.{Start}
@@ -15,6 +16,7 @@ use Rattle.tcap_model.specs.Words.State.{State}
 use Rattle.tcap_model.specs.Table.World.{World}
 use Rattle.tcap_examples.specs.Histories.Steps.{Step, Walk}
 use Rattle.tcap_examples.specs.Values.Asked as asks
+use Rattle.tcap_examples.specs.Values.Peer.{arrived, peer_address}
 
 -- ---- engines
 
@@ -59,6 +61,13 @@ engine_of_one clock next_number dialogue = engine_with clock next_number (dialog
 abbrev pub engine_after : ℕ → ℕ → World
 engine_after clock next_number = engine_with clock next_number []
 
+-- The address that a dialogue keeps whose peer is the one of examples: none before there is a peer (own).
+abbrev pub kept_in : State → Address
+kept_in State.fresh = []
+kept_in State.sent = peer_address
+kept_in (State.received peer) = peer_address
+kept_in (State.active peer) = peer_address
+
 -- Dialogue 1 in this state, with its application context, its queue and its invocations, touched at clock
 -- 0 if at all (own).
 abbrev pub dialogue_1 : State → Option (List ℕ) → List Queued → List Row → Dialogue
@@ -67,6 +76,7 @@ dialogue_1 state context queue rows = record {
   invocations = record { reject_ms = 1000; rows = rows };
   idle_ms = 0;
   touched = 0;
+  kept = kept_in state;
 }
 
 -- An Invoke in the queue: its octets, and the number of its invocation, which is of class 1 (own).
@@ -98,7 +108,7 @@ request_step asked answer after = record { event = Event.on_dialogue 1 asked; an
 -- Bytes are received (own).
 abbrev pub receive_step : List ℕ → List Output → World → Step
 receive_step bytes outputs after =
-    record { event = Event.received bytes; answer = Answer.outputs outputs; after = after }
+    record { event = arrived bytes; answer = Answer.outputs outputs; after = after }
 
 -- A moment is handed in (own).
 abbrev pub moment_step : ℕ → List Output → World → Step

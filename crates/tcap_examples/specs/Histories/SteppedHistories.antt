@@ -6,12 +6,13 @@ use Rattle.tcap_examples.specs.Values.DialogueValues.{context, aarq, aare, resul
 use Rattle.tcap_examples.specs.Values.Hex.{hex}
 use Rattle.tcap_model.specs.Procedures.QueueRules.{Queued as Waits}
 use Rattle.tcap_model.specs.Table.Dialogue.{Dialogue}
-use Rattle.tcap_model.specs.Words.Output.{Output, Closing, AbortCause}
+use Rattle.tcap_model.specs.Words.Output.{Closing, AbortCause}
 use Rattle.tcap_model.specs.Words.State.{State}
 use Rattle.tcap_examples.specs.Histories.Steps.{Walk}
 use Rattle.tcap_examples.specs.Histories.StepWords.{engine_of_one, engine_after, dialogue_1, invoke_queued, queued_reject, class_one_row, walk, new_dialogue_1, request_step, receive_step, moment_step, invoke_request}
 use Rattle.tcap_examples.specs.Values.Asked as asks
 use Rattle.tcap_examples.specs.Values.Told as told
+use Rattle.tcap_examples.specs.Values.Peer.{sent}
 
 -- ---- what the histories share
 
@@ -63,14 +64,14 @@ repeated_aare_steps = walk (
     ∷ request_step (invoke_request (pos 2) 11 1000) (Answer.number 2)
     (engine_of_one 0 3 (dialogue_1 State.fresh None (invoke_queued invoke_1 1 ∷ invoke_queued invoke_2 2 ∷ [])
     (class_one_row (pos 1) 1 (Queued 1000) ∷ class_one_row (pos 2) 2 (Queued 1000) ∷ [])))
-    ∷ request_step (asks.begin (Some context) []) (Answer.outputs (Output.send two_begun ∷ []))
+    ∷ request_step (asks.begin (Some context) []) (Answer.outputs (sent two_begun ∷ []))
     (engine_of_one 0 3 (dialogue_1 State.sent (Some context) []
     (class_one_row (pos 1) 1 (Sent 1000) ∷ class_one_row (pos 2) 2 (Sent 1000) ∷ [])))
     ∷ receive_step accepting_continue (told.go_on 1 (Some context) []
     ∷ told.closed 1 1 (pos 1) (Closing.result_last None) ∷ [])
     (engine_of_one 0 3 (dialogue_1 (State.active peer) (Some context) []
     (class_one_row (pos 1) 1 (Waiting 1000) ∷ class_one_row (pos 2) 2 (Sent 1000) ∷ [])))
-    ∷ receive_step accepting_continue (Output.send abnormal_abort_sent ∷ told.p_abort 1 AbortCause.abnormal
+    ∷ receive_step accepting_continue (sent abnormal_abort_sent ∷ told.p_abort 1 AbortCause.abnormal
     ∷ told.closed 1 2 (pos 2) Closing.ended ∷ [])
     (engine_after 0 3)
     ∷ [])
@@ -90,7 +91,7 @@ identifier_freed_steps = walk (
     ∷ request_step (invoke_request (pos 1) 10 10000) (Answer.number 1)
     (engine_of_one 0 2 (dialogue_1 State.fresh None (invoke_queued invoke_1 1 ∷ [])
     (class_one_row (pos 1) 1 (Queued 10000) ∷ [])))
-    ∷ request_step (asks.begin None []) (Answer.outputs (Output.send one_begun ∷ []))
+    ∷ request_step (asks.begin None []) (Answer.outputs (sent one_begun ∷ []))
     (engine_of_one 0 2 (dialogue_1 State.sent None [] (class_one_row (pos 1) 1 (Sent 10000) ∷ [])))
     ∷ receive_step result_of_first (told.go_on 1 None [] ∷ told.closed 1 1 (pos 1) (Closing.result_last None) ∷ [])
     (engine_of_one 0 2 (dialogue_1 (State.active peer) None [] (class_one_row (pos 1) 1 (Waiting 1000) ∷ [])))
@@ -99,7 +100,7 @@ identifier_freed_steps = walk (
     ∷ request_step (invoke_request (pos 1) 10 10000) (Answer.number 2)
     (engine_of_one 0 3 (dialogue_1 (State.active peer) None (queued_reject (reject_1 2) ∷ invoke_queued invoke_1 2 ∷ [])
     (class_one_row (pos 1) 2 (Queued 10000) ∷ [])))
-    ∷ request_step (asks.go_on None []) (Answer.outputs (Output.send both_sent ∷ []))
+    ∷ request_step (asks.go_on None []) (Answer.outputs (sent both_sent ∷ []))
     (engine_of_one 0 3 (dialogue_1 (State.active peer) None [] (class_one_row (pos 1) 2 (Sent 10000) ∷ [])))
     ∷ receive_step result_of_first (told.go_on 1 None [] ∷ told.closed 1 2 (pos 1) (Closing.result_last None) ∷ [])
     (engine_of_one 0 3 (dialogue_1 (State.active peer) None [] (class_one_row (pos 1) 2 (Waiting 1000) ∷ [])))
@@ -125,7 +126,7 @@ late_result_steps = walk (
     ∷ request_step (invoke_request (pos 1) 10 1000) (Answer.number 1)
     (engine_of_one 0 2 (dialogue_1 State.fresh None (invoke_queued invoke_1 1 ∷ [])
     (class_one_row (pos 1) 1 (Queued 1000) ∷ [])))
-    ∷ request_step (asks.begin None []) (Answer.outputs (Output.send one_begun ∷ []))
+    ∷ request_step (asks.begin None []) (Answer.outputs (sent one_begun ∷ []))
     (engine_of_one 0 2 (dialogue_1 State.sent None [] (class_one_row (pos 1) 1 (Sent 1000) ∷ [])))
     ∷ moment_step 999 []
     (engine_of_one 999 2 (dialogue_1 State.sent None [] (class_one_row (pos 1) 1 (Sent 1000) ∷ [])))
@@ -133,7 +134,7 @@ late_result_steps = walk (
     (engine_of_one 1000 2 (dialogue_1 State.sent None [] []))
     ∷ receive_step result_of_first (told.go_on 1 None [] ∷ told.local_reject (Some 1) (Some (pos 1)) (of_result 0) ∷ [])
     (engine_of_one 1000 2 (answered_late (queued_reject (reject_1 0) ∷ [])))
-    ∷ request_step (asks.go_on None []) (Answer.outputs (Output.send reject_sent ∷ []))
+    ∷ request_step (asks.go_on None []) (Answer.outputs (sent reject_sent ∷ []))
     (engine_of_one 1000 2 (answered_late []))
     ∷ moment_step 5 []
     (engine_of_one 1000 2 (answered_late []))

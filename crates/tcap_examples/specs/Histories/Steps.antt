@@ -43,7 +43,7 @@ after_step h step = record {
 abbrev pub dialogue_event : ℕ → Event → Option DialogueEvent
 dialogue_event clock Event.new_dialogue = None
 dialogue_event clock (Event.on_dialogue dialogue request) = Some (DialogueEvent.request request)
-dialogue_event clock (Event.received bytes) = Some (heard bytes)
+dialogue_event clock (Event.received from bytes) = Some (heard bytes)
 dialogue_event clock (Event.moment now) = if nat_lt now clock then None else Some (DialogueEvent.moment now)
 
 -- The dialogue answers so, goes on, and is the second one then (own).

@@ -2,7 +2,7 @@
 use Rattle.std.specs.Prelude.{ℕ, pos, List, [], ◌∷◌, ◌++◌, take, drop, reverse, None, Some}
 use Rattle.tcap_model.specs.Words.Answer.{Answer}
 use Rattle.tcap_examples.specs.Values.Hex.{hex}
-use Rattle.tcap_model.specs.Statements.Net.{Engine, Net}
+use Rattle.tcap_model.specs.Statements.Net.{Net}
 use Rattle.tcap_model.specs.Words.Output.{Output, Closing}
 use Rattle.tcap_model.specs.Histories.Pair.{Pair}
 use Rattle.tcap_model.specs.Words.Request.{Ending}
@@ -11,6 +11,7 @@ use Rattle.tcap_examples.specs.Nets.Play.{result_body, begin_told, on_engine, fi
 use Rattle.tcap_examples.specs.Values.HistoryWords.{request_pair, received_pair, moment_pair, continue_request, continued, usual_start, opened_for}
 use Rattle.tcap_examples.specs.Values.Asked as asks
 use Rattle.tcap_examples.specs.Values.Told as told
+use Rattle.tcap_examples.specs.Nets.Engines.{engine_a, engine_b, two_places, sent_to_a, received_from_a}
 
 -- The Continue of the second engine, with a result that isn't the last (own).
 abbrev pub part_of_the_result : List ℕ
@@ -32,12 +33,12 @@ first_of_the_loss = opened_for 5000 (
 -- What happens at the second engine: it answers in a Continue and in an End (own).
 abbrev pub second_of_the_loss : List Pair
 second_of_the_loss =
-    received_pair first_begin (begin_told 1)
+    received_from_a first_begin (begin_told 1)
     ∷ request_pair 1 (asks.result_more (pos 1) (Some (result_body (hex 3 0x0401AA)))) Answer.done
-    ∷ request_pair 1 continue_request (Answer.outputs (Output.send part_of_the_result ∷ []))
+    ∷ request_pair 1 continue_request (Answer.outputs (sent_to_a part_of_the_result ∷ []))
     ∷ request_pair 1 (asks.result_last (pos 1) (Some (result_body (hex 3 0x0401BB)))) Answer.done
     ∷ request_pair 1 (asks.finish Ending.basic None [])
-    (Answer.outputs (Output.send (hex 23 0x6415_490400000001_6C0D_A20B_020101_3006_02010A_0401BB) ∷ []))
+    (Answer.outputs (sent_to_a (hex 23 0x6415_490400000001_6C0D_A20B_020101_3006_02010A_0401BB) ∷ []))
     ∷ moment_pair 5000 []
     ∷ []
 
@@ -53,12 +54,13 @@ lost_end_at_the_second = worked usual_start second_of_the_loss []
 abbrev pub lost_end : Net
 lost_end = record {
   start = λ which. usual_start;
+  places = two_places;
   trace = reverse (
-      on_engine Engine.a (take 3 first_of_the_loss)
-      ++ on_engine Engine.b (take 3 second_of_the_loss)
-      ++ on_engine Engine.a (take 2 (drop 3 first_of_the_loss))
-      ++ on_engine Engine.b (take 2 (drop 3 second_of_the_loss))
-      ++ on_engine Engine.a (take 1 (drop 5 first_of_the_loss))
-      ++ on_engine Engine.b (drop 5 second_of_the_loss)
-      ++ on_engine Engine.a (drop 6 first_of_the_loss));
+      on_engine engine_a (take 3 first_of_the_loss)
+      ++ on_engine engine_b (take 3 second_of_the_loss)
+      ++ on_engine engine_a (take 2 (drop 3 first_of_the_loss))
+      ++ on_engine engine_b (take 2 (drop 3 second_of_the_loss))
+      ++ on_engine engine_a (take 1 (drop 5 first_of_the_loss))
+      ++ on_engine engine_b (drop 5 second_of_the_loss)
+      ++ on_engine engine_a (drop 6 first_of_the_loss));
 }

@@ -11,6 +11,7 @@ use Rattle.tcap_examples.specs.Histories.Worked.{Worked, worked, closed_at}
 use Rattle.tcap_examples.specs.Values.HistoryWords.{request_pair, received_pair, moment_pair, continue_request, continued, usual_start, opened_with_invoke}
 use Rattle.tcap_examples.specs.Values.Asked as asks
 use Rattle.tcap_examples.specs.Values.Told as told
+use Rattle.tcap_examples.specs.Nets.Engines.{engine_a, engine_b, two_places, sent_to_a, received_from_a}
 
 -- The body of a result with operation 10 and an OCTET STRING as its parameter (own).
 abbrev pub result_body : List ℕ → BodyParts
@@ -49,12 +50,12 @@ begin_told dialogue =
 -- dialogues (own).
 abbrev pub at_the_second : List Pair
 at_the_second =
-    received_pair first_begin (begin_told 1)
-    ∷ received_pair first_begin (begin_told 2)
+    received_from_a first_begin (begin_told 1)
+    ∷ received_from_a first_begin (begin_told 2)
     ∷ request_pair 1 (asks.result_last (pos 1) (Some (result_body (hex 3 0x0401AA)))) Answer.done
-    ∷ request_pair 1 continue_request (Answer.outputs (Output.send first_answer ∷ []))
+    ∷ request_pair 1 continue_request (Answer.outputs (sent_to_a first_answer ∷ []))
     ∷ request_pair 2 (asks.result_last (pos 1) (Some (result_body (hex 3 0x0401BB)))) Answer.done
-    ∷ request_pair 2 continue_request (Answer.outputs (Output.send second_answer ∷ []))
+    ∷ request_pair 2 continue_request (Answer.outputs (sent_to_a second_answer ∷ []))
     ∷ moment_pair 1000 []
     ∷ []
 
@@ -77,9 +78,10 @@ on_engine engine pairs = map (λ pair. record { engine = engine; pair = pair }) 
 abbrev pub repeated_begin_played : Net
 repeated_begin_played = record {
   start = λ which. usual_start;
+  places = two_places;
   trace = reverse (
-      on_engine Engine.a (take 3 at_the_first)
-      ++ on_engine Engine.b (take 6 at_the_second)
-      ++ on_engine Engine.a (drop 3 at_the_first)
-      ++ on_engine Engine.b (drop 6 at_the_second));
+      on_engine engine_a (take 3 at_the_first)
+      ++ on_engine engine_b (take 6 at_the_second)
+      ++ on_engine engine_a (drop 3 at_the_first)
+      ++ on_engine engine_b (drop 6 at_the_second));
 }

@@ -7,17 +7,19 @@ use Rattle.tcap_model.specs.Words.Answer.{Answer}
 use Rattle.tcap_examples.specs.Values.DialogueValues.{code}
 use Rattle.tcap_examples.specs.Values.Hex.{hex}
 use Rattle.tcap_model.specs.Histories.History.{Start}
-use Rattle.tcap_model.specs.Statements.Net.{Engine, far, Marked, Trace, side, Net}
+use Rattle.tcap_model.specs.Statements.Net.{Engine, Marked, Trace, side, Net}
 use Rattle.tcap_model.specs.Words.Output.{Output, Closing}
 use Rattle.tcap_model.specs.Histories.Pair.{Pair}
 use Rattle.tcap_model.specs.Statements.Places.{Tells}
 use Rattle.tcap_model.specs.Words.Request.{Request, Ending}
 use Rattle.tcap_model.specs.Statements.TwoEnds.{WasSent}
-use Rattle.tcap_model.specs.Statements.FarAnswer.{Happens, IsAnswer, IsFarRequest}
+use Rattle.tcap_model.specs.Statements.FarAnswer.{Happens, Hears, IsAnswer, IsFarRequest}
 use Rattle.tcap_examples.specs.Nets.Play as play
 use Rattle.tcap_examples.specs.Values.HistoryWords.{dialogue_born, invoke_pair, request_pair, received_pair, moment_pair, begin_request, continue_request, continued, empty_result}
 use Rattle.tcap_examples.specs.Values.Asked as asks
 use Rattle.tcap_examples.specs.Values.Told as told
+use Rattle.tcap_examples.specs.Values.Peer.{sent}
+use Rattle.tcap_examples.specs.Nets.Engines.{engine_a, engine_b, two_places, begin_to_a, sent_to_a, received_from_a}
 
 -- The start of the engines of a play: at most 16 dialogues, a second to wait for a Reject, and no idle
 -- limit (own).
@@ -26,19 +28,23 @@ play_start = record { max_dialogues = 16; reject_ms = 1000; idle_ms = 0; next_di
 
 -- Two such engines, and what happens to both, in order of time (own).
 abbrev pub played : List Marked → Net
-played marked = record { start = λ engine. play_start; trace = reverse marked }
+played marked = record { start = λ engine. play_start; places = two_places; trace = reverse marked }
 
 -- A pair of the first engine (own).
 abbrev pub at_a : Pair → Marked
-at_a pair = record { engine = Engine.a; pair = pair }
+at_a pair = record { engine = engine_a; pair = pair }
 
 -- A pair of the second engine (own).
 abbrev pub at_b : Pair → Marked
-at_b pair = record { engine = Engine.b; pair = pair }
+at_b pair = record { engine = engine_b; pair = pair }
 
--- A message is sent (own).
+-- The first engine sends a message to the second (own).
 abbrev pub send_answer : List ℕ → Answer
-send_answer bytes = Answer.outputs (Output.send bytes ∷ [])
+send_answer bytes = Answer.outputs (sent bytes ∷ [])
+
+-- The second engine sends one to the first (own).
+abbrev pub send_to_a : List ℕ → Answer
+send_to_a bytes = Answer.outputs (sent_to_a bytes ∷ [])
 
 -- The last result for identifier 1, without a body (own).
 abbrev pub answer : Request
@@ -69,15 +75,17 @@ pub record IsAnsweredAhead (engine : Engine) (dialogue number : ℕ) (trace : Tr
   pub happens : Happens engine pair before trace
   pub tells : Tells pair.answer output
   pub is_answer : IsAnswer dialogue number id output request
-  pub was_asked : Happens (far engine) asked earlier before
-  pub is_far_request : IsFarRequest engine dialogue request asked earlier
+  pub far : Engine
+  pub hears : Hears two_places far pair.event
+  pub was_asked : Happens far asked earlier before
+  pub is_far_request : IsFarRequest two_places engine dialogue request far asked earlier
   pub not_sent : WasSent number (side engine earlier) → ⊥
 
 -- ---- a repeated Begin
 
 -- A Begin that is delivered twice, and an answer in each of the two dialogues (own).
 abbrev pub repeated_begin : Net
-repeated_begin = record { start = λ engine. play_start; trace = play.repeated_begin_played.trace }
+repeated_begin = record { start = λ engine. play_start; places = two_places; trace = play.repeated_begin_played.trace }
 
 -- What stands before the answer that closes the invocation (own).
 abbrev pub before_the_answer : Trace
@@ -105,7 +113,7 @@ before_the_repeat = drop 9 repeated_begin.trace
 
 -- The second delivery of the Begin (own).
 abbrev pub repeat_told : Pair
-repeat_told = received_pair play.first_begin (play.begin_told 2)
+repeat_told = received_from_a play.first_begin (play.begin_told 2)
 
 -- ---- an answer ahead
 
@@ -115,11 +123,11 @@ abbrev pub answered_ahead : Net
 answered_ahead = played (
     at_a (dialogue_born 1)
     ∷ at_a (request_pair 1 begin_request (send_answer (hex 8 0x6206_480400000001)))
-    ∷ at_b (received_pair (hex 8 0x6206_480400000001) (told.begin 1 None [] ∷ []))
-    ∷ at_b (request_pair 1 continue_request (send_answer (hex 14 0x650C_480400000001_490400000001)))
+    ∷ at_b (received_from_a (hex 8 0x6206_480400000001) (told.begin 1 None [] ∷ []))
+    ∷ at_b (request_pair 1 continue_request (send_to_a (hex 14 0x650C_480400000001_490400000001)))
     ∷ at_a (received_pair (hex 14 0x650C_480400000001_490400000001) (continued 1 ∷ []))
     ∷ at_b (request_pair 1 answer Answer.done)
-    ∷ at_b (request_pair 1 continue_request (send_answer result_continue))
+    ∷ at_b (request_pair 1 continue_request (send_to_a result_continue))
     ∷ at_a (invoke_pair 1 (pos 1) One (pos 10) 1000 (Answer.number 1))
     ∷ at_a (request_pair 1 continue_request (send_answer
     (hex 24 0x6516_480400000001_490400000001_6C08_A106_020101_02010A)))
@@ -135,9 +143,9 @@ used_again = played (
     at_a (dialogue_born 1)
     ∷ at_a (invoke_pair 1 (pos 1) One (pos 10) 5000 (Answer.number 1))
     ∷ at_a (request_pair 1 begin_request (send_answer (hex 18 0x6210_480400000001_6C08_A106_020101_02010A)))
-    ∷ at_b (received_pair (hex 18 0x6210_480400000001_6C08_A106_020101_02010A) (told.begin 1 None [] ∷ invoked 1 ∷ []))
+    ∷ at_b (received_from_a (hex 18 0x6210_480400000001_6C08_A106_020101_02010A) (told.begin 1 None [] ∷ invoked 1 ∷ []))
     ∷ at_b (request_pair 1 answer Answer.done)
-    ∷ at_b (request_pair 1 continue_request (send_answer result_continue))
+    ∷ at_b (request_pair 1 continue_request (send_to_a result_continue))
     ∷ at_a (received_pair result_continue (continued 1 ∷ told.closed 1 1 (pos 1) empty_result ∷ []))
     ∷ at_a (moment_pair 1000 [])
     ∷ at_a (invoke_pair 1 (pos 1) One (pos 10) 5000 (Answer.number 2))
@@ -154,16 +162,16 @@ used_again = played (
 abbrev pub heard_as_one : Net
 heard_as_one = played (
     at_b (dialogue_born 1)
-    ∷ at_b (request_pair 1 begin_request (send_answer (hex 8 0x6206_480400000001)))
+    ∷ at_b (request_pair 1 begin_to_a (send_to_a (hex 8 0x6206_480400000001)))
     ∷ at_a (received_pair (hex 8 0x6206_480400000001) (told.begin 1 None [] ∷ []))
     ∷ at_a (received_pair (hex 8 0x6206_480400000001) (told.begin 2 None [] ∷ []))
     ∷ at_a (request_pair 1 continue_request (send_answer (hex 14 0x650C_480400000001_490400000001)))
-    ∷ at_b (received_pair (hex 14 0x650C_480400000001_490400000001) (continued 1 ∷ []))
+    ∷ at_b (received_from_a (hex 14 0x650C_480400000001_490400000001) (continued 1 ∷ []))
     ∷ at_a (invoke_pair 2 (pos 1) One (pos 10) 1000 (Answer.number 1))
     ∷ at_a (request_pair 2 continue_request (send_answer second_invoke))
-    ∷ at_b (received_pair second_invoke (continued 1 ∷ invoked 1 ∷ []))
+    ∷ at_b (received_from_a second_invoke (continued 1 ∷ invoked 1 ∷ []))
     ∷ at_b (request_pair 1 answer Answer.done)
-    ∷ at_b (request_pair 1 continue_request (send_answer result_continue))
+    ∷ at_b (request_pair 1 continue_request (send_to_a result_continue))
     ∷ at_a (invoke_pair 1 (pos 1) One (pos 10) 1000 (Answer.number 2))
     ∷ at_a (request_pair 1 continue_request (send_answer
     (hex 24 0x6516_480400000001_490400000001_6C08_A106_020101_02010A)))
@@ -178,7 +186,7 @@ alone_sent = hex 12 0x610A_6C08_A106_020101_020107
 
 -- The Unidirectional is told, with its Invoke (own).
 abbrev pub alone_told : Pair
-alone_told = received_pair alone_sent (told.uni None [] ∷ told.invoked None (pos 1) None (code 7) None ∷ [])
+alone_told = received_from_a alone_sent (told.uni None [] ∷ told.invoked None (pos 1) None (code 7) None ∷ [])
 
 -- It goes from the first engine to the second (own).
 abbrev pub in_a_unidirectional : Net
@@ -186,7 +194,7 @@ in_a_unidirectional = played (
     at_a (dialogue_born 1)
     ∷ at_a (invoke_pair 1 (pos 1) Four (pos 7) 1000 (Answer.number 1))
     ∷ at_a (request_pair 1 (asks.uni None []) (Answer.outputs
-    (Output.send alone_sent ∷ told.closed 1 1 (pos 1) Closing.ended ∷ [])))
+    (sent alone_sent ∷ told.closed 1 1 (pos 1) Closing.ended ∷ [])))
     ∷ at_b alone_told
     ∷ [])
 
@@ -203,10 +211,10 @@ abbrev pub in_an_end : Net
 in_an_end = played (
     at_a (dialogue_born 1)
     ∷ at_a (request_pair 1 begin_request (send_answer (hex 8 0x6206_480400000001)))
-    ∷ at_b (received_pair (hex 8 0x6206_480400000001) (told.begin 1 None [] ∷ []))
+    ∷ at_b (received_from_a (hex 8 0x6206_480400000001) (told.begin 1 None [] ∷ []))
     ∷ at_b (invoke_pair 1 (pos 1) One (pos 10) 1000 (Answer.number 1))
     ∷ at_b (request_pair 1 (asks.finish Ending.basic None [])
-    (Answer.outputs (Output.send end_sent ∷ told.closed 1 1 (pos 1) Closing.ended ∷ [])))
+    (Answer.outputs (sent_to_a end_sent ∷ told.closed 1 1 (pos 1) Closing.ended ∷ [])))
     ∷ at_a end_told
     ∷ [])
 
@@ -223,6 +231,6 @@ forged = played (
     ∷ at_a (request_pair 1 continue_request (send_answer
     (hex 24 0x6516_480400000001_490400000001_6C08_A106_020101_02010A)))
     ∷ at_a (received_pair result_continue (continued 1 ∷ told.closed 1 1 (pos 1) empty_result ∷ []))
-    ∷ at_b (received_pair (hex 18 0x6210_480400000001_6C08_A106_020101_02010B)
+    ∷ at_b (received_from_a (hex 18 0x6210_480400000001_6C08_A106_020101_02010B)
     (told.begin 1 None [] ∷ told.invoked (Some 1) (pos 1) None (code 11) None ∷ []))
     ∷ [])

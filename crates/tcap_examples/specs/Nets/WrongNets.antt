@@ -5,7 +5,8 @@ use Rattle.tcap_model.specs.Words.Answer.{Answer}
 use Rattle.tcap_model.specs.Statements.Net.{Net}
 use Rattle.tcap_model.specs.Histories.Pair.{Pair}
 use Rattle.tcap_examples.specs.Nets.Play.{begin_told}
-use Rattle.tcap_examples.specs.Nets.PlayedNets.{answer, at_a, at_b, played, send_answer}
+use Rattle.tcap_examples.specs.Nets.Engines.{received_from_a}
+use Rattle.tcap_examples.specs.Nets.PlayedNets.{answer, at_a, at_b, played, send_answer, send_to_a}
 use Rattle.tcap_examples.specs.Values.Hex.{hex}
 use Rattle.tcap_examples.specs.Values.HistoryWords.{dialogue_born, invoke_pair, request_pair, received_pair, moment_pair, begin_request, continue_request, continued, empty_result}
 use Rattle.tcap_examples.specs.Values.Told as told
@@ -53,9 +54,9 @@ crossed_queues = played (
     ∷ at_a (dialogue_born 2)
     ∷ at_a (invoke_pair 2 (pos 1) One (pos 10) 1000 (Answer.number 2))
     ∷ at_a (request_pair 2 begin_request (send_answer other_begin))
-    ∷ at_b (received_pair one_begin (begin_told 1))
-    ∷ at_b (received_pair other_begin (begin_told 2))
+    ∷ at_b (received_from_a one_begin (begin_told 1))
+    ∷ at_b (received_from_a other_begin (begin_told 2))
     ∷ at_b (request_pair 1 answer Answer.done)
-    ∷ at_b (request_pair 2 continue_request (send_answer crossed_continue))
+    ∷ at_b (request_pair 2 continue_request (send_to_a crossed_continue))
     ∷ at_a crossed_told
     ∷ [])

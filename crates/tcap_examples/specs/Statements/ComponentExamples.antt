@@ -14,6 +14,7 @@ use Rattle.tcap_examples.specs.Statements.HeadlineExamples.{faulty_second_histor
 use Rattle.tcap_examples.specs.Values.HistoryWords.{dialogue_born, invoke_pair, request_pair, received_pair, begin_request, continue_request, continued, empty_result, usual_start}
 use Rattle.tcap_examples.specs.Wrong.WrongHistories.{Wrong, wrong}
 use Rattle.tcap_examples.specs.Values.Told as told
+use Rattle.tcap_examples.specs.Values.Peer.{sent}
 
 -- ---- two Invokes that go out, and a Reject
 
@@ -28,7 +29,7 @@ begin_sent = hex 26 0x6218_480400000001_6C10_A106_020180_02010A_A106_02017F_0201
 
 -- The request that sends it (own).
 abbrev pub begin_pair : Pair
-begin_pair = request_pair 1 begin_request (Answer.outputs (Output.send begin_sent ∷ []))
+begin_pair = request_pair 1 begin_request (Answer.outputs (sent begin_sent ∷ []))
 
 -- The message (own).
 abbrev pub begin_message : Message
@@ -49,7 +50,7 @@ reject_continue = hex 24 0x6516_480400000001_490400000005_6C08_A406_020107_80010
 
 -- The request that sends it (own).
 abbrev pub reject_pair : Pair
-reject_pair = request_pair 1 continue_request (Answer.outputs (Output.send reject_continue ∷ []))
+reject_pair = request_pair 1 continue_request (Answer.outputs (sent reject_continue ∷ []))
 
 -- The message (own).
 abbrev pub reject_message : Message
@@ -160,7 +161,7 @@ crossed_queues = wrong usual_start (
     ∷ dialogue_born 2
     ∷ invoke_pair 1 (pos 1) One (pos 10) 1000 (Answer.number 1)
     ∷ [])
-    (request_pair 2 begin_request (Answer.outputs (Output.send crossed_sent ∷ [])))
+    (request_pair 2 begin_request (Answer.outputs (sent crossed_sent ∷ [])))
 
 -- ---- an Invoke that is misread
 

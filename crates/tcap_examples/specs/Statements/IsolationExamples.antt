@@ -8,13 +8,15 @@ use Rattle.tcap_examples.specs.Values.Hex.{hex}
 use Rattle.tcap_model.specs.Histories.History.{Start, History}
 use Rattle.tcap_model.specs.Statements.Isolation.{IsAlone}
 use Rattle.tcap_model.specs.Histories.Names.{names}
-use Rattle.tcap_model.specs.Statements.Net.{Engine, side}
+use Rattle.tcap_model.specs.Statements.Net.{side}
 use Rattle.tcap_model.specs.Words.Output.{Output, Closing}
 use Rattle.tcap_model.specs.Histories.Pair.{Pair, Past}
 use Rattle.tcap_examples.specs.Nets.PlayedNets.{repeated_begin, heard_as_one}
 use Rattle.tcap_examples.specs.Values.HistoryWords.{dialogue_born, invoke_pair, request_pair, moment_pair, begin_request}
 use Rattle.tcap_examples.specs.Values.Asked as asks
 use Rattle.tcap_examples.specs.Values.Told as told
+use Rattle.tcap_examples.specs.Values.Peer.{arrived, sent}
+use Rattle.tcap_examples.specs.Nets.Engines.{engine_a, engine_b}
 
 -- The first of the last two invocation numbers (own).
 abbrev pub last_but_one : ℕ
@@ -30,7 +32,7 @@ two_left = record { max_dialogues = 4; reject_ms = 1000; idle_ms = 0; next_dialo
 
 -- A dialogue begins with an Invoke (own).
 abbrev pub begins : ℕ → List ℕ → Pair
-begins dialogue bytes = request_pair dialogue begin_request (Answer.outputs (Output.send bytes ∷ []))
+begins dialogue bytes = request_pair dialogue begin_request (Answer.outputs (sent bytes ∷ []))
 
 -- The Begin of the first dialogue (own).
 abbrev pub begin_of_the_first : List ℕ
@@ -101,7 +103,7 @@ nobody_cancels = Event.on_dialogue 9 (asks.u_cancel (pos 1000))
 
 -- The first dialogue hears the result (own).
 abbrev pub first_hears : Event
-first_hears = Event.received result_of_first
+first_hears = arrived result_of_first
 
 -- The moment at which both lapse (own).
 abbrev pub both_lapse : Event
@@ -123,8 +125,8 @@ IsAloneThroughout dialogue start (pair ∷ past) =
 
 -- The second engine of "Repeated Begin": two dialogues that are born of one Begin (own).
 abbrev pub of_one_begin : Past
-of_one_begin = side Engine.b repeated_begin.trace
+of_one_begin = side engine_b repeated_begin.trace
 
 -- The first engine of "two dialogues heard as one": two dialogues with one peer (own).
 abbrev pub with_one_peer : Past
-with_one_peer = side Engine.a heard_as_one.trace
+with_one_peer = side engine_a heard_as_one.trace

@@ -8,7 +8,7 @@ use Rattle.tcap_model.specs.Words.Answer.{Answer}
 use Rattle.tcap_examples.specs.Values.DialogueValues.{code, general, of_invoke, of_result}
 use Rattle.tcap_examples.specs.Values.Hex.{hex}
 use Rattle.tcap_model.specs.Histories.History.{History}
-use Rattle.tcap_model.specs.Words.Output.{Output, Closing}
+use Rattle.tcap_model.specs.Words.Output.{Closing}
 use Rattle.tcap_model.specs.Histories.Pair.{Pair, Past}
 use Rattle.tcap_model.specs.Words.Request.{AbortReason}
 use Rattle.tcap_examples.specs.Histories.Receptions.{unknown_linked_identifier}
@@ -16,6 +16,7 @@ use Rattle.tcap_examples.specs.Values.HistoryWords.{dialogue_born, invoke_pair, 
 use Rattle.tcap_examples.specs.Wrong.WrongHistories.{Wrong, wrong}
 use Rattle.tcap_examples.specs.Values.Asked as asks
 use Rattle.tcap_examples.specs.Values.Told as told
+use Rattle.tcap_examples.specs.Values.Peer.{sent}
 
 -- ---- components
 
@@ -48,7 +49,7 @@ continue_message =
 
 -- The request that sends it (own).
 abbrev pub continue_pair : Pair
-continue_pair = request_pair 1 continue_request (Answer.outputs (Output.send continue_sent ∷ []))
+continue_pair = request_pair 1 continue_request (Answer.outputs (sent continue_sent ∷ []))
 
 -- The user's Abort (own).
 abbrev pub abort_sent : List ℕ
@@ -69,7 +70,7 @@ sent_in_parts = record {
       ∷ invoke_pair 1 (pos 1) One (pos 10) 1000 (Answer.number 1)
       ∷ invoke_pair 1 (pos 2) One (pos 10) 1000 (Answer.number 2)
       ∷ request_pair 1 (asks.u_cancel (pos 1)) (Answer.given_up 1)
-      ∷ request_pair 1 begin_request (Answer.outputs (Output.send begin_sent ∷ []))
+      ∷ request_pair 1 begin_request (Answer.outputs (sent begin_sent ∷ []))
       ∷ request_pair 1 (asks.u_cancel (pos 2)) (Answer.given_up 2)
       ∷ received_pair (hex 21 0x6513_480400000005_490400000001_6C05_A203020102) (
       continued 1 ∷ told.local_reject (Some 1) (Some (pos 2)) (of_result 0) ∷ [])
@@ -77,7 +78,7 @@ sent_in_parts = record {
       ∷ continue_pair
       ∷ invoke_pair 1 (pos 2) One (pos 10) 1000 (Answer.number 4)
       ∷ request_pair 1 (asks.u_abort AbortReason.by_user []) (Answer.outputs (
-      Output.send abort_sent ∷ told.closed 1 3 (pos 1) Closing.ended ∷ told.closed 1 4 (pos 2) Closing.ended ∷ []))
+      sent abort_sent ∷ told.closed 1 3 (pos 1) Closing.ended ∷ told.closed 1 4 (pos 2) Closing.ended ∷ []))
       ∷ []);
 }
 
@@ -113,7 +114,7 @@ answer_message = Message.go_on (hex 4 0x00000001) (hex 4 0x00000001) None (hex 8
 
 -- The request that sends it (own).
 abbrev pub answer_pair : Pair
-answer_pair = request_pair 1 continue_request (Answer.outputs (Output.send answer_sent ∷ []))
+answer_pair = request_pair 1 continue_request (Answer.outputs (sent answer_sent ∷ []))
 
 -- The peer's Begin has an Invoke that is rejected, and the first answer has the Reject (own).
 abbrev pub begun_by_the_peer : History
@@ -145,7 +146,7 @@ again_message = Message.go_on (hex 4 0x00000001) (hex 4 0x00000005) None (hex 8 
 abbrev pub sent_twice : Wrong
 sent_twice = wrong usual_start (opened_with_invoke
     (received_pair (hex 14 0x650C_480400000005_490400000001) (continued 1 ∷ []) ∷ []))
-    (request_pair 1 continue_request (Answer.outputs (Output.send again_sent ∷ [])))
+    (request_pair 1 continue_request (Answer.outputs (sent again_sent ∷ [])))
 
 -- The Begin with two Invokes, the second one first (own).
 abbrev pub swapped_sent : List ℕ
@@ -162,7 +163,7 @@ sent_swapped = wrong usual_start (
     ∷ invoke_pair 1 (pos 1) One (pos 10) 1000 (Answer.number 1)
     ∷ invoke_pair 1 (pos 2) One (pos 10) 1000 (Answer.number 2)
     ∷ [])
-    (request_pair 1 begin_request (Answer.outputs (Output.send swapped_sent ∷ [])))
+    (request_pair 1 begin_request (Answer.outputs (sent swapped_sent ∷ [])))
 
 -- An Invoke that was given up is sent all the same (own).
 abbrev pub sent_though_given_up : Wrong
@@ -171,7 +172,7 @@ sent_though_given_up = wrong usual_start (
     ∷ invoke_pair 1 (pos 1) One (pos 10) 1000 (Answer.number 1)
     ∷ request_pair 1 (asks.u_cancel (pos 1)) (Answer.given_up 1)
     ∷ [])
-    (request_pair 1 begin_request (Answer.outputs (Output.send first_sent ∷ [])))
+    (request_pair 1 begin_request (Answer.outputs (sent first_sent ∷ [])))
 
 -- The Begin without components (own).
 abbrev pub bare_sent : List ℕ
@@ -184,4 +185,4 @@ bare_message = Message.begin (hex 4 0x00000001) None []
 -- An Invoke isn't sent (own).
 abbrev pub not_sent : Wrong
 not_sent = wrong usual_start (dialogue_born 1 ∷ invoke_pair 1 (pos 1) One (pos 10) 1000 (Answer.number 1) ∷ [])
-    (request_pair 1 begin_request (Answer.outputs (Output.send bare_sent ∷ [])))
+    (request_pair 1 begin_request (Answer.outputs (sent bare_sent ∷ [])))

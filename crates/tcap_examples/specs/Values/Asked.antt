@@ -3,6 +3,8 @@ use Rattle.std.specs.Prelude.{ℕ, ℤ, List, Option}
 use Rattle.tcap_component.specs.Component.{BodyParts, CodeParts}
 use Rattle.tcap_component.specs.Problem.{ProblemParts}
 use Rattle.tcap_invocation.specs.declared.class.Class.{Class}
+use Rattle.tcap_examples.specs.Values.Peer.{peer_address}
+use Rattle.tcap_model.specs.Words.Address.{Address}
 use Rattle.tcap_model.specs.Words.Request.{Request, Ending, AbortReason, ComponentRequest, DialogueRequest}
 
 -- TC-INVOKE (Q.771, Component handling).
@@ -30,13 +32,17 @@ u_reject id problem = Request.component (ComponentRequest.u_reject id problem)
 abbrev pub u_cancel : ℤ → Request
 u_cancel id = Request.component (ComponentRequest.u_cancel id)
 
--- TC-UNI (Q.771, Dialogue handling).
+-- TC-UNI to the peer (Q.771, Dialogue handling).
 abbrev pub uni : Option (List ℕ) → List ℕ → Request
-uni context info = Request.dialogue (DialogueRequest.uni context info)
+uni context info = Request.dialogue (DialogueRequest.uni peer_address context info)
 
--- TC-BEGIN (Q.771, Dialogue handling).
+-- TC-BEGIN to an address (Q.771, Dialogue handling; the address is own).
+abbrev pub begin_to : Address → Option (List ℕ) → List ℕ → Request
+begin_to to context info = Request.dialogue (DialogueRequest.begin to context info)
+
+-- TC-BEGIN to the peer (Q.771, Dialogue handling).
 abbrev pub begin : Option (List ℕ) → List ℕ → Request
-begin context info = Request.dialogue (DialogueRequest.begin context info)
+begin context info = begin_to peer_address context info
 
 -- TC-CONTINUE (Q.771, Dialogue handling).
 abbrev pub go_on : Option (List ℕ) → List ℕ → Request

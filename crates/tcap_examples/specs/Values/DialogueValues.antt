@@ -12,6 +12,7 @@ use Rattle.tcap_model.specs.Table.TableMove.{DialogueEvent}
 use Rattle.tcap_examples.specs.Dialogues.Played.{Played, opened, play, heard, Ends}
 use Rattle.tcap_examples.specs.Values.Asked as asks
 use Rattle.tcap_examples.specs.Values.Told as told
+use Rattle.tcap_examples.specs.Values.Peer.{sent}
 
 -- An application context, by the contents octets of its object identifier (own).
 abbrev pub context : List ℕ
@@ -64,7 +65,7 @@ one_invoke = invoke (pos 1) One 10 ∷ plain_begin ∷ []
 -- What is answered to that: number 1, and the Begin with the Invoke (own).
 abbrev pub one_invoke_told : List Answer
 one_invoke_told = Answer.number 1 ∷ Answer.outputs
-    (Output.send (hex 18 0x6210_480400000001_6C08_A106020101_02010A) ∷ []) ∷ []
+    (sent (hex 18 0x6210_480400000001_6C08_A106020101_02010A) ∷ []) ∷ []
 
 -- The same Invoke with a timeout of 10000 milliseconds (own).
 abbrev pub one_long_invoke : List DialogueEvent

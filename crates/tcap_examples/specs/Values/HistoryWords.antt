@@ -13,6 +13,7 @@ use Rattle.tcap_model.specs.Histories.Pair.{Pair}
 use Rattle.tcap_model.specs.Words.Request.{Request}
 use Rattle.tcap_examples.specs.Values.Asked as asks
 use Rattle.tcap_examples.specs.Values.Told as told
+use Rattle.tcap_examples.specs.Values.Peer.{arrived, sent}
 
 -- ---- events and answers, where there is no idle limit
 
@@ -40,7 +41,7 @@ request_pair dialogue r answer = record { event = Event.on_dialogue dialogue r; 
 
 -- Bytes are received, and this is sent and told (own).
 abbrev pub received_pair : List ℕ → List Output → Pair
-received_pair bytes outputs = record { event = Event.received bytes; answer = Answer.outputs outputs; idle_ms = 0 }
+received_pair bytes outputs = record { event = arrived bytes; answer = Answer.outputs outputs; idle_ms = 0 }
 
 -- A moment, and what is told (own).
 abbrev pub moment_pair : ℕ → List Output → Pair
@@ -87,7 +88,7 @@ opened_for timeout pairs =
     dialogue_born 1
     ∷ invoke_pair 1 (pos 1) One (pos 10) timeout (Answer.number 1)
     ∷ request_pair 1 begin_request (Answer.outputs
-    (Output.send (hex 18 0x6210_480400000001_6C08_A106_020101_02010A) ∷ []))
+    (sent (hex 18 0x6210_480400000001_6C08_A106_020101_02010A) ∷ []))
     ∷ pairs
 
 -- The same, with a timeout of a second (own).

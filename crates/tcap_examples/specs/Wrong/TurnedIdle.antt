@@ -19,6 +19,7 @@ use Rattle.tcap_model.specs.Words.KeyOrder.{in_order}
 use Rattle.tcap_model.specs.Words.Output.{Output}
 use Rattle.tcap_model.specs.Words.State.{is_live, peer_of}
 use Rattle.tcap_model.specs.Words.Time.{is_idle}
+use Rattle.tcap_examples.specs.Values.Peer.{sent}
 
 -- ---- turned moments
 
@@ -26,7 +27,7 @@ use Rattle.tcap_model.specs.Words.Time.{is_idle}
 abbrev pub at_moments : (World → ℕ → EngineMoved) → Move
 at_moments turned w Event.new_dialogue = engine_move w Event.new_dialogue
 at_moments turned w (Event.on_dialogue identifier request) = engine_move w (Event.on_dialogue identifier request)
-at_moments turned w (Event.received bytes) = engine_move w (Event.received bytes)
+at_moments turned w (Event.received from bytes) = engine_move w (Event.received from bytes)
 at_moments turned w (Event.moment now) = turned w now
 
 -- An engine that tells this at moments, and whose dialogues are as they should be after them (own).
@@ -57,7 +58,7 @@ idle_by_dialogue = telling (λ w now.
 -- An Abort without contents to the peer, where it is known (own).
 abbrev pub abort_to : Option (List ℕ) → List Output
 abort_to None = []
-abort_to (Some peer) = Output.send (hex 4 0x6706_4904 ++ peer) ∷ []
+abort_to (Some peer) = sent (hex 4 0x6706_4904 ++ peer) ∷ []
 
 -- An Abort is sent to the peer of each (own).
 abbrev pub sending_aborts : Move
@@ -103,7 +104,7 @@ abbrev pub renewing_by_requests : Move
 renewing_by_requests w Event.new_dialogue = engine_move w Event.new_dialogue
 renewing_by_requests w (Event.on_dialogue identifier request) =
     with_touched identifier (engine_move w (Event.on_dialogue identifier request))
-renewing_by_requests w (Event.received bytes) = engine_move w (Event.received bytes)
+renewing_by_requests w (Event.received from bytes) = engine_move w (Event.received from bytes)
 renewing_by_requests w (Event.moment now) = engine_move w (Event.moment now)
 
 -- ---- where they show

@@ -9,10 +9,12 @@ use Rattle.tcap_model.specs.Table.EngineMove.{EngineMoved, advanced, birth_fault
 use Rattle.tcap_model.specs.Table.EngineMove.{is_live_in, received_in}
 use Rattle.tcap_model.specs.Table.World.{World}
 use Rattle.tcap_model.specs.Words.Answer.{Answer}
+use Rattle.tcap_model.specs.Words.Address.{Address}
 use Rattle.tcap_model.specs.Words.Event.{Event}
 use Rattle.tcap_model.specs.Words.KeyOrder.{in_order}
 use Rattle.tcap_model.specs.Words.Output.{DropCause, Output}
 use Rattle.tcap_model.specs.Words.State.{State}
+use Rattle.tcap_examples.specs.Values.Peer.{arrived}
 
 -- What an engine does to an event (own).
 abbrev pub Move : Type 0
@@ -29,7 +31,7 @@ pub record Shows (turned : Move) (before : World) (event : Event) (stated : Engi
 abbrev pub by_dialogue : Move
 by_dialogue w Event.new_dialogue = engine_move w Event.new_dialogue
 by_dialogue w (Event.on_dialogue identifier request) = engine_move w (Event.on_dialogue identifier request)
-by_dialogue w (Event.received bytes) = engine_move w (Event.received bytes)
+by_dialogue w (Event.received from bytes) = engine_move w (Event.received from bytes)
 by_dialogue w (Event.moment now) = record (advanced w now) {
   answer = Answer.outputs (map due_told (flat_map (λ d. in_order due_key (due_in now d)) w.dialogues));
 }
@@ -44,30 +46,30 @@ told_in_order = record { answer = Answer.outputs both_lapsed; after = none_left 
 abbrev pub freed_first : Move
 freed_first w Event.new_dialogue = engine_move w Event.new_dialogue
 freed_first w (Event.on_dialogue identifier request) = engine_move w (Event.on_dialogue identifier request)
-freed_first w (Event.received bytes) = engine_move w (Event.received bytes)
+freed_first w (Event.received from bytes) = engine_move w (Event.received from bytes)
 freed_first w (Event.moment now) =
     record (advanced w now) { answer = Answer.outputs (all_told now (map (at_moment now) w.dialogues)) }
 
 -- ---- an identifier that is drawn at the limit
 
 -- Bytes that are aborted draw an identifier, as an accepted Begin does (own).
-abbrev pub drawn_for : World → Reception → EngineMoved
-drawn_for w (Reception.aborted abort) =
-    received_in (record w { next_dialogue = w.next_dialogue + 1 }) (Reception.aborted abort)
-drawn_for w (Reception.dropped why) = received_in w (Reception.dropped why)
-drawn_for w (Reception.unidirectional context info components) =
-    received_in w (Reception.unidirectional context info components)
-drawn_for w (Reception.begun origin context info components) =
-    received_in w (Reception.begun origin context info components)
-drawn_for w (Reception.taken identifier message) = received_in w (Reception.taken identifier message)
-drawn_for w (Reception.broken identifier abort cause) = received_in w (Reception.broken identifier abort cause)
+abbrev pub drawn_for : World → Address → Reception → EngineMoved
+drawn_for w from (Reception.aborted answer) =
+    received_in (record w { next_dialogue = w.next_dialogue + 1 }) from (Reception.aborted answer)
+drawn_for w from (Reception.dropped why) = received_in w from (Reception.dropped why)
+drawn_for w from (Reception.unidirectional context info components) =
+    received_in w from (Reception.unidirectional context info components)
+drawn_for w from (Reception.begun origin context info components) =
+    received_in w from (Reception.begun origin context info components)
+drawn_for w from (Reception.taken identifier message) = received_in w from (Reception.taken identifier message)
+drawn_for w from (Reception.broken identifier answer cause) = received_in w from (Reception.broken identifier answer cause)
 
 -- An engine that draws one for each Begin, be it accepted or aborted (own).
 abbrev pub drawing_early : Move
 drawing_early w Event.new_dialogue = engine_move w Event.new_dialogue
 drawing_early w (Event.on_dialogue identifier request) = engine_move w (Event.on_dialogue identifier request)
-drawing_early w (Event.received bytes) =
-    drawn_for w (reception (is_live_in w.dialogues) (is_some (birth_fault_in w)) bytes)
+drawing_early w (Event.received from bytes) =
+    drawn_for w from (reception (is_live_in w.dialogues) (is_some (birth_fault_in w)) bytes)
 drawing_early w (Event.moment now) = engine_move w (Event.moment now)
 
 -- A Begin at the limit is aborted, and the engine is as it was (own).
@@ -92,8 +94,8 @@ has_peer_if_any (Some d) = has_peer d.standing.state
 abbrev pub hearing_early : Move
 hearing_early w Event.new_dialogue = engine_move w Event.new_dialogue
 hearing_early w (Event.on_dialogue identifier request) = engine_move w (Event.on_dialogue identifier request)
-hearing_early w (Event.received bytes) =
-    received_in w (reception (λ identifier. has_peer_if_any (dialogue_in identifier w.dialogues))
+hearing_early w (Event.received from bytes) =
+    received_in w from (reception (λ identifier. has_peer_if_any (dialogue_in identifier w.dialogues))
     (is_some (birth_fault_in w)) bytes)
 hearing_early w (Event.moment now) = engine_move w (Event.moment now)
 
@@ -113,8 +115,8 @@ FreedFirstShows = Shows freed_first both_sent (Event.moment 20) told_in_order
 
 -- The next identifier stays (own).
 abbrev pub DrawingEarlyShows : Type 0
-DrawingEarlyShows = Shows drawing_early full_engine (Event.received peer_begins) not_drawn
+DrawingEarlyShows = Shows drawing_early full_engine (arrived peer_begins) not_drawn
 
 -- The dialogue stays (own).
 abbrev pub HearingEarlyShows : Type 0
-HearingEarlyShows = Shows hearing_early begun_engine (Event.received end_to_1) not_ended
+HearingEarlyShows = Shows hearing_early begun_engine (arrived end_to_1) not_ended

@@ -12,6 +12,7 @@ use Rattle.tcap_examples.specs.Wrong.WrongHistories.{Wrong, wrong}
 use Rattle.tcap_examples.specs.Wrong.WrongEnds.{answered_once}
 use Rattle.tcap_examples.specs.Values.Asked as asks
 use Rattle.tcap_examples.specs.Values.Told as told
+use Rattle.tcap_examples.specs.Values.Peer.{sent}
 
 -- A component behind a faulty one is told (own).
 abbrev pub components_after_a_fault : Wrong
@@ -20,7 +21,7 @@ components_after_a_fault = wrong usual_start (
     ∷ invoke_pair 1 (negsuc 127) One (pos 10) 1000 (Answer.number 1)
     ∷ invoke_pair 1 (pos 127) One (pos 10) 1000 (Answer.number 2)
     ∷ request_pair 1 begin_request (Answer.outputs
-    (Output.send (hex 26 0x6218_480400000001_6C10_A106_020180_02010A_A106_02017F_02010A) ∷ []))
+    (sent (hex 26 0x6218_480400000001_6C10_A106_020180_02010A_A106_02017F_02010A) ∷ []))
     ∷ [])
     (received_pair (hex 39 0x6525_480400000005_490400000001_6C17_A203_020180_A503_020107_A203_02017F_A306_02017F_020101)
     (
@@ -43,7 +44,7 @@ clock_set_back = wrong usual_start (
     ∷ moment_pair 5 []
     ∷ invoke_pair 1 (pos 1) One (pos 10) 1000 (Answer.number 1)
     ∷ request_pair 1 begin_request (Answer.outputs
-    (Output.send (hex 18 0x6210_480400000001_6C08_A106_020101_02010A) ∷ []))
+    (sent (hex 18 0x6210_480400000001_6C08_A106_020101_02010A) ∷ []))
     ∷ [])
     (moment_pair 1005 (told.closed 1 1 (pos 1) Closing.lapsed ∷ []))
 
@@ -54,7 +55,7 @@ moving_peer = wrong usual_start (answered_once (
     (continued 1 ∷ told.local_reject (Some 1) (Some (pos 1)) (of_result 0) ∷ [])
     ∷ []))
     (request_pair 1 continue_request (Answer.outputs
-    (Output.send (hex 24 0x6516_480400000001_490400000006_6C08_A406_020101_820100) ∷ [])))
+    (sent (hex 24 0x6516_480400000001_490400000006_6C08_A406_020101_820100) ∷ [])))
 
 -- A repeated Begin makes no second dialogue (own).
 abbrev pub recognised_begin : Wrong
@@ -90,7 +91,7 @@ fault_answered_to_the_peer = wrong usual_start (opened_with_invoke (
     received_pair (hex 14 0x650C_480400000005_490400000001) (continued 1 ∷ [])
     ∷ []))
     (received_pair (hex 15 0x650D_480400000006_490400000001_6C) (
-    Output.send (hex 11 0x6709_490400000005_4A0102)
+    sent (hex 11 0x6709_490400000005_4A0102)
     ∷ told.p_abort 1 (AbortCause.cause 2)
     ∷ told.closed 1 1 (pos 1) Closing.ended
     ∷ []))
@@ -99,7 +100,7 @@ fault_answered_to_the_peer = wrong usual_start (opened_with_invoke (
 abbrev pub faulty_end_answered : Wrong
 faulty_end_answered = wrong usual_start (opened_with_invoke [])
     (received_pair (hex 15 0x640D_480400000005_490400000001_6C) (
-    Output.send (hex 11 0x6709_490400000005_4A0102)
+    sent (hex 11 0x6709_490400000005_4A0102)
     ∷ told.p_abort 1 (AbortCause.cause 2)
     ∷ told.closed 1 1 (pos 1) Closing.ended
     ∷ []))

@@ -5,11 +5,12 @@ use Rattle.tcap_invocation.specs.declared.class.Class.TheVariants.{One, Two, Thr
 use Rattle.tcap_model.specs.Words.Answer.{Answer}
 use Rattle.tcap_examples.specs.Values.DialogueValues.{code, result_of_first, of_result}
 use Rattle.tcap_examples.specs.Values.Hex.{hex}
-use Rattle.tcap_model.specs.Words.Output.{Output, Closing, Rejector}
+use Rattle.tcap_model.specs.Words.Output.{Closing, Rejector}
 use Rattle.tcap_model.specs.Histories.Pair.{Pair, Past}
 use Rattle.tcap_examples.specs.Values.HistoryWords.{dialogue_born, invoke_pair, request_pair, received_pair, moment_pair, begin_request, continued, ended, empty_result, usual_start, opened_with_invoke}
 use Rattle.tcap_examples.specs.Wrong.WrongHistories.{Wrong, wrong}
 use Rattle.tcap_examples.specs.Values.Told as told
+use Rattle.tcap_examples.specs.Values.Peer.{sent}
 
 -- A result is received and told (own).
 abbrev pub answered_once : List Pair → List Pair
@@ -35,7 +36,7 @@ empty_result_at_a_lapse = wrong usual_start (opened_with_invoke [])
 abbrev pub ended_at_once : Wrong
 ended_at_once = wrong usual_start (dialogue_born 1 ∷ invoke_pair 1 (pos 1) One (pos 10) 1000 (Answer.number 1) ∷ [])
     (request_pair 1 begin_request (Answer.outputs (
-    Output.send (hex 18 0x6210_480400000001_6C08_A106_020101_02010A)
+    sent (hex 18 0x6210_480400000001_6C08_A106_020101_02010A)
     ∷ told.closed 1 1 (pos 1) Closing.ended
     ∷ [])))
 
@@ -45,7 +46,7 @@ lapse_by_identifier = wrong usual_start (opened_with_invoke (
     dialogue_born 2
     ∷ invoke_pair 2 (pos 1) One (pos 10) 5000 (Answer.number 2)
     ∷ request_pair 2 begin_request (Answer.outputs
-    (Output.send (hex 18 0x6210_480400000002_6C08_A106_020101_02010A) ∷ []))
+    (sent (hex 18 0x6210_480400000002_6C08_A106_020101_02010A) ∷ []))
     ∷ []))
     (moment_pair 1000 (told.closed 1 1 (pos 1) Closing.lapsed ∷ told.closed 2 2 (pos 1) Closing.lapsed ∷ []))
 
@@ -64,7 +65,7 @@ opened_as class =
     dialogue_born 1
     ∷ invoke_pair 1 (pos 1) class (pos 10) 1000 (Answer.number 1)
     ∷ request_pair 1 begin_request (
-    Answer.outputs (Output.send (hex 18 0x6210_480400000001_6C08_A106_020101_02010A) ∷ []))
+    Answer.outputs (sent (hex 18 0x6210_480400000001_6C08_A106_020101_02010A) ∷ []))
     ∷ []
 
 -- A result of class 2 is told as a result (own).

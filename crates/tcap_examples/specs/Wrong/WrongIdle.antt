@@ -3,7 +3,7 @@ use Rattle.std.specs.Prelude.{pos, List, [], ◌∷◌, map}
 use Rattle.tcap_invocation.specs.declared.class.Class.TheVariants.{One}
 use Rattle.tcap_model.specs.Words.Answer.{Answer}
 use Rattle.tcap_examples.specs.Values.Hex.{hex}
-use Rattle.tcap_model.specs.Words.Output.{Output, Closing}
+use Rattle.tcap_model.specs.Words.Output.{Closing}
 use Rattle.tcap_model.specs.Histories.Pair.{Pair}
 use Rattle.tcap_examples.specs.Histories.IdleLimit.{idle_start, limited, idle_abort, ended_in_1, begin_sends}
 use Rattle.tcap_examples.specs.Histories.IdleLimit.{begin_heard, empty_continue, two_invokes_begun}
@@ -11,6 +11,7 @@ use Rattle.tcap_examples.specs.Values.HistoryWords.{dialogue_born, invoke_pair, 
 use Rattle.tcap_examples.specs.Values.HistoryWords.{continued, opened_with_invoke}
 use Rattle.tcap_examples.specs.Wrong.WrongHistories.{Wrong, wrong}
 use Rattle.tcap_examples.specs.Values.Told as told
+use Rattle.tcap_examples.specs.Values.Peer.{sent}
 
 -- A history of an engine with an idle limit of 500 milliseconds, whose last answer is meant to be wrong
 -- (own).
@@ -66,7 +67,7 @@ a_message_is_sent = idle_wrong (opened_with_invoke (
     moment_pair 400 []
     ∷ received_pair empty_continue (continued 1 ∷ [])
     ∷ []))
-    (moment_pair 900 (Output.send (hex 8 0x6706_490400000005) ∷ idle_abort 1 ∷ ended_in_1 1 ∷ []))
+    (moment_pair 900 (sent (hex 8 0x6706_490400000005) ∷ idle_abort 1 ∷ ended_in_1 1 ∷ []))
 
 -- Of two dialogues that are over at one moment the lesser identifier is told first, though it reached the
 -- limit later (own).

@@ -12,6 +12,7 @@ ghost use Rattle.tcap_model.specs.Table.TableMove.{DialogueEvent};
 ghost use Rattle.tcap_model.specs.Table.TableMove.DialogueEvent.{request};
 ghost use Rattle.tcap_examples.specs.Values.Asked as asks;
 ghost use Rattle.tcap_examples.specs.Values.Told as told;
+ghost use Rattle.tcap_examples.specs.Values.Peer.{sent};
 
 /// A faulty message ends a dialogue, with its cause.
 pub fn a_fault_ends_a_dialogue()
@@ -48,11 +49,11 @@ pub fn ways_an_invocation_closes()
 pub fn dialogue_refused_and_aborted()
     ensures refused { Ends (begun_from begin_with_aarq)
         (request (asks.u_abort AbortReason.not_supported []) ∷ [])
-        (begin_with_aarq_told ∷ Answer.outputs (Output.send
+        (begin_with_aarq_told ∷ Answer.outputs (sent
         (hex 8 0x6732_490400000001 ++ aare_result 0xA203020101_A305A103020102) ∷ []) ∷ []) }
     ensures aborted { Ends (begun_from begin_with_aarq)
         (request (asks.u_abort AbortReason.by_user []) ∷ [])
-        (begin_with_aarq_told ∷ Answer.outputs (Output.send
+        (begin_with_aarq_told ∷ Answer.outputs (sent
         (hex 28 0x671A_490400000001_6B12_2810_0607_00118605010101_A005_6403_800100) ∷ []) ∷ []) }
 {}
 
@@ -80,9 +81,9 @@ pub fn an_abort_by_the_opener()
     ensures { Ends opened
         (request (asks.begin (Some context) []) ∷ heard (hex 14 0x6538_480400000005_490400000001 ++ aare)
         ∷ request (asks.u_abort AbortReason.by_user (hex 2 0x2800)) ∷ [])
-        (Answer.outputs (Output.send (hex 8 0x6226_480400000001 ++ aarq) ∷ [])
+        (Answer.outputs (sent (hex 8 0x6226_480400000001 ++ aarq) ∷ [])
         ∷ Answer.outputs (told.go_on 1 (Some context) [] ∷ [])
-        ∷ Answer.outputs (Output.send (hex 32
+        ∷ Answer.outputs (sent (hex 32
         0x671E_490400000005_6B16_2814_0607_00118605010101_A009_6407_800100_BE02_2800) ∷ [])
         ∷ []) }
 {}

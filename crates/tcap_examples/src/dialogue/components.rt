@@ -14,6 +14,7 @@ ghost use Rattle.tcap_model.specs.Table.TableMove.{DialogueEvent};
 ghost use Rattle.tcap_model.specs.Table.TableMove.DialogueEvent.{request, moment};
 ghost use Rattle.tcap_examples.specs.Values.Asked as asks;
 ghost use Rattle.tcap_examples.specs.Values.Told as told;
+ghost use Rattle.tcap_examples.specs.Values.Peer.{sent};
 
 /// A Reject of a result closes nothing, one of the Invoke closes the invocation; then an Abort refuses
 /// the dialogue, with "no common dialogue portion".
@@ -48,7 +49,7 @@ pub fn lapse_and_late_result()
         ++ Answer.outputs []
         ∷ Answer.outputs (told.closed 1 1 (pos 1) Closing.lapsed ∷ [])
         ∷ Answer.outputs (told.go_on 1 None [] ∷ told.local_reject (Some 1) (Some (pos 1)) (of_result 0) ∷ [])
-        ∷ Answer.outputs (Output.send (hex 24 0x6516_480400000001_490400000005_6C08_A406020101_820100) ∷ [])
+        ∷ Answer.outputs (sent (hex 24 0x6516_480400000001_490400000005_6C08_A406020101_820100) ∷ [])
         ∷ []) }
 {}
 
@@ -65,14 +66,14 @@ pub fn answers_the_class_forbids()
         (Answer.number 1
         ∷ Answer.number 2
         ∷ Answer.number 3
-        ∷ Answer.outputs (Output.send (hex 34
+        ∷ Answer.outputs (sent (hex 34
         0x6220_480400000001_6C18_A106020101_02010A_A106020102_02010A_A106020103_02010A) ∷ [])
         ∷ Answer.outputs (told.go_on 1 None []
         ∷ told.closed 1 1 (pos 1) (Closing.rejected (of_result 1) Rejector.local)
         ∷ told.closed 1 2 (pos 2) (Closing.rejected (of_error 1) Rejector.local)
         ∷ told.closed 1 3 (pos 3) (Closing.rejected (of_result 1) Rejector.local)
         ∷ [])
-        ∷ Answer.outputs (Output.send (hex 40
+        ∷ Answer.outputs (sent (hex 40
         0x6526_480400000001_490400000005_6C18_A406020101_820101_A406020102_830101_A406020103_820101) ∷ [])
         ∷ []) }
 {}
@@ -89,10 +90,10 @@ pub fn faulty_second_component()
         ∷ [])
         (Answer.number 1
         ∷ Answer.number 2
-        ∷ Answer.outputs (Output.send (hex 26 0x6218_480400000001_6C10_A106020180_02010A_A10602017F_02010A) ∷ [])
+        ∷ Answer.outputs (sent (hex 26 0x6218_480400000001_6C10_A106020180_02010A_A10602017F_02010A) ∷ [])
         ∷ Answer.outputs (told.go_on 1 None [] ∷ told.closed 1 1 (negsuc 127) (Closing.result_last None)
         ∷ told.local_reject (Some 1) (Some (pos 7)) (general 0) ∷ [])
-        ∷ Answer.outputs (Output.send (hex 24 0x6516_480400000001_490400000005_6C08_A406020107_800100) ∷ [])
+        ∷ Answer.outputs (sent (hex 24 0x6516_480400000001_490400000005_6C08_A406020107_800100) ∷ [])
         ∷ Answer.given_up 2
         ∷ []) }
 {}
@@ -104,19 +105,19 @@ pub fn answers_sent()
         (shown_begin_told
         ∷ Answer.done
         ∷ Answer.done
-        ∷ Answer.outputs (Output.send (hex 29 0x651B_480400000001_490400000001_6C0D_A703020101_A306020101_02010D) ∷ [])
+        ∷ Answer.outputs (sent (hex 29 0x651B_480400000001_490400000001_6C0D_A703020101_A306020101_02010D) ∷ [])
         ∷ []) }
     ensures in_an_end { Ends (begun_from shown_begin)
         (request (asks.result_last (pos 1) None) ∷ request (asks.finish Ending.basic None []) ∷ [])
         (shown_begin_told
         ∷ Answer.done
-        ∷ Answer.outputs (Output.send (hex 15 0x640D_490400000001_6C05_A203020101) ∷ [])
+        ∷ Answer.outputs (sent (hex 15 0x640D_490400000001_6C05_A203020101) ∷ [])
         ∷ []) }
     ensures rejected { Answers (begun_from shown_begin)
         (request (asks.u_reject (Some (pos 1)) (of_invoke 1)) ∷ go_on ∷ [])
         (shown_begin_told
         ∷ Answer.done
-        ∷ Answer.outputs (Output.send (hex 24 0x6516_480400000001_490400000001_6C08_A406020101_810101) ∷ [])
+        ∷ Answer.outputs (sent (hex 24 0x6516_480400000001_490400000001_6C08_A406020101_810101) ∷ [])
         ∷ []) }
 {}
 
@@ -127,7 +128,7 @@ pub fn repeated_begin_played()
         (request (asks.result_last (pos 1) (body (code 10) (Some (hex 3 0x0401AA)))) ∷ go_on ∷ [])
         (Answer.outputs (told.begin 1 None [] ∷ told.invoked (Some 1) (pos 1) None (code 10) None ∷ [])
         ∷ Answer.done
-        ∷ Answer.outputs (Output.send (hex 29 0x651B_480400000001_490400000001_6C0D_A20B020101_300602010A_0401AA) ∷ [])
+        ∷ Answer.outputs (sent (hex 29 0x651B_480400000001_490400000001_6C0D_A20B020101_300602010A_0401AA) ∷ [])
         ∷ []) }
     ensures opener { Answers opened
         (one_invoke
@@ -149,7 +150,7 @@ pub fn a_result_in_a_begin()
     ensures { Answers (begun_from (hex 12 0x620A_480107_6C05_A203020101))
         (go_on ∷ [])
         (Answer.outputs (told.begin 1 None [] ∷ told.local_reject (Some 1) (Some (pos 1)) (of_result 0) ∷ [])
-        ∷ Answer.outputs (Output.send (hex 21 0x6513_480400000001_490107_6C08_A406020101_820100) ∷ [])
+        ∷ Answer.outputs (sent (hex 21 0x6513_480400000001_490107_6C08_A406020101_820100) ∷ [])
         ∷ []) }
 {}
 
@@ -182,7 +183,7 @@ pub fn linked_identifiers()
         ∷ []) }
     ensures requested { Answers opened
         (request (asks.invoke (pos 1) One (code 10) None (Some (pos 99)) 1000) ∷ plain_begin ∷ [])
-        (Answer.number 1 ∷ Answer.outputs (Output.send (hex 21 0x6213_480400000001_6C0B_A109020101_800163_02010A) ∷ [])
+        (Answer.number 1 ∷ Answer.outputs (sent (hex 21 0x6213_480400000001_6C0B_A109020101_800163_02010A) ∷ [])
         ∷ []) }
 {}
 
@@ -191,10 +192,10 @@ pub fn linked_identifiers()
 pub fn rejects_at_the_queues_limit()
     ensures small_limit { Answers (with_room 7 opened)
         (plain_begin ∷ heard (hex 23 0x6515_480400000005_490400000001_6C07_A203020109_A500) ∷ go_on ∷ [])
-        (Answer.outputs (Output.send (hex 8 0x6206_480400000001) ∷ [])
+        (Answer.outputs (sent (hex 8 0x6206_480400000001) ∷ [])
         ∷ Answer.outputs (told.go_on 1 None [] ∷ told.local_reject (Some 1) (Some (pos 9)) (of_result 0)
         ∷ told.local_reject (Some 1) None (general 0) ∷ [])
-        ∷ Answer.outputs (Output.send (hex 23 0x6515_480400000001_490400000005_6C07_A4050500_800100) ∷ [])
+        ∷ Answer.outputs (sent (hex 23 0x6515_480400000001_490400000005_6C07_A4050500_800100) ∷ [])
         ∷ []) }
     ensures usual_limit { Answers opened
         (plain_begin
@@ -202,11 +203,11 @@ pub fn rejects_at_the_queues_limit()
         ∷ heard (hex 23 0x6515_480400000005_490400000001_6C07_A203020109_A500)
         ∷ go_on
         ∷ [])
-        (Answer.outputs (Output.send (hex 8 0x6206_480400000001) ∷ [])
+        (Answer.outputs (sent (hex 8 0x6206_480400000001) ∷ [])
         ∷ Answer.number 1
         ∷ Answer.outputs (told.go_on 1 None [] ∷ told.local_reject (Some 1) (Some (pos 9)) (of_result 0)
         ∷ told.local_reject (Some 1) None (general 0) ∷ [])
-        ∷ Answer.outputs (Output.send (hex 34
+        ∷ Answer.outputs (sent (hex 34
         0x6582EA70_480400000001_490400000005_6C82EA60_A182EA55_020101_02010A_0482EA4B ++ replicate 59979 0
         ++ hex 7 0xA4050500_800100) ∷ [])
         ∷ []) }
@@ -238,6 +239,6 @@ pub fn a_faulty_reject()
         (one_invoke ++ heard (hex 17 0x650F_480400000005_490400000001_6C01_A4) ∷ go_on ∷ [])
         (one_invoke_told
         ++ Answer.outputs (told.go_on 1 None [] ∷ told.local_reject (Some 1) None (general 2) ∷ [])
-        ∷ Answer.outputs (Output.send (hex 14 0x650C_480400000001_490400000005) ∷ [])
+        ∷ Answer.outputs (sent (hex 14 0x650C_480400000001_490400000005) ∷ [])
         ∷ []) }
 {}

@@ -16,6 +16,7 @@ ghost use Rattle.tcap_model.specs.Table.TableMove.{DialogueEvent};
 ghost use Rattle.tcap_model.specs.Table.TableMove.DialogueEvent.{request, moment};
 ghost use Rattle.tcap_examples.specs.Values.Asked as asks;
 ghost use Rattle.tcap_examples.specs.Values.Told as told;
+ghost use Rattle.tcap_examples.specs.Values.Peer.{sent};
 
 /// After a result its identifier is held until the wait for a Reject is over.
 pub fn identifier_held_after_a_result()
@@ -35,7 +36,7 @@ pub fn identifier_held_after_a_result()
         ∷ Answer.refused Fault.invoke_id_in_use
         ∷ Answer.outputs []
         ∷ Answer.number 2
-        ∷ Answer.outputs (Output.send (hex 24 0x6516_480400000001_490400000005_6C08_A106020101_02010A) ∷ [])
+        ∷ Answer.outputs (sent (hex 24 0x6516_480400000001_490400000005_6C08_A106020101_02010A) ∷ [])
         ∷ Answer.outputs (told.go_on 1 None [] ∷ told.closed 1 2 (pos 1) (Closing.result_last None) ∷ [])
         ∷ []) }
 {}
@@ -73,7 +74,7 @@ pub fn what_a_reject_frees()
 pub fn given_up_before_it_is_sent()
     ensures { Answers opened
         (invoke (pos 1) One 10 ∷ request (asks.u_cancel (pos 1)) ∷ plain_begin ∷ moment 1000 ∷ [])
-        (Answer.number 1 ∷ Answer.given_up 1 ∷ Answer.outputs (Output.send (hex 8 0x6206_480400000001) ∷ [])
+        (Answer.number 1 ∷ Answer.given_up 1 ∷ Answer.outputs (sent (hex 8 0x6206_480400000001) ∷ [])
         ∷ Answer.outputs [] ∷ []) }
 {}
 
@@ -85,7 +86,7 @@ pub fn lapses_in_order()
         (Answer.number 1
         ∷ Answer.number 2
         ∷ Answer.number 3
-        ∷ Answer.outputs (Output.send (hex 34
+        ∷ Answer.outputs (sent (hex 34
         0x6220_480400000001_6C18_A106020105_02010A_A106020106_02010A_A106020107_02010A) ∷ [])
         ∷ Answer.outputs (told.closed 1 2 (pos 6) Closing.lapsed ∷ told.closed 1 3 (pos 7) Closing.lapsed
         ∷ told.closed 1 1 (pos 5) Closing.lapsed ∷ [])
@@ -112,7 +113,7 @@ pub fn queued_at_a_basic_end()
         (one_invoke_told
         ++ Answer.number 2
         ∷ Answer.outputs (told.go_on 1 None [] ∷ [])
-        ∷ Answer.outputs (Output.send (hex 18 0x6410_490400000005_6C08_A106020102_02010B) ∷ first_ended
+        ∷ Answer.outputs (sent (hex 18 0x6410_490400000005_6C08_A106020102_02010B) ∷ first_ended
         ∷ told.closed 1 2 (pos 2) Closing.ended ∷ [])
         ∷ []) }
 {}
@@ -122,7 +123,7 @@ pub fn queued_at_a_basic_end()
 pub fn unidirectional_both_ways()
     ensures sent { Ends opened
         (invoke (pos 1) Four 7 ∷ request (asks.uni None []) ∷ [])
-        (Answer.number 1 ∷ Answer.outputs (Output.send (hex 12 0x610A_6C08_A106020101_020107) ∷ first_ended ∷ []) ∷ []) }
+        (Answer.number 1 ∷ Answer.outputs (sent (hex 12 0x610A_6C08_A106020101_020107) ∷ first_ended ∷ []) ∷ []) }
     ensures received { reception is_none_live false (hex 12 0x610A_6C08_A106020101_020107)
         ≡ Reception.unidirectional None [] (hex 8 0xA106020101_020107) }
     ensures told { uni_told (components_of (hex 8 0xA106020101_020107))

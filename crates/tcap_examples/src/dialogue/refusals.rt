@@ -12,6 +12,7 @@ ghost use Rattle.tcap_examples.specs.Dialogues.Played.{opened, play, begun_from,
 ghost use Rattle.tcap_examples.specs.Dialogues.Refused.{with_numbers_spent, Refused};
 ghost use Rattle.tcap_model.specs.Table.TableMove.DialogueEvent.{request};
 ghost use Rattle.tcap_examples.specs.Values.Asked as asks;
+ghost use Rattle.tcap_examples.specs.Values.Peer.{sent};
 
 /// The limits of a dialogue that is Idle, and what it refuses.
 pub fn limits_and_refusals()
@@ -56,7 +57,7 @@ pub fn a_queue_at_the_limit()
 pub fn a_message_at_the_limit()
     ensures fits { Answers opened
         (request (asks.begin (Some context) (hex 4 0x2882FFC5 ++ replicate 65477 0)) ∷ [])
-        (Answer.outputs (Output.send (hex 58
+        (Answer.outputs (sent (hex 58
         0x6282FFFB_480400000001_6B82FFF1_2882FFED_0607_00118605010101_A082FFE0_6082FFDC_80020780_A109_0607_04000001000103_BE82FFC9_2882FFC5 ++ replicate 65477 0) ∷ []) ∷ []) }
     ensures one_more { Refused opened (asks.begin (Some context) (hex 4 0x2882FFC6 ++ replicate 65478 0)) Fault.too_long }
 {}
@@ -87,7 +88,7 @@ pub fn no_context_one_by_one()
     ensures not_supported { Ends (begun_from begin_with_aarq)
         (request (asks.u_abort AbortReason.not_supported (hex 2 0x2800)) ∷ [])
         (begin_with_aarq_told
-        ∷ Answer.outputs (Output.send (hex 56
+        ∷ Answer.outputs (sent (hex 56
         0x6736_490400000001_6B2E_282C_0607_00118605010101_A021_611F_80020780_A109_0607_04000001000103_A203020101_A305A103020102_BE02_2800) ∷ [])
         ∷ []) }
 {}

@@ -12,11 +12,12 @@ ghost use Rattle.tcap_model.specs.Words.Output.{Output};
 ghost use Rattle.tcap_model.specs.Statements.Places.{StandsIn, Tells};
 ghost use Rattle.tcap_examples.specs.Statements.ComponentExamples.{past, begin_sent, begin_pair, begin_message, two_invokes, before_the_begin, reject_continue, reject_pair, reject_message, reject, before_the_reject, late, result_told, result_pair, before_the_result, begin_received, begun_pair, invoke_told, crossed_queues, misread};
 ghost use Rattle.tcap_examples.specs.Wrong.WrongHistories.{GoesWrong, whole};
+ghost use Rattle.tcap_examples.specs.Values.Peer.{sent};
 
 /// Two Invokes in a Begin: each was asked for by an accepted request of its dialogue.
 pub fn invokes_are_those_requested()
     ensures stands { StandsIn begin_pair before_the_begin past }
-    ensures tells { Tells begin_pair.answer (Output.send begin_sent) }
+    ensures tells { Tells begin_pair.answer (sent begin_sent) }
     ensures spelled { SpellsFrame begin_message begin_sent }
     ensures read { FirstFault two_invokes None (portion_of begin_message) }
     ensures sent_from { SentFromOne begin_pair.event before_the_begin two_invokes None }
@@ -25,7 +26,7 @@ pub fn invokes_are_those_requested()
 /// A Reject in a Continue: it was formed in its dialogue. So all that is sent comes from there.
 pub fn a_reject_is_that_formed()
     ensures stands { StandsIn reject_pair before_the_reject past }
-    ensures tells { Tells reject_pair.answer (Output.send reject_continue) }
+    ensures tells { Tells reject_pair.answer (sent reject_continue) }
     ensures spelled { SpellsFrame reject_message reject_continue }
     ensures read { FirstFault reject None (portion_of reject_message) }
     ensures sent_from { SentFromOne reject_pair.event before_the_reject reject None }

@@ -2,16 +2,16 @@
 //! that they name, and what answers a faulty message.
 #![tactic(auto, using(crate::proofs::GrammarWorks::grammar_works), unfolding(crate::specs::Computing::computing))]
 
-ghost use Rattle.std.specs.Prelude.{◌≡◌, [], Option, Some, None};
+ghost use Rattle.std.specs.Prelude.{◌≡◌, [], Option, Some, None, option_map};
 ghost use Rattle.tcap_pdu.specs.declared.fault.FrameFault.TheVariants.{BadlyFormatted};
 ghost use Rattle.tcap_pdu.specs.FrameFaults.{IsFrameFault};
+ghost use Rattle.tcap_pdu.specs.FrameWritten.{written_frame};
 ghost use Rattle.tcap_pdu.specs.Front.{Front};
 ghost use Rattle.tcap_examples.specs.Statements.GrammarExamples as example;
 ghost use Rattle.tcap_examples.specs.Values.DialogueValues.{context, result_of_first};
 ghost use Rattle.tcap_model.specs.Statements.FaultAnswer.{fault_answer};
 ghost use Rattle.tcap_model.specs.Statements.NamesDialogue.{NamesDialogue};
 ghost use Rattle.tcap_model.specs.Statements.NormalPortion.{IsNormal, IsAbnormal};
-ghost use Rattle.tcap_model.specs.Words.Output.{Output};
 ghost use Rattle.tcap_model.specs.Words.State.{State};
 
 /// An acceptance where the Begin had a context, and nothing where it had none or the dialogue is active.
@@ -46,8 +46,8 @@ pub fn dialogues_named()
 pub fn faults_answered()
     ensures faulty { IsFrameFault example.faulty_continue BadlyFormatted }
     ensures front { Front example.faulty_continue (Some example.peer) (Some example.first_octets) }
-    ensures answered { fault_answer example.faulty_continue BadlyFormatted (Some example.peer) ≡
-        Some (Output.send example.abort_sent) }
+    ensures answered { option_map written_frame (fault_answer example.faulty_continue BadlyFormatted (Some example.peer))
+        ≡ Some example.abort_sent }
     ensures no_origin { fault_answer example.without_origin BadlyFormatted None ≡ None }
     ensures never { fault_answer example.faulty_end BadlyFormatted (Some example.peer) ≡ None }
 {}
