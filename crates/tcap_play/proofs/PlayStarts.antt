@@ -2,10 +2,10 @@
 use Rattle.std.proofs.Common.{◌≡◌, ◌≤◌, ◌∙◌, ℕ, Bool, List, [], refl, sym, ap}
 use Rattle.std.proofs.lemmas.Bool.{le-leb}
 use Rattle.tcap_invocation.specs.Stage.{moment_limit}
-use Rattle.tcap_model.specs.Statements.Net.{Engine}
 use Rattle.tcap_model.specs.Table.World.{StandsAt, World, first_world}
 use Rattle.tcap_play.specs.Play.{Printed, behind, history_of, not_begun, play_start}
 use Rattle.tcap_play.specs.PlayViews.{IsAt}
+use Rattle.tcap_play.specs.Sides.{Engine}
 use Rattle.tcap_play.specs.declared.station.Station.{Station}
 use Rattle.tcap_play.proofs.Nets.OpenedScripts.{play-starts}
 

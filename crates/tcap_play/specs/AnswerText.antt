@@ -2,15 +2,15 @@
 use Rattle.std.specs.Prelude.{ℕ, ◌+◌, Bool, true, false, List, [], ◌∷◌, ◌++◌, codes, length}
 use Rattle.std.specs.List.{filter}
 use Rattle.std.specs.Fmt.{decimal}
-use Rattle.tcap_model.specs.Statements.Net.{Engine}
 use Rattle.tcap_model.specs.Words.Answer.{Answer}
 use Rattle.tcap_model.specs.Words.Fault.{fault_number}
 use Rattle.tcap_model.specs.Words.Output.{Output}
 use Rattle.tcap_play.specs.OutputText.{engine_line, output_line}
+use Rattle.tcap_play.specs.Sides.{Engine}
 
 -- Whether an output sends a message (own).
 abbrev pub is_message : Output → Bool
-is_message (Output.send bytes) = true
+is_message (Output.send to bytes) = true
 is_message (Output.dialogue told) = false
 is_message (Output.component told) = false
 is_message (Output.dropped why) = false

@@ -14,6 +14,7 @@ pub mod PlayViews
 pub mod Run
 pub mod ScriptLine
 pub mod ScriptWords
+pub mod Sides
 pub mod SideView
 pub mod StreamRun
 pub mod StreamSteps

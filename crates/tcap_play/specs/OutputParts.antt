@@ -5,7 +5,7 @@ use Rattle.tcap_play.specs.OutputText.{dialogue_words, component_words, closed_w
 
 -- The words of an indication of dialogue handling, none of another output (own).
 abbrev pub dialogue_part : Output → List ℕ
-dialogue_part (Output.send bytes) = []
+dialogue_part (Output.send to bytes) = []
 dialogue_part (Output.dialogue told) = dialogue_words told
 dialogue_part (Output.component told) = []
 dialogue_part (Output.dropped why) = []
@@ -21,7 +21,7 @@ open_words (ComponentIndication.closed dialogue number id closing) = []
 -- The words of an indication of component handling that closes no invocation, none of another output
 -- (own).
 abbrev pub component_part : Output → List ℕ
-component_part (Output.send bytes) = []
+component_part (Output.send to bytes) = []
 component_part (Output.dialogue told) = []
 component_part (Output.component told) = open_words told
 component_part (Output.dropped why) = []
@@ -36,7 +36,7 @@ closing_words (ComponentIndication.closed dialogue number id closing) = closed_w
 
 -- The words of an output that closes an invocation, none of another (own).
 abbrev pub closing_part : Output → List ℕ
-closing_part (Output.send bytes) = []
+closing_part (Output.send to bytes) = []
 closing_part (Output.dialogue told) = []
 closing_part (Output.component told) = closing_words told
 closing_part (Output.dropped why) = []

@@ -1,10 +1,11 @@
 -- The line of an output: what is sent, told or dropped.
-use Rattle.std.specs.Prelude.{ℕ, ℤ, List, ◌++◌, codes, Option, Some, None}
+use Rattle.std.specs.Prelude.{ℕ, ℤ, List, [], ◌++◌, bytes_eq, codes, Option, Some, None, if◌then◌else◌}
 use Rattle.std.specs.Fmt.{decimal, signed_decimal}
 use Rattle.hex.specs.Hex.{encode_lower}
 use Rattle.tcap_pdu.specs.DialogueSpelling.{PduValue}
-use Rattle.tcap_model.specs.Statements.Net.{Engine}
+use Rattle.tcap_model.specs.Words.Address.{Address}
 use Rattle.tcap_model.specs.Words.Output.{AbortCause, Rejector, DropCause, Closing, ComponentIndication, DialogueIndication, Output}
+use Rattle.tcap_play.specs.Sides.{Engine, address_of, far}
 use Rattle.tcap_text.specs.ComponentText.{identifier_words, coded_words, body_words, problem_words}
 use Rattle.tcap_text.specs.DialogueText.{pdu_words}
 use Rattle.tcap_text.specs.Text.{octets_words, optional_octets_words}
@@ -82,14 +83,19 @@ drop_words DropCause.bad_message = codes "badmessage"
 drop_words DropCause.no_dialogue = codes "nodialogue"
 drop_words DropCause.bad_dialogue = codes "baddialogue"
 
+-- Where a message goes that doesn't go to the other engine; nothing of one that does (own).
+abbrev pub strange_words : Engine → Address → List ℕ
+strange_words engine to = if bytes_eq to (address_of (far engine)) then [] else codes " to " ++ octets_words to
+
 -- A message that an engine sends: its name, which is the engine and the number of the message among all
--- that the engine sends, and its octets (own).
-abbrev pub send_words : Engine → ℕ → List ℕ → List ℕ
-send_words engine number bytes = codes "send " ++ (engine_words engine ++ (decimal number ++ (codes " " ++ encode_lower bytes)))
+-- that the engine sends; its octets; and where it goes if not to the other engine (own).
+abbrev pub send_words : Engine → ℕ → Address → List ℕ → List ℕ
+send_words engine number to bytes =
+    codes "send " ++ (engine_words engine ++ (decimal number ++ (codes " " ++ (encode_lower bytes ++ strange_words engine to))))
 
 -- An output; the number is that of the message, if it sends one (own).
 abbrev pub output_words : Engine → ℕ → Output → List ℕ
-output_words engine number (Output.send bytes) = send_words engine number bytes
+output_words engine number (Output.send to bytes) = send_words engine number to bytes
 output_words engine number (Output.dialogue told) = dialogue_words told
 output_words engine number (Output.component told) = component_words told
 output_words engine number (Output.dropped why) = codes "dropped " ++ drop_words why

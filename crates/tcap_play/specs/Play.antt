@@ -1,10 +1,11 @@
 -- A play of a script: two engines, and the messages between them.
-use Rattle.std.specs.Prelude.{ℕ, ◌+◌, ◌-◌, ◌==◌, Bool, true, false, List, [], ◌∷◌, ◌++◌, codes, length, Option, Some, None, slice_get, set, if◌then◌else◌}
+use Rattle.std.specs.Prelude.{ℕ, ◌+◌, ◌-◌, ◌==◌, Bool, true, false, List, [], ◌∷◌, ◌++◌, codes, length, Option, Some, None, bytes_eq, slice_get, set, if◌then◌else◌}
 use Rattle.std.specs.Fmt.{decimal}
 use Rattle.std.specs.Option.{option_map, option_and_then}
 use Rattle.tcap_model.specs.Histories.History.{History, Start}
 use Rattle.tcap_model.specs.Replies.Reply.{reply}
-use Rattle.tcap_model.specs.Statements.Net.{Engine, Trace, far, side}
+use Rattle.tcap_model.specs.Statements.Net.{Trace, side}
+use Rattle.tcap_model.specs.Words.Address.{Address}
 use Rattle.tcap_model.specs.Words.Answer.{Answer}
 use Rattle.tcap_model.specs.Words.Event.{Event}
 use Rattle.tcap_model.specs.Words.Output.{Output}
@@ -13,6 +14,7 @@ use Rattle.tcap_play.specs.Opening.{Opening, opening_of}
 use Rattle.tcap_play.specs.Pieces.{is_skipped, words_of}
 use Rattle.tcap_play.specs.ScriptLine.{ScriptLine, line_of}
 use Rattle.tcap_play.specs.ScriptWords.{MessageName}
+use Rattle.tcap_play.specs.Sides.{Engine, address_of, far, number_of}
 
 -- What became of a message: it waits, it was received on the other side, or it is lost (own).
 pub data Fate : Type 0 where
@@ -20,8 +22,9 @@ pub data Fate : Type 0 where
   delivered : Fate
   lost : Fate
 
--- A message that was sent (own).
+-- A message that was sent, and where it goes (own).
 pub record Message : Type 0 where
+  pub to : Address
   pub octets : List ℕ
   pub fate : Fate
 
@@ -51,7 +54,7 @@ not_begun idle_ms = record { idle_ms = idle_ms; trace = []; from_a = []; from_b 
 
 -- The history of an engine (own).
 abbrev pub history_of : Engine → Played → History
-history_of engine p = record { start = play_start p.idle_ms; pairs = side engine p.trace }
+history_of engine p = record { start = play_start p.idle_ms; pairs = side (number_of engine) p.trace }
 
 -- The messages that an engine sent (own).
 abbrev pub sent_by : Engine → Played → List Message
@@ -66,7 +69,8 @@ with_sent Engine.b messages p = record p { from_b = messages }
 -- The messages that outputs send, none of them received (own).
 abbrev pub messages_of : List Output → List Message
 messages_of [] = []
-messages_of (Output.send bytes ∷ outputs) = record { octets = bytes; fate = Fate.waiting } ∷ messages_of outputs
+messages_of (Output.send to bytes ∷ outputs) =
+    record { to = to; octets = bytes; fate = Fate.waiting } ∷ messages_of outputs
 messages_of (Output.dialogue told ∷ outputs) = messages_of outputs
 messages_of (Output.component told ∷ outputs) = messages_of outputs
 messages_of (Output.dropped why ∷ outputs) = messages_of outputs
@@ -96,17 +100,21 @@ has_fate Fate.lost Fate.waiting = false
 has_fate Fate.lost Fate.delivered = false
 has_fate Fate.lost Fate.lost = true
 
--- The octets of a message, where it is in this state (own).
-abbrev pub octets_if : Fate → Message → Option (List ℕ)
-octets_if fate message = if has_fate fate message.fate then Some message.octets else None
+-- A message, where it is in this state (own).
+abbrev pub message_if : Fate → Message → Option Message
+message_if fate message = if has_fate fate message.fate then Some message else None
 
--- The octets of the message with this number, where it is in this state (own).
-abbrev pub octets_at : Fate → ℕ → List Message → Option (List ℕ)
-octets_at fate number messages = option_and_then (octets_if fate) (message_at number messages)
+-- The message with this number, where it is in this state (own).
+abbrev pub message_in : Fate → ℕ → List Message → Option Message
+message_in fate number messages = option_and_then (message_if fate) (message_at number messages)
 
--- With the message of this number in another state (own).
-abbrev pub with_fate : Fate → ℕ → List ℕ → List Message → List Message
-with_fate fate number octets messages = set messages (number - 1) (record { octets = octets; fate = fate })
+-- A message, where it goes to this address (own).
+abbrev pub message_to : Address → Message → Option Message
+message_to address message = if bytes_eq message.to address then Some message else None
+
+-- With this message, which has this number, in another state (own).
+abbrev pub with_fate : Fate → ℕ → Message → List Message → List Message
+with_fate fate number message messages = set messages (number - 1) (record message { fate = fate })
 
 -- ---- lines
 
@@ -114,39 +122,48 @@ with_fate fate number octets messages = set messages (number - 1) (record { octe
 abbrev pub answered : Engine → Event → Answer → Played → Stepped
 answered engine event answer p = record {
   text = answer_lines engine (length (sent_by engine p)) answer;
-  after = with_sent engine (sent_by engine p ++ messages_in answer) (record p { trace = record { engine = engine; pair = record { event = event; answer = answer; idle_ms = p.idle_ms } } ∷ p.trace });
+  after = with_sent engine (sent_by engine p ++ messages_in answer) (record p {
+    trace = record { engine = number_of engine; pair = record { event = event; answer = answer; idle_ms = p.idle_ms } } ∷ p.trace;
+  });
 }
 
 -- An engine is handed an event; its answer is the reply after all that was handed to it before (own).
 abbrev pub handed : Engine → Event → Played → Stepped
 handed engine event p = answered engine event (reply (history_of engine p) event) p
 
--- A message with these octets is received on the side that didn't send it, and is in a new state (own).
-abbrev pub received_from : MessageName → Fate → Played → List ℕ → Stepped
-received_from name fate p octets = handed (far name.engine) (Event.received octets)
-    (with_sent name.engine (with_fate fate name.number octets (sent_by name.engine p)) p)
+-- This message is received on the side that didn't send it, from the address of the one that did, and is
+-- in a new state (own).
+abbrev pub received_from : MessageName → Fate → Played → Message → Stepped
+received_from name fate p message = handed (far name.engine) (Event.received (address_of name.engine) message.octets)
+    (with_sent name.engine (with_fate fate name.number message (sent_by name.engine p)) p)
 
--- A message with these octets is lost; nothing is printed (own).
-abbrev pub lost_from : MessageName → Played → List ℕ → Stepped
-lost_from name p octets = record {
+-- This message is lost; nothing is printed (own).
+abbrev pub lost_from : MessageName → Played → Message → Stepped
+lost_from name p message = record {
   text = [];
-  after = with_sent name.engine (with_fate Fate.lost name.number octets (sent_by name.engine p)) p;
+  after = with_sent name.engine (with_fate Fate.lost name.number message (sent_by name.engine p)) p;
 }
+
+-- The message of a name, where it is in this state and goes to the other side (own).
+abbrev pub carried : MessageName → Fate → Played → Option Message
+carried name fate p =
+    option_and_then (message_to (address_of (far name.engine))) (message_in fate name.number (sent_by name.engine p))
 
 -- One step, and another after it (own).
 abbrev pub followed : Stepped → (Played → Stepped) → Stepped
 followed first next = record { text = first.text ++ (next first.after).text; after = (next first.after).after }
 
 -- What a line does; none where it names no message that can be so treated: only one that waits is
--- delivered or lost, and only one that was delivered is received again (own).
+-- delivered or lost, only one that was delivered is received again, and one that goes elsewhere than to the
+-- other side is only lost (own).
 abbrev pub step : Played → ScriptLine → Option Stepped
 step p (ScriptLine.call engine event) = Some (handed engine event p)
 step p (ScriptLine.deliver name) =
-    option_map (received_from name Fate.delivered p) (octets_at Fate.waiting name.number (sent_by name.engine p))
+    option_map (received_from name Fate.delivered p) (carried name Fate.waiting p)
 step p (ScriptLine.again name) =
-    option_map (received_from name Fate.delivered p) (octets_at Fate.delivered name.number (sent_by name.engine p))
+    option_map (received_from name Fate.delivered p) (carried name Fate.delivered p)
 step p (ScriptLine.lose name) =
-    option_map (lost_from name p) (octets_at Fate.waiting name.number (sent_by name.engine p))
+    option_map (lost_from name p) (message_in Fate.waiting name.number (sent_by name.engine p))
 step p (ScriptLine.advance now) =
     Some (followed (handed Engine.a (Event.moment now) p) (handed Engine.b (Event.moment now)))
 

@@ -10,6 +10,7 @@ use Rattle.tcap_play.specs.Opening.{Opening, opening_of}
 use Rattle.tcap_play.specs.Pieces.{is_skipped, lines_of, words_of}
 use Rattle.tcap_play.specs.Play.{Played, Stepped, bad_line, messages_in, not_begun, play_start, play_text_of, play_is_good, step_by}
 use Rattle.tcap_play.specs.ScriptLine.{ScriptLine, line_of}
+use Rattle.tcap_play.specs.Sides.{engine_numbered, play_places}
 
 -- ---- raw lines
 
@@ -17,7 +18,7 @@ use Rattle.tcap_play.specs.ScriptLine.{ScriptLine, line_of}
 abbrev pub is_receipt : Event → Bool
 is_receipt Event.new_dialogue = false
 is_receipt (Event.on_dialogue dialogue request) = false
-is_receipt (Event.received bytes) = true
+is_receipt (Event.received from bytes) = true
 is_receipt (Event.moment now) = false
 
 -- Whether a line hands an engine octets of its own, which no engine need have sent (own).
@@ -33,11 +34,11 @@ is_raw (Some (ScriptLine.advance now)) = false
 abbrev pub is_raw_line : List ℕ → Bool
 is_raw_line line = not (is_skipped line) && is_raw (line_of (words_of line))
 
--- Whether no line of a script is a `raw` line (own).
+-- Whether no line of a script is a `raw` or `rawfrom` line (own).
 abbrev pub has_no_raw : List ℕ → Bool
 has_no_raw script = list_all (λ line. not (is_raw_line line)) (lines_of script)
 
--- No line of a script is a `raw` line: what its engines receive are the messages of the play alone (own).
+-- No line of a script is a `raw` or `rawfrom` line: what its engines receive are the messages of the play alone (own).
 abbrev pub HasNoRaw : List ℕ → Type 0
 HasNoRaw script = IsTrue (has_no_raw script)
 
@@ -62,9 +63,14 @@ played_behind opening = played_from (not_begun opening.idle_ms) opening.lines
 abbrev pub played_of : List ℕ → Played
 played_of script = played_behind (opening_of script)
 
--- The two engines of a script, each with the start of its play, and the pairs of both in its order (own).
+-- The two engines of a script, each with the start and the address of its play, and the pairs of both in
+-- its order (own).
 abbrev pub net_of : List ℕ → Net
-net_of script = record { start = λ engine. play_start (played_of script).idle_ms; trace = (played_of script).trace }
+net_of script = record {
+  start = λ engine. play_start (played_of script).idle_ms;
+  places = play_places;
+  trace = (played_of script).trace;
+}
 
 -- ---- its text
 
@@ -77,7 +83,8 @@ sent_count (pair ∷ past) = sent_count past + length (messages_in pair.answer)
 -- follows those of all that its engine sent before (own).
 abbrev pub shown_text : Trace → List ℕ
 shown_text [] = []
-shown_text (m ∷ trace) = shown_text trace ++ answer_lines m.engine (sent_count (side m.engine trace)) m.pair.answer
+shown_text (m ∷ trace) =
+    shown_text trace ++ answer_lines (engine_numbered m.engine) (sent_count (side m.engine trace)) m.pair.answer
 
 -- What is printed is this text; and behind it, where the play isn't good, that a line is bad (own).
 abbrev pub IsShown : Bool → List ℕ → List ℕ → Type 0
@@ -86,7 +93,7 @@ IsShown false shown text = (number : ℕ) × (text ≡ shown ++ bad_line number)
 
 -- ---- the statements
 
--- What happens to both engines in the play of a script without a `raw` line meets Net: each answers as its
+-- What happens to both engines in the play of a script without a `raw` or `rawfrom` line meets Net: each answers as its
 -- own history says, and receives only what the other sent before (own).
 abbrev pub PlaysMeetNet : Type 0
 PlaysMeetNet = (script : List ℕ) → HasNoRaw script → IsNet (net_of script)
@@ -94,7 +101,7 @@ PlaysMeetNet = (script : List ℕ) → HasNoRaw script → IsNet (net_of script)
 -- Of the answers in it both users may rely on the origin of each answer, that it comes after the Invoke, that
 -- one closes at most, and on the operations (own).
 abbrev pub PlaysHaveTwoEnds : Type 0
-PlaysHaveTwoEnds = (script : List ℕ) → HasNoRaw script → TwoEnds (played_of script).trace
+PlaysHaveTwoEnds = (script : List ℕ) → HasNoRaw script → TwoEnds play_places (played_of script).trace
 
 -- What the play of any script prints are these answers, in their order, and nothing else but that a line is
 -- bad (own).

@@ -1,6 +1,5 @@
 -- Messages and a play as a contract sees them.
 use Rattle.std.specs.Prelude.{◌≡◌, ◌++◌, ◌∷◌, ℕ, Bool, true, false, List, map, Option, Some, None, length, slice_index_or, ◌+◌, ◌<◌}
-use Rattle.tcap_model.specs.Statements.Net.{Engine}
 use Rattle.tcap_model.specs.Table.World.{StandsAt}
 use Rattle.tcap_model.specs.Histories.History.{History}
 use Rattle.tcap_model.specs.Replies.Reply.{reply}
@@ -8,6 +7,7 @@ use Rattle.tcap_model.specs.Statements.EngineMoves.{with_pair}
 use Rattle.tcap_model.specs.Words.Event.{Event}
 use Rattle.tcap_play.specs.AnswerText.{answer_lines}
 use Rattle.tcap_play.specs.Play as play
+use Rattle.tcap_play.specs.Sides.{Engine, address_of, far}
 use Rattle.tcap_play.specs.Play.{Played, Stepped, behind, has_fate, history_of, messages_in, printed_from, with_fate}
 use Rattle.tcap_play.specs.declared.message.Fate.{Fate}
 use Rattle.tcap_play.specs.declared.message.Fate.TheVariants as fate
@@ -22,7 +22,7 @@ fate_view fate.Lost = play.Fate.lost
 
 -- A message (own).
 abbrev pub message_view : {A : Type 0} → Message A → play.Message
-message_view message = record { octets = message.octets.items; fate = fate_view message.fate }
+message_view message = record { to = message.to; octets = message.octets.items; fate = fate_view message.fate }
 
 -- Messages (own).
 abbrev pub messages_view : {A : Type 0} → List (Message A) → List play.Message
@@ -54,18 +54,19 @@ pub record IsThere {A : Type 0} (fate : play.Fate) (number : ℕ) (messages : Li
   pub is_fate : (d : Message A) → has_fate fate (fate_view (slice_index_or messages place d).fate) ≡ true
 
 -- A message that was received: its octets were handed to the engine of the other side, and it is in its
--- new state; or there is none with this number in the state that was asked for (own).
-abbrev pub Receives : {A : Type 0} → Option (List ℕ) → ℕ → Engine → Bool → (sent sent_now : List (Message A)) → (old new : Station A) → (before after : List ℕ) → Type 0
+-- new state; or there is none with this number in the state that was asked for, or it goes elsewhere (own).
+abbrev pub Receives : {A : Type 0} → Option play.Message → ℕ → Engine → Bool → (sent sent_now : List (Message A)) → (old new : Station A) → (before after : List ℕ) → Type 0
 Receives None number engine done sent sent_now old new before after = (done ≡ false) × (after ≡ before)
-Receives (Some octets) number engine done sent sent_now old new before after =
-    (done ≡ true) × (messages_view sent_now ≡ with_fate play.Fate.delivered number octets (messages_view sent))
-    × ((h : History) → StandsAt h old.engine → Hands h engine (Event.received octets) old new before after)
+Receives (Some message) number engine done sent sent_now old new before after =
+    (done ≡ true) × (messages_view sent_now ≡ with_fate play.Fate.delivered number message (messages_view sent))
+    × ((h : History) → StandsAt h old.engine →
+    Hands h engine (Event.received (address_of (far engine)) message.octets) old new before after)
 
 -- A message that is lost, or there is none with this number that waits (own).
-abbrev pub Loses : {A : Type 0} → Option (List ℕ) → ℕ → Bool → (sent sent_now : List (Message A)) → Type 0
+abbrev pub Loses : {A : Type 0} → Option play.Message → ℕ → Bool → (sent sent_now : List (Message A)) → Type 0
 Loses None number done sent sent_now = done ≡ false
-Loses (Some octets) number done sent sent_now =
-    (done ≡ true) × (messages_view sent_now ≡ with_fate play.Fate.lost number octets (messages_view sent))
+Loses (Some message) number done sent sent_now =
+    (done ≡ true) × (messages_view sent_now ≡ with_fate play.Fate.lost number message (messages_view sent))
 
 -- Whether there was a step: where there is none nothing was printed (own).
 abbrev pub Does : {A : Type 0} → Option Stepped → Bool → Station A → Station A → List ℕ → List ℕ → Type 0

@@ -1,6 +1,6 @@
 -- What the words of a script's lines stand for.
-use Rattle.std.specs.Prelude.{ℕ, ℤ, pos, neg_ℤ, List, [], ◌∷◌, Option, Some, None, codes, bytes_eq, if◌then◌else◌}
-use Rattle.std.specs.Option.{option_map}
+use Rattle.std.specs.Prelude.{ℕ, ℤ, pos, neg_ℤ, nat_le, List, [], ◌∷◌, length, Option, Some, None, codes, bytes_eq, if◌then◌else◌}
+use Rattle.std.specs.Option.{option_map, option_and_then}
 use Rattle.ber_core.specs.Options.{◌>>=◌}
 use Rattle.tcap_component.specs.declared.problem.Kind.{Kind}
 use Rattle.tcap_component.specs.declared.problem.Kind.TheVariants as kind
@@ -10,9 +10,10 @@ use Rattle.tcap_component.specs.Problem.{ProblemParts}
 use Rattle.tcap_invocation.specs.Stage.{moment_limit}
 use Rattle.tcap_invocation.specs.declared.class.Class.{Class}
 use Rattle.tcap_invocation.specs.declared.class.Class.TheVariants as class
-use Rattle.tcap_model.specs.Statements.Net.{Engine}
+use Rattle.tcap_model.specs.Words.Address.{Address}
 use Rattle.tcap_model.specs.Words.Request.{AbortReason}
 use Rattle.tcap_play.specs.Numbers.{number_up_to, number_between}
+use Rattle.tcap_play.specs.Sides.{Engine}
 use Rattle.tcap_text.specs.Spelling.{spelled_by}
 
 -- What a message is called: the engine that sent it, and its number among those that this engine sent,
@@ -78,6 +79,14 @@ spelled_in (digit ∷ digits) = spelled_by (digit ∷ digits)
 -- The octets that a word spells; `-` spells none (own).
 abbrev pub octets_of : List ℕ → Option (List ℕ)
 octets_of word = if bytes_eq word (codes "-") then Some [] else spelled_in word
+
+-- Octets as an address: at most 255 (own).
+abbrev pub address_if : List ℕ → Option Address
+address_if octets = if nat_le (length octets) 255 then Some octets else None
+
+-- The address that a word spells; `-` spells the one of no octets (own).
+abbrev pub named_address : List ℕ → Option Address
+named_address word = option_and_then address_if (octets_of word)
 
 -- Octets that may be left out, with `-` (own).
 abbrev pub optional_octets_of : List ℕ → Option (Option (List ℕ))

@@ -1,5 +1,5 @@
 -- A side as a contract sees it.
-use Rattle.tcap_model.specs.Statements.Net.{Engine}
+use Rattle.tcap_play.specs.Sides.{Engine}
 use Rattle.tcap_play.specs.declared.side.Side.{Side}
 use Rattle.tcap_play.specs.declared.side.Side.TheVariants as side
 

@@ -19,7 +19,7 @@ fn sends<A: Allocator + Copy>(output: &Output<'_, A>) -> u128
     ensures few { result ≤ 1 }
 {
     match output {
-        Output::Send(_) => 1,
+        Output::Send { .. } => 1,
         Output::Uni { .. } | Output::Begin { .. } | Output::Continue { .. } => 0,
         Output::End { .. } | Output::UAbort { .. } | Output::PAbort { .. } => 0,
         Output::Invoked { .. } | Output::ResultMore { .. } | Output::ResultLast { .. } => 0,

@@ -41,6 +41,22 @@ pub fn endings()
     ensures no_line_feed { Prints (codes "A new") (codes "A new 1\n") }
 {}
 
+/// Addresses: a message that doesn't go to the other side names where it goes, and is only lost. A message is
+/// received from another address than the other side's, and an answer to it goes there.
+pub fn addresses()
+    ensures text { PrintsUpTo (codes "A new\nA beginto 1 43 - -\nB rawfrom 43 650C4804000000094904000000FF\ndeliver A1") (codes "A new 1\nA send A1 6206480400000001 to 43\nB send B1 67094904000000094a0101 to 43\nline 4 bad\n") }
+    ensures known { Prints (codes "A new\nA beginto 1 42 - -\ndeliver A1") (codes "A new 1\nA send A1 6206480400000001\nB begin 1 context - info -\n") }
+    ensures own { Prints (codes "A new\nA beginto 1 41 - -") (codes "A new 1\nA send A1 6206480400000001 to 41\n") }
+    ensures none { Prints (codes "A new\nA beginto 1 - - -") (codes "A new 1\nA send A1 6206480400000001 to -\n") }
+    ensures from_none { Prints (codes "B rawfrom - 650C4804000000094904000000FF") (codes "B send B1 67094904000000094a0101 to -\n") }
+    ensures from_other { Prints (codes "A rawfrom 42 650C4804000000094904000000FF") (codes "A send A1 67094904000000094a0101\n") }
+    ensures again { PrintsUpTo (codes "A new\nA beginto 1 43 - -\nagain A1") (codes "A new 1\nA send A1 6206480400000001 to 43\nline 3 bad\n") }
+    ensures lost { Prints (codes "A new\nA beginto 1 43 - -\nlose A1") (codes "A new 1\nA send A1 6206480400000001 to 43\n") }
+    ensures lost_twice { PrintsUpTo (codes "A new\nA beginto 1 43 - -\nlose A1\nlose A1") (codes "A new 1\nA send A1 6206480400000001 to 43\nline 4 bad\n") }
+    ensures no_octets { PrintsUpTo (codes "A new\nA beginto 1 4 - -") (codes "A new 1\nline 2 bad\n") }
+    ensures no_address { PrintsUpTo (codes "A rawfrom 00") (codes "line 1 bad\n") }
+{}
+
 /// Refusals are good.
 pub fn refusals()
     ensures begin { Prints (codes "A begin 9 - -") (codes "A refused 2\n") }
@@ -104,11 +120,12 @@ pub fn messages()
     ensures lost_late { PrintsUpTo (codes "A new\nA begin 1 - -\ndeliver A1\nlose A1") (codes "A new 1\nA send A1 6206480400000001\nB begin 1 context - info -\nline 4 bad\n") }
 {}
 
-/// Scripts with a `raw` line, and some with none: a line that is skipped or bad isn't one. Octets that nobody
+/// Scripts with a `raw` or `rawfrom` line, and some with none: a line that is skipped or bad isn't one. Octets that nobody
 /// sent don't meet Net. What happens in a play shows the text that it prints.
 pub fn raw_lines()
     ensures raw { has_no_raw (codes "A new\nA raw -\n") ≡ false }
     ensures spelled { has_no_raw (codes "B raw 6206480400000001") ≡ false }
+    ensures strange { has_no_raw (codes "B rawfrom 42 6206480400000001") ≡ false }
     ensures skipped { HasNoRaw (codes "# A raw -\n#A raw -\nA new") }
     ensures bad { HasNoRaw (codes "A raw 123\nA raw ") }
     ensures forged { IsNet (net_of (codes "A raw -")) → ⊥ }

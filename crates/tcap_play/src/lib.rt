@@ -4,6 +4,7 @@
 //! `thiserror`. Begin at `play_text` and `run_stream`.
 #![tactic(auto)]
 
+mod addresses;
 mod answer_text;
 pub mod examples;
 mod fault;

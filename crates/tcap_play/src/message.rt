@@ -1,10 +1,11 @@
 //! Messages that were sent, and what became of them.
 
-ghost use Rattle.std.specs.Prelude.{◌≡◌, ◌<◌, ◌+◌, ◌⊎◌, ℕ, List, Some, None, option_copied, MatchOption};
-ghost use Rattle.tcap_play.specs.Play.{Fate as Became, has_fate, octets_at, with_fate};
-ghost use Rattle.tcap_play.specs.PlayViews.{IsThere, fate_view, messages_view};
+ghost use Rattle.std.specs.Prelude.{◌≡◌, ◌<◌, ◌+◌, ◌⊎◌, ℕ, Some, None, option_map, MatchOption};
+ghost use Rattle.tcap_play.specs.Play.{Fate as Became, Message as Sent, has_fate, message_in, with_fate};
+ghost use Rattle.tcap_play.specs.PlayViews.{IsThere, fate_view, message_view, messages_view};
 
 use std::alloc::{Allocator, Global};
+use tcap_engine::Address;
 
 /// What became of a message.
 #[derive(Clone, Copy, Debug, PartialEq, Eq)]
@@ -30,9 +31,10 @@ impl Fate {
     }
 }
 
-/// A message that was sent.
+/// A message that was sent, and where it goes.
 #[derive(Drop)]
 pub(crate) struct Message<A: Allocator = Global> {
+    pub(crate) to: Address,
     pub(crate) octets: Vec<u8, A>,
     pub(crate) fate: Fate,
 }
@@ -48,7 +50,7 @@ fn place_among(number: u64, count: usize) -> Option<usize>
 /// The place of the message with this number, from 1, if it is in this state.
 fn place_of<A: Allocator>(sent: &[Message<A>], number: u64, fate: Fate) -> Option<usize>
     ensures { MatchOption result
-        (octets_at (fate_view fate) number (messages_view sent.now) ≡ None)
+        (message_in (fate_view fate) number (messages_view sent.now) ≡ None)
         (λ place. IsThere (fate_view fate) number sent.now place) }
 {
     let place = place_among(number, sent.len())?;
@@ -59,17 +61,21 @@ fn place_of<A: Allocator>(sent: &[Message<A>], number: u64, fate: Fate) -> Optio
     }
 }
 
-/// The octets of the message with this number, from 1, if it is in this state.
-pub(crate) fn octets_if<A: Allocator>(sent: &[Message<A>], number: u64, fate: Fate) -> Option<&[u8]>
-    ensures { option_copied result ≡ octets_at (fate_view fate) number (messages_view sent.now) }
+/// The message with this number, from 1, if it is in this state.
+pub(crate) fn message_if<A: Allocator>(
+    sent: &[Message<A>],
+    number: u64,
+    fate: Fate,
+) -> Option<&Message<A>>
+    ensures { option_map (λ m. message_view m.now) result ≡ message_in (fate_view fate) number (messages_view sent.now) }
 {
     let place = place_of(sent, number, fate)?;
-    Some(sent[place].octets.as_slice())
+    Some(&sent[place])
 }
 
 /// The message with this number, from 1, if there is one, is in this state from now on.
 pub(crate) fn set_fate<A: Allocator>(sent: &mut Vec<Message<A>, A>, number: u64, fate: Fate)
-    ensures { (before : Became) (octets : List ℕ) → octets_at before number (messages_view sent.old.items) ≡ Some octets → messages_view sent.new.items ≡ with_fate (fate_view fate) number octets (messages_view sent.old.items) }
+    ensures { (before : Became) (message : Sent) → message_in before number (messages_view sent.old.items) ≡ Some message → messages_view sent.new.items ≡ with_fate (fate_view fate) number message (messages_view sent.old.items) }
 {
     if let Some(place) = place_among(number, sent.len()) {
         sent[place].fate = fate;

@@ -1,18 +1,20 @@
 //! The play of a script.
 
 ghost use Rattle.std.specs.Prelude.{◌≡◌, ◌≤◌, ◌+◌, ℕ, List, [], IfOk, OnOk, string_bytes, option_map};
+ghost use Rattle.std.specs.Option.{option_and_then};
 ghost use Rattle.tcap_engine.specs.EventViews.{event_view};
 ghost use Rattle.tcap_invocation.specs.Stage.{moment_limit};
-ghost use Rattle.tcap_model.specs.Statements.Net.{Engine as Which};
 ghost use Rattle.tcap_model.specs.Table.World.{first_world};
 ghost use Rattle.tcap_model.specs.Words.Event.{Event as Happened};
 ghost use Rattle.tcap_play.specs.LineViews.{line_view, name_view};
 ghost use Rattle.tcap_play.specs.Pieces.{left, pieces_left};
-ghost use Rattle.tcap_play.specs.Play.{Fate as Became, Played, behind, followed, handed, lost_from, octets_at, play_is_good, play_start, play_text_of, printed_from, received_from, sent_by, step, step_by};
+ghost use Rattle.tcap_play.specs.Play.{Fate as Became, Message as Sent, Played, behind, carried, followed, handed, lost_from, message_in, message_to, play_is_good, play_start, play_text_of, printed_from, received_from, sent_by, step, step_by};
 ghost use Rattle.tcap_play.specs.PlayViews.{Does, GoesOn, HasStepped, IsAt, Loses, Receives, fate_view, messages_view};
 ghost use Rattle.tcap_play.specs.SideView.{side_view};
+ghost use Rattle.tcap_play.specs.Sides.{Engine as Which, address_of};
 
-use crate::message::{Fate, octets_if, set_fate};
+use crate::addresses::Addresses;
+use crate::message::{Fate, message_if, set_fate};
 use crate::opening::{Opening, opening_of};
 use crate::pieces::{first_piece, is_skipped};
 use crate::script::line::{Line, line_of};
@@ -42,10 +44,11 @@ fn call<A: Allocator + Copy>(
     }
 }
 
-/// Hands the message with this number, if it is in this state, to the engine of the other side, and
-/// tells whether it did.
+/// Hands the message with this number, if it is in this state and goes to this other side, to the engine
+/// there, and tells whether it did.
 fn receive_from<A: Allocator + Copy>(
     alloc: A,
+    addresses: &Addresses,
     from: &mut Station<A>,
     number: u64,
     fate: Fate,
@@ -53,42 +56,47 @@ fn receive_from<A: Allocator + Copy>(
     to: &mut Station<A>,
     text: &mut String<A>,
 ) -> Result<bool, OutOfMemory>
-    ensures done { IfOk result (λ done. Receives (octets_at (fate_view fate) number (messages_view from.old.sent.items)) number (side_view side) done from.old.sent.items from.new.sent.items to.old to.new (string_bytes text.old) (string_bytes text.new)) }
+    ensures done { IfOk result (λ done. Receives (option_and_then (message_to (address_of (side_view side))) (message_in (fate_view fate) number (messages_view from.old.sent.items))) number (side_view side) done from.old.sent.items from.new.sent.items to.old to.new (string_bytes text.old) (string_bytes text.new)) }
     ensures engine { from.new.engine ≡ from.old.engine }
 {
-    let Some(octets) = octets_if(&from.sent, number, fate) else {
+    let Some(message) = message_if(&from.sent, number, fate) else {
         return Ok(false);
     };
-    hand(alloc, side, to, Event::Bytes(octets), text)?;
+    if message.to.octets() != addresses.of(side).octets() {
+        return Ok(false);
+    }
+    let event = Event::Bytes(addresses.beyond(side), &message.octets);
+    hand(alloc, side, to, event, text)?;
     set_fate(&mut from.sent, number, Fate::Delivered);
     Ok(true)
 }
 
-/// Hands the message of this name, if it is in this state, to the engine of the other side, and tells
-/// whether it did.
+/// Hands the message of this name, if it is in this state and goes to the other side, to the engine there,
+/// and tells whether it did.
 fn receive<A: Allocator + Copy>(
     alloc: A,
+    addresses: &Addresses,
     name: Name,
     fate: Fate,
     a: &mut Station<A>,
     b: &mut Station<A>,
     text: &mut String<A>,
 ) -> Result<bool, OutOfMemory>
-    ensures { IfOk result (λ done. (p : Played) → IsAt p a.old b.old → Does (option_map (received_from (name_view name) Became.delivered p) (octets_at (fate_view fate) name.number (sent_by (side_view name.side) p))) done a.new b.new (string_bytes text.old) (string_bytes text.new)) }
+    ensures { IfOk result (λ done. (p : Played) → IsAt p a.old b.old → Does (option_map (received_from (name_view name) Became.delivered p) (carried (name_view name) (fate_view fate) p)) done a.new b.new (string_bytes text.old) (string_bytes text.new)) }
 {
     let number = name.number;
     match name.side {
-        Side::A => receive_from(alloc, a, number, fate, Side::B, b, text),
-        Side::B => receive_from(alloc, b, number, fate, Side::A, a, text),
+        Side::A => receive_from(alloc, addresses, a, number, fate, Side::B, b, text),
+        Side::B => receive_from(alloc, addresses, b, number, fate, Side::A, a, text),
     }
 }
 
 /// Loses the message with this number, if it waits, and tells whether it did.
 fn lose_from<A: Allocator + Copy>(from: &mut Station<A>, number: u64) -> bool
-    ensures lost { Loses (octets_at Became.waiting number (messages_view from.old.sent.items)) number result from.old.sent.items from.new.sent.items }
+    ensures lost { Loses (message_in Became.waiting number (messages_view from.old.sent.items)) number result from.old.sent.items from.new.sent.items }
     ensures engine { from.new.engine ≡ from.old.engine }
 {
-    if octets_if(&from.sent, number, Fate::Waiting).is_none() {
+    if message_if(&from.sent, number, Fate::Waiting).is_none() {
         return false;
     }
     set_fate(&mut from.sent, number, Fate::Lost);
@@ -97,7 +105,7 @@ fn lose_from<A: Allocator + Copy>(from: &mut Station<A>, number: u64) -> bool
 
 /// Loses the message of this name, if it waits, and tells whether it did.
 fn lose<A: Allocator + Copy>(name: Name, a: &mut Station<A>, b: &mut Station<A>) -> bool
-    ensures { (p : Played) (text : List ℕ) → IsAt p a.old b.old → Does (option_map (lost_from (name_view name) p) (octets_at Became.waiting name.number (sent_by (side_view name.side) p))) result a.new b.new text text }
+    ensures { (p : Played) (text : List ℕ) → IsAt p a.old b.old → Does (option_map (lost_from (name_view name) p) (message_in Became.waiting name.number (sent_by (side_view name.side) p))) result a.new b.new text text }
 {
     match name.side {
         Side::A => lose_from(a, name.number),
@@ -122,6 +130,7 @@ fn advance<A: Allocator + Copy>(
 /// Does what a line asks for, and tells whether it could be done.
 fn act<A: Allocator + Copy>(
     alloc: A,
+    addresses: &Addresses,
     line: Line<'_>,
     a: &mut Station<A>,
     b: &mut Station<A>,
@@ -131,8 +140,8 @@ fn act<A: Allocator + Copy>(
 {
     match line {
         Line::Call(side, event) => call(alloc, side, event, a, b, text)?,
-        Line::Deliver(name) => return receive(alloc, name, Fate::Waiting, a, b, text),
-        Line::Again(name) => return receive(alloc, name, Fate::Delivered, a, b, text),
+        Line::Deliver(name) => return receive(alloc, addresses, name, Fate::Waiting, a, b, text),
+        Line::Again(name) => return receive(alloc, addresses, name, Fate::Delivered, a, b, text),
         Line::Lose(name) => return Ok(lose(name, a, b)),
         Line::Advance(now) => advance(alloc, now, a, b, text)?,
     }
@@ -149,9 +158,10 @@ fn act_by<A: Allocator + Copy>(
 ) -> Result<bool, OutOfMemory>
     ensures { IfOk result (λ done. (p : Played) → IsAt p a.old b.old → Does (step_by p line.now) done a.new b.new (string_bytes text.old) (string_bytes text.new)) }
 {
+    let addresses = Addresses::new();
     let words = words_of(alloc, line)?;
-    match line_of(&words) {
-        Some(line) => act(alloc, line, a, b, text),
+    match line_of(&addresses, &words) {
+        Some(line) => act(alloc, &addresses, line, a, b, text),
         None => Ok(false),
     }
 }

@@ -47,10 +47,11 @@ fn keep_outputs<A: Allocator + Copy>(
     ensures { OnOk result (messages_view sent.new.items ≡ messages_view sent.old.items ++ messages_of (all_shown outputs.entry.items)) }
 {
     for output in outputs {
-        if let Output::Send(octets) = output {
+        if let Output::Send { to, bytes } = output {
             sent.reserve(1)?;
             sent.push_reserved(Message {
-                octets,
+                to,
+                octets: bytes,
                 fate: Fate::Waiting,
             });
         }

@@ -7,27 +7,32 @@ use Rattle.ber_core.specs.Options.{◌>>=◌}
 use Rattle.tcap_component.specs.Component.{CodeParts, BodyParts}
 use Rattle.tcap_component.specs.Problem.{ProblemParts}
 use Rattle.tcap_invocation.specs.declared.class.Class.{Class}
-use Rattle.tcap_model.specs.Statements.Net.{Engine}
+use Rattle.tcap_model.specs.Words.Address.{Address}
 use Rattle.tcap_model.specs.Words.Event.{Event}
-use Rattle.tcap_model.specs.Words.InRange.{InRange, are_octets_if_any, is_body, is_code, is_identifier, is_identifier_if_any, is_long, is_problem, is_request, is_short}
+use Rattle.tcap_model.specs.Words.InRange.{InRange, are_octets_if_any, is_body, is_code, is_identifier, is_identifier_if_any, is_long, is_problem, is_address, is_request, is_short}
 use Rattle.tcap_model.specs.Words.Request.{AbortReason, ComponentRequest, DialogueRequest, Ending, Request}
-use Rattle.tcap_play.specs.ScriptLine.{ScriptLine, received_on, asked_on, portion_request_named, portion_request_of, abort_request_of, last_request_of, more_request_of, cancel_request_of, error_request_of, reject_request_of, invoke_request_of, line_of_two, line_of_three, line_of_four, line_of_five, line_of_six, line_of_nine, line_of}
-use Rattle.tcap_play.specs.ScriptWords.{MessageName, engine_of, name_of, milliseconds_of, dialogue_of, identifier_of, optional_identifier_of, class_of, code_of, octets_of, optional_octets_of, body_of, problem_of, reason_of}
+use Rattle.tcap_play.specs.ScriptLine.{ScriptLine, called_on, received_on, portion_request_on, begin_request_of, asked_on, portion_request_named, portion_request_of, abort_request_of, last_request_of, more_request_of, cancel_request_of, error_request_of, reject_request_of, invoke_request_of, line_of_two, line_of_three, line_of_four, line_of_five, line_of_six, line_of_nine, line_of}
+use Rattle.tcap_play.specs.ScriptWords.{MessageName, engine_of, name_of, milliseconds_of, dialogue_of, identifier_of, optional_identifier_of, class_of, code_of, octets_of, named_address, optional_octets_of, body_of, problem_of, reason_of}
+use Rattle.tcap_play.specs.Sides.{Engine, address_of, far}
 use Rattle.tcap_play.proofs.Octets.OctetLists.{Octets}
-use Rattle.tcap_play.proofs.Nets.WordRanges.{Holds, either, both-true, dialogue-in, milliseconds-in, identifier-in, optional-identifier-in, code-in, octets-in, optional-octets-in, body-in, problem-in}
+use Rattle.tcap_play.proofs.Nets.WordRanges.{Holds, either, both-true, dialogue-in, milliseconds-in, identifier-in, optional-identifier-in, code-in, octets-in, address-in, optional-octets-in, body-in, problem-in}
 
 -- ---- requests
 
 abbrev RequestIn : Request → Type 0
 RequestIn request = is_request request ≡ true
 
-named-in : (name : List ℕ) (context : Option (List ℕ)) (information : List ℕ) → are_octets_if_any context ≡ true → Octets information
-    → Holds (λ (x : DialogueRequest). RequestIn (Request.dialogue x)) (portion_request_named name context information)
-named-in name context information named octets =
+named-in : (to : Address) (name : List ℕ) (context : Option (List ℕ)) (information : List ℕ) → is_address to ≡ true
+    → are_octets_if_any context ≡ true → Octets information
+    → Holds (λ (x : DialogueRequest). RequestIn (Request.dialogue x)) (portion_request_named to name context information)
+named-in to name context information place named octets =
     let P : DialogueRequest → Type 0 = λ x. RequestIn (Request.dialogue x) in
     let is = both-true (are_octets_if_any context) (list_all (λ b. nat_lt b 0x100) information) named octets in
-    either P (bytes_eq name (codes "uni")) _ _ is
-    (either P (bytes_eq name (codes "begin")) _ _ is
+    let goes =
+    both-true (is_address to && are_octets_if_any context) (list_all (λ b. nat_lt b 0x100) information)
+    (both-true (is_address to) (are_octets_if_any context) place named) octets in
+    either P (bytes_eq name (codes "uni")) _ _ goes
+    (either P (bytes_eq name (codes "begin")) _ _ goes
     (either P (bytes_eq name (codes "continue")) _ _ is
     (either P (bytes_eq name (codes "end")) _ None is tt)))
 
@@ -36,13 +41,34 @@ some-request : (asked : Option DialogueRequest) → Holds (λ (x : DialogueReque
 some-request None is = tt
 some-request (Some asked) is = is
 
-some-portion : (name : List ℕ) (context : Option (Option (List ℕ))) (information : Option (List ℕ))
-    → Holds (λ (x : Option (List ℕ)). are_octets_if_any x ≡ true) context → Holds Octets information
-    → Holds RequestIn (context >>= (λ c. information >>= (λ i. portion_request_named name c i >>= (λ r. Some (Request.dialogue r)))))
-some-portion name None information named octets = tt
-some-portion name (Some context) None named octets = tt
-some-portion name (Some context) (Some information) named octets =
-    some-request (portion_request_named name context information) (named-in name context information named octets)
+some-portion : (to : Address) (name : List ℕ) (context : Option (Option (List ℕ))) (information : Option (List ℕ))
+    → is_address to ≡ true → Holds (λ (x : Option (List ℕ)). are_octets_if_any x ≡ true) context → Holds Octets information
+    → Holds RequestIn (context >>= (λ c. information >>= (λ i. portion_request_named to name c i >>= (λ r. Some (Request.dialogue r)))))
+some-portion to name None information place named octets = tt
+some-portion to name (Some context) None place named octets = tt
+some-portion to name (Some context) (Some information) place named octets =
+    some-request (portion_request_named to name context information) (named-in to name context information place named octets)
+
+portion-in : (to : Address) (name context information : List ℕ) → is_address to ≡ true
+    → Holds RequestIn (portion_request_of to name context information)
+portion-in to name context information place =
+    some-portion to name (optional_octets_of context) (octets_of information) place (optional-octets-in context) (octets-in information)
+
+-- each engine's address is one
+address-is : (engine : Engine) → is_address (address_of engine) ≡ true
+address-is Engine.a = refl
+address-is Engine.b = refl
+
+portion-on : (engine : Option Engine) (name context information : List ℕ)
+    → Holds RequestIn (engine >>= (λ e. portion_request_of (address_of (far e)) name context information))
+portion-on None name context information = tt
+portion-on (Some engine) name context information =
+    portion-in (address_of (far engine)) name context information (address-is (far engine))
+
+begin-to : (to : Option Address) (context information : List ℕ) → Holds (λ (x : Address). is_address x ≡ true) to
+    → Holds RequestIn (to >>= (λ a. portion_request_of a (codes "begin") context information))
+begin-to None context information place = tt
+begin-to (Some to) context information place = portion-in to (codes "begin") context information place
 
 some-abort : (reason : Option AbortReason) (information : Option (List ℕ)) → Holds Octets information
     → Holds RequestIn (reason >>= (λ r. information >>= (λ i. Some (Request.dialogue (DialogueRequest.u_abort r i)))))
@@ -116,9 +142,23 @@ called : (engine : Option Engine) (event : Event) → InRange event → Holds Li
 called None event within = tt
 called (Some engine) event within = within
 
+received-by : (engine : Option Engine) (octets : List ℕ) → Octets octets
+    → Holds LineIn (engine >>= (λ e. Some (ScriptLine.call e (Event.received (address_of (far e)) octets))))
+received-by None octets are = tt
+received-by (Some engine) octets are =
+    both-true (is_address (address_of (far engine))) (list_all (λ b. nat_lt b 0x100) octets) (address-is (far engine)) are
+
 received : (side : List ℕ) (octets : Option (List ℕ)) → Holds Octets octets → Holds LineIn (octets >>= received_on side)
 received side None are = tt
-received side (Some octets) are = called (engine_of side) (Event.received octets) are
+received side (Some octets) are = received-by (engine_of side) octets are
+
+received-other : (side : List ℕ) (from : Option Address) (octets : Option (List ℕ)) → Holds (λ (x : Address). is_address x ≡ true) from
+    → Holds Octets octets
+    → Holds LineIn (from >>= (λ f. octets >>= (λ o. called_on side (Event.received f o))))
+received-other side None octets place are = tt
+received-other side (Some from) None place are = tt
+received-other side (Some from) (Some octets) place are =
+    called (engine_of side) (Event.received from octets) (both-true (is_address from) (list_all (λ b. nat_lt b 0x100) octets) place are)
 
 asked-by : (engine : Option Engine) (dialogue : Option ℕ) (request : Request) → Holds (λ (x : ℕ). is_short x ≡ true) dialogue
     → RequestIn request
@@ -162,17 +202,18 @@ three-in side name word =
     (either LineIn (bytes_eq name (codes "prearranged")) _ None
     (asked-by (engine_of side) (dialogue_of word) (Request.dialogue (DialogueRequest.finish Ending.prearranged None [])) (dialogue-in word) refl) tt)
 
-four-in : (side name dialogue id : List ℕ) → Holds LineIn (line_of_four side name dialogue id)
-four-in side name dialogue id =
-    either LineIn (bytes_eq name (codes "cancel")) _ None
-    (asked side dialogue (cancel_request_of id) (some-cancel (identifier_of id) (identifier-in id))) tt
+four-in : (side name third last : List ℕ) → Holds LineIn (line_of_four side name third last)
+four-in side name third last =
+    either LineIn (bytes_eq name (codes "cancel")) _ _
+    (asked side third (cancel_request_of last) (some-cancel (identifier_of last) (identifier-in last)))
+    (either LineIn (bytes_eq name (codes "rawfrom")) _ None
+    (received-other side (named_address third) (octets_of last) (address-in third) (octets-in last)) tt)
 
 five-in : (side name dialogue word information : List ℕ) → Holds LineIn (line_of_five side name dialogue word information)
 five-in side name dialogue word information =
     either LineIn (bytes_eq name (codes "abort")) _ _
     (asked side dialogue (abort_request_of word information) (some-abort (reason_of word) (octets_of information) (octets-in information)))
-    (asked side dialogue (portion_request_of name word information)
-    (some-portion name (optional_octets_of word) (octets_of information) (optional-octets-in word) (octets-in information)))
+    (asked side dialogue (portion_request_on side name word information) (portion-on (engine_of side) name word information))
 
 six-in : (side name dialogue id word last : List ℕ) → Holds LineIn (line_of_six side name dialogue id word last)
 six-in side name dialogue id word last =
@@ -183,9 +224,11 @@ six-in side name dialogue id word last =
     (either LineIn (bytes_eq name (codes "error")) _ _
     (asked side dialogue (error_request_of id word last)
     (some-error (identifier_of id) (code_of word) (optional_octets_of last) (identifier-in id) (code-in word) (optional-octets-in last)))
-    (either LineIn (bytes_eq name (codes "reject")) _ None
+    (either LineIn (bytes_eq name (codes "reject")) _ _
     (asked side dialogue (reject_request_of id word last)
-    (some-reject (optional_identifier_of id) (problem_of word last) (optional-identifier-in id) (problem-in word last))) tt)))
+    (some-reject (optional_identifier_of id) (problem_of word last) (optional-identifier-in id) (problem-in word last)))
+    (either LineIn (bytes_eq name (codes "beginto")) _ None
+    (asked side dialogue (begin_request_of id word last) (begin-to (named_address id) word last (address-in id))) tt))))
 
 nine-in : (side name dialogue id class code timeout linked parameter : List ℕ)
     → Holds LineIn (line_of_nine side name dialogue (invoke_request_of id class code timeout linked parameter))

@@ -4,31 +4,32 @@ use Rattle.std.specs.Option.{option_map, option_and_then}
 use Rattle.std.proofs.lemmas.Bool.{cases_Bool}
 use Rattle.std.proofs.lemmas.List.{append_assoc, append-nil, length-set}
 use Rattle.tcap_model.specs.Replies.Reply.{reply}
-use Rattle.tcap_model.specs.Statements.Net.{Engine, Trace, far, side}
+use Rattle.tcap_model.specs.Statements.Net.{Trace, side}
 use Rattle.tcap_model.specs.Words.Event.{Event}
 use Rattle.tcap_play.specs.AnswerText.{answer_lines}
 use Rattle.tcap_play.specs.Opening.{opening_of}
 use Rattle.tcap_play.specs.Pieces.{is_skipped, words_of}
-use Rattle.tcap_play.specs.Play.{Fate, Message, Played, Printed, Stepped, followed, handed, history_of, lost_from, messages_in, not_begun, octets_at, printed_by, printed_from, received_from, sent_by, step, step_by, with_fate, with_sent}
+use Rattle.tcap_play.specs.Play.{Fate, Message, Played, Printed, Stepped, carried, followed, handed, history_of, lost_from, message_in, messages_in, not_begun, printed_by, printed_from, received_from, sent_by, step, step_by, with_fate, with_sent}
 use Rattle.tcap_play.specs.PlayNet.{IsShown, PlaysShowTheirAnswers, played_by, played_from, sent_count, shown_text}
 use Rattle.tcap_play.specs.ScriptLine.{ScriptLine, line_of}
 use Rattle.tcap_play.specs.ScriptWords.{MessageName}
+use Rattle.tcap_play.specs.Sides.{Engine, address_of, far, number_of}
 use Rattle.tcap_play.proofs.Nets.WordRanges.{Holds}
 
 -- ---- the messages that were sent are counted
 
 -- each engine has as many messages as its answers sent
 abbrev pub Counted : Played → Type 0
-Counted p = (engine : Engine) → length (sent_by engine p) ≡ sent_count (side engine p.trace)
+Counted p = (engine : Engine) → length (sent_by engine p) ≡ sent_count (side (number_of engine) p.trace)
 
-counted-fate : (engine : Engine) (fate : Fate) (number : ℕ) (octets : List ℕ) (p : Played) → Counted p
-    → Counted (with_sent engine (with_fate fate number octets (sent_by engine p)) p)
-counted-fate Engine.a fate number octets p counted Engine.a =
-    length-set p.from_a (number - 1) (record { octets = octets; fate = fate }) ∙ counted Engine.a
-counted-fate Engine.a fate number octets p counted Engine.b = counted Engine.b
-counted-fate Engine.b fate number octets p counted Engine.a = counted Engine.a
-counted-fate Engine.b fate number octets p counted Engine.b =
-    length-set p.from_b (number - 1) (record { octets = octets; fate = fate }) ∙ counted Engine.b
+counted-fate : (engine : Engine) (fate : Fate) (number : ℕ) (message : Message) (p : Played) → Counted p
+    → Counted (with_sent engine (with_fate fate number message (sent_by engine p)) p)
+counted-fate Engine.a fate number message p counted Engine.a =
+    length-set p.from_a (number - 1) (record message { fate = fate }) ∙ counted Engine.a
+counted-fate Engine.a fate number message p counted Engine.b = counted Engine.b
+counted-fate Engine.b fate number message p counted Engine.a = counted Engine.a
+counted-fate Engine.b fate number message p counted Engine.b =
+    length-set p.from_b (number - 1) (record message { fate = fate }) ∙ counted Engine.b
 
 -- the trace is as it was
 traced-fate : (engine : Engine) (messages : List Message) (p : Played) → (with_sent engine messages p).trace ≡ p.trace
@@ -68,27 +69,27 @@ handed-shown Engine.b event p counted =
         length-append p.from_b (messages_in (reply (history_of Engine.b p) event))
         ∙ ap (λ n. n + length (messages_in (reply (history_of Engine.b p) event))) (counted Engine.b)
 
-received-shown : (name : MessageName) (fate : Fate) (p : Played) (octets : Option (List ℕ)) → Counted p
-    → Holds (ShownBy p) (option_map (received_from name fate p) octets)
+received-shown : (name : MessageName) (fate : Fate) (p : Played) (found : Option Message) → Counted p
+    → Holds (ShownBy p) (option_map (received_from name fate p) found)
 received-shown name fate p None counted = tt
-received-shown name fate p (Some octets) counted =
-    let q : Played = with_sent name.engine (with_fate fate name.number octets (sent_by name.engine p)) p in
-    let next = handed-shown (far name.engine) (Event.received octets) q (counted-fate name.engine fate name.number octets p counted) in
+received-shown name fate p (Some message) counted =
+    let q : Played = with_sent name.engine (with_fate fate name.number message (sent_by name.engine p)) p in
+    let next = handed-shown (far name.engine) (Event.received (address_of name.engine) message.octets) q (counted-fate name.engine fate name.number message p counted) in
     record {
       counted = next.counted;
       shown =
           next.shown
-          ∙ ap (λ (t : Trace). shown_text t ++ (handed (far name.engine) (Event.received octets) q).text)
-          (traced-fate name.engine (with_fate fate name.number octets (sent_by name.engine p)) p);
+          ∙ ap (λ (t : Trace). shown_text t ++ (handed (far name.engine) (Event.received (address_of name.engine) message.octets) q).text)
+          (traced-fate name.engine (with_fate fate name.number message (sent_by name.engine p)) p);
     }
 
-lost-shown : (name : MessageName) (p : Played) (octets : Option (List ℕ)) → Counted p
-    → Holds (ShownBy p) (option_map (lost_from name p) octets)
+lost-shown : (name : MessageName) (p : Played) (found : Option Message) → Counted p
+    → Holds (ShownBy p) (option_map (lost_from name p) found)
 lost-shown name p None counted = tt
-lost-shown name p (Some octets) counted = record {
-  counted = counted-fate name.engine Fate.lost name.number octets p counted;
+lost-shown name p (Some message) counted = record {
+  counted = counted-fate name.engine Fate.lost name.number message p counted;
   shown =
-      ap shown_text (traced-fate name.engine (with_fate Fate.lost name.number octets (sent_by name.engine p)) p)
+      ap shown_text (traced-fate name.engine (with_fate Fate.lost name.number message (sent_by name.engine p)) p)
       ∙ sym (append-nil (shown_text p.trace));
 }
 
@@ -104,10 +105,10 @@ both-shown p first next one two = record {
 step-shown : (p : Played) (line : ScriptLine) → Counted p → Holds (ShownBy p) (step p line)
 step-shown p (ScriptLine.call engine event) counted = handed-shown engine event p counted
 step-shown p (ScriptLine.deliver name) counted =
-    received-shown name Fate.delivered p (octets_at Fate.waiting name.number (sent_by name.engine p)) counted
+    received-shown name Fate.delivered p (carried name Fate.waiting p) counted
 step-shown p (ScriptLine.again name) counted =
-    received-shown name Fate.delivered p (octets_at Fate.delivered name.number (sent_by name.engine p)) counted
-step-shown p (ScriptLine.lose name) counted = lost-shown name p (octets_at Fate.waiting name.number (sent_by name.engine p)) counted
+    received-shown name Fate.delivered p (carried name Fate.delivered p) counted
+step-shown p (ScriptLine.lose name) counted = lost-shown name p (message_in Fate.waiting name.number (sent_by name.engine p)) counted
 step-shown p (ScriptLine.advance now) counted =
     let one = handed-shown Engine.a (Event.moment now) p counted in
     both-shown p (handed Engine.a (Event.moment now) p) (handed Engine.b (Event.moment now)) one

@@ -1,6 +1,7 @@
 -- The numbers that words of a script stand for are those that their types hold.
-use Rattle.std.proofs.Common.{◌≡◌, ℕ, ℤ, pos, negsuc, Bool, true, false, List, [], ◌∷◌, ◌&&◌, nat_le, Option, Some, None, Result, Ok, Err, if◌then◌else◌, refl, zero, suc, arith}
+use Rattle.std.proofs.Common.{◌≡◌, ℕ, ℤ, pos, negsuc, Bool, true, false, List, [], ◌∷◌, ◌&&◌, nat_le, nat_lt, Option, Some, None, Result, Ok, Err, if◌then◌else◌, length, refl, zero, suc, arith}
 use Rattle.std.specs.Prelude.{codes, bytes_eq, int_le}
+use Rattle.std.specs.List.{list_all}
 use Rattle.std.specs.Option.{option_map, option_and_then}
 use Rattle.std.proofs.lemmas.Bool.{leb-true, lt-ltb}
 use Rattle.hex.specs.declared.error.FromHexError.{FromHexError}
@@ -12,10 +13,11 @@ use Rattle.tcap_component.specs.Component.CodeParts.{local}
 use Rattle.tcap_component.specs.declared.problem.Kind.{Kind}
 use Rattle.tcap_component.specs.Problem.{ProblemParts}
 use Rattle.tcap_invocation.specs.Stage.{moment_limit}
-use Rattle.tcap_model.specs.Words.InRange.{are_octets_if_any, is_body, is_code, is_identifier, is_identifier_if_any, is_long, is_problem, is_short}
+use Rattle.tcap_model.specs.Words.Address.{Address}
+use Rattle.tcap_model.specs.Words.InRange.{are_octets_if_any, is_address, is_body, is_code, is_identifier, is_identifier_if_any, is_long, is_problem, is_short}
 use Rattle.tcap_text.specs.Spelling.{octets_if_read}
 use Rattle.tcap_play.specs.Numbers.{number, at_most, number_up_to, signed_number, between, number_between}
-use Rattle.tcap_play.specs.ScriptWords.{milliseconds_of, idle_limit_of, dialogue_of, identifier_of, optional_identifier_of, code_of, spelled_in, octets_of, optional_octets_of, body_with, body_of, kind_of, problem_of}
+use Rattle.tcap_play.specs.ScriptWords.{milliseconds_of, idle_limit_of, dialogue_of, identifier_of, optional_identifier_of, code_of, spelled_in, octets_of, address_if, named_address, optional_octets_of, body_with, body_of, kind_of, problem_of}
 use Rattle.tcap_play.proofs.Octets.OctetLists.{Octets, octets-cons}
 
 -- ---- what is found, if anything is
@@ -103,6 +105,16 @@ spelled-in (digit ∷ digits) = read-octets (digit ∷ digits) (decode_of (digit
 
 pub octets-in : (word : List ℕ) → Holds Octets (octets_of word)
 octets-in word = either Octets (bytes_eq word (codes "-")) (Some []) (spelled_in word) refl (spelled-in word)
+
+some-address : (octets : Option (List ℕ)) → Holds Octets octets
+    → Holds (λ (x : Address). is_address x ≡ true) (option_and_then address_if octets)
+some-address None are = tt
+some-address (Some octets) are =
+    guarded (λ (x : Address). is_address x ≡ true) (nat_le (length octets) 255) octets
+    (λ few. both-true (nat_le (length octets) 255) (list_all (λ b. nat_lt b 0x100) octets) few are)
+
+pub address-in : (word : List ℕ) → Holds (λ (x : Address). is_address x ≡ true) (named_address word)
+address-in word = some-address (octets_of word) (octets-in word)
 
 some-octets : (octets : Option (List ℕ)) → Holds Octets octets
     → Holds (λ (x : Option (List ℕ)). are_octets_if_any x ≡ true) (option_map (λ x. Some x) octets)

@@ -18,7 +18,7 @@ use Rattle.tcap_model.specs.Histories.Pair.{Pair, Past}
 use Rattle.tcap_model.specs.Procedures.PortionRules.{begin_verdict, begin_verdict_by, PortionVerdict, portion_verdict}
 use Rattle.tcap_model.specs.Words.Answer.{is_accepted}
 use Rattle.tcap_model.specs.Words.Event.{Event}
-use Rattle.tcap_model.specs.Words.InRange.{InRange, are_octets, are_octets_if_any, is_request, is_short}
+use Rattle.tcap_model.specs.Words.InRange.{InRange, are_octets, are_octets_if_any, is_address, is_request, is_short}
 use Rattle.tcap_model.specs.Words.Request.{Request, DialogueRequest}
 use Rattle.tcap_model.specs.Words.State.{State, is_live, activated}
 use Rattle.tcap_model.specs.Words.Time.{is_idle}
@@ -80,7 +80,8 @@ begun-octets bytes octets (Err fault) e = tt
 born-octets : (event : Event) → InRange event → LifeOctets (born_life event)
 born-octets Event.new_dialogue within = (tt, tt)
 born-octets (Event.on_dialogue dialogue request) within = tt
-born-octets (Event.received bytes) within = begun-octets bytes within (frame_at bytes) refl
+born-octets (Event.received from bytes) within =
+    begun-octets bytes (and_parts (is_address from) (are_octets bytes) within).1 (frame_at bytes) refl
 born-octets (Event.moment now) within = tt
 
 birth-octets : (birth : Bool) (event : Event) → InRange event → LifeOctets (life_at_birth birth event)
@@ -98,9 +99,10 @@ activated-octets (State.active peer) octets = octets
 request-octets : (state : State) (context : Option (List ℕ)) (request : Request) → is_request request ≡ true
     → LifeOctets (Life.standing state context) → LifeOctets (life_by_request state context request)
 request-octets state context (Request.component asked) is octets = octets
-request-octets state context (Request.dialogue (DialogueRequest.uni asked info)) is octets = tt
-request-octets state context (Request.dialogue (DialogueRequest.begin asked info)) is octets =
-    (tt, if-any asked (and_parts (are_octets_if_any asked) (are_octets info) is).0)
+request-octets state context (Request.dialogue (DialogueRequest.uni to asked info)) is octets = tt
+request-octets state context (Request.dialogue (DialogueRequest.begin to asked info)) is octets =
+    let named = and_parts (is_address to && are_octets_if_any asked) (are_octets info) is in
+    (tt, if-any asked (and_parts (is_address to) (are_octets_if_any asked) named.0).1)
 request-octets state context (Request.dialogue (DialogueRequest.go_on asked info)) is octets =
     (activated-octets state octets.0, octets.1)
 request-octets state context (Request.dialogue (DialogueRequest.finish ending asked info)) is octets = tt
@@ -161,8 +163,8 @@ event-octets : (idle_ms last : ℕ) (state : State) (context : Option (List ℕ)
 event-octets idle_ms last state context Event.new_dialogue accepted within octets = octets
 event-octets idle_ms last state context (Event.on_dialogue dialogue request) accepted within octets =
     accepted-octets accepted state context request (and_parts (is_short dialogue) (is_request request) within).1 octets
-event-octets idle_ms last state context (Event.received bytes) accepted within octets =
-    live-octets (is_live state) state context bytes within octets
+event-octets idle_ms last state context (Event.received from bytes) accepted within octets =
+    live-octets (is_live state) state context bytes (and_parts (is_address from) (are_octets bytes) within).1 octets
 event-octets idle_ms last state context (Event.moment now) accepted within octets =
     moment-octets (accepted && is_idle idle_ms last now) state context octets
 

@@ -10,6 +10,7 @@ use Rattle.tcap_pdu.specs.DialogueSpelling.PduValue.{aarq, audt, aare, abrt, for
 use Rattle.tcap_pdu.specs.DialogueWritten.{written_dialogue}
 use Rattle.tcap_pdu.specs.FrameReading.{frame_at}
 use Rattle.tcap_pdu.specs.FrameSpelling.{Message, Reason}
+use Rattle.tcap_pdu.specs.FrameWritten.{written_frame}
 use Rattle.tcap_pdu.specs.FrameWritten.{message_limit}
 use Rattle.tcap_pdu.specs.Front.{Front, StandsFirst, LooksAt, cut, id_in, front_at}
 use Rattle.tcap_pdu.specs.Front.Front.{ids, none}
@@ -19,30 +20,33 @@ use Rattle.tcap_pdu.proofs.CallerLemmas.{frame_takes, dialogue_takes, front_read
 use Rattle.tcap_model.specs.Procedures.AbortRules.{abort_with, abnormal_abort, version_abort, fault_cause, unrecognized_id, resource_limitation}
 use Rattle.tcap_model.specs.Procedures.PortionRules.{BeginVerdict, begin_verdict, begin_verdict_by, PortionVerdict, uni_verdict}
 use Rattle.tcap_model.specs.Procedures.Reception.{Reception, addressed, addressed_if_any, uni_by, begin_by, continue_by, final_message_by, message_by, fault_abort, aborted_or_dropped, faulty_continue, faulty_last, fault_by, faulty, reading_by, reception}
-use Rattle.tcap_model.specs.Words.Output.{Output}
 use Rattle.tcap_play.proofs.Octets.LifeOctets.{OctetsIfAny}
 use Rattle.tcap_play.proofs.Octets.OctetLists.{Octets, octets-append, octets-one, octets-parts}
 use Rattle.tcap_play.proofs.Octets.ReadOctets.{FieldOctets, element-content, frame-octets, request-context}
-use Rattle.tcap_play.proofs.Octets.ReplyOctets.{SendsFine}
+use Rattle.tcap_play.proofs.Octets.ReplyOctets.{FineMessage}
 use Rattle.tcap_play.proofs.Octets.WrittenOctets.{dialogue-fine}
 
 -- ---- Aborts
 
-pub cause-sends : (number : ℕ) (peer : List ℕ) → nat_lt number 0x100 ≡ true → Octets peer → SendsFine (abort_with number peer)
+-- a message of ours is octets
+abbrev pub IsFineAbort : Message → Type 0
+IsFineAbort m = FineMessage (written_frame m)
+
+pub cause-sends : (number : ℕ) (peer : List ℕ) → nat_lt number 0x100 ≡ true → Octets peer → IsFineAbort (abort_with number peer)
 cause-sends number peer low octets = record {
   message = Message.abort peer (Reason.cause number);
   is_written = refl;
   fine = ((refl, λ short. octets), ((refl, λ short. octets-one number low), tt));
 }
 
-pub abnormal-sends : (peer : List ℕ) → Octets peer → SendsFine (abnormal_abort peer)
+pub abnormal-sends : (peer : List ℕ) → Octets peer → IsFineAbort (abnormal_abort peer)
 abnormal-sends peer octets = record {
   message = Message.abort peer (Reason.portion (written_dialogue (PduValue.abrt true [])));
   is_written = refl;
   fine = ((refl, λ short. octets), ((refl, dialogue-fine (PduValue.abrt true []) (λ short. refl)), tt));
 }
 
-version-sends : (context peer : List ℕ) → Octets context → Octets peer → SendsFine (version_abort context peer)
+version-sends : (context peer : List ℕ) → Octets context → Octets peer → IsFineAbort (version_abort context peer)
 version-sends context peer named octets = record {
   message = Message.abort peer (Reason.portion (written_dialogue (PduValue.aare true context false (Source.provider 2) [])));
   is_written = refl;
@@ -50,13 +54,13 @@ version-sends context peer named octets = record {
 }
 
 -- what is sent of what becomes of received octets is a message of octets; what a dialogue takes was read
-abbrev IfSends : Option Output → Type 0
+abbrev IfSends : Option Message → Type 0
 IfSends None = Unit {0}
-IfSends (Some abort) = SendsFine abort
+IfSends (Some answer) = IsFineAbort answer
 
 abbrev pub IsFine : List ℕ → Reception → Type 0
 IsFine bytes (Reception.dropped why) = Unit {0}
-IsFine bytes (Reception.aborted abort) = SendsFine abort
+IsFine bytes (Reception.aborted answer) = IsFineAbort answer
 IsFine bytes (Reception.unidirectional context info components) = Unit {0}
 IsFine bytes (Reception.begun origin context info components) = Unit {0}
 IsFine bytes (Reception.taken dialogue message) = frame_at bytes ≡ Ok message
@@ -176,11 +180,11 @@ abort-if : (f : FrameFault) (origin : Option (List ℕ)) → OctetsIfAny origin 
 abort-if f None octets = tt
 abort-if f (Some origin) octets = cause-sends (fault_cause f) origin (cause-low f) octets
 
-aborted-fine : (bytes : List ℕ) (abort : Option Output) → IfSends abort → IsFine bytes (aborted_or_dropped abort)
+aborted-fine : (bytes : List ℕ) (abort : Option Message) → IfSends abort → IsFine bytes (aborted_or_dropped abort)
 aborted-fine bytes None sends = tt
-aborted-fine bytes (Some abort) sends = sends
+aborted-fine bytes (Some answer) sends = sends
 
-broken-fine : (bytes : List ℕ) (named : Option ℕ) (abort : Option Output) (f : FrameFault) → IfSends abort
+broken-fine : (bytes : List ℕ) (named : Option ℕ) (abort : Option Message) (f : FrameFault) → IfSends abort
     → IsFine bytes (faulty_continue named abort f)
 broken-fine bytes (Some d) abort f sends = sends
 broken-fine bytes None abort f sends = aborted-fine bytes abort sends
@@ -189,7 +193,7 @@ ended-fine : (bytes : List ℕ) (named : Option ℕ) (f : FrameFault) → IsFine
 ended-fine bytes (Some d) f = tt
 ended-fine bytes None f = tt
 
-fault-fine : (bytes : List ℕ) (first : ℕ) (named : Option ℕ) (abort : Option Output) (f : FrameFault) → IfSends abort
+fault-fine : (bytes : List ℕ) (first : ℕ) (named : Option ℕ) (abort : Option Message) (f : FrameFault) → IfSends abort
     → IsFine bytes (fault_by first named abort f)
 fault-fine bytes first named abort f sends =
     either-fine bytes (first == 0x61) _ _ tt

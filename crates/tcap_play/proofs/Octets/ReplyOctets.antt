@@ -33,7 +33,7 @@ pub record FineMessage (bytes : List ℕ) : Type 0 where
 
 -- what is sent is such a message
 abbrev pub SendsFine : Output → Type 0
-SendsFine (Output.send bytes) = FineMessage bytes
+SendsFine (Output.send to bytes) = FineMessage bytes
 SendsFine (Output.dialogue told) = Unit {0}
 SendsFine (Output.component told) = Unit {0}
 SendsFine (Output.dropped why) = Unit {0}

@@ -1,5 +1,5 @@
 -- What a request sends is octets.
-use Rattle.std.proofs.Common.{◌≡◌, ◌/◌, ◌%◌, ℕ, true, false, List, [], ◌∷◌, Option, Some, None, unwrap_or, refl, arith}
+use Rattle.std.proofs.Common.{◌≡◌, ◌&&◌, ◌/◌, ◌%◌, ℕ, true, false, List, [], ◌∷◌, Option, Some, None, unwrap_or, refl, arith}
 use Rattle.std.proofs.lemmas.Bool.{and_parts}
 use Rattle.ber_core.specs.Sequence.Field.{may}
 use Rattle.tcap_pdu.specs.DialogueSpelling.{PduValue, Source}
@@ -7,7 +7,7 @@ use Rattle.tcap_pdu.specs.FrameSpelling.{Message, Reason, fields, reason_fields}
 use Rattle.tcap_model.specs.Procedures.QueueRules.{Queued, joined}
 use Rattle.tcap_model.specs.Procedures.RequestMessage.{begin_portion, uni_portion, accepting_portion, answer_portion, user_abort, refusing_abort, continue_message, end_message, abort_message, refusing_message, message_of}
 use Rattle.tcap_model.specs.Procedures.Standing.{Standing}
-use Rattle.tcap_model.specs.Words.InRange.{are_octets, are_octets_if_any, is_request}
+use Rattle.tcap_model.specs.Words.InRange.{are_octets, are_octets_if_any, is_address, is_request}
 use Rattle.tcap_model.specs.Words.LocalId.{local_id}
 use Rattle.tcap_model.specs.Words.Request.{Request, Ending, AbortReason, DialogueRequest}
 use Rattle.tcap_model.specs.Words.State.{State}
@@ -104,12 +104,14 @@ refusing-fine state (Some context) info peer kept octets =
 pub message-fine : (d : Standing) (request : Request) → is_request request ≡ true → StateOctets d.state → OctetsIfAny d.context
     → AllFine d.queue → IfFine (message_of d request)
 message-fine d (Request.component asked) is peer kept all = tt
-message-fine d (Request.dialogue (DialogueRequest.uni context info)) is peer kept all =
-    let both = and_parts (are_octets_if_any context) (are_octets info) is in
-    (uni-fine context info (if-any context both.0) both.1, ((refl, joined-fine d.queue all), tt))
-message-fine d (Request.dialogue (DialogueRequest.begin context info)) is peer kept all =
-    let both = and_parts (are_octets_if_any context) (are_octets info) is in
-    ((refl, λ short. local-octets d.identifier), (begin-fine context info (if-any context both.0) both.1, ((refl, joined-fine d.queue all), tt)))
+message-fine d (Request.dialogue (DialogueRequest.uni to context info)) is peer kept all =
+    let both = and_parts (is_address to && are_octets_if_any context) (are_octets info) is in
+    let named = (and_parts (is_address to) (are_octets_if_any context) both.0).1 in
+    (uni-fine context info (if-any context named) both.1, ((refl, joined-fine d.queue all), tt))
+message-fine d (Request.dialogue (DialogueRequest.begin to context info)) is peer kept all =
+    let both = and_parts (is_address to && are_octets_if_any context) (are_octets info) is in
+    let named = (and_parts (is_address to) (are_octets_if_any context) both.0).1 in
+    ((refl, λ short. local-octets d.identifier), (begin-fine context info (if-any context named) both.1, ((refl, joined-fine d.queue all), tt)))
 message-fine d (Request.dialogue (DialogueRequest.go_on context info)) is peer kept all =
     let both = and_parts (are_octets_if_any context) (are_octets info) is in
     continue-fine d d.state (answer_portion d.state d.context context info) peer

@@ -23,7 +23,8 @@ use Rattle.tcap_model.specs.Statements.Places.{Tells}
 use Rattle.tcap_model.specs.Words.Answer.{Answer}
 use Rattle.tcap_model.specs.Words.Event.{Event}
 use Rattle.tcap_model.specs.Words.Fault.{Fault}
-use Rattle.tcap_model.specs.Words.InRange.{InRange, is_request, is_short}
+use Rattle.tcap_model.specs.Words.Address.{Address}
+use Rattle.tcap_model.specs.Words.InRange.{InRange, are_octets, is_address, is_request, is_short}
 use Rattle.tcap_model.specs.Words.KeyOrder.{in_order}
 use Rattle.tcap_model.specs.Words.Output.{Output}
 use Rattle.tcap_model.specs.Words.Request.{Request}
@@ -51,9 +52,9 @@ one-fine : (earlier later : List Output) (output : Output) → AllSendFine (earl
 one-fine [] later output all = all.0
 one-fine (other ∷ earlier) later output all = one-fine earlier later output all.1
 
-tells-fine : (answer : Answer) (bytes : List ℕ) → AnswerFine answer → Tells answer (Output.send bytes) → FineMessage bytes
-tells-fine answer bytes fine tells =
-    one-fine tells.earlier tells.later (Output.send bytes) (subst (λ (a : Answer). AnswerFine a) tells.is_answer fine)
+tells-fine : (answer : Answer) (to : Address) (bytes : List ℕ) → AnswerFine answer → Tells answer (Output.send to bytes) → FineMessage bytes
+tells-fine answer to bytes fine tells =
+    one-fine tells.earlier tells.later (Output.send to bytes) (subst (λ (a : Answer). AnswerFine a) tells.is_answer fine)
 
 -- ---- received octets
 
@@ -63,13 +64,13 @@ peer_by-octets State.sent origin peer from = from
 peer_by-octets (State.received known) origin peer from = peer
 peer_by-octets (State.active known) origin peer from = peer
 
-module _ (dialogue : ℕ) (past : Past) where
+module _ (dialogue : ℕ) (past : Past) (from : Address) where
   continue-fine : (state : State) (origin components : List ℕ) (verdict : PortionVerdict) → StateOctets state → Octets origin
-      → AllSendFine (continue_outputs dialogue past state origin components verdict)
-  continue-fine state origin components (PortionVerdict.normal context info) peer from =
+      → AllSendFine (continue_outputs dialogue past state from origin components verdict)
+  continue-fine state origin components (PortionVerdict.normal context info) peer octets =
       (tt, components-told dialogue past components)
-  continue-fine state origin components PortionVerdict.abnormal peer from =
-      (abnormal-sends (peer_by state origin) (peer_by-octets state origin peer from), (tt, ended-told dialogue past []))
+  continue-fine state origin components PortionVerdict.abnormal peer octets =
+      (abnormal-sends (peer_by state origin) (peer_by-octets state origin peer octets), (tt, ended-told dialogue past []))
 
   end-fine : (components : List ℕ) (verdict : PortionVerdict) → AllSendFine (end_outputs dialogue past components verdict)
   end-fine components (PortionVerdict.normal context info) = (
@@ -79,7 +80,7 @@ module _ (dialogue : ℕ) (past : Past) where
   end-fine components PortionVerdict.abnormal = (tt, ended-told dialogue past [])
 
   outputs-fine : (bytes : List ℕ) (state : State) (context : Option (List ℕ)) (m : Message) → Octets bytes → frame_at bytes ≡ Ok m
-      → StateOctets state → AllSendFine (message_outputs dialogue past state context m)
+      → StateOctets state → AllSendFine (message_outputs dialogue past state context from m)
   outputs-fine bytes state context (Message.go_on origin to portion components) octets e peer =
       let m : Message = Message.go_on origin to portion components in
       let parts = frame-octets m bytes (frame_takes bytes m e) octets in
@@ -92,31 +93,31 @@ module _ (dialogue : ℕ) (past : Past) where
   outputs-fine bytes state context (Message.begin origin portion components) octets e peer = tt
 
   taken-fine : (bytes : List ℕ) (before : Life) (m : Message) → Octets bytes → frame_at bytes ≡ Ok m → LifeOctets before
-      → AllSendFine (taken_outputs dialogue past before m)
+      → AllSendFine (taken_outputs dialogue past before from m)
   taken-fine bytes Life.unborn m octets e kept = tt
   taken-fine bytes (Life.standing state context) m octets e kept = outputs-fine bytes state context m octets e kept.0
   taken-fine bytes Life.over m octets e kept = tt
 
-received-fine : (h : History) (bytes : List ℕ) (r : Reception) → AllInRange h.pairs → Octets bytes → IsFine bytes r
-    → AllSendFine (reception_outputs h r)
-received-fine h bytes (Reception.dropped why) range octets fine = (tt, tt)
-received-fine h bytes (Reception.aborted abort) range octets fine = (fine, tt)
-received-fine h bytes (Reception.unidirectional context info components) range octets fine =
+received-fine : (h : History) (from : Address) (bytes : List ℕ) (r : Reception) → AllInRange h.pairs → Octets bytes → IsFine bytes r
+    → AllSendFine (reception_outputs h from r)
+received-fine h from bytes (Reception.dropped why) range octets fine = (tt, tt)
+received-fine h from bytes (Reception.aborted answer) range octets fine = (fine, tt)
+received-fine h from bytes (Reception.unidirectional context info components) range octets fine =
     (tt, uni-told (components_of components))
-received-fine h bytes (Reception.begun origin context info components) range octets fine =
+received-fine h from bytes (Reception.begun origin context info components) range octets fine =
     (tt, components-told (next_dialogue h) h.pairs components)
-received-fine h bytes (Reception.taken dialogue message) range octets fine =
-    taken-fine dialogue h.pairs bytes (life dialogue h.pairs) message octets fine (life-octets dialogue h.pairs range)
-received-fine h bytes (Reception.broken dialogue None cause) range octets fine = (tt, ended-told dialogue h.pairs [])
-received-fine h bytes (Reception.broken dialogue (Some abort) cause) range octets fine =
+received-fine h from bytes (Reception.taken dialogue message) range octets fine =
+    taken-fine dialogue h.pairs from bytes (life dialogue h.pairs) message octets fine (life-octets dialogue h.pairs range)
+received-fine h from bytes (Reception.broken dialogue None cause) range octets fine = (tt, ended-told dialogue h.pairs [])
+received-fine h from bytes (Reception.broken dialogue (Some answer) cause) range octets fine =
     (fine, (tt, ended-told dialogue h.pairs []))
 
 -- ---- requests
 
-request-sends : (h : History) (dialogue : ℕ) (request : Request) (bytes : List ℕ) → AllInRange h.pairs
-    → is_request request ≡ true → Tells (reply h (Event.on_dialogue dialogue request)) (Output.send bytes) → FineMessage bytes
-request-sends h dialogue request bytes range is tells =
-    let sent = sent_for_request h dialogue request bytes tells in
+request-sends : (h : History) (dialogue : ℕ) (request : Request) (to : Address) (bytes : List ℕ) → AllInRange h.pairs
+    → is_request request ≡ true → Tells (reply h (Event.on_dialogue dialogue request)) (Output.send to bytes) → FineMessage bytes
+request-sends h dialogue request to bytes range is tells =
+    let sent = sent_for_request h dialogue request to bytes tells in
     let kept = subst (λ (l : Life). LifeOctets l) sent.is_life (life-octets dialogue h.pairs range) in
     let d : Standing = standing_of dialogue h.pairs sent.state sent.context in
     record {
@@ -153,19 +154,20 @@ moment-fine idle_ms past now None = chosen (nat_lt now (clock past))
         (lapses-told (in_order lapse_key (filter_map (lapsing_at past now) (invocations past))))
         (all-idle-told past now (idle_dialogues idle_ms past now))
 
-sends-fine : (h : History) (event : Event) (bytes : List ℕ) → AllInRange h.pairs → InRange event
-    → Tells (reply h event) (Output.send bytes) → FineMessage bytes
-sends-fine h Event.new_dialogue bytes range within tells =
-    tells-fine (reply h Event.new_dialogue) bytes (birth-fine h (birth_due h)) tells
-sends-fine h (Event.on_dialogue dialogue request) bytes range within tells =
-    request-sends h dialogue request bytes range (and_parts (is_short dialogue) (is_request request) within).1 tells
-sends-fine h (Event.received octets) bytes range within tells =
+sends-fine : (h : History) (event : Event) (to : Address) (bytes : List ℕ) → AllInRange h.pairs → InRange event
+    → Tells (reply h event) (Output.send to bytes) → FineMessage bytes
+sends-fine h Event.new_dialogue to bytes range within tells =
+    tells-fine (reply h Event.new_dialogue) to bytes (birth-fine h (birth_due h)) tells
+sends-fine h (Event.on_dialogue dialogue request) to bytes range within tells =
+    request-sends h dialogue request to bytes range (and_parts (is_short dialogue) (is_request request) within).1 tells
+sends-fine h (Event.received from octets) to bytes range within tells =
+    let are = (and_parts (is_address from) (are_octets octets) within).1 in
     let live = λ (dialogue : ℕ). live_in (life dialogue h.pairs) in
     let full = is_some (birth_due h) in
-    tells-fine (reply h (Event.received octets)) bytes
-    (received-fine h octets (reception live full octets) range within (reception-fine live full octets within)) tells
-sends-fine h (Event.moment now) bytes range within tells =
-    tells-fine (reply h (Event.moment now)) bytes (moment-fine h.start.idle_ms h.pairs now (moment_fault now)) tells
+    tells-fine (reply h (Event.received from octets)) to bytes
+    (received-fine h from octets (reception live full octets) range are (reception-fine live full octets are)) tells
+sends-fine h (Event.moment now) to bytes range within tells =
+    tells-fine (reply h (Event.moment now)) to bytes (moment-fine h.start.idle_ms h.pairs now (moment_fault now)) tells
 
 -- ---- all of a history
 
@@ -174,9 +176,9 @@ in-range start [] legal = tt
 in-range start (pair ∷ past) legal = (legal.0.in_range, in-range start past legal.2)
 
 -- what an answer sends is octets
-pub sent-octets : (h : History) (event : Event) (bytes : List ℕ) → AreReplies h.start h.pairs → InRange event
-    → Tells (reply h event) (Output.send bytes) → Octets bytes
-sent-octets h event bytes legal within tells =
-    let fine = sends-fine h event bytes (in-range h.start h.pairs legal) within tells in
-    let read = sent_message h event bytes tells in
+pub sent-octets : (h : History) (event : Event) (to : Address) (bytes : List ℕ) → AreReplies h.start h.pairs → InRange event
+    → Tells (reply h event) (Output.send to bytes) → Octets bytes
+sent-octets h event to bytes legal within tells =
+    let fine = sends-fine h event to bytes (in-range h.start h.pairs legal) within tells in
+    let read = sent_message h event to bytes tells in
     frame-written fine.message read.0 bytes fine.is_written read.1.spelled fine.fine

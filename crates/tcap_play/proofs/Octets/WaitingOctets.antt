@@ -76,8 +76,8 @@ by_request-fine waits (Request.component (ComponentRequest.u_reject id problem))
     let r : Request = Request.component (ComponentRequest.u_reject id problem) in
     all-append waits (option_to_list (queued_for 0 r)) all (request-queues 0 r is)
 by_request-fine waits (Request.component (ComponentRequest.u_cancel id)) answer is all = cancelled-fine answer waits all
-by_request-fine waits (Request.dialogue (DialogueRequest.uni context info)) answer is all = tt
-by_request-fine waits (Request.dialogue (DialogueRequest.begin context info)) answer is all = tt
+by_request-fine waits (Request.dialogue (DialogueRequest.uni to context info)) answer is all = tt
+by_request-fine waits (Request.dialogue (DialogueRequest.begin to context info)) answer is all = tt
 by_request-fine waits (Request.dialogue (DialogueRequest.go_on context info)) answer is all = tt
 by_request-fine waits (Request.dialogue (DialogueRequest.finish Ending.basic context info)) answer is all = tt
 by_request-fine waits (Request.dialogue (DialogueRequest.finish Ending.prearranged context info)) answer is all = all
@@ -130,7 +130,7 @@ at_birth-fine dialogue past (Err fault) = tt
 born-fine : (dialogue : ℕ) (past : Past) (event : Event) → AllFine (queue_born dialogue past event)
 born-fine dialogue past Event.new_dialogue = tt
 born-fine dialogue past (Event.on_dialogue named request) = tt
-born-fine dialogue past (Event.received bytes) = at_birth-fine dialogue past (frame_at bytes)
+born-fine dialogue past (Event.received from bytes) = at_birth-fine dialogue past (frame_at bytes)
 born-fine dialogue past (Event.moment now) = tt
 
 by_event-fine : (dialogue : ℕ) (past : Past) (waits : List Queued) (event : Event) (answer : Answer) → InRange event
@@ -138,7 +138,7 @@ by_event-fine : (dialogue : ℕ) (past : Past) (waits : List Queued) (event : Ev
 by_event-fine dialogue past waits Event.new_dialogue answer within all = all
 by_event-fine dialogue past waits (Event.on_dialogue named request) answer within all =
     if_accepted-fine (is_accepted answer) waits request answer (and_parts (is_short named) (is_request request) within).1 all
-by_event-fine dialogue past waits (Event.received bytes) answer within all =
+by_event-fine dialogue past waits (Event.received from bytes) answer within all =
     by_bytes-fine dialogue past (life dialogue past) waits bytes all
 by_event-fine dialogue past waits (Event.moment now) answer within all = all
 

@@ -100,7 +100,7 @@ pub(super) fn closing_text<A: Allocator + Copy>(
             number,
             id,
         } => invocation_text(alloc, "ended", *dialogue, *number, *id),
-        Output::Send(_) | Output::Dropped(_) => Ok(String::new(alloc)),
+        Output::Send { .. } | Output::Dropped(_) => Ok(String::new(alloc)),
         Output::Uni { .. } | Output::Begin { .. } => Ok(String::new(alloc)),
         Output::Continue { .. } | Output::End { .. } => Ok(String::new(alloc)),
         Output::UAbort { .. } | Output::PAbort { .. } => Ok(String::new(alloc)),

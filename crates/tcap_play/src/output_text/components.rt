@@ -146,7 +146,7 @@ pub(super) fn component_text<A: Allocator + Copy>(
             problem,
             by,
         } => remote_reject_text(alloc, *dialogue, *id, *problem, *by),
-        Output::Send(_) | Output::Dropped(_) => Ok(String::new(alloc)),
+        Output::Send { .. } | Output::Dropped(_) => Ok(String::new(alloc)),
         Output::Uni { .. } | Output::Begin { .. } | Output::Continue { .. } => {
             Ok(String::new(alloc))
         }

@@ -111,7 +111,7 @@ pub(super) fn dialogue_text<A: Allocator + Copy>(
         } => message_text(alloc, "end", *dialogue, *context, info),
         Output::UAbort { dialogue, pdu } => user_abort_text(alloc, *dialogue, pdu),
         Output::PAbort { dialogue, why } => provider_abort_text(alloc, *dialogue, *why),
-        Output::Send(_) | Output::Dropped(_) => Ok(String::new(alloc)),
+        Output::Send { .. } | Output::Dropped(_) => Ok(String::new(alloc)),
         Output::Invoked { .. } | Output::ResultMore { .. } => Ok(String::new(alloc)),
         Output::LocalReject { .. } | Output::RemoteReject { .. } => Ok(String::new(alloc)),
         Output::ResultLast { .. } | Output::ErrorBack { .. } => Ok(String::new(alloc)),

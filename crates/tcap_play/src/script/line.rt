@@ -4,11 +4,12 @@ ghost use Rattle.std.specs.Prelude.{◌≡◌, option_map};
 ghost use Rattle.tcap_dialogue.specs.RequestViews.{request_view};
 ghost use Rattle.tcap_engine.specs.EventViews.{event_view};
 ghost use Rattle.tcap_play.specs.LineViews.{line_view, text_of, texts_of};
-ghost use Rattle.tcap_play.specs.ScriptLine.{called_on, asked_on, line_of_two, line_of_three, line_of_four, line_of_five, line_of_six, line_of_nine, line_of};
+ghost use Rattle.tcap_play.specs.ScriptLine.{called_on, asked_on, received_from, received_on, line_of_two, line_of_three, line_of_four, line_of_five, line_of_six, line_of_nine, line_of};
 
+use crate::addresses::Addresses;
 use crate::script::requests::{
-    abort_request, cancel_request, error_request, invoke_request, last_request, more_request,
-    portion_request, reject_request,
+    abort_request, begin_request, cancel_request, error_request, invoke_request, last_request,
+    more_request, portion_request_on, reject_request,
 };
 use crate::script::values::{Name, dialogue, is, message_name, milliseconds, octets, side};
 use crate::script::word::Word;
@@ -37,6 +38,26 @@ fn called_on<'w>(side_word: &[u8], event: Event<'w>) -> Option<Line<'w>>
     ensures { option_map line_view result ≡ called_on side_word.now (event_view event.entry) }
 {
     Some(Line::Call(side(side_word)?, event))
+}
+
+/// Octets that the engine of a letter receives, from the other engine's address.
+fn received_on<'w>(addresses: &'w Addresses, side_word: &[u8], octets: &'w [u8]) -> Option<Line<'w>>
+    ensures { option_map line_view result ≡ received_on side_word.now octets.entry.now }
+{
+    let side = side(side_word)?;
+    Some(Line::Call(side, Event::Bytes(addresses.beyond(side), octets)))
+}
+
+/// Octets that the engine of a letter receives from another address.
+fn received_from<'w, A: Allocator>(
+    side_word: &[u8],
+    from: &'w Word<'_, A>,
+    word: &'w Word<'_, A>,
+) -> Option<Line<'w>>
+    ensures { option_map line_view result ≡ received_from side_word.now (text_of from.entry.now) (text_of word.entry.now) }
+{
+    let from = from.address()?;
+    called_on(side_word, Event::Bytes(from, octets(word)?))
 }
 
 /// A request on a dialogue of the engine of a letter.
@@ -69,6 +90,7 @@ fn line_of_two<'w>(first: &[u8], second: &[u8]) -> Option<Line<'w>>
 
 /// `S raw HEX`, `S prearranged D`.
 fn line_of_three<'w, A: Allocator>(
+    addresses: &'w Addresses,
     side: &[u8],
     name: &[u8],
     word: &'w Word<'_, A>,
@@ -76,7 +98,7 @@ fn line_of_three<'w, A: Allocator>(
     ensures { option_map line_view result ≡ line_of_three side.now name.now (text_of word.entry.now) }
 {
     if is(name, "raw") {
-        called_on(side, Event::Bytes(octets(word)?))
+        received_on(addresses, side, octets(word)?)
     } else if is(name, "prearranged") {
         let request = Request::End {
             ending: Ending::Prearranged,
@@ -89,12 +111,19 @@ fn line_of_three<'w, A: Allocator>(
     }
 }
 
-/// `S cancel D ID`.
-fn line_of_four<'w>(side: &[u8], name: &[u8], dialogue: &[u8], id: &[u8]) -> Option<Line<'w>>
-    ensures { option_map line_view result ≡ line_of_four side.now name.now dialogue.now id.now }
+/// `S cancel D ID`, `S rawfrom ADDR HEX`.
+fn line_of_four<'w, A: Allocator>(
+    side: &[u8],
+    name: &[u8],
+    third: &'w Word<'_, A>,
+    last: &'w Word<'_, A>,
+) -> Option<Line<'w>>
+    ensures { option_map line_view result ≡ line_of_four side.now name.now (text_of third.entry.now) (text_of last.entry.now) }
 {
     if is(name, "cancel") {
-        asked_on(side, dialogue, cancel_request(id)?)
+        asked_on(side, third.text, cancel_request(last.text)?)
+    } else if is(name, "rawfrom") {
+        received_from(side, third, last)
     } else {
         None
     }
@@ -103,6 +132,7 @@ fn line_of_four<'w>(side: &[u8], name: &[u8], dialogue: &[u8], id: &[u8]) -> Opt
 /// `S begin D CONTEXT INFO`, and `uni`, `continue`, `end`; `S abort D user INFO`,
 /// `S abort D unsupported INFO`.
 fn line_of_five<'w, A: Allocator>(
+    addresses: &'w Addresses,
     side: &[u8],
     name: &[u8],
     dialogue: &[u8],
@@ -114,31 +144,33 @@ fn line_of_five<'w, A: Allocator>(
     let request = if is(name, "abort") {
         abort_request(word.text, information)?
     } else {
-        portion_request(name, word, information)?
+        portion_request_on(addresses, side, name, word, information)?
     };
     asked_on(side, dialogue, request)
 }
 
 /// `S last D ID CODE PARAM`, `S more D ID CODE PARAM`, `S error D ID CODE PARAM`,
-/// `S reject D ID KIND CODE`.
+/// `S reject D ID KIND CODE`, `S beginto D ADDR CONTEXT INFO`.
 fn line_of_six<'w, A: Allocator>(
     side: &[u8],
     name: &[u8],
     dialogue: &[u8],
-    id: &[u8],
+    id: &'w Word<'_, A>,
     word: &'w Word<'_, A>,
     last: &'w Word<'_, A>,
 ) -> Option<Line<'w>>
-    ensures { option_map line_view result ≡ line_of_six side.now name.now dialogue.now id.now (text_of word.entry.now) (text_of last.entry.now) }
+    ensures { option_map line_view result ≡ line_of_six side.now name.now dialogue.now (text_of id.entry.now) (text_of word.entry.now) (text_of last.entry.now) }
 {
     let request = if is(name, "last") {
-        last_request(id, word, last)?
+        last_request(id.text, word, last)?
     } else if is(name, "more") {
-        more_request(id, word, last)?
+        more_request(id.text, word, last)?
     } else if is(name, "error") {
-        error_request(id, word.text, last)?
+        error_request(id.text, word.text, last)?
     } else if is(name, "reject") {
-        reject_request(id, word.text, last.text)?
+        reject_request(id.text, word.text, last.text)?
+    } else if is(name, "beginto") {
+        begin_request(id, word, last)?
     } else {
         return None;
     };
@@ -162,22 +194,25 @@ fn line_of_nine<'w>(
 }
 
 /// What the words of a line ask for; None where they have no form of a script.
-pub(crate) fn line_of<'w, A: Allocator>(words: &'w [Word<'_, A>]) -> Option<Line<'w>>
+pub(crate) fn line_of<'w, A: Allocator>(
+    addresses: &'w Addresses,
+    words: &'w [Word<'_, A>],
+) -> Option<Line<'w>>
     ensures { option_map line_view result ≡ line_of (texts_of words.entry.now) }
 {
     let count = words.len();
     if count == 2 {
         line_of_two(words[0].text, words[1].text)
     } else if count == 3 {
-        line_of_three(words[0].text, words[1].text, &words[2])
+        line_of_three(addresses, words[0].text, words[1].text, &words[2])
     } else if count == 4 {
-        line_of_four(words[0].text, words[1].text, words[2].text, words[3].text)
+        line_of_four(words[0].text, words[1].text, &words[2], &words[3])
     } else if count == 5 {
         let (side, name, dialogue) = (words[0].text, words[1].text, words[2].text);
-        line_of_five(side, name, dialogue, &words[3], &words[4])
+        line_of_five(addresses, side, name, dialogue, &words[3], &words[4])
     } else if count == 6 {
         let (side, name, dialogue) = (words[0].text, words[1].text, words[2].text);
-        line_of_six(side, name, dialogue, words[3].text, &words[4], &words[5])
+        line_of_six(side, name, dialogue, &words[3], &words[4], &words[5])
     } else if count == 9 {
         let request = invoke_request(
             words[3].text,

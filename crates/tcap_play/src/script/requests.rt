@@ -3,30 +3,32 @@
 ghost use Rattle.std.specs.Prelude.{◌≡◌, option_map};
 ghost use Rattle.tcap_dialogue.specs.RequestViews.{request_view};
 ghost use Rattle.tcap_play.specs.LineViews.{text_of};
-ghost use Rattle.tcap_play.specs.ScriptLine.{portion_request_of, abort_request_of, last_request_of, more_request_of, cancel_request_of, error_request_of, reject_request_of, invoke_request_of};
+ghost use Rattle.tcap_play.specs.ScriptLine.{begin_request_of, portion_request_of, portion_request_on, abort_request_of, last_request_of, more_request_of, cancel_request_of, error_request_of, reject_request_of, invoke_request_of};
 
+use crate::addresses::Addresses;
 use crate::script::values::{
     body, class, code, identifier, is, milliseconds, octets, optional_identifier, optional_octets,
-    problem, reason,
+    problem, reason, side,
 };
 use crate::script::word::Word;
 use std::alloc::Allocator;
-use tcap_dialogue::{Ending, Request};
+use tcap_dialogue::{Address, Ending, Request};
 
-/// A request of dialogue handling with a context and user information.
-pub(crate) fn portion_request<'w, A: Allocator>(
+/// A request of dialogue handling with a destination where it has one, a context and user information.
+fn portion_request<'w, A: Allocator>(
+    to: &'w Address,
     name: &[u8],
     context: &'w Word<'_, A>,
     information: &'w Word<'_, A>,
 ) -> Option<Request<'w>>
-    ensures { option_map request_view result ≡ portion_request_of name.now (text_of context.entry.now) (text_of information.entry.now) }
+    ensures { option_map request_view result ≡ portion_request_of to.entry.now name.now (text_of context.entry.now) (text_of information.entry.now) }
 {
     let context = optional_octets(context)?;
     let info = octets(information)?;
     if is(name, "uni") {
-        Some(Request::Uni { context, info })
+        Some(Request::Uni { to, context, info })
     } else if is(name, "begin") {
-        Some(Request::Begin { context, info })
+        Some(Request::Begin { to, context, info })
     } else if is(name, "continue") {
         Some(Request::Continue { context, info })
     } else if is(name, "end") {
@@ -39,6 +41,31 @@ pub(crate) fn portion_request<'w, A: Allocator>(
     } else {
         None
     }
+}
+
+/// The same, made on the engine of a letter, whose messages go to the other engine.
+pub(crate) fn portion_request_on<'w, A: Allocator>(
+    addresses: &'w Addresses,
+    side_word: &[u8],
+    name: &[u8],
+    context: &'w Word<'_, A>,
+    information: &'w Word<'_, A>,
+) -> Option<Request<'w>>
+    ensures { option_map request_view result ≡ portion_request_on side_word.now name.now (text_of context.entry.now) (text_of information.entry.now) }
+{
+    let to = addresses.beyond(side(side_word)?);
+    portion_request(to, name, context, information)
+}
+
+/// A request to begin a dialogue with another address.
+pub(crate) fn begin_request<'w, A: Allocator>(
+    to: &'w Word<'_, A>,
+    context: &'w Word<'_, A>,
+    information: &'w Word<'_, A>,
+) -> Option<Request<'w>>
+    ensures { option_map request_view result ≡ begin_request_of (text_of to.entry.now) (text_of context.entry.now) (text_of information.entry.now) }
+{
+    portion_request(to.address()?, b"begin", context, information)
 }
 
 /// A request to abort, for a reason.
