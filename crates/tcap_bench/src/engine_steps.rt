@@ -2,6 +2,7 @@
 
 ghost use Rattle.std.specs.Prelude.{◌≡◌, IfSome};
 
+use crate::node::{Node, peer};
 use std::alloc::Global;
 use tcap_component::Code;
 use tcap_engine::{Ending, Engine, Limits, Output};
@@ -54,19 +55,19 @@ pub(crate) fn continue_to(dialogue: u32) -> [u8; 14] {
 }
 
 /// A dialogue is begun with an Invoke: the dialogue, and how many outputs that gives.
-fn begin_one(engine: &mut Engine) -> Option<(Open, u64)> {
-    let dialogue = engine.new_dialogue().ok()?;
+fn begin_one(node: &mut Node) -> Option<(Open, u64)> {
+    let dialogue = node.engine.new_dialogue().ok()?;
     let operation = Code::Local(10);
-    engine
+    node.engine
         .invoke(dialogue, 1, Class::One, operation, None, None, TIMEOUT_MS)
         .ok()?;
-    let sent = engine.begin(dialogue, None, &[]).ok()?;
+    let sent = node.engine.begin(dialogue, &node.peer, None, &[]).ok()?;
     Some((Open { dialogue, id: 1 }, sent.len() as u64))
 }
 
 /// A Begin with an Invoke is received: the dialogue, and how many outputs that gives.
-fn receive_one(engine: &mut Engine) -> Option<(Open, u64)> {
-    let told = engine.receive(&BEGIN).ok()?;
+fn receive_one(node: &mut Node) -> Option<(Open, u64)> {
+    let told = node.engine.receive(&node.peer, &BEGIN).ok()?;
     let Output::Begin { dialogue, .. } = *told.first()? else {
         return None;
     };
@@ -74,18 +75,23 @@ fn receive_one(engine: &mut Engine) -> Option<(Open, u64)> {
 }
 
 /// One dialogue is begun, and another one ended by the peer with its result.
-fn begin_and_end(engine: &mut Engine, open: &mut Open) -> Option<u64> {
-    let (begun, sent) = begin_one(engine)?;
-    let told = engine.receive(&end_to(open.dialogue, open.id)).ok()?.len() as u64;
+fn begin_and_end(node: &mut Node, open: &mut Open) -> Option<u64> {
+    let (begun, sent) = begin_one(node)?;
+    let told = node
+        .engine
+        .receive(&node.peer, &end_to(open.dialogue, open.id))
+        .ok()?
+        .len() as u64;
     *open = begun;
     Some(sent.saturating_add(told))
 }
 
 /// One dialogue is begun by the peer, and another one answered by a result and a basic end.
-fn receive_and_answer(engine: &mut Engine, open: &mut Open) -> Option<u64> {
-    let (begun, told) = receive_one(engine)?;
-    engine.result_last(open.dialogue, open.id, None).ok()?;
-    let sent = engine
+fn receive_and_answer(node: &mut Node, open: &mut Open) -> Option<u64> {
+    let (begun, told) = receive_one(node)?;
+    node.engine.result_last(open.dialogue, open.id, None).ok()?;
+    let sent = node
+        .engine
         .finish(open.dialogue, Ending::Basic, None, &[])
         .ok()?
         .len() as u64;
@@ -94,14 +100,15 @@ fn receive_and_answer(engine: &mut Engine, open: &mut Open) -> Option<u64> {
 }
 
 /// The peer goes on with a result, and so does this side with the next invocation.
-fn go_on(engine: &mut Engine, open: &mut Open) -> Option<u64> {
-    let told = engine
-        .receive(&result_to(open.dialogue, open.id))
+fn go_on(node: &mut Node, open: &mut Open) -> Option<u64> {
+    let told = node
+        .engine
+        .receive(&node.peer, &result_to(open.dialogue, open.id))
         .ok()?
         .len() as u64;
     let id = open.id.wrapping_add(1);
     let operation = Code::Local(10);
-    engine
+    node.engine
         .invoke(
             open.dialogue,
             id,
@@ -112,63 +119,67 @@ fn go_on(engine: &mut Engine, open: &mut Open) -> Option<u64> {
             TIMEOUT_MS,
         )
         .ok()?;
-    let sent = engine.go_on(open.dialogue, None, &[]).ok()?.len() as u64;
+    let sent = node.engine.go_on(open.dialogue, None, &[]).ok()?.len() as u64;
     open.id = id;
     Some(told.saturating_add(sent))
 }
 
 /// The clock moves on by one: how many outputs that gives, none where nothing is due.
-fn pass(engine: &mut Engine) -> Option<u64> {
-    let moment = engine.now().saturating_add(1);
-    Some(engine.advance(moment).ok()?.len() as u64)
+fn pass(node: &mut Node) -> Option<u64> {
+    let moment = node.engine.now().saturating_add(1);
+    Some(node.engine.advance(moment).ok()?.len() as u64)
 }
 
 /// The clock moves on by one, and then the peer goes on: how many outputs that gives.
-fn touch(engine: &mut Engine, dialogue: u32) -> Option<u64> {
-    let passed = pass(engine)?;
-    let told = engine.receive(&continue_to(dialogue)).ok()?.len() as u64;
+fn touch(node: &mut Node, dialogue: u32) -> Option<u64> {
+    let passed = pass(node)?;
+    let told = node
+        .engine
+        .receive(&node.peer, &continue_to(dialogue))
+        .ok()?
+        .len() as u64;
     Some(passed.saturating_add(told))
 }
 
 /// A dialogue is begun without components, and the peer goes on.
-fn begin_bare(engine: &mut Engine) -> Option<Open> {
-    let dialogue = engine.new_dialogue().ok()?;
-    engine.begin(dialogue, None, &[]).ok()?;
-    touch(engine, dialogue)?;
+fn begin_bare(node: &mut Node) -> Option<Open> {
+    let dialogue = node.engine.new_dialogue().ok()?;
+    node.engine.begin(dialogue, &node.peer, None, &[]).ok()?;
+    touch(node, dialogue)?;
     Some(Open { dialogue, id: 1 })
 }
 
 /// One step on a dialogue: how many outputs it gives.
-fn step_once(engine: &mut Engine, step: u8, open: &mut Open) -> Option<u64> {
+fn step_once(node: &mut Node, step: u8, open: &mut Open) -> Option<u64> {
     match step {
-        1 => begin_and_end(engine, open),
-        2 => receive_and_answer(engine, open),
-        3 => go_on(engine, open),
-        4 => pass(engine),
-        _ => touch(engine, open.dialogue),
+        1 => begin_and_end(node, open),
+        2 => receive_and_answer(node, open),
+        3 => go_on(node, open),
+        4 => pass(node),
+        _ => touch(node, open.dialogue),
     }
 }
 
 /// A dialogue as the step finds it: for the third and from the fifth on it is Active.
-fn open_one(engine: &mut Engine, step: u8) -> Option<Open> {
+fn open_one(node: &mut Node, step: u8) -> Option<Open> {
     if step > 4 {
-        return begin_bare(engine);
+        return begin_bare(node);
     }
     if step == 2 {
-        return Some(receive_one(engine)?.0);
+        return Some(receive_one(node)?.0);
     }
-    let (mut open, _) = begin_one(engine)?;
+    let (mut open, _) = begin_one(node)?;
     if step == 3 {
-        go_on(engine, &mut open)?;
+        go_on(node, &mut open)?;
     }
     Some(open)
 }
 
 /// So many dialogues.
-fn open_all(alloc: Global, engine: &mut Engine, step: u8, dialogues: u16) -> Option<Vec<Open>> {
+fn open_all(alloc: Global, node: &mut Node, step: u8, dialogues: u16) -> Option<Vec<Open>> {
     let mut all = Vec::with_capacity(alloc, dialogues as usize).ok()?;
     for _ in 0..dialogues {
-        let open = open_one(engine, step)?;
+        let open = open_one(node, step)?;
         all.push(open).ok()?;
     }
     Some(all)
@@ -198,15 +209,15 @@ fn taken(all: &mut [Open], step: u8, turn: usize, seed: u32) -> Option<&mut Open
 /// As many steps as there are dialogues, each on one drawn by lot, but from the fifth kind on in turn; those
 /// of the third kind with a moment behind them, at which each identifier that waited is free: how many
 /// outputs the steps give.
-fn count_lap(engine: &mut Engine, step: u8, all: &mut [Open], seed: &mut u32) -> Option<u64> {
+fn count_lap(node: &mut Node, step: u8, all: &mut [Open], seed: &mut u32) -> Option<u64> {
     let mut count = 0u64;
     for turn in 0..all.len() {
         *seed = next_seed(*seed);
-        let given = step_once(engine, step, taken(all, step, turn, *seed)?)?;
+        let given = step_once(node, step, taken(all, step, turn, *seed)?)?;
         count = count.saturating_add(given);
     }
     if step == 3 {
-        pass(engine)?;
+        pass(node)?;
     }
     Some(count)
 }
@@ -220,12 +231,15 @@ fn count_laps(alloc: Global, step: u8, dialogues: u16, laps: u32) -> Option<u64>
         reject_ms: 0,
         idle_ms: if step == 5 { IDLE_MS } else { 0 },
     };
-    let mut engine = Engine::new(alloc, limits);
-    let mut all = open_all(alloc, &mut engine, step, dialogues)?;
+    let mut node = Node {
+        engine: Engine::new(alloc, limits),
+        peer: peer(),
+    };
+    let mut all = open_all(alloc, &mut node, step, dialogues)?;
     let mut seed = 1u32;
     let mut count = 0u64;
     for _ in 0..laps {
-        let given = count_lap(&mut engine, step, &mut all, &mut seed)?;
+        let given = count_lap(&mut node, step, &mut all, &mut seed)?;
         count = count.saturating_add(given);
     }
     Some(count)

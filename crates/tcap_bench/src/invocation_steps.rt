@@ -3,6 +3,7 @@
 ghost use Rattle.std.specs.Prelude.{◌≡◌, IfSome};
 
 use crate::engine_steps::{next_seed, result_to};
+use crate::node::{Node, peer};
 use std::alloc::Global;
 use tcap_component::Code;
 use tcap_engine::{Engine, Limits};
@@ -34,18 +35,20 @@ pub(crate) fn invoke(engine: &mut Engine, dialogue: u32, id: i8, timeout_ms: u64
 
 /// An Active dialogue with so many invocations Sent. For the second kind of step one lapses at each
 /// moment from 1 on, in order of their identifiers' places.
-fn open_dialogue(engine: &mut Engine, step: u8, invocations: u16) -> Option<u32> {
-    let dialogue = engine.new_dialogue().ok()?;
+fn open_dialogue(node: &mut Node, step: u8, invocations: u16) -> Option<u32> {
+    let dialogue = node.engine.new_dialogue().ok()?;
     for place in 0..invocations as u64 {
         let timeout_ms = if step == 2 {
             place.saturating_add(1)
         } else {
             TIMEOUT_MS
         };
-        invoke(engine, dialogue, id_at(place), timeout_ms)?;
+        invoke(&mut node.engine, dialogue, id_at(place), timeout_ms)?;
     }
-    engine.begin(dialogue, None, &[]).ok()?;
-    engine.receive(&continue_to(dialogue)).ok()?;
+    node.engine.begin(dialogue, &node.peer, None, &[]).ok()?;
+    node.engine
+        .receive(&node.peer, &continue_to(dialogue))
+        .ok()?;
     Some(dialogue)
 }
 
@@ -62,10 +65,14 @@ pub(crate) fn invoke_again(
 }
 
 /// The result of an invocation is received, a moment frees its identifier, and it is made again.
-fn answer_one(engine: &mut Engine, dialogue: u32, id: i8, moment: u64) -> Option<u64> {
-    let told = engine.receive(&result_to(dialogue, id)).ok()?.len() as u64;
-    engine.advance(moment).ok()?;
-    let sent = invoke_again(engine, dialogue, id, TIMEOUT_MS)?;
+fn answer_one(node: &mut Node, dialogue: u32, id: i8, moment: u64) -> Option<u64> {
+    let told = node
+        .engine
+        .receive(&node.peer, &result_to(dialogue, id))
+        .ok()?
+        .len() as u64;
+    node.engine.advance(moment).ok()?;
+    let sent = invoke_again(&mut node.engine, dialogue, id, TIMEOUT_MS)?;
     Some(told.saturating_add(sent))
 }
 
@@ -83,31 +90,25 @@ fn lapse_one(
 }
 
 /// One step, at the moment after the last: how many outputs it gives.
-fn step_once(
-    engine: &mut Engine,
-    step: u8,
-    dialogue: u32,
-    invocations: u16,
-    seed: u32,
-) -> Option<u64> {
-    let moment = engine.now().saturating_add(1);
+fn step_once(node: &mut Node, step: u8, dialogue: u32, invocations: u16, seed: u32) -> Option<u64> {
+    let moment = node.engine.now().saturating_add(1);
     let all = invocations as u64;
     match step {
         1 => {
             let drawn = (seed as u64 >> 16).wrapping_mul(all) >> 16;
-            answer_one(engine, dialogue, id_at(drawn), moment)
+            answer_one(node, dialogue, id_at(drawn), moment)
         }
         2 => {
             let due = (moment.saturating_sub(1)).checked_rem(all)?;
-            lapse_one(engine, dialogue, id_at(due), moment, all)
+            lapse_one(&mut node.engine, dialogue, id_at(due), moment, all)
         }
-        _ => Some(engine.advance(moment).ok()?.len() as u64),
+        _ => Some(node.engine.advance(moment).ok()?.len() as u64),
     }
 }
 
 /// As many steps as there are invocations: how many outputs they give.
 fn count_lap(
-    engine: &mut Engine,
+    node: &mut Node,
     step: u8,
     dialogue: u32,
     invocations: u16,
@@ -116,7 +117,7 @@ fn count_lap(
     let mut count = 0u64;
     for _ in 0..invocations {
         *seed = next_seed(*seed);
-        let given = step_once(engine, step, dialogue, invocations, *seed)?;
+        let given = step_once(node, step, dialogue, invocations, *seed)?;
         count = count.saturating_add(given);
     }
     Some(count)
@@ -131,12 +132,15 @@ fn count_laps(alloc: Global, step: u8, invocations: u16, laps: u32) -> Option<u6
         reject_ms: 0,
         idle_ms: 0,
     };
-    let mut engine = Engine::new(alloc, limits);
-    let dialogue = open_dialogue(&mut engine, step, invocations)?;
+    let mut node = Node {
+        engine: Engine::new(alloc, limits),
+        peer: peer(),
+    };
+    let dialogue = open_dialogue(&mut node, step, invocations)?;
     let mut seed = 1u32;
     let mut count = 0u64;
     for _ in 0..laps {
-        let given = count_lap(&mut engine, step, dialogue, invocations, &mut seed)?;
+        let given = count_lap(&mut node, step, dialogue, invocations, &mut seed)?;
         count = count.saturating_add(given);
     }
     Some(count)

@@ -3,24 +3,27 @@
 ghost use Rattle.std.specs.Prelude.{◌≡◌, IfSome};
 
 use crate::invocation_steps::{continue_to, invoke, invoke_again};
+use crate::node::{Node, peer};
 use std::alloc::Global;
 use tcap_engine::{Engine, Limits, Output};
 
 /// An Active dialogue with an invocation Sent.
-fn open_one(engine: &mut Engine, timeout_ms: u64) -> Option<()> {
-    let dialogue = engine.new_dialogue().ok()?;
-    invoke(engine, dialogue, 1, timeout_ms)?;
-    engine.begin(dialogue, None, &[]).ok()?;
-    engine.receive(&continue_to(dialogue)).ok()?;
+fn open_one(node: &mut Node, timeout_ms: u64) -> Option<()> {
+    let dialogue = node.engine.new_dialogue().ok()?;
+    invoke(&mut node.engine, dialogue, 1, timeout_ms)?;
+    node.engine.begin(dialogue, &node.peer, None, &[]).ok()?;
+    node.engine
+        .receive(&node.peer, &continue_to(dialogue))
+        .ok()?;
     Some(())
 }
 
 /// So many dialogues, of which so many lapse at each moment from 1 on: how many moments that makes.
-fn open_all(engine: &mut Engine, dialogues: u16, together: u16) -> Option<u64> {
+fn open_all(node: &mut Node, dialogues: u16, together: u16) -> Option<u64> {
     let mut moments = 0u64;
     for place in 0..dialogues as u64 {
         moments = place.checked_div(together as u64)?.saturating_add(1);
-        open_one(engine, moments)?;
+        open_one(node, moments)?;
     }
     Some(moments)
 }
@@ -59,11 +62,14 @@ fn count_laps(alloc: Global, dialogues: u16, together: u16, laps: u32) -> Option
         reject_ms: 0,
         idle_ms: 0,
     };
-    let mut engine = Engine::new(alloc, limits);
-    let moments = open_all(&mut engine, dialogues, together)?;
+    let mut node = Node {
+        engine: Engine::new(alloc, limits),
+        peer: peer(),
+    };
+    let moments = open_all(&mut node, dialogues, together)?;
     let mut count = 0u64;
     for _ in 0..laps {
-        let given = count_lap(&mut engine, moments)?;
+        let given = count_lap(&mut node.engine, moments)?;
         count = count.saturating_add(given);
     }
     Some(count)

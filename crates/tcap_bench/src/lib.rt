@@ -16,6 +16,7 @@ mod feed_steps;
 mod invocation_steps;
 mod lapse_steps;
 mod message_sum;
+mod node;
 mod rewritten;
 mod sum;
 mod traffic;

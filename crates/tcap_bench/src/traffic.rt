@@ -8,10 +8,11 @@ mod requests;
 
 ghost use Rattle.std.specs.Prelude.{◌≡◌, IfSome};
 
+use crate::node::peer;
 use digest::Digest;
 use lot::Lot;
 use std::alloc::Global;
-use tcap_engine::{Answer, Engine, Event, Limits, Output};
+use tcap_engine::{Address, Answer, Engine, Event, Limits, Output};
 
 /// How long an invoke identifier waits for a Reject, in milliseconds.
 const REJECT_MS: u64 = 500;
@@ -35,14 +36,15 @@ impl Traffic {
     }
 
     /// A dialogue is begun by this side with an Invoke, or by the peer: its identifier, 0 where none is left.
-    fn begin(&mut self) -> Option<u32> {
+    fn begin(&mut self, peer: &Address) -> Option<u32> {
         if self.lot.below(2) == 0 {
-            return Some(self.take(&Event::Bytes(&messages::BEGIN))?.unwrap_or(0));
+            let born = self.take(&Event::Bytes(peer, &messages::BEGIN))?;
+            return Some(born.unwrap_or(0));
         }
         let dialogue = self.take(&Event::NewDialogue)?.unwrap_or(0);
         for request in [
             requests::invoke(&mut self.lot, self.dialogues),
-            requests::BEGIN,
+            requests::begin(peer),
         ] {
             self.take(&Event::On { dialogue, request })?;
         }
@@ -50,15 +52,15 @@ impl Traffic {
     }
 
     /// Something comes to a dialogue that stands: a moment, a message or a request.
-    fn go_on(&mut self, dialogue: u32) -> Option<()> {
+    fn go_on(&mut self, peer: &Address, dialogue: u32) -> Option<()> {
         match self.lot.below(16) {
             0 => {
                 let moment = self.engine.now().saturating_add(self.lot.below(32) as u64);
                 self.take(&Event::Moment(moment))?;
             }
-            1..=5 => self.hear(dialogue)?,
+            1..=5 => self.hear(peer, dialogue)?,
             _ => {
-                let request = requests::any(&mut self.lot, self.dialogues);
+                let request = requests::any(&mut self.lot, self.dialogues, peer);
                 self.take(&Event::On { dialogue, request })?;
             }
         }
@@ -66,19 +68,19 @@ impl Traffic {
     }
 
     /// A message comes to a dialogue, or one that is spoiled.
-    fn hear(&mut self, dialogue: u32) -> Option<()> {
+    fn hear(&mut self, peer: &Address, dialogue: u32) -> Option<()> {
         let id = self.lot.id();
         match self.lot.below(9) {
-            0..=2 => self.take(&Event::Bytes(&messages::result_to(dialogue, id)))?,
-            3 => self.take(&Event::Bytes(&messages::end_to(dialogue, id)))?,
+            0..=2 => self.take(&Event::Bytes(peer, &messages::result_to(dialogue, id)))?,
+            3 => self.take(&Event::Bytes(peer, &messages::end_to(dialogue, id)))?,
             4..=6 => {
                 let component = messages::component(self.lot.below(3), id);
-                self.take(&Event::Bytes(&messages::continue_to(dialogue, component)))?
+                self.take(&Event::Bytes(peer, &messages::continue_to(dialogue, component)))?
             }
-            7 => self.take(&Event::Bytes(&messages::abort_to(dialogue)))?,
+            7 => self.take(&Event::Bytes(peer, &messages::abort_to(dialogue)))?,
             _ => {
                 let spoiled = messages::spoiled(&mut self.lot, dialogue, id);
-                self.take(&Event::Bytes(&spoiled))?
+                self.take(&Event::Bytes(peer, &spoiled))?
             }
         };
         Some(())
@@ -86,12 +88,12 @@ impl Traffic {
 
     /// One event, or those of a birth, at a place drawn by lot. A place has the dialogue that was born there
     /// last; where it is over, another is born.
-    fn go_on_somewhere(&mut self, places: &mut [u32]) -> Option<()> {
+    fn go_on_somewhere(&mut self, peer: &Address, places: &mut [u32]) -> Option<()> {
         let at = self.lot.below(self.dialogues) as usize;
         let place = places.get_mut(at)?;
         match self.engine.state_of(*place) {
-            None => *place = self.begin()?,
-            Some(_) => self.go_on(*place)?,
+            None => *place = self.begin(peer)?,
+            Some(_) => self.go_on(peer, *place)?,
         }
         Some(())
     }
@@ -118,6 +120,7 @@ fn digest_of(alloc: Global, seed: u64, dialogues: u16, turns: u32) -> Option<u64
         reject_ms: REJECT_MS,
         idle_ms: 0,
     };
+    let peer = peer();
     let mut places = vec![in alloc; 0u32; dialogues as usize].ok()?;
     let mut traffic = Traffic {
         engine: Engine::new(alloc, limits),
@@ -126,7 +129,7 @@ fn digest_of(alloc: Global, seed: u64, dialogues: u16, turns: u32) -> Option<u64
         digest: Digest::new(),
     };
     for _ in 0..turns {
-        traffic.go_on_somewhere(&mut places)?;
+        traffic.go_on_somewhere(&peer, &mut places)?;
     }
     Some(traffic.digest.value())
 }

@@ -1,5 +1,6 @@
 //! What memory and input do that are no friends.
 
+mod addresses;
 mod answers;
 mod codec;
 mod damage;

@@ -1,5 +1,7 @@
 //! What no clause says, run; and what the definitions print, computed.
 
+mod addressed;
+mod addresses;
 mod caller;
 mod compared;
 mod devices;

@@ -2,14 +2,17 @@
 
 use super::lot::Lot;
 use tcap_component::{Body, Code, Problem};
-use tcap_engine::{AbortWhy, Ending, Request};
+use tcap_engine::{AbortWhy, Address, Ending, Request};
 use tcap_invocation::Class;
 
-/// A Begin without context or information.
-pub(super) const BEGIN: Request<'static> = Request::Begin {
-    context: None,
-    info: &[],
-};
+/// A Begin to this address, without context or information.
+pub(super) fn begin(to: &Address) -> Request<'_> {
+    Request::Begin {
+        to,
+        context: None,
+        info: &[],
+    }
+}
 
 /// A parameter: an octet string.
 const PARAMETER: [u8; 6] = [0x04, 0x04, 0x55, 0x66, 0x77, 0x88];
@@ -77,41 +80,45 @@ fn answer(lot: &mut Lot) -> Request<'static> {
     }
 }
 
-/// A request that ends a dialogue, or one that no dialogue has any more.
-fn ending(lot: &mut Lot) -> Request<'static> {
-    let info: &'static [u8] = &[];
-    match lot.below(5) {
+/// A request of this kind that ends a dialogue, or one that no dialogue has any more.
+fn ending(kind: u32, to: &Address) -> Request<'_> {
+    match kind {
         0 => Request::End {
             ending: Ending::Basic,
             context: None,
-            info,
+            info: &[],
         },
         1 => Request::End {
             ending: Ending::Prearranged,
             context: None,
-            info,
+            info: &[],
         },
         2 => Request::Abort {
             why: AbortWhy::User,
-            info,
+            info: &[],
         },
         3 => Request::Uni {
+            to,
             context: None,
-            info,
+            info: &[],
         },
-        _ => BEGIN,
+        _ => begin(to),
     }
 }
 
-/// A request of any kind.
-pub(super) fn any(lot: &mut Lot, dialogues: u32) -> Request<'static> {
-    match lot.below(12) {
+/// A request of any kind; what has a destination goes to this address.
+pub(super) fn any<'a>(lot: &mut Lot, dialogues: u32, to: &'a Address) -> Request<'a> {
+    let drawn = lot.below(12);
+    if drawn > 10 {
+        let kind = lot.below(5);
+        return ending(kind, to);
+    }
+    match drawn {
         0..=2 => invoke(lot, dialogues),
         3..=5 => Request::Continue {
             context: None,
             info: &[],
         },
-        6..=10 => answer(lot),
-        _ => ending(lot),
+        _ => answer(lot),
     }
 }

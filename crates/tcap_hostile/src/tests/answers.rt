@@ -1,8 +1,9 @@
 //! What is answered, as lines of an example: each two spaces in.
 
+use super::words::peer;
 use std::alloc::{Allocator, Global};
 use tcap_component::{Body, Code};
-use tcap_engine::{Answer, By, DropWhy, Output, Why};
+use tcap_engine::{Address, Answer, By, DropWhy, Output, Why};
 use tcap_pdu::DialoguePdu;
 use tcap_text::{
     body_text, coded_text, identifier_text, octets_or_dash, optional_octets_or_dash, pdu_text,
@@ -53,6 +54,16 @@ fn portion(alloc: Global, context: Option<&[u8]>, info: &[u8]) -> Option<String>
     format!(in alloc; "context {context} info {info}").ok()
 }
 
+/// A message that is sent; where it goes, if it isn't the address 01.
+fn sent_line(alloc: Global, to: &Address, octets: &[u8]) -> Option<String> {
+    let octets = hex::encode(alloc, octets).ok()?;
+    if *to == peer() {
+        return format!(in alloc; "send {octets}").ok();
+    }
+    let to = octets_or_dash(alloc, to.octets()).ok()?;
+    format!(in alloc; "send {octets} to {to}").ok()
+}
+
 /// The dialogue PDU of an Abort.
 fn abort_pdu(alloc: Global, pdu: &Option<DialoguePdu<'_>>) -> Option<String> {
     match pdu {
@@ -64,10 +75,7 @@ fn abort_pdu(alloc: Global, pdu: &Option<DialoguePdu<'_>>) -> Option<String> {
 /// What is sent, and the indications of dialogue handling.
 fn dialogue_line<A: Allocator>(alloc: Global, output: &Output<'_, A>) -> Option<String> {
     match output {
-        Output::Send(octets) => {
-            let octets = hex::encode(alloc, octets.as_slice()).ok()?;
-            format!(in alloc; "send {octets}").ok()
-        }
+        Output::Send { to, bytes } => sent_line(alloc, to, bytes.as_slice()),
         Output::Uni { context, info } => {
             let portion = portion(alloc, *context, info)?;
             format!(in alloc; "uni {portion}").ok()

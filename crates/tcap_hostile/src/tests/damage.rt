@@ -2,11 +2,12 @@
 
 use super::engine::new_engine;
 use super::vectors::VECTORS;
+use super::words::address_of;
 use ber_core::{Feed, FeedFault, read_alone};
 use std::alloc::Global;
 use std::test::Fail;
 use tcap_component::{Code, Components};
-use tcap_engine::{Engine, Output, State};
+use tcap_engine::{Address, Engine, Output, State};
 use tcap_invocation::Class;
 use tcap_pdu::{read_dialogue, read_frame};
 use tcap_text::{canon_text, check_text, show_text};
@@ -81,13 +82,13 @@ fn reads_back(octets: &[u8]) -> bool {
     is_dialogue && Components::new(frame.components()).all(|item| item.is_ok())
 }
 
-/// How many outputs send a message, each of which can be read; nothing where one can't.
-fn sends(outputs: &[Output<'_>]) -> Option<u64> {
+/// How many outputs send a message, each of which can be read and goes to this address; nothing where one doesn't.
+fn sends(outputs: &[Output<'_>], peer: &Address) -> Option<u64> {
     let mut count = 0u64;
     for output in outputs {
-        if let Output::Send(octets) = output {
+        if let Output::Send { to, bytes } = output {
             count = count.saturating_add(1);
-            if !reads_back(octets.as_slice()) {
+            if to != peer || !reads_back(bytes.as_slice()) {
                 return None;
             }
         }
@@ -116,11 +117,12 @@ fn closings(outputs: &[Output<'_>]) -> Option<u64> {
     Some(count)
 }
 
-/// Whether what a dialogue has to say goes out, where it may speak.
-fn speaks(engine: &mut Engine, d: u32) -> Option<bool> {
+/// Whether what a dialogue has to say goes out to this address, where it may speak.
+fn speaks(engine: &mut Engine, d: u32, peer: &Address) -> Option<bool> {
     match engine.state_of(d) {
         Some(State::Active | State::Received) => {
-            Some(sends(engine.go_on(d, None, &[]).ok()?.as_slice())? == 1)
+            let told = engine.go_on(d, None, &[]).ok()?;
+            Some(sends(told.as_slice(), peer)? == 1)
         }
         Some(State::Fresh | State::Sent) | None => Some(true),
     }
@@ -135,18 +137,19 @@ fn waiting_engine(alloc: Global) -> Option<Engine> {
     engine
         .invoke(1, 1, Class::One, code, None, None, 1000)
         .ok()?;
-    engine.begin(1, None, &[]).ok()?;
+    engine.begin(1, &address_of(0x0a), None, &[]).ok()?;
     Some(engine)
 }
 
-/// Whether what the engine told of so many octets is within its bounds: at most one message goes out, and a
-/// second dialogue stands where a Begin is told. The first is over only where its invocation was closed.
-fn is_bounded(engine: &Engine, octets: usize, told: &[Output<'_>]) -> Option<bool> {
+/// Whether what the engine told of so many octets from this address is within its bounds: at most one message
+/// goes out, and there; and a second dialogue stands where a Begin is told. The first is over only where its
+/// invocation was closed.
+fn is_bounded(engine: &Engine, from: &Address, octets: usize, told: &[Output<'_>]) -> Option<bool> {
     let is_born = told
         .iter()
         .any(|output| matches!(output, Output::Begin { .. }));
     let is_closed = closings(told)? > 0;
-    let has_sent = sends(told)? <= 1;
+    let has_sent = sends(told, from)? <= 1;
     let is_short = told.len() <= octets.saturating_add(2);
     let has_second = engine.state_of(2).is_some();
     let has_third = engine.state_of(3).is_some();
@@ -155,14 +158,16 @@ fn is_bounded(engine: &Engine, octets: usize, told: &[Output<'_>]) -> Option<boo
 }
 
 /// Whether such an engine takes these octets within its bounds, and the invocation has one closing indication
-/// once its deadline has come. All that is sent, then and later, can be read. By then no dialogue stands, since
-/// none may stand still for so long.
+/// once its deadline has come. They come from an address of the same octets, the first 255 of them, and all
+/// that is sent, then and later, goes there and can be read. By then no dialogue stands, since none may stand
+/// still for so long.
 fn is_heard(alloc: Global, octets: &[u8]) -> Option<bool> {
     let mut engine = waiting_engine(alloc)?;
-    let told = engine.receive(octets).ok()?;
-    let in_bounds = is_bounded(&engine, octets.len(), told.as_slice())?;
-    let first_speaks = speaks(&mut engine, 1)?;
-    let second_speaks = speaks(&mut engine, 2)?;
+    let from = Address::new(octets.get(..octets.len().min(255))?)?;
+    let told = engine.receive(&from, octets).ok()?;
+    let in_bounds = is_bounded(&engine, &from, octets.len(), told.as_slice())?;
+    let first_speaks = speaks(&mut engine, 1, &from)?;
+    let second_speaks = speaks(&mut engine, 2, &from)?;
     let lapsed = engine.advance(1000).ok()?;
     let closed = closings(told.as_slice())?.saturating_add(closings(lapsed.as_slice())?);
     let is_over = engine.state_of(1).is_none() & engine.state_of(2).is_none();

@@ -2,12 +2,13 @@
 
 use super::answers::{add_line, add_outputs};
 use super::subject::Told;
-use super::words::{Word, event_of, text};
+use super::words::{Word, event_of, peer, text};
 use ber_core::OutOfMemory;
 use std::alloc::{Allocator, Global};
 use tcap_dialogue::{Dialogue, Fault, Request, State, Step};
 use tcap_engine::Event;
 use tcap_pdu::read_frame;
+use tcap_text::octets_or_dash;
 
 /// Adds the lines of a step.
 fn add_step<A: Allocator>(alloc: Global, told: &mut String, step: &Step<'_, A>) -> Option<Told> {
@@ -102,8 +103,8 @@ fn ask<A: Allocator + Copy>(
     told: &mut String,
 ) -> Option<Told> {
     match request {
-        Request::Begin { context, info } => {
-            add_asked(alloc, told, dialogue.begin(context, info, 0))
+        Request::Begin { to, context, info } => {
+            add_asked(alloc, told, dialogue.begin(to, context, info, 0))
         }
         Request::Continue { context, info } => {
             add_asked(alloc, told, dialogue.go_on(context, info, 0))
@@ -121,8 +122,10 @@ fn ask<A: Allocator + Copy>(
     }
 }
 
-/// What a dialogue tells of time: `due MS`, `first MS`, `one ID MS`, `free MS`, `next`, `state`.
+/// What a dialogue tells of time and of itself: `due MS`, `first MS`, `one ID MS`, `free MS`, `next`, `state`,
+/// `kept`.
 fn look<A: Allocator + Copy>(
+    alloc: Global,
     dialogue: &mut Dialogue<A>,
     words: &[Word<'_>],
     told: &mut String,
@@ -132,6 +135,10 @@ fn look<A: Allocator + Copy>(
             let state: State = dialogue.state();
             let peer = dialogue.peer().is_some();
             write!(told, "  {state:?} peer {peer}\n").ok()?;
+        }
+        "kept" => {
+            let kept = octets_or_dash(alloc, dialogue.kept().octets()).ok()?;
+            write!(told, "  kept {kept}\n").ok()?;
         }
         "next" => {
             let next = dialogue.next_timer();
@@ -166,17 +173,20 @@ pub(super) fn tell<A: Allocator + Copy>(
     told: &mut String,
 ) -> Option<Told> {
     match text(words, 0) {
-        "due" | "first" | "one" | "free" | "next" | "state" => return look(dialogue, words, told),
+        "due" | "first" | "one" | "free" | "next" | "state" | "kept" => {
+            return look(alloc, dialogue, words, told);
+        }
         "fault" => {
             let cause: u8 = text(words, 1).parse().ok()?;
             return add_taken(alloc, told, dialogue.take_fault(cause));
         }
         _ => {}
     }
-    match event_of(words)? {
-        Event::Bytes(bytes) => {
+    let peer = peer();
+    match event_of(words, &peer)? {
+        Event::Bytes(from, bytes) => {
             let frame = read_frame(bytes).ok()?;
-            add_taken(alloc, told, dialogue.take_frame(&frame, 0))
+            add_taken(alloc, told, dialogue.take_frame(from, &frame, 0))
         }
         Event::On { request, .. } if matches!(request, Request::Invoke { .. }) => {
             invoke(heap, dialogue, request, told)

@@ -2,7 +2,7 @@
 
 use super::answers::add_answer;
 use super::subject::Told;
-use super::words::{Word, event_of, text};
+use super::words::{Word, event_of, peer, text};
 use std::alloc::{Allocator, Global};
 use tcap_engine::{Answer, Engine, Event, Fault, Limits, Request};
 
@@ -70,8 +70,12 @@ fn asked<'m, A: Allocator + Copy>(
             Ok(Answer::Done)
         }
         Request::Cancel { id } => Ok(Answer::GivenUp(engine.u_cancel(d, id)?)),
-        Request::Uni { context, info } => Ok(Answer::Outputs(engine.uni(d, context, info)?)),
-        Request::Begin { context, info } => Ok(Answer::Outputs(engine.begin(d, context, info)?)),
+        Request::Uni { to, context, info } => {
+            Ok(Answer::Outputs(engine.uni(d, to, context, info)?))
+        }
+        Request::Begin { to, context, info } => {
+            Ok(Answer::Outputs(engine.begin(d, to, context, info)?))
+        }
         Request::Continue { context, info } => {
             Ok(Answer::Outputs(engine.go_on(d, context, info)?))
         }
@@ -91,7 +95,7 @@ fn answer_to<'m, A: Allocator + Copy>(
 ) -> Result<Answer<'m, A>, Fault> {
     match event {
         Event::NewDialogue => Ok(Answer::NewDialogue(engine.new_dialogue()?)),
-        Event::Bytes(bytes) => Ok(Answer::Outputs(engine.receive(bytes)?)),
+        Event::Bytes(from, bytes) => Ok(Answer::Outputs(engine.receive(from, bytes)?)),
         Event::Moment(now) => Ok(Answer::Outputs(engine.advance(now)?)),
         Event::On { dialogue, request } => asked(engine, dialogue, request),
     }
@@ -117,7 +121,8 @@ pub(super) fn tell<A: Allocator + Copy>(
         }
         _ => {}
     }
-    match answer_to(engine, event_of(words)?) {
+    let peer = peer();
+    match answer_to(engine, event_of(words, &peer)?) {
         Err(Fault::OutOfMemory) => Some(Told::NoMemory),
         Err(fault) => {
             let number = fault.number();

@@ -2,7 +2,7 @@
 //! refused; those of an engine by `run` too.
 
 use super::examples::{
-    CALLS, CODEC, DIALOGUES, FEEDS, IDLE, INVOCATIONS, MESSAGES, OUTCOMES, REQUESTS,
+    ADDRESSES, CALLS, CODEC, DIALOGUES, FEEDS, IDLE, INVOCATIONS, MESSAGES, OUTCOMES, REQUESTS,
 };
 use super::played::{Refusal, growths, play};
 use super::runs::run_growths;
@@ -44,6 +44,7 @@ fn examples_with_each_growth_refused(rt: HostRuntime) -> Result<(), Fail> {
         OUTCOMES.as_slice(),
         REQUESTS.as_slice(),
         IDLE.as_slice(),
+        ADDRESSES.as_slice(),
         CALLS.as_slice(),
         DIALOGUES.as_slice(),
         INVOCATIONS.as_slice(),
@@ -64,6 +65,7 @@ fn runs_with_each_growth_refused(rt: HostRuntime) -> Result<(), Fail> {
         OUTCOMES.as_slice(),
         REQUESTS.as_slice(),
         IDLE.as_slice(),
+        ADDRESSES.as_slice(),
     ] {
         total = total.saturating_add(handed_growths(rt.alloc(), examples)?);
     }

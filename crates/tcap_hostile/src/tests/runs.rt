@@ -3,9 +3,9 @@
 use super::answers::add_answer;
 use super::engine::new_engine;
 use super::subject::Heap;
-use super::words::{Word, event_of, text, words_of};
+use super::words::{Word, event_of, peer, text, words_of};
 use std::alloc::Global;
-use tcap_engine::{Answer, Event, run};
+use tcap_engine::{Address, Answer, Event, run};
 
 /// The words of the lines that stand for events.
 fn event_lines<'e>(alloc: Global, example: &'e str) -> Option<Vec<Vec<Word<'e>>>> {
@@ -19,11 +19,15 @@ fn event_lines<'e>(alloc: Global, example: &'e str) -> Option<Vec<Vec<Word<'e>>>
     Some(lines)
 }
 
-/// The events of these lines; nothing where one stands for none.
-fn events_of<'w>(alloc: Global, lines: &'w [Vec<Word<'_>>]) -> Option<Vec<Event<'w>>> {
+/// The events of these lines, this peer's where they name no other; nothing where one stands for none.
+fn events_of<'w>(
+    alloc: Global,
+    lines: &'w [Vec<Word<'_>>],
+    peer: &'w Address,
+) -> Option<Vec<Event<'w>>> {
     let mut events = Vec::new(alloc);
     for words in lines {
-        events.push(event_of(words.as_slice())?).ok()?;
+        events.push(event_of(words.as_slice(), peer)?).ok()?;
     }
     Some(events)
 }
@@ -70,7 +74,8 @@ fn run_twice(
 /// run, and all answers are the example's.
 pub(super) fn run_growths(alloc: Global, heap: Heap<'_>, example: &str) -> Option<u64> {
     let lines = event_lines(alloc, example)?;
-    let events = events_of(alloc, lines.as_slice())?;
+    let peer = peer();
+    let events = events_of(alloc, lines.as_slice(), &peer)?;
     let wanted = wanted_of(alloc, example)?;
     let first = words_of(alloc, example.lines().next()?)?;
     let kind = text(first.as_slice(), 1);

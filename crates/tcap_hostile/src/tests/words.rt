@@ -2,15 +2,16 @@
 
 use std::alloc::Global;
 use tcap_component::{Body, Code, Kind, Problem};
-use tcap_engine::{AbortWhy, Ending, Event, Request};
+use tcap_engine::{AbortWhy, Address, Ending, Event, Request};
 use tcap_invocation::Class;
 
 /// A word, and the octets that it spells in hexadecimal, behind an `x` or not; `+N` at its end spells N
-/// octets of 0 more.
+/// octets of 0 more. Up to 255 of them are an address, none too.
 #[derive(Drop)]
 pub(super) struct Word<'e> {
     pub(super) text: &'e str,
     pub(super) octets: Vec<u8>,
+    address: Option<Address>,
 }
 
 /// The octets that a word spells; none where it is no hexadecimal.
@@ -31,7 +32,14 @@ pub(super) fn words_of<'e>(alloc: Global, line: &'e str) -> Option<Vec<Word<'e>>
     let mut words = Vec::new(alloc);
     for text in line.split(' ') {
         let octets = octets_of(alloc, text)?;
-        words.push(Word { text, octets }).ok()?;
+        let address = Address::new(octets.as_slice());
+        words
+            .push(Word {
+                text,
+                octets,
+                address,
+            })
+            .ok()?;
     }
     Some(words)
 }
@@ -56,6 +64,11 @@ pub(super) fn octets<'w>(words: &'w [Word<'_>], place: usize) -> Option<&'w [u8]
 /// The octets of a word, none where it isn't there.
 pub(super) fn info<'w>(words: &'w [Word<'_>], place: usize) -> &'w [u8] {
     octets(words, place).unwrap_or(&[])
+}
+
+/// The address that a word spells.
+fn address<'w>(words: &'w [Word<'_>], place: usize) -> Option<&'w Address> {
+    words.get(place)?.address.as_ref()
 }
 
 /// A code: a decimal number is a local one, hexadecimal behind an `x` a global one.
@@ -129,13 +142,25 @@ fn component_of<'w>(words: &'w [Word<'_>]) -> Option<Request<'w>> {
     }
 }
 
+/// `unito D ADDR CONTEXT INFO`, `beginto`.
+fn addressed_of<'w>(words: &'w [Word<'_>]) -> Option<Request<'w>> {
+    let to = address(words, 2)?;
+    let context = octets(words, 3);
+    let info = info(words, 4);
+    match text(words, 0) {
+        "unito" => Some(Request::Uni { to, context, info }),
+        "beginto" => Some(Request::Begin { to, context, info }),
+        _ => None,
+    }
+}
+
 /// `uni D CONTEXT INFO`, `begin`, `continue`, `end`, `prearranged`.
-fn portion_of<'w>(words: &'w [Word<'_>]) -> Option<Request<'w>> {
+fn portion_of<'w>(words: &'w [Word<'_>], to: &'w Address) -> Option<Request<'w>> {
     let context = octets(words, 2);
     let info = info(words, 3);
     match text(words, 0) {
-        "uni" => Some(Request::Uni { context, info }),
-        "begin" => Some(Request::Begin { context, info }),
+        "uni" => Some(Request::Uni { to, context, info }),
+        "begin" => Some(Request::Begin { to, context, info }),
         "continue" => Some(Request::Continue { context, info }),
         "end" => Some(Request::End {
             ending: Ending::Basic,
@@ -168,24 +193,39 @@ fn abort_of<'w>(words: &'w [Word<'_>]) -> Option<Request<'w>> {
 }
 
 /// What a line asks of a dialogue.
-fn request_of<'w>(words: &'w [Word<'_>]) -> Option<Request<'w>> {
+fn request_of<'w>(words: &'w [Word<'_>], peer: &'w Address) -> Option<Request<'w>> {
     match text(words, 0) {
         "invoke" => invoke_of(words),
         "last" | "more" | "error" | "reject" | "cancel" => component_of(words),
         "abort" => abort_of(words),
-        _ => portion_of(words),
+        "unito" | "beginto" => addressed_of(words),
+        _ => portion_of(words, peer),
     }
 }
 
+/// The address of this octet alone.
+pub(super) fn address_of(octet: u8) -> Address {
+    match Address::new(&[octet]) {
+        Some(address) => address,
+        None => unreachable!(),
+    }
+}
+
+/// The address of the peer, where a line names no other: the octet 01.
+pub(super) fn peer() -> Address {
+    address_of(0x01)
+}
+
 /// The event that a line stands for.
-pub(super) fn event_of<'w>(words: &'w [Word<'_>]) -> Option<Event<'w>> {
+pub(super) fn event_of<'w>(words: &'w [Word<'_>], peer: &'w Address) -> Option<Event<'w>> {
     match text(words, 0) {
         "new" => Some(Event::NewDialogue),
-        "raw" => Some(Event::Bytes(info(words, 1))),
+        "raw" => Some(Event::Bytes(peer, info(words, 1))),
+        "rawfrom" => Some(Event::Bytes(address(words, 1)?, info(words, 2))),
         "advance" => Some(Event::Moment(text(words, 1).parse().ok()?)),
         _ => Some(Event::On {
             dialogue: text(words, 1).parse().ok()?,
-            request: request_of(words)?,
+            request: request_of(words, peer)?,
         }),
     }
 }

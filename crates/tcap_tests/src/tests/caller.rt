@@ -1,3 +1,4 @@
+use super::addresses::anywhere;
 use std::test::Fail;
 use tcap_callers::{clock_after, first_operation, hear_at, operate};
 use tcap_engine::{DropWhy, Engine, Fault, Limits, Output};
@@ -32,7 +33,7 @@ fn clocks_and_histories_of_an_engine(rt: HostRuntime) -> Result<(), Fail> {
         clock_after(&mut engine, u64::MAX),
         Err(Fault::MomentTooLate)
     );
-    let (heard, lapsed) = hear_at(&mut engine, &[], 7);
+    let (heard, lapsed) = hear_at(&mut engine, &anywhere(), &[], 7);
     let heard = heard.map_err(|_| "no memory")?;
     let lapsed = lapsed.map_err(|_| "not advanced")?;
     assert!(rt; matches!(heard.as_slice(), [Output::Dropped(DropWhy::BadMessage)]));

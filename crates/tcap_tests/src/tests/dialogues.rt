@@ -1,6 +1,7 @@
 //! A dialogue from its first invocation to its End: with memory enough, and with each growth refused in
 //! turn.
 
+use super::addresses::anywhere;
 use refusing::Refusing;
 use std::alloc::{Allocator, Global};
 use std::fmt::Debug;
@@ -47,7 +48,7 @@ fn taken<A: Allocator + Copy>(
     bytes: &'static [u8],
 ) -> Result<Step<'static, A>, Fault> {
     match read_frame(bytes) {
-        Ok(frame) => Ok(dialogue.take_frame(&frame, 0)?),
+        Ok(frame) => Ok(dialogue.take_frame(&anywhere(), &frame, 0)?),
         Err(_) => Err(Fault::WrongState),
     }
 }
@@ -67,7 +68,7 @@ fn answer<A: Allocator + Copy + Debug>(
     call: Call,
 ) -> Result<String, Fault> {
     match call {
-        Call::Begin => printed(alloc, &dialogue.begin(None, &[], 0)?),
+        Call::Begin => printed(alloc, &dialogue.begin(&anywhere(), None, &[], 0)?),
         Call::TakeResult => printed(alloc, &taken(dialogue, &RESULT)?),
         Call::Reject => printed(alloc, &rejected(dialogue)?),
         Call::Continue => printed(alloc, &dialogue.go_on(None, &[], 0)?),
@@ -80,12 +81,18 @@ fn printed<T: Debug>(alloc: Global, value: &T) -> Result<String, Fault> {
     Ok(format!(in alloc; "{value:?}")?)
 }
 
+/// What is sent.
+fn sent(alloc: Global, octets: &[u8]) -> Option<Output<'static>> {
+    let (to, bytes) = (anywhere(), octets.to_vec(alloc).ok()?);
+    Some(Output::Send { to, bytes })
+}
+
 /// What that call has to answer, printed.
 fn wanted(alloc: Global, call: Call) -> Option<String> {
     let mut outputs = Vec::with_capacity(alloc, 2).ok()?;
     let (dialogue, context, info) = (1, None, [].as_slice());
     match call {
-        Call::Begin => outputs.push(Output::Send(BEGIN.to_vec(alloc).ok()?)).ok()?,
+        Call::Begin => outputs.push(sent(alloc, &BEGIN)?).ok()?,
         Call::Reject => return printed(alloc, &()).ok(),
         Call::TakeResult => {
             outputs
@@ -104,7 +111,7 @@ fn wanted(alloc: Global, call: Call) -> Option<String> {
                 })
                 .ok()?;
         }
-        Call::Continue => outputs.push(Output::Send(REJECT.to_vec(alloc).ok()?)).ok()?,
+        Call::Continue => outputs.push(sent(alloc, &REJECT)?).ok()?,
         Call::TakeEnd => outputs
             .push(Output::End {
                 dialogue,
@@ -201,7 +208,7 @@ fn each_growth_refused_in_one_row(rt: HostRuntime) -> Result<(), Fail> {
 #[test]
 fn an_invocation_lapses_once(rt: HostRuntime) -> Result<(), Fail> {
     let (mut dialogue, _) = invoked(rt.alloc(), rt.alloc()).ok_or("no invocation")?;
-    assert!(rt; dialogue.begin(None, &[], 0).is_ok());
+    assert!(rt; dialogue.begin(&anywhere(), None, &[], 0).is_ok());
     for (now, numbers) in [(999u64, 0usize), (1000, 1), (1000, 0)] {
         let lapses = dialogue.lapse(now)?;
         assert_eq!(rt; lapses.len(), numbers, "at {now}");

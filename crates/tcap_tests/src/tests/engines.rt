@@ -1,5 +1,5 @@
-//! An engine in two rows, that of a Begin with AARQ and that of a lapse and a late result: with memory
-//! enough, and with each growth refused in turn. The rows of an idle limit stand in idle.rt.
+//! An engine in four rows, that of a Begin with AARQ, that of a lapse and a late result, and two of addresses:
+//! with memory enough, and with each growth refused in turn. The rows of an idle limit stand in idle.rt.
 
 use super::rows::{Call, Due, Wanted, growths, refusals};
 use std::test::Fail;
@@ -38,6 +38,34 @@ const REJECT: [u8; 24] = [
     0xa4, 0x06, 0x02, 0x01, 0x01, 0x82, 0x01, 0x00,
 ];
 
+/// The Begin without components.
+const BARE_BEGIN: [u8; 8] = [0x62, 0x06, 0x48, 0x04, 0x00, 0x00, 0x00, 0x01];
+
+/// The peer's Continue, without components.
+const PEERS_CONTINUE: [u8; 14] = [
+    0x65, 0x0c, 0x48, 0x04, 0x00, 0x00, 0x00, 0x05, 0x49, 0x04, 0x00, 0x00, 0x00, 0x01,
+];
+
+/// The Continue to the peer, without components.
+const CONTINUE: [u8; 14] = [
+    0x65, 0x0c, 0x48, 0x04, 0x00, 0x00, 0x00, 0x01, 0x49, 0x04, 0x00, 0x00, 0x00, 0x05,
+];
+
+/// The Continue to the peer's transaction 1, without components.
+const CONTINUE_TO_ONE: [u8; 14] = [
+    0x65, 0x0c, 0x48, 0x04, 0x00, 0x00, 0x00, 0x01, 0x49, 0x04, 0x00, 0x00, 0x00, 0x01,
+];
+
+/// A Continue from 9 to the dialogue 255, which doesn't stand.
+const STRAY_CONTINUE: [u8; 14] = [
+    0x65, 0x0c, 0x48, 0x04, 0x00, 0x00, 0x00, 0x09, 0x49, 0x04, 0x00, 0x00, 0x00, 0xff,
+];
+
+/// The Abort to 9 with cause 1, unrecognized transaction identifier.
+const STRAY_ABORT: [u8; 11] = [
+    0x67, 0x09, 0x49, 0x04, 0x00, 0x00, 0x00, 0x09, 0x4a, 0x01, 0x01,
+];
+
 /// The application context.
 const CONTEXT: [u8; 7] = [0x04, 0x00, 0x00, 0x01, 0x00, 0x01, 0x03];
 
@@ -63,10 +91,40 @@ const LAPSE_ROW: [(Call, Wanted); 12] = [
     (Call::Now, Wanted::Number(1000)),
 ];
 
+/// The example "An address learned once", and behind it the message to no dialogue of "Answers to the sender".
+const LEARNED_ROW: [(Call, Wanted); 7] = [
+    (Call::NewDialogue, Wanted::Number(1)),
+    (Call::BeginTo(0x0a), Wanted::SentTo(0x0a, &BARE_BEGIN)),
+    (Call::ReceiveFrom(0x0b, &PEERS_CONTINUE), Wanted::Continued),
+    (Call::Continue, Wanted::SentTo(0x0b, &CONTINUE)),
+    (Call::ReceiveFrom(0x0c, &PEERS_CONTINUE), Wanted::Continued),
+    (Call::Continue, Wanted::SentTo(0x0b, &CONTINUE)),
+    (
+        Call::ReceiveFrom(0x0d, &STRAY_CONTINUE),
+        Wanted::SentTo(0x0d, &STRAY_ABORT),
+    ),
+];
+
+/// What answers a Begin goes to where the Begin came from, wherever else a message comes from.
+const BORN_ROW: [(Call, Wanted); 4] = [
+    (
+        Call::ReceiveFrom(0x0b, &AARQ_BEGIN),
+        Wanted::Begun(Some(&CONTEXT)),
+    ),
+    (Call::Continue, Wanted::SentTo(0x0b, &AARE_CONTINUE)),
+    (
+        Call::ReceiveFrom(0x0d, &STRAY_CONTINUE),
+        Wanted::SentTo(0x0d, &STRAY_ABORT),
+    ),
+    (Call::Continue, Wanted::SentTo(0x0b, &CONTINUE_TO_ONE)),
+];
+
 #[test]
 fn rows_with_memory_enough(rt: HostRuntime) -> Result<(), Fail> {
     assert_eq!(rt; refusals(rt.alloc(), rt.alloc(), 0, &BEGIN_ROW), Some(0));
     assert_eq!(rt; refusals(rt.alloc(), rt.alloc(), 0, &LAPSE_ROW), Some(0));
+    assert_eq!(rt; refusals(rt.alloc(), rt.alloc(), 0, &LEARNED_ROW), Some(0));
+    assert_eq!(rt; refusals(rt.alloc(), rt.alloc(), 0, &BORN_ROW), Some(0));
     Ok(())
 }
 
@@ -76,5 +134,9 @@ fn rows_with_each_growth_refused(rt: HostRuntime) -> Result<(), Fail> {
     assert!(rt; begin > 4, "{begin} growths");
     let lapse = growths(rt.alloc(), 0, &LAPSE_ROW).ok_or("the lapse")?;
     assert!(rt; lapse > 8, "{lapse} growths");
+    let learned = growths(rt.alloc(), 0, &LEARNED_ROW).ok_or("the address learned once")?;
+    assert!(rt; learned > 8, "{learned} growths");
+    let born = growths(rt.alloc(), 0, &BORN_ROW).ok_or("the answers to the sender")?;
+    assert!(rt; born > 6, "{born} growths");
     Ok(())
 }

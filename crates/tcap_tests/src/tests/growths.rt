@@ -1,3 +1,4 @@
+use super::addressed::{ADDRESSES_SCRIPT, ADDRESSES_TEXT};
 use super::plays::{IDLE_SCRIPT, IDLE_TEXT};
 use refusing::Refusing;
 use std::alloc::Global;
@@ -125,7 +126,7 @@ fn outcome_of_run(
 fn command_with_each_growth_refused(rt: HostRuntime) -> Result<(), Fail> {
     let alloc = rt.alloc();
     let heap = Refusing::new(alloc);
-    let rows: [(&[&str], &[u8], (u8, &[u8]), &[&[u8]], u64); 6] = [
+    let rows: [(&[&str], &[u8], (u8, &[u8]), &[&[u8]], u64); 7] = [
         // The words, the input; the status and what is written; what may stand written where memory was
         // refused, and the least number of growths.
         (&["show", BEGIN], b"", (0, SHOWN), &LINES[..1], 2),
@@ -138,6 +139,13 @@ fn command_with_each_growth_refused(rt: HostRuntime) -> Result<(), Fail> {
             (0, IDLE_TEXT.as_bytes()),
             &LINES[..1],
             6,
+        ),
+        (
+            &["play"],
+            ADDRESSES_SCRIPT.as_bytes(),
+            (1, ADDRESSES_TEXT.as_bytes()),
+            &LINES[..1],
+            8,
         ),
         (&["stream"], STREAM, (1, LINES[3]), &LINES[..3], 4),
     ];

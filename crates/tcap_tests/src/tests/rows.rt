@@ -1,25 +1,29 @@
 //! Rows of calls of an engine, and what each has to answer: with memory enough, and with each growth refused in
 //! turn.
 
+use super::addresses::{address_of, anywhere};
 use refusing::Refusing;
 use std::alloc::{Allocator, Global};
 use std::fmt::Debug;
 use tcap_component::{Code, Kind, Problem};
-use tcap_engine::{Engine, Fault, Limits, Output, State, Why};
+use tcap_engine::{Address, Engine, Fault, Limits, Output, State, Why};
 use tcap_invocation::{Class, MAX_MOMENT};
 
 /// The parameter of Invoke 1.
 const PARAMETER: [u8; 5] = [0x30, 0x03, 0x04, 0x01, 0xaa];
 
-/// A call of an engine, on dialogue 1 where it asks for something of a dialogue and names none.
+/// A call of an engine, on dialogue 1 where it asks for something of a dialogue and names none. A message comes
+/// from the address 01, and a Begin goes there, where no other octet is named.
 #[derive(Clone, Copy)]
 pub(super) enum Call {
     Receive(&'static [u8]),
+    ReceiveFrom(u8, &'static [u8]),
     NewDialogue,
     /// An Invoke with this identifier, of operation 10 and class 1, for so many milliseconds.
     Invoke(i8, u64),
     /// The Begin of this dialogue.
     Begin(u32),
+    BeginTo(u8),
     Continue,
     Advance(u64),
     NextTimer,
@@ -48,8 +52,10 @@ pub(super) enum Wanted {
     Timer(Option<u64>),
     /// The state of a dialogue, or none.
     State(Option<State>),
-    /// One Send of these octets.
+    /// One Send of these octets, to the address 01.
     Sent(&'static [u8]),
+    /// One Send of these octets, to the address of this octet.
+    SentTo(u8, &'static [u8]),
     /// The Begin with its context, and its Invoke.
     Begun(Option<&'static [u8]>),
     /// The Continue alone.
@@ -72,14 +78,20 @@ fn answer<A: Allocator + Copy + Debug>(
     call: Call,
 ) -> Result<String, Fault> {
     match call {
-        Call::Receive(bytes) => printed(alloc, &engine.receive(bytes)?),
+        Call::Receive(bytes) => printed(alloc, &engine.receive(&anywhere(), bytes)?),
+        Call::ReceiveFrom(from, bytes) => {
+            printed(alloc, &engine.receive(&address_of(from), bytes)?)
+        }
         Call::NewDialogue => printed(alloc, &engine.new_dialogue()?),
         Call::Invoke(id, timeout_ms) => {
             let operation = Code::Local(10);
             let number = engine.invoke(1, id, Class::One, operation, None, None, timeout_ms)?;
             printed(alloc, &number)
         }
-        Call::Begin(dialogue) => printed(alloc, &engine.begin(dialogue, None, &[])?),
+        Call::Begin(dialogue) => {
+            printed(alloc, &engine.begin(dialogue, &anywhere(), None, &[])?)
+        }
+        Call::BeginTo(to) => printed(alloc, &engine.begin(1, &address_of(to), None, &[])?),
         Call::Continue => printed(alloc, &engine.go_on(1, None, &[])?),
         Call::Advance(now) => printed(alloc, &engine.advance(now)?),
         Call::NextTimer => printed(alloc, &engine.next_timer()),
@@ -132,6 +144,12 @@ fn outputs(
     printed(alloc, &told).ok()
 }
 
+/// One Send to this address, printed.
+fn sent(alloc: Global, to: Address, octets: &[u8]) -> Option<String> {
+    let bytes = octets.to_vec(alloc).ok()?;
+    outputs(alloc, Output::Send { to, bytes }, None)
+}
+
 /// What a Begin with an Invoke tells, printed.
 fn begun(alloc: Global, context: Option<&'static [u8]>) -> Option<String> {
     let begin = Output::Begin {
@@ -174,7 +192,8 @@ fn text_of(alloc: Global, wanted: Wanted) -> Option<String> {
         Wanted::Number(number) => printed(alloc, &number).ok(),
         Wanted::Timer(timer) => printed(alloc, &timer).ok(),
         Wanted::State(state) => printed(alloc, &state).ok(),
-        Wanted::Sent(octets) => outputs(alloc, Output::Send(octets.to_vec(alloc).ok()?), None),
+        Wanted::Sent(octets) => sent(alloc, anywhere(), octets),
+        Wanted::SentTo(to, octets) => sent(alloc, address_of(to), octets),
         Wanted::Begun(context) => begun(alloc, context),
         Wanted::Continued => outputs(alloc, continued(), None),
         Wanted::Told(due) => told(alloc, due),

@@ -1,7 +1,7 @@
 //! Examples of a dialogue and of its invocations.
 
 /// Of one dialogue.
-pub const DIALOGUES: [&str; 4] = [
+pub const DIALOGUES: [&str; 5] = [
     // A fault ends a dialogue.
     "\
 dialogue
@@ -85,6 +85,34 @@ next
 begin 1
   refused 3
 free 1000
+",
+    // The first Continue alone moves the kept address.
+    "\
+dialogue
+kept
+  kept -
+invoke 1 1 1 10 1000
+  number 1
+kept
+  kept -
+beginto 1 0a
+  send 62104804000000016c08a10602010102010a to 0a
+kept
+  kept 0a
+rawfrom 0b 65134804000000054904000000016c05a203020101
+  continue 1 context - info -
+  last 1 id 1 number 1 op - param -
+kept
+  kept 0b
+rawfrom 0c 650c480400000005490400000001
+  continue 1 context - info -
+kept
+  kept 0b
+continue 1
+  send 650c480400000001490400000005 to 0b
+rawfrom 0d 6406490400000001
+  end 1 context - info -
+  over
 ",
 ];
 

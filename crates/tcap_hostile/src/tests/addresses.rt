@@ -1,0 +1,185 @@
+//! Addresses of each length, of octets drawn by lot: where what is sent goes.
+
+use super::engine::new_engine;
+use std::alloc::Global;
+use std::test::Fail;
+use tcap_component::Code;
+use tcap_engine::{AbortWhy, Address, Ending, Engine, Output};
+use tcap_invocation::Class;
+
+/// A Continue to dialogue 1, a faulty one, one to a dialogue that doesn't stand, and a Begin.
+const CONTINUE: &str = "650c480400000005490400000001";
+
+const FAULTY: &str = "650d4804000000064904000000016c";
+
+const STRAY: &str = "650c4804000000094904000000ff";
+
+const BEGIN: &str = "6206480400000007";
+
+/// The next of a row of numbers that look drawn by lot.
+fn next_seed(seed: u64) -> u64 {
+    seed.wrapping_mul(6_364_136_223_846_793_005)
+        .wrapping_add(1_442_695_040_888_963_407)
+}
+
+/// An address of so many octets, drawn by lot; nothing where they are too many.
+fn drawn(alloc: Global, seed: &mut u64, length: usize) -> Option<Address> {
+    let mut octets = Vec::new(alloc);
+    for _ in 0..length {
+        *seed = next_seed(*seed);
+        let [octet, ..] = seed.to_be_bytes();
+        octets.push(octet).ok()?;
+    }
+    let address = Address::new(octets.as_slice())?;
+    (address.octets() == octets.as_slice()).then_some(address)
+}
+
+/// Whether the first of some outputs, and no other, is a message to this address.
+fn goes_to(outputs: &[Output<'_>], address: &Address) -> bool {
+    let count = outputs
+        .iter()
+        .filter(|output| matches!(output, Output::Send { .. }))
+        .count();
+    match outputs.first() {
+        Some(Output::Send { to, .. }) => count == 1 && to.octets() == address.octets(),
+        _ => false,
+    }
+}
+
+/// Whether what comes from an address is answered to it. Nothing where memory is wanting.
+fn answers(alloc: Global, engine: &mut Engine, from: &Address, hex: &str) -> Option<bool> {
+    let bytes = hex::decode(alloc, hex).ok()?;
+    let told = engine.receive(from, bytes.as_slice()).ok()?;
+    Some(goes_to(told.as_slice(), from))
+}
+
+/// Whether a dialogue that is begun sends to its destination first, then to the sender of the first Continue,
+/// whoever else it hears.
+fn learns_once(
+    alloc: Global,
+    engine: &mut Engine,
+    to: &Address,
+    from: &Address,
+    other: &Address,
+) -> Option<bool> {
+    engine.new_dialogue().ok()?;
+    let begins = goes_to(engine.begin(1, to, None, &[]).ok()?.as_slice(), to);
+    let hears = !answers(alloc, engine, from, CONTINUE)?;
+    let learns = goes_to(engine.go_on(1, None, &[]).ok()?.as_slice(), from);
+    let hears_other = !answers(alloc, engine, other, CONTINUE)?;
+    let keeps = goes_to(engine.go_on(1, None, &[]).ok()?.as_slice(), from);
+    let strays = answers(alloc, engine, other, STRAY)?;
+    Some(begins & hears & learns & hears_other & keeps & strays)
+}
+
+/// Whether that dialogue ends with a message to the kept address, or else to the sender of the faulty message
+/// that ends it.
+fn ends(
+    alloc: Global,
+    engine: &mut Engine,
+    from: &Address,
+    other: &Address,
+    by_user: bool,
+) -> Option<bool> {
+    if by_user {
+        let told = engine.u_abort(1, AbortWhy::User, &[]).ok()?;
+        return Some(goes_to(told.as_slice(), from));
+    }
+    answers(alloc, engine, other, FAULTY)
+}
+
+/// Whether a dialogue that the peer begins sends to the sender of the Begin, and a Unidirectional goes to its own
+/// destination.
+fn is_born(alloc: Global, engine: &mut Engine, from: &Address, to: &Address) -> Option<bool> {
+    let hears = !answers(alloc, engine, from, BEGIN)?;
+    let goes_on = goes_to(engine.go_on(2, None, &[]).ok()?.as_slice(), from);
+    engine.new_dialogue().ok()?;
+    engine
+        .invoke(3, 1, Class::Four, Code::Local(7), None, None, 1000)
+        .ok()?;
+    let tells = goes_to(engine.uni(3, to, None, &[]).ok()?.as_slice(), to);
+    let ended = engine.finish(2, Ending::Basic, None, &[]).ok()?;
+    Some(hears & goes_on & tells & goes_to(ended.as_slice(), from))
+}
+
+/// Whether an engine sends where it has to, with addresses of these lengths.
+fn is_carried(alloc: Global, seed: &mut u64, lengths: [usize; 3], by_user: bool) -> Option<bool> {
+    let [to, from, other] = lengths;
+    let to = drawn(alloc, seed, to)?;
+    let from = drawn(alloc, seed, from)?;
+    let other = drawn(alloc, seed, other)?;
+    let mut engine = new_engine(alloc, "");
+    let learned = learns_once(alloc, &mut engine, &to, &from, &other)?;
+    let born = is_born(alloc, &mut engine, &other, &to)?;
+    let ended = ends(alloc, &mut engine, &from, &other, by_user)?;
+    Some(learned & born & ended)
+}
+
+#[test]
+fn addresses_drawn_by_lot(rt: HostRuntime) -> Result<(), Fail> {
+    let alloc = rt.alloc();
+    let mut seed = 1u64;
+    for length in 0..256usize {
+        for lengths in [
+            [length, 255usize.saturating_sub(length), 7],
+            [length, length, length],
+            [255, length, 0],
+            [0, 1, length],
+        ] {
+            for by_user in [false, true] {
+                let carried = is_carried(alloc, &mut seed, lengths, by_user);
+                assert_eq!(rt; carried, Some(true), "at {lengths:?}");
+            }
+        }
+    }
+    Ok(())
+}
+
+#[test]
+fn addresses_too_long(rt: HostRuntime) -> Result<(), Fail> {
+    let octets = vec![in rt.alloc(); 0u8; 65_536]?;
+    for (length, is_address) in [
+        (0usize, true),
+        (254, true),
+        (255, true),
+        (256, false),
+        (511, false),
+        (65_536, false),
+    ] {
+        let address = Address::new(octets.get(..length).ok_or("no octets")?);
+        assert_eq!(rt; address.is_some(), is_address, "at {length}");
+    }
+    Ok(())
+}
+
+/// Adds to the octet at this place, modulo 256.
+fn turn(octets: &mut [u8], place: usize, number: u8) -> Option<()> {
+    let octet = octets.get_mut(place)?;
+    *octet = octet.wrapping_add(number);
+    Some(())
+}
+
+/// Whether an address is the same as another of the same octets, and as none that lacks octets from this place on
+/// or has another one there; nothing where memory is wanting.
+fn is_told_apart(alloc: Global, address: &Address, place: usize) -> Option<bool> {
+    let front = Address::new(address.octets().get(..place)?)?;
+    let mut octets = address.octets().to_vec(alloc).ok()?;
+    turn(&mut octets, place, 1)?;
+    let turned = Address::new(octets.as_slice())?;
+    turn(&mut octets, place, 255)?;
+    let same = Address::new(octets.as_slice())?;
+    Some(front != *address && turned != *address && same == *address)
+}
+
+/// Two addresses are the same only where all of their octets are.
+#[test]
+fn addresses_compared(rt: HostRuntime) -> Result<(), Fail> {
+    let alloc = rt.alloc();
+    let mut seed = 2u64;
+    let address = drawn(alloc, &mut seed, 255).ok_or("no address")?;
+    for place in 0..255usize {
+        let told_apart = is_told_apart(alloc, &address, place);
+        assert_eq!(rt; told_apart, Some(true), "at {place}");
+    }
+    Ok(())
+}
