@@ -25,9 +25,9 @@ pub fn clock_after<A: Allocator + Copy>(engine: &mut Engine<A>, now: u64) -> Res
     Ok(engine.now())
 }
 
-/// Bytes were received from an address, and then the clock is at this moment: what is sent and told of each. Whatever
-/// legal history the engine stood at: where neither is refused, what the moment tells is the reply, the
-/// engine stands at the history with both events, and the headline holds there.
+/// Bytes were received from an address, and then the clock is at this moment: what is sent and told of
+/// each. Whatever legal history the engine stood at: where neither is refused, what the moment tells is the
+/// reply, the engine stands at the history with both events, and the headline holds there.
 pub fn hear_at<'m, A: Allocator + Copy>(
     engine: &mut Engine<A>,
     from: &Address,

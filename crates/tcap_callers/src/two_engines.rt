@@ -143,7 +143,8 @@ fn answering_events() -> [Event<'static>; 2]
 
 /// One operation between two new engines, at the addresses 01 and 02: the first user's Invoke goes to the
 /// other, whose user answers it, and the result comes back. The dialogue and the number of the invocation
-/// whose result the first user is told: it comes from an earlier accepted request of the other, for its identifier and with its contents.
+/// whose result the first user is told: it comes from an earlier accepted request of the other, for its
+/// identifier and with its contents.
 pub fn operate<A: Allocator + Copy>(alloc: A) -> Option<(u32, u64)>
     ensures { IfSome result (λ told. ComesBack told.0 told.1) }
 {
