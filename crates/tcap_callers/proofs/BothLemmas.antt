@@ -1,5 +1,5 @@
 -- Two engines of a caller, from one turn to the next.
-use Rattle.std.proofs.Common.{◌≡◌, ◌≢◌, refl, sym, ap, subst, ◌∙◌, ℕ, ℤ, zero, suc, Bool, true, false, bytes_eq, List, [], ◌∷◌, ◌++◌, map, take, Option, Some, IsTrue, inl, inr}
+use Rattle.std.proofs.Common.{◌≡◌, ◌≢◌, refl, sym, ap, subst, ◌∙◌, ℕ, ℤ, zero, suc, Bool, true, false, bytes_eq, List, [], ◌∷◌, ◌++◌, map, take, Option, Some, IsTrue, inl, inr, if◌then◌else◌}
 use Rattle.std.specs.List.{list_any, slice_get}
 use Rattle.std.proofs.lemmas.Bool.{or_cases, or_right}
 use Rattle.std.proofs.lemmas.Option.{slice_get-map}
@@ -20,7 +20,7 @@ use Rattle.tcap_model.specs.Histories.History.{Start}
 use Rattle.tcap_model.specs.Replies.Legal.{is_start}
 use Rattle.tcap_model.specs.Statements.FarAnswer.{FarAnswer, FarSource, IsAnswer}
 use Rattle.tcap_model.specs.Statements.Net.{AreApart, Engine, Net, Places, answer_sends, history_in, is_at, is_send}
-use Rattle.tcap_laws.proofs.CallerLemmas.{far-other}
+use Rattle.tcap_laws.proofs.CallerLemmas.{TellsOf, apart-by, far-other}
 use Rattle.tcap_model.specs.Statements.Places.{Tells}
 use Rattle.tcap_model.specs.Words.Output as model
 use Rattle.tcap_model.specs.Words.Output.{Closing, ComponentIndication}
@@ -127,27 +127,17 @@ all-start one other start is_one is_other zero = is_one
 all-start one other start is_one is_other (suc zero) = is_other
 all-start one other start is_one is_other (suc (suc more)) = refl
 
--- The address of the one is not that of the other.
-two-differ : (address : Address) → is_at two_places 0 address ≡ true → is_at two_places 1 address ≡ true → ⊥
-two-differ address here there =
-    let one : address ≡ 1 ∷ [] = only address (1 ∷ []) here in
-    let two : address ≡ 2 ∷ [] = only address (2 ∷ []) there in
-    absurd cc
-  where
-    only : (address place : Address) → list_any (bytes_eq address) (place ∷ []) ≡ true → address ≡ place
-    only address place e = elim (or_cases (bytes_eq address place) false e) [
-      | inl is ↦ (bytes_eq-Decides address place).0 is
-      | inr none ↦ absurd cc
-    ]
+-- The address 01 is the first's, any other the second's.
+abbrev at_whose : Address → Engine
+at_whose address = if bytes_eq address (1 ∷ []) then 0 else 1
 
 two-apart : AreApart two_places
-two-apart zero zero address here there = refl
-two-apart zero (suc zero) address here there = absurd (two-differ address here there)
-two-apart zero (suc (suc more)) address here there = absurd cc
-two-apart (suc zero) zero address here there = absurd (two-differ address there here)
-two-apart (suc zero) (suc zero) address here there = refl
-two-apart (suc zero) (suc (suc more)) address here there = absurd cc
-two-apart (suc (suc more)) other address here there = absurd cc
+two-apart = apart-by at_whose two_places told
+  where
+    told : (engine : Engine) → TellsOf at_whose engine (two_places engine)
+    told zero = (refl, tt)
+    told (suc zero) = (refl, tt)
+    told (suc (suc more)) = tt
 
 -- An engine at an address that isn't the first is the second.
 is-second : (engine : Engine) (address : Address) → is_at two_places engine address ≡ true → engine ≢ 0 → engine ≡ 1

@@ -1,15 +1,13 @@
 -- A net of three engines: what both ends rely on, though a third answers what nobody asked it.
-use Rattle.std.proofs.Common.{◌≡◌, ◌∙◌, ℕ, zero, suc, true, false, List, [], ◌∷◌, refl, sym, subst, inl, inr, arith}
+use Rattle.std.proofs.Common.{◌≡◌, ℕ, zero, suc, true, List, refl, subst, arith, if◌then◌else◌}
 use Rattle.std.specs.Prelude.{bytes_eq, drop, take}
-use Rattle.std.proofs.lemmas.Bool.{or_cases}
-use Rattle.std.proofs.lemmas.Slice.Eq.{bytes_eq-Decides}
 use Rattle.tcap_examples.proofs.LegalHistories.{legal}
 use Rattle.tcap_examples.proofs.TwoEngines.{legal-above}
 use Rattle.tcap_examples.specs.Computing.{computing}
 use Rattle.tcap_examples.specs.Nets.PlayedNets.{answer}
-use Rattle.tcap_examples.specs.Nets.ThreeEngines.{switch, asked_register, other_register, switch_address, asked_address, other_address, three_places, answer_told, three_engines}
+use Rattle.tcap_examples.specs.Nets.ThreeEngines.{switch, asked_register, other_register, switch_address, asked_address, three_places, answer_told, three_engines}
 use Rattle.tcap_examples.specs.Values.HistoryWords.{request_pair}
-use Rattle.tcap_laws.proofs.CallerLemmas.{two_ends}
+use Rattle.tcap_laws.proofs.CallerLemmas.{TellsOf, apart-by, two_ends}
 use Rattle.tcap_model.specs.Replies.Legal.{IsLegal}
 use Rattle.tcap_model.specs.Statements.FarAnswer.{ComesFromFar, Hears}
 use Rattle.tcap_model.specs.Statements.Net.{AreApart, Engine, IsCarried, IsNet, history_in, is_at}
@@ -18,42 +16,20 @@ use Rattle.tcap_model.specs.Words.Address.{Address}
 use Rattle.tcap_model.specs.Words.Answer.{Answer}
 use Rattle.tcap_model.specs.Words.Event.{Event}
 
--- an address that is the one of one octet
-is_one : (address one : Address) → is_at (λ engine. one ∷ []) 0 address ≡ true → address ≡ one
-is_one address one at = elim (or_cases (bytes_eq address one) false at) [
-  | inl is ↦ (bytes_eq-Decides address one).0 is
-  | inr none ↦ absurd cc
-]
-
-switch-asked : switch_address ≡ asked_address → ⊥
-switch-asked same = absurd cc
-
-switch-other : switch_address ≡ other_address → ⊥
-switch-other same = absurd cc
-
-asked-other : asked_address ≡ other_address → ⊥
-asked-other same = absurd cc
+-- whose an address is
+abbrev at_whose : Address → Engine
+at_whose address =
+    if bytes_eq address switch_address then switch
+    else if bytes_eq address asked_address then asked_register else other_register
 
 three-apart : AreApart three_places
-three-apart zero zero address one other = refl
-three-apart zero (suc zero) address one other =
-    absurd (switch-asked (sym (is_one address switch_address one) ∙ is_one address asked_address other))
-three-apart zero (suc (suc zero)) address one other =
-    absurd (switch-other (sym (is_one address switch_address one) ∙ is_one address other_address other))
-three-apart zero (suc (suc (suc number))) address one other = absurd cc
-three-apart (suc zero) zero address one other =
-    absurd (switch-asked (sym (is_one address switch_address other) ∙ is_one address asked_address one))
-three-apart (suc zero) (suc zero) address one other = refl
-three-apart (suc zero) (suc (suc zero)) address one other =
-    absurd (asked-other (sym (is_one address asked_address one) ∙ is_one address other_address other))
-three-apart (suc zero) (suc (suc (suc number))) address one other = absurd cc
-three-apart (suc (suc zero)) zero address one other =
-    absurd (switch-other (sym (is_one address switch_address other) ∙ is_one address other_address one))
-three-apart (suc (suc zero)) (suc zero) address one other =
-    absurd (asked-other (sym (is_one address asked_address other) ∙ is_one address other_address one))
-three-apart (suc (suc zero)) (suc (suc zero)) address one other = refl
-three-apart (suc (suc zero)) (suc (suc (suc number))) address one other = absurd cc
-three-apart (suc (suc (suc number))) other address one there = absurd cc
+three-apart = apart-by at_whose three_places told
+  where
+    told : (engine : Engine) → TellsOf at_whose engine (three_places engine)
+    told zero = (refl, tt)
+    told (suc zero) = (refl, tt)
+    told (suc (suc zero)) = (refl, tt)
+    told (suc (suc (suc number))) = tt
 
 zero-one : switch ≡ asked_register → ⊥
 zero-one same = absurd cc

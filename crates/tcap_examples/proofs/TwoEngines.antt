@@ -1,11 +1,11 @@
 -- The engines of worked nets: where they are, and what they hear.
-use Rattle.std.proofs.Common.{◌≡◌, ◌∙◌, ◌<◌, ℕ, zero, suc, Bool, true, false, List, [], ◌∷◌, refl, sym, subst, inl, inr, arith}
+use Rattle.std.proofs.Common.{◌≡◌, ◌<◌, ℕ, zero, suc, Bool, true, false, List, [], ◌∷◌, refl, sym, subst, arith, if◌then◌else◌}
 use Rattle.std.specs.List.{list_all}
 use Rattle.std.specs.Prelude.{IsTrue, bytes_eq, nat_eq, nat_le}
-use Rattle.std.proofs.lemmas.Bool.{and_parts, leb-true, or_cases}
-use Rattle.std.proofs.lemmas.Slice.Eq.{bytes_eq-Decides}
+use Rattle.std.proofs.lemmas.Bool.{and_parts, leb-true}
 use Rattle.tcap_examples.specs.Nets.Engines.{engine_a, engine_b, address_of_a, two_places}
 use Rattle.tcap_examples.specs.Values.Peer.{peer_address}
+use Rattle.tcap_laws.proofs.CallerLemmas.{TellsOf, apart-by}
 use Rattle.tcap_model.specs.Statements.FarAnswer.{Hears}
 use Rattle.tcap_model.specs.Histories.History.{Start}
 use Rattle.tcap_model.specs.Replies.Legal.{IsLegal, is_start}
@@ -37,27 +37,17 @@ above_one number = omega arith
 pub not_both : engine_a ≡ engine_b → ⊥
 not_both same = absurd cc
 
--- an address isn't that of both
-elsewhere : (address : Address) → is_at two_places 0 address ≡ true → is_at two_places 1 address ≡ true → ⊥
-elsewhere address one other = elim (or_cases (bytes_eq address address_of_a) false one) [
-  | inr none ↦ absurd cc
-  | inl is_a ↦ elim (or_cases (bytes_eq address peer_address) false other) [
-    | inr none ↦ absurd cc
-    | inl is_b ↦ unlike (sym ((bytes_eq-Decides address address_of_a).0 is_a) ∙ (bytes_eq-Decides address peer_address).0 is_b)
-  ]
-]
-  where
-    unlike : address_of_a ≡ peer_address → ⊥
-    unlike same = absurd cc
+-- the first is at one address, any other is the second's
+abbrev at_whose : Address → Engine
+at_whose address = if bytes_eq address address_of_a then engine_a else engine_b
 
 pub two-apart : AreApart two_places
-two-apart zero zero address one other = refl
-two-apart zero (suc zero) address one other = absurd (elsewhere address one other)
-two-apart zero (suc (suc number)) address one other = absurd cc
-two-apart (suc zero) zero address one other = absurd (elsewhere address other one)
-two-apart (suc zero) (suc zero) address one other = refl
-two-apart (suc zero) (suc (suc number)) address one other = absurd cc
-two-apart (suc (suc number)) other address one there = absurd cc
+two-apart = apart-by at_whose two_places told
+  where
+    told : (engine : Engine) → TellsOf at_whose engine (two_places engine)
+    told zero = (refl, tt)
+    told (suc zero) = (refl, tt)
+    told (suc (suc number)) = tt
 
 -- the second engine receives what the first sent to it
 pub from_a : {bytes : List ℕ} {trace : Trace} → IsTrue (was_sent two_places 1 bytes (side 0 trace))

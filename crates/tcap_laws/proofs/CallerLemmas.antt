@@ -1,4 +1,5 @@
 -- What the crates above cite: laws of this crate's definitions. Declares nothing.
+pub use Rattle.tcap_laws.proofs.Peers.ApartPlaces.{TellsOf, apart-by}
 pub use Rattle.tcap_laws.proofs.FarEnds.AfterInvokes.{after-invoke, two_ends}
 pub use Rattle.tcap_laws.proofs.Table.BegunAlike.{begun-answered, begun-born}
 pub use Rattle.tcap_laws.proofs.Births.DrawnDialogues.{dialogue-next, dialogues-drawn, dialogues-rise, dialogues-below, was_born-listed, listed-was_born, was_born-lives, beyond-unborn}

@@ -1,3 +1,4 @@
+pub mod ApartPlaces
 pub mod CarriedComponents
 pub mod FarPeers
 pub mod FarSenders

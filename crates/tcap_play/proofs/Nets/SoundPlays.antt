@@ -1,12 +1,12 @@
 -- What happens to both engines in a play without a raw line meets Net.
-use Rattle.std.proofs.Common.{◌≡◌, ◌-◌, ◌&&◌, not, nat_le, ◌∙◌, ℕ, zero, suc, Bool, true, false, List, [], ◌∷◌, Option, Some, None, refl, sym, ap, subst, inl, inr, arith}
+use Rattle.std.proofs.Common.{◌≡◌, ◌-◌, ◌&&◌, not, nat_le, ◌∙◌, ℕ, zero, suc, Bool, true, false, List, [], ◌∷◌, Option, Some, None, refl, sym, ap, subst, inl, inr, arith, if◌then◌else◌}
 use Rattle.std.specs.Prelude.{bytes_eq, nat_eq}
 use Rattle.std.specs.List.{list_all}
 use Rattle.std.specs.Option.{option_map, option_and_then}
 use Rattle.std.proofs.lemmas.Bool.{and_parts, cases_Bool, or_cases, true≢false}
 use Rattle.std.proofs.lemmas.Slice.Eq.{bytes_eq-Decides}
 use Rattle.tcap_invocation.specs.Stage.{moment_limit}
-use Rattle.tcap_laws.proofs.CallerLemmas.{two_ends}
+use Rattle.tcap_laws.proofs.CallerLemmas.{TellsOf, apart-by, two_ends}
 use Rattle.tcap_model.specs.Histories.Pair.{Pair, Past}
 use Rattle.tcap_model.specs.Replies.Legal.{IsLegal, Suits}
 use Rattle.tcap_model.specs.Replies.Reply.{reply}
@@ -28,31 +28,17 @@ use Rattle.tcap_play.specs.Sides.{Engine, address_of, far, number_of, play_place
 
 -- ---- where the engines are
 
--- an address isn't that of A and of B
-elsewhere : (address : Address) → is_at play_places 0 address ≡ true → is_at play_places 1 address ≡ true → ⊥
-elsewhere address one other = elim (or_cases (bytes_eq address (address_of Engine.a)) false one) [
-  | inr none ↦ absurd cc
-  | inl is_a ↦ elim (or_cases (bytes_eq address (address_of Engine.b)) false other) [
-    | inr none ↦ absurd cc
-    | inl is_b ↦ apart (sym ((bytes_eq-Decides address (address_of Engine.a)).0 is_a) ∙ (bytes_eq-Decides address (address_of Engine.b)).0 is_b)
-  ]
-]
-  where
-    first : List ℕ → ℕ
-    first [] = 0
-    first (octet ∷ octets) = octet
-
-    apart : address_of Engine.a ≡ address_of Engine.b → ⊥
-    apart e = let same : first (address_of Engine.a) ≡ first (address_of Engine.b) = ap first e in omega (arith, same)
+-- A is at its address, any other is B's
+abbrev at_whose : Address → Net
+at_whose address = if bytes_eq address (address_of Engine.a) then 0 else 1
 
 places-apart : AreApart play_places
-places-apart zero zero address one other = refl
-places-apart zero (suc zero) address one other = absurd (elsewhere address one other)
-places-apart zero (suc (suc number)) address one other = absurd cc
-places-apart (suc zero) zero address one other = absurd (elsewhere address other one)
-places-apart (suc zero) (suc zero) address one other = refl
-places-apart (suc zero) (suc (suc number)) address one other = absurd cc
-places-apart (suc (suc number)) other address one there = absurd cc
+places-apart = apart-by at_whose play_places told
+  where
+    told : (engine : Net) → TellsOf at_whose engine (play_places engine)
+    told zero = (refl, tt)
+    told (suc zero) = (refl, tt)
+    told (suc (suc number)) = tt
 
 -- each is at its own address
 is-place : (engine : Engine) → is_at play_places (number_of engine) (address_of engine) ≡ true
