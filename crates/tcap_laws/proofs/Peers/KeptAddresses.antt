@@ -12,7 +12,7 @@ use Rattle.tcap_model.specs.Histories.Kept.{kept_by_request, kept_by_message, ke
 use Rattle.tcap_model.specs.Replies.Legal.{AreReplies}
 use Rattle.tcap_model.specs.Histories.Life.{Life, life, is_normal}
 use Rattle.tcap_model.specs.Histories.Names.{names}
-use Rattle.tcap_model.specs.Histories.Pair.{Pair, Past}
+use Rattle.tcap_model.specs.Histories.Pair.{Past}
 use Rattle.tcap_model.specs.Procedures.PortionRules.{portion_verdict}
 use Rattle.tcap_model.specs.Replies.Reply.{reply}
 use Rattle.tcap_model.specs.Words.Request.{Request, DialogueRequest}
