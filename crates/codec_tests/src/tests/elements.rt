@@ -21,49 +21,38 @@ fn lengths_of(bytes: &[u8]) -> Option<(usize, usize)> {
 
 #[test]
 fn elements_and_faults(rt: HostRuntime) -> Result<(), Fail> {
-    // octets that end too early
-    assert_eq!(rt; fault_of(&[]), Some(BerFault::Short));
-    assert_eq!(rt; fault_of(&[0x30, 0x80, 0x00]), Some(BerFault::Short));
-    assert_eq!(rt; fault_of(&[0x04, 0x84, 0x00, 0x01]), Some(BerFault::Short));
-    assert_eq!(rt;
-        fault_of(&[0x04, 0x84, 0x01, 0x00, 0x00]),
-        Some(BerFault::Short)
-    );
-    assert_eq!(rt; fault_of(&[0x04, 0x83, 0x01]), Some(BerFault::Short));
-    // tags
-    assert_eq!(rt; fault_of(&[0x00, 0x00]), Some(BerFault::BadTag));
-    assert_eq!(rt; fault_of(&[0x1f, 0x80, 0x01, 0x00]), Some(BerFault::BadTag));
-    assert_eq!(rt; fault_of(&[0x30, 0x80, 0x00, 0x01]), Some(BerFault::BadTag));
-    assert_eq!(rt;
-        fault_of(&[0x1f, 0x81, 0x81, 0x81, 0x81]),
-        Some(BerFault::BadTag)
-    );
-    assert_eq!(rt;
-        lengths_of(&[0x1f, 0x81, 0x81, 0x81, 0x01, 0x00]),
-        Some((0, 0))
-    );
-    // lengths
-    assert_eq!(rt; fault_of(&[0x04, 0xff]), Some(BerFault::BadLength));
-    assert_eq!(rt;
-        fault_of(&[0x04, 0x84, 0x00, 0x01, 0x00, 0x00]),
-        Some(BerFault::BadLength)
-    );
-    assert_eq!(rt;
-        fault_of(&[0x04, 0x84, 0x01, 0x00, 0x00, 0x00]),
-        Some(BerFault::BadLength)
-    );
+    let rows: [(&[u8], BerFault); 12] = [
+        // octets that end too early
+        (&[], BerFault::Short),
+        (&[0x30, 0x80, 0x00], BerFault::Short),
+        (&[0x04, 0x84, 0x00, 0x01], BerFault::Short),
+        (&[0x04, 0x84, 0x01, 0x00, 0x00], BerFault::Short),
+        (&[0x04, 0x83, 0x01], BerFault::Short),
+        // tags
+        (&[0x00, 0x00], BerFault::BadTag),
+        (&[0x1f, 0x80, 0x01, 0x00], BerFault::BadTag),
+        (&[0x30, 0x80, 0x00, 0x01], BerFault::BadTag),
+        (&[0x1f, 0x81, 0x81, 0x81, 0x81], BerFault::BadTag),
+        // lengths
+        (&[0x04, 0xff], BerFault::BadLength),
+        (&[0x04, 0x84, 0x00, 0x01, 0x00, 0x00], BerFault::BadLength),
+        (&[0x04, 0x84, 0x01, 0x00, 0x00, 0x00], BerFault::BadLength),
+    ];
+    for (bytes, fault) in rows {
+        assert_eq!(rt; fault_of(bytes), Some(fault));
+    }
     assert_eq!(rt;
         fault_of(&[0x04, 0x80]),
         Some(BerFault::IndefinitePrimitive)
     );
-    assert_eq!(rt;
-        lengths_of(&[0x04, 0x83, 0x00, 0x00, 0x01, 0xaa, 0x05]),
-        Some((1, 1))
-    );
-    assert_eq!(rt;
-        lengths_of(&[0x30, 0x80, 0x04, 0x00, 0x00, 0x00, 0x05]),
-        Some((2, 1))
-    );
+    let rows: [(&[u8], usize, usize); 3] = [
+        (&[0x1f, 0x81, 0x81, 0x81, 0x01, 0x00], 0, 0),
+        (&[0x04, 0x83, 0x00, 0x00, 0x01, 0xaa, 0x05], 1, 1),
+        (&[0x30, 0x80, 0x04, 0x00, 0x00, 0x00, 0x05], 2, 1),
+    ];
+    for (bytes, content, rest) in rows {
+        assert_eq!(rt; lengths_of(bytes), Some((content, rest)));
+    }
     Ok(())
 }
 
@@ -146,14 +135,19 @@ fn parts_of_a_sequence(rt: HostRuntime) -> Result<(), Fail> {
 
 #[test]
 fn object_identifiers(rt: HostRuntime) -> Result<(), Fail> {
-    assert!(rt; is_oid(&[0x04, 0x00, 0x00, 0x01, 0x00, 0x01, 0x03]));
-    assert!(rt; is_oid(&[0x2a, 0x86, 0x48]));
-    assert!(rt; !is_oid(&[]));
-    assert!(rt; !is_oid(&[0x80]));
-    assert!(rt; !is_oid(&[0x2a, 0x80, 0x01]));
-    assert!(rt; !is_oid(&[0x2a, 0x86]));
-    assert!(rt; is_oid(&[0x01; 255]));
-    assert!(rt; !is_oid(&[0x01; 256]));
+    let rows: [(&[u8], bool); 8] = [
+        (&[0x04, 0x00, 0x00, 0x01, 0x00, 0x01, 0x03], true),
+        (&[0x2a, 0x86, 0x48], true),
+        (&[], false),
+        (&[0x80], false),
+        (&[0x2a, 0x80, 0x01], false),
+        (&[0x2a, 0x86], false),
+        (&[0x01; 255], true),
+        (&[0x01; 256], false),
+    ];
+    for (content, is) in rows {
+        assert_eq!(rt; is_oid(content), is);
+    }
     Ok(())
 }
 
