@@ -19,10 +19,19 @@ pub(super) fn add<A: Allocator + Copy>(
 #[test]
 fn list_is_walked(rt: HostRuntime) -> Result<(), Fail> {
     let mut list = Invocations::new(rt.alloc(), 1000);
-    assert_eq!(rt; add(&mut list, 1, 1, 1000), Some(Ok(())));
-    assert_eq!(rt; add(&mut list, 1, 2, 5), Some(Err(AddFault::InUse)));
-    assert_eq!(rt; add(&mut list, 2, 2, 0), Some(Err(AddFault::BadTimeout)));
-    assert_eq!(rt; add(&mut list, 2, 1, 5), None);
+    let told = [
+        add(&mut list, 1, 1, 1000),
+        add(&mut list, 1, 2, 5),
+        add(&mut list, 2, 2, 0),
+        add(&mut list, 2, 1, 5),
+    ];
+    let wanted = [
+        Some(Ok(())),
+        Some(Err(AddFault::InUse)),
+        Some(Err(AddFault::BadTimeout)),
+        None,
+    ];
+    assert_eq!(rt; told, wanted);
     list.sent(0);
     assert!(rt; list.is_open(1) && list.due_count(999) == 0 && list.due_count(1000) == 1);
     let lapse = Lapse {
@@ -32,8 +41,8 @@ fn list_is_walked(rt: HostRuntime) -> Result<(), Fail> {
     };
     assert_eq!(rt; list.first_due(1000), Some(lapse));
     assert_eq!(rt; list.lapse(1000)?.as_slice(), [lapse].as_slice());
-    assert_eq!(rt; add(&mut list, 2, 2, 5), Some(Ok(())));
-    assert_eq!(rt; list.open_count(), 1);
+    let told = add(&mut list, 2, 2, 5);
+    assert_eq!(rt; (told, list.open_count()), (Some(Ok(())), 1));
     assert_eq!(rt; list.close_all()?.as_slice(), [(2, 2)].as_slice());
     assert!(rt; !list.in_use(2));
     Ok(())
