@@ -27,19 +27,22 @@ fn octets_of(alloc: Global, text: &str) -> Option<Vec<u8>> {
     Some(octets)
 }
 
+/// A word, with what it spells.
+fn word_of<'e>(alloc: Global, text: &'e str) -> Option<Word<'e>> {
+    let octets = octets_of(alloc, text)?;
+    let address = Address::new(octets.as_slice());
+    Some(Word {
+        text,
+        octets,
+        address,
+    })
+}
+
 /// The words of a line.
 pub(super) fn words_of<'e>(alloc: Global, line: &'e str) -> Option<Vec<Word<'e>>> {
     let mut words = Vec::new(alloc);
     for text in line.split(' ') {
-        let octets = octets_of(alloc, text)?;
-        let address = Address::new(octets.as_slice());
-        words
-            .push(Word {
-                text,
-                octets,
-                address,
-            })
-            .ok()?;
+        words.push(word_of(alloc, text)?).ok()?;
     }
     Some(words)
 }
