@@ -13,14 +13,20 @@ enum Call {
     CloseAll,
 }
 
-/// A list of so many entries, Sent where there is one; of four the last waits for a Reject.
-fn standing<A: Allocator + Copy>(heap: A, entries: i8) -> Option<Invocations<A>> {
-    let mut list = Invocations::new(heap, 1000);
+/// Takes in so many entries, Sent where there is one; of four the last waits for a Reject.
+fn fill<A: Allocator + Copy>(list: &mut Invocations<A>, entries: i8) -> Option<()> {
     for id in 0..entries {
-        add(&mut list, id, 1 + id.unsigned_abs() as u64, 10)?.ok()?;
+        add(list, id, 1 + id.unsigned_abs() as u64, 10)?.ok()?;
     }
     list.sent(0);
     list.on_error(3, 1);
+    Some(())
+}
+
+/// A list of so many entries.
+fn standing<A: Allocator + Copy>(heap: A, entries: i8) -> Option<Invocations<A>> {
+    let mut list = Invocations::new(heap, 1000);
+    fill(&mut list, entries)?;
     Some(list)
 }
 
