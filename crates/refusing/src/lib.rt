@@ -7,9 +7,6 @@ use std::alloc::{AllocError, Allocator};
 use std::cell::Cell;
 use std::fmt;
 
-#[cfg(test)]
-mod tests;
-
 /// Passes each call on to the allocator within, but for the one growth that it is told to refuse.
 ///
 /// A growth is one request for a block: a vector that grows asks for a new block and then gives the

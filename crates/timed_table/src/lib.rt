@@ -10,6 +10,3 @@ mod table;
 
 pub use due::DueRows;
 pub use table::Table;
-
-#[cfg(test)]
-mod tests;

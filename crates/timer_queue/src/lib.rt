@@ -14,6 +14,3 @@ mod timer;
 pub use due::Due;
 pub use queue::TimerQueue;
 pub use timer::Timer;
-
-#[cfg(test)]
-mod tests;

@@ -1,5 +1,5 @@
 //! Which growths are refused.
-use crate::Refusing;
+use refusing::Refusing;
 use std::alloc::Global;
 use std::test::Fail;
 

@@ -1,6 +1,6 @@
-use crate::{Timer, TimerQueue};
 use std::process::Abort;
 use std::test::Fail;
+use timer_queue::{Timer, TimerQueue};
 
 /// The least timer of a plain list.
 fn least(timers: &[Option<Timer>]) -> Option<Timer> {

@@ -2,8 +2,8 @@ ghost use Rattle.std.specs.Prelude.{◌≡◌, nat_eq, OnSome, IfNone};
 ghost use Rattle.std.specs.Map.{set_value};
 ghost use Rattle.timed_table.specs.Row.{entries_of, with_value};
 
-use crate::Table;
 use std::test::Fail;
+use timed_table::Table;
 
 /// A table of four values, of which the third has no time.
 fn sample(alloc: std::alloc::Global) -> Result<Table<u64>, Fail> {
