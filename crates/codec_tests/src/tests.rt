@@ -1,5 +1,6 @@
 //! What no clause of the four crates says, run; and worked examples, computed by the definitions.
 
+mod compared;
 mod components;
 mod dialogues;
 mod elements;
@@ -7,5 +8,5 @@ mod examples;
 mod integers;
 mod invocations;
 mod messages;
+mod plain;
 mod portions;
-mod refused;

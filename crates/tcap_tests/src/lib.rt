@@ -1,5 +1,4 @@
-//! The tests of the command `tcap` and of the writers below it, of a dialogue and of an engine, and of the
-//! worked callers.
+//! The tests of the command `tcap` and of the worked callers.
 //!
 //! Stands on `tcap_cmd`, `tcap_callers`, `tcap_engine` and all below them, on `hex`, and on `refusing`. There is
 //! nothing in it but tests.

@@ -192,33 +192,3 @@ fn stream_in_two_pieces(rt: HostRuntime) -> Result<(), Fail> {
     }
     Ok(())
 }
-
-#[test]
-fn fault_behind_a_message(rt: HostRuntime) -> Result<(), Fail> {
-    let mut feed = Feed::new(rt.alloc());
-    assert_eq!(rt; feed.push(&[0x62, 0x06])?.len(), 0);
-    assert_eq!(rt; feed.rest_len(), 2);
-    let told = feed.push(&[0x48, 0x04, 0x00, 0x00, 0x00, 0x01, 0x00])?;
-    assert_eq!(rt; told.len(), 1);
-    assert_eq!(rt; feed.fault(), Some(FeedFault::Ber(BerFault::BadTag)));
-    assert_eq!(rt; feed.rest_len(), 0);
-    assert_eq!(rt;
-        feed.push(&[]).err(),
-        Some(FeedFault::Ber(BerFault::BadTag))
-    );
-    Ok(())
-}
-
-#[test]
-fn feed_at_its_limit(rt: HostRuntime) -> Result<(), Fail> {
-    let content = vec![in rt.alloc(); 0u8; 65_531]?;
-    let mut feed = Feed::new(rt.alloc());
-    assert_eq!(rt; feed.push(&[0x62, 0x82, 0xff, 0xff])?.len(), 0);
-    assert_eq!(rt; feed.push(content.as_slice())?.len(), 0);
-    assert_eq!(rt; feed.rest_len(), 65_535);
-    assert_eq!(rt; feed.push(&[0x00]).err(), Some(FeedFault::TooLong));
-    let mut feed = Feed::new(rt.alloc());
-    assert_eq!(rt; feed.push(&[0x62, 0x82, 0xff, 0xfb])?.len(), 0);
-    assert_eq!(rt; feed.push(content.as_slice())?.len(), 1);
-    Ok(())
-}

@@ -2,6 +2,7 @@
 
 use super::words::peer;
 use std::alloc::{Allocator, Global};
+use std::fmt::Debug;
 use tcap_component::{Body, Code};
 use tcap_engine::{Address, Answer, By, DropWhy, Output, Why};
 use tcap_pdu::DialoguePdu;
@@ -187,6 +188,11 @@ fn component_line<A: Allocator>(alloc: Global, output: &Output<'_, A>) -> Option
     }
 }
 
+/// The words that an indication which closes an invocation begins with.
+fn closing_words(alloc: Global, word: &str, dialogue: u32, id: i8, number: u64) -> Option<String> {
+    format!(in alloc; "{word} {dialogue} id {id} number {number}").ok()
+}
+
 /// The indications that close an invocation.
 fn closing_line<A: Allocator>(alloc: Global, output: &Output<'_, A>) -> Option<String> {
     match output {
@@ -196,8 +202,9 @@ fn closing_line<A: Allocator>(alloc: Global, output: &Output<'_, A>) -> Option<S
             id,
             body,
         } => {
+            let words = closing_words(alloc, "last", *dialogue, *id, *number)?;
             let body = body_words(alloc, body)?;
-            format!(in alloc; "last {dialogue} id {id} number {number} op {body}").ok()
+            format!(in alloc; "{words} op {body}").ok()
         }
         Output::ErrorBack {
             dialogue,
@@ -206,8 +213,9 @@ fn closing_line<A: Allocator>(alloc: Global, output: &Output<'_, A>) -> Option<S
             code,
             parameter,
         } => {
+            let words = closing_words(alloc, "error", *dialogue, *id, *number)?;
             let coded = coded(alloc, code, *parameter)?;
-            format!(in alloc; "error {dialogue} id {id} number {number} code {coded}").ok()
+            format!(in alloc; "{words} code {coded}").ok()
         }
         Output::Rejected {
             dialogue,
@@ -216,20 +224,21 @@ fn closing_line<A: Allocator>(alloc: Global, output: &Output<'_, A>) -> Option<S
             problem,
             by,
         } => {
+            let words = closing_words(alloc, "rejected", *dialogue, *id, *number)?;
             let problem = problem_text(alloc, *problem).ok()?;
             let by = rejector(*by);
-            format!(in alloc; "rejected {dialogue} id {id} number {number} {problem} by {by}").ok()
+            format!(in alloc; "{words} {problem} by {by}").ok()
         }
         Output::Lapsed {
             dialogue,
             number,
             id,
-        } => format!(in alloc; "lapsed {dialogue} id {id} number {number}").ok(),
+        } => closing_words(alloc, "lapsed", *dialogue, *id, *number),
         Output::Ended {
             dialogue,
             number,
             id,
-        } => format!(in alloc; "ended {dialogue} id {id} number {number}").ok(),
+        } => closing_words(alloc, "ended", *dialogue, *id, *number),
         _ => None,
     }
 }
@@ -245,6 +254,16 @@ fn output_line<A: Allocator>(alloc: Global, output: &Output<'_, A>) -> Option<St
 /// Adds a line, two spaces in.
 pub(super) fn add_line(told: &mut String, line: &str) -> Option<()> {
     write!(told, "  {line}\n").ok()
+}
+
+/// Adds a line of a word and a number.
+pub(super) fn add_numbered(told: &mut String, word: &str, number: u64) -> Option<()> {
+    write!(told, "  {word} {number}\n").ok()
+}
+
+/// Adds a line of a value, printed for debugging.
+pub(super) fn add_value<T: Debug>(told: &mut String, value: &T) -> Option<()> {
+    write!(told, "  {value:?}\n").ok()
 }
 
 /// Adds the lines of outputs.
@@ -267,14 +286,11 @@ pub(super) fn add_answer<A: Allocator>(
     answer: &Answer<'_, A>,
 ) -> Option<()> {
     match answer {
-        Answer::NewDialogue(dialogue) => write!(told, "  new {dialogue}\n").ok(),
-        Answer::Number(number) => write!(told, "  number {number}\n").ok(),
+        Answer::NewDialogue(dialogue) => add_numbered(told, "new", u64::from(*dialogue)),
+        Answer::Number(number) => add_numbered(told, "number", *number),
         Answer::Done => add_line(told, "done"),
-        Answer::GivenUp(number) => write!(told, "  givenup {number}\n").ok(),
+        Answer::GivenUp(number) => add_numbered(told, "givenup", *number),
         Answer::Outputs(outputs) => add_outputs(alloc, told, outputs.as_slice()),
-        Answer::Refused(fault) => {
-            let number = fault.number();
-            write!(told, "  refused {number}\n").ok()
-        }
+        Answer::Refused(fault) => add_numbered(told, "refused", u64::from(fault.number())),
     }
 }

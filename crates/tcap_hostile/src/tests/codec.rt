@@ -110,7 +110,7 @@ fn add_component<A: Allocator>(
     }
 }
 
-/// Adds what a writer of elements appended.
+/// Adds what a writer of elements appended; where memory was refused, that has to be nothing.
 fn add_appended<A: Allocator>(
     alloc: Global,
     told: &mut String,
@@ -119,7 +119,7 @@ fn add_appended<A: Allocator>(
 ) -> Option<Told> {
     match written {
         Ok(()) => add_octets(alloc, told, octets.as_slice()),
-        Err(OutOfMemory) => Some(Told::NoMemory),
+        Err(OutOfMemory) => octets.is_empty().then_some(Told::NoMemory),
     }
 }
 

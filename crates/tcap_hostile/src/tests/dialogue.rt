@@ -1,6 +1,7 @@
 //! One dialogue, asked by the names of its calls. The moment is 0 throughout.
 
-use super::answers::{add_line, add_outputs};
+use super::answers::{add_line, add_numbered, add_outputs, add_value};
+use super::invocations::add_lapses;
 use super::subject::Told;
 use super::words::{Word, event_of, peer, text};
 use ber_core::OutOfMemory;
@@ -19,13 +20,12 @@ fn add_step<A: Allocator>(alloc: Global, told: &mut String, step: &Step<'_, A>) 
     Some(Told::Large)
 }
 
-/// Adds the line of a refusal.
-fn add_fault(told: &mut String, fault: Fault) -> Option<Told> {
+/// Adds the line of a refusal, but for want of memory.
+pub(super) fn add_fault(told: &mut String, fault: Fault) -> Option<Told> {
     if fault == Fault::OutOfMemory {
         return Some(Told::NoMemory);
     }
-    let number = fault.number();
-    write!(told, "  refused {number}\n").ok()?;
+    add_numbered(told, "refused", u64::from(fault.number()))?;
     Some(Told::Small)
 }
 
@@ -88,7 +88,7 @@ fn invoke<A: Allocator + Copy>(
     *dialogue = fresh;
     match invoked {
         Ok(number) => {
-            write!(told, "  number {number}\n").ok()?;
+            add_numbered(told, "number", number)?;
             Some(Told::Large)
         }
         Err(fault) => add_fault(told, fault),
@@ -113,11 +113,32 @@ fn ask<A: Allocator + Copy>(
         Request::ResultLast { id, body } => add_queued(told, dialogue.result_last(id, body)),
         Request::Cancel { id } => match dialogue.u_cancel(id) {
             Ok(number) => {
-                write!(told, "  givenup {number}\n").ok()?;
+                add_numbered(told, "givenup", number)?;
                 Some(Told::Small)
             }
             Err(fault) => add_fault(told, fault),
         },
+        _ => None,
+    }
+}
+
+/// What a dialogue tells of a moment: `due MS`, `first MS`, `free MS`.
+fn look_at<A: Allocator + Copy>(
+    dialogue: &mut Dialogue<A>,
+    word: &str,
+    clock: u64,
+    told: &mut String,
+) -> Option<()> {
+    match word {
+        "due" => add_value(told, &dialogue.due_count(clock)),
+        "first" => {
+            let first = dialogue.first_due(clock);
+            add_value(told, &first.map(|lapse| lapse.number))
+        }
+        "free" => {
+            dialogue.free_due(clock);
+            Some(())
+        }
         _ => None,
     }
 }
@@ -140,31 +161,18 @@ fn look<A: Allocator + Copy>(
             let kept = octets_or_dash(alloc, dialogue.kept().octets()).ok()?;
             write!(told, "  kept {kept}\n").ok()?;
         }
-        "next" => {
-            let next = dialogue.next_timer();
-            write!(told, "  {next:?}\n").ok()?;
-        }
-        "due" => {
-            let count = dialogue.due_count(text(words, 1).parse().ok()?);
-            write!(told, "  {count}\n").ok()?;
-        }
-        "first" => {
-            let first = dialogue.first_due(text(words, 1).parse().ok()?);
-            let number = first.map(|lapse| lapse.number);
-            write!(told, "  {number:?}\n").ok()?;
-        }
+        "next" => add_value(told, &dialogue.next_timer())?,
         "one" => {
             let (id, clock) = (text(words, 1).parse().ok()?, text(words, 2).parse().ok()?);
             let number = dialogue.lapse_one(id, clock).map(|lapse| lapse.number);
-            write!(told, "  {number:?}\n").ok()?;
+            add_value(told, &number)?;
         }
-        "free" => dialogue.free_due(text(words, 1).parse().ok()?),
-        _ => return None,
+        _ => look_at(dialogue, text(words, 0), text(words, 1).parse().ok()?, told)?,
     }
     Some(Told::Small)
 }
 
-/// What a dialogue tells of a line.
+/// What a dialogue tells of a line: `fault CAUSE`, `lapse MS`, those of `look`, or an event.
 pub(super) fn tell<A: Allocator + Copy>(
     alloc: Global,
     heap: A,
@@ -176,6 +184,7 @@ pub(super) fn tell<A: Allocator + Copy>(
         "due" | "first" | "one" | "free" | "next" | "state" | "kept" => {
             return look(alloc, dialogue, words, told);
         }
+        "lapse" => return add_lapses(told, dialogue.lapse(text(words, 1).parse().ok()?)),
         "fault" => {
             let cause: u8 = text(words, 1).parse().ok()?;
             return add_taken(alloc, told, dialogue.take_fault(cause));

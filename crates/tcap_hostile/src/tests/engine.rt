@@ -1,10 +1,11 @@
 //! An engine, asked by the names of its calls.
 
-use super::answers::add_answer;
+use super::answers::{add_answer, add_numbered, add_value};
+use super::dialogue::add_fault;
 use super::subject::Told;
 use super::words::{Word, event_of, peer, text};
 use std::alloc::{Allocator, Global};
-use tcap_engine::{Answer, Engine, Event, Fault, Limits, Request};
+use tcap_engine::{Answer, Engine, Event, Fault, Limits, Output, Request};
 
 /// A new engine of at most 4 dialogues, or at `1` of at most one; at `idle` with an idle limit of 500
 /// milliseconds.
@@ -31,6 +32,19 @@ pub(super) fn resumed<A: Allocator + Copy>(
     Engine::resume(heap, limits, next_dialogue, next_number)
 }
 
+/// The answer where a component is queued.
+fn of_queued<'m, A: Allocator>(queued: Result<(), Fault>) -> Result<Answer<'m, A>, Fault> {
+    queued?;
+    Ok(Answer::Done)
+}
+
+/// The answer to a request of dialogue handling.
+fn of_outputs<'m, A: Allocator>(
+    outputs: Result<Vec<Output<'m, A>, A>, Fault>,
+) -> Result<Answer<'m, A>, Fault> {
+    Ok(Answer::Outputs(outputs?))
+}
+
 /// A request of component handling, or of dialogue handling.
 fn asked<'m, A: Allocator + Copy>(
     engine: &mut Engine<A>,
@@ -49,42 +63,24 @@ fn asked<'m, A: Allocator + Copy>(
             let number = engine.invoke(d, id, class, code, parameter, linked, timeout_ms)?;
             Ok(Answer::Number(number))
         }
-        Request::ResultLast { id, body } => {
-            engine.result_last(d, id, body)?;
-            Ok(Answer::Done)
-        }
-        Request::ResultMore { id, body } => {
-            engine.result_more(d, id, body)?;
-            Ok(Answer::Done)
-        }
+        Request::ResultLast { id, body } => of_queued(engine.result_last(d, id, body)),
+        Request::ResultMore { id, body } => of_queued(engine.result_more(d, id, body)),
         Request::ErrorBack {
             id,
             code,
             parameter,
-        } => {
-            engine.error_back(d, id, code, parameter)?;
-            Ok(Answer::Done)
-        }
-        Request::Reject { id, problem } => {
-            engine.u_reject(d, id, problem)?;
-            Ok(Answer::Done)
-        }
+        } => of_queued(engine.error_back(d, id, code, parameter)),
+        Request::Reject { id, problem } => of_queued(engine.u_reject(d, id, problem)),
         Request::Cancel { id } => Ok(Answer::GivenUp(engine.u_cancel(d, id)?)),
-        Request::Uni { to, context, info } => {
-            Ok(Answer::Outputs(engine.uni(d, to, context, info)?))
-        }
-        Request::Begin { to, context, info } => {
-            Ok(Answer::Outputs(engine.begin(d, to, context, info)?))
-        }
-        Request::Continue { context, info } => {
-            Ok(Answer::Outputs(engine.go_on(d, context, info)?))
-        }
+        Request::Uni { to, context, info } => of_outputs(engine.uni(d, to, context, info)),
+        Request::Begin { to, context, info } => of_outputs(engine.begin(d, to, context, info)),
+        Request::Continue { context, info } => of_outputs(engine.go_on(d, context, info)),
         Request::End {
             ending,
             context,
             info,
-        } => Ok(Answer::Outputs(engine.finish(d, ending, context, info)?)),
-        Request::Abort { why, info } => Ok(Answer::Outputs(engine.u_abort(d, why, info)?)),
+        } => of_outputs(engine.finish(d, ending, context, info)),
+        Request::Abort { why, info } => of_outputs(engine.u_abort(d, why, info)),
     }
 }
 
@@ -101,37 +97,18 @@ fn answer_to<'m, A: Allocator + Copy>(
     }
 }
 
-/// What an engine tells of a line: `now`, `state D`, or an event.
-pub(super) fn tell<A: Allocator + Copy>(
-    alloc: Global,
-    engine: &mut Engine<A>,
+/// What an engine tells of itself: `now`, `next`, `state D`.
+fn look<A: Allocator + Copy>(
+    engine: &Engine<A>,
     words: &[Word<'_>],
     told: &mut String,
-) -> Option<Told> {
+) -> Option<()> {
     match text(words, 0) {
-        "now" => {
-            let now = engine.now();
-            write!(told, "  now {now}\n").ok()?;
-            return Some(Told::Small);
-        }
-        "state" => {
+        "now" => add_numbered(told, "now", engine.now()),
+        "next" => add_value(told, &engine.next_timer()),
+        _ => {
             let state = engine.state_of(text(words, 1).parse().ok()?);
-            write!(told, "  state {state:?}\n").ok()?;
-            return Some(Told::Small);
-        }
-        _ => {}
-    }
-    let peer = peer();
-    match answer_to(engine, event_of(words, &peer)?) {
-        Err(Fault::OutOfMemory) => Some(Told::NoMemory),
-        Err(fault) => {
-            let number = fault.number();
-            write!(told, "  refused {number}\n").ok()?;
-            Some(Told::Small)
-        }
-        Ok(answer) => {
-            add_answer(alloc, told, &answer)?;
-            Some(size_of_answer(&answer))
+            write!(told, "  state {state:?}\n").ok()
         }
     }
 }
@@ -142,5 +119,39 @@ fn size_of_answer<A: Allocator>(answer: &Answer<'_, A>) -> Told {
         Answer::GivenUp(_) | Answer::Refused(_) => Told::Small,
         Answer::Outputs(outputs) if outputs.is_empty() => Told::Small,
         _ => Told::Large,
+    }
+}
+
+/// Adds the lines of an answer, or that of a refusal.
+fn add_answered<A: Allocator>(
+    alloc: Global,
+    told: &mut String,
+    answered: Result<Answer<'_, A>, Fault>,
+) -> Option<Told> {
+    match answered {
+        Err(fault) => add_fault(told, fault),
+        Ok(answer) => {
+            add_answer(alloc, told, &answer)?;
+            Some(size_of_answer(&answer))
+        }
+    }
+}
+
+/// What an engine tells of a line: one of those of `look`, or an event.
+pub(super) fn tell<A: Allocator + Copy>(
+    alloc: Global,
+    engine: &mut Engine<A>,
+    words: &[Word<'_>],
+    told: &mut String,
+) -> Option<Told> {
+    match text(words, 0) {
+        "now" | "next" | "state" => {
+            look(engine, words, told)?;
+            Some(Told::Small)
+        }
+        _ => {
+            let peer = peer();
+            add_answered(alloc, told, answer_to(engine, event_of(words, &peer)?))
+        }
     }
 }

@@ -1,14 +1,15 @@
 //! A list of invocations, asked by the names of its calls.
 
+use super::answers::{add_line, add_numbered, add_value};
 use super::subject::Told;
 use super::words::{Word, class, kind, text};
+use ber_core::OutOfMemory;
 use std::alloc::Allocator;
-use tcap_invocation::{AddFault, Invocations, Lapse, MAX_MOMENT, Verdict};
+use tcap_invocation::{AddFault, Class, Invocations, Lapse, MAX_MOMENT, Verdict};
 
-/// Adds a lapse.
+/// Adds a lapse: its deadline, number and identifier.
 fn add_lapse(told: &mut String, lapse: Lapse) -> Option<()> {
-    let (deadline, number, id) = (lapse.deadline, lapse.number, lapse.id);
-    write!(told, "  {deadline} {number} {id}\n").ok()
+    add_value(told, &(lapse.deadline, lapse.number, lapse.id))
 }
 
 /// Adds a lapse that may be none.
@@ -22,9 +23,9 @@ fn add_one(told: &mut String, lapse: Option<Lapse>) -> Option<()> {
 /// Adds a verdict.
 fn add_verdict(told: &mut String, verdict: Verdict) -> Option<()> {
     match verdict {
-        Verdict::Good(number) => write!(told, "  good {number}\n").ok(),
-        Verdict::Unexpected(number) => write!(told, "  unexpected {number}\n").ok(),
-        Verdict::Unknown => write!(told, "  unknown\n").ok(),
+        Verdict::Good(number) => add_numbered(told, "good", number),
+        Verdict::Unexpected(number) => add_numbered(told, "unexpected", number),
+        Verdict::Unknown => add_line(told, "unknown"),
     }
 }
 
@@ -36,36 +37,44 @@ fn add_number(told: &mut String, number: Option<u64>) -> Option<()> {
     }
 }
 
+/// An invocation is taken in, where its number is above all.
+fn added<A: Allocator + Copy>(
+    list: &mut Invocations<A>,
+    id: i8,
+    number: u64,
+    class: Class,
+    timeout: u64,
+) -> Option<Result<(), AddFault>> {
+    if !list.is_above_all(number) {
+        return None;
+    }
+    Some(list.add(id, number, class, timeout))
+}
+
 /// `add ID NUMBER CLASS TIMEOUT`.
 fn add<A: Allocator + Copy>(
     list: &mut Invocations<A>,
     words: &[Word<'_>],
     told: &mut String,
 ) -> Option<Told> {
-    let number = text(words, 2).parse().ok()?;
-    if !list.is_above_all(number) {
-        return None;
-    }
-    let id = text(words, 1).parse().ok()?;
-    let timeout = text(words, 4).parse().ok()?;
-    match list.add(id, number, class(text(words, 3))?, timeout) {
+    let (id, number) = (text(words, 1).parse().ok()?, text(words, 2).parse().ok()?);
+    let (class, timeout) = (class(text(words, 3))?, text(words, 4).parse().ok()?);
+    match added(list, id, number, class, timeout)? {
         Ok(()) => Some(Told::Large),
         Err(AddFault::OutOfMemory) => Some(Told::NoMemory),
         Err(fault) => {
-            let number = fault.number();
-            write!(told, "  fault {number}\n").ok()?;
+            add_numbered(told, "fault", u64::from(fault.number()))?;
             Some(Told::Small)
         }
     }
 }
 
-/// `lapse MS`.
-fn lapse<A: Allocator + Copy>(
-    list: &mut Invocations<A>,
-    words: &[Word<'_>],
+/// Adds lapses, or tells that memory was refused.
+pub(super) fn add_lapses<A: Allocator>(
     told: &mut String,
+    lapses: Result<Vec<Lapse, A>, OutOfMemory>,
 ) -> Option<Told> {
-    let Ok(lapses) = list.lapse(text(words, 1).parse().ok()?) else {
+    let Ok(lapses) = lapses else {
         return Some(Told::NoMemory);
     };
     if lapses.is_empty() {
@@ -154,7 +163,7 @@ pub(super) fn tell<A: Allocator + Copy>(
 ) -> Option<Told> {
     match text(words, 0) {
         "add" => return add(list, words, told),
-        "lapse" => return lapse(list, words, told),
+        "lapse" => return add_lapses(told, list.lapse(text(words, 1).parse().ok()?)),
         "close" => return close(list, told),
         "next" | "sent" | "free" | "due" | "first" => look(list, words, told)?,
         _ => receive(list, words, told)?,

@@ -1,7 +1,6 @@
-use super::addresses::anywhere;
 use std::test::Fail;
 use tcap_callers::{clock_after, first_operation, hear_at, operate};
-use tcap_engine::{DropWhy, Engine, Fault, Limits, Output};
+use tcap_engine::{Address, DropWhy, Engine, Fault, Limits, Output};
 
 #[test]
 fn operations_of_messages(rt: HostRuntime) -> Result<(), Fail> {
@@ -33,9 +32,10 @@ fn clocks_and_histories_of_an_engine(rt: HostRuntime) -> Result<(), Fail> {
         clock_after(&mut engine, u64::MAX),
         Err(Fault::MomentTooLate)
     );
-    let (heard, lapsed) = hear_at(&mut engine, &anywhere(), &[], 7);
-    let heard = heard.map_err(|_| "no memory")?;
-    let lapsed = lapsed.map_err(|_| "not advanced")?;
+    let from = Address::new(&[0x01]).ok_or("one octet")?;
+    let (heard, lapsed) = hear_at(&mut engine, &from, &[], 7);
+    let heard = heard.ok().ok_or("no memory")?;
+    let lapsed = lapsed.ok().ok_or("not advanced")?;
     assert!(rt; matches!(heard.as_slice(), [Output::Dropped(DropWhy::BadMessage)]));
     assert!(rt; lapsed.is_empty());
     assert_eq!(rt; engine.now(), 7);

@@ -1,7 +1,7 @@
 //! Examples of an engine: where messages come from and go to.
 
 /// Where an engine sends what.
-pub const ADDRESSES: [&str; 11] = [
+pub const ADDRESSES: [&str; 12] = [
     // An address learned once, and answers to the sender: a message to no dialogue.
     "\
 engine
@@ -80,6 +80,19 @@ last 1 1
   done
 end 1
   send 640d4904000000016c05a203020101 to 0b
+",
+    // What answers a Begin with AARQ goes to its sender, wherever else a message comes from.
+    "\
+engine
+rawfrom 0b 62354804000000016b1e281c060700118605010101a011600f80020780a1090607040000010001036c0da10b02010102010230030401aa
+  begin 1 context 04000001000103 info -
+  invoked 1 id 1 linked - op local 2 param 30030401aa
+continue 1
+  send 65384804000000014904000000016b2a2828060700118605010101a01d611b80020780a109060704000001000103a203020100a305a103020100 to 0b
+rawfrom 0d 650c4804000000094904000000ff
+  send 67094904000000094a0101 to 0d
+continue 1
+  send 650c480400000001490400000001 to 0b
 ",
     // The address of no octets is one, and is kept too.
     "\

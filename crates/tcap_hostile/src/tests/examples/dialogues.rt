@@ -1,7 +1,7 @@
 //! Examples of a dialogue and of its invocations.
 
 /// Of one dialogue.
-pub const DIALOGUES: [&str; 5] = [
+pub const DIALOGUES: [&str; 6] = [
     // A fault ends a dialogue.
     "\
 dialogue
@@ -86,6 +86,20 @@ begin 1
   refused 3
 free 1000
 ",
+    // A lapse, once, not before the deadline.
+    "\
+dialogue
+state
+  Fresh peer false
+invoke 1 1 1 10 1000
+  number 1
+begin 1
+  send 62104804000000016c08a10602010102010a
+lapse 999
+lapse 1000
+  (1000, 1, 1)
+lapse 1000
+",
     // The first Continue alone moves the kept address.
     "\
 dialogue
@@ -117,7 +131,7 @@ rawfrom 0d 6406490400000001
 ];
 
 /// Of the invocations of a dialogue.
-pub const INVOCATIONS: [&str; 4] = [
+pub const INVOCATIONS: [&str; 7] = [
     // Invocation list walked.
     "\
 invocations
@@ -128,7 +142,7 @@ add 2 2 1 0
   fault 3
 sent 0
 lapse 1000
-  1000 1 1
+  (1000, 1, 1)
 add 2 2 1 5
 close
   2 2
@@ -168,15 +182,15 @@ sent 0
 due 20
   3
 first 20
-  10 4 6
+  (10, 4, 6)
 next
   10
 one 5 10
   -
 lapse 20
-  10 4 6
-  10 5 7
-  20 3 5
+  (10, 4, 6)
+  (10, 5, 7)
+  (20, 3, 5)
 next
   -
 free 20
@@ -196,5 +210,61 @@ giveup 6
   4
 freewait 7
   false
+",
+    // Three lapse, and one waits.
+    "\
+invocations
+add 0 1 1 10
+add 1 2 1 10
+add 2 3 1 10
+add 3 4 1 10
+sent 0
+error 3 1
+  good 4
+lapse 10
+  (10, 1, 0)
+  (10, 2, 1)
+  (10, 3, 2)
+open 3
+  open false used true
+add 99 200 1 10
+open 99
+  open false used true
+",
+    // Three are closed with the dialogue, and one that waits is not told.
+    "\
+invocations
+add 0 1 1 10
+add 1 2 1 10
+add 2 3 1 10
+add 3 4 1 10
+sent 0
+error 3 1
+  good 4
+close
+  1 0
+  2 1
+  3 2
+open 3
+  open false used false
+",
+    // Where all wait, nothing is told of a lapse or of the end, and an Invoke is refused before memory.
+    "\
+invocations
+add 0 1 1 10
+add 1 2 1 10
+sent 0
+error 0 2
+  good 1
+error 1 2
+  good 2
+add 1 200 1 0
+  fault 3
+add 1 200 1 5
+  fault 2
+lapse 10
+close
+open 1
+  open false used false
 ",
 ];

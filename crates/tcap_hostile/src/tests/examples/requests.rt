@@ -90,19 +90,25 @@ abort 1 user
 ];
 
 /// What is asked of an engine of other limits or counters, or by its getters; no events for `run`.
-pub const CALLS: [&str; 5] = [
-    // Lapse and late result, with the clock and the state.
+pub const CALLS: [&str; 9] = [
+    // Lapse and late result, with the next timer, the clock and the state.
     "\
 engine
 new
   new 1
 invoke 1 1 1 10 1000
   number 1
+next
+  None
 begin 1
   send 62104804000000016c08a10602010102010a
+next
+  Some(1000)
 advance 999
 advance 1000
   lapsed 1 id 1 number 1
+next
+  None
 raw 65134804000000054904000000016c05a203020101
   continue 1 context - info -
   localreject 1 id 1 result 0
@@ -115,6 +121,73 @@ state 1
   state Some(Active)
 state 2
   state None
+",
+    // Idle after the Begin, with the next timer and the state.
+    "\
+engine idle
+new
+  new 1
+invoke 1 1 1 10 1000
+  number 1
+next
+  None
+begin 1
+  send 62104804000000016c08a10602010102010a
+next
+  Some(500)
+advance 499
+advance 500
+  pabort 1 idle
+  ended 1 id 1 number 1
+state 1
+  state None
+next
+  None
+raw 65134804000000054904000000016c05a203020101
+  send 67094904000000054a0101
+",
+    // A Continue renews the limit, with the next timer.
+    "\
+engine idle
+new
+  new 1
+invoke 1 1 1 10 1000
+  number 1
+begin 1
+  send 62104804000000016c08a10602010102010a
+advance 400
+raw 650c480400000005490400000001
+  continue 1 context - info -
+next
+  Some(900)
+advance 899
+advance 900
+  pabort 1 idle
+  ended 1 id 1 number 1
+",
+    // No idle limit in Received, with the next timer and the state.
+    "\
+engine idle
+raw 62154804000000016c0da10b02010102010230030401aa
+  begin 1 context - info -
+  invoked 1 id 1 linked - op local 2 param 30030401aa
+next
+  None
+advance 500
+state 1
+  state Some(Received)
+",
+    // A dialogue that is Fresh stands however long, and an Invoke touches none.
+    "\
+engine idle
+new
+  new 1
+advance 500
+invoke 1 1 1 10 1000
+  number 1
+advance 1000
+state 1
+  state Some(Fresh)
 ",
     // Limits and refusals, of dialogues.
     "\
