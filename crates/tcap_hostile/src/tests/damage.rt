@@ -128,16 +128,21 @@ fn speaks(engine: &mut Engine, d: u32, peer: &Address) -> Option<bool> {
     }
 }
 
-/// An engine with one invocation, which was sent; its deadline is 1,000. A dialogue may stand still for 500
-/// milliseconds.
-fn waiting_engine(alloc: Global) -> Option<Engine> {
-    let mut engine = new_engine(alloc, "idle");
+/// Has an engine send an Invoke, whose deadline is 1,000.
+fn send_invoke(engine: &mut Engine) -> Option<()> {
     engine.new_dialogue().ok()?;
     let code = Code::Local(10);
     engine
         .invoke(1, 1, Class::One, code, None, None, 1000)
         .ok()?;
     engine.begin(1, &address_of(0x0a), None, &[]).ok()?;
+    Some(())
+}
+
+/// An engine with one invocation, which was sent. A dialogue may stand still for 500 milliseconds.
+fn waiting_engine(alloc: Global) -> Option<Engine> {
+    let mut engine = new_engine(alloc, "idle");
+    send_invoke(&mut engine)?;
     Some(engine)
 }
 

@@ -7,15 +7,25 @@ use super::words::{Word, event_of, peer, text, words_of};
 use std::alloc::Global;
 use tcap_engine::{Address, Answer, Event, run};
 
-/// The words of the lines that stand for events.
-fn event_lines<'e>(alloc: Global, example: &'e str) -> Option<Vec<Vec<Word<'e>>>> {
-    let mut lines = Vec::new(alloc);
+/// Adds the words of the lines that stand for events.
+fn add_event_lines<'e>(
+    alloc: Global,
+    lines: &mut Vec<Vec<Word<'e>>>,
+    example: &'e str,
+) -> Option<()> {
     for line in example.lines() {
         if line.starts_with(' ') || line.starts_with("engine") {
             continue;
         }
         lines.push(words_of(alloc, line)?).ok()?;
     }
+    Some(())
+}
+
+/// The words of the lines that stand for events.
+fn event_lines<'e>(alloc: Global, example: &'e str) -> Option<Vec<Vec<Word<'e>>>> {
+    let mut lines = Vec::new(alloc);
+    add_event_lines(alloc, &mut lines, example)?;
     Some(lines)
 }
 
@@ -32,13 +42,12 @@ fn events_of<'w>(
     Some(events)
 }
 
-/// The lines of answers.
-fn text_of(alloc: Global, answers: &[Answer<'_, Heap<'_>>]) -> Option<String> {
-    let mut text = String::new(alloc);
+/// Adds the lines of answers.
+fn add_answers(alloc: Global, told: &mut String, answers: &[Answer<'_, Heap<'_>>]) -> Option<()> {
     for answer in answers {
-        add_answer(alloc, &mut text, answer)?;
+        add_answer(alloc, told, answer)?;
     }
-    Some(text)
+    Some(())
 }
 
 /// The lines of the answers that an example has.
@@ -52,22 +61,25 @@ fn wanted_of(alloc: Global, example: &str) -> Option<String> {
     Some(text)
 }
 
-/// What came of a run and, where memory was refused to it, of a second one over the events that the first
-/// left: all answers, and how often memory was refused.
+/// Adds the lines of what came of a run and, where memory was refused to it, of a second one over the events that
+/// the first left: how often memory was refused.
 fn run_twice(
     alloc: Global,
     heap: Heap<'_>,
     kind: &str,
     events: &[Event<'_>],
-) -> Option<(String, u64)> {
+    told: &mut String,
+) -> Option<u64> {
     let mut engine = new_engine(heap, kind);
     let mut answers = Vec::new(heap);
     if run(&mut engine, events, &mut answers).is_ok() {
-        return Some((text_of(alloc, answers.as_slice())?, 0));
+        add_answers(alloc, told, answers.as_slice())?;
+        return Some(0);
     }
     let rest = events.get(answers.len()..)?;
     run(&mut engine, rest, &mut answers).ok()?;
-    Some((text_of(alloc, answers.as_slice())?, 1))
+    add_answers(alloc, told, answers.as_slice())?;
+    Some(1)
 }
 
 /// How many growths the run of an example has, where each of them that is refused in turn ends the first
@@ -81,7 +93,8 @@ pub(super) fn run_growths(alloc: Global, heap: Heap<'_>, example: &str) -> Optio
     let kind = text(first.as_slice(), 1);
     for number in 1..1_000u64 {
         heap.refuse(number);
-        let (answers, refusals) = run_twice(alloc, heap, kind, events.as_slice())?;
+        let mut answers = String::new(alloc);
+        let refusals = run_twice(alloc, heap, kind, events.as_slice(), &mut answers)?;
         if answers != wanted {
             return None;
         }

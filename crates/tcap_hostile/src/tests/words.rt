@@ -14,16 +14,27 @@ pub(super) struct Word<'e> {
     address: Option<Address>,
 }
 
+/// The octets of hexadecimal; none where it is no hexadecimal.
+fn decoded(alloc: Global, hex: &str) -> Vec<u8> {
+    match hex::decode(alloc, hex) {
+        Ok(octets) => octets,
+        Err(_) => Vec::new(alloc),
+    }
+}
+
+/// Adds so many octets of 0.
+fn add_zeros(alloc: Global, octets: &mut Vec<u8>, count: usize) -> Option<()> {
+    let zeros = vec![in alloc; 0u8; count].ok()?;
+    octets.extend_from_slice(zeros.as_slice()).ok()
+}
+
 /// The octets that a word spells; none where it is no hexadecimal.
 fn octets_of(alloc: Global, text: &str) -> Option<Vec<u8>> {
     let text = text.strip_prefix('x').unwrap_or(text);
     let (hex, zeros) = text.split_once('+').unwrap_or((text, "0"));
-    let mut octets = match hex::decode(alloc, hex) {
-        Ok(octets) => octets,
-        Err(_) => Vec::new(alloc),
-    };
-    let zeros = vec![in alloc; 0u8; zeros.parse::<usize>().ok()?].ok()?;
-    octets.extend_from_slice(zeros.as_slice()).ok()?;
+    let count = zeros.parse::<usize>().ok()?;
+    let mut octets = decoded(alloc, hex);
+    add_zeros(alloc, &mut octets, count)?;
     Some(octets)
 }
 
