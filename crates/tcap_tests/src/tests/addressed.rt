@@ -1,8 +1,8 @@
 //! Plays with other addresses than those of the two sides.
 
+use super::words::run;
 use std::alloc::Global;
 use std::test::Fail;
-use tcap_cmd::run_command;
 
 /// The example "Addresses played".
 pub(super) const ADDRESSES_SCRIPT: &str =
@@ -26,13 +26,10 @@ const KNOWN_SCRIPT: &str =
 const KNOWN_TEXT: &str =
     "B new 1\nB send B1 6206480400000001\nA begin 1 context - info -\nA send A1 650c480400000001490400000001\nB continue 1 context - info -\nB send B2 650c480400000001490400000001\nA continue 1 context - info -\n";
 
-/// The status of the command that plays this script, and what it wrote.
-fn played(alloc: Global, script: &str) -> (u8, Vec<u8>) {
+/// Whether the command that plays this script ends with this status and writes this.
+fn is_played(alloc: Global, script: &str, status: u8, written: &str) -> bool {
     let mut input = script.as_bytes();
-    let mut out = Vec::new(alloc);
-    let mut err = Vec::new(alloc);
-    let status = run_command(alloc, alloc, &["play"], &mut input, &mut out, &mut err);
-    (status, out)
+    run(alloc, &["play"], &mut input).is(status, written.as_bytes(), b"")
 }
 
 #[test]
@@ -87,9 +84,10 @@ fn plays_with_addresses(rt: HostRuntime) -> Result<(), Fail> {
         ("A beginto 9 43 - -\n", 0, "A refused 2\n"),
     ];
     for (script, status, written) in rows {
-        let (ended, text) = played(rt.alloc(), script);
-        assert_eq!(rt; text.as_slice(), written.as_bytes(), "at {script}");
-        assert_eq!(rt; ended, status, "at {script}");
+        assert!(rt;
+            is_played(rt.alloc(), script, status, written),
+            "at {script}"
+        );
     }
     Ok(())
 }
@@ -116,36 +114,36 @@ fn messages_to_other_addresses(rt: HostRuntime) -> Result<(), Fail> {
     for (done, status, told) in rows {
         let script = format!(in alloc; "A new\nA beginto 1 43 - -\n{done}")?;
         let written = format!(in alloc; "A new 1\nA send A1 6206480400000001 to 43\n{told}")?;
-        let (ended, text) = played(alloc, &script);
-        assert_eq!(rt; text.as_slice(), written.as_bytes(), "at {done}");
-        assert_eq!(rt; ended, status, "at {done}");
+        assert!(rt; is_played(alloc, &script, status, &written), "at {done}");
     }
     Ok(())
+}
+
+/// Whether an address of so many octets is sent to and answered, or is none.
+fn is_address(alloc: Global, octets: usize, status: u8) -> Result<bool, Fail> {
+    let hex = hex::encode(alloc, vec![in alloc; 0xabu8; octets]?.as_slice())?;
+    let begin = format!(in alloc; "A new\nA beginto 1 {hex} - -\n")?;
+    let raw = format!(in alloc; "A rawfrom {hex} 650C4804000000094904000000FF\n")?;
+    let (sent, answered) = if status == 0 {
+        (
+            format!(in alloc; "A new 1\nA send A1 6206480400000001 to {hex}\n")?,
+            format!(in alloc; "A send A1 67094904000000094a0101 to {hex}\n")?,
+        )
+    } else {
+        (
+            format!(in alloc; "A new 1\nline 2 bad\n")?,
+            format!(in alloc; "line 1 bad\n")?,
+        )
+    };
+    Ok(is_played(alloc, &begin, status, &sent) && is_played(alloc, &raw, status, &answered))
 }
 
 /// An address has at most 255 octets; what is no hexadecimal names none.
 #[test]
 fn addresses_that_are_none(rt: HostRuntime) -> Result<(), Fail> {
     let alloc = rt.alloc();
-    for (octets, is_address) in [(1usize, true), (254, true), (255, true), (256, false)] {
-        let address = vec![in alloc; 0xabu8; octets]?;
-        let hex = hex::encode(alloc, address.as_slice())?;
-        let begin = format!(in alloc; "A new\nA beginto 1 {hex} - -\n")?;
-        let sent = if is_address {
-            format!(in alloc; "A new 1\nA send A1 6206480400000001 to {hex}\n")?
-        } else {
-            format!(in alloc; "A new 1\nline 2 bad\n")?
-        };
-        let (_, text) = played(alloc, &begin);
-        assert_eq!(rt; text.as_slice(), sent.as_bytes(), "at {octets}");
-        let raw = format!(in alloc; "A rawfrom {hex} 650C4804000000094904000000FF\n")?;
-        let answered = if is_address {
-            format!(in alloc; "A send A1 67094904000000094a0101 to {hex}\n")?
-        } else {
-            format!(in alloc; "line 1 bad\n")?
-        };
-        let (_, text) = played(alloc, &raw);
-        assert_eq!(rt; text.as_slice(), answered.as_bytes(), "at {octets}");
+    for (octets, status) in [(1usize, 0u8), (254, 0), (255, 0), (256, 1)] {
+        assert!(rt; is_address(alloc, octets, status)?, "at {octets}");
     }
     for line in [
         "A rawfrom 4 00",
@@ -163,9 +161,7 @@ fn addresses_that_are_none(rt: HostRuntime) -> Result<(), Fail> {
         "A unito 1 43 - -",
         "A continueto 1 43 - -",
     ] {
-        let (status, text) = played(alloc, line);
-        assert_eq!(rt; text.as_slice(), b"line 1 bad\n".as_slice(), "at {line}");
-        assert_eq!(rt; status, 1, "at {line}");
+        assert!(rt; is_played(alloc, line, 1, "line 1 bad\n"), "at {line}");
     }
     Ok(())
 }

@@ -2,6 +2,7 @@
 
 use super::growths::{PLAYED, SCRIPT};
 use super::streams::Repeated;
+use super::words::run;
 use std::alloc::Global;
 use std::io;
 use std::io::{ErrorKind, Write};
@@ -183,17 +184,9 @@ fn inputs_too_long(rt: HostRuntime) -> Result<(), Fail> {
     ];
     for (words, octets, left, width, reads, written) in rows {
         let mut reader = Repeated::new(octets, left, width, 0);
-        let mut out = Vec::new(alloc);
-        let mut err = Vec::new(alloc);
-        let status = run_command(alloc, alloc, words, &mut reader, &mut out, &mut err);
-        assert_eq!(rt; status, 2, "at {words:?}, {width}");
-        assert_eq!(rt;
-            err.as_slice(),
-            b"tcap: input too long\n".as_slice(),
-            "at {words:?}, {width}"
-        );
-        assert_eq!(rt; reader.reads, reads, "at {words:?}, {width}");
-        assert_eq!(rt; out.len(), written, "at {words:?}, {width}");
+        let ran = run(alloc, words, &mut reader);
+        let is_told = ran.is_refusal(written, b"tcap: input too long\n");
+        assert!(rt; is_told && reader.reads == reads, "at {words:?}, {width}");
     }
     Ok(())
 }

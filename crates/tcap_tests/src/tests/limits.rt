@@ -5,10 +5,12 @@ use tcap_cmd::{canon_text, check_text, show_text};
 #[test]
 fn messages_too_long(rt: HostRuntime) -> Result<(), Fail> {
     let bytes = vec![in rt.alloc(); 0u8; 65_536]?;
-    let long = show_text(rt.alloc(), bytes.as_slice()).map_err(|_| "no memory")?;
+    let long = show_text(rt.alloc(), bytes.as_slice())
+        .ok()
+        .ok_or("no memory")?;
     assert_eq!(rt; long.text.as_slice(), b"fault too long\n".as_slice());
     assert!(rt; !long.good);
-    let longest = show_text(rt.alloc(), &bytes[1..]).map_err(|_| "no memory")?;
+    let longest = show_text(rt.alloc(), &bytes[1..]).ok().ok_or("no memory")?;
     assert_eq!(rt;
         longest.text.as_slice(),
         b"fault badly formatted\n".as_slice()
@@ -32,9 +34,13 @@ fn longest(alloc: Global) -> Result<Vec<u8>, Fail> {
 #[test]
 fn canonical_form_too_long(rt: HostRuntime) -> Result<(), Fail> {
     let bytes = longest(rt.alloc())?;
-    let checked = check_text(rt.alloc(), bytes.as_slice()).map_err(|_| "no memory")?;
+    let checked = check_text(rt.alloc(), bytes.as_slice())
+        .ok()
+        .ok_or("no memory")?;
     assert_eq!(rt; checked.text.as_slice(), b"good\n".as_slice());
-    let long = canon_text(rt.alloc(), bytes.as_slice()).map_err(|_| "no memory")?;
+    let long = canon_text(rt.alloc(), bytes.as_slice())
+        .ok()
+        .ok_or("no memory")?;
     assert_eq!(rt; long.text.as_slice(), b"fault too long\n".as_slice());
     assert!(rt; !long.good);
     Ok(())

@@ -1,3 +1,4 @@
+use super::words::run_within;
 use std::alloc::Global;
 use std::io;
 use std::io::{ErrorKind, Write};
@@ -22,6 +23,11 @@ impl Narrow {
             room,
             interrupted: true,
         }
+    }
+
+    /// What it took.
+    pub(super) fn into_taken(self) -> Vec<u8> {
+        self.taken
     }
 }
 
@@ -63,16 +69,11 @@ fn closed_outputs(rt: HostRuntime) -> Result<(), Fail> {
     ];
     for (room, words, status, written, told) in rows {
         let mut input: &[u8] = &[];
-        let mut out = Narrow::new(alloc, room);
-        let mut err = Vec::new(alloc);
-        let ran = run_command(alloc, alloc, &words, &mut input, &mut out, &mut err);
-        assert_eq!(rt; ran, status, "at {room}, {words:?}");
-        assert_eq!(rt;
-            out.taken.as_slice(),
-            written.as_bytes(),
-            "at {room}, {words:?}"
+        let ran = run_within(alloc, &words, &mut input, room);
+        assert!(rt;
+            ran.is(status, written.as_bytes(), told.as_bytes()),
+            "at {room}, {words:?}: {ran:?}"
         );
-        assert_eq!(rt; err.as_slice(), told.as_bytes(), "at {room}, {words:?}");
     }
     Ok(())
 }

@@ -1,8 +1,9 @@
 use super::outputs::Narrow;
+use super::words::{run, run_within};
 use std::io;
 use std::io::{ErrorKind, Read};
 use std::test::Fail;
-use tcap_cmd::{PlayFault, run_command, run_play};
+use tcap_cmd::{PlayFault, run_play};
 
 /// A reader of line feeds, which may fail on the way.
 #[derive(Drop)]
@@ -70,8 +71,11 @@ fn reads_of_a_play(rt: HostRuntime) -> Result<(), Fail> {
         // No line asks for anything, so nothing is written, and this writer isn't called.
         let mut out = Narrow::new(alloc, 0);
         let ran = run_play(alloc, &mut reader, &mut out);
-        assert_eq!(rt; ran, answer, "at {left}, {width}, {failing}");
-        assert_eq!(rt; reader.reads, reads, "at {left}, {width}, {failing}");
+        assert_eq!(rt;
+            (ran, reader.reads),
+            (answer, reads),
+            "at {left}, {width}, {failing}"
+        );
     }
     Ok(())
 }
@@ -123,12 +127,11 @@ fn plays_of_the_command(rt: HostRuntime) -> Result<(), Fail> {
     ];
     for (script, room, status, written, told) in rows {
         let mut input = script.as_bytes();
-        let mut out = Narrow::new(alloc, room);
-        let mut err = Vec::new(alloc);
-        let ran = run_command(alloc, alloc, &["play"], &mut input, &mut out, &mut err);
-        assert_eq!(rt; ran, status, "at {script}");
-        assert_eq!(rt; out.taken.as_slice(), written.as_bytes(), "at {script}");
-        assert_eq!(rt; err.as_slice(), told.as_bytes(), "at {script}");
+        let ran = run_within(alloc, &["play"], &mut input, room);
+        assert!(rt;
+            ran.is(status, written.as_bytes(), told.as_bytes()),
+            "at {script}: {ran:?}"
+        );
     }
     Ok(())
 }
@@ -136,22 +139,29 @@ fn plays_of_the_command(rt: HostRuntime) -> Result<(), Fail> {
 #[test]
 fn inputs_of_the_command(rt: HostRuntime) -> Result<(), Fail> {
     let alloc = rt.alloc();
-    let rows: [(&[&str], usize, u64, u8, &str, u64); 5] = [
-        // The words, how many line feeds, the read that fails; the status, what is told, the reads made.
-        (&["play"], 3, 1, 2, "tcap: read failed\n", 1),
-        (&["play"], 1_048_577, 0, 2, "tcap: input too long\n", 257),
-        (&["play"], 3, 0, 0, "", 2),
-        (&["play", "62"], 3, 1, 2, "tcap: bad command\n", 0),
-        (&["check", "6206480400000001"], 3, 1, 0, "", 0),
+    let rows: [(&[&str], usize, u64, u8, &str, &str, u64); 5] = [
+        // The words, how many line feeds, the read that fails; the status, what is written and told, the reads made.
+        (&["play"], 3, 1, 2, "", "tcap: read failed\n", 1),
+        (
+            &["play"],
+            1_048_577,
+            0,
+            2,
+            "",
+            "tcap: input too long\n",
+            257,
+        ),
+        (&["play"], 3, 0, 0, "", "", 2),
+        (&["play", "62"], 3, 1, 2, "", "tcap: bad command\n", 0),
+        (&["check", "6206480400000001"], 3, 1, 0, "good\n", "", 0),
     ];
-    for (words, left, failing, status, told, reads) in rows {
+    for (words, left, failing, status, written, told, reads) in rows {
         let mut reader = LineFeeds::new(left, 5_000, failing, ErrorKind::Other);
-        let mut out = Vec::new(alloc);
-        let mut err = Vec::new(alloc);
-        let ran = run_command(alloc, alloc, words, &mut reader, &mut out, &mut err);
-        assert_eq!(rt; ran, status, "at {words:?}");
-        assert_eq!(rt; err.as_slice(), told.as_bytes(), "at {words:?}");
-        assert_eq!(rt; reader.reads, reads, "at {words:?}");
+        let ran = run(alloc, words, &mut reader);
+        assert!(rt;
+            ran.is(status, written.as_bytes(), told.as_bytes()) && reader.reads == reads,
+            "at {words:?}: {ran:?}"
+        );
     }
     Ok(())
 }

@@ -1,8 +1,9 @@
 use super::outputs::Narrow;
+use super::words::run_within;
 use std::io;
 use std::io::{ErrorKind, Read};
 use std::test::Fail;
-use tcap_cmd::{PlayFault, run_command, run_stream};
+use tcap_cmd::{PlayFault, run_stream};
 
 /// A Begin, and an octet that no element begins with.
 const BEGIN_AND_END: [u8; 9] = [0x62, 0x06, 0x48, 0x04, 0x00, 0x00, 0x00, 0x01, 0x00];
@@ -123,15 +124,9 @@ fn reads_of_a_stream(rt: HostRuntime) -> Result<(), Fail> {
         let mut reader = Repeated::new(octets, left, width, failing);
         let mut out = Narrow::new(alloc, room);
         let ran = run_stream(alloc, &mut reader, &mut out);
-        assert_eq!(rt; ran, answer, "at {left}, {width}, {failing}, {room}");
-        assert_eq!(rt;
-            out.taken.as_slice(),
-            written.as_bytes(),
-            "at {left}, {width}, {failing}, {room}"
-        );
-        assert_eq!(rt;
-            reader.reads,
-            reads,
+        let is_as_wanted = out.taken.as_slice() == written.as_bytes() && reader.reads == reads;
+        assert!(rt;
+            ran == answer && is_as_wanted,
             "at {left}, {width}, {failing}, {room}"
         );
     }
@@ -171,9 +166,12 @@ fn reads_of_a_stream_without_end(rt: HostRuntime) -> Result<(), Fail> {
         let mut reader = Repeated::new(octets, left, 1, 0);
         let mut out = Vec::new(alloc);
         let ran = run_stream(alloc, &mut reader, &mut out);
+        assert_eq!(rt;
+            (out.len(), reader.reads),
+            (written, 1_000_000),
+            "at {left}"
+        );
         assert_eq!(rt; ran, answer, "at {left}");
-        assert_eq!(rt; out.len(), written, "at {left}");
-        assert_eq!(rt; reader.reads, 1_000_000, "at {left}");
     }
     Ok(())
 }
@@ -193,16 +191,11 @@ fn streams_of_the_command(rt: HostRuntime) -> Result<(), Fail> {
     ];
     for (words, left, room, failing, status, written, told) in rows {
         let mut reader = Repeated::new(&BEGIN_AND_END, left, 5_000, failing);
-        let mut out = Narrow::new(alloc, room);
-        let mut err = Vec::new(alloc);
-        let ran = run_command(alloc, alloc, words, &mut reader, &mut out, &mut err);
-        assert_eq!(rt; ran, status, "at {words:?}, {left}");
-        assert_eq!(rt;
-            out.taken.as_slice(),
-            written.as_bytes(),
-            "at {words:?}, {left}"
+        let ran = run_within(alloc, words, &mut reader, room);
+        assert!(rt;
+            ran.is(status, written.as_bytes(), told.as_bytes()),
+            "at {words:?}, {left}: {ran:?}"
         );
-        assert_eq!(rt; err.as_slice(), told.as_bytes(), "at {words:?}, {left}");
     }
     Ok(())
 }

@@ -1,14 +1,56 @@
+use super::outputs::Narrow;
 use std::alloc::Global;
+use std::io::Read;
 use std::test::Fail;
 use tcap_cmd::run_command;
 
-/// The status of the command for these words, and what it wrote to `out` and to `err`.
-fn run(alloc: Global, words: &[&str]) -> (u8, Vec<u8>, Vec<u8>) {
-    let mut input: &[u8] = &[];
-    let mut out = Vec::new(alloc);
-    let mut err = Vec::new(alloc);
-    let status = run_command(alloc, alloc, words, &mut input, &mut out, &mut err);
-    (status, out, err)
+/// What a run of the command came to: its status, what it wrote, and what it told on standard error.
+#[derive(Debug, Drop)]
+pub(super) struct Ran {
+    status: u8,
+    written: Vec<u8>,
+    told: Vec<u8>,
+}
+
+impl Ran {
+    /// Whether it came to this.
+    pub(super) fn is(&self, status: u8, written: &[u8], told: &[u8]) -> bool {
+        self.status == status && self.written.as_slice() == written && self.told.as_slice() == told
+    }
+
+    /// Whether it gave up with this line, after it had written so many octets.
+    pub(super) fn is_refusal(&self, written: usize, told: &[u8]) -> bool {
+        self.status == 2 && self.written.len() == written && self.told.as_slice() == told
+    }
+}
+
+/// Runs the command over an input, with an output that takes so many octets, two at a time.
+pub(super) fn run_within<R: Read>(
+    alloc: Global,
+    words: &[&str],
+    input: &mut R,
+    room: usize,
+) -> Ran {
+    let mut out = Narrow::new(alloc, room);
+    let mut told = Vec::new(alloc);
+    let status = run_command(alloc, alloc, words, input, &mut out, &mut told);
+    Ran {
+        status,
+        written: out.into_taken(),
+        told,
+    }
+}
+
+/// Runs the command over an input.
+pub(super) fn run<R: Read>(alloc: Global, words: &[&str], input: &mut R) -> Ran {
+    let mut written = Vec::new(alloc);
+    let mut told = Vec::new(alloc);
+    let status = run_command(alloc, alloc, words, input, &mut written, &mut told);
+    Ran {
+        status,
+        written,
+        told,
+    }
 }
 
 #[test]
@@ -54,10 +96,12 @@ fn words_of_the_command(rt: HostRuntime) -> Result<(), Fail> {
         (&["show", "--help"], 2, "", "tcap: bad command\n"),
     ];
     for (words, status, out, err) in rows {
-        let ran = run(rt.alloc(), words);
-        assert_eq!(rt; ran.0, status, "at {words:?}");
-        assert_eq!(rt; ran.1.as_slice(), out.as_bytes(), "at {words:?}");
-        assert_eq!(rt; ran.2.as_slice(), err.as_bytes(), "at {words:?}");
+        let mut input: &[u8] = &[];
+        let ran = run(rt.alloc(), words, &mut input);
+        assert!(rt;
+            ran.is(status, out.as_bytes(), err.as_bytes()),
+            "at {words:?}: {ran:?}"
+        );
     }
     Ok(())
 }
