@@ -2,7 +2,6 @@
 //! can be asked, has to be the same.
 
 use super::plain::Plain;
-use std::alloc::Global;
 use std::test::Fail;
 use tcap_component::Kind;
 use tcap_invocation::{AddFault, Class, Invocations, Lapse, MAX_MOMENT, Verdict};

@@ -18,6 +18,23 @@ fn operations_of_messages(rt: HostRuntime) -> Result<(), Fail> {
     Ok(())
 }
 
+/// The clock after three moments, of which the last is too late.
+fn clocks(engine: &mut Engine) -> [Result<u64, Fault>; 3] {
+    [
+        clock_after(engine, 5),
+        clock_after(engine, 4),
+        clock_after(engine, u64::MAX),
+    ]
+}
+
+/// Whether no bytes are dropped, and nothing lapses at the moment after them.
+fn hears_nothing(engine: &mut Engine, from: &Address) -> Option<bool> {
+    let (heard, lapsed) = hear_at(engine, from, &[], 7);
+    let heard = heard.ok()?;
+    let is_dropped = matches!(heard.as_slice(), [Output::Dropped(DropWhy::BadMessage)]);
+    Some(is_dropped && lapsed.ok()?.is_empty())
+}
+
 #[test]
 fn clocks_and_histories_of_an_engine(rt: HostRuntime) -> Result<(), Fail> {
     let limits = Limits {
@@ -26,18 +43,10 @@ fn clocks_and_histories_of_an_engine(rt: HostRuntime) -> Result<(), Fail> {
         idle_ms: 0,
     };
     let mut engine = Engine::new(rt.alloc(), limits);
-    assert_eq!(rt; clock_after(&mut engine, 5), Ok(5));
-    assert_eq!(rt; clock_after(&mut engine, 4), Ok(5));
-    assert_eq!(rt;
-        clock_after(&mut engine, u64::MAX),
-        Err(Fault::MomentTooLate)
-    );
+    let told = clocks(&mut engine);
+    assert_eq!(rt; told, [Ok(5), Ok(5), Err(Fault::MomentTooLate)]);
     let from = Address::new(&[0x01]).ok_or("one octet")?;
-    let (heard, lapsed) = hear_at(&mut engine, &from, &[], 7);
-    let heard = heard.ok().ok_or("no memory")?;
-    let lapsed = lapsed.ok().ok_or("not advanced")?;
-    assert!(rt; matches!(heard.as_slice(), [Output::Dropped(DropWhy::BadMessage)]));
-    assert!(rt; lapsed.is_empty());
+    assert_eq!(rt; hears_nothing(&mut engine, &from), Some(true));
     assert_eq!(rt; engine.now(), 7);
     Ok(())
 }
