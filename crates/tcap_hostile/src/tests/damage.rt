@@ -225,7 +225,7 @@ fn settings(alloc: Global, message: &[u8]) -> Option<u64> {
 fn damaged_messages(rt: HostRuntime) -> Result<(), Fail> {
     let alloc = rt.alloc();
     let mut total = 0u64;
-    for hex in VECTORS {
+    for hex in VECTORS.lines() {
         let message = hex::decode(alloc, hex)?;
         let front_count = fronts(alloc, message.as_slice()).ok_or(hex)?;
         let set_count = settings(alloc, message.as_slice()).ok_or(hex)?;

@@ -10,65 +10,76 @@ use refusing::Refusing;
 use std::alloc::Global;
 use std::test::Fail;
 
-/// How many growths these examples have, or the first that doesn't come out as it stands.
-fn told_growths<'e>(alloc: Global, examples: &[&'e str]) -> Result<u64, &'e str> {
-    let heap = Refusing::new(alloc);
-    let mut total = 0u64;
-    for example in examples {
-        let each = play(alloc, &heap, Refusal::FirstOfEachCall, example).ok_or(*example)?;
-        if each.text.as_str() != *example {
-            return Err(*example);
-        }
-        let count = growths(alloc, &heap, example).ok_or(*example)?;
-        total = total.saturating_add(count);
-    }
-    Ok(total)
+/// How many examples were played, and how many growths they have.
+#[derive(Clone, Copy, Debug, Default, PartialEq, Eq)]
+struct Total {
+    examples: u64,
+    growths: u64,
 }
 
-/// How many growths the runs of these examples have, or the first whose answers aren't those that stand.
-fn handed_growths<'e>(alloc: Global, examples: &[&'e str]) -> Result<u64, &'e str> {
-    let heap = Refusing::new(alloc);
-    let mut total = 0u64;
-    for example in examples {
-        let count = run_growths(alloc, &heap, example).ok_or(*example)?;
-        total = total.saturating_add(count);
+impl Total {
+    /// One example more, of so many growths.
+    fn add(&mut self, growths: u64) {
+        self.examples = self.examples.saturating_add(1);
+        self.growths = self.growths.saturating_add(growths);
     }
-    Ok(total)
+}
+
+/// The lines of an example, behind those that its title ends with.
+fn behind_title(part: &str) -> Option<&str> {
+    let (_, example) = part.split_once('\n')?;
+    Some(example)
+}
+
+/// Plays each of these examples, or tells the first that doesn't come out as it stands.
+fn add_told<'e>(alloc: Global, total: &mut Total, examples: &'e str) -> Result<(), &'e str> {
+    let heap = Refusing::new(alloc);
+    for example in examples.split('#').filter_map(behind_title) {
+        let played = play(alloc, &heap, Refusal::FirstOfEachCall, example).ok_or(example)?;
+        if played.text.as_str() != example {
+            return Err(example);
+        }
+        total.add(growths(alloc, &heap, example).ok_or(example)?);
+    }
+    Ok(())
+}
+
+/// Hands the events of each of these examples to `run`, or tells the first whose answers aren't those that stand.
+fn add_handed<'e>(alloc: Global, total: &mut Total, examples: &'e str) -> Result<(), &'e str> {
+    let heap = Refusing::new(alloc);
+    for example in examples.split('#').filter_map(behind_title) {
+        total.add(run_growths(alloc, &heap, example).ok_or(example)?);
+    }
+    Ok(())
 }
 
 #[test]
 fn examples_with_each_growth_refused(rt: HostRuntime) -> Result<(), Fail> {
-    let mut total = 0u64;
-    for examples in [
-        MESSAGES.as_slice(),
-        OUTCOMES.as_slice(),
-        REQUESTS.as_slice(),
-        IDLE.as_slice(),
-        ADDRESSES.as_slice(),
-        CALLS.as_slice(),
-        DIALOGUES.as_slice(),
-        INVOCATIONS.as_slice(),
-        FEEDS.as_slice(),
-        CODEC.as_slice(),
-    ] {
-        total = total.saturating_add(told_growths(rt.alloc(), examples)?);
-    }
-    assert!(rt; total > 600, "{total} growths");
+    let alloc = rt.alloc();
+    let mut total = Total::default();
+    add_told(alloc, &mut total, MESSAGES)?;
+    add_told(alloc, &mut total, OUTCOMES)?;
+    add_told(alloc, &mut total, REQUESTS)?;
+    add_told(alloc, &mut total, IDLE)?;
+    add_told(alloc, &mut total, ADDRESSES)?;
+    add_told(alloc, &mut total, CALLS)?;
+    add_told(alloc, &mut total, DIALOGUES)?;
+    add_told(alloc, &mut total, INVOCATIONS)?;
+    add_told(alloc, &mut total, FEEDS)?;
+    add_told(alloc, &mut total, CODEC)?;
+    assert!(rt; total.examples == 90 && total.growths > 1_100, "{total:?}");
     Ok(())
 }
 
 #[test]
 fn runs_with_each_growth_refused(rt: HostRuntime) -> Result<(), Fail> {
-    let mut total = 0u64;
-    for examples in [
-        MESSAGES.as_slice(),
-        OUTCOMES.as_slice(),
-        REQUESTS.as_slice(),
-        IDLE.as_slice(),
-        ADDRESSES.as_slice(),
-    ] {
-        total = total.saturating_add(handed_growths(rt.alloc(), examples)?);
-    }
-    assert!(rt; total > 400, "{total} growths");
+    let alloc = rt.alloc();
+    let mut total = Total::default();
+    add_handed(alloc, &mut total, MESSAGES)?;
+    add_handed(alloc, &mut total, OUTCOMES)?;
+    add_handed(alloc, &mut total, REQUESTS)?;
+    add_handed(alloc, &mut total, IDLE)?;
+    add_handed(alloc, &mut total, ADDRESSES)?;
+    assert!(rt; total.examples == 51 && total.growths > 900, "{total:?}");
     Ok(())
 }

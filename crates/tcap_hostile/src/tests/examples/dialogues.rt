@@ -1,9 +1,8 @@
 //! Examples of a dialogue and of its invocations.
 
 /// Of one dialogue.
-pub const DIALOGUES: [&str; 6] = [
-    // A fault ends a dialogue.
-    "\
+pub const DIALOGUES: &str = "\
+# A fault ends a dialogue.
 dialogue
 state
   Fresh peer false
@@ -17,9 +16,7 @@ fault 2
   pabort 1 cause 2
   ended 1 id 1 number 1
   over
-",
-    // Remote rejects.
-    "\
+# Remote rejects.
 dialogue
 state
   Fresh peer false
@@ -36,9 +33,7 @@ raw 65164804000000054904000000016c08a406020101810101
 raw 67324904000000016b2a2828060700118605010101a01d611b80020780a109060704000001000103a203020101a305a203020102
   pabort 1 nocommon
   over
-",
-    // A result that is rejected, and an End.
-    "\
+# A result that is rejected, and an End.
 dialogue
 state
   Fresh peer false
@@ -58,9 +53,7 @@ cancel 1 1
 raw 6406490400000001
   end 1 context - info -
   over
-",
-    // A lapse.
-    "\
+# A lapse.
 dialogue
 state
   Fresh peer false
@@ -85,9 +78,7 @@ next
 begin 1
   refused 3
 free 1000
-",
-    // A lapse, once, not before the deadline.
-    "\
+# A lapse, once, not before the deadline.
 dialogue
 state
   Fresh peer false
@@ -99,9 +90,7 @@ lapse 999
 lapse 1000
   (1000, 1, 1)
 lapse 1000
-",
-    // The first Continue alone moves the kept address.
-    "\
+# The first Continue alone moves the kept address.
 dialogue
 kept
   kept -
@@ -127,13 +116,11 @@ continue 1
 rawfrom 0d 6406490400000001
   end 1 context - info -
   over
-",
-];
+";
 
 /// Of the invocations of a dialogue.
-pub const INVOCATIONS: [&str; 7] = [
-    // Invocation list walked.
-    "\
+pub const INVOCATIONS: &str = "\
+# Invocation list walked.
 invocations
 add 1 1 1 1000
 add 1 2 1 5
@@ -147,9 +134,7 @@ add 2 2 1 5
 close
   2 2
 close
-",
-    // Class two and waiting.
-    "\
+# Class two and waiting.
 invocations
 add 1 1 2 10
 sent 5
@@ -171,9 +156,7 @@ open 2
 lapse 1007
 open 2
   open false used false
-",
-    // Lapses in order.
-    "\
+# Lapses in order.
 invocations
 add 5 3 1 20
 add 6 4 1 10
@@ -194,9 +177,7 @@ lapse 20
 next
   -
 free 20
-",
-    // Rejected and given up.
-    "\
+# Rejected and given up.
 invocations
 add 5 3 1 20
 add 6 4 1 10
@@ -210,9 +191,7 @@ giveup 6
   4
 freewait 7
   false
-",
-    // Three lapse, and one waits.
-    "\
+# Three lapse, and one waits.
 invocations
 add 0 1 1 10
 add 1 2 1 10
@@ -230,9 +209,7 @@ open 3
 add 99 200 1 10
 open 99
   open false used true
-",
-    // Three are closed with the dialogue, and one that waits is not told.
-    "\
+# Three are closed with the dialogue, and one that waits is not told.
 invocations
 add 0 1 1 10
 add 1 2 1 10
@@ -247,9 +224,7 @@ close
   3 2
 open 3
   open false used false
-",
-    // Where all wait, nothing is told of a lapse or of the end, and an Invoke is refused before memory.
-    "\
+# Where all wait, nothing is told of a lapse or of the end, and an Invoke is refused before memory.
 invocations
 add 0 1 1 10
 add 1 2 1 10
@@ -266,5 +241,4 @@ lapse 10
 close
 open 1
   open false used false
-",
-];
+";

@@ -1,9 +1,8 @@
 //! Examples of an engine with an idle limit.
 
 /// Which dialogues are over, when, and in what order.
-pub const IDLE: [&str; 7] = [
-    // Idle after the Begin.
-    "\
+pub const IDLE: &str = "\
+# Idle after the Begin.
 engine idle
 new
   new 1
@@ -17,9 +16,7 @@ advance 500
   ended 1 id 1 number 1
 raw 65134804000000054904000000016c05a203020101
   send 67094904000000054a0101
-",
-    // A lapse before the idle end.
-    "\
+# A lapse before the idle end.
 engine idle
 new
   new 1
@@ -33,9 +30,7 @@ advance 500
   lapsed 1 id 1 number 1
   pabort 1 idle
   ended 1 id 2 number 2
-",
-    // A Continue renews the limit.
-    "\
+# A Continue renews the limit.
 engine idle
 new
   new 1
@@ -50,9 +45,7 @@ advance 899
 advance 900
   pabort 1 idle
   ended 1 id 1 number 1
-",
-    // Two idle dialogues in order.
-    "\
+# Two idle dialogues in order.
 engine idle
 new
   new 1
@@ -66,9 +59,7 @@ begin 1
 advance 600
   pabort 2 idle
   pabort 1 idle
-",
-    // No idle limit before the confirmation, and one from it on.
-    "\
+# No idle limit before the confirmation, and one from it on.
 engine idle
 raw 62154804000000016c0da10b02010102010230030401aa
   begin 1 context - info -
@@ -79,9 +70,7 @@ continue 1
 advance 999
 advance 1000
   pabort 1 idle
-",
-    // An Invoke that is queued touches no dialogue, and ends with it.
-    "\
+# An Invoke that is queued touches no dialogue, and ends with it.
 engine idle
 new
   new 1
@@ -96,9 +85,7 @@ advance 500
   pabort 1 idle
   ended 1 id 1 number 1
   ended 1 id 2 number 2
-",
-    // A refused request and a dropped message touch no dialogue; a moment below the clock ends none.
-    "\
+# A refused request and a dropped message touch no dialogue; a moment below the clock ends none.
 engine idle
 new
   new 1
@@ -114,5 +101,4 @@ advance 500
   pabort 1 idle
 continue 1
   refused 2
-",
-];
+";

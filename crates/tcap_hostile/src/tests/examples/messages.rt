@@ -1,32 +1,25 @@
 //! Examples of an engine: what messages do.
 
 /// What messages do to an engine.
-pub const MESSAGES: [&str; 12] = [
-    // A Begin with AARQ.
-    "\
+pub const MESSAGES: &str = "\
+# A Begin with AARQ.
 engine
 raw 62354804000000016b1e281c060700118605010101a011600f80020780a1090607040000010001036c0da10b02010102010230030401aa
   begin 1 context 04000001000103 info -
   invoked 1 id 1 linked - op local 2 param 30030401aa
 continue 1
   send 65384804000000014904000000016b2a2828060700118605010101a01d611b80020780a109060704000001000103a203020100a305a103020100
-",
-    // Version refused.
-    "\
+# Version refused.
 engine
 raw 62264804000000016b1e281c060700118605010101a011600f80020700a109060704000001000103
   send 67324904000000016b2a2828060700118605010101a01d611b80020780a109060704000001000103a203020101a305a203020102
 new
   new 1
-",
-    // Continue to no dialogue.
-    "\
+# Continue to no dialogue.
 engine
 raw 650c4804000000094904000000ff
   send 67094904000000094a0101
-",
-    // Faulty messages answered.
-    "\
+# Faulty messages answered.
 engine
 raw 62154804000000016c
   send 67094904000000014a0102
@@ -38,23 +31,17 @@ raw -
   dropped badmessage
 raw 62024800
   dropped badmessage
-",
-    // Unidirectional both ways, received.
-    "\
+# Unidirectional both ways, received.
 engine
 raw 610a6c08a106020101020107
   uni context - info -
   invoked - id 1 linked - op local 7 param -
-",
-    // Unknown linked identifier.
-    "\
+# Unknown linked identifier.
 engine
 raw 62134804000000016c0ba109020101800105020102
   begin 1 context - info -
   localreject 1 id 1 invoke 5
-",
-    // A faulty Continue.
-    "\
+# A faulty Continue.
 engine
 new
   new 1
@@ -66,9 +53,7 @@ raw 650d4804000000054904000000016c
   send 67094904000000054a0102
   pabort 1 cause 2
   ended 1 id 1 number 1
-",
-    // A faulty End.
-    "\
+# A faulty End.
 engine
 new
   new 1
@@ -81,17 +66,13 @@ raw 64074904000000016c
   ended 1 id 1 number 1
 raw 64074904000000016c
   dropped badmessage
-",
-    // Dropped input.
-    "\
+# Dropped input.
 engine
 raw 61226b1e281c060700118605010101a011600f80020780a1090607040000010001036c00
   dropped baddialogue
 raw +65536
   dropped toolong
-",
-    // The peer stays.
-    "\
+# The peer stays.
 engine
 new
   new 1
@@ -107,18 +88,14 @@ raw 65134804000000064904000000016c05a203020101
   localreject 1 id 1 result 0
 continue 1
   send 65164804000000014904000000056c08a406020101820100
-",
-    // Thirty-two open elements, and one more.
-    "\
+# Thirty-two open elements, and one more.
 engine
 raw 62804804000000016c803080308030803080308030803080308030803080308030803080308030803080308030803080308030803080308030803080308030803080308030803080
   send 67094904000000014a0102
 raw 62804804000000016c80308030803080308030803080308030803080308030803080308030803080308030803080308030803080308030803080308030803080308030803080+64
   begin 1 context - info -
   localreject 1 id - general 0
-",
-    // Remote rejects.
-    "\
+# Remote rejects.
 engine
 new
   new 1
@@ -134,5 +111,4 @@ raw 65164804000000054904000000016c08a406020101810101
   rejected 1 id 1 number 1 invoke 1 by user
 raw 67324904000000016b2a2828060700118605010101a01d611b80020780a109060704000001000103a203020101a305a203020102
   pabort 1 nocommon
-",
-];
+";

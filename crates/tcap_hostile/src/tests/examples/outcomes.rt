@@ -1,9 +1,8 @@
 //! Examples of an engine: how invocations end.
 
 /// How the invocations of an engine end.
-pub const OUTCOMES: [&str; 14] = [
-    // Repeated AARE.
-    "\
+pub const OUTCOMES: &str = "\
+# Repeated AARE.
 engine
 new
   new 1
@@ -20,9 +19,7 @@ raw 653f4804000000054904000000016b2a2828060700118605010101a01d611b80020780a10906
   send 671a4904000000056b122810060700118605010101a0056403800101
   pabort 1 abnormal
   ended 1 id 2 number 2
-",
-    // Result in an End.
-    "\
+# Result in an End.
 engine
 new
   new 1
@@ -36,9 +33,7 @@ raw 640d4904000000016c05a203020101
 advance 2000
 raw 640d4904000000016c05a203020101
   dropped nodialogue
-",
-    // Lapse and late result.
-    "\
+# Lapse and late result.
 engine
 new
   new 1
@@ -55,9 +50,7 @@ raw 65134804000000054904000000016c05a203020101
 continue 1
   send 65164804000000014904000000056c08a406020101820100
 advance 5
-",
-    // Answers the class forbids.
-    "\
+# Answers the class forbids.
 engine
 new
   new 1
@@ -74,9 +67,7 @@ raw 65204804000000054904000000016c12a203020101a306020102020101a703020103
   rejected 1 id 1 number 1 result 1 by local
   rejected 1 id 2 number 2 error 1 by local
   rejected 1 id 3 number 3 result 1 by local
-",
-    // Identifier held after a result.
-    "\
+# Identifier held after a result.
 engine
 new
   new 1
@@ -98,9 +89,7 @@ continue 1
 raw 65134804000000054904000000016c05a203020101
   continue 1 context - info -
   last 1 id 1 number 2 op - param -
-",
-    // Identifier freed by a reject.
-    "\
+# Identifier freed by a reject.
 engine
 new
   new 1
@@ -115,9 +104,7 @@ reject 1 1 result 2
   done
 invoke 1 1 1 10 10000
   number 2
-",
-    // Faulty second component.
-    "\
+# Faulty second component.
 engine
 new
   new 1
@@ -133,9 +120,7 @@ raw 65254804000000054904000000016c17a203020180a503020107a20302017fa30602017f0201
   localreject 1 id 7 general 0
 continue 1
   send 65164804000000014904000000056c08a406020107800100
-",
-    // Ways an invocation closes, a cause.
-    "\
+# Ways an invocation closes, a cause.
 engine
 new
   new 1
@@ -146,9 +131,7 @@ begin 1
 raw 67094904000000014a0104
   pabort 1 cause 4
   ended 1 id 1 number 1
-",
-    // Ways an invocation closes, an Abort.
-    "\
+# Ways an invocation closes, an Abort.
 engine
 new
   new 1
@@ -159,9 +142,7 @@ begin 1
 raw 6706490400000001
   uabort 1 -
   ended 1 id 1 number 1
-",
-    // Ways an invocation closes, an error.
-    "\
+# Ways an invocation closes, an error.
 engine
 new
   new 1
@@ -172,9 +153,7 @@ begin 1
 raw 64104904000000016c08a30602010102010d
   end 1 context - info -
   error 1 id 1 number 1 code local 13 param -
-",
-    // Ways an invocation closes, a prearranged end.
-    "\
+# Ways an invocation closes, a prearranged end.
 engine
 new
   new 1
@@ -184,9 +163,7 @@ begin 1
   send 62104804000000016c08a10602010102010a
 prearranged 1
   ended 1 id 1 number 1
-",
-    // Ways an invocation closes, an abort here.
-    "\
+# Ways an invocation closes, an abort here.
 engine
 new
   new 1
@@ -196,9 +173,7 @@ begin 1
   send 62104804000000016c08a10602010102010a
 abort 1 user
   ended 1 id 1 number 1
-",
-    // Ways an invocation closes, given up.
-    "\
+# Ways an invocation closes, given up.
 engine
 new
   new 1
@@ -208,9 +183,7 @@ begin 1
   send 62104804000000016c08a10602010102010a
 cancel 1 1
   givenup 1
-",
-    // No timer outlives its dialogue.
-    "\
+# No timer outlives its dialogue.
 engine
 new
   new 1
@@ -229,5 +202,4 @@ begin 2
 advance 1000
 advance 5000
   lapsed 2 id 1 number 2
-",
-];
+";

@@ -1,9 +1,8 @@
 //! Examples of an engine: what is asked of it.
 
 /// What is asked of an engine.
-pub const REQUESTS: [&str; 6] = [
-    // Limits and refusals, on one dialogue.
-    "\
+pub const REQUESTS: &str = "\
+# Limits and refusals, on one dialogue.
 engine
 new
   new 1
@@ -33,9 +32,7 @@ invoke 1 1 1 10 1000
   number 1
 uni 1
   refused 13
-",
-    // Unidirectional both ways, sent.
-    "\
+# Unidirectional both ways, sent.
 engine
 new
   new 1
@@ -44,9 +41,7 @@ invoke 1 1 4 7 1000
 uni 1
   send 610a6c08a106020101020107
   ended 1 id 1 number 1
-",
-    // Answers sent, in a Continue.
-    "\
+# Answers sent, in a Continue.
 engine
 raw 62154804000000016c0da10b02010102010230030401aa
   begin 1 context - info -
@@ -57,9 +52,7 @@ error 1 1 13
   done
 continue 1
   send 651b4804000000014904000000016c0da703020101a30602010102010d
-",
-    // Answers sent, in an End.
-    "\
+# Answers sent, in an End.
 engine
 raw 62154804000000016c0da10b02010102010230030401aa
   begin 1 context - info -
@@ -68,31 +61,25 @@ last 1 1
   done
 end 1
   send 640d4904000000016c05a203020101
-",
-    // Dialogue refused and aborted, not supported.
-    "\
+# Dialogue refused and aborted, not supported.
 engine
 raw 62354804000000016b1e281c060700118605010101a011600f80020780a1090607040000010001036c0da10b02010102010230030401aa
   begin 1 context 04000001000103 info -
   invoked 1 id 1 linked - op local 2 param 30030401aa
 abort 1 unsupported
   send 67324904000000016b2a2828060700118605010101a01d611b80020780a109060704000001000103a203020101a305a103020102
-",
-    // Dialogue refused and aborted, by the user.
-    "\
+# Dialogue refused and aborted, by the user.
 engine
 raw 62354804000000016b1e281c060700118605010101a011600f80020780a1090607040000010001036c0da10b02010102010230030401aa
   begin 1 context 04000001000103 info -
   invoked 1 id 1 linked - op local 2 param 30030401aa
 abort 1 user
   send 671a4904000000016b122810060700118605010101a0056403800100
-",
-];
+";
 
 /// What is asked of an engine of other limits or counters, or by its getters; no events for `run`.
-pub const CALLS: [&str; 9] = [
-    // Lapse and late result, with the next timer, the clock and the state.
-    "\
+pub const CALLS: &str = "\
+# Lapse and late result, with the next timer, the clock and the state.
 engine
 new
   new 1
@@ -121,9 +108,7 @@ state 1
   state Some(Active)
 state 2
   state None
-",
-    // Idle after the Begin, with the next timer and the state.
-    "\
+# Idle after the Begin, with the next timer and the state.
 engine idle
 new
   new 1
@@ -145,9 +130,7 @@ next
   None
 raw 65134804000000054904000000016c05a203020101
   send 67094904000000054a0101
-",
-    // A Continue renews the limit, with the next timer.
-    "\
+# A Continue renews the limit, with the next timer.
 engine idle
 new
   new 1
@@ -164,9 +147,7 @@ advance 899
 advance 900
   pabort 1 idle
   ended 1 id 1 number 1
-",
-    // No idle limit in Received, with the next timer and the state.
-    "\
+# No idle limit in Received, with the next timer and the state.
 engine idle
 raw 62154804000000016c0da10b02010102010230030401aa
   begin 1 context - info -
@@ -176,9 +157,7 @@ next
 advance 500
 state 1
   state Some(Received)
-",
-    // A dialogue that is Fresh stands however long, and an Invoke touches none.
-    "\
+# A dialogue that is Fresh stands however long, and an Invoke touches none.
 engine idle
 new
   new 1
@@ -188,9 +167,7 @@ invoke 1 1 1 10 1000
 advance 1000
 state 1
   state Some(Fresh)
-",
-    // Limits and refusals, of dialogues.
-    "\
+# Limits and refusals, of dialogues.
 engine 1
 new
   new 1
@@ -198,25 +175,19 @@ new
   refused 8
 raw 62154804000000016c0da10b02010102010230030401aa
   send 67094904000000014a0104
-",
-    // Limits and refusals, of identifiers.
-    "\
+# Limits and refusals, of identifiers.
 engine from 4294967294 1
 new
   new 4294967294
 new
   refused 9
-",
-    // Limits and refusals, of numbers.
-    "\
+# Limits and refusals, of numbers.
 engine from 1 18446744073709551615
 new
   new 1
 invoke 1 1 1 10 1000
   refused 10
-",
-    // Limits and refusals, of moments.
-    "\
+# Limits and refusals, of moments.
 engine
 advance 4611686018427387905
   refused 14
@@ -225,5 +196,4 @@ now
 advance 4611686018427387904
 now
   now 4611686018427387904
-",
-];
+";
