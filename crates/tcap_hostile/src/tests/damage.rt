@@ -12,16 +12,17 @@ use tcap_invocation::Class;
 use tcap_pdu::{read_dialogue, read_frame};
 use tcap_text::{canon_text, check_text, show_text};
 
+/// The verdicts on a message, but for that on a component, behind which its number stands.
+const VERDICTS: &str =
+    "good\nfault unknown type\nfault badly formatted\nfault incorrect\nfault dialogue\n";
+
 /// Whether this is one of the lines that a verdict has.
 fn is_verdict(text: &[u8]) -> bool {
-    match text {
-        b"good\n"
-        | b"fault unknown type\n"
-        | b"fault badly formatted\n"
-        | b"fault incorrect\n"
-        | b"fault dialogue\n" => true,
-        _ => text.starts_with(b"fault component ") && text.ends_with(b"\n"),
-    }
+    let Some((b'\n', line)) = text.split_last() else {
+        return false;
+    };
+    line.starts_with(b"fault component ")
+        || VERDICTS.lines().any(|verdict| verdict.as_bytes() == line)
 }
 
 /// Whether the canonical form of these octets, in hexadecimal, is its own.
