@@ -1,14 +1,6 @@
 """What a writer of scripts knows of its play, and the words that it draws."""
 
-from handmade import (
-    BAD_CONTEXTS,
-    BAD_INFORMATION,
-    BAD_PARAMETERS,
-    CONTEXTS,
-    INFORMATION,
-    PARAMETERS,
-    Maker,
-)
+from handmade import BAD, GOOD, Maker
 from play import ADDRESSES, KINDS, OTHER, Player
 
 
@@ -53,20 +45,20 @@ class Drawing:
 
     # ---- words
 
-    def drawn(self, good, bad, none=60):
-        """One of the good, rarely one of the bad, or `-`."""
+    def drawn(self, name, none):
+        """One of the good of this name, rarely one of the bad, or `-`."""
         if self.odds(none):
             return "-"
-        return self.rng.choice(bad if self.odds(6) else good).hex()
+        return self.rng.choice((BAD if self.odds(6) else GOOD)[name]).hex()
 
     def context(self, none=50):
-        return self.drawn(CONTEXTS, BAD_CONTEXTS, none)
+        return self.drawn("contexts", none)
 
     def information(self, none=70):
-        return self.drawn(INFORMATION, BAD_INFORMATION, none)
+        return self.drawn("information", none)
 
     def parameter(self):
-        return self.drawn(PARAMETERS, BAD_PARAMETERS)
+        return self.maker.parameter().hex() if self.odds(10) else self.drawn("parameters", 60)
 
     def code(self):
         return self.rng.choice([2, 7, 44, 127, 128, -1, -129, 2**31 - 1, -(2**31)])
@@ -88,14 +80,16 @@ class Drawing:
         return self.invoke_id() if self.odds(12) else "-"
 
     def invoke(self, side, identifier, operation_class=None):
-        words = [side, "invoke", identifier, self.invoke_id(), operation_class or self.operation_class(), self.code()]
-        return " ".join(map(str, words + [self.timeout(), self.linked(side, identifier), self.parameter()]))
+        words = [side, "invoke", identifier, self.invoke_id(), operation_class or self.operation_class()]
+        words += [self.code(), self.timeout(), self.linked(side, identifier), self.parameter()]
+        return " ".join(map(str, words))
 
     def answer(self, side, identifier, invoke_id):
         chosen = self.rng.randrange(20)
         if chosen < 3:
             problem = self.rng.choice([0, 1, 2, 3, 4, 5, 7, 9])
-            return f"{side} reject {identifier} {invoke_id if self.odds(90) else '-'} {self.rng.choice(KINDS)} {problem}"
+            rejected = invoke_id if self.odds(90) else "-"
+            return f"{side} reject {identifier} {rejected} {self.rng.choice(KINDS)} {problem}"
         if chosen < 7:
             return f"{side} error {identifier} {invoke_id} {self.code()} {self.parameter()}"
         body = "- -" if self.odds(30) else f"{self.code()} {self.parameter()}"

@@ -5,12 +5,14 @@ import re
 TYPES = {"61": "unidirectional", "62": "begin", "64": "end", "65": "continue", "67": "abort"}
 # OutOfMemory, DialogueIdsSpent and NumbersSpent can't come in a script.
 REFUSALS = [2, 3, 4, 5, 6, 7, 8, 11, 12, 13, 14, 15]
-PLAIN_WORDS = ("new", "number", "done", "givenup", "uni", "begin", "continue", "end", "more", "last", "error", "lapsed", "ended")
+REQUESTED = ("new", "number", "done", "givenup")
+TOLD = ("uni", "begin", "continue", "end", "more", "last", "error", "lapsed", "ended")
 # `uni` goes to the other side's address always.
 SENDS = ["send unidirectional"] + [f"send {kind}{to}" for kind in list(TYPES.values())[1:] for to in ("", " to")]
 LOCAL_REJECTS = ["general 0", "general 1", "general 2", "invoke 5", "result 0", "error 0"]
 WANTED = [
-    *PLAIN_WORDS,
+    *REQUESTED,
+    *TOLD,
     *(f"refused {fault}" for fault in REFUSALS),
     *SENDS,
     *(f"uabort {pdu}" for pdu in ("abrt", "aare", "foreign", "-")),

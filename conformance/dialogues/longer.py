@@ -2,11 +2,13 @@
 
 from codec import LONGEST, write_element, write_message
 from handling import QUEUE_LIMIT
-from handmade import CONTEXTS
-from portions import write_request, write_response
+from handmade import GOOD
+from portions import write_abort, write_request, write_response
 
 INVOKE_HEAD, RESULT_HEAD = 14, 18
 SHORTEST_LONG = 300
+# A result of no invocation, whose Reject is one octet longer than that of what can't be read behind it.
+REJECTED = bytes.fromhex("A203020163A1FF")
 
 
 class LongLines:
@@ -25,13 +27,14 @@ class LongLines:
             return
         side, dialogue = found
         yield from self.fill_queue(side, dialogue)
-        yield self.received(side, self.maker.message("continue", dialogue), found)
+        yield self.received(side, self.maker.message("continue", dialogue, REJECTED), found)
         yield from self.send_on(side, dialogue["id"])
 
     def fill_queue(self, side, dialogue):
         room = QUEUE_LIMIT - sum(len(queued["octets"]) for queued in dialogue["queue"])
-        left = self.rng.choice([0, 0, 7, 7, 8, 9, 15, -1, room // 2])
-        size = room - left
+        size = room - self.rng.choice([0, 0, 7, 7, 8, 9, 15, -1, room // 2])
+        if self.odds(10):
+            size = LONGEST + INVOKE_HEAD
         if size < SHORTEST_LONG:
             return
         if dialogue["state"] in ("received", "active") and self.odds(50):
@@ -47,24 +50,32 @@ class LongLines:
         if found is None or (found[1]["state"] == "received" and found[1]["context"] is None):
             return
         side, dialogue = found
-        context = self.rng.choice(CONTEXTS)
+        if dialogue["state"] == "fresh":
+            word = "begin"
+        else:
+            word = self.rng.choice(["continue", "end", "abort"])
+        context = self.rng.choice(GOOD["contexts"])
         wanted = LONGEST + self.rng.choice([0, 0, 1, -1, 100, -5000])
         information = b"\x28\x00"
         for _ in range(3):
             # A longer information has longer lengths around it too.
-            missing = wanted - self.message_size(dialogue, context, information)
+            missing = wanted - self.message_size(dialogue, word, context, information)
             information = write_element(0x28, bytes(max(0, min(LONGEST, len(information) + missing - 4))))
-        word = "begin" if dialogue["state"] == "fresh" else self.rng.choice(["continue", "end"])
-        yield f"{side} {word} {dialogue['id']} {context.hex()} {information.hex()}"
+        between = "user" if word == "abort" else context.hex()
+        yield f"{side} {word} {dialogue['id']} {between} {information.hex()}"
         yield from self.latest(side)
 
     @staticmethod
-    def message_size(dialogue, context, information):
+    def message_size(dialogue, word, context, information):
         queue = b"".join(queued["octets"] for queued in dialogue["queue"])
-        if dialogue["state"] == "fresh":
-            return len(write_message("begin", bytes(4), portion=write_request(context, information), components=queue))
+        peer = dialogue["peer"]
+        if word == "begin":
+            return len(write_message(word, bytes(4), portion=write_request(context, information), components=queue))
+        if word == "abort":
+            return len(write_message(word, destination=peer, portion=write_abort("user", information)))
         portion = write_response(context, 0, ("user", 0), information)
-        return len(write_message("continue", bytes(4), dialogue["peer"], portion=portion, components=queue))
+        origin = bytes(4) if word == "continue" else None
+        return len(write_message(word, origin, peer, portion=portion, components=queue))
 
     def long_message(self):
         """A Begin of the greatest length, or of one more."""

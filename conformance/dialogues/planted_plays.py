@@ -49,7 +49,8 @@ def main(program, seed):
             print(f"{name}: not found in {MOST} scripts")
             continue
         number, (place, wrong, right) = found
-        print(f"{name}: script {number}, line {place}\n  wrong:   {shown(wrong)}\n  program: {shown(right)}", flush=True)
+        print(f"{name}: script {number}, line {place}")
+        print(f"  wrong:   {shown(wrong)}\n  program: {shown(right)}", flush=True)
     print(f"{len(wrong_engines.WRONG) - missed} of {len(wrong_engines.WRONG)} wrong engines found")
     return 1 if missed else 0
 

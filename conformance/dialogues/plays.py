@@ -5,6 +5,7 @@ import collections
 import subprocess
 import sys
 
+from engine import Engine
 from kinds import WANTED, kind_of
 from play import Player
 from scripts import script
@@ -16,9 +17,9 @@ def play_by_program(program, text):
     return run.stdout.decode().split("\n")[:-1], run.returncode
 
 
-def play_plainly(text, make_engine=None):
+def play_plainly(text, make_engine=Engine):
     """The lines that plain engines print, and the status by docs/FORMATS.md."""
-    printed, is_good = (Player(make_engine) if make_engine else Player()).play(text)
+    printed, is_good = Player(make_engine).play(text)
     return printed, 0 if is_good else 1
 
 

@@ -12,13 +12,16 @@ from longer import LongLines
 from play import KINDS, OTHER
 from primitives import LATEST
 
+# How often each action is taken; a mood has others besides, or more of some.
+ACTIONS = {"open": 8, "reply": 12, "carry": 7, "finish": 4, "deliver": 9, "again": 2, "lose": 1, "wait": 4,
+           "made": 4, "damage": 2, "odd": 2, "answer_again": 2, "cancel": 1, "forget": 1}
 MOODS = {
     "talk": {},
     "handmade": {"made": 12, "damage": 5, "open": 6},
     "time": {"wait": 10, "open": 6},
     "crowd": {"crowd": 8, "open": 6, "again": 6, "made": 8},
     "strays": {"odd": 8, "damage": 4},
-    "long": {"fill": 4, "brim": 4, "overflow": 4, "long_message": 2},
+    "long": {"fill": 10, "brim": 8, "overflow": 10, "long_message": 4},
 }
 
 
@@ -26,11 +29,10 @@ class Writer(Drawing, LongLines):
     """Draws the lines of one script, and plays them to know which messages and dialogues there are."""
 
     def script(self):
-        mood = self.rng.choices(list(MOODS), [30, 20, 20, 8, 20, 2])[0]
+        mood = self.rng.choices(list(MOODS), [40, 30, 30, 12, 36, 2])[0]
         if mood == "time" or self.odds(20):
             self.write(f"idle {self.rng.choice([0, 1, 500, 1000, 1000, 2000, 2000, 5000, 2**62])}")
-        weights = {"open": 8, "reply": 12, "carry": 7, "finish": 4, "deliver": 9, "again": 2, "lose": 1, "wait": 4,
-                   "made": 4, "damage": 2, "odd": 2, "answer_again": 2, "cancel": 1, "forget": 1} | MOODS[mood]  # fmt: skip
+        weights = ACTIONS | MOODS[mood]
         length = self.rng.randrange(20, 90)
         while len(self.lines) < length and sum(map(len, self.lines)) < 300_000:
             action = self.rng.choices(list(weights), list(weights.values()))[0]
@@ -60,7 +62,7 @@ class Writer(Drawing, LongLines):
         del words[self.rng.randrange(len(words))]
         return " ".join(words)
 
-    # ---- actions, each with its lines
+    # ---- actions, each with its lines; one that has no place in the play has none
 
     def open(self):
         """A new dialogue with Invokes and what begins it."""
@@ -135,7 +137,7 @@ class Writer(Drawing, LongLines):
             f"{side} prearranged {identifier}",
             f"{side} abort {identifier} user {information}",
             f"{side} abort {identifier} unsupported {information}",
-        ])  # fmt: skip
+        ])
         yield from self.latest(side)
 
     def deliver(self):
@@ -162,24 +164,29 @@ class Writer(Drawing, LongLines):
     def wait(self):
         """A moment: just at, before or past one at which something is due, or any other."""
         clock = self.player.engines["A"].clock
-        due = [moment for engine in self.player.engines.values() for moment in self.moments(engine)]
+        due = list(self.due())
         if due and self.odds(60):
-            moment = max(0, self.rng.choice(due) + self.rng.choice([-1, 0, 0, 0, 1, 400]))
+            moment, then = self.rng.choice(due)
+            moment = max(0, moment + self.rng.choice([-1, 0, 0, 0, 1, 400]))
         else:
-            moment = max(0, clock + self.rng.choice([-500, -1, 0, 1, 10, 300, 700, 1000, 2000]))
-        if self.odds(3):
+            moment, then = max(0, clock + self.rng.choice([-500, -1, 0, 1, 10, 300, 700, 1000, 2000])), []
+        if self.odds(2):
             moment = self.rng.choice([0, 2**62, 2**62 + 1, 2**64 - 1])
-        elif moment > LATEST // 2 and self.odds(90):
+        elif moment > LATEST // 2 and self.odds(95):
             # Few plays go on at so late a clock.
             moment = clock + 900
         yield f"advance {moment}"
+        yield from then
 
-    @staticmethod
-    def moments(engine):
-        for dialogue in engine.dialogues:
-            yield dialogue.get("touched", engine.clock) + engine.idle_limit
-            for invocation in dialogue["invocations"]:
-                yield invocation.get("until") or invocation.get("deadline") or engine.clock
+    def due(self):
+        """The moments at which something is due, some with a line that tells whether an identifier is free."""
+        for side, engine in self.player.engines.items():
+            for dialogue in engine.dialogues:
+                yield dialogue.get("touched", engine.clock) + engine.idle_limit, []
+                for known in dialogue["invocations"]:
+                    again = f"{side} invoke {dialogue['id']} {known['id']} 1 2 1000 - -"
+                    moment = known.get("until") or known.get("deadline") or engine.clock
+                    yield moment, [again] if self.odds(70) else []
 
     def received(self, side, octets, found=None):
         """Octets that a side receives, mostly from the other side's address."""
@@ -196,8 +203,10 @@ class Writer(Drawing, LongLines):
         if self.odds(8):
             found = self.dialogue("fresh", "received")
         side = found[0] if found else self.side()
-        kinds = ["continue"] * 10 + ["end", "abort"] if found else ["begin"] * 5 + ["unidirectional"] * 3 + ["continue"]
-        kind = self.rng.choice(kinds + ["end", "abort"])
+        kinds = ["begin"] * 5 + ["unidirectional"] * 3 + ["continue", "end", "abort"]
+        if found:
+            kinds = ["continue"] * 10 + ["end", "abort"] * 2
+        kind = self.rng.choice(kinds)
         yield self.received(side, self.maker.message(kind, found and found[1]), found)
 
     def damage(self):
@@ -233,7 +242,9 @@ class Writer(Drawing, LongLines):
     def odd(self):
         """A request on any dialogue, whatever its state is."""
         found = self.dialogue("fresh", "sent", "received", "active")
-        side, identifier = (found[0], found[1]["id"]) if found and self.odds(85) else (self.side(), self.rng.randrange(9))
+        side, identifier = self.side(), self.rng.randrange(9)
+        if found and self.odds(85):
+            side, identifier = found[0], found[1]["id"]
         portion = f"{self.context(60)} {self.information(60)}"
         yield self.rng.choice([
             f"{side} {self.rng.choice(['uni', 'begin', 'continue', 'end'])} {identifier} {portion}",
@@ -241,7 +252,7 @@ class Writer(Drawing, LongLines):
             self.answer(side, identifier, self.invoke_id()),
             self.invoke(side, identifier),
             f"{side} cancel {identifier} {self.invoke_id()}",
-        ])  # fmt: skip
+        ])
 
 
 def script(seed, place):

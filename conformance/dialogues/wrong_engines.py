@@ -131,7 +131,8 @@ class RecognisedBegin(Engine):
 
     def receive_begin(self, message, sender):
         for dialogue in self.dialogues:
-            if dialogue["state"] == "received" and (dialogue["peer"], dialogue["address"]) == (message["origin"], sender):
+            is_repeated = (dialogue["peer"], dialogue["address"]) == (message["origin"], sender)
+            if is_repeated and dialogue["state"] == "received":
                 return []
         return super().receive_begin(message, sender)
 
