@@ -116,7 +116,7 @@ class Engine(Primitives):
             return self.receive_begin(message, sender)
         dialogue = self.live_dialogue(message["destination"])
         if dialogue is None:
-            return self.receive_stray(message, sender)
+            return self.receive_without_dialogue(message, sender)
         if message["kind"] == "abort":
             return self.receive_abort(dialogue, message)
         return self.receive_in_dialogue(dialogue, message, sender)
@@ -153,7 +153,7 @@ class Engine(Primitives):
         dialogue = self.add_dialogue("received", origin, sender, context)
         return [("begin", dialogue["id"], portion), *self.handle(dialogue, message["components"])]
 
-    def receive_stray(self, message, sender):
+    def receive_without_dialogue(self, message, sender):
         """A message to no live dialogue."""
         if message["kind"] == "continue":
             return self.provider_abort(message["origin"], sender, cause=UNRECOGNIZED_TRANSACTION)

@@ -14,13 +14,13 @@ REJECTED = bytes.fromhex("A203020163A1FF")
 class LongLines:
     """The actions of a writer of scripts that reach the limits of lengths."""
 
-    def fill(self):
+    def long_parameter(self):
         """An Invoke or a result that leaves little room in a queue, or none."""
         found = self.dialogue("fresh", "received", "active", "sent")
         if found:
             yield from self.fill_queue(*found)
 
-    def brim(self):
+    def full_queue(self):
         """A queue filled, and a message whose components give Rejects for which it has room or not."""
         found = self.dialogue("active", "sent")
         if found is None:
@@ -44,7 +44,7 @@ class LongLines:
             parameter = write_element(0x04, bytes(size - INVOKE_HEAD)).hex()
             yield f"{side} invoke {dialogue['id']} {self.rng.randrange(-128, 128)} 1 2 1000 - {parameter}"
 
-    def overflow(self):
+    def long_information(self):
         """A request with information by which the message reaches the limit, passes it, or stays below."""
         found = self.dialogue("fresh", "received", "received")
         if found is None or (found[1]["state"] == "received" and found[1]["context"] is None):

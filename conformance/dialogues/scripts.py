@@ -12,16 +12,16 @@ from longer import LongLines
 from play import KINDS, OTHER
 from primitives import LATEST
 
-# How often each action is taken; a mood has others besides, or more of some.
-ACTIONS = {"open": 8, "reply": 12, "carry": 7, "finish": 4, "deliver": 9, "again": 2, "lose": 1, "wait": 4,
-           "made": 4, "damage": 2, "odd": 2, "answer_again": 2, "cancel": 1, "forget": 1}
-MOODS = {
-    "talk": {},
-    "handmade": {"made": 12, "damage": 5, "open": 6},
-    "time": {"wait": 10, "open": 6},
-    "crowd": {"crowd": 8, "open": 6, "again": 6, "made": 8},
-    "strays": {"odd": 8, "damage": 4},
-    "long": {"fill": 10, "brim": 8, "overflow": 10, "long_message": 4},
+# How often each action is taken; a kind of script has others besides, or more of some.
+ACTIONS = {"open": 8, "reply": 12, "carry": 7, "finish": 4, "deliver": 9, "again": 2, "lose": 1, "advance": 4,
+           "made_message": 4, "damaged_message": 2, "any_request": 2, "reject_answer": 2, "cancel": 1, "comment": 1}
+SCRIPT_KINDS = {
+    "requests": {},
+    "handmade": {"made_message": 12, "damaged_message": 5, "open": 6},
+    "time": {"advance": 10, "open": 6},
+    "full engines": {"many_dialogues": 8, "open": 6, "again": 6, "made_message": 8},
+    "any requests": {"any_request": 8, "damaged_message": 4},
+    "long": {"long_parameter": 10, "full_queue": 8, "long_information": 10, "long_message": 4},
 }
 
 
@@ -29,10 +29,10 @@ class Writer(Drawing, LongLines):
     """Draws the lines of one script, and plays them to know which messages and dialogues there are."""
 
     def script(self):
-        mood = self.rng.choices(list(MOODS), [40, 30, 30, 12, 36, 2])[0]
-        if mood == "time" or self.odds(20):
+        kind = self.rng.choices(list(SCRIPT_KINDS), [40, 30, 30, 12, 36, 2])[0]
+        if kind == "time" or self.odds(20):
             self.write(f"idle {self.rng.choice([0, 1, 500, 1000, 1000, 2000, 2000, 5000, 2**62])}")
-        weights = ACTIONS | MOODS[mood]
+        weights = ACTIONS | SCRIPT_KINDS[kind]
         length = self.rng.randrange(20, 90)
         while len(self.lines) < length and sum(map(len, self.lines)) < 300_000:
             action = self.rng.choices(list(weights), list(weights.values()))[0]
@@ -82,7 +82,7 @@ class Writer(Drawing, LongLines):
             yield f"{side} beginto {identifier} {to} {portion}" if is_to else f"{side} {word} {identifier} {portion}"
             yield from self.latest(side)
 
-    def crowd(self):
+    def many_dialogues(self):
         """Many new dialogues of one side."""
         side = self.side()
         for _ in range(self.rng.randrange(3, 17)):
@@ -157,11 +157,11 @@ class Writer(Drawing, LongLines):
         if names:
             yield f"lose {self.rng.choice(names)}"
 
-    def forget(self):
+    def comment(self):
         """A comment or an empty line."""
         yield self.rng.choice(["", "# a comment", "#"])
 
-    def wait(self):
+    def advance(self):
         """A moment: just at, before or past one at which something is due, or any other."""
         clock = self.player.engines["A"].clock
         due = list(self.due())
@@ -197,7 +197,7 @@ class Writer(Drawing, LongLines):
             sender = found[1]["address"]
         return f"{side} rawfrom {sender.hex() or '-'} {octets.hex() or '-'}"
 
-    def made(self):
+    def made_message(self):
         """A message made by hand, mostly to a live dialogue."""
         found = self.dialogue("sent", "active") if self.odds(75) else None
         if self.odds(8):
@@ -209,7 +209,7 @@ class Writer(Drawing, LongLines):
         kind = self.rng.choice(kinds)
         yield self.received(side, self.maker.message(kind, found and found[1]), found)
 
-    def damage(self):
+    def damaged_message(self):
         """A damaged message, of those that were sent or one made by hand."""
         found = self.dialogue("sent", "active")
         sent = [(OTHER[side], message["octets"]) for side in "AB" for message in self.player.messages[side]]
@@ -221,7 +221,7 @@ class Writer(Drawing, LongLines):
             octets = self.maker.message(kind, found and found[1])
         yield self.received(side, self.maker.damaged(octets))
 
-    def answer_again(self):
+    def reject_answer(self):
         """A Reject of an answer for which its identifier waits, and the identifier in use again."""
         found = self.dialogue("received", "active")
         if found is None:
@@ -239,7 +239,7 @@ class Writer(Drawing, LongLines):
             known = [invocation["id"] for invocation in found[1]["invocations"]]
             yield f"{found[0]} cancel {found[1]['id']} {self.rng.choice(known or [1])}"
 
-    def odd(self):
+    def any_request(self):
         """A request on any dialogue, whatever its state is."""
         found = self.dialogue("fresh", "sent", "received", "active")
         side, identifier = self.side(), self.rng.randrange(9)

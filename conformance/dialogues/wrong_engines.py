@@ -168,9 +168,9 @@ class MovingAddress(Engine):
 class AbortToKeptAddress(Engine):
     """Sends the Abort with cause 1 to the address that some dialogue keeps."""
 
-    def receive_stray(self, message, sender):
+    def receive_without_dialogue(self, message, sender):
         kept = [dialogue["address"] for dialogue in self.dialogues if dialogue["address"] is not None]
-        return super().receive_stray(message, kept[0] if kept else sender)
+        return super().receive_without_dialogue(message, kept[0] if kept else sender)
 
 
 WRONG = {
