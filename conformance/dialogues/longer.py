@@ -5,7 +5,8 @@ from handling import QUEUE_LIMIT
 from handmade import GOOD
 from portions import write_abort, write_request, write_response
 
-INVOKE_HEAD, RESULT_HEAD = 14, 18
+# The octets before the contents of a long parameter, in an Invoke, in a result and in a Begin with an Invoke.
+INVOKE_HEAD, RESULT_HEAD, BEGIN_HEAD = 14, 18, 28
 SHORTEST_LONG = 300
 # A result of no invocation, whose Reject is one octet longer than that of what can't be read behind it.
 REJECTED = bytes.fromhex("A203020163A1FF")
@@ -19,6 +20,8 @@ class LongLines:
         found = self.dialogue("fresh", "received", "active", "sent")
         if found:
             yield from self.fill_queue(*found)
+            for _ in range(self.rng.randrange(3)):
+                yield self.invoke(found[0], found[1]["id"])
 
     def full_queue(self):
         """A queue filled, and a message whose components give Rejects for which it has room or not."""
@@ -32,7 +35,7 @@ class LongLines:
 
     def fill_queue(self, side, dialogue):
         room = QUEUE_LIMIT - sum(len(queued["octets"]) for queued in dialogue["queue"])
-        size = room - self.rng.choice([0, 0, 7, 7, 8, 9, 15, -1, room // 2])
+        size = room - self.rng.choice([0, 0, 7, 7, 8, 9, 15, -1, -1, room // 2])
         if self.odds(10):
             size = LONGEST + INVOKE_HEAD
         if size < SHORTEST_LONG:
@@ -55,7 +58,7 @@ class LongLines:
         else:
             word = self.rng.choice(["continue", "end", "abort"])
         context = self.rng.choice(GOOD["contexts"])
-        wanted = LONGEST + self.rng.choice([0, 0, 1, -1, 100, -5000])
+        wanted = LONGEST + self.rng.choice([0, 0, 1, 1, -1, 100, -5000])
         information = b"\x28\x00"
         for _ in range(3):
             # A longer information has longer lengths around it too.
@@ -78,8 +81,8 @@ class LongLines:
         return len(write_message(word, origin, peer, portion=portion, components=queue))
 
     def long_message(self):
-        """A Begin of the greatest length, or of one more."""
-        parameter_size = LONGEST - 32 + self.rng.choice([0, 1])
+        """A Begin of the greatest length, or of one octet more."""
+        parameter_size = LONGEST - BEGIN_HEAD + self.rng.choice([0, 1, 1])
         operation = b"\x02\x01\x05" + write_element(0x04, bytes(parameter_size))
         invoke = write_element(0xA1, b"\x02\x01\x01" + operation)
         octets = write_message("begin", bytes(4), components=invoke)
