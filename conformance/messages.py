@@ -4,7 +4,13 @@ take, and damaged ones."""
 import random
 
 from ber import Element, integer_size
-from fields import walk
+from damage import damaged
+
+# Content octets of a parameter that is long: where lengths change their form, and far above.
+LONG = [126, 127, 128, 199, 200, 201, 255, 256, 300, 1000]
+LONGEST = [5000, 20000, 60000]
+# A word of a shell holds no more.
+MESSAGE_LIMIT = 65535
 
 STRUCTURED = bytes.fromhex("00118605010101")
 UNSTRUCTURED = bytes.fromhex("00118605010201")
@@ -22,15 +28,24 @@ class Maker:
         self.rng = rng
         # In how many of a hundred choices the rare is taken: what a sender hardly writes.
         self.rare = rng.choice([0, 0, 2, 10])
+        # What else is drawn more often in one message than in others.
+        self.often = rng.choice(["indefinite", "long", "deep", "information", "foreign", "nothing", "nothing"])
 
     def is_rare(self):
         return self.rng.randrange(100) < self.rare
 
+    def is_often(self, what, times):
+        """Whether something is drawn that is drawn once in so many times where it is the one drawn often."""
+        return self.often == what and self.rng.randrange(times) == 0
+
     def message(self):
-        octets = self.element(*self.parts()).octets()
+        message = self.element(*self.parts())
+        if self.is_often("indefinite", 2):
+            message.form = "indefinite"
+        octets = message.octets()
         for _ in range(self.rng.choice([0, 0, 0, 1, 1, 2])):
-            octets = self.damaged(octets)
-        return octets
+            octets = damaged(self.rng, octets)
+        return octets[:MESSAGE_LIMIT]
 
     # ---- the encoding
 
@@ -39,7 +54,7 @@ class Maker:
         form = 0
         if self.rng.randrange(20) == 0:
             form = self.rng.choice([1, 2, 4, 9])
-        if isinstance(inside, list) and self.rng.randrange(20) == 0:
+        if isinstance(inside, list) and (self.rng.randrange(20) == 0 or self.is_often("indefinite", 4)):
             form = "indefinite"
         return Element(bytes(self.tag(tag)), inside, form)
 
@@ -58,6 +73,8 @@ class Maker:
     def integer(self, tag, number):
         spare = 1 if self.is_rare() and self.is_rare() else 0
         octets = number.to_bytes(integer_size(number) + spare, "big", signed=True)
+        if self.is_rare() and self.rng.randrange(20) == 0:
+            octets = b""
         return self.element(tag, octets)
 
     def small(self, named):
@@ -84,6 +101,8 @@ class Maker:
     def parts(self):
         """The tag and the parts of a message."""
         kind = self.rng.choice(["unidirectional", "begin", "end", "continue", "continue", "abort"])
+        if self.is_often("foreign", 3):
+            kind = "abort"
         if kind == "unidirectional":
             return 0x61, self.dialogue(["audt"]) + [self.components()]
         if kind == "begin":
@@ -100,7 +119,7 @@ class Maker:
         return self.octet_string(tag, self.rng.randbytes(size))
 
     def reason(self):
-        choice = self.rng.randrange(4)
+        choice = 2 if self.often == "foreign" else self.rng.randrange(4)
         if choice == 0:
             return []
         if choice == 1:
@@ -110,7 +129,7 @@ class Maker:
     # ---- the dialogue portion
 
     def dialogue(self, kinds):
-        if self.rng.randrange(2):
+        if self.often != "information" and self.rng.randrange(2):
             return []
         if self.is_rare():
             kinds = ["aarq", "aare", "abrt", "audt", "foreign"]
@@ -132,7 +151,7 @@ class Maker:
                                     self.element(0x81, self.rng.randbytes(self.rng.randrange(9))),
                                     self.element(0x82, b"\x00" + self.rng.randbytes(self.rng.randrange(9)))])
         parts = [self.element(0x06, self.identifier()), encoding]
-        if self.is_rare():
+        if self.is_rare() or self.is_often("foreign", 10):
             parts = parts[:1]
         return self.element(0x28, self.with_rare_parts(parts))
 
@@ -156,12 +175,15 @@ class Maker:
 
     def version(self):
         bits = self.rng.choice([None, b"\x07\x80", b"\x07\x80", b"\x07\x00", b"\x00", b"\x06\xc0", b"\x03\xff\x88"])
+        if self.is_rare():
+            bits = self.rng.choice([b"", b"\x07", b"\x08\x80"])
         return [] if bits is None else [self.element(0x80, bits)]
 
     def information(self):
-        if self.rng.randrange(2):
+        if self.often != "information" and self.rng.randrange(2):
             return []
-        return [self.element(0xBE, [self.any_external() for _ in range(self.rng.choice([0, 1, 1, 1, 2]))])]
+        count = self.rng.choice([0, 1, 1, 1, 2]) if self.often != "information" else self.rng.randrange(1, 5)
+        return [self.element(0xBE, [self.any_external() for _ in range(count)])]
 
     # ---- the component portion
 
@@ -207,20 +229,36 @@ class Maker:
 
     def parameter(self, depth):
         """One element of any tag, at most so deep but rarely."""
-        if self.is_rare() and self.is_rare():
-            return self.deep(self.rng.randrange(28, 40))
-        number = self.rng.choice([[0], [4], [5], [16], [30], [0x1F, 0x1F], [0x1F, 0x81, 0x02]])
-        if self.is_rare():
-            number = [0x1F] + self.rng.choice([[0x05], [0x81, 0x82, 0x83, 0x04], [0x81, 0x82, 0x83, 0x84, 0x05]])
-        first = self.rng.choice([0x00, 0x40, 0x80, 0xC0]) | number[0]
+        if self.is_rare() and self.is_rare() or self.is_often("deep", 6):
+            return self.deep(self.rng.randrange(26, 36))
+        if self.is_often("long", 3):
+            return self.long()
+        first, further = self.any_tag()
         if self.rng.randrange(2) and depth:
             inside = [self.parameter(depth - 1) for _ in range(self.rng.randrange(4))]
             if self.is_rare():
                 inside = self.rng.randbytes(self.rng.randrange(1, 6))
-            return self.element([first | 0x20] + number[1:], inside)
-        if first == 0:
-            first = 0x04
-        return self.element([first] + number[1:], self.rng.randbytes(self.rng.choice([0, 1, 2, 8, 200])))
+            return self.element([first | 0x20] + further, inside)
+        return self.element([first or 0x04] + further, self.rng.randbytes(self.rng.choice([0, 1, 2, 8, 200])))
+
+    def any_tag(self):
+        """The first octet of a tag and the further ones."""
+        number = self.rng.choice([[0], [4], [5], [16], [30], [0x1F, 0x1F], [0x1F, 0x81, 0x02]])
+        if self.is_rare():
+            further = [[0x05], [0x80, 0x05], [0x81, 0x82, 0x83, 0x04], [0x81, 0x82, 0x83, 0x84, 0x05]]
+            number = [0x1F] + self.rng.choice(further)
+        return self.rng.choice([0x00, 0x40, 0x80, 0xC0]) | number[0], number[1:]
+
+    def long(self):
+        """An element of many octets: primitive, or constructed of any form of length."""
+        size = self.rng.choice(LONG)
+        if self.rng.randrange(40) == 0:
+            size, self.often = self.rng.choice(LONGEST), "nothing"
+        inside = self.rng.randbytes(size)
+        if self.rng.randrange(2):
+            return self.element(0x04, inside)
+        parts = [Element(b"\x04", inside[: size // 2]), Element(b"\x04", inside[size // 2 :])]
+        return Element(b"\x30", parts, self.rng.choice([0, 2, 4, "indefinite", "indefinite"]))
 
     def deep(self, depth):
         """An element of indefinite length in another, so often."""
@@ -228,38 +266,3 @@ class Maker:
         for _ in range(depth - 1):
             element = Element(b"\x30", [element], "indefinite")
         return element
-
-    # ---- damage
-
-    def damaged(self, octets):
-        rng, kind = self.rng, self.rng.randrange(6)
-        at = rng.randrange(len(octets))
-        if kind == 0:
-            return octets[:at] + bytes([rng.randrange(256)]) + octets[at + 1 :]
-        if kind == 1:
-            return octets[:at] + bytes([octets[at] ^ (1 << rng.randrange(8))]) + octets[at + 1 :]
-        if kind == 2:
-            return octets[:at] + bytes([(octets[at] + rng.choice([1, 255])) % 256]) + octets[at + 1 :]
-        if kind == 3:
-            return octets[: max(1, at)]
-        if kind == 4:
-            return octets + rng.randbytes(rng.randrange(1, 3))
-        return self.displaced(octets)
-
-    def displaced(self, octets):
-        """The message with one part left out, told twice or exchanged with the next."""
-        try:
-            places = list(walk(octets))
-        except (ValueError, IndexError):
-            return octets
-        if len(places) < 2:
-            return octets
-        _, holder, number, element = self.rng.choice(places[1:])
-        change = self.rng.randrange(3)
-        if change == 0:
-            del holder.inside[number]
-        elif change == 1:
-            holder.inside.insert(number, element)
-        else:
-            holder.inside[number : number + 2] = holder.inside[number : number + 2][::-1]
-        return places[0][1].content()
