@@ -1,6 +1,9 @@
-"""The fields of a message that can be told apart by their places, however wrong the rest is."""
+"""The fields of a message that can be told apart by their places, however wrong the rest is. They are what
+docs/PROFILE.md reads: the insides of parameters, of user information and of foreign EXTERNALs aren't."""
 
 from ber import Element, read_elements
+
+SYNTAXES = [bytes.fromhex("00118605010101"), bytes.fromhex("00118605010201")]
 
 # Where a field stands: the element that holds it, its number there, and the field itself.
 
@@ -44,10 +47,22 @@ def tag_number(element):
     return number
 
 
+def is_reference(element):
+    """Whether an element is an object identifier, its tag in the long form too."""
+    return element.tag[0] & 0xE0 == 0 and tag_number(element) == 6
+
+
+def is_ours(external):
+    """Whether the direct reference of an EXTERNAL says that it holds a dialogue PDU."""
+    first = external.children[0] if external.children else None
+    return first is not None and is_reference(first) and first.content() in SYNTAXES
+
+
 def parts_of_external(external):
+    ours = is_ours(external)
     for number, part in enumerate(external.children):
-        yield "syntax" if part.tag == b"\x06" else "encoding", external, number, part
-        for number, pdu in enumerate(part.children):
+        yield "syntax" if number == 0 and is_reference(part) else "encoding", external, number, part
+        for number, pdu in enumerate(part.children if ours else []):
             yield "pdu", part, number, pdu
             yield from parts_of_pdu(pdu)
 
@@ -91,3 +106,59 @@ def parts_of_component(component):
 def is_linked(component):
     second = component.children[1] if len(component.children) > 1 else None
     return tag_number(component) == 1 and second is not None and second.tag[0] & 0xC0 == 0x80
+
+
+# ---- what a field holds
+
+LIMITS = {"cause": 127, "problem": 127, "source": 1, "result value": 1, "diagnostic value": 127}
+INTEGERS = {"invoke id", "code", "result value", "diagnostic value"}
+IDENTIFIERS = {"syntax", "context value", "code"}
+
+
+def is_integer(name, element):
+    """Whether a field is an integer by its place and its tag."""
+    if isinstance(element.inside, list):
+        return False
+    if name == "linked":
+        return tag_number(element) == 0
+    if name == "problem":
+        return element.tag[0] & 0xC0 == 0x80
+    return name in LIMITS.keys() - INTEGERS or name in INTEGERS and element.tag == b"\x02"
+
+
+def number(element):
+    """The number that the content octets of an integer are; 0 where there are none."""
+    return int.from_bytes(element.inside, "big", signed=True)
+
+
+def is_object_identifier(name, element):
+    """Whether a field is an object identifier by its place and its tag."""
+    return name in IDENTIFIERS and element.tag == b"\x06"
+
+
+def is_foreign_portion(name, element):
+    """Whether a field is a dialogue portion that holds one EXTERNAL, and no dialogue PDU in it."""
+    return name == "dialogue" and len(element.children) == 1 and not is_ours(element.children[0])
+
+
+def is_unread(name, holder):
+    """Whether a field is an element of any kind: a parameter, an EXTERNAL of user information, or what a
+    foreign EXTERNAL holds."""
+    return name in ("parameter", "information external") or name == "encoding" and not is_ours(holder)
+
+
+# ---- how a field is changed
+
+
+def put(element, tag, inside):
+    element.tag, element.inside, element.form = tag, inside, 0
+    return True
+
+
+def replace(name, element):
+    """Puts something plain in the place of what isn't read."""
+    if name == "parameter":
+        return put(element, b"\x05", b"")
+    if name == "encoding":
+        return put(element, b"\x81", b"")
+    return put(element, b"\x28", [Element(b"\x06", b"\x2a\x03"), Element(b"\x81", b"")])

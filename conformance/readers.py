@@ -3,75 +3,59 @@ README.md has the form of the fields."""
 
 import re
 import subprocess
-from concurrent.futures import ThreadPoolExecutor
+import sys
 
 import tshark
 from plain import plain
-
-WORKERS = 4
 
 
 def is_taken(answer):
     return not answer.startswith("refused")
 
 
-class Tcap:
-    """The program `tcap` and what its `show` prints; only what it calls good counts as taken."""
+class Reader:
+    """A reader that is asked once for each message."""
 
-    title = "tcap"
-
-    def __init__(self, program):
-        self.program = program
+    def __init__(self):
+        self.answers = {}
 
     def read(self, messages):
-        with ThreadPoolExecutor(WORKERS) as pool:
-            return list(pool.map(self.answer, messages))
-
-    def answer(self, message):
-        shown = subprocess.run([self.program, "show", message.hex()], capture_output=True, text=True)
-        if shown.returncode > 1 or shown.returncode < 0:
-            raise SystemExit(f"{self.program} show {message.hex()}: status {shown.returncode}, {shown.stderr}")
-        lines = [line.strip() for line in shown.stdout.splitlines()]
-        if shown.returncode == 1:
-            return "refused " + next(line for line in lines if re.match("fault|faulty|foreign", line))
-        fields = [line for line in lines if not re.match(r"(dialogue|components) \d", line)]
-        return plain("|".join(fields).replace("abrt user", "abrt 0").replace("abrt provider", "abrt 1"))
+        """The answers to messages."""
+        new = [message for message in dict.fromkeys(messages) if message not in self.answers]
+        if new:
+            self.answers.update(zip(new, map(plain, self.ask(new))))
+        return [self.answers[message] for message in messages]
 
 
-class Lines:
+class Lines(Reader):
     """A program that reads messages in hexadecimal, a line each, and writes a line for each."""
 
     def __init__(self, title, words, folder):
+        super().__init__()
         self.title, self.words, self.folder = title, words, folder
 
-    def read(self, messages):
+    def ask(self, messages):
         given = "".join(message.hex() + "\n" for message in messages)
         run = subprocess.run(self.words, cwd=self.folder, input=given, capture_output=True, encoding="latin-1")
         answers = run.stdout.splitlines()
         if run.returncode or len(answers) != len(messages):
-            raise SystemExit(f"{self.title} read {len(answers)} of {len(messages)} messages: {run.stderr}")
-        return [plain(answer) for answer in answers]
+            print(f"{self.title} read {len(answers)} of {len(messages)} messages: {run.stderr}", file=sys.stderr)
+            sys.exit(2)
+        return answers
 
 
-def itu(folder):
-    return Lines("ITU", ["erl", "-noshell", "-s", "itu_reader", "main"], folder)
-
-
-def asn1c(folder):
-    return Lines("asn1c", ["./asn1c_reader"], folder)
-
-
-class Tshark:
+class Tshark(Reader):
     """tshark, which reads neither the code and parameter of an error nor a foreign dialogue portion:
     these aren't compared."""
 
     title = "tshark"
 
     def __init__(self, folder):
+        super().__init__()
         self.capture = folder + "/messages.pcap"
 
-    def read(self, messages):
-        return [plain(answer) for answer in tshark.read(messages, self.capture)]
+    def ask(self, messages):
+        return tshark.read(messages, self.capture)
 
     @staticmethod
     def compared(answer):
@@ -82,3 +66,12 @@ def are_equal(reader, ours, theirs):
     """Whether two fields say the same, as far as the reader has them."""
     compared = getattr(reader, "compared", lambda answer: answer)
     return compared(ours) == compared(theirs)
+
+
+def others(folder):
+    """The readers beside the program, the one of the ITU's grammar first."""
+    return [
+        Lines("ITU", ["erl", "-noshell", "-s", "itu_reader", "main"], folder),
+        Tshark(folder),
+        Lines("asn1c", ["./asn1c_reader"], folder),
+    ]

@@ -1,0 +1,101 @@
+"""One other reader beside the program: the counts, and the class of each message that they read otherwise."""
+
+import collections
+import re
+
+import readers
+from classes import mended
+from expected import DIFFER, GRAMMAR_TOO, THEY, WE, expected, order
+
+AGREE, BOTH_REFUSE = "agree", "both refuse"
+
+
+class Difference:
+    """A message that is read otherwise, and how far it is mended."""
+
+    def __init__(self, message, side, refusal):
+        self.message, self.side, self.refusal = message, side, refusal
+        self.mended, self.side_now = message, side
+        self.tried, self.causes = [], []
+
+
+class Comparison:
+    """The messages that the program and a reader read; `grammar` is the reader of the ITU's grammar."""
+
+    def __init__(self, program, reader, grammar):
+        self.program, self.reader, self.grammar = program, reader, grammar
+        self.counts = collections.Counter()
+        self.classes = collections.Counter()
+        self.failures = []
+
+    def compare(self, messages):
+        """Counts each message, and finds the class of each that is read otherwise."""
+        pending = []
+        for message, our, their in zip(messages, self.program.read(messages), self.reader.read(messages)):
+            side = self.side(our, their)
+            self.counts[side] += 1
+            if side not in (AGREE, BOTH_REFUSE):
+                refusal = f"{our} / {their}" if side == DIFFER else their if readers.is_taken(our) else our
+                pending.append(Difference(message, side, refusal))
+        while pending:
+            pending = self.round(pending)
+
+    def side(self, our, their):
+        if readers.is_taken(our) != readers.is_taken(their):
+            return WE if readers.is_taken(our) else THEY
+        if not readers.is_taken(our):
+            return BOTH_REFUSE
+        return AGREE if readers.are_equal(self.reader, our, their) else DIFFER
+
+    def round(self, pending):
+        """Mends one class more of each difference, and gives those that are still there."""
+        tried = [difference for difference in pending if self.mend(difference)]
+        self.give_up([difference for difference in pending if difference not in tried])
+        given = [difference.mended for difference in tried]
+        left = []
+        for difference, our, their in zip(tried, self.program.read(given), self.reader.read(given)):
+            side = self.side(our, their)
+            if side != difference.side_now:
+                difference.causes.append((difference.side_now, difference.tried[-1]))
+            if side == AGREE:
+                self.name(difference, difference.causes)
+            elif side == BOTH_REFUSE:
+                self.name(difference, [(difference.side_now, "both refuse it once mended: " + difference.tried[-1])])
+            else:
+                difference.side_now = side
+                left.append(difference)
+        return left
+
+    def mend(self, difference):
+        """Mends the first class that wasn't tried and has a place, and says whether there is one."""
+        for title in order(self.reader.title, difference.side_now):
+            changed = mended(difference.mended, title) if title not in difference.tried else None
+            if changed is not None:
+                difference.tried.append(title)
+                difference.mended = changed
+                return True
+        return False
+
+    def give_up(self, differences):
+        """Names those that no class ends: for some readers that is expected where the grammar refuses too."""
+        answers = self.grammar.read([difference.mended for difference in differences])
+        for difference, answer in zip(differences, answers):
+            title = "no class: " + re.sub(r"^refused |-?\d+ (?=general)", "", difference.refusal)
+            if difference.side_now == THEY and not readers.is_taken(answer):
+                title = GRAMMAR_TOO
+            self.name(difference, difference.causes + [(difference.side_now, title)])
+
+    def name(self, difference, causes):
+        """Counts a difference under its first cause, or the first one that isn't expected."""
+        outside = [cause for cause in causes if cause[1] not in expected(self.reader.title, cause[0])]
+        side, title = (outside or causes)[0]
+        self.classes[side, title] += 1
+        if outside:
+            self.failures.append((difference.message, f"{self.reader.title}, {side}: {title}"))
+
+    def print(self):
+        print(f"\n{self.reader.title}", flush=True)
+        for side in (AGREE, BOTH_REFUSE, DIFFER, WE, THEY):
+            print(f"  {side:12} {self.counts[side]:6}")
+        for (side, title), count in sorted(self.classes.items(), key=lambda item: (item[0][0], -item[1])):
+            print(f"  {side:12} {count:6}  {title}")
