@@ -12,7 +12,7 @@ from rules import rule_fault
 
 def alone(tcap, given):
     """What is wrong in what the program says by itself: pairs of a message and words."""
-    faults = zip(given, tcap.each(lambda it: rule_fault(tcap, it), given))
+    faults = zip(given + given, tcap.each(tcap.fault, given) + tcap.each(lambda it: rule_fault(tcap, it), given))
     return [(message, words) for message, words in faults if words]
 
 

@@ -1,14 +1,16 @@
-"""The program `tcap`: what `show` prints of a message."""
+"""The program `tcap`: what `show` prints, and whether `check`, `canon` and the octets of the message agree."""
 
 import re
 import subprocess
 from concurrent.futures import ThreadPoolExecutor
 
 from plain import plain
+from standing import canonical, shown_words, standing_words
 
 WORKERS = 4
 # Some octets keep a program for ever; the right one answers at once.
 SECONDS = 30
+VERDICTS = ["too long", "unknown type", "badly formatted", "incorrect"]
 
 
 class Tcap:
@@ -50,3 +52,49 @@ class Tcap:
             except subprocess.TimeoutExpired:
                 self.said[command, message] = None, ""
         return self.said[command, message]
+
+    def fault(self, message):
+        """What is wrong in what the commands say of a message, or None."""
+        status, text = self.say("show", message)
+        verdict = verdict_of(text)
+        if verdict is None or status != (0 if verdict == "good" else 1):
+            return f"show ends with status {status} and has the verdict {verdict}"
+        if self.say("check", message) != (status, verdict + "\n"):
+            return f"check doesn't say {verdict}, as show does"
+        if status == 1:
+            same = self.say("canon", message) == (1, verdict + "\n")
+            return None if same else f"canon doesn't say {verdict}, as show does"
+        if shown_words(text) != standing_words(message):
+            return "show prints other octets than stand in the message"
+        return self.canon_fault(message, text)
+
+    def canon_fault(self, message, text):
+        """What is wrong in the canonical form of a good message, or None."""
+        form = canonical(message)
+        if self.say("canon", message) != (0, form.hex() + "\n"):
+            return "canon isn't the message in its shortest lengths"
+        if self.say("canon", form) != (0, form.hex() + "\n"):
+            return "canon of canon is another"
+        status, again = self.say("show", form)
+        return None if status == 0 and fields_of(again) == fields_of(text) else "show of canon is another"
+
+
+def fields_of(text):
+    """The lines of `show` without the counts of octets."""
+    return [line for line in text.splitlines() if not re.match(r"  (dialogue|components) \d", line)]
+
+
+def verdict_of(text):
+    """The verdict by what `show` prints, None where it has none."""
+    if text.startswith("fault "):
+        return text[:-1] if text[6:-1] in VERDICTS else None
+    portions = re.split(r"^  (dialogue|components) \d+\n", text, flags=re.MULTILINE)
+    parts = dict(zip(portions[1::2], portions[2::2]))
+    dialogue = parts.get("dialogue", "").strip()
+    if dialogue == "faulty" or dialogue.startswith("foreign ") and not text.startswith("abort\n"):
+        return "fault dialogue"
+    components = parts.get("components", "").splitlines()
+    faulty = [number for number, line in enumerate(components, 1) if line.startswith("    faulty ")]
+    if not faulty:
+        return "good"
+    return f"fault component {faulty[0]}" if faulty == [len(components)] else None
