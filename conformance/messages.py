@@ -29,7 +29,8 @@ class Maker:
         # In how many of a hundred choices the rare is taken: what a sender hardly writes.
         self.rare = rng.choice([0, 0, 2, 10])
         # What else is drawn more often in one message than in others.
-        self.often = rng.choice(["indefinite", "long", "deep", "information", "foreign", "nothing", "nothing"])
+        kinds = ["indefinite", "lengths", "long", "deep", "information", "foreign", "nothing", "nothing"]
+        self.often = rng.choice(kinds)
 
     def is_rare(self):
         return self.rng.randrange(100) < self.rare
@@ -52,8 +53,8 @@ class Maker:
     def element(self, tag, inside):
         """An element, its length in one of the forms."""
         form = 0
-        if self.rng.randrange(20) == 0:
-            form = self.rng.choice([1, 2, 4, 9])
+        if self.rng.randrange(20) == 0 or self.is_often("lengths", 3):
+            form = self.rng.choice([1, 1, 2, 4, 9])
         if isinstance(inside, list) and (self.rng.randrange(20) == 0 or self.is_often("indefinite", 4)):
             form = "indefinite"
         return Element(bytes(self.tag(tag)), inside, form)
