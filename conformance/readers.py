@@ -50,12 +50,8 @@ class Tshark(Reader):
 
     title = "tshark"
 
-    def __init__(self, folder):
-        super().__init__()
-        self.capture = folder + "/messages.pcap"
-
     def ask(self, messages):
-        return tshark.read(messages, self.capture)
+        return tshark.read(messages)
 
     @staticmethod
     def compared(answer):
@@ -72,6 +68,6 @@ def others(folder):
     """The readers beside the program, the one of the ITU's grammar first."""
     return [
         Lines("ITU", ["erl", "-noshell", "-s", "itu_reader", "main"], folder),
-        Tshark(folder),
+        Tshark(),
         Lines("asn1c", ["./asn1c_reader"], folder),
     ]

@@ -2,6 +2,8 @@
 
 import struct
 import subprocess
+import sys
+import tempfile
 import xml.etree.ElementTree as tree
 
 # A capture whose packets are TCAP and nothing below it. tshark knows this link by the number 45, which
@@ -23,12 +25,18 @@ PROBLEMS = {
 }
 
 
-def read(messages, capture):
+def read(messages):
     """What tshark says of each message: its fields, joined by "|", or "refused" and why."""
-    with open(capture, "wb") as file:
+    with tempfile.NamedTemporaryFile(prefix="tcap-messages-", suffix=".pcap") as file:
         file.write(struct.pack("<IHHiIII", 0xA1B2C3D4, 2, 4, 0, 0, 0x40000, USER_LINK))
         for message in messages:
             file.write(struct.pack("<IIII", 0, 0, len(message), len(message)) + message)
+        file.flush()
+        return packets(file.name, messages)
+
+
+def packets(capture, messages):
+    """What tshark says of each message of a capture."""
     words = ["tshark", "-n", "-r", capture, "-T", "pdml", *OPTIONS]
     with subprocess.Popen(words, stdout=subprocess.PIPE, stderr=subprocess.DEVNULL) as process:
         answers = []
@@ -37,7 +45,8 @@ def read(messages, capture):
                 answers.append(packet(element, messages[len(answers)]))
                 element.clear()
     if process.returncode or len(answers) != len(messages):
-        raise SystemExit(f"tshark read {len(answers)} of {len(messages)} messages, status {process.returncode}")
+        print(f"tshark read {len(answers)} of {len(messages)} messages, status {process.returncode}", file=sys.stderr)
+        sys.exit(2)
     return answers
 
 
