@@ -5,7 +5,7 @@ import subprocess
 from concurrent.futures import ThreadPoolExecutor
 
 from plain import plain
-from standing import canonical, shown_words, standing_words
+from standing import canonical, is_outside_shown, shown_words, standing_words
 
 WORKERS = 4
 # Some octets keep a program for ever; the right one answers at once.
@@ -61,6 +61,8 @@ class Tcap:
             return f"show ends with status {status} and has the verdict {verdict}"
         if self.say("check", message) != (status, verdict + "\n"):
             return f"check doesn't say {verdict}, as show does"
+        if not text.startswith("fault ") and not is_outside_shown(text, message):
+            return "show has another name, identifier or count than the message"
         if status == 1:
             same = self.say("canon", message) == (1, verdict + "\n")
             return None if same else f"canon doesn't say {verdict}, as show does"

@@ -6,6 +6,8 @@ from ber import Element, read_elements
 from fields import is_ours, tag_number, walk
 
 COPIED = r"\b(otid|dtid|dialogue|context|info|foreign|components|global|param) (\S+)"
+NAMES = {0x61: "unidirectional", 0x62: "begin", 0x64: "end", 0x65: "continue", 0x67: "abort"}
+OUTSIDE = ("otid", "dtid", "dialogue", "components")
 
 
 def shown_words(text):
@@ -17,17 +19,30 @@ def standing_words(message):
     """The same words, cut from the octets of a message."""
     words = []
     for part in read_elements(message)[0].children:
-        content = part.content()
-        if part.tag in (b"\x48", b"\x49"):
-            words.append(("otid" if part.tag == b"\x48" else "dtid", content.hex()))
-        elif part.tag == b"\x6b":
-            words.append(("dialogue", str(len(content))))
+        words += outside_word(part)
+        if part.tag == b"\x6b":
             words += words_of_external(part.children[0])
-        elif part.tag == b"\x6c" and content:
-            words.append(("components", str(len(content))))
+        elif part.tag == b"\x6c":
             for component in part.children:
                 words += words_of_component(component)
     return words
+
+
+def outside_word(part):
+    """An identifier, or how many octets a portion holds."""
+    content = part.content()
+    if part.tag in (b"\x48", b"\x49"):
+        return [("otid" if part.tag == b"\x48" else "dtid", content.hex())]
+    if part.tag == b"\x6b" or part.tag == b"\x6c" and content:
+        return [("dialogue" if part.tag == b"\x6b" else "components", str(len(content)))]
+    return []
+
+
+def is_outside_shown(text, message):
+    """Whether `show` has the name, the identifiers and the counts that stand in a message, faulty or not."""
+    words = [word for part in read_elements(message)[0].children for word in outside_word(part)]
+    shown = [word for word in shown_words(text) if word[0] in OUTSIDE]
+    return text.startswith(NAMES[message[0]] + "\n") and shown == words
 
 
 def words_of_external(external):
