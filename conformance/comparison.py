@@ -49,10 +49,11 @@ class Comparison:
 
     def round(self, pending):
         """Mends one class more of each difference, and gives those that are still there."""
-        tried = [difference for difference in pending if self.mend(difference)]
-        self.give_up([difference for difference in pending if difference not in tried])
+        tried, ended, left = [], [], []
+        for difference in pending:
+            (tried if self.mend(difference) else ended).append(difference)
+        self.give_up(ended)
         given = [difference.mended for difference in tried]
-        left = []
         for difference, our, their in zip(tried, self.program.read(given), self.reader.read(given)):
             side = self.side(our, their)
             if side != difference.side_now:

@@ -42,6 +42,8 @@ TABLE = [
      "Its first octet counts 0 to 7 unused bits; these decoders don't look at it."),
     (THEY, "a 33rd open element of indefinite length", ALL,
      "At most 32 are open, one in another (own)."),
+    (THEY, "an element that begins with 00, where it is read", ALL,
+     "X.690 keeps this tag for the end of contents; these decoders take it elsewhere."),
     (THEY, "a tag whose number begins with 80, where it is read", ALL,
      "The first further octet isn't 80; these decoders take it."),
     (THEY, "a tag of more than four further octets, where it is read", "tshark asn1c",

@@ -240,15 +240,18 @@ class Maker:
             if self.is_rare():
                 inside = self.rng.randbytes(self.rng.randrange(1, 6))
             return self.element([first | 0x20] + further, inside)
-        return self.element([first or 0x04] + further, self.rng.randbytes(self.rng.choice([0, 1, 2, 8, 200])))
+        return self.element([first] + further, self.rng.randbytes(self.rng.choice([0, 1, 2, 8, 200])))
 
     def any_tag(self):
         """The first octet of a tag and the further ones."""
+        if self.is_rare() and self.rng.randrange(4) == 0:
+            return 0x00, []
         number = self.rng.choice([[0], [4], [5], [16], [30], [0x1F, 0x1F], [0x1F, 0x81, 0x02]])
         if self.is_rare():
             further = [[0x05], [0x80, 0x05], [0x81, 0x82, 0x83, 0x04], [0x81, 0x82, 0x83, 0x84, 0x05]]
             number = [0x1F] + self.rng.choice(further)
-        return self.rng.choice([0x00, 0x40, 0x80, 0xC0]) | number[0], number[1:]
+        first = self.rng.choice([0x00, 0x40, 0x80, 0xC0]) | number[0]
+        return first or 0x04, number[1:]
 
     def long(self):
         """An element of many octets: primitive, or constructed of any form of length."""

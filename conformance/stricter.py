@@ -2,7 +2,7 @@
 that a field meets, which is exactly that of the rule, and changes the field so that the rule holds."""
 
 from ber import Element, integer_size
-from elements import LONG_TAG, OPEN_LIMIT, PADDED_TAG, fault
+from elements import LONG_TAG, OPEN_LIMIT, PADDED_TAG, ZERO_TAG, fault
 from externals import is_bit_string, is_identifier
 from fields import (
     LIMITS,
@@ -137,6 +137,10 @@ def close_below(element, depth):
             close_below(child, depth - 1)
 
 
+def zero_tag(name, holder, place, element):
+    return is_unread(name, holder) and fault(element.octets()) == ZERO_TAG and replace(name, element)
+
+
 def padded_tag(name, holder, place, element):
     return is_unread(name, holder) and fault(element.octets()) == PADDED_TAG and replace(name, element)
 
@@ -163,6 +167,7 @@ STRICTER = [
     ("a protocol version that is no bit string", version_bits),
     ("a transaction identifier of no octet or of more than four", wide_transaction),
     ("a 33rd open element of indefinite length", deep),
+    ("an element that begins with 00, where it is read", zero_tag),
     ("a tag whose number begins with 80, where it is read", padded_tag),
     ("a tag of more than four further octets, where it is read", five_octet_tag),
 ]
