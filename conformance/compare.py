@@ -11,18 +11,19 @@ from rules import rule_fault
 
 
 def alone(tcap, given):
-    """What is wrong in what the program says by itself: pairs of a message and words."""
+    """What is wrong in what the program says by itself: a message, words, and nothing beside them."""
     faults = zip(given + given, tcap.each(tcap.fault, given) + tcap.each(lambda it: rule_fault(tcap, it), given))
-    return [(message, words) for message, words in faults if words]
+    return [(message, words, "") for message, words in faults if words]
 
 
 def print_failures(failures):
     """Each failure with the shortest message that shows it."""
     titles = {}
-    for message, title in failures:
-        titles.setdefault(title, []).append(message)
+    for message, title, answers in failures:
+        titles.setdefault(title, []).append((message, answers))
     for title, found in titles.items():
-        print(f"FAILS {len(found):6}  {title}\n        {min(found, key=len).hex()}")
+        message, answers = min(found, key=lambda it: len(it[0]))
+        print(f"FAILS {len(found):6}  {title}\n        {message.hex()}{answers}")
     print(f"\n{len(failures)} failures")
 
 

@@ -13,10 +13,15 @@ AGREE, BOTH_REFUSE = "agree", "both refuse"
 class Difference:
     """A message that is read otherwise, and how far it is mended."""
 
-    def __init__(self, message, side, refusal):
-        self.message, self.side, self.refusal = message, side, refusal
+    def __init__(self, message, side, our, their):
+        self.message, self.our, self.their = message, our, their
         self.mended, self.side_now = message, side
         self.tried, self.causes = [], []
+
+    def refusal(self):
+        """How the side that refuses the message does, without the numbers in it."""
+        refusing = [answer for answer in (self.our, self.their) if not readers.is_taken(answer)]
+        return re.sub(r"^refused |-?\d+ (?=general)", "", refusing[0]) if refusing else "other fields"
 
 
 class Comparison:
@@ -35,8 +40,7 @@ class Comparison:
             side = self.side(our, their)
             self.counts[side] += 1
             if side not in (AGREE, BOTH_REFUSE):
-                refusal = f"{our} / {their}" if side == DIFFER else their if readers.is_taken(our) else our
-                pending.append(Difference(message, side, refusal))
+                pending.append(Difference(message, side, our, their))
         while pending:
             pending = self.round(pending)
 
@@ -81,7 +85,7 @@ class Comparison:
         """Names those that no class ends: for some readers that is expected where the grammar refuses too."""
         answers = self.grammar.read([difference.mended for difference in differences])
         for difference, answer in zip(differences, answers):
-            title = "no class: " + re.sub(r"^refused |-?\d+ (?=general)", "", difference.refusal)
+            title = "no class: " + difference.refusal()
             if difference.side_now == THEY and not readers.is_taken(answer):
                 title = GRAMMAR_TOO
             self.name(difference, difference.causes + [(difference.side_now, title)])
@@ -92,7 +96,8 @@ class Comparison:
         side, title = (outside or causes)[0]
         self.classes[side, title] += 1
         if outside:
-            self.failures.append((difference.message, f"{self.reader.title}, {side}: {title}"))
+            answers = f"\n        {difference.our}\n        {difference.their}"
+            self.failures.append((difference.message, f"{self.reader.title}, {side}: {title}", answers))
 
     def print(self):
         print(f"\n{self.reader.title}", flush=True)

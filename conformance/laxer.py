@@ -89,9 +89,10 @@ def long_length(name, holder, place, element):
 
 
 def information(name, holder, place, element):
-    if name == "information external" and is_taken_whole(name, holder, element):
-        before = element.octets()
-        return replace(name, element) and element.octets() != before
+    if name != "information" or not element.children:
+        return False
+    taken = all(is_taken_whole("information external", element, external) for external in element.children)
+    return taken and put(element, element.tag, [])
 
 
 def foreign_abort(name, holder, place, element):

@@ -27,7 +27,7 @@ def failures(tcap, others, given):
 def find(wrong, right, others, given):
     """The first failure of a wrong program on a message at which the right one has none, or None."""
     for start, end in zip(COUNTS, COUNTS[1:]):
-        for message, words in failures(Tcap(wrong), others, given[start:end]):
+        for message, words, _ in failures(Tcap(wrong), others, given[start:end]):
             if not any(failures(right, others, [message])):
                 return message, words
     return None
