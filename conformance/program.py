@@ -61,11 +61,20 @@ class Tcap:
             return f"show ends with status {status} and has the verdict {verdict}"
         if self.say("check", message) != (status, verdict + "\n"):
             return f"check doesn't say {verdict}, as show does"
+        if status == 1 and self.say("canon", message) != (1, verdict + "\n"):
+            return f"canon doesn't say {verdict}, as show does"
+        try:
+            return self.octets_fault(message, verdict, text)
+        except (LookupError, ValueError, AttributeError):
+            return "show has fields that aren't in the message"
+
+    def octets_fault(self, message, verdict, text):
+        """What `show` and `canon` have otherwise than the octets of a message, or None. Raises an error where
+        the message hasn't the parts that the verdict says."""
         if not text.startswith("fault ") and not is_outside_shown(text, message):
             return "show has another name, identifier or count than the message"
-        if status == 1:
-            same = self.say("canon", message) == (1, verdict + "\n")
-            return None if same else f"canon doesn't say {verdict}, as show does"
+        if verdict != "good":
+            return None
         if shown_words(text) != standing_words(message):
             return "show prints other octets than stand in the message"
         return self.canon_fault(message, text)

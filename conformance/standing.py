@@ -3,7 +3,7 @@
 import re
 
 from ber import Element, read_elements
-from fields import is_ours, tag_number, walk
+from fields import is_ours, walk
 
 COPIED = r"\b(otid|dtid|dialogue|context|info|foreign|components|global|param) (\S+)"
 NAMES = {0x61: "unidirectional", 0x62: "begin", 0x64: "end", 0x65: "continue", 0x67: "abort"}
