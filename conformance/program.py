@@ -4,6 +4,8 @@ import re
 import subprocess
 from concurrent.futures import ThreadPoolExecutor
 
+from elements import Fault
+from faulty import portion_fault
 from plain import plain
 from standing import canonical, is_outside_shown, shown_words, standing_words
 
@@ -65,7 +67,7 @@ class Tcap:
             return f"canon doesn't say {verdict}, as show does"
         try:
             return self.octets_fault(message, verdict, text)
-        except (LookupError, ValueError, AttributeError):
+        except (LookupError, ValueError, AttributeError, Fault):
             return "show has fields that aren't in the message"
 
     def octets_fault(self, message, verdict, text):
@@ -74,25 +76,29 @@ class Tcap:
         if not text.startswith("fault ") and not is_outside_shown(text, message):
             return "show has another name, identifier or count than the message"
         if verdict != "good":
-            return None
+            return portion_fault(self, message, verdict) if not text.startswith("fault ") else None
         if shown_words(text) != standing_words(message):
             return "show prints other octets than stand in the message"
-        return self.canon_fault(message, text)
+        return self.canon_fault(message)
 
-    def canon_fault(self, message, text):
+    def canon_fault(self, message):
         """What is wrong in the canonical form of a good message, or None."""
         form = canonical(message)
         if self.say("canon", message) != (0, form.hex() + "\n"):
             return "canon isn't the message in its shortest lengths"
         if self.say("canon", form) != (0, form.hex() + "\n"):
             return "canon of canon is another"
-        status, again = self.say("show", form)
-        return None if status == 0 and fields_of(again) == fields_of(text) else "show of canon is another"
+        same = self.is_good(form) and self.fields(form) == self.fields(message)
+        return None if same else "show of canon is another"
 
+    def fields(self, message):
+        """The lines of `show` without the counts of octets."""
+        _, text = self.say("show", message)
+        return [line for line in text.splitlines() if not re.match(r"  (dialogue|components) \d", line)]
 
-def fields_of(text):
-    """The lines of `show` without the counts of octets."""
-    return [line for line in text.splitlines() if not re.match(r"  (dialogue|components) \d", line)]
+    def verdict(self, message):
+        """The verdict by the text of `show`."""
+        return verdict_of(self.say("show", message)[1])
 
 
 def verdict_of(text):

@@ -28,7 +28,7 @@ def linked_absent(name, holder, place, element):
 
 
 def null_identifier(name, holder, place, element):
-    if name == "invoke id" and element.tag == b"\x05" and tag_number(holder) in (1, 2, 3, 7):
+    if name == "invoke id" and element.tag == b"\x05" and holder.tag in (b"\xa1", b"\xa2", b"\xa3", b"\xa7"):
         return put(element, b"\x02", b"\x00")
 
 
