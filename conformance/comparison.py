@@ -15,7 +15,7 @@ class Difference:
 
     def __init__(self, message, side, our, their):
         self.message, self.our, self.their = message, our, their
-        self.mended, self.side_now = message, side
+        self.mended, self.before, self.side_now = message, None, side
         self.tried, self.causes = [], []
 
     def refusal(self):
@@ -59,17 +59,22 @@ class Comparison:
         self.give_up(ended)
         given = [difference.mended for difference in tried]
         for difference, our, their in zip(tried, self.program.read(given), self.reader.read(given)):
-            side = self.side(our, their)
-            if side != difference.side_now:
-                difference.causes.append((difference.side_now, difference.tried[-1]))
-            if side == AGREE:
-                self.name(difference, difference.causes)
-            elif side == BOTH_REFUSE:
-                self.name(difference, [(difference.side_now, "both refuse it once mended: " + difference.tried[-1])])
-            else:
-                difference.side_now = side
+            if not self.is_settled(difference, self.side(our, their)):
                 left.append(difference)
         return left
+
+    def is_settled(self, difference, side):
+        """Notes what the last mending did, and says whether it ended the difference."""
+        if side == BOTH_REFUSE:
+            # What makes both refuse explains nothing.
+            difference.mended = difference.before
+            return False
+        if side != difference.side_now:
+            difference.causes.append((difference.side_now, difference.tried[-1]))
+            difference.side_now = side
+        if side == AGREE:
+            self.name(difference, difference.causes)
+        return side == AGREE
 
     def mend(self, difference):
         """Mends the first class that wasn't tried and has a place, and says whether there is one."""
@@ -77,7 +82,7 @@ class Comparison:
             changed = mended(difference.mended, title) if title not in difference.tried else None
             if changed is not None:
                 difference.tried.append(title)
-                difference.mended = changed
+                difference.before, difference.mended = difference.mended, changed
                 return True
         return False
 

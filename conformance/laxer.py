@@ -96,7 +96,7 @@ def information(name, holder, place, element):
 
 
 def foreign_abort(name, holder, place, element):
-    if is_foreign_taken(name, holder, element) and len(holder.children) == 2:
+    if is_foreign_taken(name, holder, element) and place == 1 and len(holder.children) == 2:
         del holder.inside[place]
         return True
 
