@@ -62,7 +62,7 @@ TABLE = [
      "The contents of a definite length are any octets (own)."),
     (WE, "user information whose EXTERNALs aren't whole", ALL,
      "Elements with tag 28 are kept and not looked into (own)."),
-    (WE, "a foreign EXTERNAL in an Abort that isn't whole", ALL,
+    (WE, "a foreign EXTERNAL in an Abort that isn't whole", "ITU asn1c",
      "What follows its syntax isn't looked into (own)."),
     (WE, "a protocol version of other bits than one", "tshark",
      "Only the first bit is looked at; tshark calls others unknown."),
