@@ -6,6 +6,15 @@
 
 -define(ROS, 'Remote-Operations-Generic-ROS-PDUs').
 
+%% Tags as the decoder numbers them: the class in the bits from the 17th on, the tag's number below.
+-define(INTEGER, 2).
+-define(REFERENCE, 6).
+-define(EXTERNAL, 8).
+-define(DIALOGUE_PORTION, (1 bsl 16 + 11)).
+-define(SINGLE, (2 bsl 16 + 0)).
+-define(BITS, (2 bsl 16 + 2)).
+-define(INFORMATION, (2 bsl 16 + 30)).
+
 main() ->
     ok = io:setopts(standard_io, [binary]),
     lines(),
@@ -29,20 +38,30 @@ answer(Hex) ->
 
 fields(Octets) ->
     Fields = message(decoded('AnyMessage', 'Message', Octets)),
-    {Element, _} = asn1rt_nif:decode_ber_tlv(Octets),
-    externals(Element),
+    {{_, Message}, _} = asn1rt_nif:decode_ber_tlv(Octets),
+    lists:foreach(fun checked/1, externals(Message)),
     Fields.
 
-%% The decoder takes three things in an EXTERNAL that X.690 forbids, and the value that it makes of them
-%% has other octets: a bit string with more than seven unused bits, an object identifier of which a
-%% number begins with 80 or doesn't end, and an explicit tag that is primitive.
-externals({8, [_ | _] = Parts}) ->
-    [throw("a bit string with more than seven unused bits") || {131074, <<Unused, _/binary>>} <- Parts, Unused > 7],
-    [throw("an explicit tag that is primitive") || {131072, Octets} <- Parts, is_binary(Octets)],
-    [throw("no object identifier") || {6, Octets} <- Parts, not is_identifier(Octets)],
-    lists:foreach(fun externals/1, Parts);
-externals({_, Parts}) when is_list(Parts) -> lists:foreach(fun externals/1, Parts);
-externals(_) -> ok.
+%% The parts of each EXTERNAL that the decoder reads: of that in the dialogue portion, and of those in the
+%% user information of its dialogue PDU. What a foreign one or a parameter holds is only copied.
+externals(Message) ->
+    Parts = inside(?EXTERNAL, inside(?DIALOGUE_PORTION, Message)),
+    [Parts | information_externals(Parts)].
+
+information_externals([{?REFERENCE, <<0, 16#11, 16#86, 5, 1, Kind, 1>>}, {?SINGLE, [{_, Pdu}]}])
+  when Kind =:= 1; Kind =:= 2 ->
+    [Parts || {?EXTERNAL, Parts} <- inside(?INFORMATION, Pdu)];
+information_externals(_) -> [].
+
+inside(Tag, Parts) -> lists:append([Inside || {At, Inside} <- Parts, At =:= Tag]).
+
+%% The decoder takes four things in an EXTERNAL that X.690 forbids, and the value that it makes of them has
+%% other octets.
+checked(Parts) ->
+    [throw("an integer of no octet") || {?INTEGER, <<>>} <- Parts],
+    [throw("a bit string with more than seven unused bits") || {?BITS, <<Unused, _/binary>>} <- Parts, Unused > 7],
+    [throw("an explicit tag that is primitive") || {?SINGLE, Octets} <- Parts, is_binary(Octets)],
+    [throw("no object identifier") || {?REFERENCE, Octets} <- Parts, not is_identifier(Octets)].
 
 is_identifier(Octets) ->
     re:run(Octets, "(^|[\\x00-\\x7f])\\x80|[\\x80-\\xff]$", [dollar_endonly]) =:= nomatch.
