@@ -30,9 +30,10 @@ def element_octets(element):
 
 
 def short_tag(element):
+    """The tag in one octet, or in the fewest further ones."""
     if tag_number(element) < 31:
         return bytes([element.tag[0] & 0xE0 | tag_number(element)])
-    return element.tag
+    return element.tag[:1] + element.tag[1:].lstrip(b"\x80")
 
 
 def external_octets(element):
