@@ -37,7 +37,7 @@ def main(program, out, seed, count):
     for reader in others:
         comparison = Comparison(tcap, reader, others[0])
         comparison.compare(given)
-        comparison.print()
+        comparison.tally.print()
         failures += comparison.failures
     print_failures(failures)
     return 1 if failures else 0

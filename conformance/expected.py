@@ -4,7 +4,8 @@ other difference fails the run. The rules are those of docs/PROFILE.md."""
 from laxer import LAXER
 from stricter import STRICTER
 
-WE, THEY, DIFFER = "only we", "only they", "both, otherwise"
+# How the program and a reader read a message.
+AGREE, BOTH_REFUSE, DIFFER, WE, THEY = "agree", "both refuse", "both, otherwise", "only we", "only they"
 GRAMMAR_TOO = "the ITU's grammar refuses it too"
 ALL = "ITU tshark asn1c"
 
@@ -81,12 +82,16 @@ TABLE = [
 ]
 
 
-def expected(reader, side):
+def permitted(reader, side):
     """The classes that may explain a difference."""
+    return [title for title in rows(reader, side) if title != GRAMMAR_TOO]
+
+
+def others(reader, side):
+    """All other classes."""
+    return [title for title, _ in STRICTER + LAXER if title not in rows(reader, side)]
+
+
+def rows(reader, side):
+    """What the table has for a reader and a side."""
     return [title for at, title, who, _ in TABLE if at == side and reader in who.split()]
-
-
-def order(reader, side):
-    """All classes, those that may explain a difference first."""
-    listed = [title for title in expected(reader, side) if title != GRAMMAR_TOO]
-    return listed + [title for title, _ in STRICTER + LAXER if title not in listed]
