@@ -2,12 +2,18 @@
 compare.py PROGRAM OUT SEED COUNT"""
 
 import sys
+from concurrent.futures import ProcessPoolExecutor
+from itertools import repeat
 
 import readers
 from comparison import Comparison
 from messages import messages
 from program import Tcap
 from rules import rule_fault
+from tally import total
+
+# The messages are of four seeds, a word with each of these behind it, and each seed has a process.
+ENDS = ["", "2", "3", "4"]
 
 
 def alone(tcap, given):
@@ -27,20 +33,31 @@ def print_failures(failures):
     print(f"\n{len(failures)} failures")
 
 
-def main(program, out, seed, count):
-    given = messages(seed, int(count))
-    tcap = Tcap(program)
+def compare(program, out, seed, count):
+    """Compares messages of one seed. Gives how many are good, the tally of each reader, and the failures."""
+    given, tcap, others = messages(seed, count), Tcap(program), readers.others(out)
     good = sum(map(readers.is_taken, tcap.read(given)))
-    print(f"{len(given)} messages of seed {seed}, {good} of them good", flush=True)
     failures = alone(tcap, given)
-    others = readers.others(out)
+    tallies = []
     for reader in others:
         comparison = Comparison(tcap, reader, others[0])
         comparison.compare(given)
-        comparison.tally.print()
+        tallies.append(comparison.tally)
         failures += comparison.failures
-    print_failures(failures)
-    return 1 if failures else 0
+    return good, tallies, failures
+
+
+def main(program, out, seed, count):
+    seeds = [seed + end for end in ENDS]
+    counts = [(int(count) + place) // len(seeds) for place in range(len(seeds))]
+    with ProcessPoolExecutor(len(seeds)) as pool:
+        parts = list(pool.map(compare, repeat(program), repeat(out), seeds, counts))
+    good, tallies, failures = zip(*parts)
+    print(f"{count} messages of the seeds {' '.join(seeds)}, {sum(good)} of them good")
+    for reader in zip(*tallies):
+        total(reader).print()
+    print_failures(sum(failures, []))
+    return 1 if any(failures) else 0
 
 
 if __name__ == "__main__":

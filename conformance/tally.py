@@ -20,10 +20,20 @@ class Tally:
         self.together[len(steps)] += 1
 
     def print(self):
-        print(f"\n{self.title}", flush=True)
+        print(f"\n{self.title}")
         for side in (AGREE, BOTH_REFUSE, DIFFER, WE, THEY):
             print(f"  {side:12} {self.sides[side]:6}")
         for (side, title), count in sorted(self.classes.items(), key=lambda item: (item[0][0], -item[1])):
             print(f"  {side:12} {count:6}  {title}")
         for number, count in sorted(self.together.items()):
             print(f"  explained by {number} {'class' if number == 1 else 'classes together'}: {count}")
+
+
+def total(tallies):
+    """The counts of several tallies of one reader together."""
+    whole = Tally(tallies[0].title)
+    for tally in tallies:
+        whole.sides += tally.sides
+        whole.classes += tally.classes
+        whole.together += tally.together
+    return whole
