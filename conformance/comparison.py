@@ -12,7 +12,7 @@ class Difference:
     """A message that is read otherwise, and how far it is explained."""
 
     def __init__(self, reader, message, side):
-        self.message = message
+        self.message, self.side = message, side
         self.explanation = explanation(reader, message, side)
         self.go_on(None)
 
@@ -74,10 +74,14 @@ class Comparison:
                 self.tally.explained(steps)
             elif steps:
                 self.fail(difference.message, *steps[0])
-            elif GRAMMAR_TOO in rows(self.reader.title, side) and not readers.is_taken(answer):
+            elif self.is_forgiven(difference.side, side) and not readers.is_taken(answer):
                 self.tally.classes[side, GRAMMAR_TOO] += 1
             else:
                 self.fail(difference.message, side, "no class: " + self.refusal(message))
+
+    def is_forgiven(self, before, after):
+        """Whether what no class ends is forgiven where the grammar refuses it too: if nothing turned the side."""
+        return before == after and GRAMMAR_TOO in rows(self.reader.title, after)
 
     def fail(self, message, side, title):
         our, their = self.answers(message)
