@@ -129,15 +129,24 @@ fn speaks(engine: &mut Engine, d: u32, peer: &Address) -> Option<bool> {
     }
 }
 
-/// Has an engine send an Invoke, whose deadline is 1,000.
+/// Asks an engine for an Invoke in its first dialogue, whose deadline is 1,000.
+fn ask_invoke(engine: &mut Engine) -> Option<u64> {
+    let code = Code::Local(10);
+    engine.invoke(1, 1, Class::One, code, None, None, 1000).ok()
+}
+
+/// Has an engine send the Begin of its first dialogue to this address.
+fn send_begin(engine: &mut Engine, to: &Address) -> Option<()> {
+    engine.begin(1, to, None, &[]).ok()?;
+    Some(())
+}
+
+/// Has an engine send an Invoke.
 fn send_invoke(engine: &mut Engine) -> Option<()> {
     engine.new_dialogue().ok()?;
-    let code = Code::Local(10);
-    engine
-        .invoke(1, 1, Class::One, code, None, None, 1000)
-        .ok()?;
-    engine.begin(1, &address_of(0x0a), None, &[]).ok()?;
-    Some(())
+    ask_invoke(engine)?;
+    let to = address_of(0x0a);
+    send_begin(engine, &to)
 }
 
 /// An engine with one invocation, which was sent. A dialogue may stand still for 500 milliseconds.

@@ -40,23 +40,40 @@ pub(super) enum Subject<'h> {
     Codec,
 }
 
+/// An engine that goes on with the counters that stand behind `engine from`.
+fn resumed_engine<'h>(heap: Heap<'h>, words: &[Word<'_>]) -> Option<Engine<Heap<'h>>> {
+    let next_dialogue = text(words, 2).parse().ok()?;
+    let next_number = text(words, 3).parse().ok()?;
+    Some(engine::resumed(heap, next_dialogue, next_number))
+}
+
+/// The engine that the words behind `engine` say.
+fn engine_of<'h>(heap: Heap<'h>, words: &[Word<'_>]) -> Option<Engine<Heap<'h>>> {
+    let kind = text(words, 1);
+    if kind == "from" {
+        return resumed_engine(heap, words);
+    }
+    Some(engine::new_engine(heap, kind))
+}
+
 impl<'h> Subject<'h> {
+    /// What one layer alone is asked of; the codec where the word names no other.
+    fn of_layer(heap: Heap<'h>, word: &str) -> Subject<'h> {
+        match word {
+            "dialogue" => Subject::Dialogue(Dialogue::fresh(heap, 1, 1000, 0)),
+            "invocations" => Subject::Invocations(Invocations::new(heap, 1000)),
+            "feed" => Subject::Feed(Feed::new(heap)),
+            _ => Subject::Codec,
+        }
+    }
+
     /// The subject that the words of an example's first line say.
     pub(super) fn new(heap: Heap<'h>, words: &[Word<'_>]) -> Option<Subject<'h>> {
-        match (text(words, 0), text(words, 1)) {
-            ("engine", "from") => {
-                let next_dialogue = text(words, 2).parse().ok()?;
-                let next_number = text(words, 3).parse().ok()?;
-                let engine = engine::resumed(heap, next_dialogue, next_number);
-                Some(Subject::Engine(engine))
-            }
-            ("engine", kind) => Some(Subject::Engine(engine::new_engine(heap, kind))),
-            ("dialogue", _) => Some(Subject::Dialogue(Dialogue::fresh(heap, 1, 1000, 0))),
-            ("invocations", _) => Some(Subject::Invocations(Invocations::new(heap, 1000))),
-            ("feed", _) => Some(Subject::Feed(Feed::new(heap))),
-            ("codec", _) => Some(Subject::Codec),
-            _ => None,
+        let word = text(words, 0);
+        if word == "engine" {
+            return Some(Subject::Engine(engine_of(heap, words)?));
         }
+        Some(Subject::of_layer(heap, word))
     }
 
     /// Tells it a line, and adds the lines of its answer; nothing where it doesn't know the line, or
