@@ -19,7 +19,7 @@ use due::Due;
 /// ```
 ///
 /// Of the elements of indefinite form that are open it keeps their number alone.
-#[derive(Clone, Copy, Debug, PartialEq, Eq)]
+#[derive(Clone, Copy, Debug)]
 pub struct Scanner {
     /// What the next octet is.
     pub due: Due,

@@ -60,7 +60,7 @@ pub enum Component<'a> {
 }
 
 /// The forms of component, each with its tag (Q.773, Component Type Tag).
-#[derive(Clone, Copy, Debug, PartialEq, Eq)]
+#[derive(Clone, Copy)]
 pub enum Form {
     /// Invoke, A1.
     Invoke,

@@ -11,7 +11,7 @@ use ber_core::is_oid;
 use tcap_pdu::is_user_information;
 
 /// The requests of dialogue handling (Q.771, Dialogue handling).
-#[derive(Clone, Copy, Debug, PartialEq, Eq)]
+#[derive(Clone, Copy)]
 pub enum Control<'a> {
     /// TC-UNI.
     Uni {

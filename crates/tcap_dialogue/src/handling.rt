@@ -18,14 +18,14 @@ use std::alloc::Allocator;
 use tcap_component::Problem;
 
 /// A Reject that answers a component (Q.773, Reject component).
-#[derive(Clone, Copy, Debug, PartialEq, Eq)]
+#[derive(Clone, Copy)]
 pub struct Reject {
     pub id: Option<i8>,
     pub problem: Problem,
 }
 
 /// What a component tells, and the Reject that answers it, if one does.
-#[derive(Debug, Drop)]
+#[derive(Drop)]
 pub struct Handled<'m, A: Allocator> {
     pub told: Output<'m, A>,
     pub reject: Option<Reject>,

@@ -16,14 +16,14 @@ pub const MAX_QUEUE: usize = 60_000;
 pub const MAX_REJECT: usize = 8;
 
 /// The invocation that an Invoke asks for.
-#[derive(Clone, Copy, Debug, PartialEq, Eq)]
+#[derive(Clone, Copy, Debug)]
 pub struct Invoking {
     pub number: u64,
     pub class: Class,
 }
 
 /// A component of the queue: how many octets it has, and of an Invoke what it asks for.
-#[derive(Clone, Copy, Debug, PartialEq, Eq)]
+#[derive(Clone, Copy, Debug)]
 pub struct Part {
     pub len: usize,
     pub invoking: Option<Invoking>,

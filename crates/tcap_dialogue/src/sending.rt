@@ -6,7 +6,7 @@ pub mod written;
 use tcap_pdu::{DialoguePdu, TransId};
 
 /// A message without its dialogue portion: the identifiers, and the octets of the components.
-#[derive(Debug, Drop)]
+#[derive(Drop)]
 pub enum Bearer<'a> {
     /// Unidirectional.
     Uni {
@@ -35,7 +35,7 @@ pub enum Bearer<'a> {
 }
 
 /// The message of a request, with the dialogue PDU that it carries, if any.
-#[derive(Debug, Drop)]
+#[derive(Drop)]
 pub struct Sending<'a> {
     pub bearer: Bearer<'a>,
     pub pdu: Option<DialoguePdu<'a>>,

@@ -20,7 +20,7 @@ use timed::send_queued;
 use timers::Timers;
 
 /// What is known of an invoke identifier that is in use.
-#[derive(Clone, Copy, Debug, PartialEq, Eq)]
+#[derive(Clone, Copy, Debug)]
 struct Invocation {
     number: u64,
     class: Class,

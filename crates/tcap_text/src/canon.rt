@@ -24,7 +24,7 @@ use tcap_component::{Component, ComponentFault, Components, WriteFault, write_co
 use tcap_pdu::{Frame, PduFault, read_dialogue, write_dialogue, write_frame};
 
 /// Why there is no canonical form.
-#[derive(Clone, Copy, Debug, PartialEq, Eq)]
+#[derive(Clone, Copy)]
 pub enum CanonFault {
     /// Memory was refused.
     OutOfMemory,

@@ -1,5 +1,5 @@
 /// The verdict on the bytes of a message: the first that holds.
-#[derive(Clone, Copy, Debug, PartialEq, Eq)]
+#[derive(Clone, Copy)]
 pub enum Verdict {
     /// More than 65,535 bytes.
     TooLong,

@@ -14,7 +14,7 @@ use std::marker::Model;
 use telling::{due, due_count, first_due, push_due, told_first};
 
 /// When an invocation lapses, or when the wait of its identifier ends.
-#[derive(Clone, Copy, Debug, PartialEq, Eq)]
+#[derive(Clone, Copy, Debug)]
 pub(super) struct Timer {
     /// The deadline or the end of the wait, in milliseconds, at most 2^63.
     pub(super) time: u64,

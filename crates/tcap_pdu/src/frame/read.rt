@@ -19,7 +19,7 @@ use crate::trans_id::TransId;
 use ber_core::{is_element_list, read_alone, take_content, take_tagged};
 
 /// The message types (Q.773, Message type tag).
-#[derive(Clone, Copy, Debug, PartialEq, Eq)]
+#[derive(Clone, Copy)]
 pub enum MessageType {
     Uni,
     Begin,
