@@ -2,40 +2,26 @@ ghost use Rattle.std.specs.Prelude.{◌≡◌, nat_eq, OnSome, IfNone};
 ghost use Rattle.std.specs.Map.{set_value};
 ghost use Rattle.timed_table.specs.Row.{entries_of, with_value};
 
+use std::alloc::Global;
 use std::test::Fail;
 use timed_table::Table;
 
-/// A table of four values, of which the third has no time.
-fn sample(alloc: std::alloc::Global) -> Result<Table<u64>, Fail> {
+/// A table of two values, of which the second has no time.
+fn sample(alloc: Global) -> Result<Table<u64>, Fail> {
     let mut table = Table::new(alloc);
-    table.insert(3, 30, Some(70))?;
-    table.insert(5, 50, Some(40))?;
-    table.insert(8, 80, None)?;
-    table.insert(9, 90, Some(40))?;
+    table.insert(5, 50, Some(40)).ok().ok_or("no memory")?;
+    table.insert(8, 80, None).ok().ok_or("no memory")?;
     Ok(table)
 }
 
-/// How many values are due at a moment, and their sum.
-fn due_sum(table: &Table<u64>, moment: u64) -> (usize, u64) {
-    let mut count: usize = 0;
-    let mut sum: u64 = 0;
-    for value in table.due(moment) {
-        count = count.saturating_add(1);
-        sum = sum.saturating_add(*value);
-    }
-    (count, sum)
-}
-
-#[test]
-fn finds_what_was_inserted(rt: HostRuntime) -> Result<(), Fail> {
-    let table = sample(rt.alloc())?;
-    assert_eq!(rt; table.len(), 4);
-    assert_eq!(rt; table.get(5).copied(), Some(50));
-    assert_eq!(rt; table.get(6).copied(), None);
-    assert_eq!(rt; table.time_of(3), Some(70));
-    assert_eq!(rt; table.time_of(8), None);
-    assert_eq!(rt; table.first(), Some((40, 5)));
-    Ok(())
+/// What a table tells of an identifier: how many rows there are, the value, its time, and the first time of all.
+fn told(table: &Table<u64>, id: u32) -> (usize, Option<u64>, Option<u64>, Option<(u64, u32)>) {
+    (
+        table.len(),
+        table.get(id).copied(),
+        table.time_of(id),
+        table.first(),
+    )
 }
 
 /// Writes the value under an identifier, as a caller learns it.
@@ -49,48 +35,46 @@ fn overwrite(table: &mut Table<u64>, id: u32, value: u64) -> Option<()>
     Some(())
 }
 
+/// Sets the time of an identifier; how many values are due at a moment then, and their sum.
+fn due_after(table: &mut Table<u64>, id: u32, time: Option<u64>, moment: u64) -> (usize, u64) {
+    table.set_time(id, time);
+    let mut count: usize = 0;
+    let mut sum: u64 = 0;
+    for value in table.due(moment) {
+        count = count.saturating_add(1);
+        sum = sum.saturating_add(*value);
+    }
+    (count, sum)
+}
+
 #[test]
-fn writes_a_value_in_its_place(rt: HostRuntime) -> Result<(), Fail> {
+fn follows_its_changes(rt: HostRuntime) -> Result<(), Fail> {
     let mut table = sample(rt.alloc())?;
+    assert_eq!(rt; told(&table, 5), (2, Some(50), Some(40), Some((40, 5))));
     assert_eq!(rt; overwrite(&mut table, 5, 51), Some(()));
-    assert_eq!(rt; overwrite(&mut table, 6, 61), None);
-    assert_eq!(rt; table.get(5).copied(), Some(51));
-    assert_eq!(rt; table.time_of(5), Some(40));
-    Ok(())
-}
-
-#[test]
-fn follows_changes_of_times_and_removals(rt: HostRuntime) -> Result<(), Fail> {
-    let mut table = sample(rt.alloc())?;
-    table.set_time(5, None);
-    assert_eq!(rt; table.first(), Some((40, 9)));
-    table.set_time(8, Some(10));
-    assert_eq!(rt; table.first(), Some((10, 8)));
-    assert_eq!(rt; table.remove(8), Some(80));
-    assert_eq!(rt; table.remove(8), None);
-    assert_eq!(rt; table.first(), Some((40, 9)));
-    assert_eq!(rt; table.len(), 3);
-    Ok(())
-}
-
-#[test]
-fn walks_over_what_is_due(rt: HostRuntime) -> Result<(), Fail> {
-    let mut table = sample(rt.alloc())?;
-    assert_eq!(rt; due_sum(&table, 39), (0, 0));
-    assert_eq!(rt; due_sum(&table, 40), (2, 140));
-    assert_eq!(rt; due_sum(&table, 70), (3, 170));
-    table.remove(5);
-    assert_eq!(rt; due_sum(&table, 70), (2, 120));
+    // The identifier, its new time, the moment, how many are due then and their sum.
+    let rows = [
+        (6, Some(1), 40, (1, 51)),
+        (8, Some(40), 39, (0, 0)),
+        (8, Some(40), 40, (2, 131)),
+        (5, None, 40, (1, 80)),
+        (5, Some(10), 39, (1, 51)),
+    ];
+    for (id, time, moment, due) in rows {
+        assert_eq!(rt;
+            due_after(&mut table, id, time, moment),
+            due,
+            "{id} {moment}"
+        );
+    }
+    assert_eq!(rt; [table.remove(5), table.remove(5)], [Some(51), None]);
+    assert_eq!(rt; told(&table, 5), (1, None, None, Some((40, 8))));
     Ok(())
 }
 
 #[test]
 fn prints_its_values_by_identifier(rt: HostRuntime) -> Result<(), Fail> {
-    let table = sample(rt.alloc())?;
-    let text = format!(in rt.alloc(); "{table:?}")?;
-    assert_eq!(rt;
-        text.as_str(),
-        "{3: Some(30), 5: Some(50), 8: Some(80), 9: Some(90)}"
-    );
+    let text = format!(in rt.alloc(); "{:?}", sample(rt.alloc())?)?;
+    assert_eq!(rt; text.as_str(), "{5: Some(50), 8: Some(80)}");
     Ok(())
 }
