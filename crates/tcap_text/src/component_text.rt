@@ -1,7 +1,8 @@
-ghost use Rattle.std.specs.Prelude.{◌≡◌, ◌++◌, OnOk, IfOk, string_bytes, option_copied, option_map};
+ghost use Rattle.std.specs.Prelude.{◌≡◌, ◌++◌, codes, OnOk, IfOk, string_bytes, option_copied, option_map};
+ghost use Rattle.std.specs.Fmt.{signed_decimal};
 ghost use Rattle.tcap_component.specs.Views.{code_parts, body_parts, problem_parts, fault_parts, component_parts};
 ghost use Rattle.tcap_component.specs.Component.CodeParts.{global};
-ghost use Rattle.tcap_component.specs.Component.ComponentParts.{invoke};
+ghost use Rattle.tcap_component.specs.Component.ComponentParts.{invoke, error_back, reject_back};
 ghost use Rattle.tcap_text.specs.ComponentText.{identifier_words, code_words, coded_words, body_words, kind_words, problem_words, component_words, fault_words};
 
 use crate::text::add_optional_octets;
@@ -17,10 +18,9 @@ fn add_identifier<A: Allocator + Copy>(
     ensures { OnOk result (string_bytes text.new ≡ string_bytes text.old ++ identifier_words id) }
 {
     match id {
-        Some(id) => write!(text, "{id}")?,
-        None => text.push_str("-")?,
+        Some(id) => Ok(write!(text, "{id}")?),
+        None => Ok(text.push_str("-")?),
     }
-    Ok(())
 }
 
 /// An identifier, or `-` where there is none.
@@ -170,6 +170,48 @@ fn add_invoke<A: Allocator + Copy>(
     add_coded(alloc, text, code, parameter)
 }
 
+/// Adds the words of a result, by its name.
+fn add_result<A: Allocator + Copy>(
+    alloc: A,
+    text: &mut String<A>,
+    name: &str,
+    id: i8,
+    body: &Option<Body<'_>>,
+) -> Result<(), OutOfMemory>
+    ensures { OnOk result (string_bytes text.new ≡ string_bytes text.old ++ (name.now ++ (codes " " ++ (signed_decimal id ++ (codes " op " ++ body_words (option_map body_parts body.now)))))) }
+{
+    write!(text, "{name} {id} op ")?;
+    add_body(alloc, text, body)
+}
+
+/// Adds the words of an error.
+fn add_error<A: Allocator + Copy>(
+    alloc: A,
+    text: &mut String<A>,
+    id: i8,
+    code: &Code<'_>,
+    parameter: Option<&[u8]>,
+) -> Result<(), OutOfMemory>
+    ensures { OnOk result (string_bytes text.new ≡ string_bytes text.old ++ component_words (error_back id (code_parts code.now) (option_copied parameter.entry))) }
+{
+    write!(text, "error {id} code ")?;
+    add_coded(alloc, text, code, parameter)
+}
+
+/// Adds the words of a Reject.
+fn add_reject<A: Allocator + Copy>(
+    text: &mut String<A>,
+    id: Option<i8>,
+    problem: Problem,
+) -> Result<(), OutOfMemory>
+    ensures { OnOk result (string_bytes text.new ≡ string_bytes text.old ++ component_words (reject_back id (problem_parts problem))) }
+{
+    text.push_str("reject ")?;
+    add_identifier(text, id)?;
+    text.push_str(" ")?;
+    add_problem(text, problem)
+}
+
 /// Adds the words of a component.
 pub fn add_component<A: Allocator + Copy>(
     alloc: A,
@@ -185,32 +227,14 @@ pub fn add_component<A: Allocator + Copy>(
             code,
             parameter,
         } => add_invoke(alloc, text, *id, *linked, code, *parameter),
-        Component::ResultLast { id, body } => {
-            text.push_str("result last ")?;
-            write!(text, "{id}")?;
-            text.push_str(" op ")?;
-            add_body(alloc, text, body)
-        }
-        Component::ResultMore { id, body } => {
-            text.push_str("result more ")?;
-            write!(text, "{id}")?;
-            text.push_str(" op ")?;
-            add_body(alloc, text, body)
-        }
+        Component::ResultLast { id, body } => add_result(alloc, text, "result last", *id, body),
+        Component::ResultMore { id, body } => add_result(alloc, text, "result more", *id, body),
         Component::ErrorBack {
             id,
             code,
             parameter,
-        } => {
-            write!(text, "error {id} code ")?;
-            add_coded(alloc, text, code, *parameter)
-        }
-        Component::RejectBack { id, problem } => {
-            text.push_str("reject ")?;
-            add_identifier(text, *id)?;
-            text.push_str(" ")?;
-            add_problem(text, *problem)
-        }
+        } => add_error(alloc, text, *id, code, *parameter),
+        Component::RejectBack { id, problem } => add_reject(text, *id, *problem),
     }
 }
 

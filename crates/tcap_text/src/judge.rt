@@ -10,6 +10,7 @@ ghost use Rattle.tcap_text.specs.Text.{line};
 ghost use Rattle.tcap_text.specs.Verdict.{verdict_of_fault, message_of, is_known, is_read, is_good_portion, is_good_reason, components_verdict, portions_verdict, message_verdict, verdict_of, is_good, verdict_words};
 
 use crate::shown::Shown;
+use crate::text::{add_line, add_number};
 use crate::verdict::Verdict;
 use ber_core::OutOfMemory;
 use std::alloc::Allocator;
@@ -164,15 +165,14 @@ pub fn add_verdict<A: Allocator + Copy>(
     ensures { OnOk result (string_bytes text.new ≡ string_bytes text.old ++ line (verdict_words verdict)) }
 {
     match verdict {
-        Verdict::TooLong => write!(text, "fault too long\n")?,
-        Verdict::UnknownType => write!(text, "fault unknown type\n")?,
-        Verdict::BadlyFormatted => write!(text, "fault badly formatted\n")?,
-        Verdict::Incorrect => write!(text, "fault incorrect\n")?,
-        Verdict::Dialogue => write!(text, "fault dialogue\n")?,
-        Verdict::Component(number) => write!(text, "fault component {number}\n")?,
-        Verdict::Good => write!(text, "good\n")?,
+        Verdict::TooLong => add_line(text, "fault too long"),
+        Verdict::UnknownType => add_line(text, "fault unknown type"),
+        Verdict::BadlyFormatted => add_line(text, "fault badly formatted"),
+        Verdict::Incorrect => add_line(text, "fault incorrect"),
+        Verdict::Dialogue => add_line(text, "fault dialogue"),
+        Verdict::Component(number) => add_number(text, "fault component", number),
+        Verdict::Good => add_line(text, "good"),
     }
-    Ok(())
 }
 
 /// The line of a verdict alone.
