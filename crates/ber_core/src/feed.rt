@@ -9,7 +9,7 @@ use pieces::{End, cut_piece};
 use std::alloc::{Allocator, Global};
 use std::marker::Model;
 
-/// A stream of messages that comes in pieces, cut anywhere; each octet is looked at once.
+/// A stream of messages that comes in pieces, cut anywhere.
 ///
 /// The messages are the elements of the stream, one after the other, each of at most 65,535 octets.
 /// Once a fault stands, no more messages come. A contract sees the octets that no message has yet and the
