@@ -5,13 +5,13 @@ use tcap_component::{
     component_len, read_component, write_component,
 };
 
-/// The general fault with this code, of octets that don't begin as a Reject.
-fn general(code: u8, id: Option<i8>) -> Option<ComponentFault> {
+/// The general fault with this code, of octets that begin as a Reject or not.
+fn general(code: u8, id: Option<i8>, was_reject: bool) -> Option<ComponentFault> {
     let problem = Problem::new(Kind::General, code)?;
     Some(ComponentFault {
         problem,
         id,
-        was_reject: false,
+        was_reject,
     })
 }
 
@@ -67,6 +67,16 @@ fn listed(content: &[u8]) -> (usize, Option<ComponentFault>) {
     (count, last)
 }
 
+/// Whether these make a problem, which the provider tells or not.
+fn is_problem(kind: Kind, code: u8, by_provider: bool) -> bool {
+    match Problem::new(kind, code) {
+        Some(problem) => {
+            problem.kind() == kind && problem.code() == code && problem.by_provider() == by_provider
+        }
+        None => false,
+    }
+}
+
 #[test]
 fn problems(rt: HostRuntime) -> Result<(), Fail> {
     assert!(rt; Problem::new(Kind::General, 128).is_none());
@@ -81,9 +91,7 @@ fn problems(rt: HostRuntime) -> Result<(), Fail> {
         (Kind::Error, 127, false),
     ];
     for (kind, code, by_provider) in rows {
-        let problem = Problem::new(kind, code).ok_or("at most 127")?;
-        assert!(rt; problem.kind() == kind && problem.code() == code);
-        assert_eq!(rt; problem.by_provider(), by_provider);
+        assert!(rt; is_problem(kind, code, by_provider), "{kind:?} {code}");
     }
     Ok(())
 }
@@ -148,7 +156,7 @@ fn faults(rt: HostRuntime) -> Result<(), Fail> {
         (&[0xa1, 0x05, 0x02, 0x01, 0x07], 2, None),
     ];
     for (octets, code, id) in rows {
-        assert_eq!(rt; fault_of(octets), general(code, id));
+        assert!(rt; fault_of(octets) == general(code, id, false), "{octets:?}");
     }
     Ok(())
 }
@@ -176,7 +184,7 @@ fn rejects(rt: HostRuntime) -> Result<(), Fail> {
         ),
     ];
     for (octets, id, kind, code) in rows {
-        assert_eq!(rt; reject_of(octets), Some((id, kind, code)));
+        assert!(rt; reject_of(octets) == Some((id, kind, code)), "{octets:?}");
     }
     let faulty: [(&[u8], u8); 5] = [
         (&[0xa4], 2),
@@ -186,13 +194,7 @@ fn rejects(rt: HostRuntime) -> Result<(), Fail> {
         (&[0xa4, 0x05, 0x05, 0x00, 0x80, 0x01, 0x80], 1),
     ];
     for (octets, code) in faulty {
-        let problem = Problem::new(Kind::General, code).ok_or("at most 127")?;
-        let fault = ComponentFault {
-            problem,
-            id: None,
-            was_reject: true,
-        };
-        assert_eq!(rt; fault_of(octets), Some(fault));
+        assert!(rt; fault_of(octets) == general(code, None, true), "{octets:?}");
     }
     Ok(())
 }
@@ -203,9 +205,7 @@ fn components_end_at_a_fault(rt: HostRuntime) -> Result<(), Fail> {
         0xa2, 0x03, 0x02, 0x01, 0x80, 0xa5, 0x03, 0x02, 0x01, 0x07, 0xa2, 0x03, 0x02, 0x01, 0x7f,
         0xa3, 0x06, 0x02, 0x01, 0x7f, 0x02, 0x01, 0x01,
     ];
-    let (count, fault) = listed(&content);
-    assert_eq!(rt; count, 1);
-    assert_eq!(rt; fault, general(0, Some(7)));
+    assert!(rt; listed(&content) == (1, general(0, Some(7), false)));
     Ok(())
 }
 
@@ -274,7 +274,7 @@ fn components_refused(rt: HostRuntime) -> Result<(), Fail> {
             code,
             parameter: Some(parameter),
         };
-        assert_eq!(rt; refusal(rt.alloc(), &invoke), Some(fault));
+        assert!(rt; refusal(rt.alloc(), &invoke) == Some(fault), "{fault:?}");
     }
     let more = Component::ResultMore {
         id: 1,
@@ -283,6 +283,6 @@ fn components_refused(rt: HostRuntime) -> Result<(), Fail> {
             parameter: Some(&cut),
         }),
     };
-    assert_eq!(rt; refusal(rt.alloc(), &more), Some(WriteFault::BadParameter));
+    assert!(rt; refusal(rt.alloc(), &more) == Some(WriteFault::BadParameter));
     Ok(())
 }

@@ -21,7 +21,7 @@ fn lengths_of(bytes: &[u8]) -> Option<(usize, usize)> {
 
 #[test]
 fn elements_and_faults(rt: HostRuntime) -> Result<(), Fail> {
-    let rows: [(&[u8], BerFault); 12] = [
+    let rows: [(&[u8], BerFault); 13] = [
         // octets that end too early
         (&[], BerFault::Short),
         (&[0x30, 0x80, 0x00], BerFault::Short),
@@ -37,99 +37,119 @@ fn elements_and_faults(rt: HostRuntime) -> Result<(), Fail> {
         (&[0x04, 0xff], BerFault::BadLength),
         (&[0x04, 0x84, 0x00, 0x01, 0x00, 0x00], BerFault::BadLength),
         (&[0x04, 0x84, 0x01, 0x00, 0x00, 0x00], BerFault::BadLength),
+        (&[0x04, 0x80], BerFault::IndefinitePrimitive),
     ];
     for (bytes, fault) in rows {
-        assert_eq!(rt; fault_of(bytes), Some(fault));
+        assert!(rt; fault_of(bytes) == Some(fault), "{bytes:?}");
     }
-    assert_eq!(rt;
-        fault_of(&[0x04, 0x80]),
-        Some(BerFault::IndefinitePrimitive)
-    );
     let rows: [(&[u8], usize, usize); 3] = [
         (&[0x1f, 0x81, 0x81, 0x81, 0x01, 0x00], 0, 0),
         (&[0x04, 0x83, 0x00, 0x00, 0x01, 0xaa, 0x05], 1, 1),
         (&[0x30, 0x80, 0x04, 0x00, 0x00, 0x00, 0x05], 2, 1),
     ];
     for (bytes, content, rest) in rows {
-        assert_eq!(rt; lengths_of(bytes), Some((content, rest)));
+        assert!(rt; lengths_of(bytes) == Some((content, rest)), "{bytes:?}");
     }
     Ok(())
 }
 
-/// Openings of indefinite elements, one in another, around an element of 60,000 content octets.
+/// Adds an element of so many content octets.
+fn add_element(alloc: Global, bytes: &mut Vec<u8>, length: u16) -> Result<(), OutOfMemory> {
+    let content = vec![in alloc; 0u8; usize::from(length)]?;
+    write_element(bytes, &[0x04], content.as_slice())
+}
+
+/// Adds two octets, so many times.
+fn add_pairs(bytes: &mut Vec<u8>, pair: [u8; 2], count: u8) -> Result<(), OutOfMemory> {
+    for _ in 0..count {
+        bytes.extend_from_slice(&pair)?;
+    }
+    Ok(())
+}
+
+/// Indefinite elements, one in another, around an element of 60,000 content octets.
 fn nested(alloc: Global, depth: u8) -> Result<Vec<u8>, OutOfMemory> {
     let mut bytes = Vec::new(alloc);
-    for _ in 0..depth {
-        bytes.extend_from_slice(&[0x30, 0x80])?;
-    }
-    let content = vec![in alloc; 0u8; 60_000]?;
-    write_element(&mut bytes, &[0x04], content.as_slice())?;
-    for _ in 0..depth {
-        bytes.extend_from_slice(&[0x00, 0x00])?;
-    }
+    add_pairs(&mut bytes, [0x30, 0x80], depth)?;
+    add_element(alloc, &mut bytes, 60_000)?;
+    add_pairs(&mut bytes, [0x00, 0x00], depth)?;
     Ok(bytes)
 }
 
 #[test]
 fn elements_one_in_another(rt: HostRuntime) -> Result<(), Fail> {
     let deepest = nested(rt.alloc(), MAX_DEPTH)?;
-    assert_eq!(rt; lengths_of(deepest.as_slice()), Some((60_128, 0)));
+    assert!(rt; lengths_of(deepest.as_slice()) == Some((60_128, 0)));
     let too_deep = nested(rt.alloc(), 33)?;
-    assert_eq!(rt; fault_of(too_deep.as_slice()), Some(BerFault::TooDeep));
+    assert!(rt; fault_of(too_deep.as_slice()) == Some(BerFault::TooDeep));
     Ok(())
 }
 
 #[test]
 fn whole_longer_than_a_length(rt: HostRuntime) -> Result<(), Fail> {
-    let content = vec![in rt.alloc(); 0u8; 40_000]?;
     let mut bytes = Vec::new(rt.alloc());
-    bytes.extend_from_slice(&[0x30, 0x80])?;
-    write_element(&mut bytes, &[0x04], content.as_slice())?;
-    write_element(&mut bytes, &[0x04], content.as_slice())?;
-    bytes.extend_from_slice(&[0x00, 0x00])?;
-    assert_eq!(rt; lengths_of(bytes.as_slice()), Some((80_008, 0)));
+    add_pairs(&mut bytes, [0x30, 0x80], 1)?;
+    add_element(rt.alloc(), &mut bytes, 40_000)?;
+    add_element(rt.alloc(), &mut bytes, 40_000)?;
+    add_pairs(&mut bytes, [0x00, 0x00], 1)?;
+    assert!(rt; lengths_of(bytes.as_slice()) == Some((80_008, 0)));
     Ok(())
+}
+
+/// The length in the first head, whether it is constructed, and how many octets follow it.
+fn head_of(bytes: &[u8]) -> Result<(Option<usize>, bool, usize), BerFault> {
+    let head = read_head(bytes)?;
+    Ok((head.length, head.constructed, head.rest.len()))
 }
 
 #[test]
 fn heads(rt: HostRuntime) -> Result<(), Fail> {
-    let head = read_head(&[0x62, 0x82, 0x00, 0x15, 0x48])?;
-    assert_eq!(rt; head.length, Some(0x15));
-    assert!(rt; head.constructed);
-    assert_eq!(rt; head.rest.len(), 1);
-    let head = read_head(&[0x30, 0x80])?;
-    assert_eq!(rt; head.length, None);
-    assert_eq!(rt;
-        read_head(&[0x04, 0x80]).err(),
-        Some(BerFault::IndefinitePrimitive)
-    );
+    assert!(rt; head_of(&[0x62, 0x82, 0x00, 0x15, 0x48]) == Ok((Some(0x15), true, 1)));
+    assert!(rt; head_of(&[0x30, 0x80]) == Ok((None, true, 0)));
+    assert!(rt; head_of(&[0x04, 0x80]) == Err(BerFault::IndefinitePrimitive));
     Ok(())
+}
+
+/// Whether two elements are given, that the octets are too short, and then nothing.
+fn gives_two(bytes: &[u8]) -> bool {
+    let mut items = Elements::new(bytes);
+    let has_two = matches!(items.next(), Some(Ok(_))) && matches!(items.next(), Some(Ok(_)));
+    has_two && matches!(items.next(), Some(Err(BerFault::Short))) && items.next().is_none()
 }
 
 #[test]
 fn lists(rt: HostRuntime) -> Result<(), Fail> {
-    let mut items = Elements::new(&[0x04, 0x01, 0xaa, 0x05, 0x00, 0xff]);
-    assert!(rt; matches!(items.next(), Some(Ok(_))));
-    assert!(rt; matches!(items.next(), Some(Ok(_))));
-    assert!(rt; matches!(items.next(), Some(Err(BerFault::Short))));
-    assert!(rt; items.next().is_none());
+    assert!(rt; gives_two(&[0x04, 0x01, 0xaa, 0x05, 0x00, 0xff]));
     assert!(rt; is_element_list(&[]));
     assert!(rt; is_element_list(&[0x04, 0x01, 0xaa, 0x05, 0x00]));
     assert!(rt; !is_element_list(&[0x04, 0x01, 0xaa, 0x05]));
     Ok(())
 }
 
+/// Whether the first of two elements is taken by its tag alone, and else by any.
+fn takes_the_first(bytes: &[u8]) -> bool {
+    let is_by_tag = take_content(bytes, 0x48).is_some();
+    let is_by_another = take_tagged(bytes, 0x49).0.is_some() | take_content(bytes, 0x49).is_some();
+    is_by_tag & !is_by_another & (take_any(bytes).1.len() == 2)
+}
+
+/// Whether these octets are one element.
+fn takes_only(bytes: &[u8]) -> bool {
+    take_only(bytes, 0x48).is_some()
+}
+
+/// Whether these octets are read as one element.
+fn is_alone(bytes: &[u8]) -> bool {
+    read_alone(bytes).is_some()
+}
+
 #[test]
 fn parts_of_a_sequence(rt: HostRuntime) -> Result<(), Fail> {
-    let bytes = [0x48, 0x01, 0x07, 0x49, 0x00];
-    assert!(rt; take_tagged(&bytes, 0x49).0.is_none());
-    assert!(rt; take_content(&bytes, 0x48).is_some());
-    assert!(rt; take_content(&bytes, 0x49).is_none());
-    assert_eq!(rt; take_any(&bytes).1.len(), 2);
-    assert!(rt; take_only(&bytes, 0x48).is_none());
-    assert!(rt; take_only(&[0x48, 0x01, 0x07], 0x48).is_some());
-    assert!(rt; read_alone(&bytes).is_none());
-    assert!(rt; read_alone(&[0x48, 0x01, 0x07]).is_some());
+    let one = [0x48, 0x01, 0x07];
+    let two = [0x48, 0x01, 0x07, 0x49, 0x00];
+    assert!(rt; takes_the_first(&two));
+    assert!(rt; takes_only(&one) & !takes_only(&two));
+    assert!(rt; is_alone(&one) & !is_alone(&two));
     Ok(())
 }
 
@@ -146,7 +166,7 @@ fn object_identifiers(rt: HostRuntime) -> Result<(), Fail> {
         (&[0x01; 256], false),
     ];
     for (content, is) in rows {
-        assert_eq!(rt; is_oid(content), is);
+        assert!(rt; is_oid(content) == is, "{content:?}");
     }
     Ok(())
 }
@@ -158,7 +178,7 @@ fn heads_and_elements_written(rt: HostRuntime) -> Result<(), Fail> {
     write_element(&mut bytes, &[0x04], &[0xaa])?;
     write_head(&mut bytes, &[0x62], 65_531)?;
     let wanted = [0x6c, 0x81, 0xc8, 0x04, 0x01, 0xaa, 0x62, 0x82, 0xff, 0xfb];
-    assert_eq!(rt; bytes.as_slice(), wanted.as_slice());
+    assert!(rt; bytes.as_slice() == wanted.as_slice());
     Ok(())
 }
 
@@ -188,7 +208,7 @@ fn stream_in_two_pieces(rt: HostRuntime) -> Result<(), Fail> {
             2
         };
         let told = cut_once(rt.alloc(), &stream, at);
-        assert_eq!(rt; told, Ok((before, 2 - before, 1)));
+        assert!(rt; told == Ok((before, 2 - before, 1)), "at {at}");
     }
     Ok(())
 }

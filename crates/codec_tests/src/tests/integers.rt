@@ -1,4 +1,5 @@
-use ber_core::{read_int, write_int};
+use ber_core::{OutOfMemory, read_int, write_int};
+use std::alloc::Global;
 use std::test::Fail;
 
 #[test]
@@ -15,15 +16,21 @@ fn integers_read(rt: HostRuntime) -> Result<(), Fail> {
         (&[0x01, 0x00, 0x00, 0x00, 0x00], None),
     ];
     for (content, value) in rows {
-        assert_eq!(rt; read_int(content), value);
+        assert!(rt; read_int(content) == value, "{content:?}");
     }
     Ok(())
 }
 
+/// An INTEGER of this value.
+fn written(alloc: Global, value: i32) -> Result<Vec<u8>, OutOfMemory> {
+    let mut out = Vec::new(alloc);
+    write_int(&mut out, 0x02, value)?;
+    Ok(out)
+}
+
 #[test]
 fn integer_written(rt: HostRuntime) -> Result<(), Fail> {
-    let mut out = Vec::new(rt.alloc());
-    assert_eq!(rt; write_int(&mut out, 0x02, 128), Ok(()));
-    assert_eq!(rt; out.as_slice(), [0x02, 0x02, 0x00, 0x80].as_slice());
+    let out = written(rt.alloc(), 128)?;
+    assert!(rt; out.as_slice() == [0x02, 0x02, 0x00, 0x80].as_slice());
     Ok(())
 }

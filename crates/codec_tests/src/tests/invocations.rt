@@ -16,17 +16,26 @@ fn add<A: Allocator + Copy>(
     Some(list.add(id, number, Class::One, timeout))
 }
 
+/// Whether an identifier is taken in, and then no second time.
+fn is_taken_once(list: &mut Invocations, id: i8, number: u64) -> bool {
+    add(list, id, number, number) == Some(Ok(()))
+        && add(list, id, u64::MAX, 1) == Some(Err(AddFault::InUse))
+}
+
+/// Whether all but one are due a moment before the last deadline, and all at it; and all are open.
+fn are_all_due(list: &mut Invocations) -> bool {
+    list.sent(0);
+    list.due_count(255) == 255 && list.due_count(256) == 256 && list.open_count() == 256
+}
+
 #[test]
 fn every_identifier_in_use(rt: HostRuntime) -> Result<(), Fail> {
     let mut list = Invocations::new(rt.alloc(), 0);
     let mut number = 0u64;
     for id in i8::MIN..=i8::MAX {
         number = number.saturating_add(1);
-        assert_eq!(rt; add(&mut list, id, number, number), Some(Ok(())));
-        assert_eq!(rt; add(&mut list, id, u64::MAX, 1), Some(Err(AddFault::InUse)));
+        assert!(rt; is_taken_once(&mut list, id, number), "{id}");
     }
-    list.sent(0);
-    assert!(rt; list.due_count(255) == 255 && list.due_count(256) == 256);
-    assert!(rt; list.open_count() == 256);
+    assert!(rt; are_all_due(&mut list));
     Ok(())
 }

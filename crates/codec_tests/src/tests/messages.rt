@@ -1,20 +1,42 @@
+ghost use Rattle.tcap_pdu.specs.FrameSpelling.{HasCause};
+ghost use Rattle.tcap_pdu.specs.FrameViews.{message};
+
 use std::alloc::Global;
 use std::test::Fail;
 use tcap_pdu::{AbortPart, Frame, FrameFault, TransId, front_ids, read_frame, write_frame};
 
+/// Whether no octet, and five, are no identifier.
+fn has_its_lengths() -> bool {
+    TransId::new(&[]).is_none() & TransId::new(&[0, 0, 0, 0, 1]).is_none()
+}
+
+/// Whether a number and its four octets are one identifier.
+fn is_its_number() -> bool {
+    let id = TransId::of(255);
+    id.octets() == [0x00, 0x00, 0x00, 0xff].as_slice() && id.as_u32() == Some(255)
+}
+
+/// Whether an identifier of one octet is kept, and has no number.
+fn is_short() -> bool {
+    let Some(short) = TransId::new(&[0x07]) else {
+        return false;
+    };
+    // Equal octets, and not an equal number.
+    short.octets().len() == 1 && short.as_u32().is_none() && short != TransId::of(7)
+}
+
+/// Whether identifiers of equal octets are equal.
+fn is_equal() -> bool {
+    let seven = TransId::of(7);
+    TransId::new(&[0, 0, 0, 7]) == Some(TransId::of(7)) && seven.copied() == seven
+}
+
 #[test]
 fn identifiers(rt: HostRuntime) -> Result<(), Fail> {
-    assert!(rt; TransId::new(&[]).is_none());
-    assert!(rt; TransId::new(&[0, 0, 0, 0, 1]).is_none());
-    assert!(rt; TransId::of(255).octets() == [0x00, 0x00, 0x00, 0xff].as_slice());
-    assert_eq!(rt; TransId::of(255).as_u32(), Some(255));
-    let short = TransId::new(&[0x07]);
-    assert_eq!(rt; short.as_ref().map(|id| id.octets().len()), Some(1));
-    assert_eq!(rt; short.as_ref().and_then(|id| id.as_u32()), None);
-    // Equal octets, and not an equal number.
-    assert!(rt; short != Some(TransId::of(7)));
-    assert!(rt; TransId::new(&[0, 0, 0, 7]) == Some(TransId::of(7)));
-    assert!(rt; TransId::of(7).copied() == TransId::of(7));
+    assert!(rt; has_its_lengths());
+    assert!(rt; is_its_number());
+    assert!(rt; is_short());
+    assert!(rt; is_equal());
     Ok(())
 }
 
@@ -66,9 +88,20 @@ fn messages_read_and_written(rt: HostRuntime) -> Result<(), Fail> {
     ];
     for (bytes, canonical) in rows {
         let again = rewritten(rt.alloc(), bytes);
-        assert_eq!(rt; again.as_deref(), Some(canonical), "{bytes:?}");
+        assert!(rt; again.as_deref() == Some(canonical), "{bytes:?}");
     }
     Ok(())
+}
+
+/// Whether the message is written as these octets and read from them, and not with an octet more.
+fn is_read_again(alloc: Global, frame: &Frame<'_>, octets: &[u8]) -> Option<bool>
+    requires { HasCause (message frame.now) }
+{
+    let mut written = write_frame(alloc, frame).ok()?;
+    let is_same = written.as_slice() == octets && read_frame(octets).ok().as_ref() == Some(frame);
+    written.push(0).ok()?;
+    let fault = read_frame(&written).err();
+    Some(is_same && fault == Some(FrameFault::BadlyFormatted))
 }
 
 #[test]
@@ -78,21 +111,24 @@ fn parts_of_messages(rt: HostRuntime) -> Result<(), Fail> {
         reason: AbortPart::Cause(2),
     };
     let bytes: &[u8] = &[0x67, 0x09, 0x49, 0x04, 0, 0, 0, 1, 0x4a, 0x01, 0x02];
-    assert_eq!(rt; write_frame(rt.alloc(), &abort).as_deref(), Ok(bytes));
-    assert!(rt; read_frame(bytes) == Ok(abort));
+    assert!(rt; is_read_again(rt.alloc(), &abort, bytes) == Some(true));
     let go_on = Frame::Continue {
         otid: TransId::of(5),
         dtid: TransId::of(1),
         dialogue: Some(&[0x28, 0x00]),
         components: &[0xa5, 0x00],
     };
-    let mut bytes = write_frame(rt.alloc(), &go_on).unwrap_or(Vec::new(rt.alloc()));
-    assert_eq!(rt; bytes.len(), 22);
-    assert!(rt; read_frame(&bytes) == Ok(go_on));
-    // Nothing may follow the message.
-    bytes.push(0)?;
-    assert_eq!(rt; read_frame(&bytes).err(), Some(FrameFault::BadlyFormatted));
+    let bytes: &[u8] = &[
+        0x65, 0x14, 0x48, 0x04, 0, 0, 0, 5, 0x49, 0x04, 0, 0, 0, 1, 0x6b, 0x02, 0x28, 0x00, 0x6c,
+        0x02, 0xa5, 0x00,
+    ];
+    assert!(rt; is_read_again(rt.alloc(), &go_on, bytes) == Some(true));
     Ok(())
+}
+
+/// Whether the bytes are no message for this fault, and the fault has this P-Abort cause.
+fn is_refused(bytes: &[u8], fault: FrameFault, cause: u8) -> bool {
+    read_frame(bytes).err() == Some(fault) && fault.cause() == cause
 }
 
 #[test]
@@ -161,10 +197,20 @@ fn faults_and_causes(rt: HostRuntime) -> Result<(), Fail> {
         ),
     ];
     for (bytes, fault, cause) in rows {
-        assert_eq!(rt; read_frame(bytes).err(), Some(fault), "{bytes:?}");
-        assert_eq!(rt; fault.cause(), cause);
+        assert!(rt; is_refused(bytes, fault, cause), "{bytes:?}");
     }
     Ok(())
+}
+
+/// The last octet of an identifier.
+fn last_octet(id: Option<TransId>) -> Option<u8> {
+    id?.octets().last().copied()
+}
+
+/// Origin and destination at the front of a message, by their last octet.
+fn front_octets(bytes: &[u8]) -> (Option<u8>, Option<u8>) {
+    let (origin, destination) = front_ids(bytes);
+    (last_octet(origin), last_octet(destination))
 }
 
 #[test]
@@ -217,10 +263,7 @@ fn fronts_of_faulty_messages(rt: HostRuntime) -> Result<(), Fail> {
         (&[0x42, 0x06, 0x48, 0x04, 0, 0, 0, 7], None, None),
     ];
     for (bytes, origin, destination) in rows {
-        let (o, d) = front_ids(bytes);
-        let last = |id: TransId| id.octets().last().copied();
-        assert_eq!(rt; o.and_then(last), origin, "{bytes:?}");
-        assert_eq!(rt; d.and_then(last), destination, "{bytes:?}");
+        assert!(rt; front_octets(bytes) == (origin, destination), "{bytes:?}");
     }
     Ok(())
 }

@@ -2,42 +2,58 @@ use std::alloc::{AllocError, Global};
 use std::test::Fail;
 use tcap_pdu::{Frame, FrameFault, PduFault, TransId, frame_fits, read_frame, write_frame};
 
+/// Adds two octets, so many times.
+fn add_pairs(bytes: &mut Vec<u8>, pair: [u8; 2], count: usize) -> Result<(), AllocError> {
+    for _ in 0..count {
+        bytes.extend_from_slice(&pair)?;
+    }
+    Ok(())
+}
+
 /// A Begin of indefinite length, its dialogue portion too, and in it so many indefinite elements, one
 /// in another.
 fn nested(alloc: Global, open: usize) -> Result<Vec<u8>, AllocError> {
     let mut bytes = Vec::new(alloc);
     bytes.extend_from_slice(&[0x62, 0x80, 0x48, 0x01, 0x07, 0x6b, 0x80])?;
-    for _ in 0..open {
-        bytes.extend_from_slice(&[0x30, 0x80])?;
-    }
-    for _ in 0..open {
-        bytes.extend_from_slice(&[0x00, 0x00])?;
-    }
-    bytes.extend_from_slice(&[0x00, 0x00, 0x00, 0x00])?;
+    add_pairs(&mut bytes, [0x30, 0x80], open)?;
+    add_pairs(&mut bytes, [0x00, 0x00], open.saturating_add(2))?;
     Ok(bytes)
+}
+
+/// How many octets the dialogue portion of such a Begin has, or why it is no message.
+fn portion_len(alloc: Global, open: usize) -> Option<Result<Option<usize>, FrameFault>> {
+    let bytes = nested(alloc, open).ok()?;
+    match read_frame(&bytes) {
+        Ok(frame) => Some(Ok(frame.dialogue().map(|content| content.len()))),
+        Err(fault) => Some(Err(fault)),
+    }
 }
 
 #[test]
 fn depth_of_a_portion(rt: HostRuntime) -> Result<(), Fail> {
     // The message and its portion are two of the 32 that may be open.
-    let deepest = nested(rt.alloc(), 30)?;
-    let portion = read_frame(&deepest)?.dialogue();
-    assert_eq!(rt; portion.map(|content| content.len()), Some(120));
-    let too_deep = nested(rt.alloc(), 31)?;
-    assert_eq!(rt;
-        read_frame(&too_deep).err(),
-        Some(FrameFault::BadlyFormatted)
-    );
+    assert!(rt; portion_len(rt.alloc(), 30) == Some(Ok(Some(120))));
+    assert!(rt; portion_len(rt.alloc(), 31) == Some(Err(FrameFault::BadlyFormatted)));
     Ok(())
+}
+
+/// The message that the bytes are, written with another dialogue portion and no components.
+fn with_other_portions(alloc: Global, bytes: &[u8]) -> Option<Vec<u8>> {
+    let frame = read_frame(bytes)
+        .ok()?
+        .with_portions(Some(&[0x28, 0x00]), &[]);
+    if !frame.components().is_empty() {
+        return None;
+    }
+    write_frame(alloc, &frame).ok()
 }
 
 #[test]
 fn other_portions(rt: HostRuntime) -> Result<(), Fail> {
     let bytes = [0x62, 0x07, 0x48, 0x01, 0x07, 0x6c, 0x02, 0xa5, 0x00];
-    let frame = read_frame(&bytes)?.with_portions(Some(&[0x28, 0x00]), &[]);
-    assert_eq!(rt; frame.components().len(), 0);
     let wanted: &[u8] = &[0x62, 0x07, 0x48, 0x01, 0x07, 0x6b, 0x02, 0x28, 0x00];
-    assert_eq!(rt; write_frame(rt.alloc(), &frame).as_deref(), Ok(wanted));
+    let written = with_other_portions(rt.alloc(), &bytes);
+    assert!(rt; written.as_deref() == Some(wanted));
     Ok(())
 }
 
