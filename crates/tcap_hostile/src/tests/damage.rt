@@ -172,21 +172,41 @@ fn is_bounded(engine: &Engine, from: &Address, octets: usize, told: &[Output<'_>
     Some(has_sent & is_short & (has_second == is_born) & !has_third & (is_closed | !is_over))
 }
 
-/// Whether such an engine takes these octets within its bounds, and the invocation has one closing indication
-/// once its deadline has come. They come from an address of the same octets, the first 255 of them, and all
-/// that is sent, then and later, goes there and can be read. By then no dialogue stands, since none may stand
-/// still for so long.
+/// Whether the invocation 1 of an engine, of which this was told, has one closing indication once its deadline
+/// has come. By then no dialogue stands, since none may stand still for so long.
+fn is_closed_once(engine: &mut Engine, told: &[Output<'_>]) -> Option<bool> {
+    let lapsed = engine.advance(1000).ok()?;
+    let closed = closings(told)?.saturating_add(closings(lapsed.as_slice())?);
+    let is_over = engine.state_of(1).is_none() & engine.state_of(2).is_none();
+    Some((closed == 1) & is_over)
+}
+
+/// Whether what an engine told of so many octets from this address is within its bounds, and so is what it says
+/// and tells later.
+fn goes_on_well(
+    engine: &mut Engine,
+    from: &Address,
+    octets: usize,
+    told: &[Output<'_>],
+) -> Option<bool> {
+    let in_bounds = is_bounded(engine, from, octets, told)?;
+    let first_speaks = speaks(engine, 1, from)?;
+    let second_speaks = speaks(engine, 2, from)?;
+    Some(in_bounds & first_speaks & second_speaks & is_closed_once(engine, told)?)
+}
+
+/// Whether an engine takes these octets from this address within its bounds.
+fn takes(engine: &mut Engine, from: &Address, octets: &[u8]) -> Option<bool> {
+    let told = engine.receive(from, octets).ok()?;
+    goes_on_well(engine, from, octets.len(), told.as_slice())
+}
+
+/// Whether an engine that waits for a result takes these octets within its bounds. They come from an address of
+/// the same octets, the first 255 of them, and all that is sent, then and later, goes there and can be read.
 fn is_heard(alloc: Global, octets: &[u8]) -> Option<bool> {
     let mut engine = waiting_engine(alloc)?;
     let from = Address::new(octets.get(..octets.len().min(255))?)?;
-    let told = engine.receive(&from, octets).ok()?;
-    let in_bounds = is_bounded(&engine, &from, octets.len(), told.as_slice())?;
-    let first_speaks = speaks(&mut engine, 1, &from)?;
-    let second_speaks = speaks(&mut engine, 2, &from)?;
-    let lapsed = engine.advance(1000).ok()?;
-    let closed = closings(told.as_slice())?.saturating_add(closings(lapsed.as_slice())?);
-    let is_over = engine.state_of(1).is_none() & engine.state_of(2).is_none();
-    Some(in_bounds & first_speaks & second_speaks & (closed == 1) & is_over)
+    takes(&mut engine, &from, octets)
 }
 
 /// Whether these octets do no harm, whatever they are given to.

@@ -55,6 +55,51 @@ fn tell_again<'h>(
     }
 }
 
+/// Tells a line by its words, and again where memory was refused.
+fn tell_line<'h>(
+    alloc: Global,
+    heap: Heap<'h>,
+    refusal: Refusal,
+    subject: &mut Subject<'h>,
+    line: &str,
+    told: &mut String,
+) -> Option<u64> {
+    let words = words_of(alloc, line)?;
+    tell_again(alloc, heap, refusal, subject, &words, told)
+}
+
+/// Tells the lines of an example behind its first, and adds them with their answers: how often memory was refused.
+fn tell_lines<'h>(
+    alloc: Global,
+    heap: Heap<'h>,
+    refusal: Refusal,
+    subject: &mut Subject<'h>,
+    example: &str,
+    told: &mut String,
+) -> Option<u64> {
+    let mut refusals = 0u64;
+    let mut is_first = true;
+    for line in example.lines() {
+        if line.starts_with(' ') {
+            continue;
+        }
+        write!(told, "{line}\n").ok()?;
+        if is_first {
+            is_first = false;
+            continue;
+        }
+        let count = tell_line(alloc, heap, refusal, subject, line, told)?;
+        refusals = refusals.saturating_add(count);
+    }
+    Some(refusals)
+}
+
+/// What the first line of an example says.
+fn subject_of<'h>(alloc: Global, heap: Heap<'h>, example: &str) -> Option<Subject<'h>> {
+    let first = words_of(alloc, example.lines().next()?)?;
+    Subject::new(heap, first.as_slice())
+}
+
 /// Plays an example with this heap; nothing where a line isn't understood, a refusal changes something, or
 /// memory is refused for a call that takes none.
 pub(super) fn play(
@@ -63,24 +108,9 @@ pub(super) fn play(
     refusal: Refusal,
     example: &str,
 ) -> Option<Played> {
-    let first = words_of(alloc, example.lines().next()?)?;
-    let mut subject = Subject::new(heap, first.as_slice())?;
+    let mut subject = subject_of(alloc, heap, example)?;
     let mut text = String::new(alloc);
-    let mut refusals = 0u64;
-    let mut is_first = true;
-    for line in example.lines() {
-        if line.starts_with(' ') {
-            continue;
-        }
-        write!(text, "{line}\n").ok()?;
-        if is_first {
-            is_first = false;
-            continue;
-        }
-        let words = words_of(alloc, line)?;
-        let count = tell_again(alloc, heap, refusal, &mut subject, &words, &mut text)?;
-        refusals = refusals.saturating_add(count);
-    }
+    let refusals = tell_lines(alloc, heap, refusal, &mut subject, example, &mut text)?;
     Some(Played { text, refusals })
 }
 

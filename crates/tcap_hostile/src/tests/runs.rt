@@ -5,7 +5,7 @@ use super::engine::new_engine;
 use super::subject::Heap;
 use super::words::{Word, event_of, peer, text, words_of};
 use std::alloc::Global;
-use tcap_engine::{Address, Answer, Event, run};
+use tcap_engine::{Address, Answer, Engine, Event, run};
 
 /// Adds the words of the lines that stand for events.
 fn add_event_lines<'e>(
@@ -61,6 +61,20 @@ fn wanted_of(alloc: Global, example: &str) -> Option<String> {
     Some(text)
 }
 
+/// Runs these events and, where memory was refused, once more those that are left: how often memory was refused.
+fn run_on<'h, 'm>(
+    engine: &mut Engine<Heap<'h>>,
+    events: &[Event<'m>],
+    answers: &mut Vec<Answer<'m, Heap<'h>>, Heap<'h>>,
+) -> Option<u64> {
+    if run(engine, events, answers).is_ok() {
+        return Some(0);
+    }
+    let rest = events.get(answers.len()..)?;
+    run(engine, rest, answers).ok()?;
+    Some(1)
+}
+
 /// Adds the lines of what came of a run and, where memory was refused to it, of a second one over the events that
 /// the first left: how often memory was refused.
 fn run_twice(
@@ -72,14 +86,9 @@ fn run_twice(
 ) -> Option<u64> {
     let mut engine = new_engine(heap, kind);
     let mut answers = Vec::new(heap);
-    if run(&mut engine, events, &mut answers).is_ok() {
-        add_answers(alloc, told, answers.as_slice())?;
-        return Some(0);
-    }
-    let rest = events.get(answers.len()..)?;
-    run(&mut engine, rest, &mut answers).ok()?;
+    let refusals = run_on(&mut engine, events, &mut answers)?;
     add_answers(alloc, told, answers.as_slice())?;
-    Some(1)
+    Some(refusals)
 }
 
 /// How many growths the run of an example has, where each of them that is refused in turn ends the first
