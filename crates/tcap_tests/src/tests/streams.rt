@@ -134,44 +134,35 @@ fn reads_of_a_stream(rt: HostRuntime) -> Result<(), Fail> {
 }
 
 #[test]
-fn reads_of_a_stream_without_end(rt: HostRuntime) -> Result<(), Fail> {
+fn reads_of_long_streams(rt: HostRuntime) -> Result<(), Fail> {
     let alloc = rt.alloc();
     // An element of 60,004 octets, and a message of five.
     let long = [0x04, 0x82, 0xea, 0x60];
+    let long = long.as_slice();
     let begin = [0x62, 0x03, 0x48, 0x01, 0x07];
+    let begin = begin.as_slice();
     let too_long = Err(PlayFault::TooLong);
-    let rows: [(&[u8], usize, Result<bool, PlayFault>, usize); 3] = [
-        // The octets, how many in all, one a read; the answer, how many octets are written. The read that
-        // finds the end counts.
-        (
-            long.as_slice(),
-            999_999,
-            Ok(false),
-            16 * "fault unknown type\n".len() + "rest 39935\n".len(),
-        ),
-        (
-            long.as_slice(),
-            1_000_000,
-            too_long,
-            16 * "fault unknown type\n".len(),
-        ),
-        (
-            begin.as_slice(),
-            usize::MAX,
-            too_long,
-            200_000 * "good\n".len(),
-        ),
+    let rest = "rest 39935\n".len();
+    let lines = 16 * "fault unknown type\n".len();
+    let good = "good\n".len();
+    let rows: [(&[u8], usize, usize, Result<bool, PlayFault>, usize, u64); 4] = [
+        // The octets, how many in all, how many a read; the answer, how many octets are written, the reads
+        // made. The read that finds the end counts.
+        (long, 999_999, 1, Ok(false), lines + rest, 1_000_000),
+        (long, 1_000_000, 1, too_long, lines, 1_000_000),
+        (begin, usize::MAX, 1, too_long, 200_000 * good, 1_000_000),
+        // Reads are counted and not octets; each asks for 4,096.
+        (begin, 2_000_000, 5_000, Ok(true), 400_000 * good, 490),
     ];
-    for (octets, left, answer, written) in rows {
-        let mut reader = Repeated::new(octets, left, 1, 0);
+    for (octets, left, width, answer, written, reads) in rows {
+        let mut reader = Repeated::new(octets, left, width, 0);
         let mut out = Vec::new(alloc);
         let ran = run_stream(alloc, &mut reader, &mut out);
         assert_eq!(rt;
-            (out.len(), reader.reads),
-            (written, 1_000_000),
-            "at {left}"
+            (ran, out.len(), reader.reads),
+            (answer, written, reads),
+            "at {left}, {width}"
         );
-        assert_eq!(rt; ran, answer, "at {left}");
     }
     Ok(())
 }
