@@ -30,7 +30,6 @@ pub enum Asked<'m, A: Allocator = Global> {
 impl<A: Allocator + Copy> Dialogue<A> {
     /// Any request, at this moment of the caller's clock, in milliseconds, at most 2^62. `number` is what
     /// an Invoke gets.
-    #[tactic(auto, unfolding(tcap_model::specs::Table::TableMove::table_move))]
     pub fn ask<'m>(
         &mut self,
         clock: u64,

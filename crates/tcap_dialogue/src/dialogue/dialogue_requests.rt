@@ -17,7 +17,6 @@ use std::alloc::Allocator;
 
 impl<A: Allocator + Copy> Dialogue<A> {
     /// A request of dialogue handling at this moment: the first due fault, or it goes through.
-    #[tactic(auto, using(crate::proofs::AskedLemmas::any_number))]
     pub(super) fn control<'m>(
         &mut self,
         control: &Control<'_>,

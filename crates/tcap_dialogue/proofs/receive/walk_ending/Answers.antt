@@ -1,4 +1,4 @@
-use Rattle.std.proofs.Common.{rules, ◌≡◌, Some, sym, subst, ◌∙◌}
+use Rattle.std.proofs.Common.{rules, ◌≡◌, Some, sym, subst, le_trans, ◌∙◌}
 use Rattle.ber_core.specs.Place.{Slice}
 use Rattle.tcap_component.specs.Place.{bytes_left, components_steps}
 use Rattle.tcap_component.specs.Views.{components_left, item_view}
@@ -23,7 +23,7 @@ loop-item-preserved g c =
       told ∙ inv.2,
       search rules,
       search rules,
-      search (rules, ended_next c.args.clock c.loop-item.invocations (item_view c.in-Some.item)),
+      rw (c.take_item-handled.ensures.list) (le_trans (ended_next c.args.clock c.loop-item.invocations (item_view c.in-Some.item)) inv.5),
       left_step all c.loop-item.item-iterator c.next.new.self c.in-Some.item inv.6 steps,
       λ portion before. subst (AllInPlace portion all) (sym c.push_reserved.ensures.items)
           (one_more portion all c.loop-item.outputs.items c.take_item-handled.result.told (bytes_left c.loop-item.item-iterator) c.in-Some.item inv.6 steps.1.0 c.take_item-handled.ensures.slices (inv.7 portion before)),

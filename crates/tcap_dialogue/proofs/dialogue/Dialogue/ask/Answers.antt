@@ -29,3 +29,73 @@ returns-in-ErrorBack-clause-answer g c =
     let told = c.of_queued-in-ErrorBack.ensures _ _ _ c.error_back.ensures.answer in
     let same : to_z w8 (of_z w8 c.in-ErrorBack.id) ≡ c.in-ErrorBack.id = search rules in
     rw (c.in-ErrorBack.is) (rw same at told)
+
+pub returns-in-Reject-clause-answer : goal.returns-in-Reject-clause-answer
+unfolding table_move
+returns-in-Reject-clause-answer g c =
+    rw (c.in-Reject.is) (c.of_queued-in-Reject.ensures _ _ _ c.u_reject.ensures.answer)
+
+pub returns-in-Cancel-clause-answer : goal.returns-in-Cancel-clause-answer
+unfolding table_move
+returns-in-Cancel-clause-answer g c =
+    let told = c.of_cancel.ensures _ _ _ c.u_cancel.ensures.answer in
+    let same : to_z w8 (of_z w8 c.in-Cancel.id) ≡ c.in-Cancel.id = search rules in
+    rw (c.in-Cancel.is) (rw same at told)
+
+pub returns-in-Uni-clause-answer : goal.returns-in-Uni-clause-answer
+unfolding table_move
+returns-in-Uni-clause-answer g c =
+    rw (c.in-Uni.is) (c.of_step.ensures _ _ _ c.uni.ensures.step)
+
+pub returns-in-Begin-clause-answer : goal.returns-in-Begin-clause-answer
+unfolding table_move
+returns-in-Begin-clause-answer g c =
+    rw (c.in-Begin.is) (c.of_step-in-Begin.ensures _ _ _ c.begin.ensures.step)
+
+pub returns-in-Continue-clause-answer : goal.returns-in-Continue-clause-answer
+unfolding table_move
+returns-in-Continue-clause-answer g c =
+    rw (c.in-Continue.is) (c.of_step-in-Continue.ensures _ _ _ c.go_on.ensures.step)
+
+pub returns-in-End-clause-answer : goal.returns-in-End-clause-answer
+unfolding table_move
+returns-in-End-clause-answer g c =
+    rw (c.in-End.is) (c.of_step-in-End.ensures _ _ _ c.finish.ensures.step)
+
+pub returns-in-Abort-clause-answer : goal.returns-in-Abort-clause-answer
+unfolding table_move
+returns-in-Abort-clause-answer g c =
+    rw (c.in-Abort.is) (c.of_step-in-Abort.ensures _ _ _ c.u_abort.ensures.step)
+
+pub returns-in-Invoke-clause-kept : goal.returns-in-Invoke-clause-kept
+returns-in-Invoke-clause-kept g c = c.invoke.ensures.kept
+
+pub returns-in-ResultLast-clause-kept : goal.returns-in-ResultLast-clause-kept
+returns-in-ResultLast-clause-kept g c = c.result_last.ensures.kept
+
+pub returns-in-ResultMore-clause-kept : goal.returns-in-ResultMore-clause-kept
+returns-in-ResultMore-clause-kept g c = c.result_more.ensures.kept
+
+pub returns-in-ErrorBack-clause-kept : goal.returns-in-ErrorBack-clause-kept
+returns-in-ErrorBack-clause-kept g c = c.error_back.ensures.kept
+
+pub returns-in-Reject-clause-kept : goal.returns-in-Reject-clause-kept
+returns-in-Reject-clause-kept g c = c.u_reject.ensures.kept
+
+pub returns-in-Cancel-clause-kept : goal.returns-in-Cancel-clause-kept
+returns-in-Cancel-clause-kept g c = c.u_cancel.ensures.kept
+
+pub returns-in-Uni-clause-kept : goal.returns-in-Uni-clause-kept
+returns-in-Uni-clause-kept g c = c.uni.ensures.kept
+
+pub returns-in-Begin-clause-kept : goal.returns-in-Begin-clause-kept
+returns-in-Begin-clause-kept g c = c.begin.ensures.kept
+
+pub returns-in-Continue-clause-kept : goal.returns-in-Continue-clause-kept
+returns-in-Continue-clause-kept g c = c.go_on.ensures.kept
+
+pub returns-in-End-clause-kept : goal.returns-in-End-clause-kept
+returns-in-End-clause-kept g c = c.finish.ensures.kept
+
+pub returns-in-Abort-clause-kept : goal.returns-in-Abort-clause-kept
+returns-in-Abort-clause-kept g c = c.u_abort.ensures.kept

@@ -1,4 +1,4 @@
-use Rattle.std.proofs.Common.{option_copied, w8}
+use Rattle.std.proofs.Common.{rules, option_copied, w8}
 use Rattle.std.proofs.lemmas.Int.{to_z-of_z}
 use Rattle.tcap_component.specs.Views.{code_parts}
 use Rattle.tcap_dialogue.specs.FaultViews.{fault_view}
@@ -11,3 +11,18 @@ pub returns-in-Some-clause-answer : goal.returns-in-Some-clause-answer
 returns-in-Some-clause-answer g c =
     let due = rw (to_z-of_z w8 c.args.id c.ranges.id) at c.in-Some.ensures in
     due-refused (fault_view c.in-Some.fault) (asked 0 c.args.number) c.args.self.now (invoking c.args.number c.args.self.now c.args.id c.args.class (code_parts c.args.code) (option_copied c.args.parameter) c.args.linked c.args.timeout_ms) due
+
+pub returns-clause-answer : goal.returns-clause-answer
+returns-clause-answer g c = search rules
+
+pub returns-in_err-octets-clause-answer : goal.returns-in_err-octets-clause-answer
+returns-in_err-octets-clause-answer g c = search rules
+
+pub returns-then-is_err-clause-answer : goal.returns-then-is_err-clause-answer
+returns-then-is_err-clause-answer g c = search rules
+
+pub append-requires-clause-octets : goal.append-requires-clause-octets
+append-requires-clause-octets g c = search rules
+
+pub append-requires-clause-part : goal.append-requires-clause-part
+append-requires-clause-part g c = search rules
