@@ -157,12 +157,10 @@ impl<T: Drop, A: Allocator + Copy> Table<T, A> {
 // By hand, since the room that there is, and the keys, say nothing of the rows.
 impl<T: Drop + fmt::Debug, A: Allocator + Copy> fmt::Debug for Table<T, A> {
     fn fmt<W: fmt::Write>(&self, f: &mut fmt::Formatter<W>) -> fmt::Result {
-        f.debug_map()
-            .entries(
-                self.keys
-                    .iter()
-                    .map(|(id, key)| (id, self.values.get(*key))),
-            )
-            .finish()
+        let mut rows = f.debug_map();
+        for (id, key) in self.keys.iter() {
+            rows.entry(id, &self.values.get(*key));
+        }
+        rows.finish()
     }
 }
