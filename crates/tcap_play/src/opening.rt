@@ -15,7 +15,7 @@ use ber_core::OutOfMemory;
 use std::alloc::Allocator;
 
 /// What stands before the lines of a play, and these lines.
-#[derive(Clone, Copy, Debug, PartialEq, Eq)]
+#[derive(Clone, Copy)]
 pub(crate) struct Opening<'s> {
     /// The idle limit of both engines, in milliseconds, at most 2^62; 0 for none.
     pub(crate) idle_ms: u64,

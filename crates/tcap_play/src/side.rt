@@ -1,5 +1,5 @@
 /// One of the two engines of a play.
-#[derive(Clone, Copy, Debug, PartialEq, Eq)]
+#[derive(Clone, Copy)]
 pub enum Side {
     /// The engine A.
     A,

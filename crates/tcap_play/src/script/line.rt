@@ -19,7 +19,7 @@ use tcap_dialogue::{Ending, Request};
 use tcap_engine::Event;
 
 /// What a line asks for.
-#[derive(Clone, Copy, Debug, PartialEq, Eq)]
+#[derive(Clone, Copy)]
 pub(crate) enum Line<'w> {
     /// A call on one engine.
     Call(Side, Event<'w>),

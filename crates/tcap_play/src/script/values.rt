@@ -18,7 +18,7 @@ use tcap_invocation::{Class, MAX_MOMENT};
 
 /// What a message is called: the side that sent it, and its number among those that this side sent,
 /// from 1.
-#[derive(Clone, Copy, Debug, PartialEq, Eq)]
+#[derive(Clone, Copy)]
 pub(crate) struct Name {
     pub(crate) side: Side,
     pub(crate) number: u64,
