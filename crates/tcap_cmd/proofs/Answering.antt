@@ -1,10 +1,16 @@
 -- A text that is asked for, written whole or cut.
-use Rattle.std.proofs.Common.{◌≡◌, ℕ, Bool, true, List, Option, Some, None, refl, subst}
+use Rattle.std.proofs.Common.{◌≡◌, ℕ, Bool, true, false, List, Option, Some, None, Ok, refl, subst}
 use Rattle.std.specs.Option.{is_some}
 use Rattle.std.specs.Io.KnownBytes.{Appends}
-use Rattle.tcap_cmd.specs.Command.{text_of, is_good_of, IsInput, IsAnswered, IsCut, IsUnwritten}
+use Rattle.tcap_cmd.specs.Command.{text_of, is_good_of, status_of, IsInput, IsAnswered, IsCut, IsUnwritten}
 use Rattle.tcap_cmd.specs.CommandLine.{Asked, show, check, canon, play, stream}
-use Rattle.tcap_text.specs.Writing.{IsFront}
+use Rattle.tcap_text.specs.Status.{verdict_status}
+use Rattle.tcap_words.specs.Writing.{IsFront}
+
+-- the status of a run that came to a verdict is that of the verdict
+pub status-is : (good : Bool) → verdict_status good ≡ status_of (Ok good)
+status-is true = refl
+status-is false = refl
 
 -- what is asked for is asked of HEX
 abbrev pub AsksOfHex : Asked → Type 0

@@ -6,13 +6,13 @@ use Rattle.tcap_cmd.specs.declared.refusal.Refusal.{Refusal}
 use Rattle.tcap_cmd.specs.declared.refusal.Refusal.TheVariants.{BadCommand, BadHex, OutOfMemory, WriteFailed, ReadFailed, InputTooLong}
 use Rattle.tcap_cmd.specs.CommandLine.{Asked, show, check, canon, play, stream, Ask, AskNothing}
 use Rattle.tcap_play.specs.Play.{play_text_of, play_is_good}
-use Rattle.tcap_play.specs.Run.{IsScript, IsLeft, IsPast}
-use Rattle.tcap_play.specs.StreamRun.{IsRead, IsOver, read_of, IsHalted, IsEndless, IsShort, IsStreamCut}
-use Rattle.tcap_play.specs.StreamText.{stream_text_of, stream_is_good}
-use Rattle.tcap_text.specs.Canonical.{canon_text_of, canon_is_good}
-use Rattle.tcap_text.specs.Show.{show_text_of, check_text_of, show_is_good}
-use Rattle.tcap_text.specs.Spelling.{spelled_by}
-use Rattle.tcap_text.specs.Writing.{IsFront}
+use Rattle.tcap_text.specs.Input.{IsScript, IsLeft, IsPast}
+use Rattle.tcap_text.specs.StreamRun.{IsRead, IsOver, read_of, IsHalted, IsEndless, IsShort, IsStreamCut}
+use Rattle.tcap_text.specs.StreamText.{stream_text_of, stream_is_good}
+use Rattle.tcap_words.specs.Canonical.{canon_text_of, canon_is_good}
+use Rattle.tcap_words.specs.Show.{show_text_of, check_text_of, show_is_good}
+use Rattle.tcap_words.specs.Spelling.{spelled_by}
+use Rattle.tcap_words.specs.Writing.{IsFront}
 
 -- The text that is asked for, of a message's bytes, of a script or of a stream (own).
 abbrev pub text_of : Asked → List ℕ → List ℕ

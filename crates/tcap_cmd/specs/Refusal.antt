@@ -2,8 +2,8 @@
 use Rattle.std.specs.Prelude.{ℕ, List, codes}
 use Rattle.tcap_cmd.specs.declared.refusal.Refusal.{Refusal}
 use Rattle.tcap_cmd.specs.declared.refusal.Refusal.TheVariants.{BadCommand, BadHex, OutOfMemory, WriteFailed, ReadFailed, InputTooLong}
-use Rattle.tcap_play.specs.declared.fault.PlayFault.{PlayFault}
-use Rattle.tcap_play.specs.declared.fault.PlayFault.TheVariants as fault
+use Rattle.tcap_text.specs.declared.fault.PlayFault.{PlayFault}
+use Rattle.tcap_text.specs.declared.fault.PlayFault.TheVariants as fault
 
 -- The words of the line on standard error (own).
 abbrev pub refusal_words : Refusal → List ℕ

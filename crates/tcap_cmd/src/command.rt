@@ -1,5 +1,5 @@
 ghost use Rattle.std.specs.Prelude.{◌≡◌, Bool, Some, Result, map, MatchResult};
-ghost use Rattle.tcap_text.specs.Spelling.{spelled_by};
+ghost use Rattle.tcap_words.specs.Spelling.{spelled_by};
 ghost use Rattle.tcap_cmd.specs.CommandLine.{asked, Asked, AskToRead, Reads};
 ghost use Rattle.tcap_cmd.specs.Command.{IsUnspelled, IsAnswered, IsRefused, Gave, status_of};
 
@@ -9,12 +9,8 @@ use crate::words::read_words;
 use std::alloc::{Allocator, Global};
 use std::io::{Read, Write};
 use tcap_play::{run_play, run_stream};
-use tcap_text::{canon_text, check_text, decode_hex, show_text, write_text};
+use tcap_text::{canon_text, check_text, decode_hex, show_text, verdict_status, write_text};
 
-/// The status of a good verdict.
-const GOOD: u8 = 0;
-/// The status of any other verdict.
-const FAULTY: u8 = 1;
 /// The status of a run that came to no verdict.
 const REFUSED: u8 = 2;
 
@@ -123,8 +119,7 @@ pub fn run_command<A: Allocator + Copy, R: Read, W: Write, E: Write>(
         × Gave (map (λ w. w.now) words.now) (R.remaining reader.old) (R.remaining reader.new) (W.contents out.old) (W.contents out.new) answer }
 {
     match respond(alloc, heap, words, reader, out) {
-        Ok(true) => GOOD,
-        Ok(false) => FAULTY,
+        Ok(good) => verdict_status(good),
         Err(refusal) => report(err, refusal),
     }
 }

@@ -7,7 +7,4 @@ pub mod Openings
 pub mod PlayLines
 pub mod PlayStarts
 pub mod PlaySteps
-pub mod StreamEnds
-pub mod StreamGoing
-pub mod StreamLines
 pub mod WordCounts

@@ -8,12 +8,26 @@ use Rattle.tcap_play.specs.Play as play
 use Rattle.tcap_play.specs.Sides.{Engine, address_of, far}
 use Rattle.tcap_play.specs.Play.{has_fate, message_at, message_if, message_in, message_to, with_fate}
 use Rattle.tcap_play.specs.PlayViews.{Hands, IsThere, Loses, Receives, fate_view, message_view, messages_view}
-use Rattle.tcap_play.specs.declared.message.Fate.{Fate}
 use Rattle.tcap_play.specs.declared.message.Message.{Message}
 use Rattle.tcap_play.specs.declared.station.Station.{Station}
+use Rattle.tcap_text.specs.declared.fate.Fate.{Fate}
+use Rattle.tcap_text.specs.declared.fate.Fate.TheVariants.{Waiting, Delivered, Lost}
+use Rattle.tcap_text.specs.Fates.{is_same}
 use Rattle.tcap_model.specs.Histories.History.{History}
 use Rattle.tcap_model.specs.Table.World.{StandsAt}
 use Rattle.tcap_model.specs.Words.Event.{Event}
+
+-- being in a state, as the code asks and as a play says
+pub is_same-view : (fate own : Fate) → is_same fate own ≡ has_fate (fate_view fate) (fate_view own)
+is_same-view Waiting Waiting = refl
+is_same-view Waiting Delivered = refl
+is_same-view Waiting Lost = refl
+is_same-view Delivered Waiting = refl
+is_same-view Delivered Delivered = refl
+is_same-view Delivered Lost = refl
+is_same-view Lost Waiting = refl
+is_same-view Lost Delivered = refl
+is_same-view Lost Lost = refl
 
 -- the message with a number stands at the place before it
 at_place : (messages : List play.Message) (number place : ℕ) → number ≡ place + 1 → message_at number messages ≡ slice_get messages place

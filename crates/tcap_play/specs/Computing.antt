@@ -16,7 +16,7 @@ use Rattle.tcap_pdu.specs.FrameReading.{id_at, portions_at, cause_at, reason_at,
 use Rattle.tcap_pdu.specs.Front.{front_at}
 use Rattle.tcap_component.specs.ComponentReading.{identifier_of, identifier_at, linked_at, code_at, body_at, result_at, rejected_at, problem_kind, problem_code, problem_at, invoke_at, result_last_at, error_at, reject_at, result_more_at, form_at, second_is_listed, is_structured, front_identifier, component_at, components_by}
 use Rattle.tcap_component.specs.Written.{write_fault}
-use Rattle.tcap_text.specs.Verdict.{message_of}
+use Rattle.tcap_words.specs.Verdict.{message_of}
 use Rattle.tcap_play.specs.Opening.{opening_from}
 use Rattle.tcap_play.specs.Pieces.{pieces}
 use Rattle.tcap_play.specs.Play.{printed_from}

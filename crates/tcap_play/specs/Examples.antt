@@ -1,7 +1,7 @@
 -- What worked plays and streams print.
 use Rattle.std.specs.Prelude.{◌≡◌, ℕ, Bool, true, false, List, [], ◌∷◌, codes}
 use Rattle.tcap_play.specs.Play.{printed_of}
-use Rattle.tcap_play.specs.StreamText.{stream_text_of, stream_is_good}
+use Rattle.tcap_text.specs.StreamText.{stream_text_of, stream_is_good}
 
 -- A script prints this text, and is good (own).
 abbrev pub Prints : List ℕ → List ℕ → Type 0

@@ -16,6 +16,3 @@ pub mod ScriptLine
 pub mod ScriptWords
 pub mod Sides
 pub mod SideView
-pub mod StreamRun
-pub mod StreamSteps
-pub mod StreamText

@@ -6,9 +6,9 @@ use Rattle.tcap_pdu.specs.DialogueSpelling.{PduValue}
 use Rattle.tcap_model.specs.Words.Address.{Address}
 use Rattle.tcap_model.specs.Words.Output.{AbortCause, Rejector, DropCause, Closing, ComponentIndication, DialogueIndication, Output}
 use Rattle.tcap_play.specs.Sides.{Engine, address_of, far}
-use Rattle.tcap_text.specs.ComponentText.{identifier_words, coded_words, body_words, problem_words}
-use Rattle.tcap_text.specs.DialogueText.{pdu_words}
-use Rattle.tcap_text.specs.Text.{octets_words, optional_octets_words}
+use Rattle.tcap_words.specs.ComponentText.{identifier_words, coded_words, body_words, problem_words}
+use Rattle.tcap_words.specs.DialogueText.{pdu_words}
+use Rattle.tcap_words.specs.Text.{octets_words, optional_octets_words}
 
 -- An engine: its letter (own).
 abbrev pub engine_words : Engine → List ℕ

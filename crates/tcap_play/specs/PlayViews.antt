@@ -9,10 +9,10 @@ use Rattle.tcap_play.specs.AnswerText.{answer_lines}
 use Rattle.tcap_play.specs.Play as play
 use Rattle.tcap_play.specs.Sides.{Engine, address_of, far}
 use Rattle.tcap_play.specs.Play.{Played, Stepped, behind, has_fate, history_of, messages_in, printed_from, with_fate}
-use Rattle.tcap_play.specs.declared.message.Fate.{Fate}
-use Rattle.tcap_play.specs.declared.message.Fate.TheVariants as fate
 use Rattle.tcap_play.specs.declared.message.Message.{Message}
 use Rattle.tcap_play.specs.declared.station.Station.{Station}
+use Rattle.tcap_text.specs.declared.fate.Fate.{Fate}
+use Rattle.tcap_text.specs.declared.fate.Fate.TheVariants as fate
 
 -- What became of a message (own).
 abbrev pub fate_view : Fate → play.Fate

@@ -14,7 +14,7 @@ use Rattle.tcap_model.specs.Words.Address.{Address}
 use Rattle.tcap_model.specs.Words.Request.{AbortReason}
 use Rattle.tcap_play.specs.Numbers.{number_up_to, number_between}
 use Rattle.tcap_play.specs.Sides.{Engine}
-use Rattle.tcap_text.specs.Spelling.{spelled_by}
+use Rattle.tcap_words.specs.Spelling.{spelled_by}
 
 -- What a message is called: the engine that sent it, and its number among those that this engine sent,
 -- from 1 (own).

@@ -1,13 +1,13 @@
-//! Play: two engines, and the messages between them. Streams: the verdict on each of their messages.
+//! Play: two engines, and the messages between them. Streams are judged by `tcap_text`, whose calls are
+//! handed on.
 //!
-//! Stands on `tcap_engine` and all below it, on `tcap_text` for the words of its texts, on `hex`, and on
-//! `thiserror`. Begin at `play_text` and `run_stream`.
+//! Stands on `tcap_engine` and all below it, on `tcap_words` and `tcap_text` for the words of its texts, and
+//! on `hex`. Begin at `play_text`.
 #![tactic(auto)]
 
 mod addresses;
 mod answer_text;
 pub mod examples;
-mod fault;
 pub mod laws;
 mod message;
 mod numbers;
@@ -19,10 +19,7 @@ mod run;
 mod script;
 mod side;
 mod station;
-mod stream;
-mod stream_text;
 
-pub use fault::PlayFault;
 pub use play::play_text;
 pub use run::run_play;
-pub use stream::run_stream;
+pub use tcap_text::{PlayFault, run_stream};

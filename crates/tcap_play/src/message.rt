@@ -6,30 +6,7 @@ ghost use Rattle.tcap_play.specs.PlayViews.{IsThere, fate_view, message_view, me
 
 use std::alloc::{Allocator, Global};
 use tcap_engine::Address;
-
-/// What became of a message.
-#[derive(Clone, Copy, Debug, PartialEq, Eq)]
-pub(crate) enum Fate {
-    /// It waits to be received.
-    Waiting,
-    /// It was received on the other side.
-    Delivered,
-    /// It is lost.
-    Lost,
-}
-
-impl Fate {
-    /// Whether it is this state.
-    fn is(self, fate: Fate) -> bool
-        ensures { result ≡ has_fate (fate_view fate) (fate_view self) }
-    {
-        match fate {
-            Fate::Waiting => matches!(self, Fate::Waiting),
-            Fate::Delivered => matches!(self, Fate::Delivered),
-            Fate::Lost => matches!(self, Fate::Lost),
-        }
-    }
-}
+use tcap_text::Fate;
 
 /// A message that was sent, and where it goes.
 #[derive(Drop)]
@@ -47,6 +24,13 @@ fn place_among(number: u64, count: usize) -> Option<usize>
     if place < count { Some(place) } else { None }
 }
 
+/// Whether a message in this state is in that one, as a play sees both.
+fn is_in(own: Fate, fate: Fate) -> bool
+    ensures { result ≡ has_fate (fate_view fate) (fate_view own) }
+{
+    own.is(fate)
+}
+
 /// The place of the message with this number, from 1, if it is in this state.
 fn place_of<A: Allocator>(sent: &[Message<A>], number: u64, fate: Fate) -> Option<usize>
     ensures { MatchOption result
@@ -54,7 +38,7 @@ fn place_of<A: Allocator>(sent: &[Message<A>], number: u64, fate: Fate) -> Optio
         (λ place. IsThere (fate_view fate) number sent.now place) }
 {
     let place = place_among(number, sent.len())?;
-    if sent[place].fate.is(fate) {
+    if is_in(sent[place].fate, fate) {
         Some(place)
     } else {
         None

@@ -14,7 +14,7 @@ ghost use Rattle.tcap_play.specs.SideView.{side_view};
 ghost use Rattle.tcap_play.specs.Sides.{Engine as Which, address_of};
 
 use crate::addresses::Addresses;
-use crate::message::{Fate, message_if, set_fate};
+use crate::message::{message_if, set_fate};
 use crate::opening::{Opening, opening_of};
 use crate::pieces::{first_piece, is_skipped};
 use crate::script::line::{Line, line_of};
@@ -25,7 +25,7 @@ use crate::station::{Station, hand};
 use ber_core::OutOfMemory;
 use std::alloc::Allocator;
 use tcap_engine::{Engine, Event, Limits};
-use tcap_text::Shown;
+use tcap_text::{Fate, Shown};
 
 /// Hands an event to the engine of a side.
 fn call<A: Allocator + Copy>(

@@ -1,43 +1,12 @@
 //! A run over a reader and a writer.
 
-ghost use Rattle.std.specs.Prelude.{◌≡◌, MatchResult};
-ghost use Rattle.tcap_play.specs.Run.{IsScript, IsUnread, IsPlayed, IsFaulty};
+ghost use Rattle.std.specs.Prelude.{MatchResult};
+ghost use Rattle.tcap_play.specs.Run.{IsPlayed, IsFaulty};
 
-use crate::fault::PlayFault;
 use crate::play::play_text;
 use std::alloc::Allocator;
 use std::io::{Read, Write};
-use tcap_text::write_text;
-
-/// The longest script, in octets.
-const LONGEST: usize = 1_048_576;
-/// The most reads of a run.
-pub(crate) const MOST_READS: u32 = 1_000_000;
-/// The octets that a read asks for.
-pub(crate) const PIECE: usize = 4_096;
-
-/// Reads all that the reader gives, up to its end. A read that fails isn't tried again.
-fn read_script<A: Allocator, R: Read>(alloc: A, reader: &mut R) -> Result<Vec<u8, A>, PlayFault>
-    ensures { MatchResult result
-        (λ script. IsScript (R.remaining reader.old) (R.remaining reader.new) script.items)
-        (λ fault. IsUnread (R.remaining reader.old) (R.remaining reader.new) fault) }
-{
-    let mut script = Vec::new(alloc);
-    let mut piece = [0u8; PIECE];
-    for _ in 0..MOST_READS {
-        let Ok(count) = reader.read(&mut piece) else {
-            return Err(PlayFault::Read);
-        };
-        if count == 0 {
-            return Ok(script);
-        }
-        if count > LONGEST - script.len() {
-            return Err(PlayFault::TooLong);
-        }
-        script.extend_from_slice(&piece[..count])?;
-    }
-    Err(PlayFault::TooLong)
-}
+use tcap_text::{PlayFault, read_script, write_text};
 
 /// Plays the script that the reader gives: reads it all, writes what its play prints, and tells whether
 /// it is good. With another fault than Write nothing was written; with that one a front of the text,

@@ -12,11 +12,12 @@ ghost use Rattle.tcap_play.specs.PlayViews.{Hands, messages_view};
 ghost use Rattle.tcap_play.specs.SideView.{side_view};
 
 use crate::answer_text::add_answer;
-use crate::message::{Fate, Message};
+use crate::message::Message;
 use crate::side::Side;
 use ber_core::OutOfMemory;
 use std::alloc::{Allocator, Global};
 use tcap_engine::{Answer, Engine, Event, Output, run};
+use tcap_text::Fate;
 
 /// One side: an engine, and the messages that it sent, in their order.
 #[derive(Drop)]

@@ -1,11 +1,3 @@
-pub mod CanonicalComponents
-pub mod CanonicalFaults
-pub mod CanonicalFrame
-pub mod CanonicalTwice
-pub mod GoodItems
-pub mod ItemLines
-pub mod MessageSteps
-pub mod PrintedHex
-pub mod SpelledWords
-pub mod TextSteps
-pub mod WrittenFronts
+pub mod StreamEnds
+pub mod StreamGoing
+pub mod StreamLines

@@ -1,8 +1,9 @@
 pub mod Canonical
-pub mod ComponentText
-pub mod DialogueText
+pub mod Fates
+pub mod Input
 pub mod Show
-pub mod Spelling
-pub mod Text
+pub mod Status
+pub mod StreamRun
+pub mod StreamSteps
+pub mod StreamText
 pub mod Verdict
-pub mod Writing

@@ -1,157 +1,21 @@
 //! The canonical form of a message, and the text of `canon`.
 
-ghost use Rattle.std.specs.Prelude.{◌≡◌, ◌≤◌, ◌++◌, length, OnOk, IfOk, IfErr, true, [], unwrap_or, option_copied, option_map};
+ghost use Rattle.std.specs.Prelude.{◌≡◌, ◌≤◌, length, OnOk, IfOk, IfErr, true};
 ghost use Rattle.hex.specs.Hex.{encode_lower};
 ghost use Rattle.tcap_pdu.specs.FrameSpelling.{HasCause};
-ghost use Rattle.tcap_pdu.specs.FrameLength.{dialogue_of, reason_with};
-ghost use Rattle.tcap_pdu.specs.FramePortions.{with_portions};
-ghost use Rattle.tcap_pdu.specs.FrameWritten.{written_frame};
-ghost use Rattle.tcap_pdu.specs.FrameViews.{message, reason_of};
-ghost use Rattle.tcap_component.specs.Views.{component_parts, item_view};
-ghost use Rattle.tcap_component.specs.Written.{coded_part, written_component, HasCode, HasParameter};
-ghost use Rattle.tcap_text.specs.Text.{line};
-ghost use Rattle.tcap_text.specs.Verdict.{message_limit, is_good, verdict_words};
-ghost use Rattle.tcap_text.specs.declared.verdict.Verdict.TheVariants as verdict;
-ghost use Rattle.tcap_text.specs.declared.canon.CanonFault.TheVariants as canon;
-ghost use Rattle.tcap_text.specs.Canonical.{canonical_item, canonical_components, canonical_dialogue, canonical_frame, IsCanonFault, IsWritableItem, canon_verdict, canon_line, canonical_of, canon_text_of, canon_is_good, IsHexLine};
+ghost use Rattle.tcap_pdu.specs.FrameViews.{message};
+ghost use Rattle.tcap_words.specs.Text.{line};
+ghost use Rattle.tcap_words.specs.Verdict.{message_limit, is_good};
+ghost use Rattle.tcap_words.specs.declared.verdict.Verdict.TheVariants as verdict;
+ghost use Rattle.tcap_words.specs.Canonical.{canonical_frame, IsCanonFault, canon_verdict, canon_line, canonical_of, canon_text_of, canon_is_good, IsHexLine};
 
-use crate::judge::{judge_message, read_message, verdict_text};
-use crate::shown::Shown;
-use crate::verdict::Verdict;
 use ber_core::OutOfMemory;
-use std::alloc::{AllocError, Allocator};
-use tcap_component::{Component, ComponentFault, Components, WriteFault, write_component};
-use tcap_pdu::{Frame, PduFault, read_dialogue, write_dialogue, write_frame};
-
-/// Why there is no canonical form.
-#[derive(Clone, Copy)]
-pub enum CanonFault {
-    /// Memory was refused.
-    OutOfMemory,
-    /// A part, and so the message, would have more than 65,535 bytes.
-    TooLong,
-}
-
-impl From<AllocError> for CanonFault {
-    ghost from_gives = { λ _ r. r ≡ canon.OutOfMemory };
-
-    fn from(_error: AllocError) -> CanonFault {
-        CanonFault::OutOfMemory
-    }
-}
-
-/// The contents of a dialogue portion in the canonical form, of nothing where they can't be read. What
-/// was read has a context and information that can be written.
-fn rewrite_dialogue<A: Allocator + Copy>(alloc: A, content: &[u8]) -> Result<Vec<u8, A>, CanonFault>
-    ensures ok { IfOk result (λ octets. octets.items ≡ canonical_dialogue content.now) }
-    ensures err { IfErr result (λ fault. IsCanonFault (canonical_dialogue content.now) fault) }
-{
-    let Ok(pdu) = read_dialogue(content) else {
-        return Ok(Vec::new(alloc));
-    };
-    match write_dialogue(alloc, &pdu) {
-        Ok(octets) => Ok(octets),
-        Err(PduFault::OutOfMemory) => Err(CanonFault::OutOfMemory),
-        Err(PduFault::TooLong) => Err(CanonFault::TooLong),
-        Err(PduFault::BadOid) => unreachable!(),
-        Err(PduFault::BadInfo) => unreachable!(),
-    }
-}
-
-/// The same, where there may be no dialogue portion.
-fn rewrite_portion<A: Allocator + Copy>(
-    alloc: A,
-    dialogue: Option<&[u8]>,
-) -> Result<Option<Vec<u8, A>>, CanonFault>
-    ensures ok { IfOk result (λ portion. option_map (λ octets. octets.items) portion ≡ option_map canonical_dialogue (option_copied dialogue.entry)) }
-    ensures err { IfErr result (λ fault. IsCanonFault (unwrap_or (option_map canonical_dialogue (option_copied dialogue.entry)) []) fault) }
-{
-    match dialogue {
-        Some(content) => Ok(Some(rewrite_dialogue(alloc, content)?)),
-        None => Ok(None),
-    }
-}
-
-/// Appends a component in the canonical form.
-fn append_component<A: Allocator + Copy>(
-    alloc: A,
-    octets: &mut Vec<u8, A>,
-    component: &Component<'_>,
-) -> Result<(), CanonFault>
-    requires code { HasCode (coded_part (component_parts component.now)) }
-    requires parameter { HasParameter (coded_part (component_parts component.now)) }
-    ensures ok { OnOk result (octets.new.items ≡ octets.old.items ++ written_component (component_parts component.now)) }
-    ensures err { IfErr result (λ fault. IsCanonFault (written_component (component_parts component.now)) fault) }
-{
-    match write_component(alloc, component) {
-        Ok(written) => Ok(octets.extend_from_slice(written.as_slice())?),
-        Err(WriteFault::OutOfMemory) => Err(CanonFault::OutOfMemory),
-        Err(WriteFault::TooLong) => Err(CanonFault::TooLong),
-        Err(WriteFault::BadOid | WriteFault::BadParameter) => unreachable!(),
-    }
-}
-
-/// Appends a component in the canonical form; of a fault it appends nothing.
-fn append_item<A: Allocator + Copy>(
-    alloc: A,
-    octets: &mut Vec<u8, A>,
-    item: &Result<Component<'_>, ComponentFault>,
-) -> Result<(), CanonFault>
-    requires { IsWritableItem (item_view item.now) }
-    ensures ok { OnOk result (octets.new.items ≡ octets.old.items ++ canonical_item (item_view item.now)) }
-    ensures err { IfErr result (λ fault. IsCanonFault (canonical_item (item_view item.now)) fault) }
-{
-    match item {
-        Ok(component) => append_component(alloc, octets, component),
-        Err(_) => Ok(()),
-    }
-}
-
-/// The contents of a component portion in the canonical form.
-fn rewrite_components<A: Allocator + Copy>(
-    alloc: A,
-    components: &[u8],
-) -> Result<Vec<u8, A>, CanonFault>
-    ensures ok { IfOk result (λ octets. octets.items ≡ canonical_components components.now) }
-    ensures err { IfErr result (λ fault. IsCanonFault (canonical_components components.now) fault) }
-{
-    let mut octets = Vec::new(alloc);
-    for item in Components::new(components) {
-        append_item(alloc, &mut octets, &item)?;
-    }
-    Ok(octets)
-}
-
-/// Writes a message with its portions in the canonical form already.
-fn spell_frame<A: Allocator + Copy>(alloc: A, frame: &Frame<'_>) -> Result<Vec<u8, A>, CanonFault>
-    requires { HasCause (message frame.now) }
-    ensures ok { IfOk result (λ octets. octets.items ≡ written_frame (message frame.now)) }
-    ensures short { OnOk result (length (written_frame (message frame.now)) ≤ message_limit) }
-    ensures err { IfErr result (λ fault. IsCanonFault (written_frame (message frame.now)) fault) }
-{
-    match write_frame(alloc, frame) {
-        Ok(octets) => Ok(octets),
-        Err(PduFault::OutOfMemory) => Err(CanonFault::OutOfMemory),
-        Err(PduFault::TooLong) => Err(CanonFault::TooLong),
-        Err(PduFault::BadOid | PduFault::BadInfo) => unreachable!(),
-    }
-}
-
-/// Writes a message with these contents of its portions in place of its own.
-fn assemble<A: Allocator + Copy>(
-    alloc: A,
-    frame: Frame<'_>,
-    dialogue: Option<&[u8]>,
-    components: &[u8],
-) -> Result<Vec<u8, A>, CanonFault>
-    requires { HasCause (message frame) }
-    ensures ok { IfOk result (λ octets. octets.items ≡ written_frame (with_portions (option_copied dialogue.entry) components.now (message frame.entry))) }
-    ensures short { OnOk result (length (written_frame (with_portions (option_copied dialogue.entry) components.now (message frame.entry))) ≤ message_limit) }
-    ensures err { IfErr result (λ fault. IsCanonFault (written_frame (with_portions (option_copied dialogue.entry) components.now (message frame.entry))) fault) }
-{
-    let canonical = frame.with_portions(dialogue, components);
-    spell_frame(alloc, &canonical)
-}
+use std::alloc::Allocator;
+use tcap_pdu::Frame;
+use tcap_words::{
+    CanonFault, Shown, Verdict, assemble, judge_message, read_message, rewrite_components,
+    rewrite_portion, spell_frame, verdict_text,
+};
 
 /// The octets of a message in the canonical form.
 fn rewrite_frame<A: Allocator + Copy>(alloc: A, frame: Frame<'_>) -> Result<Vec<u8, A>, CanonFault>

@@ -1,26 +1,29 @@
-//! What the command `tcap` prints of a message, and whether its verdict is good; the words of which
-//! other texts are made; octets read from hexadecimal and text written.
+//! What the command `tcap` prints of a message and of a stream of messages, and whether its verdict is good;
+//! the script that it reads, the status of a verdict, why a run came to none, and what becomes of a message
+//! of a play.
 //!
-//! Stands on `ber_core`, `tcap_pdu`, `tcap_component` and `hex`. Begin at `show_text`.
+//! Stands on `tcap_words`, which has the words of its texts, and on the codec, `hex` and `thiserror`. Begin at
+//! `show_text` and `run_stream`.
 #![tactic(auto)]
 
 mod canon;
-mod component_text;
-mod dialogue_text;
-mod judge;
+mod fate;
+mod fault;
+mod input;
 pub mod laws;
 mod show;
-mod shown;
-mod spelling;
-mod text;
-mod verdict;
-mod writing;
+mod status;
+mod stream;
+mod stream_text;
 
 pub use canon::canon_text;
-pub use component_text::{body_text, coded_text, identifier_text, problem_text};
-pub use dialogue_text::pdu_text;
+pub use fate::Fate;
+pub use fault::PlayFault;
+pub use input::read_script;
 pub use show::{check_text, show_text};
-pub use shown::Shown;
-pub use spelling::{decode_hex, hex_octets};
-pub use text::{octets_or_dash, optional_octets_or_dash};
-pub use writing::{WriteFailed, write_text};
+pub use status::verdict_status;
+pub use stream::run_stream;
+pub use tcap_words::{
+    Shown, WriteFailed, body_text, coded_text, decode_hex, hex_octets, identifier_text,
+    octets_or_dash, optional_octets_or_dash, pdu_text, problem_text, write_text,
+};

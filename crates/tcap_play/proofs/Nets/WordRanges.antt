@@ -15,7 +15,7 @@ use Rattle.tcap_component.specs.Problem.{ProblemParts}
 use Rattle.tcap_invocation.specs.Stage.{moment_limit}
 use Rattle.tcap_model.specs.Words.Address.{Address}
 use Rattle.tcap_model.specs.Words.InRange.{are_octets_if_any, is_address, is_body, is_code, is_identifier, is_identifier_if_any, is_long, is_problem, is_short}
-use Rattle.tcap_text.specs.Spelling.{octets_if_read}
+use Rattle.tcap_words.specs.Spelling.{octets_if_read}
 use Rattle.tcap_play.specs.Numbers.{number, at_most, number_up_to, signed_number, between, number_between}
 use Rattle.tcap_play.specs.ScriptWords.{milliseconds_of, idle_limit_of, dialogue_of, identifier_of, optional_identifier_of, code_of, spelled_in, octets_of, address_if, named_address, optional_octets_of, body_with, body_of, kind_of, problem_of}
 use Rattle.tcap_play.proofs.Octets.OctetLists.{Octets, octets-cons}

@@ -2,7 +2,7 @@
 
 ghost use Rattle.std.specs.Prelude.{◌≡◌, option_map, option_copied, IfOk};
 ghost use Rattle.tcap_play.specs.ScriptWords.{named_address, spelled_in};
-ghost use Rattle.tcap_text.specs.Spelling.{spelled_by};
+ghost use Rattle.tcap_words.specs.Spelling.{spelled_by};
 
 use ber_core::OutOfMemory;
 use std::alloc::{Allocator, Global};

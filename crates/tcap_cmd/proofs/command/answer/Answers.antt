@@ -1,7 +1,7 @@
 use Rattle.std.proofs.Common.{◌∙◌, ap}
 use Rattle.std.proofs.lemmas.Result.{err_from_is_err_and}
-use Rattle.tcap_text.specs.Canonical.{canon_text_of, canon_is_good}
-use Rattle.tcap_text.specs.Show.{show_text_of, check_text_of, show_is_good}
+use Rattle.tcap_words.specs.Canonical.{canon_text_of, canon_is_good}
+use Rattle.tcap_words.specs.Show.{show_text_of, check_text_of, show_is_good}
 use Rattle.tcap_cmd.proofs.Answering.{IsText, text_answers, text_cut}
 use Rattle.tcap_cmd.proofs.command.answer.Goals.{in-Show+in_ok-bytes_of-in-Show+in_ok-shown-in-Show, in-Check+in_ok-bytes_of-in-Check+in_ok-shown-in-Check, in-Canon+in_ok-bytes_of-in-Canon+in_ok-shown-in-Canon}
 use Rattle.tcap_cmd.proofs.command.answer.Goals as goal

@@ -1,6 +1,6 @@
 use Rattle.std.proofs.Common.{◌∙◌, ap, sym}
 use Rattle.std.specs.Option.{is_some}
-use Rattle.tcap_text.specs.Spelling.{spelled_by}
+use Rattle.tcap_words.specs.Spelling.{spelled_by}
 use Rattle.tcap_cmd.proofs.Answering.{some_of}
 use Rattle.std.proofs.lemmas.Result.{err_from_is_err_and}
 use Rattle.tcap_cmd.proofs.command.bytes_of.Goals as goal

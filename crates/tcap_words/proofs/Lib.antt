@@ -1,0 +1,11 @@
+pub mod CanonicalComponents
+pub mod CanonicalFaults
+pub mod CanonicalFrame
+pub mod CanonicalTwice
+pub mod GoodItems
+pub mod ItemLines
+pub mod MessageSteps
+pub mod PrintedHex
+pub mod SpelledWords
+pub mod TextSteps
+pub mod WrittenFronts

@@ -1,0 +1,18 @@
+-- Words that spell octets, and words that don't.
+use Rattle.std.proofs.Common.{◌≡◌, ℕ, List, None, Result, Ok, Err, true, is_some, refl, ap}
+use Rattle.hex.specs.declared.error.FromHexError.{FromHexError}
+use Rattle.hex.proofs.HexLemmas.{decode_of-ok, decode_of-digits}
+use Rattle.tcap_words.specs.Spelling.{IsHex, octets_if_read, spelled_by}
+
+-- what is read as no octets gives none
+none_read : (read : Result (List ℕ) FromHexError) → ((octets : List ℕ) → read ≡ Ok octets → ⊥) → None ≡ octets_if_read read
+none_read (Ok octets) denied = absurd (denied octets refl)
+none_read (Err fault) denied = refl
+
+-- a word that isn't hexadecimal spells no octets
+pub unspelled : (hex : List ℕ) → (IsHex hex → ⊥) → None ≡ spelled_by hex
+unspelled hex denied = none_read _ (λ octets read. let digits = decode_of-ok hex octets read in denied (digits.0, digits.1))
+
+-- hexadecimal spells octets
+pub spelled : (hex : List ℕ) → IsHex hex → is_some (spelled_by hex) ≡ true
+spelled hex is = let digits = decode_of-digits hex is.0 is.1 in ap (λ read. is_some (octets_if_read read)) digits.1

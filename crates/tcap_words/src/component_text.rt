@@ -1,0 +1,252 @@
+ghost use Rattle.std.specs.Prelude.{◌≡◌, ◌++◌, codes, OnOk, IfOk, string_bytes, option_copied, option_map};
+ghost use Rattle.std.specs.Fmt.{signed_decimal};
+ghost use Rattle.tcap_component.specs.Views.{code_parts, body_parts, problem_parts, fault_parts, component_parts};
+ghost use Rattle.tcap_component.specs.Component.CodeParts.{global};
+ghost use Rattle.tcap_component.specs.Component.ComponentParts.{invoke, error_back, reject_back};
+ghost use Rattle.tcap_words.specs.ComponentText.{identifier_words, code_words, coded_words, body_words, kind_words, problem_words, component_words, fault_words};
+
+use crate::text::add_optional_octets;
+use ber_core::OutOfMemory;
+use std::alloc::Allocator;
+use tcap_component::{Body, Code, Component, ComponentFault, Kind, Problem};
+
+/// Adds an identifier, or `-` where there is none.
+fn add_identifier<A: Allocator + Copy>(
+    text: &mut String<A>,
+    id: Option<i8>,
+) -> Result<(), OutOfMemory>
+    ensures { OnOk result (string_bytes text.new ≡ string_bytes text.old ++ identifier_words id) }
+{
+    match id {
+        Some(id) => Ok(write!(text, "{id}")?),
+        None => Ok(text.push_str("-")?),
+    }
+}
+
+/// An identifier, or `-` where there is none.
+pub fn identifier_text<A: Allocator + Copy>(
+    alloc: A,
+    id: Option<i8>,
+) -> Result<String<A>, OutOfMemory>
+    ensures { IfOk result (λ words. string_bytes words ≡ identifier_words id) }
+{
+    match id {
+        Some(id) => Ok(format!(in alloc; "{id}")?),
+        None => Ok(format!(in alloc; "-")?),
+    }
+}
+
+/// Adds the words of a global code.
+fn add_global<A: Allocator + Copy>(
+    alloc: A,
+    text: &mut String<A>,
+    octets: &[u8],
+) -> Result<(), OutOfMemory>
+    ensures { OnOk result (string_bytes text.new ≡ string_bytes text.old ++ code_words (global octets.now)) }
+{
+    let hex = hex::encode(alloc, octets)?;
+    write!(text, "global {hex}")?;
+    Ok(())
+}
+
+/// Adds the words of a code.
+fn add_code<A: Allocator + Copy>(
+    alloc: A,
+    text: &mut String<A>,
+    code: &Code<'_>,
+) -> Result<(), OutOfMemory>
+    ensures { OnOk result (string_bytes text.new ≡ string_bytes text.old ++ code_words (code_parts code.now)) }
+{
+    match code {
+        Code::Local(number) => Ok(write!(text, "local {number}")?),
+        Code::Global(octets) => add_global(alloc, text, *octets),
+    }
+}
+
+/// Adds the words of a code and a parameter, behind the name of the code.
+fn add_coded<A: Allocator + Copy>(
+    alloc: A,
+    text: &mut String<A>,
+    code: &Code<'_>,
+    parameter: Option<&[u8]>,
+) -> Result<(), OutOfMemory>
+    ensures { OnOk result (string_bytes text.new ≡ string_bytes text.old ++ coded_words (code_parts code.now) (option_copied parameter.entry)) }
+{
+    add_code(alloc, text, code)?;
+    text.push_str(" param ")?;
+    add_optional_octets(alloc, text, parameter)
+}
+
+/// The words of a code and a parameter, behind the name of the code.
+pub fn coded_text<A: Allocator + Copy>(
+    alloc: A,
+    code: &Code<'_>,
+    parameter: Option<&[u8]>,
+) -> Result<String<A>, OutOfMemory>
+    ensures { IfOk result (λ words. string_bytes words ≡ coded_words (code_parts code.now) (option_copied parameter.entry)) }
+{
+    let mut words = String::new(alloc);
+    add_coded(alloc, &mut words, code, parameter)?;
+    Ok(words)
+}
+
+/// Adds the words of a result's body, `-` twice where there is none.
+fn add_body<A: Allocator + Copy>(
+    alloc: A,
+    text: &mut String<A>,
+    body: &Option<Body<'_>>,
+) -> Result<(), OutOfMemory>
+    ensures { OnOk result (string_bytes text.new ≡ string_bytes text.old ++ body_words (option_map body_parts body.now)) }
+{
+    match body {
+        Some(body) => add_coded(alloc, text, &body.code, body.parameter),
+        None => Ok(text.push_str("- param -")?),
+    }
+}
+
+/// The words of a result's body, `-` twice where there is none.
+pub fn body_text<A: Allocator + Copy>(
+    alloc: A,
+    body: &Option<Body<'_>>,
+) -> Result<String<A>, OutOfMemory>
+    ensures { IfOk result (λ words. string_bytes words ≡ body_words (option_map body_parts body.now)) }
+{
+    let mut words = String::new(alloc);
+    add_body(alloc, &mut words, body)?;
+    Ok(words)
+}
+
+/// The kind of a problem.
+fn kind_text(kind: Kind) -> &'static str
+    ensures { result.now ≡ kind_words kind }
+{
+    match kind {
+        Kind::General => "general",
+        Kind::Invoke => "invoke",
+        Kind::Result => "result",
+        Kind::Error => "error",
+    }
+}
+
+/// Adds the words of a problem: its kind and its code.
+fn add_problem<A: Allocator + Copy>(
+    text: &mut String<A>,
+    problem: Problem,
+) -> Result<(), OutOfMemory>
+    ensures { OnOk result (string_bytes text.new ≡ string_bytes text.old ++ problem_words (problem_parts problem)) }
+{
+    let kind = kind_text(problem.kind());
+    let code = problem.code();
+    write!(text, "{kind} {code}")?;
+    Ok(())
+}
+
+/// The words of a problem: its kind and its code.
+pub fn problem_text<A: Allocator + Copy>(
+    alloc: A,
+    problem: Problem,
+) -> Result<String<A>, OutOfMemory>
+    ensures { IfOk result (λ words. string_bytes words ≡ problem_words (problem_parts problem)) }
+{
+    let mut words = String::new(alloc);
+    add_problem(&mut words, problem)?;
+    Ok(words)
+}
+
+/// Adds the words of an Invoke.
+fn add_invoke<A: Allocator + Copy>(
+    alloc: A,
+    text: &mut String<A>,
+    id: i8,
+    linked: Option<i8>,
+    code: &Code<'_>,
+    parameter: Option<&[u8]>,
+) -> Result<(), OutOfMemory>
+    ensures { OnOk result (string_bytes text.new ≡ string_bytes text.old ++ component_words (invoke id linked (code_parts code.now) (option_copied parameter.entry))) }
+{
+    write!(text, "invoke {id} linked ")?;
+    add_identifier(text, linked)?;
+    text.push_str(" op ")?;
+    add_coded(alloc, text, code, parameter)
+}
+
+/// Adds the words of a result, by its name.
+fn add_result<A: Allocator + Copy>(
+    alloc: A,
+    text: &mut String<A>,
+    name: &str,
+    id: i8,
+    body: &Option<Body<'_>>,
+) -> Result<(), OutOfMemory>
+    ensures { OnOk result (string_bytes text.new ≡ string_bytes text.old ++ (name.now ++ (codes " " ++ (signed_decimal id ++ (codes " op " ++ body_words (option_map body_parts body.now)))))) }
+{
+    write!(text, "{name} {id} op ")?;
+    add_body(alloc, text, body)
+}
+
+/// Adds the words of an error.
+fn add_error<A: Allocator + Copy>(
+    alloc: A,
+    text: &mut String<A>,
+    id: i8,
+    code: &Code<'_>,
+    parameter: Option<&[u8]>,
+) -> Result<(), OutOfMemory>
+    ensures { OnOk result (string_bytes text.new ≡ string_bytes text.old ++ component_words (error_back id (code_parts code.now) (option_copied parameter.entry))) }
+{
+    write!(text, "error {id} code ")?;
+    add_coded(alloc, text, code, parameter)
+}
+
+/// Adds the words of a Reject.
+fn add_reject<A: Allocator + Copy>(
+    text: &mut String<A>,
+    id: Option<i8>,
+    problem: Problem,
+) -> Result<(), OutOfMemory>
+    ensures { OnOk result (string_bytes text.new ≡ string_bytes text.old ++ component_words (reject_back id (problem_parts problem))) }
+{
+    text.push_str("reject ")?;
+    add_identifier(text, id)?;
+    text.push_str(" ")?;
+    add_problem(text, problem)
+}
+
+/// Adds the words of a component.
+pub fn add_component<A: Allocator + Copy>(
+    alloc: A,
+    text: &mut String<A>,
+    component: &Component<'_>,
+) -> Result<(), OutOfMemory>
+    ensures { OnOk result (string_bytes text.new ≡ string_bytes text.old ++ component_words (component_parts component.now)) }
+{
+    match component {
+        Component::Invoke {
+            id,
+            linked,
+            code,
+            parameter,
+        } => add_invoke(alloc, text, *id, *linked, code, *parameter),
+        Component::ResultLast { id, body } => add_result(alloc, text, "result last", *id, body),
+        Component::ResultMore { id, body } => add_result(alloc, text, "result more", *id, body),
+        Component::ErrorBack {
+            id,
+            code,
+            parameter,
+        } => add_error(alloc, text, *id, code, *parameter),
+        Component::RejectBack { id, problem } => add_reject(text, *id, *problem),
+    }
+}
+
+/// Adds the words of a faulty component.
+pub fn add_fault<A: Allocator + Copy>(
+    text: &mut String<A>,
+    fault: ComponentFault,
+) -> Result<(), OutOfMemory>
+    ensures { OnOk result (string_bytes text.new ≡ string_bytes text.old ++ fault_words (fault_parts fault)) }
+{
+    text.push_str("faulty ")?;
+    add_identifier(text, fault.id)?;
+    text.push_str(" ")?;
+    add_problem(text, fault.problem)
+}

@@ -1,0 +1,30 @@
+//! The words of which the command's texts are made: of the parts of a message, of its verdict, and of its
+//! canonical form; octets read from hexadecimal and text written.
+//!
+//! Stands on `ber_core`, `tcap_pdu`, `tcap_component` and `hex`. Begin at `verdict_on`.
+#![tactic(auto)]
+
+mod component_text;
+mod dialogue_text;
+mod judge;
+pub mod laws;
+mod portions;
+mod rewrite;
+mod shown;
+mod spelling;
+mod text;
+mod verdict;
+mod writing;
+
+pub use component_text::{body_text, coded_text, identifier_text, problem_text};
+pub use dialogue_text::pdu_text;
+pub use judge::{
+    add_verdict, has_good_reason, judge_message, read_message, verdict_on, verdict_text,
+};
+pub use portions::{add_destination, add_dialogue, add_origin, add_portions};
+pub use rewrite::{CanonFault, assemble, rewrite_components, rewrite_portion, spell_frame};
+pub use shown::Shown;
+pub use spelling::{decode_hex, hex_octets};
+pub use text::{add_line, add_number, octets_or_dash, optional_octets_or_dash};
+pub use verdict::Verdict;
+pub use writing::{WriteFailed, write_text};
