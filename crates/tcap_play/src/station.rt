@@ -1,12 +1,13 @@
 //! One side of a play: an engine, and the messages that it sent.
 
-ghost use Rattle.std.specs.Prelude.{◌≡◌, ◌++◌, IfOk, OnOk, string_bytes};
-ghost use Rattle.tcap_dialogue.specs.OutputViews.{all_shown};
+ghost use Rattle.std.specs.Prelude.{◌≡◌, ◌++◌, ◌∷◌, List, IfOk, OnOk, string_bytes};
+ghost use Rattle.tcap_dialogue.specs.OutputViews.{all_shown, shown};
 ghost use Rattle.tcap_engine.specs.EventViews.{answer_view, event_view};
 ghost use Rattle.tcap_model.specs.Histories.History.{History};
 ghost use Rattle.tcap_model.specs.Replies.Reply.{reply};
 ghost use Rattle.tcap_model.specs.Statements.EngineMoves.{with_pair};
 ghost use Rattle.tcap_model.specs.Table.World.{StandsAt};
+ghost use Rattle.tcap_model.specs.Words.Output.{Output as Printed};
 ghost use Rattle.tcap_play.specs.Play.{messages_in, messages_of};
 ghost use Rattle.tcap_play.specs.PlayViews.{Hands, messages_view};
 ghost use Rattle.tcap_play.specs.SideView.{side_view};
@@ -40,6 +41,24 @@ fn answer_to<'m, A: Allocator + Copy>(
     Ok(answers.remove(0))
 }
 
+/// Keeps the message that an output sends, if it sends one.
+fn keep_output<A: Allocator + Copy>(
+    sent: &mut Vec<Message<A>, A>,
+    output: Output<'_, A>,
+) -> Result<(), OutOfMemory>
+    ensures { OnOk result ((later : List Printed) → messages_view sent.old.items ++ messages_of (shown output.entry ∷ later) ≡ messages_view sent.new.items ++ messages_of later) }
+{
+    if let Output::Send { to, bytes } = output {
+        sent.reserve(1)?;
+        sent.push_reserved(Message {
+            to,
+            octets: bytes,
+            fate: Fate::Waiting,
+        });
+    }
+    Ok(())
+}
+
 /// Keeps the messages that outputs send.
 fn keep_outputs<A: Allocator + Copy>(
     sent: &mut Vec<Message<A>, A>,
@@ -48,14 +67,7 @@ fn keep_outputs<A: Allocator + Copy>(
     ensures { OnOk result (messages_view sent.new.items ≡ messages_view sent.old.items ++ messages_of (all_shown outputs.entry.items)) }
 {
     for output in outputs {
-        if let Output::Send { to, bytes } = output {
-            sent.reserve(1)?;
-            sent.push_reserved(Message {
-                to,
-                octets: bytes,
-                fate: Fate::Waiting,
-            });
-        }
+        keep_output(sent, output)?;
     }
     Ok(())
 }
