@@ -2,14 +2,14 @@
 
 ghost use Rattle.std.specs.Prelude.{◌≡◌, IfSome};
 
-use crate::node::{Node, peer};
+use crate::node::Node;
 use std::alloc::Global;
 use tcap_component::Code;
-use tcap_engine::{Ending, Engine, Limits, Output};
+use tcap_engine::{Ending, Output};
 use tcap_invocation::Class;
 
 /// A dialogue that stands, and the identifier of the invocation that is under way in it.
-#[derive(Drop)]
+#[derive(Clone, Copy)]
 struct Open {
     dialogue: u32,
     id: i8,
@@ -175,14 +175,12 @@ fn open_one(node: &mut Node, step: u8) -> Option<Open> {
     Some(open)
 }
 
-/// So many dialogues.
-fn open_all(alloc: Global, node: &mut Node, step: u8, dialogues: u16) -> Option<Vec<Open>> {
-    let mut all = Vec::with_capacity(alloc, dialogues as usize).ok()?;
+/// Opens so many dialogues.
+fn open_all(node: &mut Node, step: u8, dialogues: u16, all: &mut Vec<Open>) -> Option<()> {
     for _ in 0..dialogues {
-        let open = open_one(node, step)?;
-        all.push(open).ok()?;
+        all.push(open_one(node, step)?).ok()?;
     }
-    Some(all)
+    Some(())
 }
 
 /// The next of a row of numbers that look drawn by lot.
@@ -222,34 +220,40 @@ fn count_lap(node: &mut Node, step: u8, all: &mut [Open], seed: &mut u32) -> Opt
     Some(count)
 }
 
-/// So many laps on an engine with so many dialogues; nothing where memory is wanting.
-fn count_laps(alloc: Global, step: u8, dialogues: u16, laps: u32) -> Option<u64>
+/// So many laps over these dialogues: how many outputs the steps give.
+fn count_laps(node: &mut Node, step: u8, all: &mut [Open], laps: u32) -> Option<u64>
     ensures { (laps ≡ 0) → IfSome result (λ count. count ≡ 0) }
 {
-    let limits = Limits {
-        max_dialogues: 65_535,
-        reject_ms: 0,
-        idle_ms: if step == 5 { IDLE_MS } else { 0 },
-    };
-    let mut node = Node {
-        engine: Engine::new(alloc, limits),
-        peer: peer(),
-    };
-    let mut all = open_all(alloc, &mut node, step, dialogues)?;
     let mut seed = 1u32;
     let mut count = 0u64;
     for _ in 0..laps {
-        let given = count_lap(&mut node, step, &mut all, &mut seed)?;
+        let given = count_lap(node, step, all, &mut seed)?;
         count = count.saturating_add(given);
     }
     Some(count)
+}
+
+/// So many dialogues are opened, and then taken through so many laps: how many outputs the laps give.
+fn open_and_count(
+    node: &mut Node,
+    all: &mut Vec<Open>,
+    step: u8,
+    dialogues: u16,
+    laps: u32,
+) -> Option<u64>
+    ensures { (laps ≡ 0) → IfSome result (λ count. count ≡ 0) }
+{
+    open_all(node, step, dialogues, all)?;
+    count_laps(node, step, all, laps)
 }
 
 /// How many outputs the laps give; 0 where memory is wanting.
 pub fn count_engine(alloc: Global, step: u8, dialogues: u16, laps: u32) -> u64
     ensures { (laps ≡ 0) → (result ≡ 0) }
 {
-    match count_laps(alloc, step, dialogues, laps) {
+    let mut node = Node::new(alloc, if step == 5 { IDLE_MS } else { 0 });
+    let mut all = Vec::new(alloc);
+    match open_and_count(&mut node, &mut all, step, dialogues, laps) {
         Some(count) => count,
         None => 0,
     }

@@ -2,23 +2,15 @@
 
 ghost use Rattle.std.specs.Prelude.{◌≡◌, IfSome};
 
-use crate::engine_steps::{next_seed, result_to};
-use crate::node::{Node, peer};
+use crate::engine_steps::{continue_to, next_seed, result_to};
+use crate::node::Node;
 use std::alloc::Global;
 use tcap_component::Code;
-use tcap_engine::{Engine, Limits};
+use tcap_engine::Engine;
 use tcap_invocation::Class;
 
 /// How long an invocation may take, in milliseconds, where none is to lapse: longer than any run.
 const TIMEOUT_MS: u64 = 1 << 40;
-
-/// A Continue without components to a dialogue.
-pub(crate) fn continue_to(dialogue: u32) -> [u8; 14] {
-    let [a, b, c, d] = dialogue.to_be_bytes();
-    [
-        0x65, 0x0c, 0x48, 0x04, 0x00, 0x00, 0x00, 0x05, 0x49, 0x04, a, b, c, d,
-    ]
-}
 
 /// The identifier of this place, from 0 on.
 fn id_at(place: u64) -> i8 {
@@ -123,34 +115,34 @@ fn count_lap(
     Some(count)
 }
 
-/// So many laps on a dialogue with so many invocations; nothing where memory is wanting.
-fn count_laps(alloc: Global, step: u8, invocations: u16, laps: u32) -> Option<u64>
+/// So many laps on a dialogue with so many invocations: how many outputs the steps give.
+fn count_laps(node: &mut Node, step: u8, dialogue: u32, invocations: u16, laps: u32) -> Option<u64>
     ensures { (laps ≡ 0) → IfSome result (λ count. count ≡ 0) }
 {
-    let limits = Limits {
-        max_dialogues: 1,
-        reject_ms: 0,
-        idle_ms: 0,
-    };
-    let mut node = Node {
-        engine: Engine::new(alloc, limits),
-        peer: peer(),
-    };
-    let dialogue = open_dialogue(&mut node, step, invocations)?;
     let mut seed = 1u32;
     let mut count = 0u64;
     for _ in 0..laps {
-        let given = count_lap(&mut node, step, dialogue, invocations, &mut seed)?;
+        let given = count_lap(node, step, dialogue, invocations, &mut seed)?;
         count = count.saturating_add(given);
     }
     Some(count)
+}
+
+/// A dialogue with so many invocations is opened, and then taken through so many laps: how many outputs the
+/// laps give.
+fn open_and_count(node: &mut Node, step: u8, invocations: u16, laps: u32) -> Option<u64>
+    ensures { (laps ≡ 0) → IfSome result (λ count. count ≡ 0) }
+{
+    let dialogue = open_dialogue(node, step, invocations)?;
+    count_laps(node, step, dialogue, invocations, laps)
 }
 
 /// How many outputs the laps give; 0 where memory is wanting.
 pub fn count_invocations(alloc: Global, step: u8, invocations: u16, laps: u32) -> u64
     ensures { (laps ≡ 0) → (result ≡ 0) }
 {
-    match count_laps(alloc, step, invocations, laps) {
+    let mut node = Node::new(alloc, 0);
+    match open_and_count(&mut node, step, invocations, laps) {
         Some(count) => count,
         None => 0,
     }

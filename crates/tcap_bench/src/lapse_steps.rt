@@ -2,10 +2,11 @@
 
 ghost use Rattle.std.specs.Prelude.{◌≡◌, IfSome};
 
-use crate::invocation_steps::{continue_to, invoke, invoke_again};
-use crate::node::{Node, peer};
+use crate::engine_steps::continue_to;
+use crate::invocation_steps::{invoke, invoke_again};
+use crate::node::Node;
 use std::alloc::Global;
-use tcap_engine::{Engine, Limits, Output};
+use tcap_engine::{Engine, Output};
 
 /// An Active dialogue with an invocation Sent.
 fn open_one(node: &mut Node, timeout_ms: u64) -> Option<()> {
@@ -53,33 +54,33 @@ fn count_lap(engine: &mut Engine, moments: u64) -> Option<u64> {
     Some(count)
 }
 
-/// So many laps: how many outputs they give; nothing where memory is wanting.
-fn count_laps(alloc: Global, dialogues: u16, together: u16, laps: u32) -> Option<u64>
+/// So many laps: how many outputs they give.
+fn count_laps(engine: &mut Engine, moments: u64, laps: u32) -> Option<u64>
     ensures { (laps ≡ 0) → IfSome result (λ count. count ≡ 0) }
 {
-    let limits = Limits {
-        max_dialogues: 65_535,
-        reject_ms: 0,
-        idle_ms: 0,
-    };
-    let mut node = Node {
-        engine: Engine::new(alloc, limits),
-        peer: peer(),
-    };
-    let moments = open_all(&mut node, dialogues, together)?;
     let mut count = 0u64;
     for _ in 0..laps {
-        let given = count_lap(&mut node.engine, moments)?;
+        let given = count_lap(engine, moments)?;
         count = count.saturating_add(given);
     }
     Some(count)
+}
+
+/// So many dialogues are opened, of which so many lapse at each moment, and then taken through so many laps:
+/// how many outputs the laps give.
+fn open_and_count(node: &mut Node, dialogues: u16, together: u16, laps: u32) -> Option<u64>
+    ensures { (laps ≡ 0) → IfSome result (λ count. count ≡ 0) }
+{
+    let moments = open_all(node, dialogues, together)?;
+    count_laps(&mut node.engine, moments, laps)
 }
 
 /// How many outputs the laps give; 0 where memory is wanting.
 pub fn count_lapses(alloc: Global, dialogues: u16, together: u16, laps: u32) -> u64
     ensures { (laps ≡ 0) → (result ≡ 0) }
 {
-    match count_laps(alloc, dialogues, together, laps) {
+    let mut node = Node::new(alloc, 0);
+    match open_and_count(&mut node, dialogues, together, laps) {
         Some(count) => count,
         None => 0,
     }

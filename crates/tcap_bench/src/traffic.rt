@@ -111,25 +111,14 @@ fn dialogue_of(answer: &Answer) -> Option<u32> {
     }
 }
 
-/// The digest of so much traffic over so many dialogues; nothing where memory is wanting.
-fn digest_of(alloc: Global, seed: u64, dialogues: u16, turns: u32) -> Option<u64>
+/// So many turns over these places: the digest of all that was answered.
+fn digest_of(traffic: &mut Traffic, places: &mut [u32], turns: u32) -> Option<u64>
+    requires { traffic.old.digest.value ≡ 0 }
     ensures { (turns ≡ 0) → IfSome result (λ digest. digest ≡ 0) }
 {
-    let limits = Limits {
-        max_dialogues: 65_535,
-        reject_ms: REJECT_MS,
-        idle_ms: 0,
-    };
     let peer = peer();
-    let mut places = vec![in alloc; 0u32; dialogues as usize].ok()?;
-    let mut traffic = Traffic {
-        engine: Engine::new(alloc, limits),
-        dialogues: dialogues as u32,
-        lot: Lot::new(seed),
-        digest: Digest::new(),
-    };
     for _ in 0..turns {
-        traffic.go_on_somewhere(&peer, &mut places)?;
+        traffic.go_on_somewhere(&peer, places)?;
     }
     Some(traffic.digest.value())
 }
@@ -138,7 +127,21 @@ fn digest_of(alloc: Global, seed: u64, dialogues: u16, turns: u32) -> Option<u64
 pub fn traffic_digest(alloc: Global, seed: u64, dialogues: u16, turns: u32) -> u64
     ensures { (turns ≡ 0) → (result ≡ 0) }
 {
-    match digest_of(alloc, seed, dialogues, turns) {
+    let limits = Limits {
+        max_dialogues: 65_535,
+        reject_ms: REJECT_MS,
+        idle_ms: 0,
+    };
+    let Ok(mut places) = vec![in alloc; 0u32; dialogues as usize] else {
+        return 0;
+    };
+    let mut traffic = Traffic {
+        engine: Engine::new(alloc, limits),
+        dialogues: dialogues as u32,
+        lot: Lot::new(seed),
+        digest: Digest::new(),
+    };
+    match digest_of(&mut traffic, &mut places, turns) {
         Some(digest) => digest,
         None => 0,
     }
