@@ -20,7 +20,7 @@ use tcap_pdu::{Frame, FrameFault, TransId};
 pub type Request<'m> = Option<(&'m [u8], &'m [u8])>;
 
 /// What becomes of received bytes (our own).
-#[derive(Debug, Drop)]
+#[derive(Drop)]
 pub enum Reception<'m> {
     /// The message is dropped.
     Dropped(DropWhy),
