@@ -3,6 +3,7 @@
 mod compared;
 mod components;
 mod dialogues;
+mod draws;
 mod elements;
 mod examples;
 mod integers;

@@ -7,10 +7,10 @@ use tcap_invocation::{AddFault, Class, Lapse, MAX_MOMENT, Stage, Verdict};
 
 /// An invocation, or an identifier that waits for a Reject.
 #[derive(Clone, Copy)]
-pub(super) struct Row {
+struct Row {
     number: u64,
     id: i8,
-    pub(super) class: Class,
+    class: Class,
     stage: Stage,
 }
 
@@ -28,19 +28,29 @@ impl Plain {
     }
 
     /// The row of an identifier.
-    pub(super) fn row(&self, id: i8) -> Option<Row> {
-        self.rows.iter().find(|row| row.id == id).copied()
+    fn row(&self, id: i8) -> Option<Row> {
+        for row in self.rows.iter() {
+            if row.id == id {
+                return Some(*row);
+            }
+        }
+        None
+    }
+
+    /// The class of an invocation.
+    pub(super) fn class_of(&self, id: i8) -> Option<Class> {
+        Some(self.row(id)?.class)
     }
 
     /// The row of an identifier, if it is Sent.
     fn sent_row(&self, id: i8) -> Option<Row> {
-        self.row(id)
-            .filter(|row| matches!(row.stage, Stage::Sent(_)))
+        let row = self.row(id)?;
+        matches!(row.stage, Stage::Sent(_)).then_some(row)
     }
 
     /// The identifier in a row.
     pub(super) fn id_at(&self, place: usize) -> Option<i8> {
-        self.rows.get(place).map(|row| row.id)
+        Some(self.rows.get(place)?.id)
     }
 
     pub(super) fn len(&self) -> usize {
@@ -67,7 +77,7 @@ impl Plain {
         let mut least: Option<u64> = None;
         for row in self.rows.iter() {
             if let Stage::Sent(time) | Stage::Waiting(time) = row.stage {
-                least = Some(least.map_or(time, |other| other.min(time)));
+                least = Some(least.unwrap_or(time).min(time));
             }
         }
         least
@@ -84,7 +94,7 @@ impl Plain {
         let mut first: Option<Lapse> = None;
         for row in self.rows.iter() {
             if let Some(lapse) = lapse_of(row, clock) {
-                first = Some(first.map_or(lapse, |other| earlier(other, lapse)));
+                first = Some(earlier(first.unwrap_or(lapse), lapse));
             }
         }
         first
@@ -166,13 +176,19 @@ impl Plain {
     }
 
     pub(super) fn give_up(&mut self, id: i8) -> Option<u64> {
-        let row = self.row(id).filter(|row| is_to_end(row))?;
+        let row = self.row(id)?;
+        if !is_to_end(&row) {
+            return None;
+        }
         self.take_out(id);
         Some(row.number)
     }
 
     pub(super) fn free_wait(&mut self, id: i8) -> bool {
-        let waits = self.row(id).is_some_and(|row| !is_to_end(&row));
+        let Some(row) = self.row(id) else {
+            return false;
+        };
+        let waits = !is_to_end(&row);
         if waits {
             self.take_out(id);
         }
