@@ -211,46 +211,53 @@ fn components_end_at_a_fault(rt: HostRuntime) -> Result<(), Fail> {
 
 #[test]
 fn components_written(rt: HostRuntime) -> Result<(), Fail> {
-    let invoke = Component::Invoke {
-        id: 1,
-        linked: None,
-        code: Code::Local(10),
-        parameter: None,
-    };
-    let octets = [0xa1, 0x06, 0x02, 0x01, 0x01, 0x02, 0x01, 0x0a];
-    assert!(rt; is_written(rt.alloc(), &invoke, &octets));
-    let last = Component::ResultLast {
-        id: -128,
-        body: Some(Body {
-            code: Code::Local(128),
-            parameter: Some(&[0x04, 0x81, 0x01, 0xaa]),
-        }),
-    };
-    let octets = [
-        0xa2, 0x0d, 0x02, 0x01, 0x80, 0x30, 0x08, 0x02, 0x02, 0x00, 0x80, 0x04, 0x81, 0x01, 0xaa,
-    ];
-    assert!(rt; is_written(rt.alloc(), &last, &octets));
-    let more = Component::ResultMore {
-        id: 127,
-        body: None,
-    };
-    assert!(rt; is_written(rt.alloc(), &more, &[0xa7, 0x03, 0x02, 0x01, 0x7f]));
-    let error = Component::ErrorBack {
-        id: 1,
-        code: Code::Global(&[0x2a, 0x03]),
-        parameter: None,
-    };
-    let octets = [0xa3, 0x07, 0x02, 0x01, 0x01, 0x06, 0x02, 0x2a, 0x03];
-    assert!(rt; is_written(rt.alloc(), &error, &octets));
     let problem = Problem::new(Kind::Result, 0).ok_or("at most 127")?;
-    let reject = Component::RejectBack { id: None, problem };
-    assert!(rt;
-        is_written(
-            rt.alloc(),
-            &reject,
-            &[0xa4, 0x05, 0x05, 0x00, 0x82, 0x01, 0x00]
-        )
-    );
+    let rows: [(Component<'_>, &[u8]); 5] = [
+        (
+            Component::Invoke {
+                id: 1,
+                linked: None,
+                code: Code::Local(10),
+                parameter: None,
+            },
+            &[0xa1, 0x06, 0x02, 0x01, 0x01, 0x02, 0x01, 0x0a],
+        ),
+        (
+            Component::ResultLast {
+                id: -128,
+                body: Some(Body {
+                    code: Code::Local(128),
+                    parameter: Some(&[0x04, 0x81, 0x01, 0xaa]),
+                }),
+            },
+            &[
+                0xa2, 0x0d, 0x02, 0x01, 0x80, 0x30, 0x08, 0x02, 0x02, 0x00, 0x80, 0x04, 0x81, 0x01,
+                0xaa,
+            ],
+        ),
+        (
+            Component::ResultMore {
+                id: 127,
+                body: None,
+            },
+            &[0xa7, 0x03, 0x02, 0x01, 0x7f],
+        ),
+        (
+            Component::ErrorBack {
+                id: 1,
+                code: Code::Global(&[0x2a, 0x03]),
+                parameter: None,
+            },
+            &[0xa3, 0x07, 0x02, 0x01, 0x01, 0x06, 0x02, 0x2a, 0x03],
+        ),
+        (
+            Component::RejectBack { id: None, problem },
+            &[0xa4, 0x05, 0x05, 0x00, 0x82, 0x01, 0x00],
+        ),
+    ];
+    for (component, octets) in rows.iter() {
+        assert!(rt; is_written(rt.alloc(), component, octets), "{octets:?}");
+    }
     Ok(())
 }
 

@@ -57,51 +57,59 @@ fn other_portions(rt: HostRuntime) -> Result<(), Fail> {
     Ok(())
 }
 
-/// The octets of a Begin with origin 00000001, no dialogue portion and these components.
-fn begin(alloc: Global, components: &[u8]) -> Result<Vec<u8>, PduFault> {
+/// The octets of a Begin with origin 00000001, this dialogue portion and these components.
+fn begin(alloc: Global, dialogue: Option<&[u8]>, components: &[u8]) -> Result<Vec<u8>, PduFault> {
     let frame = Frame::Begin {
         otid: TransId::of(1),
-        dialogue: None,
+        dialogue,
         components,
     };
     write_frame(alloc, &frame)
 }
 
-/// Whether that Begin fits with 6B contents of this many bytes.
-fn begin_fits(components: &[u8], dialogue: usize) -> bool {
+/// Whether these bytes are that Begin, without a dialogue portion.
+fn is_begin(bytes: &[u8], components: &[u8]) -> bool {
     let frame = Frame::Begin {
         otid: TransId::of(1),
         dialogue: None,
         components,
     };
-    frame_fits(&frame, dialogue)
+    read_frame(bytes) == Ok(frame)
+}
+
+/// Whether that Begin has 65,535 bytes, and is read again.
+fn is_longest(alloc: Global, components: &[u8]) -> bool {
+    let Ok(bytes) = begin(alloc, None, components) else {
+        return false;
+    };
+    let has_head = bytes.as_slice().starts_with(&[0x62, 0x82, 0xff, 0xfb]);
+    has_head & (bytes.len() == 65_535) & is_begin(bytes.as_slice(), components)
+}
+
+/// Whether that Begin is too long to be written.
+fn is_too_long(alloc: Global, dialogue: Option<&[u8]>, components: &[u8]) -> bool {
+    matches!(begin(alloc, dialogue, components), Err(PduFault::TooLong))
+}
+
+/// Whether that Begin fits with 6B contents of this many bytes.
+fn begin_fits(dialogue: Option<&[u8]>, components: &[u8], length: usize) -> bool {
+    let frame = Frame::Begin {
+        otid: TransId::of(1),
+        dialogue,
+        components,
+    };
+    frame_fits(&frame, length)
 }
 
 #[test]
 fn a_begin_at_the_limit(rt: HostRuntime) -> Result<(), Fail> {
     let above = vec![in rt.alloc(); 0u8; 65_522]?;
     let (within, _) = above.as_slice().split_at(65_521);
-    let bytes = begin(rt.alloc(), within).unwrap_or(Vec::new(rt.alloc()));
-    assert_eq!(rt; bytes.len(), 65_535);
-    assert!(rt; bytes.as_slice().starts_with(&[0x62, 0x82, 0xff, 0xfb]));
-    assert_eq!(rt; begin(rt.alloc(), &above).err(), Some(PduFault::TooLong));
-    let frame = Frame::Begin {
-        otid: TransId::of(1),
-        dialogue: None,
-        components: within,
-    };
-    assert!(rt; read_frame(&bytes) == Ok(frame));
+    assert!(rt; is_longest(rt.alloc(), within));
+    assert!(rt; is_too_long(rt.alloc(), None, &above));
     // An empty 6B is written, but 0 stands for no 6B.
-    let empty = Frame::Begin {
-        otid: TransId::of(1),
-        dialogue: Some(&[]),
-        components: within,
-    };
-    assert!(rt; frame_fits(&empty, 0));
-    assert_eq!(rt;
-        write_frame(rt.alloc(), &empty).err(),
-        Some(PduFault::TooLong)
-    );
+    assert!(rt; is_too_long(rt.alloc(), Some(&[]), within));
+    assert!(rt; begin_fits(Some(&[]), within, 0));
     // The last two are lengths that no sum of machine words holds.
     let rows: [(&[u8], usize, bool); 7] = [
         (within, 0, true),
@@ -112,8 +120,8 @@ fn a_begin_at_the_limit(rt: HostRuntime) -> Result<(), Fail> {
         (within, usize::MAX, false),
         (&[], usize::MAX - 13, false),
     ];
-    for (components, dialogue, fits) in rows {
-        assert_eq!(rt; begin_fits(components, dialogue), fits, "{dialogue}");
+    for (components, length, fits) in rows {
+        assert!(rt; begin_fits(None, components, length) == fits, "{length}");
     }
     Ok(())
 }
