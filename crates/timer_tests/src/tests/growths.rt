@@ -3,7 +3,7 @@ use refusing::Refusing;
 use std::alloc::Global;
 use std::test::Fail;
 
-// Whether a block was found.
+/// Whether a block was found.
 fn grows(heap: &Refusing<Global>) -> bool {
     Vec::<u8, &Refusing<Global>>::with_capacity(heap, 8).is_ok()
 }
@@ -21,8 +21,11 @@ fn exactly_one_growth_is_refused(rt: HostRuntime) -> Result<(), Fail> {
     ];
     for (number, found, armed) in rows {
         heap.refuse(number);
-        assert_eq!(rt; [grows(&heap), grows(&heap), grows(&heap)], found);
-        assert_eq!(rt; heap.is_armed(), armed);
+        assert!(rt;
+            [grows(&heap), grows(&heap), grows(&heap)] == found,
+            "{number}"
+        );
+        assert!(rt; heap.is_armed() == armed, "{number}");
     }
     Ok(())
 }

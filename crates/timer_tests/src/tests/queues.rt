@@ -1,4 +1,3 @@
-use std::process::Abort;
 use std::test::Fail;
 use timer_queue::{Timer, TimerQueue};
 
@@ -20,20 +19,31 @@ fn least(timers: &[Option<Timer>]) -> Option<Timer> {
     least
 }
 
-/// Sets the timer of an item in a queue and in a plain list, and compares what is the least.
+/// The least timer of a queue.
+fn first_of(queue: &TimerQueue) -> Option<Timer> {
+    queue.get(queue.first()?)
+}
+
+/// Sets the timer of an item in a queue and in a plain list; whether the same is the least.
 fn set_both(
-    rt: &impl Abort,
     queue: &mut TimerQueue,
-    plain: &mut Vec<Option<Timer>>,
+    plain: &mut [Option<Timer>],
     item: usize,
     timer: Option<Timer>,
-) {
+) -> bool {
     if item < queue.len() && item < plain.len() {
         queue.set(item, timer);
         plain[item] = timer;
     }
-    let first = queue.first().and_then(|item| queue.get(item));
-    assert_eq!(rt; first, least(plain.as_slice()));
+    first_of(queue) == least(plain)
+}
+
+/// Adds so many items without a timer.
+fn add_items(queue: &mut TimerQueue, count: u8) -> Result<(), Fail> {
+    for _ in 0..count {
+        queue.add_item()?;
+    }
+    Ok(())
 }
 
 /// Rows of an item, the time that it gets, 0 for none, and its name; the names fall as the items rise.
@@ -67,29 +77,27 @@ const ROWS: [(usize, u64, u32); 24] = [
 #[test]
 fn follows_a_plain_list(rt: HostRuntime) -> Result<(), Fail> {
     let mut queue = TimerQueue::new(rt.alloc());
-    let mut plain: Vec<Option<Timer>> = Vec::new(rt.alloc());
-    for _ in 0..8 {
-        queue.add_item()?;
-        plain.push(None)?;
-    }
+    let mut plain: [Option<Timer>; 8] = [None; 8];
+    add_items(&mut queue, 8)?;
     for (item, time, name) in ROWS {
         let timer = if time == 0 {
             None
         } else {
             Some(Timer { time, name })
         };
-        set_both(&rt, &mut queue, &mut plain, item, timer);
+        assert!(rt;
+            set_both(&mut queue, &mut plain, item, timer),
+            "{item} {time}"
+        );
     }
-    assert_eq!(rt; queue.len(), 8);
+    assert!(rt; queue.len() == 8);
     Ok(())
 }
 
 #[test]
 fn an_empty_queue_has_no_first(rt: HostRuntime) {
     let queue = TimerQueue::new(rt.alloc());
-    assert_eq!(rt; queue.first(), None);
-    assert_eq!(rt; queue.get(0), None);
-    assert_eq!(rt; queue.len(), 0);
+    assert!(rt; queue.first().is_none() & queue.get(0).is_none() & (queue.len() == 0));
 }
 
 /// The items that are due, in the order of the walk, with their number.
@@ -103,21 +111,31 @@ fn due_sum(queue: &TimerQueue, moment: u64) -> (usize, usize) {
     (count, sum)
 }
 
-#[test]
-fn walks_over_what_is_due(rt: HostRuntime) -> Result<(), Fail> {
-    let mut queue = TimerQueue::new(rt.alloc());
-    assert_eq!(rt; due_sum(&queue, 100), (0, 0));
-    for item in 0..9 {
-        queue.add_item()?;
+/// Sets the timers of nine items, but for the fifth; the times fall as the items rise.
+fn set_all(queue: &mut TimerQueue) {
+    for item in 0..9usize {
         let time = (9 - item) as u64 * 10;
         if item < queue.len() && item != 4 {
             queue.set(item, Some(Timer { time, name: 0 }));
         }
     }
-    assert_eq!(rt; due_sum(&queue, 9), (0, 0));
-    assert_eq!(rt; due_sum(&queue, 10), (1, 8));
-    assert_eq!(rt; due_sum(&queue, 40), (4, 26));
-    assert_eq!(rt; due_sum(&queue, 50), (4, 26));
-    assert_eq!(rt; due_sum(&queue, 100), (8, 32));
+}
+
+#[test]
+fn walks_over_what_is_due(rt: HostRuntime) -> Result<(), Fail> {
+    let mut queue = TimerQueue::new(rt.alloc());
+    assert!(rt; due_sum(&queue, 100) == (0, 0));
+    add_items(&mut queue, 9)?;
+    set_all(&mut queue);
+    // The moment, and how many items are due then and their sum.
+    for (moment, due) in [
+        (9, (0, 0)),
+        (10, (1, 8)),
+        (40, (4, 26)),
+        (50, (4, 26)),
+        (100, (8, 32)),
+    ] {
+        assert!(rt; due_sum(&queue, moment) == due, "at {moment}");
+    }
     Ok(())
 }
