@@ -102,6 +102,21 @@ fn is_born(alloc: Global, engine: &mut Engine, from: &Address, to: &Address) -> 
     Some(hears & goes_on & tells & goes_to(ended.as_slice(), from))
 }
 
+/// Whether an engine sends where it has to, with these addresses.
+fn is_sent(
+    alloc: Global,
+    engine: &mut Engine,
+    to: &Address,
+    from: &Address,
+    other: &Address,
+    by_user: bool,
+) -> Option<bool> {
+    let learned = learns_once(alloc, engine, to, from, other)?;
+    let born = is_born(alloc, engine, other, to)?;
+    let ended = ends(alloc, engine, from, other, by_user)?;
+    Some(learned & born & ended)
+}
+
 /// Whether an engine sends where it has to, with addresses of these lengths.
 fn is_carried(alloc: Global, seed: &mut u64, lengths: [usize; 3], by_user: bool) -> Option<bool> {
     let [to, from, other] = lengths;
@@ -109,10 +124,7 @@ fn is_carried(alloc: Global, seed: &mut u64, lengths: [usize; 3], by_user: bool)
     let from = drawn(alloc, seed, from)?;
     let other = drawn(alloc, seed, other)?;
     let mut engine = new_engine(alloc, "");
-    let learned = learns_once(alloc, &mut engine, &to, &from, &other)?;
-    let born = is_born(alloc, &mut engine, &other, &to)?;
-    let ended = ends(alloc, &mut engine, &from, &other, by_user)?;
-    Some(learned & born & ended)
+    is_sent(alloc, &mut engine, &to, &from, &other, by_user)
 }
 
 #[test]

@@ -1,9 +1,10 @@
 //! What is answered, as lines of an example: each two spaces in.
 
 use super::words::peer;
+use ber_core::OutOfMemory;
 use std::alloc::{Allocator, Global};
 use std::fmt::Debug;
-use tcap_component::{Body, Code};
+use tcap_component::Problem;
 use tcap_engine::{Address, Answer, By, DropWhy, Output, Why};
 use tcap_pdu::DialoguePdu;
 use tcap_text::{
@@ -30,116 +31,135 @@ fn drop_reason(why: DropWhy) -> &'static str {
     }
 }
 
-/// Why the provider aborted.
-fn abort_reason(alloc: Global, why: Why) -> Option<String> {
-    match why {
-        Why::Cause(cause) => format!(in alloc; "cause {cause}").ok(),
-        Why::Abnormal => format!(in alloc; "abnormal").ok(),
-        Why::NoCommon => format!(in alloc; "nocommon").ok(),
-        Why::Idle => format!(in alloc; "idle").ok(),
-    }
+/// Adds a word and what it names to a line.
+fn add_words(told: &mut String, word: &str, words: Result<String, OutOfMemory>) -> Option<()> {
+    let words = words.ok()?;
+    write!(told, "{word} {words}").ok()
 }
 
-/// A dialogue, `-` where there is none.
-fn place(alloc: Global, dialogue: Option<u32>) -> Option<String> {
+/// Begins a line by a word and a dialogue, `-` where there is none.
+fn begin_line(told: &mut String, word: &str, dialogue: Option<u32>) -> Option<()> {
     match dialogue {
-        Some(dialogue) => format!(in alloc; "{dialogue}").ok(),
-        None => format!(in alloc; "-").ok(),
+        Some(dialogue) => write!(told, "  {word} {dialogue}").ok(),
+        None => write!(told, "  {word} -").ok(),
     }
 }
 
-/// An application context name and user information.
-fn portion(alloc: Global, context: Option<&[u8]>, info: &[u8]) -> Option<String> {
-    let context = optional_octets_or_dash(alloc, context).ok()?;
-    let info = octets_or_dash(alloc, info).ok()?;
-    format!(in alloc; "context {context} info {info}").ok()
+/// Begins the line of an indication that tells of an invocation.
+fn begin_numbered(told: &mut String, word: &str, dialogue: u32, id: i8, number: u64) -> Option<()> {
+    write!(told, "  {word} {dialogue} id {id} number {number}").ok()
 }
 
-/// A message that is sent; where it goes, if it isn't the address 01.
-fn sent_line(alloc: Global, to: &Address, octets: &[u8]) -> Option<String> {
-    let octets = hex::encode(alloc, octets).ok()?;
+/// Adds an application context name and user information.
+fn add_portion(
+    alloc: Global,
+    told: &mut String,
+    context: Option<&[u8]>,
+    info: &[u8],
+) -> Option<()> {
+    add_words(told, " context", optional_octets_or_dash(alloc, context))?;
+    add_words(told, " info", octets_or_dash(alloc, info))
+}
+
+/// Adds a message that is sent; where it goes, if it isn't the address 01.
+fn add_sent(alloc: Global, told: &mut String, to: &Address, octets: &[u8]) -> Option<()> {
+    add_words(told, "  send", octets_or_dash(alloc, octets))?;
     if *to == peer() {
-        return format!(in alloc; "send {octets}").ok();
+        return Some(());
     }
-    let to = octets_or_dash(alloc, to.octets()).ok()?;
-    format!(in alloc; "send {octets} to {to}").ok()
+    add_words(told, " to", octets_or_dash(alloc, to.octets()))
 }
 
-/// The dialogue PDU of an Abort.
-fn abort_pdu(alloc: Global, pdu: &Option<DialoguePdu<'_>>) -> Option<String> {
+/// Adds why the provider aborted.
+fn add_abort_reason(told: &mut String, why: Why) -> Option<()> {
+    match why {
+        Why::Cause(cause) => write!(told, " cause {cause}").ok(),
+        Why::Abnormal => write!(told, " abnormal").ok(),
+        Why::NoCommon => write!(told, " nocommon").ok(),
+        Why::Idle => write!(told, " idle").ok(),
+    }
+}
+
+/// Adds the dialogue PDU of an Abort.
+fn add_abort_pdu(alloc: Global, told: &mut String, pdu: &Option<DialoguePdu<'_>>) -> Option<()> {
     match pdu {
-        Some(pdu) => pdu_text(alloc, pdu).ok(),
-        None => format!(in alloc; "-").ok(),
+        Some(pdu) => add_words(told, "", pdu_text(alloc, pdu)),
+        None => write!(told, " -").ok(),
     }
 }
 
-/// What is sent, and the indications of dialogue handling.
-fn dialogue_line<A: Allocator>(alloc: Global, output: &Output<'_, A>) -> Option<String> {
+/// Adds a problem, and who rejects.
+fn add_reject(alloc: Global, told: &mut String, problem: Problem, by: By) -> Option<()> {
+    add_words(told, "", problem_text(alloc, problem))?;
+    let by = rejector(by);
+    write!(told, " by {by}").ok()
+}
+
+/// Adds what is sent, the indications of dialogue handling, and what `add_abort` does.
+fn add_output<A: Allocator>(
+    alloc: Global,
+    told: &mut String,
+    output: &Output<'_, A>,
+) -> Option<()> {
     match output {
-        Output::Send { to, bytes } => sent_line(alloc, to, bytes.as_slice()),
+        Output::Send { to, bytes } => add_sent(alloc, told, to, bytes.as_slice()),
         Output::Uni { context, info } => {
-            let portion = portion(alloc, *context, info)?;
-            format!(in alloc; "uni {portion}").ok()
+            write!(told, "  uni").ok()?;
+            add_portion(alloc, told, *context, info)
         }
         Output::Begin {
             dialogue,
             context,
             info,
         } => {
-            let portion = portion(alloc, *context, info)?;
-            format!(in alloc; "begin {dialogue} {portion}").ok()
+            begin_line(told, "begin", Some(*dialogue))?;
+            add_portion(alloc, told, *context, info)
         }
         Output::Continue {
             dialogue,
             context,
             info,
         } => {
-            let portion = portion(alloc, *context, info)?;
-            format!(in alloc; "continue {dialogue} {portion}").ok()
+            begin_line(told, "continue", Some(*dialogue))?;
+            add_portion(alloc, told, *context, info)
         }
         Output::End {
             dialogue,
             context,
             info,
         } => {
-            let portion = portion(alloc, *context, info)?;
-            format!(in alloc; "end {dialogue} {portion}").ok()
+            begin_line(told, "end", Some(*dialogue))?;
+            add_portion(alloc, told, *context, info)
         }
-        _ => None,
+        _ => add_abort(alloc, told, output),
     }
 }
 
-/// The indications of aborts, and of what is dropped.
-fn abort_line<A: Allocator>(alloc: Global, output: &Output<'_, A>) -> Option<String> {
+/// Adds the indications of aborts, what is dropped, and what `add_component` does.
+fn add_abort<A: Allocator>(alloc: Global, told: &mut String, output: &Output<'_, A>) -> Option<()> {
     match output {
         Output::UAbort { dialogue, pdu } => {
-            let pdu = abort_pdu(alloc, pdu)?;
-            format!(in alloc; "uabort {dialogue} {pdu}").ok()
+            begin_line(told, "uabort", Some(*dialogue))?;
+            add_abort_pdu(alloc, told, pdu)
         }
         Output::PAbort { dialogue, why } => {
-            let why = abort_reason(alloc, *why)?;
-            format!(in alloc; "pabort {dialogue} {why}").ok()
+            begin_line(told, "pabort", Some(*dialogue))?;
+            add_abort_reason(told, *why)
         }
         Output::Dropped(why) => {
             let why = drop_reason(*why);
-            format!(in alloc; "dropped {why}").ok()
+            write!(told, "  dropped {why}").ok()
         }
-        _ => None,
+        _ => add_component(alloc, told, output),
     }
 }
 
-/// The words of an Invoke or an error: its code and its parameter.
-fn coded(alloc: Global, code: &Code<'_>, parameter: Option<&[u8]>) -> Option<String> {
-    coded_text(alloc, code, parameter).ok()
-}
-
-/// The words of a result's body.
-fn body_words(alloc: Global, body: &Option<Body<'_>>) -> Option<String> {
-    body_text(alloc, body).ok()
-}
-
-/// The indications of component handling that close no invocation.
-fn component_line<A: Allocator>(alloc: Global, output: &Output<'_, A>) -> Option<String> {
+/// Adds the indications of component handling that close no invocation, and what `add_closing` does.
+fn add_component<A: Allocator>(
+    alloc: Global,
+    told: &mut String,
+    output: &Output<'_, A>,
+) -> Option<()> {
     match output {
         Output::Invoked {
             dialogue,
@@ -148,10 +168,10 @@ fn component_line<A: Allocator>(alloc: Global, output: &Output<'_, A>) -> Option
             code,
             parameter,
         } => {
-            let place = place(alloc, *dialogue)?;
-            let linked = identifier_text(alloc, *linked).ok()?;
-            let coded = coded(alloc, code, *parameter)?;
-            format!(in alloc; "invoked {place} id {id} linked {linked} op {coded}").ok()
+            begin_line(told, "invoked", *dialogue)?;
+            add_words(told, " id", identifier_text(alloc, Some(*id)))?;
+            add_words(told, " linked", identifier_text(alloc, *linked))?;
+            add_words(told, " op", coded_text(alloc, code, *parameter))
         }
         Output::ResultMore {
             dialogue,
@@ -159,18 +179,17 @@ fn component_line<A: Allocator>(alloc: Global, output: &Output<'_, A>) -> Option
             id,
             body,
         } => {
-            let body = body_words(alloc, body)?;
-            format!(in alloc; "more {dialogue} id {id} number {number} op {body}").ok()
+            begin_numbered(told, "more", *dialogue, *id, *number)?;
+            add_words(told, " op", body_text(alloc, body))
         }
         Output::LocalReject {
             dialogue,
             id,
             problem,
         } => {
-            let place = place(alloc, *dialogue)?;
-            let id = identifier_text(alloc, *id).ok()?;
-            let problem = problem_text(alloc, *problem).ok()?;
-            format!(in alloc; "localreject {place} id {id} {problem}").ok()
+            begin_line(told, "localreject", *dialogue)?;
+            add_words(told, " id", identifier_text(alloc, *id))?;
+            add_words(told, "", problem_text(alloc, *problem))
         }
         Output::RemoteReject {
             dialogue,
@@ -178,23 +197,20 @@ fn component_line<A: Allocator>(alloc: Global, output: &Output<'_, A>) -> Option
             problem,
             by,
         } => {
-            let place = place(alloc, *dialogue)?;
-            let id = identifier_text(alloc, *id).ok()?;
-            let problem = problem_text(alloc, *problem).ok()?;
-            let by = rejector(*by);
-            format!(in alloc; "remotereject {place} id {id} {problem} by {by}").ok()
+            begin_line(told, "remotereject", *dialogue)?;
+            add_words(told, " id", identifier_text(alloc, *id))?;
+            add_reject(alloc, told, *problem, *by)
         }
-        _ => None,
+        _ => add_closing(alloc, told, output),
     }
 }
 
-/// The words that an indication which closes an invocation begins with.
-fn closing_words(alloc: Global, word: &str, dialogue: u32, id: i8, number: u64) -> Option<String> {
-    format!(in alloc; "{word} {dialogue} id {id} number {number}").ok()
-}
-
-/// The indications that close an invocation.
-fn closing_line<A: Allocator>(alloc: Global, output: &Output<'_, A>) -> Option<String> {
+/// Adds the indications that close an invocation.
+fn add_closing<A: Allocator>(
+    alloc: Global,
+    told: &mut String,
+    output: &Output<'_, A>,
+) -> Option<()> {
     match output {
         Output::ResultLast {
             dialogue,
@@ -202,9 +218,8 @@ fn closing_line<A: Allocator>(alloc: Global, output: &Output<'_, A>) -> Option<S
             id,
             body,
         } => {
-            let words = closing_words(alloc, "last", *dialogue, *id, *number)?;
-            let body = body_words(alloc, body)?;
-            format!(in alloc; "{words} op {body}").ok()
+            begin_numbered(told, "last", *dialogue, *id, *number)?;
+            add_words(told, " op", body_text(alloc, body))
         }
         Output::ErrorBack {
             dialogue,
@@ -213,9 +228,8 @@ fn closing_line<A: Allocator>(alloc: Global, output: &Output<'_, A>) -> Option<S
             code,
             parameter,
         } => {
-            let words = closing_words(alloc, "error", *dialogue, *id, *number)?;
-            let coded = coded(alloc, code, *parameter)?;
-            format!(in alloc; "{words} code {coded}").ok()
+            begin_numbered(told, "error", *dialogue, *id, *number)?;
+            add_words(told, " code", coded_text(alloc, code, *parameter))
         }
         Output::Rejected {
             dialogue,
@@ -224,31 +238,21 @@ fn closing_line<A: Allocator>(alloc: Global, output: &Output<'_, A>) -> Option<S
             problem,
             by,
         } => {
-            let words = closing_words(alloc, "rejected", *dialogue, *id, *number)?;
-            let problem = problem_text(alloc, *problem).ok()?;
-            let by = rejector(*by);
-            format!(in alloc; "{words} {problem} by {by}").ok()
+            begin_numbered(told, "rejected", *dialogue, *id, *number)?;
+            add_reject(alloc, told, *problem, *by)
         }
         Output::Lapsed {
             dialogue,
             number,
             id,
-        } => closing_words(alloc, "lapsed", *dialogue, *id, *number),
+        } => begin_numbered(told, "lapsed", *dialogue, *id, *number),
         Output::Ended {
             dialogue,
             number,
             id,
-        } => closing_words(alloc, "ended", *dialogue, *id, *number),
+        } => begin_numbered(told, "ended", *dialogue, *id, *number),
         _ => None,
     }
-}
-
-/// The line of an output.
-fn output_line<A: Allocator>(alloc: Global, output: &Output<'_, A>) -> Option<String> {
-    dialogue_line(alloc, output)
-        .or(abort_line(alloc, output))
-        .or(component_line(alloc, output))
-        .or(closing_line(alloc, output))
 }
 
 /// Adds a line, two spaces in.
@@ -273,8 +277,8 @@ pub(super) fn add_outputs<A: Allocator>(
     outputs: &[Output<'_, A>],
 ) -> Option<()> {
     for output in outputs {
-        let line = output_line(alloc, output)?;
-        add_line(told, &line)?;
+        add_output(alloc, told, output)?;
+        write!(told, "\n").ok()?;
     }
     Some(())
 }

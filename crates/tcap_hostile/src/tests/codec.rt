@@ -123,6 +123,60 @@ fn add_appended<A: Allocator>(
     }
 }
 
+/// Adds a message, written again.
+fn add_frame<A: Allocator + Copy>(
+    alloc: Global,
+    heap: A,
+    bytes: &[u8],
+    told: &mut String,
+) -> Option<Told> {
+    let frame = read_frame(bytes).ok()?;
+    add_written(alloc, told, write_frame(heap, &frame))
+}
+
+/// Adds an AARQ of this context and information.
+fn add_request<A: Allocator + Copy>(
+    alloc: Global,
+    heap: A,
+    context: &[u8],
+    info: &[u8],
+    told: &mut String,
+) -> Option<Told> {
+    let pdu = DialoguePdu::Aarq {
+        version1: true,
+        context,
+        info,
+    };
+    add_written(alloc, told, write_dialogue(heap, &pdu))
+}
+
+/// Adds the first of these components, written again.
+fn add_component_again<A: Allocator + Copy>(
+    alloc: Global,
+    heap: A,
+    bytes: &[u8],
+    told: &mut String,
+) -> Option<Told> {
+    let component = Components::new(bytes).next()?.ok()?;
+    add_component(alloc, told, write_component(heap, &component))
+}
+
+/// Adds an Invoke: `invoke ID CODE PARAM`.
+fn add_invoke<A: Allocator + Copy>(
+    alloc: Global,
+    heap: A,
+    words: &[Word<'_>],
+    told: &mut String,
+) -> Option<Told> {
+    let component = Component::Invoke {
+        id: text(words, 1).parse().ok()?,
+        linked: None,
+        code: code(words, 2)?,
+        parameter: octets(words, 3),
+    };
+    add_component(alloc, told, write_component(heap, &component))
+}
+
 /// What is written again: `frame HEX` a message, `component HEX` a component; `aarq CONTEXT INFO`,
 /// `invoke ID CODE PARAM` what is written new.
 fn write<A: Allocator + Copy>(
@@ -132,31 +186,10 @@ fn write<A: Allocator + Copy>(
     told: &mut String,
 ) -> Option<Told> {
     match text(words, 0) {
-        "frame" => {
-            let frame = read_frame(info(words, 1)).ok()?;
-            add_written(alloc, told, write_frame(heap, &frame))
-        }
-        "aarq" => {
-            let pdu = DialoguePdu::Aarq {
-                version1: true,
-                context: info(words, 1),
-                info: info(words, 2),
-            };
-            add_written(alloc, told, write_dialogue(heap, &pdu))
-        }
-        "component" => {
-            let component = Components::new(info(words, 1)).next()?.ok()?;
-            add_component(alloc, told, write_component(heap, &component))
-        }
-        "invoke" => {
-            let component = Component::Invoke {
-                id: text(words, 1).parse().ok()?,
-                linked: None,
-                code: code(words, 2)?,
-                parameter: octets(words, 3),
-            };
-            add_component(alloc, told, write_component(heap, &component))
-        }
+        "frame" => add_frame(alloc, heap, info(words, 1), told),
+        "aarq" => add_request(alloc, heap, info(words, 1), info(words, 2), told),
+        "component" => add_component_again(alloc, heap, info(words, 1), told),
+        "invoke" => add_invoke(alloc, heap, words, told),
         _ => None,
     }
 }

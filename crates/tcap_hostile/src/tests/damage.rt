@@ -32,22 +32,31 @@ fn is_canonical(alloc: Global, text: &[u8]) -> Option<bool> {
     Some(canon_text(alloc, octets.as_slice()).ok()?.text.as_slice() == text)
 }
 
+/// Whether these octets have a canonical form, or else this verdict in its place.
+fn is_rewritten(alloc: Global, octets: &[u8], verdict: &[u8], is_good: bool) -> Option<bool> {
+    let rewritten = canon_text(alloc, octets).ok()?;
+    if rewritten.good != is_good {
+        return Some(false);
+    }
+    if is_good {
+        is_canonical(alloc, rewritten.text.as_slice())
+    } else {
+        Some(rewritten.text.as_slice() == verdict)
+    }
+}
+
+/// Whether the three texts of these octets agree on this verdict.
+fn is_agreed(alloc: Global, octets: &[u8], verdict: &[u8], is_good: bool) -> Option<bool> {
+    let is_shown = show_text(alloc, octets).ok()?.good == is_good;
+    let is_rewritten = is_rewritten(alloc, octets, verdict, is_good)?;
+    let is_named = (verdict == b"good\n".as_slice()) == is_good;
+    Some(is_shown & is_rewritten & is_named & is_verdict(verdict))
+}
+
 /// Whether the three texts of these octets agree.
 fn is_judged(alloc: Global, octets: &[u8]) -> Option<bool> {
     let checked = check_text(alloc, octets).ok()?;
-    let shown = show_text(alloc, octets).ok()?;
-    let rewritten = canon_text(alloc, octets).ok()?;
-    let verdict = checked.text.as_slice();
-    let is_good = verdict == b"good\n".as_slice();
-    let is_rewritten = if is_good {
-        is_canonical(alloc, rewritten.text.as_slice())?
-    } else {
-        rewritten.text.as_slice() == verdict
-    };
-    let is_agreed = (checked.good == is_good)
-        & (shown.good == is_good)
-        & (rewritten.good == is_good);
-    Some(is_verdict(verdict) & is_agreed & is_rewritten)
+    is_agreed(alloc, octets, checked.text.as_slice(), checked.good)
 }
 
 /// How many messages a feed gives for a piece; a fault that it answers is the one that stands.
@@ -149,13 +158,6 @@ fn send_invoke(engine: &mut Engine) -> Option<()> {
     send_begin(engine, &to)
 }
 
-/// An engine with one invocation, which was sent. A dialogue may stand still for 500 milliseconds.
-fn waiting_engine(alloc: Global) -> Option<Engine> {
-    let mut engine = new_engine(alloc, "idle");
-    send_invoke(&mut engine)?;
-    Some(engine)
-}
-
 /// Whether what the engine told of so many octets from this address is within its bounds: at most one message
 /// goes out, and there; and a second dialogue stands where a Begin is told. The first is over only where its
 /// invocation was closed.
@@ -195,17 +197,19 @@ fn goes_on_well(
     Some(in_bounds & first_speaks & second_speaks & is_closed_once(engine, told)?)
 }
 
-/// Whether an engine takes these octets from this address within its bounds.
+/// Whether an engine that sent an Invoke takes these octets from this address within its bounds.
 fn takes(engine: &mut Engine, from: &Address, octets: &[u8]) -> Option<bool> {
+    send_invoke(engine)?;
     let told = engine.receive(from, octets).ok()?;
     goes_on_well(engine, from, octets.len(), told.as_slice())
 }
 
-/// Whether an engine that waits for a result takes these octets within its bounds. They come from an address of
-/// the same octets, the first 255 of them, and all that is sent, then and later, goes there and can be read.
+/// Whether an engine that waits for a result, and whose dialogues may stand still for 500 milliseconds, takes these
+/// octets within its bounds. They come from an address of the same octets, the first 255 of them, and all that is
+/// sent, then and later, goes there and can be read.
 fn is_heard(alloc: Global, octets: &[u8]) -> Option<bool> {
-    let mut engine = waiting_engine(alloc)?;
     let from = Address::new(octets.get(..octets.len().min(255))?)?;
+    let mut engine = new_engine(alloc, "idle");
     takes(&mut engine, &from, octets)
 }
 
@@ -217,6 +221,12 @@ fn is_harmless(alloc: Global, octets: &[u8]) -> bool {
     judged & cut & heard
 }
 
+/// Whether these octets are badly formatted.
+fn is_badly_formatted(alloc: Global, octets: &[u8]) -> Option<bool> {
+    let checked = check_text(alloc, octets).ok()?;
+    Some(checked.text.as_slice() == b"fault badly formatted\n".as_slice())
+}
+
 /// How many fronts a message has that aren't all of it; nothing where one does harm, or where the message
 /// is one element and one isn't badly formatted.
 fn fronts(alloc: Global, message: &[u8]) -> Option<u64> {
@@ -224,8 +234,7 @@ fn fronts(alloc: Global, message: &[u8]) -> Option<u64> {
     let mut count = 0u64;
     for length in 0..message.len() {
         let front = message.get(..length)?;
-        let checked = check_text(alloc, front).ok()?;
-        let is_bad = checked.text.as_slice() == b"fault badly formatted\n".as_slice();
+        let is_bad = is_badly_formatted(alloc, front)?;
         if (is_element & !is_bad) | !is_harmless(alloc, front) {
             return None;
         }
@@ -234,14 +243,13 @@ fn fronts(alloc: Global, message: &[u8]) -> Option<u64> {
     Some(count)
 }
 
-/// How many messages come of one by setting an octet of it; nothing where one does harm.
-fn settings(alloc: Global, message: &[u8]) -> Option<u64> {
-    let mut damaged = message.to_vec(alloc).ok()?;
+/// How many messages come of one by setting an octet of this copy of it; nothing where one does harm.
+fn settings_in(alloc: Global, message: &[u8], damaged: &mut [u8]) -> Option<u64> {
     let mut count = 0u64;
     for (place, octet) in message.iter().enumerate() {
         for value in 0..=255u8 {
             *damaged.get_mut(place)? = value;
-            if !is_harmless(alloc, damaged.as_slice()) {
+            if !is_harmless(alloc, damaged) {
                 return None;
             }
             count = count.saturating_add(1);
@@ -249,6 +257,12 @@ fn settings(alloc: Global, message: &[u8]) -> Option<u64> {
         *damaged.get_mut(place)? = *octet;
     }
     Some(count)
+}
+
+/// How many messages come of one by setting an octet of it; nothing where one does harm.
+fn settings(alloc: Global, message: &[u8]) -> Option<u64> {
+    let mut damaged = message.to_vec(alloc).ok()?;
+    settings_in(alloc, message, damaged.as_mut_slice())
 }
 
 #[test]

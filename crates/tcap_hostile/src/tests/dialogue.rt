@@ -7,7 +7,8 @@ use super::words::{Word, event_of, peer, text};
 use ber_core::OutOfMemory;
 use std::alloc::{Allocator, Global};
 use tcap_dialogue::{Dialogue, Fault, Request, State, Step};
-use tcap_engine::Event;
+use tcap_engine::{Address, Event};
+use tcap_invocation::Lapse;
 use tcap_pdu::read_frame;
 use tcap_text::octets_or_dash;
 
@@ -53,8 +54,30 @@ fn add_taken<A: Allocator>(
     }
 }
 
+/// The number of an invocation, or a refusal.
+pub(super) fn add_invoked(told: &mut String, invoked: Result<u64, Fault>) -> Option<Told> {
+    match invoked {
+        Ok(number) => {
+            add_numbered(told, "number", number)?;
+            Some(Told::Large)
+        }
+        Err(fault) => add_fault(told, fault),
+    }
+}
+
+/// The number of an invocation that is given up, or a refusal.
+pub(super) fn add_given_up(told: &mut String, given_up: Result<u64, Fault>) -> Option<Told> {
+    match given_up {
+        Ok(number) => {
+            add_numbered(told, "givenup", number)?;
+            Some(Told::Small)
+        }
+        Err(fault) => add_fault(told, fault),
+    }
+}
+
 /// A component that is queued, or a refusal.
-fn add_queued(told: &mut String, queued: Result<(), Fault>) -> Option<Told> {
+pub(super) fn add_queued(told: &mut String, queued: Result<(), Fault>) -> Option<Told> {
     match queued {
         Ok(()) => {
             add_line(told, "done")?;
@@ -86,23 +109,19 @@ fn invoke<A: Allocator + Copy>(
     let mut fresh = Dialogue::fresh(heap, 1, 1000, 0);
     let invoked = fresh.invoke(1, id, class, code, parameter, linked, timeout_ms);
     *dialogue = fresh;
-    match invoked {
-        Ok(number) => {
-            add_numbered(told, "number", number)?;
-            Some(Told::Large)
-        }
-        Err(fault) => add_fault(told, fault),
-    }
+    add_invoked(told, invoked)
 }
 
 /// What a dialogue tells of a request.
 fn ask<A: Allocator + Copy>(
     alloc: Global,
+    heap: A,
     dialogue: &mut Dialogue<A>,
     request: Request<'_>,
     told: &mut String,
 ) -> Option<Told> {
     match request {
+        Request::Invoke { .. } => invoke(heap, dialogue, request, told),
         Request::Begin { to, context, info } => {
             add_asked(alloc, told, dialogue.begin(to, context, info, 0))
         }
@@ -111,14 +130,33 @@ fn ask<A: Allocator + Copy>(
         }
         Request::Reject { id, problem } => add_queued(told, dialogue.u_reject(id, problem)),
         Request::ResultLast { id, body } => add_queued(told, dialogue.result_last(id, body)),
-        Request::Cancel { id } => match dialogue.u_cancel(id) {
-            Ok(number) => {
-                add_numbered(told, "givenup", number)?;
-                Some(Told::Small)
-            }
-            Err(fault) => add_fault(told, fault),
-        },
+        Request::Cancel { id } => add_given_up(told, dialogue.u_cancel(id)),
         _ => None,
+    }
+}
+
+/// Adds the state, and whether a peer is known.
+fn add_state<A: Allocator + Copy>(told: &mut String, dialogue: &Dialogue<A>) -> Option<()> {
+    let state: State = dialogue.state();
+    let peer = dialogue.peer().is_some();
+    write!(told, "  {state:?} peer {peer}\n").ok()
+}
+
+/// Adds the octets that are kept.
+fn add_kept<A: Allocator + Copy>(
+    alloc: Global,
+    told: &mut String,
+    dialogue: &Dialogue<A>,
+) -> Option<()> {
+    let kept = octets_or_dash(alloc, dialogue.kept().octets()).ok()?;
+    write!(told, "  kept {kept}\n").ok()
+}
+
+/// Adds the number of a lapse, if there is one.
+fn add_lapse_number(told: &mut String, lapse: Option<Lapse>) -> Option<()> {
+    match lapse {
+        Some(lapse) => add_value(told, &Some(lapse.number)),
+        None => add_value::<Option<u64>>(told, &None),
     }
 }
 
@@ -131,10 +169,7 @@ fn look_at<A: Allocator + Copy>(
 ) -> Option<()> {
     match word {
         "due" => add_value(told, &dialogue.due_count(clock)),
-        "first" => {
-            let first = dialogue.first_due(clock);
-            add_value(told, &first.map(|lapse| lapse.number))
-        }
+        "first" => add_lapse_number(told, dialogue.first_due(clock)),
         "free" => {
             dialogue.free_due(clock);
             Some(())
@@ -152,24 +187,44 @@ fn look<A: Allocator + Copy>(
     told: &mut String,
 ) -> Option<Told> {
     match text(words, 0) {
-        "state" => {
-            let state: State = dialogue.state();
-            let peer = dialogue.peer().is_some();
-            write!(told, "  {state:?} peer {peer}\n").ok()?;
-        }
-        "kept" => {
-            let kept = octets_or_dash(alloc, dialogue.kept().octets()).ok()?;
-            write!(told, "  kept {kept}\n").ok()?;
-        }
+        "state" => add_state(told, dialogue)?,
+        "kept" => add_kept(alloc, told, dialogue)?,
         "next" => add_value(told, &dialogue.next_timer())?,
         "one" => {
             let (id, clock) = (text(words, 1).parse().ok()?, text(words, 2).parse().ok()?);
-            let number = dialogue.lapse_one(id, clock).map(|lapse| lapse.number);
-            add_value(told, &number)?;
+            add_lapse_number(told, dialogue.lapse_one(id, clock))?;
         }
         _ => look_at(dialogue, text(words, 0), text(words, 1).parse().ok()?, told)?,
     }
     Some(Told::Small)
+}
+
+/// What a dialogue tells of a message from this address.
+fn take_bytes<A: Allocator + Copy>(
+    alloc: Global,
+    dialogue: &mut Dialogue<A>,
+    from: &Address,
+    bytes: &[u8],
+    told: &mut String,
+) -> Option<Told> {
+    let frame = read_frame(bytes).ok()?;
+    add_taken(alloc, told, dialogue.take_frame(from, &frame, 0))
+}
+
+/// What a dialogue tells of an event.
+fn take<A: Allocator + Copy>(
+    alloc: Global,
+    heap: A,
+    dialogue: &mut Dialogue<A>,
+    words: &[Word<'_>],
+    told: &mut String,
+) -> Option<Told> {
+    let peer = peer();
+    match event_of(words, &peer)? {
+        Event::Bytes(from, bytes) => take_bytes(alloc, dialogue, from, bytes, told),
+        Event::On { request, .. } => ask(alloc, heap, dialogue, request, told),
+        Event::NewDialogue | Event::Moment(_) => None,
+    }
 }
 
 /// What a dialogue tells of a line: `fault CAUSE`, `lapse MS`, those of `look`, or an event.
@@ -182,25 +237,13 @@ pub(super) fn tell<A: Allocator + Copy>(
 ) -> Option<Told> {
     match text(words, 0) {
         "due" | "first" | "one" | "free" | "next" | "state" | "kept" => {
-            return look(alloc, dialogue, words, told);
+            look(alloc, dialogue, words, told)
         }
-        "lapse" => return add_lapses(told, dialogue.lapse(text(words, 1).parse().ok()?)),
+        "lapse" => add_lapses(told, dialogue.lapse(text(words, 1).parse().ok()?)),
         "fault" => {
             let cause: u8 = text(words, 1).parse().ok()?;
-            return add_taken(alloc, told, dialogue.take_fault(cause));
+            add_taken(alloc, told, dialogue.take_fault(cause))
         }
-        _ => {}
-    }
-    let peer = peer();
-    match event_of(words, &peer)? {
-        Event::Bytes(from, bytes) => {
-            let frame = read_frame(bytes).ok()?;
-            add_taken(alloc, told, dialogue.take_frame(from, &frame, 0))
-        }
-        Event::On { request, .. } if matches!(request, Request::Invoke { .. }) => {
-            invoke(heap, dialogue, request, told)
-        }
-        Event::On { request, .. } => ask(alloc, dialogue, request, told),
-        Event::NewDialogue | Event::Moment(_) => None,
+        _ => take(alloc, heap, dialogue, words, told),
     }
 }

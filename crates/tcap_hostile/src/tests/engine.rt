@@ -1,11 +1,12 @@
 //! An engine, asked by the names of its calls.
 
-use super::answers::{add_answer, add_numbered, add_value};
-use super::dialogue::add_fault;
+use super::answers::{add_numbered, add_outputs, add_value};
+use super::dialogue::{add_fault, add_given_up, add_invoked, add_queued};
 use super::subject::Told;
 use super::words::{Word, event_of, peer, text};
+use ber_core::OutOfMemory;
 use std::alloc::{Allocator, Global};
-use tcap_engine::{Answer, Engine, Event, Fault, Limits, Output, Request};
+use tcap_engine::{Engine, Event, Fault, Limits, Output, Request};
 
 /// A new engine of at most 4 dialogues, or at `1` of at most one; at `idle` with an idle limit of 500
 /// milliseconds.
@@ -32,25 +33,33 @@ pub(super) fn resumed<A: Allocator + Copy>(
     Engine::resume(heap, limits, next_dialogue, next_number)
 }
 
-/// The answer where a component is queued.
-fn of_queued<'m, A: Allocator>(queued: Result<(), Fault>) -> Result<Answer<'m, A>, Fault> {
-    queued?;
-    Ok(Answer::Done)
-}
-
-/// The answer to a request of dialogue handling.
-fn of_outputs<'m, A: Allocator>(
-    outputs: Result<Vec<Output<'m, A>, A>, Fault>,
-) -> Result<Answer<'m, A>, Fault> {
-    Ok(Answer::Outputs(outputs?))
+/// Adds what is told of a call that answers with outputs, or its refusal.
+fn add_told<A: Allocator>(
+    alloc: Global,
+    told: &mut String,
+    outputs: Result<Vec<Output<'_, A>, A>, Fault>,
+) -> Option<Told> {
+    match outputs {
+        Ok(outputs) => {
+            add_outputs(alloc, told, outputs.as_slice())?;
+            Some(if outputs.is_empty() {
+                Told::Small
+            } else {
+                Told::Large
+            })
+        }
+        Err(fault) => add_fault(told, fault),
+    }
 }
 
 /// A request of component handling, or of dialogue handling.
-fn asked<'m, A: Allocator + Copy>(
+fn ask<A: Allocator + Copy>(
+    alloc: Global,
     engine: &mut Engine<A>,
     d: u32,
     request: Request<'_>,
-) -> Result<Answer<'m, A>, Fault> {
+    told: &mut String,
+) -> Option<Told> {
     match request {
         Request::Invoke {
             id,
@@ -60,40 +69,62 @@ fn asked<'m, A: Allocator + Copy>(
             linked,
             timeout_ms,
         } => {
-            let number = engine.invoke(d, id, class, code, parameter, linked, timeout_ms)?;
-            Ok(Answer::Number(number))
+            let invoked = engine.invoke(d, id, class, code, parameter, linked, timeout_ms);
+            add_invoked(told, invoked)
         }
-        Request::ResultLast { id, body } => of_queued(engine.result_last(d, id, body)),
-        Request::ResultMore { id, body } => of_queued(engine.result_more(d, id, body)),
+        Request::ResultLast { id, body } => add_queued(told, engine.result_last(d, id, body)),
+        Request::ResultMore { id, body } => add_queued(told, engine.result_more(d, id, body)),
         Request::ErrorBack {
             id,
             code,
             parameter,
-        } => of_queued(engine.error_back(d, id, code, parameter)),
-        Request::Reject { id, problem } => of_queued(engine.u_reject(d, id, problem)),
-        Request::Cancel { id } => Ok(Answer::GivenUp(engine.u_cancel(d, id)?)),
-        Request::Uni { to, context, info } => of_outputs(engine.uni(d, to, context, info)),
-        Request::Begin { to, context, info } => of_outputs(engine.begin(d, to, context, info)),
-        Request::Continue { context, info } => of_outputs(engine.go_on(d, context, info)),
+        } => add_queued(told, engine.error_back(d, id, code, parameter)),
+        Request::Reject { id, problem } => add_queued(told, engine.u_reject(d, id, problem)),
+        Request::Cancel { id } => add_given_up(told, engine.u_cancel(d, id)),
+        Request::Uni { to, context, info } => {
+            add_told(alloc, told, engine.uni(d, to, context, info))
+        }
+        Request::Begin { to, context, info } => {
+            add_told(alloc, told, engine.begin(d, to, context, info))
+        }
+        Request::Continue { context, info } => {
+            add_told(alloc, told, engine.go_on(d, context, info))
+        }
         Request::End {
             ending,
             context,
             info,
-        } => of_outputs(engine.finish(d, ending, context, info)),
-        Request::Abort { why, info } => of_outputs(engine.u_abort(d, why, info)),
+        } => add_told(alloc, told, engine.finish(d, ending, context, info)),
+        Request::Abort { why, info } => add_told(alloc, told, engine.u_abort(d, why, info)),
     }
 }
 
-/// What the call answers that an event stands for.
-fn answer_to<'m, A: Allocator + Copy>(
+/// Adds the number of a new dialogue, or the refusal.
+fn add_new(told: &mut String, born: Result<u32, Fault>) -> Option<Told> {
+    match born {
+        Ok(dialogue) => {
+            add_numbered(told, "new", u64::from(dialogue))?;
+            Some(Told::Large)
+        }
+        Err(fault) => add_fault(told, fault),
+    }
+}
+
+/// What an engine tells of an event.
+fn take<A: Allocator + Copy>(
+    alloc: Global,
     engine: &mut Engine<A>,
-    event: Event<'m>,
-) -> Result<Answer<'m, A>, Fault> {
+    event: Event<'_>,
+    told: &mut String,
+) -> Option<Told> {
     match event {
-        Event::NewDialogue => Ok(Answer::NewDialogue(engine.new_dialogue()?)),
-        Event::Bytes(from, bytes) => Ok(Answer::Outputs(engine.receive(from, bytes)?)),
-        Event::Moment(now) => Ok(Answer::Outputs(engine.advance(now)?)),
-        Event::On { dialogue, request } => asked(engine, dialogue, request),
+        Event::NewDialogue => add_new(told, engine.new_dialogue()),
+        Event::Bytes(from, bytes) => match engine.receive(from, bytes) {
+            Ok(outputs) => add_told(alloc, told, Ok(outputs)),
+            Err(OutOfMemory) => Some(Told::NoMemory),
+        },
+        Event::Moment(now) => add_told(alloc, told, engine.advance(now)),
+        Event::On { dialogue, request } => ask(alloc, engine, dialogue, request, told),
     }
 }
 
@@ -113,30 +144,6 @@ fn look<A: Allocator + Copy>(
     }
 }
 
-/// Whether an answer may have taken memory: it gives or tells something, or a component was kept.
-fn size_of_answer<A: Allocator>(answer: &Answer<'_, A>) -> Told {
-    match answer {
-        Answer::GivenUp(_) | Answer::Refused(_) => Told::Small,
-        Answer::Outputs(outputs) if outputs.is_empty() => Told::Small,
-        _ => Told::Large,
-    }
-}
-
-/// Adds the lines of an answer, or that of a refusal.
-fn add_answered<A: Allocator>(
-    alloc: Global,
-    told: &mut String,
-    answered: Result<Answer<'_, A>, Fault>,
-) -> Option<Told> {
-    match answered {
-        Err(fault) => add_fault(told, fault),
-        Ok(answer) => {
-            add_answer(alloc, told, &answer)?;
-            Some(size_of_answer(&answer))
-        }
-    }
-}
-
 /// What an engine tells of a line: one of those of `look`, or an event.
 pub(super) fn tell<A: Allocator + Copy>(
     alloc: Global,
@@ -151,7 +158,7 @@ pub(super) fn tell<A: Allocator + Copy>(
         }
         _ => {
             let peer = peer();
-            add_answered(alloc, told, answer_to(engine, event_of(words, &peer)?))
+            take(alloc, engine, event_of(words, &peer)?, told)
         }
     }
 }

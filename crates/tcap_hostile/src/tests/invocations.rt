@@ -1,6 +1,6 @@
 //! A list of invocations, asked by the names of its calls.
 
-use super::answers::{add_line, add_numbered, add_value};
+use super::answers::{add_line, add_numbered};
 use super::subject::Told;
 use super::words::{Word, class, kind, text};
 use ber_core::OutOfMemory;
@@ -9,7 +9,12 @@ use tcap_invocation::{AddFault, Class, Invocations, Lapse, MAX_MOMENT, Verdict};
 
 /// Adds a lapse: its deadline, number and identifier.
 fn add_lapse(told: &mut String, lapse: Lapse) -> Option<()> {
-    add_value(told, &(lapse.deadline, lapse.number, lapse.id))
+    let Lapse {
+        deadline,
+        number,
+        id,
+    } = lapse;
+    write!(told, "  ({deadline}, {number}, {id})\n").ok()
 }
 
 /// Adds a lapse that may be none.
@@ -51,6 +56,18 @@ fn added<A: Allocator + Copy>(
     Some(list.add(id, number, class, timeout))
 }
 
+/// Adds how an invocation was taken in.
+fn add_added(told: &mut String, added: Result<(), AddFault>) -> Option<Told> {
+    match added {
+        Ok(()) => Some(Told::Large),
+        Err(AddFault::OutOfMemory) => Some(Told::NoMemory),
+        Err(fault) => {
+            add_numbered(told, "fault", u64::from(fault.number()))?;
+            Some(Told::Small)
+        }
+    }
+}
+
 /// `add ID NUMBER CLASS TIMEOUT`.
 fn add<A: Allocator + Copy>(
     list: &mut Invocations<A>,
@@ -59,14 +76,7 @@ fn add<A: Allocator + Copy>(
 ) -> Option<Told> {
     let (id, number) = (text(words, 1).parse().ok()?, text(words, 2).parse().ok()?);
     let (class, timeout) = (class(text(words, 3))?, text(words, 4).parse().ok()?);
-    match added(list, id, number, class, timeout)? {
-        Ok(()) => Some(Told::Large),
-        Err(AddFault::OutOfMemory) => Some(Told::NoMemory),
-        Err(fault) => {
-            add_numbered(told, "fault", u64::from(fault.number()))?;
-            Some(Told::Small)
-        }
-    }
+    add_added(told, added(list, id, number, class, timeout)?)
 }
 
 /// Adds lapses, or tells that memory was refused.
@@ -100,33 +110,43 @@ fn close<A: Allocator + Copy>(list: &mut Invocations<A>, told: &mut String) -> O
     Some(Told::Large)
 }
 
-/// What is received: `result ID last MS`, `result ID more MS`, `error ID MS`, `reject ID KIND`.
+/// What is received: `result ID last MS`, `result ID more MS`, `error ID MS`.
 fn receive<A: Allocator + Copy>(
+    list: &mut Invocations<A>,
+    id: i8,
+    words: &[Word<'_>],
+) -> Option<Verdict> {
+    if text(words, 0) == "error" {
+        let clock: u64 = text(words, 2).parse().ok()?;
+        return Some(list.on_error(id, clock.min(MAX_MOMENT)));
+    }
+    let clock: u64 = text(words, 3).parse().ok()?;
+    Some(list.on_result(id, text(words, 2) == "last", clock.min(MAX_MOMENT)))
+}
+
+/// Adds whether an identifier is open and in use.
+fn add_open<A: Allocator + Copy>(told: &mut String, list: &Invocations<A>, id: i8) -> Option<()> {
+    let (open, used) = (list.is_open(id), list.in_use(id));
+    write!(told, "  open {open} used {used}\n").ok()
+}
+
+/// What is said of one identifier: those of `receive`, `reject ID KIND`, `giveup ID`, `freewait ID`, `open ID`,
+/// `one ID MS`.
+fn tell_one<A: Allocator + Copy>(
     list: &mut Invocations<A>,
     words: &[Word<'_>],
     told: &mut String,
 ) -> Option<()> {
     let id = text(words, 1).parse().ok()?;
     match text(words, 0) {
-        "result" => {
-            let clock: u64 = text(words, 3).parse().ok()?;
-            let last = text(words, 2) == "last";
-            add_verdict(told, list.on_result(id, last, clock.min(MAX_MOMENT)))
-        }
-        "error" => {
-            let clock: u64 = text(words, 2).parse().ok()?;
-            add_verdict(told, list.on_error(id, clock.min(MAX_MOMENT)))
-        }
+        "result" | "error" => add_verdict(told, receive(list, id, words)?),
         "reject" => add_number(told, list.on_reject(id, kind(text(words, 2))?)),
         "giveup" => add_number(told, list.give_up(id)),
         "freewait" => {
             let freed = list.free_wait(id);
             write!(told, "  {freed}\n").ok()
         }
-        "open" => {
-            let (open, used) = (list.is_open(id), list.in_use(id));
-            write!(told, "  open {open} used {used}\n").ok()
-        }
+        "open" => add_open(told, list, id),
         "one" => add_one(told, list.lapse_one(id, text(words, 2).parse().ok()?)),
         _ => None,
     }
@@ -166,7 +186,7 @@ pub(super) fn tell<A: Allocator + Copy>(
         "lapse" => return add_lapses(told, list.lapse(text(words, 1).parse().ok()?)),
         "close" => return close(list, told),
         "next" | "sent" | "free" | "due" | "first" => look(list, words, told)?,
-        _ => receive(list, words, told)?,
+        _ => tell_one(list, words, told)?,
     }
     Some(Told::Small)
 }

@@ -6,7 +6,7 @@ use super::words::{Word, words_of};
 use std::alloc::Global;
 
 /// Which growths are refused.
-#[derive(Clone, Copy, PartialEq, Eq)]
+#[derive(Clone, Copy)]
 pub(super) enum Refusal {
     /// Those that the heap was told to.
     AsTold,
@@ -14,65 +14,77 @@ pub(super) enum Refusal {
     FirstOfEachCall,
 }
 
-/// An example as it came out.
-#[derive(Drop)]
-pub(super) struct Played {
-    /// Its lines.
-    pub(super) text: String,
-    /// How often memory was refused.
-    pub(super) refusals: u64,
+/// What tells the lines of an example: the memory for what it keeps, that of the subject, and which growths of the
+/// latter are refused.
+#[derive(Clone, Copy)]
+pub(super) struct Player<'h> {
+    pub(super) alloc: Global,
+    pub(super) heap: Heap<'h>,
+    pub(super) refusal: Refusal,
 }
 
-/// Tells a line, and again where memory was refused, and counts how often that was: once at most. Want of
-/// memory is answered where a growth was refused in this call, and only there, it leaves the subject as it
-/// was, and it comes in place of an answer that may take memory. So where the first growth of each call is
-/// refused, an answer that is no want of memory took none.
-fn tell_again<'h>(
-    alloc: Global,
-    heap: Heap<'h>,
-    refusal: Refusal,
+/// Tells a line: how it was taken, and whether memory was refused.
+fn tell_once<'h>(
+    player: Player<'h>,
     subject: &mut Subject<'h>,
     words: &[Word<'_>],
     told: &mut String,
-) -> Option<u64> {
-    let before = format!(in alloc; "{subject:?}").ok()?;
-    if refusal == Refusal::FirstOfEachCall {
+) -> Option<(Told, bool)> {
+    let heap = player.heap;
+    let is_first_refused = matches!(player.refusal, Refusal::FirstOfEachCall);
+    if is_first_refused {
         heap.refuse(1);
     }
     let was_armed = heap.is_armed();
-    let first = subject.tell(alloc, heap, words, told)?;
+    let taken = subject.tell(player.alloc, heap, words, told)?;
     let was_refused = was_armed && !heap.is_armed();
-    if refusal == Refusal::FirstOfEachCall {
+    if is_first_refused {
         heap.refuse(0);
     }
-    match first {
-        Told::NoMemory => {
-            let is_same = format!(in alloc; "{subject:?}").ok()? == before;
-            let again = subject.tell(alloc, heap, words, told)?;
-            (is_same && was_refused && again == Told::Large).then_some(1)
-        }
-        Told::Small | Told::Large => (!was_refused).then_some(0),
+    Some((taken, was_refused))
+}
+
+/// Whether this is what a subject prints for debugging.
+fn is_printed(alloc: Global, subject: &Subject<'_>, before: &str) -> Option<bool> {
+    let after = format!(in alloc; "{subject:?}").ok()?;
+    Some(after.as_str() == before)
+}
+
+/// Tells a line to a subject that printed this before, and again where memory was refused, and counts how often
+/// that was: once at most. Want of memory is answered where a growth was refused in this call, and only there, it
+/// leaves the subject as it was, and it comes in place of an answer that may take memory. So where the first growth
+/// of each call is refused, an answer that is no want of memory took none.
+fn tell_again<'h>(
+    player: Player<'h>,
+    subject: &mut Subject<'h>,
+    before: &str,
+    words: &[Word<'_>],
+    told: &mut String,
+) -> Option<u64> {
+    let (taken, was_refused) = tell_once(player, subject, words, told)?;
+    if !matches!(taken, Told::NoMemory) {
+        return (!was_refused).then_some(0);
     }
+    let is_same = is_printed(player.alloc, subject, before)?;
+    let again = subject.tell(player.alloc, player.heap, words, told)?;
+    (is_same && was_refused && matches!(again, Told::Large)).then_some(1)
 }
 
 /// Tells a line by its words, and again where memory was refused.
 fn tell_line<'h>(
-    alloc: Global,
-    heap: Heap<'h>,
-    refusal: Refusal,
+    player: Player<'h>,
     subject: &mut Subject<'h>,
     line: &str,
     told: &mut String,
 ) -> Option<u64> {
-    let words = words_of(alloc, line)?;
-    tell_again(alloc, heap, refusal, subject, &words, told)
+    let words = words_of(player.alloc, line)?;
+    let before = format!(in player.alloc; "{subject:?}").ok()?;
+    tell_again(player, subject, before.as_str(), words.as_slice(), told)
 }
 
 /// Tells the lines of an example behind its first, and adds them with their answers: how often memory was refused.
 fn tell_lines<'h>(
-    alloc: Global,
-    heap: Heap<'h>,
-    refusal: Refusal,
+    player: Player<'h>,
     subject: &mut Subject<'h>,
     example: &str,
     told: &mut String,
@@ -88,8 +100,7 @@ fn tell_lines<'h>(
             is_first = false;
             continue;
         }
-        let count = tell_line(alloc, heap, refusal, subject, line, told)?;
-        refusals = refusals.saturating_add(count);
+        refusals = refusals.saturating_add(tell_line(player, subject, line, told)?);
     }
     Some(refusals)
 }
@@ -100,34 +111,40 @@ fn subject_of<'h>(alloc: Global, heap: Heap<'h>, example: &str) -> Option<Subjec
     Subject::new(heap, first.as_slice())
 }
 
-/// Plays an example with this heap; nothing where a line isn't understood, a refusal changes something, or
-/// memory is refused for a call that takes none.
-pub(super) fn play(
-    alloc: Global,
-    heap: Heap<'_>,
-    refusal: Refusal,
-    example: &str,
-) -> Option<Played> {
-    let mut subject = subject_of(alloc, heap, example)?;
-    let mut text = String::new(alloc);
-    let refusals = tell_lines(alloc, heap, refusal, &mut subject, example, &mut text)?;
-    Some(Played { text, refusals })
+/// Adds the lines of an example as they come out: how often memory was refused.
+fn add_played(player: Player<'_>, example: &str, told: &mut String) -> Option<u64> {
+    let mut subject = subject_of(player.alloc, player.heap, example)?;
+    tell_lines(player, &mut subject, example, told)
+}
+
+/// Plays an example: how often memory was refused. Nothing where it doesn't come out as it stands, a line isn't
+/// understood, a refusal changes something, or memory is refused for a call that takes none.
+pub(super) fn play(player: Player<'_>, example: &str) -> Option<u64> {
+    let mut told = String::new(player.alloc);
+    let refusals = add_played(player, example, &mut told);
+    if told.as_str() == example {
+        refusals
+    } else {
+        None
+    }
 }
 
 /// How many growths an example has, where each of them that is refused in turn is answered by want of
 /// memory, once, and leaves all other answers those of the example.
 pub(super) fn growths(alloc: Global, heap: Heap<'_>, example: &str) -> Option<u64> {
+    let player = Player {
+        alloc,
+        heap,
+        refusal: Refusal::AsTold,
+    };
     for number in 1..1_000u64 {
         heap.refuse(number);
-        let played = play(alloc, heap, Refusal::AsTold, example)?;
-        if played.text.as_str() != example {
-            return None;
-        }
+        let refusals = play(player, example)?;
         if heap.is_armed() {
             heap.refuse(0);
-            return (played.refusals == 0).then_some(number - 1);
+            return (refusals == 0).then_some(number - 1);
         }
-        if played.refusals != 1 {
+        if refusals != 1 {
             return None;
         }
     }

@@ -3,7 +3,7 @@
 use super::answers::add_answer;
 use super::engine::new_engine;
 use super::subject::Heap;
-use super::words::{Word, event_of, peer, text, words_of};
+use super::words::{Word, event_of, peer, words_of};
 use std::alloc::Global;
 use tcap_engine::{Address, Answer, Engine, Event, run};
 
@@ -29,6 +29,18 @@ fn event_lines<'e>(alloc: Global, example: &'e str) -> Option<Vec<Vec<Word<'e>>>
     Some(lines)
 }
 
+/// Adds the events of these lines.
+fn add_events<'w>(
+    events: &mut Vec<Event<'w>>,
+    lines: &'w [Vec<Word<'_>>],
+    peer: &'w Address,
+) -> Option<()> {
+    for words in lines {
+        events.push(event_of(words.as_slice(), peer)?).ok()?;
+    }
+    Some(())
+}
+
 /// The events of these lines, this peer's where they name no other; nothing where one stands for none.
 fn events_of<'w>(
     alloc: Global,
@@ -36,9 +48,7 @@ fn events_of<'w>(
     peer: &'w Address,
 ) -> Option<Vec<Event<'w>>> {
     let mut events = Vec::new(alloc);
-    for words in lines {
-        events.push(event_of(words.as_slice(), peer)?).ok()?;
-    }
+    add_events(&mut events, lines, peer)?;
     Some(events)
 }
 
@@ -77,36 +87,50 @@ fn run_on<'h, 'm>(
 
 /// Adds the lines of what came of a run and, where memory was refused to it, of a second one over the events that
 /// the first left: how often memory was refused.
-fn run_twice(
+fn run_twice<'h, 'm>(
     alloc: Global,
-    heap: Heap<'_>,
-    kind: &str,
-    events: &[Event<'_>],
+    engine: &mut Engine<Heap<'h>>,
+    events: &[Event<'m>],
+    answers: &mut Vec<Answer<'m, Heap<'h>>, Heap<'h>>,
     told: &mut String,
 ) -> Option<u64> {
-    let mut engine = new_engine(heap, kind);
-    let mut answers = Vec::new(heap);
-    let refusals = run_on(&mut engine, events, &mut answers)?;
+    let refusals = run_on(engine, events, answers)?;
     add_answers(alloc, told, answers.as_slice())?;
     Some(refusals)
 }
 
-/// How many growths the run of an example has, where each of them that is refused in turn ends the first
-/// run, and all answers are the example's.
-pub(super) fn run_growths(alloc: Global, heap: Heap<'_>, example: &str) -> Option<u64> {
-    let lines = event_lines(alloc, example)?;
-    let peer = peer();
-    let events = events_of(alloc, lines.as_slice(), &peer)?;
-    let wanted = wanted_of(alloc, example)?;
-    let first = words_of(alloc, example.lines().next()?)?;
-    let kind = text(first.as_slice(), 1);
+/// Runs these events on a new engine: how often memory was refused; nothing where its answers aren't those that
+/// are wanted.
+fn run_new(
+    alloc: Global,
+    heap: Heap<'_>,
+    kind: &str,
+    events: &[Event<'_>],
+    wanted: &str,
+) -> Option<u64> {
+    let mut engine = new_engine(heap, kind);
+    let mut answers = Vec::new(heap);
+    let mut told = String::new(alloc);
+    let refusals = run_twice(alloc, &mut engine, events, &mut answers, &mut told);
+    if told.as_str() == wanted {
+        refusals
+    } else {
+        None
+    }
+}
+
+/// How many growths the run of these events has, where each of them that is refused in turn ends the first run, and
+/// all answers are those that are wanted.
+fn growths_of(
+    alloc: Global,
+    heap: Heap<'_>,
+    kind: &str,
+    events: &[Event<'_>],
+    wanted: &str,
+) -> Option<u64> {
     for number in 1..1_000u64 {
         heap.refuse(number);
-        let mut answers = String::new(alloc);
-        let refusals = run_twice(alloc, heap, kind, events.as_slice(), &mut answers)?;
-        if answers != wanted {
-            return None;
-        }
+        let refusals = run_new(alloc, heap, kind, events, wanted)?;
         if heap.is_armed() {
             heap.refuse(0);
             return (refusals == 0).then_some(number - 1);
@@ -116,4 +140,32 @@ pub(super) fn run_growths(alloc: Global, heap: Heap<'_>, example: &str) -> Optio
         }
     }
     None
+}
+
+/// What stands behind `engine` in the first line of an example.
+fn kind_of(example: &str) -> &str {
+    let first = example.lines().next().unwrap_or(example);
+    let (_, kind) = first.split_once(' ').unwrap_or((first, "-"));
+    kind
+}
+
+/// How many growths the run of the events of these lines has.
+fn growths_of_lines(
+    alloc: Global,
+    heap: Heap<'_>,
+    example: &str,
+    lines: &[Vec<Word<'_>>],
+    wanted: &str,
+) -> Option<u64> {
+    let peer = peer();
+    let events = events_of(alloc, lines, &peer)?;
+    growths_of(alloc, heap, kind_of(example), events.as_slice(), wanted)
+}
+
+/// How many growths the run of an example has, where each of them that is refused in turn ends the first
+/// run, and all answers are the example's.
+pub(super) fn run_growths(alloc: Global, heap: Heap<'_>, example: &str) -> Option<u64> {
+    let wanted = wanted_of(alloc, example)?;
+    let lines = event_lines(alloc, example)?;
+    growths_of_lines(alloc, heap, example, lines.as_slice(), wanted.as_str())
 }

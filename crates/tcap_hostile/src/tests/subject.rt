@@ -13,7 +13,7 @@ use tcap_invocation::Invocations;
 pub(super) type Heap<'h> = &'h Refusing<Global>;
 
 /// How a line was taken.
-#[derive(Clone, Copy, PartialEq, Eq)]
+#[derive(Clone, Copy)]
 pub(super) enum Told {
     /// Memory was refused.
     NoMemory,

@@ -23,9 +23,8 @@ fn decoded(alloc: Global, hex: &str) -> Vec<u8> {
 }
 
 /// Adds so many octets of 0.
-fn add_zeros(alloc: Global, octets: &mut Vec<u8>, count: usize) -> Option<()> {
-    let zeros = vec![in alloc; 0u8; count].ok()?;
-    octets.extend_from_slice(zeros.as_slice()).ok()
+fn add_zeros(octets: &mut Vec<u8>, count: usize) -> Option<()> {
+    octets.resize(octets.len().saturating_add(count), 0).ok()
 }
 
 /// The octets that a word spells; none where it is no hexadecimal.
@@ -34,7 +33,7 @@ fn octets_of(alloc: Global, text: &str) -> Option<Vec<u8>> {
     let (hex, zeros) = text.split_once('+').unwrap_or((text, "0"));
     let count = zeros.parse::<usize>().ok()?;
     let mut octets = decoded(alloc, hex);
-    add_zeros(alloc, &mut octets, count)?;
+    add_zeros(&mut octets, count)?;
     Some(octets)
 }
 
@@ -49,12 +48,18 @@ fn word_of<'e>(alloc: Global, text: &'e str) -> Option<Word<'e>> {
     })
 }
 
-/// The words of a line.
-pub(super) fn words_of<'e>(alloc: Global, line: &'e str) -> Option<Vec<Word<'e>>> {
-    let mut words = Vec::new(alloc);
+/// Adds the words of a line.
+fn add_words<'e>(alloc: Global, words: &mut Vec<Word<'e>>, line: &'e str) -> Option<()> {
     for text in line.split(' ') {
         words.push(word_of(alloc, text)?).ok()?;
     }
+    Some(())
+}
+
+/// The words of a line.
+pub(super) fn words_of<'e>(alloc: Global, line: &'e str) -> Option<Vec<Word<'e>>> {
+    let mut words = Vec::new(alloc);
+    add_words(alloc, &mut words, line)?;
     Some(words)
 }
 
