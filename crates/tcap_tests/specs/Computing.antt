@@ -14,8 +14,8 @@ use Rattle.tcap_pdu.specs.DialogueWritten.{written_external, written_dialogue}
 use Rattle.tcap_pdu.specs.FrameReading.{id_at, portions_at, cause_at, reason_at, unidirectional_at, begin_at, end_at as frame_end_at, go_on_at, abort_at as frame_abort_at, type_at, frame_at}
 use Rattle.tcap_component.specs.ComponentReading.{identifier_of, identifier_at, linked_at, code_at, body_at, result_at, rejected_at, problem_kind, problem_code, problem_at, invoke_at, result_last_at, error_at, reject_at, result_more_at, form_at, second_is_listed, is_structured, front_identifier, component_at, components_by}
 use Rattle.tcap_component.specs.Written.{write_fault}
-use Rattle.tcap_text.specs.Verdict.{message_of}
-use Rattle.tcap_text.specs.Canonical.{canonical_of}
+use Rattle.tcap_words.specs.Verdict.{message_of}
+use Rattle.tcap_words.specs.Canonical.{canonical_of}
 
 -- Whoever unfolds this name can run all that reads, judges, writes and prints (own).
 unfoldable pub computing : Unit {0}
