@@ -8,6 +8,7 @@ use Rattle.tcap_examples.proofs.TwoEngines.{hears_b, heard_is_b, not_both}
 use Rattle.tcap_examples.proofs.PlaceLemmas.{at_happening}
 use Rattle.tcap_model.specs.Words.Answer.{Answer}
 use Rattle.tcap_examples.specs.Computing.{computing}
+use Rattle.tcap_model.specs.Invocations.Invocation.{invocation_of}
 use Rattle.tcap_model.specs.Statements.Net.{Marked, Trace, side}
 use Rattle.tcap_model.specs.Words.Output.{Output, DialogueIndication}
 use Rattle.tcap_model.specs.Statements.Places.{Tells}
@@ -91,6 +92,10 @@ repeat-opened = record {
 sent : WasSent 1 (side engine_a (drop 10 repeated_begin.trace))
 unfolding computing
 sent = record { invocation = first; is_invocation = refl; is_sent = refl }
+
+pub repeat-first : invocation_of 1 (side engine_a before_the_answer) ≡ Some first
+unfolding computing
+repeat-first = refl
 
 pub repeat-after : (source : ComesFromFar two_places engine_a 1 second_request answer_told.event before_the_answer)
     → WasSent 1 (side engine_a source.before)

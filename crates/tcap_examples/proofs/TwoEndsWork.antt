@@ -3,23 +3,26 @@ use Rattle.std.proofs.Common.{◌≡◌, ℕ, ℤ, pos, zero, suc, List, Option,
 use Rattle.std.specs.Prelude.{◌==◌, drop}
 use Rattle.std.specs.List.{AllByRecursion}
 use Rattle.std.proofs.lemmas.Bool.{cases_Bool}
-use Rattle.tcap_examples.proofs.RepeatedBegin.{repeat-origin, repeat-after, repeat-asked}
+use Rattle.tcap_examples.proofs.RepeatedBegin.{repeat-first, repeat-origin, repeat-after, repeat-asked}
 use Rattle.tcap_examples.proofs.TwoEngines.{above_one, hears_a, side-above}
 use Rattle.tcap_examples.proofs.PlaceLemmas.{Everywhere, at_happening, outputs_of, told_there}
 use Rattle.tcap_model.specs.Statements.Net.{Engine, Marked, Trace, side}
+use Rattle.tcap_model.specs.Invocations.Invocation.{Invocation, invocation_of}
 use Rattle.tcap_model.specs.Words.Output.{Output, Closing, Rejector, ComponentIndication}
 use Rattle.tcap_model.specs.Words.Request.{Request, ComponentRequest}
-use Rattle.tcap_model.specs.Statements.TwoEnds.{Origin, WasSent, AfterInvoke, Once, WasAskedFar, Operations, TwoEnds}
+use Rattle.tcap_model.specs.Statements.TwoEnds.{Origin, Named, WasSent, AfterInvoke, Once, WasAskedFar, Operations, TwoEnds}
 use Rattle.tcap_model.specs.Statements.FarAnswer.{FarAnswer, IsAnswer, ComesFromFar}
 use Rattle.tcap_examples.specs.Nets.PlayedNets.{repeated_begin, before_the_repeat}
+use Rattle.tcap_examples.specs.Statements.HeadlineExamples.{first}
 use Rattle.tcap_examples.specs.Values.DialogueValues.{code}
 use Rattle.tcap_model.specs.Words.Event.{Event}
 use Rattle.tcap_examples.specs.Nets.Engines.{address_of_a, engine_a, two_places}
 
--- An answer that is told: its dialogue and number, and the request that the far user makes for it.
+-- An answer that is told: its dialogue, number and identifier, and the request that the far user makes for it.
 record Answered : Type 0 where
   pub dialogue : ℕ
   pub number : ℕ
+  pub id : ℤ
   pub request : Request
 
 -- The answer that a closing indication is.
@@ -28,6 +31,7 @@ closing_answer dialogue number id (Closing.result_last body) =
     Some (record {
       dialogue = dialogue;
       number = number;
+      id = id;
       request =
           Request.component (ComponentRequest.result_last id body);
     })
@@ -35,6 +39,7 @@ closing_answer dialogue number id (Closing.error_back code parameter) =
     Some (record {
       dialogue = dialogue;
       number = number;
+      id = id;
       request =
           Request.component (ComponentRequest.error_back id code parameter);
     })
@@ -42,6 +47,7 @@ closing_answer dialogue number id (Closing.rejected problem Rejector.remote_user
     Some (record {
       dialogue = dialogue;
       number = number;
+      id = id;
       request =
           Request.component (ComponentRequest.u_reject (Some id) problem);
     })
@@ -60,6 +66,7 @@ answer_in (Output.component (ComponentIndication.result_more dialogue number id 
     Some (record {
       dialogue = dialogue;
       number = number;
+      id = id;
       request =
           Request.component (ComponentRequest.result_more id body);
     })
@@ -71,7 +78,7 @@ answer_in (Output.dropped why) = None
 
 is_in : (dialogue number : ℕ) (id : ℤ) (output : Output) (request : Request)
     → IsAnswer dialogue number id output request
-    → answer_in output ≡ Some (record { dialogue = dialogue; number = number; request = request })
+    → answer_in output ≡ Some (record { dialogue = dialogue; number = number; id = id; request = request })
 is_in dialogue number id output request (IsAnswer.a_result_last body) = refl
 is_in dialogue number id output request (IsAnswer.a_result_more body) = refl
 is_in dialogue number id output request (IsAnswer.an_error code parameter) = refl
@@ -92,6 +99,7 @@ at_answer : (P : Engine → Event → Trace → Answered → Type 0) (trace : Tr
     P answer.engine answer.pair.event answer.before (record {
       dialogue = answer.dialogue;
       number = answer.number;
+      id = answer.id;
       request =
           answer.request;
     })
@@ -121,6 +129,31 @@ origin = at_answer IsFromFar repeated_begin.trace (
     ),
   ),
 )
+
+-- ---- the invocation that is answered
+
+abbrev IsNamed : Engine → Event → Trace → Answered → Type 0
+IsNamed engine event before answer =
+    (invocation : Invocation) × (invocation_of answer.number (side engine before) ≡ Some invocation)
+    × (invocation.dialogue ≡ answer.dialogue) × (invocation.id ≡ answer.id)
+
+named : Named repeated_begin.trace
+named answer =
+    let of = at_answer IsNamed repeated_begin.trace (
+      tt,
+      (
+        tt,
+        (
+          (tt, (tt, tt)),
+          (
+            (tt, ((first, repeat-first, refl, refl), tt)),
+            ((tt, tt), (tt, ((tt, tt), (tt, ((tt, (tt, tt)), ((tt, (tt, tt)), ((tt, tt), (tt, (tt, tt))))))))),
+          ),
+        ),
+      ),
+    )
+    answer in
+    record { invocation = of.0; is_found = of.1; is_of_dialogue = of.2; has_id = of.3 }
 
 -- ---- after the Invoke
 
@@ -206,4 +239,4 @@ operations engine dialogue told =
 
 pub repeated_begin_is_two_ended : TwoEnds two_places repeated_begin.trace
 repeated_begin_is_two_ended =
-    record { origin = origin; after_invoke = after_invoke; once = once; operations = operations }
+    record { origin = origin; named = named; after_invoke = after_invoke; once = once; operations = operations }

@@ -5,6 +5,7 @@ pub mod ClosedOnce
 pub mod FairTellings
 pub mod FarInvokes
 pub mod FarOrigins
+pub mod NamedAnswers
 pub mod PlacedTellings
 pub mod SentInvokes
 pub mod WaitingInvokes

@@ -4,6 +4,7 @@ pub mod FarPeers
 pub mod FarSenders
 pub mod HeardPeers
 pub mod KeptAddresses
+pub mod KeptOnce
 pub mod NetPlaces
 pub mod OpenedApart
 pub mod OwnDialogues

@@ -27,6 +27,7 @@ ghost use Rattle.tcap_model.specs.Statements.Places.{Tells};
 ghost use Rattle.tcap_model.specs.Procedures.PortionRules.{PortionVerdict, portion_verdict};
 ghost use Rattle.tcap_model.specs.Procedures.RequestMessage.{request_address};
 ghost use Rattle.tcap_model.specs.Statements.FaultAnswer.{fault_answer};
+ghost use Rattle.tcap_model.specs.Statements.KeptOnce.{KeepsForGood, KeepsTheFirstSender};
 ghost use Rattle.tcap_model.specs.Statements.NamesDialogue.{NamesDialogue};
 ghost use Rattle.tcap_model.specs.Statements.NormalPortion.{IsNormal, IsAbnormal};
 ghost use Rattle.tcap_model.specs.Statements.ReceivedMark.{Means, Reaches, marks_of_components, noted_at};
@@ -91,6 +92,15 @@ pub fn sends_spell()
         × IsTrue (names (Event.received from received) dialogue)
         × (life dialogue h.pairs ≡ Life.standing (State.active peer) context)
         × (to ≡ kept_address dialogue h.pairs)) }
+{}
+
+/// The address that a dialogue keeps is replaced once at most (our own).
+pub fn kept_once()
+    // In Initiation Received and in Active it stays for good.
+    ensures for_good { KeepsForGood }
+    // In Initiation Sent nothing replaces it but the first Continue whose dialogue portion is as it should be,
+    // and by the address of its sender.
+    ensures first_sender { KeepsTheFirstSender }
 {}
 
 /// The marks of received bytes are those of the message that the bytes spell, and bytes that reach a

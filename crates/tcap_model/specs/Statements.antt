@@ -5,6 +5,7 @@ pub mod FarAnswer
 pub mod FaultAnswer
 pub mod Headline
 pub mod Isolation
+pub mod KeptOnce
 pub mod NamesDialogue
 pub mod Net
 pub mod NormalPortion

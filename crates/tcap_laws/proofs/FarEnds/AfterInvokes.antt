@@ -2,22 +2,16 @@
 use Rattle.std.proofs.Common.{◌≡◌, ℕ, ℤ, ◌==◌, Bool, true, false, List, [], ◌∷◌, ◌++◌, Option, Some, None, refl, sym, ap, subst, ◌∙◌, append_assoc}
 use Rattle.std.specs.Prelude.{cond, find, option_to_list}
 use Rattle.std.specs.Option.{option_or}
-use Rattle.tcap_component.specs.declared.problem.Kind.{Kind}
-use Rattle.tcap_component.specs.declared.problem.Kind.TheVariants as kind
 use Rattle.tcap_model.specs.Words.Answer.{Answer}
-use Rattle.tcap_model.specs.Histories.Birth.{born_on_message}
-use Rattle.tcap_model.specs.Statements.ToldFrom.{ToldFromOne}
 use Rattle.tcap_model.specs.Words.Event.{Event}
 use Rattle.tcap_model.specs.Histories.History.{History}
 use Rattle.tcap_model.specs.Invocations.Invocation.{Invocation, invocation_of, invoked_by, invoked_of}
-use Rattle.tcap_model.specs.Replies.Legal.{AreReplies}
 use Rattle.tcap_model.specs.Histories.Life.{Life, life}
 use Rattle.tcap_model.specs.Words.LocalId.{local_id}
 use Rattle.tcap_model.specs.Statements.Net.{Engine, side, history_in, Net, IsNet}
 use Rattle.tcap_model.specs.Words.Output.{Output, ComponentIndication}
 use Rattle.tcap_model.specs.Histories.Pair.{Pair, Past}
 use Rattle.tcap_model.specs.Statements.Places.{StandsIn, Tells}
-use Rattle.tcap_model.specs.Replies.Reply.{reply}
 use Rattle.tcap_model.specs.Words.Request.{Request, ComponentRequest}
 use Rattle.tcap_model.specs.Statements.TwoEnds.{AcceptedInvoke, IsOrderly, ToldInvoke, AnswersInvoke, WasInvoked, WasSent, AfterInvoke, EachIsTwoEnded}
 use Rattle.tcap_model.specs.Statements.FarAnswer.{FarAnswer, FarSource, peer_in, IsAnswer}
@@ -30,11 +24,9 @@ use Rattle.tcap_laws.proofs.Peers.HeardPeers.{IsPeered}
 use Rattle.tcap_laws.proofs.Peers.NetPlaces.{happens-rest, happens-stands, IsAt, stands-happens}
 use Rattle.tcap_laws.proofs.Peers.OpenedApart.{NeverBegun, earlier_net, net-before, never-before}
 use Rattle.tcap_laws.proofs.Peers.OwnDialogues.{opened-never, opened-short}
-use Rattle.tcap_laws.proofs.FarEnds.PlacedTellings.{IsOf, RejectsInvoke, Placed, reply-placed}
+use Rattle.tcap_laws.proofs.FarEnds.NamedAnswers.{answered, named}
 use Rattle.tcap_laws.proofs.FarEnds.SentInvokes.{HasSource, stands-for-invoke, source, invoke-sent, sent-later, operations}
-use Rattle.tcap_laws.proofs.Receptions.ToldFromOctets.{legal-before, told-from}
 use Rattle.tcap_laws.proofs.FarEnds.WaitingInvokes.{invocation_as}
-use Rattle.tcap_laws.proofs.FarEnds.AnswersNamed.{answer-indicates}
 use Rattle.tcap_laws.proofs.FarEnds.BeginsSent.{IsIn, in-in}
 
 -- ---- the pair that made an invocation
@@ -70,24 +62,6 @@ made n i (last ∷ past) e =
     made-here n i last past (invocation_of n past) (invoked_by last) (λ q. made n i past q) refl
     (sym (invocation_step n last past) ∙ e)
 
--- ---- what is told of an answer
-
-answer-of : (past : Past) (bytes : List ℕ) (born : Option ℕ) {dialogue number : ℕ} {id : ℤ} {output : Output}
-    {request : Request}
-    → IsAnswer dialogue number id output request → Placed past bytes born output
-    → IsOf past dialogue number id × AnswersInvoke id request
-answer-of past bytes born (IsAnswer.a_result_last body) placed = (placed, AnswersInvoke.a_result_last body)
-answer-of past bytes born (IsAnswer.a_result_more body) placed = (placed, AnswersInvoke.a_result_more body)
-answer-of past bytes born (IsAnswer.an_error code parameter) placed = (placed, AnswersInvoke.an_error code parameter)
-answer-of past bytes born {id = id} (IsAnswer.a_reject problem) placed = (placed.0, rejects problem.kind placed.1)
-  where
-    rejects : (k : Kind) → RejectsInvoke k → AnswersInvoke id
-        (Request.component (ComponentRequest.u_reject (Some id) (record { kind = k; code = problem.code })))
-    rejects kind.General is = AnswersInvoke.a_general_reject problem.code
-    rejects kind.Invoke is = AnswersInvoke.an_invoke_reject problem.code
-    rejects kind.Result is = absurd is
-    rejects kind.Error is = absurd is
-
 -- ---- the two ends
 
 is-peered : (peer : List ℕ) (l : Life) → peer_in l ≡ Some peer → IsPeered peer l
@@ -112,29 +86,6 @@ module _ (net : Net) (is : IsNet net) (answer : FarAnswer net.trace)
   abbrev f : ℕ
   f = asking.is_request.far_dialogue
 
-  -- the invocation and the request
-  answered : IsOf (side answer.engine answer.before) answer.dialogue answer.number answer.id
-      × AnswersInvoke answer.id answer.request
-  answered =
-      let stands = happens-stands answer.engine answer.pair answer.before net.trace answer.happens in
-      let legal = legal-before (net.start answer.engine) stands.later (answer.pair ∷ side answer.engine answer.before)
-      (subst (AreReplies (net.start answer.engine)) stands.is_past (is.is_legal answer.engine).1) in
-      let h : History = record { start = net.start answer.engine; pairs = side answer.engine answer.before } in
-      let told : ToldFromOne answer.pair.event answer.output =
-      told-from (history_in net answer.engine net.trace) (is.is_legal answer.engine) (record {
-        pair = answer.pair;
-        before = side answer.engine answer.before;
-        output = answer.output;
-        stands = stands;
-        tells = answer.tells;
-        is_of_component = answer-indicates answer.is_answer;
-      }) in
-      let placed = reply-placed h legal.2 told.from told.bytes answer.output
-      (subst (λ (e : Event). Tells (reply h e) answer.output) told.is_event
-      (subst (λ (a : Answer). Tells a answer.output) legal.1 answer.tells)) in
-      answer-of (side answer.engine answer.before) told.bytes (born_on_message (reply h (Event.received told.from told.bytes)))
-      answer.is_answer placed
-
   here-in : (e : Engine) → IsIn (side e answer.before) (side e net.trace)
   here-in e = happens-rest e answer.engine answer.pair answer.before net.trace answer.happens
 
@@ -156,7 +107,7 @@ module _ (net : Net) (is : IsNet net) (answer : FarAnswer net.trace)
         stands = stands;
         is_event = asking.is_request.is_event;
         accepted = asking.is_request.accepted;
-        answers = answered.1;
+        answers = (answered net is answer).1;
       })
 
   at : IsAt other was.pair was.before asking.before
@@ -245,7 +196,7 @@ module _ (net : Net) (is : IsNet net) (answer : FarAnswer net.trace)
       (side answer.engine net.trace) at-in (in-in (side answer.engine asking.before)
       (side answer.engine answer.before) (side answer.engine net.trace) (earlier-in answer.engine)
       (here-in answer.engine)) in
-      let of = answered.0 in
+      let of = (answered net is answer).0 in
       let m : IsMade of.invocation (side answer.engine answer.before) =
       made of.invocation.number of.invocation (side answer.engine answer.before) of.is_found in
       let new : AcceptedInvoke (side answer.engine net.trace) = record {
@@ -277,6 +228,7 @@ after-invoke net is answer asking orderly = sent-before net is answer asking ord
 pub two_ends : EachIsTwoEnded
 two_ends net is = record {
   origin = origin net is;
+  named = named net is;
   after_invoke = after-invoke net is;
   once = once net is;
   operations =

@@ -19,8 +19,7 @@ use Rattle.tcap_model.specs.Words.Request.{Request, DialogueRequest}
 use Rattle.tcap_model.specs.Words.State.{State, peer_of, is_live, address_by}
 use Rattle.tcap_laws.proofs.Peers.FarPeers.{HasPeer, BeginsNone, no-begin, peer-stays}
 
-module _ (kept : Address) (state : State) (context : Option (List ℕ)) (peer : List ℕ)
-    (known : peer_of state ≡ Some peer) where
+module _ (kept : Address) where
   request-keeps : (request : Request) → BeginsNone request → kept_by_request kept request ≡ kept
   request-keeps (Request.component asked) begins = refl
   request-keeps (Request.dialogue (DialogueRequest.uni to asked info)) begins = refl
@@ -29,11 +28,13 @@ module _ (kept : Address) (state : State) (context : Option (List ℕ)) (peer : 
   request-keeps (Request.dialogue (DialogueRequest.finish ending asked info)) begins = refl
   request-keeps (Request.dialogue (DialogueRequest.u_abort why info)) begins = refl
 
-  accepted-keeps : (accepted : Bool) (request : Request) → (accepted ≡ true → BeginsNone request)
+  pub accepted-keeps : (accepted : Bool) (request : Request) → (accepted ≡ true → BeginsNone request)
       → (if accepted then kept_by_request kept request else kept) ≡ kept
   accepted-keeps true request begins = request-keeps request (begins refl)
   accepted-keeps false request begins = refl
 
+module _ (kept : Address) (state : State) (context : Option (List ℕ)) (peer : List ℕ)
+    (known : peer_of state ≡ Some peer) where
   -- a Continue tells a new address in Initiation Sent alone
   address-keeps : (s : State) (from : Address) → peer_of s ≡ Some peer → address_by s kept from ≡ kept
   address-keeps State.fresh from e = refl
@@ -66,7 +67,7 @@ module _ (h : History) (dialogue : ℕ) (peer : List ℕ) (kept : Address) (answ
       → kept_by_event kept s c event (is_accepted answer) ≡ kept
   event-keeps Event.new_dialogue is s c lives named e = refl
   event-keeps (Event.on_dialogue asked request) is s c lives named e =
-      accepted-keeps kept s c peer e (is_accepted answer) request
+      accepted-keeps kept (is_accepted answer) request
       (λ accepted. no-begin h dialogue peer s c lives e request
       (subst (λ (d : ℕ). is_accepted (reply h (Event.on_dialogue d request)) ≡ true) (eqb-true asked dialogue named)
       (sym (ap is_accepted is) ∙ accepted)))

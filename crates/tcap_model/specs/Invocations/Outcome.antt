@@ -24,10 +24,6 @@ first_closing class timeout marks = closing_after class timeout [] marks
 abbrev pub is_sent_in : Class → ℕ → List Noted → Bool
 is_sent_in class timeout marks = is_some (sent_clock marks) && is_none (first_closing class timeout marks)
 
--- The invocation is queued: its Invoke hasn't gone out, and no mark closes it (own).
-abbrev pub is_queued_in : Class → ℕ → List Noted → Bool
-is_queued_in class timeout marks = is_none (sent_clock marks) && is_none (first_closing class timeout marks)
-
 -- The invocation was sent: its Invoke went out, and no mark before that closes it. What closes it after
 -- that doesn't matter, be it in the same event (Q.774, Operation Sent).
 abbrev pub was_sent_in : Class → ℕ → List Noted → Bool

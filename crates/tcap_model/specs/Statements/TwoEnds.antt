@@ -24,6 +24,20 @@ use Rattle.tcap_model.specs.Invocations.Span.{span}
 abbrev pub Origin : Places → Trace → Type 0
 Origin places trace = (answer : FarAnswer trace) → FarSource places answer
 
+-- ---- the invocation that is answered
+
+-- The invocation of an answer's number stands before it, and has the answer's dialogue and identifier (own).
+pub record IsOfInvocation {trace : Trace} (answer : FarAnswer trace) : Type 0 where
+  pub invocation : Invocation
+  pub is_found : invocation_of answer.number (side answer.engine answer.before) ≡ Some invocation
+  pub is_of_dialogue : invocation.dialogue ≡ answer.dialogue
+  pub has_id : invocation.id ≡ answer.id
+
+-- Named: each answer that is told of an invocation names it by its number, its dialogue and its identifier
+-- (own).
+abbrev pub Named : Trace → Type 0
+Named trace = (answer : FarAnswer trace) → IsOfInvocation answer
+
 -- ---- after the Invoke
 
 -- An accepted invoke request stands in a history (own).
@@ -163,6 +177,7 @@ Operations places trace =
 -- What the users at both ends may rely on (own).
 pub record TwoEnds (places : Places) (trace : Trace) : Type 0 where
   pub origin : Origin places trace
+  pub named : Named trace
   pub after_invoke : AfterInvoke places trace
   pub once : Once trace
   pub operations : Operations places trace

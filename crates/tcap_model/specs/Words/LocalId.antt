@@ -15,7 +15,3 @@ dialogue_named octets = if length octets == 4 then Some (from_be_bytes w32 octet
 abbrev pub is_that : ℕ → Option ℕ → Bool
 is_that dialogue None = false
 is_that dialogue (Some named) = named == dialogue
-
--- Whether the octets are the four of a dialogue (own).
-abbrev pub is_local_id : ℕ → List ℕ → Bool
-is_local_id dialogue octets = is_that dialogue (dialogue_named octets)

@@ -1,0 +1,5 @@
+use Rattle.tcap_laws.proofs.FarEnds.NamedAnswers.{named}
+use Rattle.tcap_laws.proofs.ends.named.Goals as goal
+
+pub returns : goal.returns
+returns c = named
