@@ -5,9 +5,9 @@ use Rattle.std.proofs.lemmas.Bool.{or_cases, or_right}
 use Rattle.std.proofs.lemmas.Option.{slice_get-map}
 use Rattle.std.specs.declared.vec.Vec.{Vec}
 use Rattle.std.proofs.lemmas.Slice.Eq.{bytes_eq-Decides}
-use Rattle.tcap_dialogue.specs.declared.output.Output.TheVariants as output
-use Rattle.tcap_dialogue.specs.declared.output.Output as rust
-use Rattle.tcap_dialogue.specs.OutputViews.{shown, all_shown}
+use Rattle.tcap_primitives.specs.declared.output.Output.TheVariants as output
+use Rattle.tcap_primitives.specs.declared.output.Output as rust
+use Rattle.tcap_primitives.specs.OutputViews.{shown, all_shown}
 use Rattle.tcap_engine.specs.declared.event.Answer as given
 use Rattle.tcap_engine.specs.declared.event.Answer.TheVariants as answer
 use Rattle.tcap_engine.specs.EventViews.{answer_view, answers_view}

@@ -1,7 +1,7 @@
 -- Two calls of an engine, one after the other.
 use Rattle.std.proofs.Common.{IfOk, Result, Ok, Err}
 use Rattle.ber_core.specs.declared.fault.OutOfMemory.{OutOfMemory}
-use Rattle.tcap_dialogue.specs.declared.fault.Fault.{Fault}
+use Rattle.tcap_primitives.specs.declared.fault.Fault.{Fault}
 use Rattle.tcap_engine.specs.HistoryForm.{StandsOn, Stands, StandsHeard}
 use Rattle.tcap_model.specs.Histories.History.{History}
 use Rattle.tcap_model.specs.Statements.EngineMoves.{with_pair}

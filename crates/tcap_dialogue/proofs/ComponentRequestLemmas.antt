@@ -16,11 +16,11 @@ use Rattle.tcap_model.specs.Table.TableMove.{situation, requested_by}
 use Rattle.tcap_model.specs.Words.Fault.{Fault}
 use Rattle.tcap_model.specs.Words.Identifiers.{are_numbers_spent}
 use Rattle.tcap_model.specs.Words.Request.{Request, ComponentRequest}
-use Rattle.tcap_dialogue.specs.ComponentRefusals.{spelling_fault, queue_fault, answer_fault, answered_by, answered}
+use Rattle.tcap_dialogue.specs.ComponentRefusals.{answer_fault, answered_by, answered}
+use Rattle.tcap_primitives.specs.QueueRefusals.{spelling_fault, queue_fault}
 use Rattle.tcap_dialogue.specs.FaultViews.{RefusedBy}
 use Rattle.tcap_dialogue.specs.StepViews.{outcome, asked, requested}
 use Rattle.tcap_dialogue.proofs.RefusalLemmas.{refused}
-use Rattle.tcap_dialogue.proofs.RoomLemmas.{queued_by}
 
 -- No user information is user information.
 pub information-none : is_information [] ≡ true
@@ -59,6 +59,10 @@ used_last : (code parameter used : Bool) → None ≡ spelled_by code parameter 
 used_last true true used e = rw information-none refl
 used_last true false used e = absurd cc
 used_last false parameter used e = absurd cc
+
+-- The tests of a component that is queued, in their order.
+abbrev queued_by : (code parameter room : Bool) → Option Fault
+queued_by code parameter room = if code then (if parameter then (if room then None else Some Fault.too_long) else Some Fault.bad_parameter) else Some Fault.bad_oid
 
 due_early : (timely code parameter used spent room : Bool) (f : Fault) → Some f ≡ checked_by timely code parameter used → Some f ≡ due_by timely code parameter used spent room
 due_early false code parameter used spent room f e = e

@@ -1,15 +1,9 @@
-pub mod AbortLemmas
 pub mod AskedLemmas
-pub mod CancelLemmas
 pub mod ComponentRequestLemmas
 pub mod ControlLemmas
-pub mod CutLemmas
 pub mod FaultLemmas
 pub mod ItemLemmas
 pub mod PlaceLemmas
-pub mod PortionLemmas
 pub mod PortionNames
 pub mod RefusalLemmas
-pub mod RoomLemmas
-pub mod SendingLemmas
 pub mod WalkLemmas

@@ -8,8 +8,8 @@ use Rattle.tcap_component.specs.ComponentReading.{components_of}
 use Rattle.tcap_component.specs.Place.{ItemInPlace, bytes_left, components_steps}
 use Rattle.tcap_component.specs.Views.{item_view}
 use Rattle.tcap_model.specs.Procedures.ComponentHandling.{Item}
-use Rattle.tcap_dialogue.specs.declared.output.Output.{Output}
-use Rattle.tcap_dialogue.specs.Slices.{Slices, IsLeftOf, StandsIn, AreOfItem, LieIn, AllInPlace, slices_of}
+use Rattle.tcap_primitives.specs.declared.output.Output.{Output}
+use Rattle.tcap_primitives.specs.Slices.{Slices, IsLeftOf, StandsIn, AreOfItem, LieIn, AllInPlace, slices_of}
 
 -- All is left of a component portion of which nothing was read.
 pub left_self : (portion : Slice) → IsLeftOf portion portion

@@ -10,10 +10,10 @@ use Rattle.tcap_model.specs.Procedures.QueueRules.{Queued, queue_limit, queue_ea
 use Rattle.tcap_model.specs.Table.Dialogue.{sent_by_rows}
 use Rattle.tcap_model.specs.Table.TableMove.{Walked, walked, walked_before, reject_queued, after_item, ended_told}
 use Rattle.tcap_model.specs.Words.Output.{Output, Closing, ComponentIndication}
-use Rattle.tcap_dialogue.specs.declared.output.Output.TheVariants as output
+use Rattle.tcap_primitives.specs.declared.output.Output.TheVariants as output
 use Rattle.tcap_invocation.specs.Invocations.{InvocationList}
-use Rattle.tcap_dialogue.specs.declared.output.Output as code
-use Rattle.tcap_dialogue.specs.OutputViews.{all_shown, shown}
+use Rattle.tcap_primitives.specs.declared.output.Output as code
+use Rattle.tcap_primitives.specs.OutputViews.{all_shown, shown}
 use Rattle.tcap_dialogue.specs.Walking.{Told, told_from, Done, done_by, done_from, with_reject}
 
 rejects_each : (queue : List Queued) (reject : Option ComponentParts) (rejects : List Queued) →

@@ -6,8 +6,9 @@ use Rattle.tcap_model.specs.Words.Answer.{Answer}
 use Rattle.tcap_model.specs.Words.Request.{Request, ComponentRequest}
 use Rattle.tcap_dialogue.specs.declared.dialogue.ask.Asked.{Asked}
 use Rattle.tcap_dialogue.specs.declared.dialogue.ask.Asked.TheVariants as asked
-use Rattle.tcap_dialogue.specs.declared.fault.Fault.{Fault}
-use Rattle.tcap_dialogue.specs.FaultViews.{fault_view, RefusedBy}
+use Rattle.tcap_primitives.specs.declared.fault.Fault.{Fault}
+use Rattle.tcap_dialogue.specs.FaultViews.{RefusedBy}
+use Rattle.tcap_primitives.specs.FaultViews.{fault_view}
 use Rattle.tcap_dialogue.specs.StepViews.{Outcome, stepped}
 
 -- An Invoke gets a number that is left and above all that the dialogue had; no other request gets one

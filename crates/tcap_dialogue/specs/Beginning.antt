@@ -1,6 +1,5 @@
 -- What a Begin or a Unidirectional brings, and what is told of it.
-use Rattle.std.specs.Prelude.{ℕ, List, [], ◌∷◌, Option, Some, None, false}
-use Rattle.ber_core.specs.Place.{Slice}
+use Rattle.std.specs.Prelude.{ℕ, List, ◌∷◌, Option, Some, false}
 use Rattle.tcap_model.specs.Procedures.QueueRules.{queue_limit, queue_each}
 use Rattle.tcap_model.specs.Table.Dialogue as model
 use Rattle.tcap_model.specs.Table.Dialogue.{with_queue, with_invocations, in_state, in_context, keeping}
@@ -10,36 +9,9 @@ use Rattle.tcap_model.specs.Words.Answer.{Answer}
 use Rattle.tcap_model.specs.Words.Output as told
 use Rattle.tcap_model.specs.Words.Output.{DialogueIndication}
 use Rattle.tcap_model.specs.Words.State.{State}
-use Rattle.tcap_dialogue.specs.declared.output.Output.{Output}
-use Rattle.tcap_dialogue.specs.OutputViews.{all_shown}
-use Rattle.tcap_dialogue.specs.Slices.{HeldIn}
+use Rattle.tcap_primitives.specs.declared.output.Output.{Output}
+use Rattle.tcap_primitives.specs.OutputViews.{all_shown}
 use Rattle.tcap_dialogue.specs.StepViews.{Outcome}
-
--- The application context name and the user information of an AARQ or of an AUDT, if there is one
--- (Q.773, Dialogue portion).
-abbrev pub Given : Type 0
-Given = Option (Slice × Slice)
-
--- The context of it (own).
-abbrev pub context_slice : Given → Option Slice
-context_slice None = None
-context_slice (Some parts) = Some parts.0
-
--- Its octets (own).
-abbrev pub context_given : Given → Option (List ℕ)
-context_given None = None
-context_given (Some parts) = Some parts.0.now
-
--- The octets of its information, none where there is none (own).
-abbrev pub info_given : Given → List ℕ
-info_given None = []
-info_given (Some parts) = parts.1.now
-
--- What is given are the parts of the PDU with this tag in the dialogue portion
--- (Q.773, Dialogue portion).
-abbrev pub GivenIn : ℕ → Given → Option Slice → Type 0
-GivenIn tag None portion = Unit {0}
-GivenIn tag (Some parts) portion = HeldIn tag (Some parts.0) parts.1 portion
 
 -- What was told, and the dialogue (own).
 abbrev pub begun : {A : Type 0} → List (Output A) → model.Dialogue → Outcome

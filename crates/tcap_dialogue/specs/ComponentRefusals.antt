@@ -1,36 +1,14 @@
--- Why a component isn't queued, and what a request that queues an answer gives.
-use Rattle.std.specs.Prelude.{List, Option, Some, None, if◌then◌else◌}
+-- What a request that queues an answer gives.
+use Rattle.std.specs.Prelude.{Option, Some, None, if◌then◌else◌}
 use Rattle.tcap_component.specs.Component.{ComponentParts}
-use Rattle.tcap_component.specs.Written.{coded_part, has_code, has_parameter}
-use Rattle.tcap_component.specs.declared.fault.WriteFault.{WriteFault}
-use Rattle.tcap_component.specs.declared.fault.WriteFault.TheVariants as write
-use Rattle.tcap_model.specs.Procedures.QueueRules.{Queued, queued, queue_limit, fits}
+use Rattle.tcap_model.specs.Procedures.QueueRules.{queued}
 use Rattle.tcap_model.specs.Procedures.States.{has_peer}
 use Rattle.tcap_model.specs.Table.Dialogue as model
 use Rattle.tcap_model.specs.Table.TableMove.{with_queued}
 use Rattle.tcap_model.specs.Words.Answer.{Answer}
 use Rattle.tcap_model.specs.Words.Fault.{Fault}
+use Rattle.tcap_primitives.specs.QueueRefusals.{queue_fault}
 use Rattle.tcap_dialogue.specs.StepViews.{Outcome}
-
--- The fault of a request whose component can't be written (own).
-abbrev pub written_fault : WriteFault → Fault
-written_fault write.OutOfMemory = Fault.out_of_memory
-written_fault write.BadParameter = Fault.bad_parameter
-written_fault write.BadOid = Fault.bad_oid
-written_fault write.TooLong = Fault.too_long
-
--- Why the code or the parameter of a component can't be written, if so (own).
-abbrev pub spelling_fault : ComponentParts → Option Fault
-spelling_fault c =
-    if has_code (coded_part c) then (if has_parameter (coded_part c) then None else Some Fault.bad_parameter)
-    else Some Fault.bad_oid
-
--- Why a component doesn't come into a queue: it can't be written, or it doesn't fit (own).
-abbrev pub queue_fault : List Queued → ComponentParts → Option Fault
-queue_fault queue c =
-    if has_code (coded_part c)
-    then (if has_parameter (coded_part c) then (if fits queue_limit queue (queued None c) then None else Some Fault.too_long) else Some Fault.bad_parameter)
-    else Some Fault.bad_oid
 
 -- Why a component that answers the peer isn't queued: the peer wasn't heard, or the queue doesn't take
 -- it (Q.774, Component handling).

@@ -6,7 +6,7 @@ use Rattle.tcap_component.specs.Views.{problem_parts}
 use Rattle.tcap_model.specs.Procedures.ComponentHandling as model
 use Rattle.tcap_dialogue.specs.declared.handling.Handled.{Handled}
 use Rattle.tcap_dialogue.specs.declared.handling.Reject.{Reject}
-use Rattle.tcap_dialogue.specs.OutputViews.{shown}
+use Rattle.tcap_primitives.specs.OutputViews.{shown}
 
 -- A Reject component (Q.773, Reject component).
 abbrev pub reject_parts : Reject → ComponentParts

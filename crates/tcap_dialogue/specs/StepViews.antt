@@ -7,7 +7,7 @@ use Rattle.tcap_model.specs.Table.TableMove.{Moved, Setting, left_standing, situ
 use Rattle.tcap_model.specs.Words.Answer.{Answer}
 use Rattle.tcap_model.specs.Words.Request.{Request}
 use Rattle.tcap_dialogue.specs.declared.dialogue.Step.{Step}
-use Rattle.tcap_dialogue.specs.OutputViews.{all_shown}
+use Rattle.tcap_primitives.specs.OutputViews.{all_shown}
 
 -- What is answered, and the dialogue if it stands (own).
 abbrev pub Outcome : Type 0

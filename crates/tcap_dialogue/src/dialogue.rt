@@ -12,14 +12,12 @@ pub(crate) mod reception;
 pub(crate) mod sending;
 pub(crate) mod timers;
 
-use crate::address::Address;
-use crate::context::Context;
-use crate::output::Output;
-use crate::queue::Queue;
-use crate::state::Phase;
 use std::alloc::{Allocator, Global};
 use std::marker::Model;
+use tcap_address::Address;
 use tcap_invocation::Invocations;
+use tcap_primitives::{Context, Output, Queue};
+use tcap_reception::Phase;
 
 /// What a call gives: what is sent and told, in order, and whether the dialogue is over.
 #[derive(Debug, Drop, PartialEq, Eq)]
@@ -61,8 +59,9 @@ impl<A: Allocator + Copy> Model for Dialogue<A> {
     ghost use Rattle.std.specs.Prelude.{◌≤◌};
     ghost use Rattle.tcap_invocation.specs.Stage.{moment_limit};
     ghost use Rattle.tcap_model.specs.Table.Dialogue as model;
-    ghost use Rattle.tcap_dialogue.specs.StateViews.{phase_view, context_view};
-    ghost use Rattle.tcap_dialogue.specs.QueueViews.{queue_view};
+    ghost use Rattle.tcap_primitives.specs.ContextViews.{context_view};
+    ghost use Rattle.tcap_reception.specs.StateViews.{phase_view};
+    ghost use Rattle.tcap_primitives.specs.QueueViews.{queue_view};
 
     ghost Value = { model.Dialogue };
 

@@ -3,8 +3,8 @@
 ghost use Rattle.std.specs.Prelude.{◌≡◌, Some, None};
 ghost use Rattle.tcap_component.specs.Views.{problem_parts};
 ghost use Rattle.tcap_dialogue.specs.HandledViews.{handled_view};
-ghost use Rattle.tcap_dialogue.specs.OutputViews.{rejector};
-ghost use Rattle.tcap_dialogue.specs.Slices.{Slices, slices_of};
+ghost use Rattle.tcap_primitives.specs.OutputViews.{rejector};
+ghost use Rattle.tcap_primitives.specs.Slices.{Slices, slices_of};
 ghost use Rattle.tcap_dialogue.specs.Verdicts.{unexpected as unexpected_told};
 ghost use Rattle.tcap_model.specs.Procedures.ComponentHandling.{rejecting as rejecting_told};
 ghost use Rattle.tcap_model.specs.Procedures.Problems.{remote_rejector};
@@ -13,9 +13,9 @@ pub mod alone;
 pub mod judged;
 pub mod taken;
 
-use crate::output::{By, Output};
 use std::alloc::Allocator;
 use tcap_component::Problem;
+use tcap_primitives::{By, Output};
 
 /// A Reject that answers a component (Q.773, Reject component).
 #[derive(Clone, Copy)]

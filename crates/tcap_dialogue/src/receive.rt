@@ -5,9 +5,9 @@ ghost use Rattle.std.specs.Prelude.{◌≡◌, ◌+◌, ◌*◌, ◌≤◌, ◌+
 ghost use Rattle.ber_core.specs.Place.{Slice};
 ghost use Rattle.tcap_component.specs.ComponentReading.{components_of};
 ghost use Rattle.tcap_dialogue.specs.HandledViews.{reject_parts};
-ghost use Rattle.tcap_dialogue.specs.OutputViews.{all_shown};
-ghost use Rattle.tcap_dialogue.specs.QueueViews.{queue_view};
-ghost use Rattle.tcap_dialogue.specs.Slices.{AllInPlace};
+ghost use Rattle.tcap_primitives.specs.OutputViews.{all_shown};
+ghost use Rattle.tcap_primitives.specs.QueueViews.{queue_view};
+ghost use Rattle.tcap_primitives.specs.Slices.{AllInPlace};
 ghost use Rattle.tcap_dialogue.specs.Walking.{done_from, told_from, with_reject};
 ghost use Rattle.tcap_invocation.specs.Closing.{ended_at};
 ghost use Rattle.tcap_model.specs.Procedures.ComponentHandling.{uni_told};
@@ -16,11 +16,10 @@ ghost use Rattle.tcap_invocation.specs.Stage.{moment_limit};
 use crate::handling::Reject;
 use crate::handling::alone::take_alone;
 use crate::handling::taken::take_item;
-use crate::output::Output;
-use crate::queue::Queue;
 use std::alloc::Allocator;
 use tcap_component::Components;
 use tcap_invocation::Invocations;
+use tcap_primitives::{Output, Queue};
 
 /// How many components there are, with the fault at which they end.
 pub fn count_items(components: &[u8]) -> usize

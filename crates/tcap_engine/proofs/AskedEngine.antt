@@ -3,9 +3,10 @@ use Rattle.std.proofs.Common.{◌≡◌, ℕ, ◌≤◌, true, false, nat_eq, Li
 use Rattle.std.specs.Prelude.{IfSome, IsTrue}
 use Rattle.std.specs.Map.{lookup}
 use Rattle.tcap_dialogue.specs.declared.dialogue.ask.Asked.{Asked}
-use Rattle.tcap_dialogue.specs.declared.fault.Fault.{Fault}
-use Rattle.tcap_dialogue.specs.declared.fault.Fault.TheVariants as fault
-use Rattle.tcap_dialogue.specs.FaultViews.{fault_view, takes_memory}
+use Rattle.tcap_primitives.specs.declared.fault.Fault.{Fault}
+use Rattle.tcap_primitives.specs.declared.fault.Fault.TheVariants as fault
+use Rattle.tcap_dialogue.specs.FaultViews.{takes_memory}
+use Rattle.tcap_primitives.specs.FaultViews.{fault_view}
 use Rattle.tcap_dialogue.specs.StepViews.{Outcome, asked, outcome}
 use Rattle.tcap_engine.specs.Answering.{Moves, EngineRefuses}
 use Rattle.tcap_engine.specs.Asking.{IsLeft, asked_answer, AsksIn, PlacesMove, PlacesRefuse}

@@ -1,7 +1,7 @@
 -- The engine answers each request with its kind, or refuses it.
 use Rattle.std.proofs.Common.{ℕ, ℤ, Option, Some, None, Result, Ok, Err, IfOk, refl, sym, subst}
 use Rattle.tcap_dialogue.specs.declared.dialogue.ask.Asked.{Asked}
-use Rattle.tcap_dialogue.specs.declared.fault.Fault.{Fault}
+use Rattle.tcap_primitives.specs.declared.fault.Fault.{Fault}
 use Rattle.tcap_engine.specs.Answering.{EngineAnswers}
 use Rattle.tcap_engine.specs.AskedKinds.{AnswerKind, kind_of, MayAnswer}
 use Rattle.tcap_engine.specs.Asking.{asked_answer}

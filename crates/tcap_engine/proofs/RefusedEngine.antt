@@ -2,8 +2,9 @@
 use Rattle.std.proofs.Common.{◌≡◌, ℕ, ℤ, nat_eq, List, Option, Some, None, Err, refl, ap, sym, subst, ◌∙◌}
 use Rattle.std.proofs.lemmas.Map.Steps.{set_value_same}
 use Rattle.std.specs.Map.{lookup}
-use Rattle.tcap_dialogue.specs.declared.fault.Fault.{Fault}
-use Rattle.tcap_dialogue.specs.FaultViews.{fault_view, RefusedBy}
+use Rattle.tcap_primitives.specs.declared.fault.Fault.{Fault}
+use Rattle.tcap_dialogue.specs.FaultViews.{RefusedBy}
+use Rattle.tcap_primitives.specs.FaultViews.{fault_view}
 use Rattle.tcap_dialogue.specs.StepViews.{Outcome, outcome}
 use Rattle.tcap_engine.specs.Asking.{AsksIn, PlacesMove, PlacesRefuse}
 use Rattle.tcap_engine.specs.Table.{Place, places_with}

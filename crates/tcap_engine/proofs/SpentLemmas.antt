@@ -3,9 +3,10 @@ use Rattle.std.proofs.Common.{◌≡◌, ℕ, ℤ, ◌≤◌, Bool, true, false,
 use Rattle.std.proofs.lemmas.Bool.Decides.{nat_tests}
 use Rattle.std.specs.Option.{option_map}
 use Rattle.tcap_component.specs.Component.{CodeParts}
-use Rattle.tcap_dialogue.specs.declared.fault.Fault.{Fault}
-use Rattle.tcap_dialogue.specs.declared.fault.Fault.TheVariants as fault
-use Rattle.tcap_dialogue.specs.FaultViews.{fault_view, RefusedBy}
+use Rattle.tcap_primitives.specs.declared.fault.Fault.{Fault}
+use Rattle.tcap_primitives.specs.declared.fault.Fault.TheVariants as fault
+use Rattle.tcap_dialogue.specs.FaultViews.{RefusedBy}
+use Rattle.tcap_primitives.specs.FaultViews.{fault_view}
 use Rattle.tcap_dialogue.specs.StepViews.{asked, outcome}
 use Rattle.tcap_engine.specs.Asking.{IsLeft}
 use Rattle.tcap_invocation.specs.Closing.{given_up_at}

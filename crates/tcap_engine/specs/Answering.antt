@@ -1,10 +1,11 @@
 -- What a call of the engine answers, beside what the engine's move says.
 use Rattle.std.specs.Prelude.{◌≡◌, ℕ, Result, Ok, Err, IsTrue}
 use Rattle.ber_core.specs.declared.fault.OutOfMemory.{OutOfMemory}
-use Rattle.tcap_dialogue.specs.declared.fault.Fault.{Fault}
-use Rattle.tcap_dialogue.specs.FaultViews.{fault_view, takes_memory}
-use Rattle.tcap_dialogue.specs.declared.output.Output.{Output}
-use Rattle.tcap_dialogue.specs.OutputViews.{all_shown}
+use Rattle.tcap_primitives.specs.declared.fault.Fault.{Fault}
+use Rattle.tcap_dialogue.specs.FaultViews.{takes_memory}
+use Rattle.tcap_primitives.specs.FaultViews.{fault_view}
+use Rattle.tcap_primitives.specs.declared.output.Output.{Output}
+use Rattle.tcap_primitives.specs.OutputViews.{all_shown}
 use Rattle.std.specs.declared.vec.Vec.{Vec}
 use Rattle.tcap_model.specs.Table.EngineMove.{EngineMoved}
 use Rattle.tcap_model.specs.Table.World.{World}

@@ -3,10 +3,11 @@ use Rattle.std.specs.Prelude.{[], ◌≡◌, ℕ, ◌<◌, Bool, false, List, Op
 use Rattle.ber_core.specs.declared.fault.OutOfMemory.{OutOfMemory}
 use Rattle.tcap_dialogue.specs.declared.dialogue.ask.Asked.{Asked}
 use Rattle.tcap_dialogue.specs.declared.dialogue.ask.Asked.TheVariants as asked
-use Rattle.tcap_dialogue.specs.declared.fault.Fault.{Fault}
-use Rattle.tcap_dialogue.specs.declared.fault.Fault.TheVariants as fault
-use Rattle.tcap_dialogue.specs.FaultViews.{fault_view, takes_memory}
-use Rattle.tcap_dialogue.specs.OutputViews.{all_shown}
+use Rattle.tcap_primitives.specs.declared.fault.Fault.{Fault}
+use Rattle.tcap_primitives.specs.declared.fault.Fault.TheVariants as fault
+use Rattle.tcap_dialogue.specs.FaultViews.{takes_memory}
+use Rattle.tcap_primitives.specs.FaultViews.{fault_view}
+use Rattle.tcap_primitives.specs.OutputViews.{all_shown}
 use Rattle.tcap_dialogue.specs.StepViews.{Outcome}
 use Rattle.tcap_model.specs.Table.Dialogue.{Dialogue}
 use Rattle.tcap_model.specs.Words.Answer.{Answer}

@@ -1,8 +1,8 @@
 -- Events and answers as a contract sees them.
 use Rattle.std.specs.Prelude.{List, map}
-use Rattle.tcap_dialogue.specs.FaultViews.{fault_view}
-use Rattle.tcap_dialogue.specs.OutputViews.{all_shown}
-use Rattle.tcap_dialogue.specs.RequestViews.{request_view}
+use Rattle.tcap_primitives.specs.FaultViews.{fault_view}
+use Rattle.tcap_primitives.specs.OutputViews.{all_shown}
+use Rattle.tcap_primitives.specs.RequestViews.{request_view}
 use Rattle.tcap_engine.specs.declared.event.Answer.{Answer}
 use Rattle.tcap_engine.specs.declared.event.Answer.TheVariants as answer
 use Rattle.tcap_engine.specs.declared.event.Event.{Event}

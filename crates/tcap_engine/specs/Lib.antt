@@ -8,7 +8,6 @@ pub mod HistoryForm
 pub mod Lapsing
 pub mod Limits
 pub mod NextTimer
-pub mod ReceptionViews
 pub mod Running
 pub mod StateOf
 pub mod Table

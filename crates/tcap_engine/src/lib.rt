@@ -11,8 +11,6 @@ mod engine;
 mod event;
 pub mod laws;
 mod limits;
-mod ranges;
-mod reception;
 mod runs;
 
 pub use engine::Engine;

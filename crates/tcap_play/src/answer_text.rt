@@ -1,7 +1,7 @@
 //! The lines of an answer.
 
 ghost use Rattle.std.specs.Prelude.{◌≡◌, ◌≤◌, false, ◌++◌, [], ◌∷◌, OnOk, OnErr, string_bytes};
-ghost use Rattle.tcap_dialogue.specs.OutputViews.{shown, all_shown};
+ghost use Rattle.tcap_primitives.specs.OutputViews.{shown, all_shown};
 ghost use Rattle.tcap_engine.specs.EventViews.{answer_view};
 ghost use Rattle.tcap_model.specs.Words.Answer as model;
 ghost use Rattle.tcap_play.specs.AnswerText.{prints_nothing, sends_in, output_lines, answer_lines};

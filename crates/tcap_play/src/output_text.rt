@@ -5,7 +5,7 @@ mod components;
 mod dialogues;
 
 ghost use Rattle.std.specs.Prelude.{◌≡◌, ◌++◌, OnOk, IfOk, string_bytes};
-ghost use Rattle.tcap_dialogue.specs.OutputViews.{drop_view, shown};
+ghost use Rattle.tcap_primitives.specs.OutputViews.{drop_view, shown};
 ghost use Rattle.tcap_play.specs.OutputText.{drop_words, send_words, strange_words, output_words, engine_line, output_line};
 ghost use Rattle.tcap_play.specs.SideView.{side_view};
 

@@ -1,7 +1,7 @@
 //! One side of a play: an engine, and the messages that it sent.
 
 ghost use Rattle.std.specs.Prelude.{◌≡◌, ◌++◌, ◌∷◌, List, IfOk, OnOk, string_bytes};
-ghost use Rattle.tcap_dialogue.specs.OutputViews.{all_shown, shown};
+ghost use Rattle.tcap_primitives.specs.OutputViews.{all_shown, shown};
 ghost use Rattle.tcap_engine.specs.EventViews.{answer_view, event_view};
 ghost use Rattle.tcap_model.specs.Histories.History.{History};
 ghost use Rattle.tcap_model.specs.Replies.Reply.{reply};

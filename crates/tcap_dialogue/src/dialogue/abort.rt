@@ -3,9 +3,9 @@
 ghost use Rattle.std.specs.Prelude.{◌≡◌, ◌<◌, ◌∷◌, [], true, Some, Ok, Option, IfOk, OnErr, vec_len, vec_capacity};
 ghost use Rattle.ber_core.specs.Place.{Slice};
 ghost use Rattle.tcap_dialogue.specs.Aborting.{abnormal_over, provider_told};
-ghost use Rattle.tcap_dialogue.specs.OutputViews.{shown, cause_view};
-ghost use Rattle.tcap_dialogue.specs.Slices.{Slices, AllInPlace, LieIn, slices_of};
-ghost use Rattle.tcap_dialogue.specs.StateViews.{phase_view};
+ghost use Rattle.tcap_primitives.specs.OutputViews.{shown, cause_view};
+ghost use Rattle.tcap_primitives.specs.Slices.{Slices, AllInPlace, LieIn, slices_of};
+ghost use Rattle.tcap_reception.specs.StateViews.{phase_view};
 ghost use Rattle.tcap_model.specs.Procedures.AbortRules.{abort_told, portion_told, is_no_common};
 ghost use Rattle.tcap_dialogue.specs.StepViews.{outcome, stepped};
 ghost use Rattle.tcap_model.specs.Table.TableMove.{over_with};
@@ -20,14 +20,13 @@ ghost use Rattle.tcap_pdu.specs.FrameViews.{reason_of};
 
 use super::ending::tell_ended;
 use super::{Dialogue, Step};
-use crate::address::Address;
-use crate::output::{Output, Why};
-use crate::provider_abort::{Abort, write_abort};
-use crate::state::Phase;
 use ber_core::OutOfMemory;
 use std::alloc::Allocator;
+use tcap_address::Address;
 use tcap_pdu::dialogue_tag::NO_COMMON_DIALOGUE_PORTION;
 use tcap_pdu::{AbortPart, Diagnostic, DialoguePdu, TransId, read_dialogue};
+use tcap_primitives::{Abort, Output, Why, write_abort};
+use tcap_reception::Phase;
 
 /// What an Abort to a dialogue tells (Q.774, Abort by the user; Q.774, Abort by the provider).
 pub fn abort_told<'m, A: Allocator>(dialogue: u32, reason: &AbortPart<'m>) -> Output<'m, A>

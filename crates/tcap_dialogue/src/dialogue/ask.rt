@@ -3,16 +3,15 @@
 ghost use Rattle.std.specs.Prelude.{◌≡◌, ◌≤◌};
 ghost use Rattle.tcap_dialogue.specs.AskViews.{IsNumbered, Asks};
 ghost use Rattle.tcap_dialogue.specs.FaultViews.{Answers, Steps, numbered, queued_done, gave_up};
-ghost use Rattle.tcap_dialogue.specs.RequestViews.{request_view};
+ghost use Rattle.tcap_primitives.specs.RequestViews.{request_view};
 ghost use Rattle.tcap_dialogue.specs.StepViews.{Outcome, outcome, asked};
 ghost use Rattle.tcap_invocation.specs.Stage.{moment_limit};
 ghost use Rattle.tcap_model.specs.Table.Dialogue as model;
 ghost use Rattle.tcap_model.specs.Table.TableMove.{DialogueEvent, table_move};
 
 use super::{Dialogue, Step};
-use crate::fault::Fault;
-use crate::request::Request;
 use std::alloc::{Allocator, Global};
+use tcap_primitives::{Fault, Request};
 
 /// What is answered to a request.
 #[derive(Debug, Drop, PartialEq, Eq)]

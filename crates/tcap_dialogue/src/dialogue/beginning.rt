@@ -4,9 +4,10 @@ ghost use Rattle.std.specs.Prelude.{◌≡◌, ℕ, ◌∷◌, ◌≤◌, Option
 ghost use Rattle.ber_core.specs.ObjectIdentifier.{IsObjectIdentifier};
 ghost use Rattle.ber_core.specs.Place.{Slice};
 ghost use Rattle.tcap_component.specs.ComponentReading.{components_of};
-ghost use Rattle.tcap_dialogue.specs.Beginning.{Given, GivenIn, begun, begun_from, context_given, info_given, context_slice};
-ghost use Rattle.tcap_dialogue.specs.OutputViews.{all_shown};
-ghost use Rattle.tcap_dialogue.specs.Slices.{AllInPlace, HeldIn};
+ghost use Rattle.tcap_dialogue.specs.Beginning.{begun, begun_from};
+ghost use Rattle.tcap_reception.specs.GivenViews.{Given, GivenIn, context_given, info_given, context_slice};
+ghost use Rattle.tcap_primitives.specs.OutputViews.{all_shown};
+ghost use Rattle.tcap_primitives.specs.Slices.{AllInPlace, HeldIn};
 ghost use Rattle.tcap_dialogue.specs.StepViews.{at_clock, outcome};
 ghost use Rattle.tcap_invocation.specs.Stage.{moment_limit};
 ghost use Rattle.tcap_model.specs.Procedures.ComponentHandling.{uni_told};
@@ -16,14 +17,13 @@ ghost use Rattle.tcap_model.specs.Words.Output as model;
 ghost use Rattle.tcap_model.specs.Words.Output.{DialogueIndication};
 
 use super::Dialogue;
-use crate::address::Address;
-use crate::context::Context;
-use crate::output::Output;
 use crate::receive::{count_items, walk, walk_alone};
-use crate::state::Phase;
 use ber_core::OutOfMemory;
 use std::alloc::Allocator;
+use tcap_address::Address;
 use tcap_pdu::TransId;
+use tcap_primitives::{Context, Output};
+use tcap_reception::Phase;
 
 /// The context and the information of an AARQ or an AUDT, empty where there is none.
 fn parts_of<'m>(pdu: Option<(&'m [u8], &'m [u8])>) -> (Option<&'m [u8]>, &'m [u8])

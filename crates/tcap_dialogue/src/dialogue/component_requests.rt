@@ -14,11 +14,10 @@ ghost use Rattle.tcap_model.specs.Words.Request.{Request};
 ghost use Rattle.tcap_model.specs.Words.Request.ComponentRequest.{invoke, result_last, result_more, error_back, u_reject, u_cancel};
 
 use super::Dialogue;
-use crate::fault::Fault;
-use crate::queue::Invoking;
 use std::alloc::Allocator;
 use tcap_component::{Body, Code, Component, Kind, Problem};
 use tcap_invocation::Class;
+use tcap_primitives::{Fault, Invoking};
 
 impl<A: Allocator + Copy> Dialogue<A> {
     /// TC-INVOKE request: the invocation is Queued with this number, which is above all that the dialogue

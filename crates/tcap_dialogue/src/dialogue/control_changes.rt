@@ -1,10 +1,10 @@
 //! What a request of dialogue handling changes, once no fault is due.
 
 ghost use Rattle.std.specs.Prelude.{◌≡◌, ◌+◌, ◌<◌, ◌≤◌, ◌||◌, ℕ, true, false, is_some, nat_lt, option_copied, IfOk, OnErr, IsTrue, vec_len, vec_capacity};
-ghost use Rattle.tcap_dialogue.specs.ControlViews.{control_view};
+ghost use Rattle.tcap_primitives.specs.ControlViews.{control_view};
 ghost use Rattle.tcap_dialogue.specs.FaultViews.{takes_memory};
-ghost use Rattle.tcap_dialogue.specs.OutputViews.{all_shown};
-ghost use Rattle.tcap_dialogue.specs.StateViews.{phase_view};
+ghost use Rattle.tcap_primitives.specs.OutputViews.{all_shown};
+ghost use Rattle.tcap_reception.specs.StateViews.{phase_view};
 ghost use Rattle.tcap_dialogue.specs.StepViews.{asked, outcome, stepped};
 ghost use Rattle.tcap_invocation.specs.Stage.{moment_limit};
 ghost use Rattle.tcap_model.specs.Procedures.Refusals.{can_name, context_given};
@@ -15,13 +15,11 @@ ghost use Rattle.tcap_model.specs.Words.State.{activated};
 
 use super::ending::tell_ended;
 use super::{Dialogue, Step};
-use crate::address::Address;
-use crate::context::Context;
-use crate::control::Control;
-use crate::output::Output;
-use crate::state::Phase;
 use ber_core::OutOfMemory;
 use std::alloc::Allocator;
+use tcap_address::Address;
+use tcap_primitives::{Context, Control, Output};
+use tcap_reception::Phase;
 
 /// The state after the answer to a Begin.
 fn activated(phase: &Phase) -> Phase

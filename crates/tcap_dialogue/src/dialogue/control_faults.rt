@@ -2,9 +2,9 @@
 
 ghost use Rattle.std.specs.Prelude.{◌≡◌, not, option_copied, true};
 ghost use Rattle.std.specs.Option.{option_map};
-ghost use Rattle.tcap_dialogue.specs.ControlViews.{control_view};
-ghost use Rattle.tcap_dialogue.specs.FaultViews.{fault_view};
-ghost use Rattle.tcap_dialogue.specs.StateViews.{phase_view};
+ghost use Rattle.tcap_primitives.specs.ControlViews.{control_view};
+ghost use Rattle.tcap_primitives.specs.FaultViews.{fault_view};
+ghost use Rattle.tcap_reception.specs.StateViews.{phase_view};
 ghost use Rattle.tcap_dialogue.specs.StepViews.{asked};
 ghost use Rattle.tcap_model.specs.Procedures.Refusals.{can_name, context_given, due_on, gives_any, has_no_context, information_given, is_filled, is_not_class_four, lacks_context, passes_message};
 ghost use Rattle.tcap_model.specs.Procedures.RequestMessage.{message_of};
@@ -14,11 +14,9 @@ ghost use Rattle.tcap_model.specs.Words.Request.{Request};
 ghost use Rattle.tcap_pdu.specs.DialoguePartsReading.{is_information};
 
 use super::Dialogue;
-use crate::control::Control;
-use crate::fault::Fault;
-use crate::request::{AbortWhy, Ending};
-use crate::state::Phase;
 use std::alloc::Allocator;
+use tcap_primitives::{AbortWhy, Control, Ending, Fault};
+use tcap_reception::Phase;
 
 /// Whether no message was sent or received.
 fn is_fresh(phase: &Phase) -> bool

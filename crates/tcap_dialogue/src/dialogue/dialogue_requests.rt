@@ -1,19 +1,17 @@
 //! The requests of dialogue handling.
 
 ghost use Rattle.std.specs.Prelude.{◌≡◌, ◌≤◌, ℕ, option_copied};
-ghost use Rattle.tcap_dialogue.specs.ControlViews.{control_view};
+ghost use Rattle.tcap_primitives.specs.ControlViews.{control_view};
 ghost use Rattle.tcap_dialogue.specs.FaultViews.{Steps};
-ghost use Rattle.tcap_dialogue.specs.RequestViews.{ending_view, reason_view};
+ghost use Rattle.tcap_primitives.specs.RequestViews.{ending_view, reason_view};
 ghost use Rattle.tcap_dialogue.specs.StepViews.{requested};
 ghost use Rattle.tcap_invocation.specs.Stage.{moment_limit};
 ghost use Rattle.tcap_model.specs.Words.Request.{DialogueRequest, Request};
 
 use super::{Dialogue, Step};
-use crate::address::Address;
-use crate::control::Control;
-use crate::fault::Fault;
-use crate::request::{AbortWhy, Ending};
 use std::alloc::Allocator;
+use tcap_address::Address;
+use tcap_primitives::{AbortWhy, Control, Ending, Fault};
 
 impl<A: Allocator + Copy> Dialogue<A> {
     /// A request of dialogue handling at this moment: the first due fault, or it goes through.

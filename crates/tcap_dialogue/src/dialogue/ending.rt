@@ -2,14 +2,14 @@
 
 ghost use Rattle.std.specs.Prelude.{◌≡◌, ◌+◌, ◌≤◌, ◌++◌, Option, length, vec_len, vec_capacity};
 ghost use Rattle.ber_core.specs.Place.{Slice};
-ghost use Rattle.tcap_dialogue.specs.OutputViews.{all_shown};
-ghost use Rattle.tcap_dialogue.specs.Slices.{AllInPlace};
+ghost use Rattle.tcap_primitives.specs.OutputViews.{all_shown};
+ghost use Rattle.tcap_primitives.specs.Slices.{AllInPlace};
 ghost use Rattle.tcap_invocation.specs.Closing.{ended_at};
 ghost use Rattle.tcap_model.specs.Table.TableMove.{ended_told};
 
-use crate::output::Output;
 use std::alloc::Allocator;
 use tcap_invocation::Invocations;
+use tcap_primitives::Output;
 
 /// The dialogue is over: tells each of its invocations that is Queued or Sent as ended, by number, and
 /// takes it out; there is room for all of them.

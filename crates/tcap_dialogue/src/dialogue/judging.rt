@@ -3,9 +3,10 @@
 ghost use Rattle.std.specs.Prelude.{◌≡◌, ℕ, ℤ, Option, ◌<◌, ◌^◌, ◌-◌, ◌&&◌, not, nat_lt, nat_le, option_copied};
 ghost use Rattle.std.specs.Option.{option_map};
 ghost use Rattle.tcap_component.specs.Views.{code_parts, component_parts};
-ghost use Rattle.tcap_dialogue.specs.ComponentRefusals.{spelling_fault, answer_fault};
-ghost use Rattle.tcap_dialogue.specs.FaultViews.{fault_view};
-ghost use Rattle.tcap_dialogue.specs.StateViews.{phase_view};
+ghost use Rattle.tcap_dialogue.specs.ComponentRefusals.{answer_fault};
+ghost use Rattle.tcap_primitives.specs.QueueRefusals.{spelling_fault};
+ghost use Rattle.tcap_primitives.specs.FaultViews.{fault_view};
+ghost use Rattle.tcap_reception.specs.StateViews.{phase_view};
 ghost use Rattle.tcap_dialogue.specs.StepViews.{asked};
 ghost use Rattle.tcap_invocation.specs.declared.class.Class.{Class};
 ghost use Rattle.tcap_invocation.specs.Stage.{moment_limit};
@@ -16,11 +17,11 @@ ghost use Rattle.tcap_model.specs.Words.Request.{Request, ComponentRequest};
 ghost use Rattle.tcap_model.specs.Words.Request.ComponentRequest.{invoke};
 
 use super::Dialogue;
-use crate::fault::Fault;
-use crate::state::Phase;
 use std::alloc::Allocator;
 use tcap_component::{Code, Component, WriteFault, component_fault};
 use tcap_invocation::{Class, MAX_MOMENT};
+use tcap_primitives::Fault;
+use tcap_reception::Phase;
 
 /// Whether the peer was heard, so that there is something to answer.
 fn has_peer(phase: &Phase) -> bool

@@ -1,18 +1,18 @@
 //! A new dialogue, and what is seen of one.
 
 ghost use Rattle.std.specs.Prelude.{◌≡◌, ◌≤◌};
-ghost use Rattle.tcap_dialogue.specs.StateViews.{state_of};
+ghost use Rattle.tcap_reception.specs.StateViews.{state_of};
 ghost use Rattle.tcap_invocation.specs.Stage.{moment_limit};
 ghost use Rattle.tcap_model.specs.Table.Dialogue.{fresh_dialogue};
 ghost use Rattle.tcap_model.specs.Words.State.{peer_of};
 
 use super::Dialogue;
-use crate::address::Address;
-use crate::queue::Queue;
-use crate::state::{Phase, State};
 use std::alloc::Allocator;
+use tcap_address::Address;
 use tcap_invocation::Invocations;
 use tcap_pdu::TransId;
+use tcap_primitives::Queue;
+use tcap_reception::{Phase, State};
 
 impl<A: Allocator + Copy> Dialogue<A> {
     /// A new dialogue with this identifier, in which nothing has happened. `reject_ms` is how long an

@@ -2,11 +2,11 @@
 
 ghost use Rattle.std.specs.Prelude.{◌≡◌, ◌+◌, ◌*◌, ◌≤◌, ◌<◌, Option, length, unwrap_or, option_copied, IfOk, OnOk, OnErr, vec_len, vec_capacity};
 ghost use Rattle.ber_core.specs.Place.{Slice};
-ghost use Rattle.tcap_dialogue.specs.OutputViews.{cause_view};
-ghost use Rattle.tcap_dialogue.specs.PortionViews.{portion_view, PortionIn};
-ghost use Rattle.tcap_dialogue.specs.QueueViews.{queue_view};
-ghost use Rattle.tcap_dialogue.specs.Slices.{AllInPlace, HeldIn};
-ghost use Rattle.tcap_dialogue.specs.StateViews.{phase_view};
+ghost use Rattle.tcap_primitives.specs.OutputViews.{cause_view};
+ghost use Rattle.tcap_reception.specs.PortionViews.{portion_view, PortionIn};
+ghost use Rattle.tcap_primitives.specs.QueueViews.{queue_view};
+ghost use Rattle.tcap_primitives.specs.Slices.{AllInPlace, HeldIn};
+ghost use Rattle.tcap_reception.specs.StateViews.{phase_view};
 ghost use Rattle.tcap_dialogue.specs.StepViews.{at_clock, outcome, stepped};
 ghost use Rattle.tcap_invocation.specs.Stage.{moment_limit};
 ghost use Rattle.tcap_model.specs.Procedures.PortionRules.{portion_verdict};
@@ -18,28 +18,13 @@ ghost use Rattle.tcap_pdu.specs.FrameViews.{message};
 
 use super::ending::tell_ended;
 use super::{Dialogue, Step};
-use crate::address::Address;
-use crate::output::{Output, Why};
-use crate::portion::{PortionVerdict, judge_portion};
-use crate::queue::{MAX_REJECT, Queue};
 use crate::receive::{count_items, walk, walk_ending};
-use crate::state::Phase;
 use ber_core::OutOfMemory;
-use std::alloc::{AllocError, Allocator};
+use std::alloc::Allocator;
+use tcap_address::Address;
 use tcap_pdu::{Frame, TransId};
-
-impl<A: Allocator + Copy> Queue<A> {
-    /// Makes room for this many Rejects.
-    pub(super) fn reserve_rejects(&mut self, count: usize) -> Result<(), AllocError>
-        ensures same { queue_view self.new ≡ queue_view self.old }
-        ensures octets { OnOk result (vec_len self.new.octets + 8 * count ≤ vec_capacity self.new.octets) }
-        ensures parts { OnOk result (vec_len self.new.parts + count ≤ vec_capacity self.new.parts) }
-    {
-        self.octets.reserve(count.saturating_mul(MAX_REJECT))?;
-        self.parts.reserve(count)?;
-        Ok(())
-    }
-}
+use tcap_primitives::{Output, Why};
+use tcap_reception::{Phase, PortionVerdict, judge_portion};
 
 /// The state after a Continue: the peer that is known stays (Q.774, Transaction state machine).
 fn continued(phase: &Phase, origin: &TransId) -> Phase

@@ -2,9 +2,9 @@
 
 ghost use Rattle.std.specs.Prelude.{◌≡◌, option_copied, None, Some};
 ghost use Rattle.std.specs.Option.{option_map};
-ghost use Rattle.tcap_dialogue.specs.ControlViews.{control_view};
-ghost use Rattle.tcap_dialogue.specs.RequestViews.{ending_view, reason_view};
-ghost use Rattle.tcap_dialogue.specs.SendingViews.{CanBear, sending_view};
+ghost use Rattle.tcap_primitives.specs.ControlViews.{control_view};
+ghost use Rattle.tcap_primitives.specs.RequestViews.{ending_view, reason_view};
+ghost use Rattle.tcap_primitives.specs.SendingViews.{CanBear, sending_view};
 ghost use Rattle.tcap_model.specs.Procedures.QueueRules.{joined};
 ghost use Rattle.tcap_model.specs.Procedures.Refusals.{context_given, information_given};
 ghost use Rattle.tcap_model.specs.Procedures.RequestMessage.{abort_message, answer_portion, begin_portion, continue_message, end_message, message_of, refusing_message, uni_portion, user_abort};
@@ -13,12 +13,12 @@ ghost use Rattle.tcap_model.specs.Words.Request.{DialogueRequest, Request};
 ghost use Rattle.tcap_pdu.specs.FrameSpelling.{Message};
 
 use super::Dialogue;
-use crate::control::Control;
-use crate::request::{AbortWhy, Ending};
-use crate::sending::portions::{abort_pdu, answering_pdu, begin_pdu, refusing_pdu, uni_pdu};
-use crate::sending::{Bearer, Sending};
-use crate::state::Phase;
 use std::alloc::Allocator;
+use tcap_primitives::{
+    AbortWhy, Bearer, Control, Ending, Sending, abort_pdu, answering_pdu, begin_pdu, refusing_pdu,
+    uni_pdu,
+};
+use tcap_reception::Phase;
 
 impl<A: Allocator + Copy> Dialogue<A> {
     /// The Unidirectional with the queue.

@@ -3,14 +3,14 @@
 ghost use Rattle.std.specs.Prelude.{◌≡◌, Some, None, Ok, option_copied};
 ghost use Rattle.tcap_component.specs.Views.{code_parts, component_parts, item_view, problem_parts};
 ghost use Rattle.tcap_component.specs.declared.component.Component.TheVariants as component;
-ghost use Rattle.tcap_dialogue.specs.OutputViews.{shown};
-ghost use Rattle.tcap_dialogue.specs.Slices.{Slices, AreOf, AreOfItem, slices_of};
+ghost use Rattle.tcap_primitives.specs.OutputViews.{shown};
+ghost use Rattle.tcap_primitives.specs.Slices.{Slices, AreOf, AreOfItem, slices_of};
 ghost use Rattle.tcap_model.specs.Procedures.ComponentHandling.{handled, invoke_handled, rejecting};
 
 use super::taken::{take_remote, take_unread};
-use crate::output::Output;
 use std::alloc::Allocator;
 use tcap_component::{Code, Component, ComponentFault, Problem};
+use tcap_primitives::Output;
 
 /// A component that answers nothing, or is linked to nothing.
 fn rejected<'m, A: Allocator>(id: i8, problem: Problem) -> Output<'m, A>

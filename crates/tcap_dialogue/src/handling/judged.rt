@@ -5,14 +5,14 @@ ghost use Rattle.std.specs.Prelude.{◌≡◌, Some, None, Bool, true, false, op
 ghost use Rattle.tcap_component.specs.Views.{problem_parts, body_parts, code_parts};
 ghost use Rattle.tcap_component.specs.declared.component.Component.TheVariants as component;
 ghost use Rattle.tcap_dialogue.specs.HandledViews.{handled_view};
-ghost use Rattle.tcap_dialogue.specs.Slices.{Slices, AreOf, slices_of, result_of};
+ghost use Rattle.tcap_primitives.specs.Slices.{Slices, AreOf, slices_of, result_of};
 ghost use Rattle.tcap_dialogue.specs.Verdicts.{result_judged, error_judged, reject_judged};
 
 use super::{Handled, rejecting, remote_rejector, unexpected};
-use crate::output::Output;
 use std::alloc::Allocator;
 use tcap_component::{Body, Code, Problem};
 use tcap_invocation::Verdict;
+use tcap_primitives::Output;
 
 /// A Return Result, Last or not, by the verdict on it (Q.774, Component handling).
 pub fn result_judged<'m, A: Allocator>(

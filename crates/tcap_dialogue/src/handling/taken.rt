@@ -6,7 +6,7 @@ ghost use Rattle.tcap_component.specs.Component.ComponentParts.{reject_back};
 ghost use Rattle.tcap_component.specs.Views.{item_view, problem_parts, body_parts, code_parts, component_parts, fault_parts};
 ghost use Rattle.tcap_component.specs.declared.component.Component.TheVariants as component;
 ghost use Rattle.tcap_dialogue.specs.HandledViews.{handled_view};
-ghost use Rattle.tcap_dialogue.specs.Slices.{Slices, AreOf, AreOfItem, slices_of, result_of};
+ghost use Rattle.tcap_primitives.specs.Slices.{Slices, AreOf, AreOfItem, slices_of, result_of};
 ghost use Rattle.tcap_dialogue.specs.Verdicts.{result_handled};
 ghost use Rattle.tcap_invocation.specs.Answers.{after_received, after_reject};
 ghost use Rattle.tcap_invocation.specs.Class.{return_result};
@@ -18,10 +18,10 @@ ghost use Rattle.tcap_model.specs.Table.TableMove.{after_item};
 
 use super::judged::{error_judged, reject_judged, result_judged};
 use super::{Handled, Reject, rejecting, remote_rejector};
-use crate::output::Output;
 use std::alloc::Allocator;
 use tcap_component::{Body, Code, Component, ComponentFault, Problem};
 use tcap_invocation::Invocations;
+use tcap_primitives::Output;
 
 /// An Invoke.
 fn take_invoke<'m, A: Allocator + Copy>(

@@ -11,10 +11,10 @@ ghost use Rattle.tcap_model.specs.Words.Event.{Event};
 use super::Engine;
 use super::idle::end_all;
 use super::moment::tell_due;
-use crate::ranges;
 use std::alloc::Allocator;
 use tcap_dialogue::{Fault, Output};
 use tcap_invocation::MAX_MOMENT;
+use tcap_primitives::ranges;
 
 impl<A: Allocator + Copy> Engine<A> {
     /// The clock is at this moment, in milliseconds, at most 2^62: tells each invocation whose deadline

@@ -3,7 +3,7 @@
 ghost use Rattle.std.specs.Prelude.{◌≡◌, ◌≤◌, nat_eq, IfSome};
 ghost use Rattle.std.specs.Map.{lookup};
 ghost use Rattle.tcap_dialogue.specs.AskViews.{Asks};
-ghost use Rattle.tcap_dialogue.specs.RequestViews.{request_view};
+ghost use Rattle.tcap_primitives.specs.RequestViews.{request_view};
 ghost use Rattle.tcap_dialogue.specs.StepViews.{asked, outcome};
 ghost use Rattle.tcap_engine.specs.Asking.{AsksIn, ends_dialogue};
 ghost use Rattle.tcap_invocation.specs.Invocations.{AllBelow};

@@ -3,8 +3,8 @@
 ghost use Rattle.std.specs.Prelude.{◌≡◌, ◌<◌, ◌+◌, None, OnErr, OnOk, IfOk, IfSome};
 ghost use Rattle.std.specs.Option.{option_map};
 ghost use Rattle.ber_core.specs.ObjectIdentifier.{IsObjectIdentifier};
-ghost use Rattle.tcap_dialogue.specs.Beginning.{context_given, info_given};
-ghost use Rattle.tcap_dialogue.specs.FaultViews.{fault_view};
+ghost use Rattle.tcap_reception.specs.GivenViews.{context_given, info_given};
+ghost use Rattle.tcap_primitives.specs.FaultViews.{fault_view};
 ghost use Rattle.tcap_engine.specs.Answering.{EngineAnswers, Moves, birth_answer, outputs_answer};
 ghost use Rattle.tcap_engine.specs.HistoryForm.{Stands};
 ghost use Rattle.tcap_engine.specs.Table.{IsWithin, with_born};
@@ -14,11 +14,11 @@ ghost use Rattle.tcap_model.specs.Words.Event.{Event};
 ghost use Rattle.tcap_model.specs.Words.Identifiers.{last_dialogue};
 
 use super::Engine;
-use crate::reception::Request;
 use ber_core::OutOfMemory;
 use std::alloc::Allocator;
 use tcap_dialogue::{Address, Dialogue, Fault, Output};
 use tcap_pdu::TransId;
+use tcap_reception::Request;
 
 impl<A: Allocator + Copy> Engine<A> {
     /// A new dialogue, in which nothing has happened: its identifier. Faults: `DialoguesFull`,

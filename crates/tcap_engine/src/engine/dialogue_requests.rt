@@ -1,7 +1,7 @@
 //! The requests of dialogue handling (Q.771, Dialogue handling).
 
 ghost use Rattle.std.specs.Prelude.{◌≡◌, option_copied, OnErr};
-ghost use Rattle.tcap_dialogue.specs.RequestViews.{ending_view, reason_view};
+ghost use Rattle.tcap_primitives.specs.RequestViews.{ending_view, reason_view};
 ghost use Rattle.tcap_engine.specs.Answering.{EngineAnswers, outputs_answer};
 ghost use Rattle.tcap_engine.specs.HistoryForm.{Stands};
 ghost use Rattle.tcap_model.specs.Table.EngineMove.{engine_move};

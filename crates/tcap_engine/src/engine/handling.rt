@@ -1,7 +1,8 @@
 //! Any event.
 
 ghost use Rattle.std.specs.Prelude.{◌≡◌, IsTrue, OnErr};
-ghost use Rattle.tcap_dialogue.specs.FaultViews.{fault_view, takes_memory};
+ghost use Rattle.tcap_dialogue.specs.FaultViews.{takes_memory};
+ghost use Rattle.tcap_primitives.specs.FaultViews.{fault_view};
 ghost use Rattle.tcap_engine.specs.Answering.{EngineAnswers, EngineHears, EngineRefuses, birth_answer, outputs_answer};
 ghost use Rattle.tcap_engine.specs.Asking.{asked_answer};
 ghost use Rattle.tcap_engine.specs.EventViews.{answer_view, event_view};

@@ -3,7 +3,7 @@
 ghost use Rattle.std.specs.Prelude.{◌≡◌, ◌≤◌, ◌+◌, ◌++◌, nat_eq, length, vec_len, vec_capacity};
 ghost use Rattle.std.specs.List.{flat_map};
 ghost use Rattle.std.specs.Map.{remove_entry};
-ghost use Rattle.tcap_dialogue.specs.OutputViews.{all_shown};
+ghost use Rattle.tcap_primitives.specs.OutputViews.{all_shown};
 ghost use Rattle.tcap_engine.specs.Ending.{AreApart, over_in, without_all};
 ghost use Rattle.tcap_engine.specs.Table.{AreFrom};
 ghost use Rattle.tcap_invocation.specs.Closing.{ended_at};

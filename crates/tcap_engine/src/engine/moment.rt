@@ -1,7 +1,7 @@
 //! What lapses at a moment in all dialogues, and which of them have stood still too long.
 
 ghost use Rattle.std.specs.Prelude.{◌≡◌, ◌≢◌, ◌≤◌, ◌+◌, ◌++◌, [], length, vec_len, vec_capacity, ℕ, IfSome, IfNone, Some, MatchOption};
-ghost use Rattle.tcap_dialogue.specs.OutputViews.{all_shown};
+ghost use Rattle.tcap_primitives.specs.OutputViews.{all_shown};
 ghost use Rattle.tcap_engine.specs.Ending.{ends_in, idle_ids, left_by};
 ghost use Rattle.tcap_engine.specs.Lapsing.{IsFirstTimer, IsPassed, IsPassedIn, IsQuiet, timer_of};
 ghost use Rattle.tcap_engine.specs.Table.{AreFrom, dialogues_of};

@@ -2,7 +2,7 @@
 
 ghost use Rattle.std.specs.Prelude.{◌≡◌, ◌≤◌, ◌<◌, nat_eq, true, [], Some, IfOk, OnErr, IsSome, vec_len, vec_capacity};
 ghost use Rattle.std.specs.Map.{lookup};
-ghost use Rattle.tcap_dialogue.specs.AbortViews.{cause_number};
+ghost use Rattle.tcap_primitives.specs.AbortViews.{cause_number};
 ghost use Rattle.tcap_dialogue.specs.StepViews.{at_clock, outcome};
 ghost use Rattle.tcap_engine.specs.Answering.{Moves, outputs_answer};
 ghost use Rattle.tcap_engine.specs.Asking.{ReachesIn};

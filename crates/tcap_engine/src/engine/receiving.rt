@@ -1,11 +1,11 @@
 //! Bytes that were received.
 
 ghost use Rattle.std.specs.Prelude.{◌≡◌, ◌∷◌, [], Bool, ℕ, is_some, option_copied, true, IfOk, IfSome};
-ghost use Rattle.tcap_dialogue.specs.AbortViews.{CanWriteAbort, abort_sent};
-ghost use Rattle.tcap_dialogue.specs.OutputViews.{all_shown, shown};
+ghost use Rattle.tcap_primitives.specs.AbortViews.{CanWriteAbort, abort_sent};
+ghost use Rattle.tcap_primitives.specs.OutputViews.{all_shown, shown};
 ghost use Rattle.tcap_engine.specs.Answering.{EngineHears, outputs_answer};
 ghost use Rattle.tcap_engine.specs.HistoryForm.{StandsHeard};
-ghost use Rattle.tcap_engine.specs.ReceptionViews.{CanBear, CanRun, reached, reception_view};
+ghost use Rattle.tcap_reception.specs.ReceptionViews.{CanBear, CanRun, reached, reception_view};
 ghost use Rattle.tcap_model.specs.Procedures.AbortRules.{message_sent};
 ghost use Rattle.tcap_model.specs.Procedures.Destination.{destination};
 ghost use Rattle.tcap_model.specs.Procedures.Reception.{addressed_if_any, reception};
@@ -14,12 +14,12 @@ ghost use Rattle.tcap_model.specs.Words.Event.{Event};
 ghost use Rattle.tcap_pdu.specs.FrameViews.{message};
 
 use super::Engine;
-use crate::ranges;
-use crate::reception::{Reception, hear_fault, hear_message};
 use ber_core::OutOfMemory;
 use std::alloc::Allocator;
 use tcap_dialogue::{Abort, Address, DropWhy, Output, State, take_uni, write_abort};
 use tcap_pdu::{Frame, MAX_MESSAGE, TransId, front_ids, read_frame};
+use tcap_primitives::ranges;
+use tcap_reception::{Reception, hear_fault, hear_message};
 
 /// The destination of a message, if it has one.
 fn destination<'a>(frame: &'a Frame<'_>) -> Option<&'a TransId>

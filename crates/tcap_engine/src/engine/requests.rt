@@ -1,7 +1,7 @@
 //! Requests on a dialogue.
 
 ghost use Rattle.std.specs.Prelude.{◌≡◌, IfOk, OnErr};
-ghost use Rattle.tcap_dialogue.specs.RequestViews.{request_view};
+ghost use Rattle.tcap_primitives.specs.RequestViews.{request_view};
 ghost use Rattle.tcap_engine.specs.Answering.{EngineAnswers};
 ghost use Rattle.tcap_engine.specs.AskedKinds.{MayAnswer, kind_of};
 ghost use Rattle.tcap_engine.specs.Asking.{IsLeft, asked_answer};
@@ -11,9 +11,9 @@ ghost use Rattle.tcap_model.specs.Words.Event.{Event};
 
 use super::Engine;
 use super::asking::ask_in;
-use crate::ranges;
 use std::alloc::Allocator;
 use tcap_dialogue::{Asked, Fault, Request};
+use tcap_primitives::ranges;
 
 /// The number of the next invocation: one that was answered is drawn.
 fn next_number<A: Allocator + Copy>(asked: &Asked<'_, A>, next: u64) -> u64

@@ -2,7 +2,7 @@
 
 ghost use Rattle.std.specs.Prelude.{◌≡◌, IfOk, string_bytes, option_copied, option_map};
 ghost use Rattle.tcap_component.specs.Views.{code_parts, body_parts, problem_parts};
-ghost use Rattle.tcap_dialogue.specs.OutputViews.{rejector, shown};
+ghost use Rattle.tcap_primitives.specs.OutputViews.{rejector, shown};
 ghost use Rattle.tcap_model.specs.Words.Output.{Closing};
 ghost use Rattle.tcap_play.specs.OutputParts.{closing_part};
 ghost use Rattle.tcap_play.specs.OutputText.{closed_words};

@@ -2,7 +2,7 @@
 
 ghost use Rattle.std.specs.Prelude.{◌≡◌, IfOk, string_bytes, option_copied, option_map};
 ghost use Rattle.tcap_component.specs.Views.{code_parts, body_parts, problem_parts};
-ghost use Rattle.tcap_dialogue.specs.OutputViews.{rejector, shown};
+ghost use Rattle.tcap_primitives.specs.OutputViews.{rejector, shown};
 ghost use Rattle.tcap_model.specs.Words.Output.{ComponentIndication};
 ghost use Rattle.tcap_play.specs.OutputParts.{component_part};
 ghost use Rattle.tcap_play.specs.OutputText.{place_words, rejector_words, invocation_words, component_words};

@@ -1,7 +1,7 @@
 //! The words of an indication of dialogue handling.
 
 ghost use Rattle.std.specs.Prelude.{◌≡◌, IfOk, string_bytes, option_copied, option_map};
-ghost use Rattle.tcap_dialogue.specs.OutputViews.{cause_view, shown};
+ghost use Rattle.tcap_primitives.specs.OutputViews.{cause_view, shown};
 ghost use Rattle.tcap_model.specs.Words.Output.{DialogueIndication};
 ghost use Rattle.tcap_pdu.specs.DialogueViews.{pdu_value};
 ghost use Rattle.tcap_play.specs.OutputParts.{dialogue_part};

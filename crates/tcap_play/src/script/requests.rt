@@ -1,7 +1,7 @@
 //! Requests on a dialogue.
 
 ghost use Rattle.std.specs.Prelude.{◌≡◌, option_map};
-ghost use Rattle.tcap_dialogue.specs.RequestViews.{request_view};
+ghost use Rattle.tcap_primitives.specs.RequestViews.{request_view};
 ghost use Rattle.tcap_play.specs.LineViews.{text_of};
 ghost use Rattle.tcap_play.specs.ScriptLine.{begin_request_of, portion_request_of, portion_request_on, abort_request_of, last_request_of, more_request_of, cancel_request_of, error_request_of, reject_request_of, invoke_request_of};
 

@@ -2,7 +2,7 @@
 
 ghost use Rattle.std.specs.Prelude.{◌≡◌, ◌≤◌, IfSome, bytes_eq, option_map, option_copied};
 ghost use Rattle.tcap_component.specs.Views.{body_parts, code_parts, problem_parts};
-ghost use Rattle.tcap_dialogue.specs.RequestViews.{reason_view};
+ghost use Rattle.tcap_primitives.specs.RequestViews.{reason_view};
 ghost use Rattle.tcap_invocation.specs.Stage.{moment_limit};
 ghost use Rattle.tcap_play.specs.LineViews.{name_view, text_of};
 ghost use Rattle.tcap_play.specs.ScriptWords.{engine_of, name_of, milliseconds_of, idle_limit_of, dialogue_of, identifier_of, optional_identifier_of, class_of, code_of, octets_of, optional_octets_of, body_with, body_of, kind_of, problem_of, reason_of};

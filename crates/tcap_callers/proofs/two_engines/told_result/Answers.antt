@@ -1,7 +1,7 @@
 use Rattle.std.proofs.Common.{◌∙◌, sym, ap, option_copied, Some, length, ◌-◌}
 use Rattle.std.specs.Option.{option_map}
 use Rattle.tcap_component.specs.Views.{body_parts}
-use Rattle.tcap_dialogue.specs.OutputViews.{shown}
+use Rattle.tcap_primitives.specs.OutputViews.{shown}
 use Rattle.tcap_callers.proofs.BothLemmas.{result-at}
 use Rattle.tcap_callers.proofs.two_engines.told_result.Goals as goal
 

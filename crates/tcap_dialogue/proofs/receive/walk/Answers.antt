@@ -3,9 +3,9 @@ use Rattle.ber_core.specs.Place.{Slice}
 use Rattle.tcap_component.specs.Place.{bytes_left, components_steps}
 use Rattle.tcap_component.specs.Views.{components_left, item_view}
 use Rattle.tcap_dialogue.specs.HandledViews.{handled_view}
-use Rattle.tcap_dialogue.specs.OutputViews.{all_shown}
-use Rattle.tcap_dialogue.specs.QueueViews.{queue_view}
-use Rattle.tcap_dialogue.specs.Slices.{AllInPlace}
+use Rattle.tcap_primitives.specs.OutputViews.{all_shown}
+use Rattle.tcap_primitives.specs.QueueViews.{queue_view}
+use Rattle.tcap_primitives.specs.Slices.{AllInPlace}
 use Rattle.tcap_dialogue.proofs.PlaceLemmas.{left_step, one_more}
 use Rattle.tcap_dialogue.proofs.WalkLemmas.{done_next, shown_push}
 use Rattle.tcap_dialogue.proofs.receive.walk.Goals as goal

@@ -3,9 +3,9 @@ use Rattle.ber_core.specs.Place.{Slice}
 use Rattle.tcap_component.specs.ComponentReading.{components_of}
 use Rattle.tcap_component.specs.Place.{bytes_left}
 use Rattle.tcap_component.specs.Views.{components_left}
-use Rattle.tcap_dialogue.specs.OutputViews.{all_shown}
-use Rattle.tcap_dialogue.specs.QueueViews.{queue_view}
-use Rattle.tcap_dialogue.specs.Slices.{AllInPlace, IsLeftOf}
+use Rattle.tcap_primitives.specs.OutputViews.{all_shown}
+use Rattle.tcap_primitives.specs.QueueViews.{queue_view}
+use Rattle.tcap_primitives.specs.Slices.{AllInPlace, IsLeftOf}
 use Rattle.tcap_dialogue.specs.Walking.{done_from}
 use Rattle.tcap_dialogue.proofs.receive.walk.Given as goal
 

@@ -2,7 +2,7 @@ use Rattle.std.proofs.Common.{rules, ◌≡◌, Some, sym, subst, ◌∙◌}
 use Rattle.ber_core.specs.Place.{Slice}
 use Rattle.tcap_component.specs.Place.{bytes_left, components_steps}
 use Rattle.tcap_component.specs.Views.{components_left, item_view}
-use Rattle.tcap_dialogue.specs.Slices.{AllInPlace}
+use Rattle.tcap_primitives.specs.Slices.{AllInPlace}
 use Rattle.tcap_dialogue.proofs.PlaceLemmas.{left_step, one_more}
 use Rattle.tcap_dialogue.proofs.WalkLemmas.{alone_next}
 use Rattle.tcap_dialogue.proofs.receive.walk_alone.Goals as goal

@@ -3,8 +3,8 @@ use Rattle.ber_core.specs.Place.{Slice}
 use Rattle.tcap_component.specs.Place.{bytes_left, components_steps}
 use Rattle.tcap_component.specs.Views.{components_left, item_view}
 use Rattle.tcap_dialogue.specs.HandledViews.{handled_view}
-use Rattle.tcap_dialogue.specs.OutputViews.{all_shown}
-use Rattle.tcap_dialogue.specs.Slices.{AllInPlace}
+use Rattle.tcap_primitives.specs.OutputViews.{all_shown}
+use Rattle.tcap_primitives.specs.Slices.{AllInPlace}
 use Rattle.tcap_dialogue.proofs.PlaceLemmas.{left_step, one_more}
 use Rattle.tcap_dialogue.proofs.WalkLemmas.{told_next, shown_push, ended_next}
 use Rattle.tcap_dialogue.proofs.receive.walk_ending.Goals as goal

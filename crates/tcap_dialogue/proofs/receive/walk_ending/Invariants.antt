@@ -3,8 +3,8 @@ use Rattle.ber_core.specs.Place.{Slice}
 use Rattle.tcap_component.specs.ComponentReading.{components_of}
 use Rattle.tcap_component.specs.Place.{bytes_left}
 use Rattle.tcap_component.specs.Views.{components_left}
-use Rattle.tcap_dialogue.specs.OutputViews.{all_shown}
-use Rattle.tcap_dialogue.specs.Slices.{AllInPlace, IsLeftOf}
+use Rattle.tcap_primitives.specs.OutputViews.{all_shown}
+use Rattle.tcap_primitives.specs.Slices.{AllInPlace, IsLeftOf}
 use Rattle.tcap_dialogue.specs.Walking.{told_from}
 use Rattle.tcap_invocation.specs.Closing.{ended_at}
 use Rattle.tcap_dialogue.proofs.receive.walk_ending.Given as goal

@@ -1,5 +1,5 @@
 use Rattle.std.proofs.Common.{◌≡◌, ◌≤◌, ◌+◌, ◌++◌, drop, string_bytes}
-use Rattle.tcap_dialogue.specs.OutputViews.{all_shown}
+use Rattle.tcap_primitives.specs.OutputViews.{all_shown}
 use Rattle.tcap_play.specs.AnswerText.{output_lines}
 use Rattle.tcap_play.specs.SideView.{side_view}
 use Rattle.tcap_play.proofs.answer_text.add_outputs.Given as goal

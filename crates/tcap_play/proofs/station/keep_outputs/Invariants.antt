@@ -1,5 +1,5 @@
 use Rattle.std.proofs.Common.{◌≡◌, ◌++◌}
-use Rattle.tcap_dialogue.specs.OutputViews.{all_shown}
+use Rattle.tcap_primitives.specs.OutputViews.{all_shown}
 use Rattle.tcap_play.specs.Play.{messages_of}
 use Rattle.tcap_play.specs.PlayViews.{messages_view}
 use Rattle.tcap_play.proofs.station.keep_outputs.Given as goal

@@ -2,7 +2,7 @@ use Rattle.std.proofs.Common.{◌≡◌, Option, Some, None, Bool, true, false, 
 use Rattle.tcap_component.specs.Views.{code_parts}
 use Rattle.tcap_invocation.specs.Invocations.{entry_at}
 use Rattle.tcap_model.specs.Words.Fault.{Fault}
-use Rattle.tcap_dialogue.specs.FaultViews.{fault_view}
+use Rattle.tcap_primitives.specs.FaultViews.{fault_view}
 use Rattle.tcap_dialogue.proofs.ComponentRequestLemmas.{check-spelled, check-used}
 use Rattle.tcap_dialogue.proofs.dialogue.Dialogue.check_invoke.Goals as goal
 

@@ -1,6 +1,7 @@
 use Rattle.std.proofs.Common.{rules, Option, ◌∙◌, sym, ap, subst}
-use Rattle.tcap_dialogue.specs.ControlViews.{control_view}
-use Rattle.tcap_dialogue.specs.FaultViews.{fault_view, Steps}
+use Rattle.tcap_primitives.specs.ControlViews.{control_view}
+use Rattle.tcap_dialogue.specs.FaultViews.{Steps}
+use Rattle.tcap_primitives.specs.FaultViews.{fault_view}
 use Rattle.tcap_dialogue.specs.StepViews.{asked, Outcome, outcome}
 use Rattle.tcap_model.specs.Table.TableMove.{requested_by}
 use Rattle.tcap_model.specs.Words.Fault.{Fault}

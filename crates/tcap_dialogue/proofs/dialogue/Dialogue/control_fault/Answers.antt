@@ -3,7 +3,7 @@ use Rattle.tcap_model.specs.Procedures.Refusals.{Situation, holds}
 use Rattle.tcap_model.specs.Table.TableMove.{situation}
 use Rattle.tcap_model.specs.Words.Fault.{Fault}
 use Rattle.tcap_model.specs.Words.Request.{DialogueRequest, Request}
-use Rattle.tcap_dialogue.specs.ControlViews.{control_view}
+use Rattle.tcap_primitives.specs.ControlViews.{control_view}
 use Rattle.tcap_dialogue.specs.StepViews.{asked}
 use Rattle.tcap_dialogue.proofs.ControlLemmas.{control-due, later, later-long, named, informed}
 use Rattle.tcap_dialogue.proofs.dialogue.Dialogue.control_fault.Goals as goal

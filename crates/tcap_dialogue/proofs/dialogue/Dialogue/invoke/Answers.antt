@@ -1,7 +1,7 @@
 use Rattle.std.proofs.Common.{rules, option_copied, w8}
 use Rattle.std.proofs.lemmas.Int.{to_z-of_z}
 use Rattle.tcap_component.specs.Views.{code_parts}
-use Rattle.tcap_dialogue.specs.FaultViews.{fault_view}
+use Rattle.tcap_primitives.specs.FaultViews.{fault_view}
 use Rattle.tcap_dialogue.specs.StepViews.{asked}
 use Rattle.tcap_dialogue.proofs.ComponentRequestLemmas.{invoking}
 use Rattle.tcap_dialogue.proofs.RefusalLemmas.{due-refused}

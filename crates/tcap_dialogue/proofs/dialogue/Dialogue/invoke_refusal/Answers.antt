@@ -3,8 +3,8 @@ use Rattle.std.proofs.lemmas.Int.{to_z-of_z}
 use Rattle.std.specs.Option.{option_map}
 use Rattle.tcap_component.specs.Component.{ComponentParts}
 use Rattle.tcap_component.specs.Views.{code_parts}
-use Rattle.tcap_dialogue.specs.ComponentRefusals.{queue_fault}
-use Rattle.tcap_dialogue.specs.FaultViews.{fault_view}
+use Rattle.tcap_primitives.specs.QueueRefusals.{queue_fault}
+use Rattle.tcap_primitives.specs.FaultViews.{fault_view}
 use Rattle.tcap_dialogue.proofs.ComponentRequestLemmas.{invoke-early, invoke-late}
 use Rattle.tcap_dialogue.proofs.dialogue.Dialogue.invoke_refusal.Goals as goal
 

@@ -1,5 +1,5 @@
 use Rattle.tcap_component.specs.Views.{component_parts}
-use Rattle.tcap_dialogue.specs.FaultViews.{fault_view}
+use Rattle.tcap_primitives.specs.FaultViews.{fault_view}
 use Rattle.tcap_dialogue.proofs.ComponentRequestLemmas.{answer-refused}
 use Rattle.tcap_dialogue.proofs.dialogue.Dialogue.queue_answer.Goals as goal
 

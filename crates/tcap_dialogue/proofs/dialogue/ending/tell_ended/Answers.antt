@@ -1,6 +1,6 @@
 use Rattle.std.proofs.Common.{rules, ◌≡◌, ◌∙◌, ap, length, sym, subst, to_z, of_z, w8}
 use Rattle.std.proofs.lemmas.Int.{to_z-of_z}
-use Rattle.tcap_dialogue.specs.Slices.{AllInPlace}
+use Rattle.tcap_primitives.specs.Slices.{AllInPlace}
 use Rattle.tcap_dialogue.proofs.PlaceLemmas.{all_push}
 use Rattle.tcap_dialogue.proofs.WalkLemmas.{tell_next}
 use Rattle.tcap_dialogue.proofs.dialogue.ending.tell_ended.Goals as goal

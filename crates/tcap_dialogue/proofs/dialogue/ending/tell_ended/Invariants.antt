@@ -1,7 +1,7 @@
 use Rattle.std.proofs.Common.{◌≡◌, ◌+◌, ◌≤◌, ◌++◌, Option, length, vec_len, vec_capacity}
 use Rattle.ber_core.specs.Place.{Slice}
-use Rattle.tcap_dialogue.specs.OutputViews.{all_shown}
-use Rattle.tcap_dialogue.specs.Slices.{AllInPlace}
+use Rattle.tcap_primitives.specs.OutputViews.{all_shown}
+use Rattle.tcap_primitives.specs.Slices.{AllInPlace}
 use Rattle.tcap_invocation.specs.Closing.{ended_at}
 use Rattle.tcap_model.specs.Table.TableMove.{ended_told}
 use Rattle.tcap_dialogue.proofs.dialogue.ending.tell_ended.Given as goal

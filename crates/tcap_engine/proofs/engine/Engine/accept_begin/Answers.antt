@@ -1,5 +1,6 @@
 use Rattle.std.proofs.Common.{rules, ◌≡◌, Some, sym, ap, subst}
-use Rattle.tcap_dialogue.specs.Beginning.{begun, context_given, info_given}
+use Rattle.tcap_dialogue.specs.Beginning.{begun}
+use Rattle.tcap_reception.specs.GivenViews.{context_given, info_given}
 use Rattle.tcap_dialogue.specs.StepViews.{Outcome, outcome, at_clock}
 use Rattle.tcap_engine.proofs.BeginLemmas.{kept_born}
 use Rattle.tcap_engine.specs.Table.{IsWithin}

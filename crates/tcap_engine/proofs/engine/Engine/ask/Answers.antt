@@ -1,5 +1,5 @@
 use Rattle.std.proofs.Common.{rules, arith, Fits, w64, ◌≡◌, Err, ◌≤◌}
-use Rattle.tcap_dialogue.specs.RequestViews.{request_view}
+use Rattle.tcap_primitives.specs.RequestViews.{request_view}
 use Rattle.tcap_dialogue.specs.StepViews.{asked}
 use Rattle.tcap_model.specs.Words.Identifiers.{last_number}
 use Rattle.tcap_engine.proofs.AskedEngine.{found-below, asked-ok, asked-err, sound-ok, sound-err, left-ok}

@@ -1,5 +1,5 @@
 use Rattle.std.proofs.Common.{rules, ◌≡◌, ◌∙◌, ◌∷◌, [], ap, true, List}
-use Rattle.tcap_dialogue.specs.OutputViews.{all_shown}
+use Rattle.tcap_primitives.specs.OutputViews.{all_shown}
 use Rattle.tcap_dialogue.specs.StepViews.{at_clock}
 use Rattle.tcap_model.specs.Procedures.AbortRules.{abort_with, fault_cause, message_sent}
 use Rattle.tcap_model.specs.Table.EngineMove.{is_live_in}

@@ -1,6 +1,6 @@
 use Rattle.std.proofs.Common.{rules, ◌≡◌, ◌∙◌, refl, sym, ap, false, Bool, ℕ, nat_lt, List, length, is_some, Option, Some, None, Ok}
 use Rattle.std.specs.Option.{option_map}
-use Rattle.tcap_dialogue.specs.FaultViews.{fault_view}
+use Rattle.tcap_primitives.specs.FaultViews.{fault_view}
 use Rattle.tcap_model.specs.Procedures.Destination.{destination}
 use Rattle.tcap_model.specs.Procedures.Reception.{addressed_if_any, message_by, reception}
 use Rattle.tcap_model.specs.Table.EngineMove.{birth_fault_in, is_live_in}

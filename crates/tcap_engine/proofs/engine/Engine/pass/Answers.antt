@@ -4,7 +4,7 @@ use Rattle.std.proofs.lemmas.Result.{err_from_is_err_and}
 use Rattle.std.specs.List.{flat_map}
 use Rattle.std.specs.Prelude.{IsTrue}
 use Rattle.tcap_dialogue.specs.FaultViews.{takes_memory}
-use Rattle.tcap_dialogue.specs.OutputViews.{all_shown, shown}
+use Rattle.tcap_primitives.specs.OutputViews.{all_shown, shown}
 use Rattle.tcap_engine.specs.Ending.{AreApart, idle_ids, left_by, over_in, place_at, without_all}
 use Rattle.tcap_engine.specs.Table.{Place, dialogues_of}
 use Rattle.tcap_engine.proofs.EndLemmas.{ends-all, left-all}

@@ -1,4 +1,4 @@
-use Rattle.tcap_dialogue.specs.OutputViews.{all_shown}
+use Rattle.tcap_primitives.specs.OutputViews.{all_shown}
 use Rattle.tcap_dialogue.specs.StepViews.{at_clock}
 use Rattle.tcap_model.specs.Table.TableMove.{DialogueEvent, table_move}
 use Rattle.tcap_pdu.specs.FrameViews.{message}

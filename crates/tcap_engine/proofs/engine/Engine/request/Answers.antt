@@ -1,5 +1,5 @@
 use Rattle.std.proofs.Common.{rules}
-use Rattle.tcap_dialogue.specs.RequestViews.{request_view}
+use Rattle.tcap_primitives.specs.RequestViews.{request_view}
 use Rattle.tcap_engine.specs.Asking.{asked_answer}
 use Rattle.tcap_engine.proofs.KindLemmas.{of-kind}
 use Rattle.tcap_engine.proofs.StandingLemmas.{stands_after}

@@ -1,9 +1,9 @@
 use Rattle.std.proofs.Common.{rules, ◌≡◌, nat_eq, List, Some, Err}
 use Rattle.std.specs.Map.{lookup}
-use Rattle.tcap_dialogue.specs.RequestViews.{request_view}
+use Rattle.tcap_primitives.specs.RequestViews.{request_view}
 use Rattle.tcap_dialogue.specs.StepViews.{Outcome, asked, outcome}
 use Rattle.tcap_model.specs.Table.TableMove.{DialogueEvent, table_move}
-use Rattle.tcap_dialogue.specs.FaultViews.{fault_view}
+use Rattle.tcap_primitives.specs.FaultViews.{fault_view}
 use Rattle.tcap_engine.specs.Table.{Place}
 use Rattle.tcap_engine.proofs.AskLemmas.{refused-placed, settled-placed}
 use Rattle.tcap_engine.proofs.RefusedEngine.{refused-same}

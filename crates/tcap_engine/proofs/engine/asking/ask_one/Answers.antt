@@ -3,7 +3,7 @@ use Rattle.std.proofs.lemmas.Int.{to_z-of_z}
 use Rattle.std.specs.Int.{w8}
 use Rattle.std.proofs.lemmas.Bool.Decides.{nat_tests}
 use Rattle.tcap_component.specs.Views.{code_parts}
-use Rattle.tcap_dialogue.specs.declared.fault.Fault.TheVariants as fault
+use Rattle.tcap_primitives.specs.declared.fault.Fault.TheVariants as fault
 use Rattle.tcap_model.specs.Words.Identifiers.{are_numbers_spent}
 use Rattle.tcap_engine.proofs.SpentLemmas.{spent-refused}
 use Rattle.tcap_engine.proofs.engine.asking.ask_one.Goals as goal

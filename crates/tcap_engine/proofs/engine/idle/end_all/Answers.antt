@@ -3,7 +3,7 @@ use Rattle.std.proofs.lemmas.List.{length-map}
 use Rattle.std.proofs.Math.ListN.{drop_of_length-le}
 use Rattle.std.specs.List.{flat_map}
 use Rattle.std.specs.Map.{remove_entry}
-use Rattle.tcap_dialogue.specs.OutputViews.{all_shown, shown}
+use Rattle.tcap_primitives.specs.OutputViews.{all_shown, shown}
 use Rattle.tcap_engine.specs.Ending.{over_in, without_all}
 use Rattle.tcap_engine.proofs.OverLemmas.{OverStep, over-step, none-without}
 use Rattle.tcap_engine.proofs.engine.idle.end_all.Goals as goal

@@ -1,6 +1,6 @@
 use Rattle.std.proofs.Common.{◌≡◌, ◌+◌, ◌≤◌, ◌++◌, drop, length, vec_len, vec_capacity}
 use Rattle.std.specs.List.{flat_map}
-use Rattle.tcap_dialogue.specs.OutputViews.{all_shown}
+use Rattle.tcap_primitives.specs.OutputViews.{all_shown}
 use Rattle.tcap_engine.specs.Ending.{AreApart, over_in, without_all}
 use Rattle.tcap_engine.specs.Table.{AreFrom}
 use Rattle.tcap_engine.proofs.engine.idle.end_all.Given as goal

@@ -1,5 +1,5 @@
 use Rattle.std.proofs.Common.{◌≡◌, ◌+◌, ◌++◌, length, vec_len, vec_capacity}
-use Rattle.tcap_dialogue.specs.OutputViews.{all_shown}
+use Rattle.tcap_primitives.specs.OutputViews.{all_shown}
 use Rattle.tcap_invocation.specs.Closing.{ended_at}
 use Rattle.tcap_model.specs.Table.TableMove.{ended_told}
 use Rattle.tcap_engine.proofs.engine.idle.tell_left.Given as goal

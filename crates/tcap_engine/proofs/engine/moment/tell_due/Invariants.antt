@@ -1,5 +1,5 @@
 use Rattle.std.proofs.Common.{◌≡◌, ◌++◌, ◌+◌, ◌≤◌, ℕ, length, vec_len, vec_capacity}
-use Rattle.tcap_dialogue.specs.OutputViews.{all_shown}
+use Rattle.tcap_primitives.specs.OutputViews.{all_shown}
 use Rattle.tcap_model.specs.Table.DueLapses.{all_told}
 use Rattle.tcap_engine.specs.Ending.{ends_in, idle_ids, left_by}
 use Rattle.tcap_engine.specs.Lapsing.{step_count}

@@ -4,7 +4,7 @@ use Rattle.std.specs.Map.{lookup, set_value}
 use Rattle.tcap_dialogue.specs.declared.dialogue.ask.Asked.TheVariants as asked
 use Rattle.tcap_dialogue.specs.StepViews.{Outcome, at_clock, outcome}
 use Rattle.tcap_model.specs.Table.TableMove.{DialogueEvent, table_move}
-use Rattle.tcap_dialogue.specs.AbortViews.{cause_number}
+use Rattle.tcap_primitives.specs.AbortViews.{cause_number}
 use Rattle.tcap_engine.specs.Table.{Place}
 use Rattle.tcap_engine.proofs.AskLemmas.{settled-placed}
 use Rattle.tcap_engine.proofs.TimedLemmas.{timed-still, timed-settled}

@@ -1,6 +1,6 @@
 use Rattle.std.proofs.Common.{rules, ◌≡◌, ◌∙◌, ap, sym}
 use Rattle.std.specs.Option.{option_map}
-use Rattle.tcap_dialogue.specs.RequestViews.{request_view}
+use Rattle.tcap_primitives.specs.RequestViews.{request_view}
 use Rattle.tcap_play.specs.LineViews.{line_view, text_of}
 use Rattle.tcap_play.specs.ScriptLine.{line_of_nine, invoke_request_of}
 use Rattle.tcap_play.proofs.WordCounts.{nine_words, other_words}

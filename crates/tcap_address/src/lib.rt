@@ -1,0 +1,9 @@
+//! Where messages come from and go to.
+//!
+//! Stands on `arrayvec`. Begin at `Address`.
+#![tactic(auto)]
+
+mod address;
+pub mod laws;
+
+pub use address::Address;

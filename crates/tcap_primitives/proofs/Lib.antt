@@ -1,0 +1,6 @@
+pub mod AbortLemmas
+pub mod CancelLemmas
+pub mod CutLemmas
+pub mod PortionLemmas
+pub mod RoomLemmas
+pub mod SendingLemmas

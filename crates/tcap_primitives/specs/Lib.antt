@@ -1,0 +1,12 @@
+pub mod AbortViews
+pub mod ContextViews
+pub mod ControlViews
+pub mod FaultText
+pub mod FaultViews
+pub mod OutputViews
+pub mod Parts
+pub mod QueueRefusals
+pub mod QueueViews
+pub mod RequestViews
+pub mod SendingViews
+pub mod Slices

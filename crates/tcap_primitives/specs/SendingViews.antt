@@ -1,0 +1,49 @@
+-- The message of a request as a contract sees it.
+use Rattle.std.specs.Prelude.{◌≡◌, ℕ, true, List, Option, Some, None}
+use Rattle.tcap_pdu.specs.declared.dialogue_pdu.DialoguePdu.{DialoguePdu}
+use Rattle.tcap_pdu.specs.DialoguePartsReading.{is_information}
+use Rattle.tcap_pdu.specs.DialogueDue.{content_fault}
+use Rattle.tcap_pdu.specs.DialogueViews.{pdu_value}
+use Rattle.tcap_pdu.specs.DialogueWritten.{HasDiagnostic, written_dialogue}
+use Rattle.tcap_pdu.specs.FrameSpelling.{Message, Reason}
+use Rattle.tcap_model.specs.Procedures.Refusals.{can_name}
+use Rattle.tcap_model.specs.Words.LocalId.{local_id}
+use Rattle.tcap_primitives.specs.declared.sending.Bearer.{Bearer}
+use Rattle.tcap_primitives.specs.declared.sending.Bearer.TheVariants as bearer
+use Rattle.tcap_primitives.specs.declared.sending.Sending.{Sending}
+
+-- The contents of a dialogue portion with a PDU, if there is one (own).
+abbrev pub portion_view : Option DialoguePdu → Option (List ℕ)
+portion_view None = None
+portion_view (Some pdu) = Some (written_dialogue (pdu_value pdu))
+
+-- What an Abort carries: a dialogue portion, or nothing (Q.773, Abort message).
+abbrev pub reason_with : Option (List ℕ) → Reason
+reason_with None = Reason.nothing
+reason_with (Some portion) = Reason.portion portion
+
+-- A message with this dialogue portion, if there is one (own).
+abbrev pub borne : Bearer → Option (List ℕ) → Message
+borne (bearer.Uni components) portion = Message.unidirectional portion components.now
+borne (bearer.Begin origin components) portion = Message.begin (local_id origin) portion components.now
+borne (bearer.Continue origin peer components) portion =
+    Message.go_on (local_id origin) peer.now portion components.now
+borne (bearer.End peer components) portion = Message.end peer.now portion components.now
+borne (bearer.Abort peer) portion = Message.abort peer.now (reason_with portion)
+
+-- The message of a request (own).
+abbrev pub sending_view : Sending → Message
+sending_view s = borne s.bearer (portion_view s.pdu)
+
+-- A PDU, if there is one, can be written but for its length, where the application context and the user
+-- information given are good (own).
+abbrev pub CanCarry : Option (List ℕ) → List ℕ → Option DialoguePdu → Type 0
+CanCarry context info None = Unit {0}
+CanCarry context info (Some pdu) =
+    HasDiagnostic (pdu_value pdu)
+    × (can_name context ≡ true → is_information info ≡ true → content_fault (pdu_value pdu) ≡ None)
+
+-- So can that of a message, if one is sent (own).
+abbrev pub CanBear : Option (List ℕ) → List ℕ → Option Sending → Type 0
+CanBear context info None = Unit {0}
+CanBear context info (Some s) = CanCarry context info s.pdu

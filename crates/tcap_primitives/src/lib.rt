@@ -1,0 +1,26 @@
+//! The primitives between a user and one dialogue (Q.771), and what goes out with them: requests and their
+//! faults, what is sent and told, the components that wait in the queue, and the messages that carry them.
+//!
+//! Stands on `ber_core`, `tcap_pdu`, `tcap_component`, `tcap_invocation`, `tcap_address` and the definitions of
+//! `tcap_model`. Begin at `Request` and `Output`; what a contract sees of a value stands in specs/.
+#![tactic(auto)]
+
+mod context;
+mod control;
+mod fault;
+mod output;
+mod provider_abort;
+mod queue;
+pub mod ranges;
+mod request;
+mod sending;
+
+pub use context::Context;
+pub use control::Control;
+pub use fault::Fault;
+pub use output::{By, DropWhy, Output, Why};
+pub use provider_abort::{Abort, Cause, write_abort};
+pub use queue::{Invoking, MAX_QUEUE, MAX_REJECT, Part, Queue};
+pub use request::{AbortWhy, Ending, Request};
+pub use sending::portions::{abort_pdu, answering_pdu, begin_pdu, refusing_pdu, uni_pdu};
+pub use sending::{Bearer, Sending};

@@ -1,0 +1,39 @@
+ghost use Rattle.std.specs.Prelude.{◌≡◌, length};
+ghost use Rattle.tcap_primitives.specs.Parts.{total};
+
+pub mod append;
+pub mod cancel;
+pub mod room;
+pub mod sending;
+
+use std::alloc::{Allocator, Global};
+use tcap_invocation::Class;
+
+/// The greatest number of octets of a queue (our own).
+pub const MAX_QUEUE: usize = 60_000;
+
+/// The greatest number of octets of a Reject.
+pub const MAX_REJECT: usize = 8;
+
+/// The invocation that an Invoke asks for.
+#[derive(Clone, Copy, Debug)]
+pub struct Invoking {
+    pub number: u64,
+    pub class: Class,
+}
+
+/// A component of the queue: how many octets it has, and of an Invoke what it asks for.
+#[derive(Clone, Copy, Debug)]
+pub struct Part {
+    pub len: usize,
+    pub invoking: Option<Invoking>,
+}
+
+/// The components that the next message carries: their octets one after the other, so that it is
+/// written from one slice, and how many of them each component has.
+#[derive(Debug, Drop)]
+pub struct Queue<A: Allocator + Copy = Global> {
+    pub octets: Vec<u8, A>,
+    pub parts: Vec<Part, A>,
+    ghost whole: { total parts.items ≡ length octets.items },
+}

@@ -1,0 +1,140 @@
+//! The numbers of what comes in are those that its types hold: what the model asks of every event. Each
+//! function does nothing; its clause is what a caller learns.
+
+ghost use Rattle.std.specs.Prelude.{IsTrue, option_copied};
+ghost use Rattle.std.specs.Option.{option_map};
+ghost use Rattle.tcap_component.specs.Component.{CodeParts};
+ghost use Rattle.tcap_component.specs.Views.{body_parts, code_parts, problem_parts};
+ghost use Rattle.tcap_primitives.specs.RequestViews.{request_view};
+ghost use Rattle.tcap_model.specs.Words.InRange.{are_octets, are_octets_if_any, is_address, is_body, is_code, is_identifier, is_identifier_if_any, is_long, is_problem, is_request, is_short};
+
+use crate::request::Request;
+use tcap_address::Address;
+use tcap_component::{Body, Code, Problem};
+
+/// Each octet is below 256.
+pub fn octets(bytes: &[u8])
+    ensures { IsTrue (are_octets bytes.now) }
+{}
+
+/// The same, where there are any.
+fn octets_if_any(bytes: Option<&[u8]>)
+    ensures { IsTrue (are_octets_if_any (option_copied bytes.entry)) }
+{
+    if let Some(bytes) = bytes {
+        octets(bytes);
+    }
+}
+
+/// An address has at most 255 octets, each below 256.
+pub fn address(given: &Address)
+    ensures { IsTrue (is_address given.now) }
+{
+    octets(given.octets());
+}
+
+/// An invoke identifier is from -128 to 127.
+fn identifier(id: i8)
+    ensures { IsTrue (is_identifier id) }
+{}
+
+/// The same, where there is one.
+fn identifier_if_any(id: Option<i8>)
+    ensures { IsTrue (is_identifier_if_any id) }
+{
+    if let Some(id) = id {
+        identifier(id);
+    }
+}
+
+/// A dialogue identifier is below 2^32.
+pub fn short(number: u32)
+    ensures { IsTrue (is_short number) }
+{}
+
+/// A moment or a timeout is below 2^64.
+pub fn long(number: u64)
+    ensures { IsTrue (is_long number) }
+{}
+
+/// A local code has at most four octets.
+fn local_code(number: i32)
+    ensures { IsTrue (is_code (CodeParts.local number)) }
+{}
+
+/// The same, or a code is global and has octets.
+fn code(given: &Code<'_>)
+    ensures { IsTrue (is_code (code_parts given.now)) }
+{
+    match given {
+        Code::Local(number) => local_code(*number),
+        Code::Global(bytes) => octets(bytes),
+    }
+}
+
+/// The code and the parameter of a body.
+fn body(given: Option<Body<'_>>)
+    ensures { IsTrue (is_body (option_map body_parts given.entry)) }
+{
+    if let Some(given) = given {
+        code(&given.code);
+        octets_if_any(given.parameter);
+    }
+}
+
+/// A problem's code is at most 127.
+fn problem(given: Problem)
+    ensures { IsTrue (is_problem (problem_parts given)) }
+{
+    let _ = given.code();
+}
+
+/// The numbers of a request are those that its types hold.
+pub fn request(asked: &Request<'_>)
+    ensures { IsTrue (is_request (request_view asked.now)) }
+{
+    match asked {
+        Request::Invoke {
+            id,
+            class: _,
+            code: given,
+            parameter,
+            linked,
+            timeout_ms,
+        } => {
+            identifier(*id);
+            code(given);
+            octets_if_any(*parameter);
+            identifier_if_any(*linked);
+            long(*timeout_ms);
+        }
+        Request::ResultLast { id, body: given } | Request::ResultMore { id, body: given } => {
+            identifier(*id);
+            body(*given);
+        }
+        Request::ErrorBack {
+            id,
+            code: given,
+            parameter,
+        } => {
+            identifier(*id);
+            code(given);
+            octets_if_any(*parameter);
+        }
+        Request::Reject { id, problem: given } => {
+            identifier_if_any(*id);
+            problem(*given);
+        }
+        Request::Cancel { id } => identifier(*id),
+        Request::Uni { to, context, info } | Request::Begin { to, context, info } => {
+            address(to);
+            octets_if_any(*context);
+            octets(info);
+        }
+        Request::Continue { context, info } | Request::End { context, info, .. } => {
+            octets_if_any(*context);
+            octets(info);
+        }
+        Request::Abort { info, .. } => octets(info),
+    }
+}

@@ -1,0 +1,109 @@
+//! Whether the message of a request fits, and its octets.
+
+ghost use Rattle.std.specs.Prelude.{◌≡◌, option_copied, IfOk, IfSome, None, Some, not};
+ghost use Rattle.tcap_primitives.specs.SendingViews.{borne, reason_with, sending_view};
+ghost use Rattle.tcap_model.specs.Procedures.Refusals.{passes_message};
+ghost use Rattle.tcap_pdu.specs.DialogueDue.{content_fault};
+ghost use Rattle.tcap_pdu.specs.DialogueViews.{pdu_value};
+ghost use Rattle.tcap_pdu.specs.DialogueWritten.{HasDiagnostic};
+ghost use Rattle.tcap_pdu.specs.FrameViews.{message, reason_of};
+ghost use Rattle.tcap_pdu.specs.FrameWritten.{written_frame};
+
+use super::{Bearer, Sending};
+use ber_core::OutOfMemory;
+use std::alloc::Allocator;
+use tcap_pdu::{AbortPart, Frame, TransId, dialogue_len, frame_fits, write_dialogue, write_frame};
+
+/// What an Abort carries.
+fn reason<'a>(portion: Option<&'a [u8]>) -> AbortPart<'a>
+    ensures { reason_of result ≡ reason_with (option_copied portion.entry) }
+{
+    match portion {
+        None => AbortPart::Nothing,
+        Some(portion) => AbortPart::Dialogue(portion),
+    }
+}
+
+impl<'a> Bearer<'a> {
+    /// The message with this dialogue portion, if there is one.
+    fn frame<'b>(&'b self, dialogue: Option<&'b [u8]>) -> Frame<'b>
+        ensures { message result ≡ borne self.now (option_copied dialogue.entry) }
+    {
+        match self {
+            Bearer::Uni { components } => Frame::Uni {
+                dialogue,
+                components,
+            },
+            Bearer::Begin { origin, components } => Frame::Begin {
+                otid: TransId::of(*origin),
+                dialogue,
+                components,
+            },
+            Bearer::Continue {
+                origin,
+                peer,
+                components,
+            } => Frame::Continue {
+                otid: TransId::of(*origin),
+                dtid: peer.copied(),
+                dialogue,
+                components,
+            },
+            Bearer::End { peer, components } => Frame::End {
+                dtid: peer.copied(),
+                dialogue,
+                components,
+            },
+            Bearer::Abort { peer } => Frame::Abort {
+                dtid: peer.copied(),
+                reason: reason(dialogue),
+            },
+        }
+    }
+}
+
+/// The octets of a message with this dialogue portion, if there is one.
+#[tactic(auto, using(crate::proofs::SendingLemmas::bearer_cause))]
+fn framed<A: Allocator + Copy>(
+    alloc: A,
+    bearer: &Bearer<'_>,
+    dialogue: Option<&[u8]>,
+) -> Result<Vec<u8, A>, OutOfMemory>
+    ensures { IfOk result (λ v. v.items ≡ written_frame (borne bearer.now (option_copied dialogue.entry))) }
+{
+    let frame = bearer.frame(dialogue);
+    match write_frame(alloc, &frame) {
+        Ok(octets) => Ok(octets),
+        Err(_) => Err(OutOfMemory),
+    }
+}
+
+impl<'a> Sending<'a> {
+    /// Whether the message is within the limit, where the contents of its PDU are good.
+    pub fn fits(&self) -> bool
+        ensures { IfSome self.now.pdu (λ p. HasDiagnostic (pdu_value p) × (content_fault (pdu_value p) ≡ None)) → not result ≡ passes_message (Some (sending_view self.now)) }
+    {
+        let frame = self.bearer.frame(None);
+        match &self.pdu {
+            None => frame_fits(&frame, 0),
+            Some(pdu) => match dialogue_len(pdu) {
+                Some(len) => frame_fits(&frame, len),
+                None => false,
+            },
+        }
+    }
+
+    /// The octets of the message.
+    pub fn written<A: Allocator + Copy>(&self, alloc: A) -> Result<Vec<u8, A>, OutOfMemory>
+        requires { IfSome self.now.pdu (λ p. HasDiagnostic (pdu_value p)) }
+        ensures { IfOk result (λ v. v.items ≡ written_frame (sending_view self.now)) }
+    {
+        match &self.pdu {
+            None => framed(alloc, &self.bearer, None),
+            Some(pdu) => match write_dialogue(alloc, pdu) {
+                Ok(portion) => framed(alloc, &self.bearer, Some(&portion)),
+                Err(_) => Err(OutOfMemory),
+            },
+        }
+    }
+}

@@ -1,0 +1,4 @@
+pub mod GivenViews
+pub mod PortionViews
+pub mod ReceptionViews
+pub mod StateViews
