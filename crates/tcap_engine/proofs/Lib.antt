@@ -23,6 +23,7 @@ pub mod RoomLemmas
 pub mod RunLemmas
 pub mod SpentLemmas
 pub mod StandingLemmas
+pub mod StartLemmas
 pub mod TableLemmas
 pub mod TimedLemmas
 pub mod TimerLemmas

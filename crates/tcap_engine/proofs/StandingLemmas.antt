@@ -1,9 +1,9 @@
 -- From the engine's move to any history at which the engine stands.
 use Rattle.std.proofs.Common.{sym, subst, ◌∙◌, Result, Ok, Err}
 use Rattle.ber_core.specs.declared.fault.OutOfMemory.{OutOfMemory}
-use Rattle.tcap_dialogue.specs.declared.fault.Fault.{Fault}
-use Rattle.tcap_dialogue.specs.FaultViews.{fault_view}
-use Rattle.tcap_laws.proofs.CallerLemmas.{moves-alike, closings_are, outcome_told, counted, dialogues-bounded, identifiers-bounded, queues-bounded}
+use Rattle.tcap_primitives.specs.declared.fault.Fault.{Fault}
+use Rattle.tcap_primitives.specs.FaultViews.{fault_view}
+use Rattle.tcap_laws.proofs.CallerLemmas.{moves-alike, closings_are, outcome_told, plainly_decided, counted, dialogues-bounded, identifiers-bounded, queues-bounded}
 use Rattle.tcap_model.specs.Histories.History.{History}
 use Rattle.tcap_model.specs.Replies.Legal.{IsLegal}
 use Rattle.tcap_model.specs.Statements.EngineMoves.{MovesAlike, with_pair}
@@ -20,6 +20,7 @@ use Rattle.tcap_engine.specs.HistoryForm.{Headline, StandsOn, StandsRefused, Sta
 pub headline : (h : History) → IsLegal h → Headline h
 headline h legal = record {
   decided = λ n. closings_are h.start h.pairs n legal.1;
+  plainly = λ n. plainly_decided h n legal;
   outcome = λ n i found. outcome_told h.start h.pairs n i legal.1 found;
   counted = λ n. counted h n legal.1;
   bounded = record {

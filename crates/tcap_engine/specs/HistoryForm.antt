@@ -1,22 +1,24 @@
 -- What a call of an engine says of any history at which the engine stands.
 use Rattle.std.specs.Prelude.{◌≡◌, ℕ, Result, Ok, Err}
 use Rattle.ber_core.specs.declared.fault.OutOfMemory.{OutOfMemory}
-use Rattle.tcap_dialogue.specs.declared.fault.Fault.{Fault}
-use Rattle.tcap_dialogue.specs.FaultViews.{fault_view}
+use Rattle.tcap_primitives.specs.declared.fault.Fault.{Fault}
+use Rattle.tcap_primitives.specs.FaultViews.{fault_view}
 use Rattle.tcap_model.specs.Histories.History.{History}
 use Rattle.tcap_model.specs.Replies.Reply.{reply}
 use Rattle.tcap_model.specs.Statements.EngineMoves.{with_pair}
-use Rattle.tcap_model.specs.Statements.Headline.{Bounded, Counted, Decided, HasOutcome}
+use Rattle.tcap_model.specs.Statements.Headline.{Bounded, Counted, Decided, HasOutcome, PlainlyDecided}
 use Rattle.tcap_model.specs.Table.World.{World, StandsAt}
 use Rattle.tcap_model.specs.Words.Answer.{Answer}
 use Rattle.tcap_model.specs.Words.Event.{Event}
 use Rattle.tcap_model.specs.Words.Fault as model
 
--- Of each number: its closing indications are those that its decision asks for, tell its outcome, and
--- are at most one, and exactly one after its deadline or the end of its dialogue; and the engine keeps
--- within its bounds (own).
+-- Of each number: its closing indications are those that its decision asks for, which are none where it
+-- has no outcome, and else exactly one, in the answer to the event that decided it; they tell its outcome,
+-- and are at most one, and exactly one after its deadline or the end of its dialogue; and the engine
+-- keeps within its bounds (own).
 pub record Headline (h : History) : Type 0 where
   pub decided : (n : ℕ) → Decided h n
+  pub plainly : (n : ℕ) → PlainlyDecided h n
   pub outcome : (n : ℕ) → HasOutcome h n
   pub counted : (n : ℕ) → Counted h n
   pub bounded : Bounded h

@@ -113,8 +113,8 @@ EachAnswerIsGiven =
     IsGiven engine answer (happened h.start.idle_ms engine events (new_answers before after) trace)
 
 -- What happened to engines that hear one another meets Net, and of their answers the users at both ends may
--- rely on the origin of each answer, that it comes after the Invoke, that one closes at most, and on the
--- operations (own).
+-- rely on the origin of each answer, that it names its invocation and comes after the Invoke, that one closes
+-- at most, and on the operations (own).
 pub record RelyOnAll (net : Net) : Type 0 where
   pub is_net : IsNet net
   pub two_ends : TwoEnds net.places net.trace

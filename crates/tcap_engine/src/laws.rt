@@ -4,7 +4,7 @@
 
 ghost use Rattle.tcap_engine.specs.Alone.{EachAnswerIsAlone, EachRunIsAlone};
 ghost use Rattle.tcap_engine.specs.TwoEnds.{EachAnswerIsGiven, EachCallIsHeard, EachMayRely, EachRunIsHeard, EachSendIsSent, EachSendStays, NewOnesHear};
-ghost use Rattle.tcap_model.specs.Statements.Headline.{EachHasOutcome, EachIsBounded, EachIsCounted, EachIsDecided};
+ghost use Rattle.tcap_model.specs.Statements.Headline.{EachHasOutcome, EachIsBounded, EachIsCounted, EachIsDecided, EachIsPlainlyDecided};
 ghost use Rattle.tcap_model.specs.Statements.Isolation.{EachIsAlone};
 ghost use Rattle.tcap_model.specs.Statements.SentFrom.{EachIsSentFrom};
 ghost use Rattle.tcap_model.specs.Statements.SentInOrder.{EachIsSentInOrder};
@@ -14,7 +14,9 @@ ghost use Rattle.tcap_model.specs.Statements.TwoEnds.{EachIsTwoEnded};
 /// The closing indications of an invocation number are those that its decision asks for: none before its
 /// outcome, and then the one, in the answer to the event that decided it (Q.774, Invocation state machine).
 pub fn decided()
-    ensures { EachIsDecided }
+    ensures as_decided { EachIsDecided }
+    // None where there is no outcome; else one in all.
+    ensures plainly { EachIsPlainlyDecided }
 {}
 
 /// They tell the invocation's dialogue, its identifier and its outcome with the contents

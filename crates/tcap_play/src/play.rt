@@ -4,11 +4,11 @@ ghost use Rattle.std.specs.Prelude.{◌≡◌, ◌≤◌, ◌+◌, ℕ, List, []
 ghost use Rattle.std.specs.Option.{option_and_then};
 ghost use Rattle.tcap_engine.specs.EventViews.{event_view};
 ghost use Rattle.tcap_invocation.specs.Stage.{moment_limit};
-ghost use Rattle.tcap_model.specs.Table.World.{first_world};
+ghost use Rattle.tcap_model.specs.Table.World.{StandsAt};
 ghost use Rattle.tcap_model.specs.Words.Event.{Event as Happened};
 ghost use Rattle.tcap_play.specs.LineViews.{line_view, name_view};
 ghost use Rattle.tcap_play.specs.Pieces.{left, pieces_left};
-ghost use Rattle.tcap_play.specs.Play.{Fate as Became, Message as Sent, Played, behind, carried, followed, handed, lost_from, message_in, message_to, play_is_good, play_start, play_text_of, printed_from, received_from, sent_by, step, step_by};
+ghost use Rattle.tcap_play.specs.Play.{Fate as Became, Message as Sent, Played, behind, carried, followed, handed, history_of, lost_from, message_in, message_to, not_begun, play_is_good, play_text_of, printed_from, received_from, sent_by, step, step_by};
 ghost use Rattle.tcap_play.specs.PlayViews.{Does, GoesOn, HasStepped, IsAt, Loses, Receives, fate_view, messages_view};
 ghost use Rattle.tcap_play.specs.SideView.{side_view};
 ghost use Rattle.tcap_play.specs.Sides.{Engine as Which, address_of};
@@ -169,7 +169,7 @@ fn act_by<A: Allocator + Copy>(
 /// A side before the first line, with this idle limit.
 fn begun<A: Allocator + Copy>(alloc: A, idle_ms: u64) -> Station<A>
     requires { idle_ms ≤ moment_limit }
-    ensures engine { result.engine ≡ first_world (play_start idle_ms) }
+    ensures stands { (which : Which) → StandsAt (history_of which (not_begun idle_ms)) result.engine }
     ensures sent { result.sent.items ≡ [] }
 {
     let limits = Limits {

@@ -1,11 +1,14 @@
 //! A new engine, and what is seen of one.
 
 ghost use Rattle.std.specs.Prelude.{◌≡◌, ℕ, [], true, false, option_copied};
-ghost use Rattle.tcap_engine.specs.Limits.{AreLimits};
-ghost use Rattle.tcap_engine.specs.StateOf.{state_in};
+ghost use Rattle.tcap_engine.specs.Limits.{AreLimits, empty_history};
+ghost use Rattle.tcap_engine.specs.StateOf.{state_in, state_in_life};
 ghost use Rattle.tcap_engine.specs.NextTimer.{IsAccepted, IsChanged, IsStill, next_timer_in};
+ghost use Rattle.tcap_model.specs.Histories.Clock.{clock};
+ghost use Rattle.tcap_model.specs.Histories.History.{History};
+ghost use Rattle.tcap_model.specs.Histories.Life.{life};
 ghost use Rattle.tcap_model.specs.Table.EngineMove.{dialogue_in};
-ghost use Rattle.tcap_model.specs.Table.World.{first_world};
+ghost use Rattle.tcap_model.specs.Table.World.{StandsAt, first_world};
 ghost use Rattle.timed_table.specs.Row.{is_due};
 
 use super::Engine;
@@ -14,12 +17,15 @@ use crate::limits::Limits;
 use std::alloc::Allocator;
 use tcap_dialogue::{Dialogue, State};
 use tcap_invocation::MAX_MOMENT;
+use tcap_primitives::ranges;
 
 impl<A: Allocator + Copy> Engine<A> {
     /// An engine with clock 0 and no dialogues, whose first dialogue and first invocation are 1.
     pub fn new(alloc: A, limits: Limits) -> Engine<A>
         requires { AreLimits limits }
-        ensures { result ≡ first_world (record { max_dialogues = limits.max_dialogues; reject_ms = limits.reject_ms; idle_ms = limits.idle_ms; next_dialogue = 1; next_number = 1 }) }
+        ensures value { result ≡ first_world (record { max_dialogues = limits.max_dialogues; reject_ms = limits.reject_ms; idle_ms = limits.idle_ms; next_dialogue = 1; next_number = 1 }) }
+        // Nothing has happened.
+        ensures stands { StandsAt (empty_history limits 1 1) result }
     {
         Engine::resume(alloc, limits, 1, 1)
     }
@@ -28,8 +34,11 @@ impl<A: Allocator + Copy> Engine<A> {
     /// first dialogue and the number of its first invocation.
     pub fn resume(alloc: A, limits: Limits, next_dialogue: u32, next_number: u64) -> Engine<A>
         requires { AreLimits limits }
-        ensures { result ≡ first_world (record { max_dialogues = limits.max_dialogues; reject_ms = limits.reject_ms; idle_ms = limits.idle_ms; next_dialogue = next_dialogue; next_number = next_number }) }
+        ensures value { result ≡ first_world (record { max_dialogues = limits.max_dialogues; reject_ms = limits.reject_ms; idle_ms = limits.idle_ms; next_dialogue = next_dialogue; next_number = next_number }) }
+        ensures stands { StandsAt (empty_history limits next_dialogue next_number) result }
     {
+        ranges::short(next_dialogue);
+        ranges::long(next_number);
         Engine {
             limits,
             next_dialogue,
@@ -41,14 +50,18 @@ impl<A: Allocator + Copy> Engine<A> {
 
     /// The clock: the last moment that was accepted, in milliseconds, 0 to 2^62.
     pub fn now(&self) -> u64
-        ensures { result ≡ self.now.clock }
+        ensures value { result ≡ self.now.clock }
+        ensures stands { (h : History) → StandsAt h self.now → result ≡ clock h.pairs }
     {
         self.clock
     }
 
-    /// The state of the dialogue with this identifier, `None` where none stands.
+    /// The state of the dialogue with this identifier, `None` where none stands (Q.774, Transaction state
+    /// machine).
     pub fn state_of(&self, d: u32) -> Option<State>
-        ensures { result ≡ state_in self.now d }
+        ensures value { result ≡ state_in self.now d }
+        // That of its life: none before the birth, and none once it is over.
+        ensures stands { (h : History) → StandsAt h self.now → result ≡ state_in_life (life d h.pairs) }
     {
         self.dialogue_at(d).map(Dialogue::state)
     }

@@ -18,7 +18,7 @@ returns g c =
     (λ r tells. comes-back c.several_engines.ensures.begin c.several_engines.ensures.rely
     (record { max_dialogues = 1; reject_ms = 0; idle_ms = 0; next_dialogue = 1; next_number = 1 }) refl
     c.new-one.result c.new-other.result c.answered-asked.new.engine c.hand_on-heard.new.engine c.answered-replied.new.engine c.hand_on-told.new.engine
-    c.new-one.ensures c.new-other.ensures
+    c.new-one.ensures.value c.new-other.ensures.value
     (events_view c.asked_events.result) (events_view c.answering_events.result) asked heard replied told c.in_ok-here.here c.in_ok-there.there c.in_ok-here.ensures.value c.in_ok-there.ensures.value
     c.answered-asked.ensures (c.asked_events.ensures two_places 0 []) heard_it c.answered-replied.ensures (λ (net : Net). c.answering_events.ensures net.places 1 net.trace) told_it
     r.0 r.1 (subst (λ xs. TellsResult r.0 r.1 (answers_view xs)) c.as_slice-3.ensures.value tells))

@@ -1,5 +1,8 @@
 use Rattle.std.proofs.Common.{rules}
 use Rattle.tcap_engine.proofs.engine.Engine.new.Goals as goal
 
-pub returns : goal.returns
-returns g c = search rules
+pub returns-clause-value : goal.returns-clause-value
+returns-clause-value g c = search rules
+
+pub returns-clause-stands : goal.returns-clause-stands
+returns-clause-stands g c = c.resume.ensures.stands
