@@ -1,3 +1,4 @@
+pub mod CallerLemmas
 pub mod CanonicalComponents
 pub mod CanonicalFaults
 pub mod CanonicalFrame

@@ -2,7 +2,7 @@ use Rattle.std.proofs.Common.{◌∙◌, sym, subst}
 use Rattle.std.proofs.lemmas.Result.{IfOk-weaker}
 use Rattle.tcap_pdu.specs.FrameViews.{message}
 use Rattle.tcap_words.specs.Canonical.{IsHexLine}
-use Rattle.tcap_words.proofs.MessageSteps.{read-cause, text_good, flag_good, text_bad, flag_bad, bad_not_good, canonical_of-read}
+use Rattle.tcap_words.proofs.CallerLemmas.{read-cause, text_good, flag_good, text_bad, flag_bad, bad_not_good, canonical_of-read}
 use Rattle.tcap_text.proofs.canon.canon_text.Goals as goal
 
 pub frame_text-requires : goal.frame_text-requires

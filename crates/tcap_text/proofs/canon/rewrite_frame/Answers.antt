@@ -1,6 +1,6 @@
 use Rattle.std.proofs.lemmas.Result.{err_from_is_err_and}
 use Rattle.tcap_pdu.specs.FrameViews.{message}
-use Rattle.tcap_words.proofs.CanonicalFrame.{components_fault}
+use Rattle.tcap_words.proofs.CallerLemmas.{components_fault}
 use Rattle.tcap_text.proofs.canon.rewrite_frame.Goals as goal
 
 pub returns-in_err-components-clause-err : goal.returns-in_err-components-clause-err

@@ -1,4 +1,4 @@
-use Rattle.tcap_words.proofs.TextSteps.{after_one, after_two, all_three}
+use Rattle.tcap_words.proofs.CallerLemmas.{after_one, after_two, all_three}
 use Rattle.tcap_text.proofs.show.add_message.Goals as goal
 
 pub returns-in_ok-add_line-in-Uni-clause-text : goal.returns-in_ok-add_line-in-Uni-clause-text
