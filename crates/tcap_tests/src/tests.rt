@@ -3,6 +3,7 @@
 mod addressed;
 mod caller;
 mod devices;
+mod dialogue;
 mod examples;
 mod growths;
 mod limits;

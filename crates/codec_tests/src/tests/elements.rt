@@ -86,6 +86,18 @@ fn elements_one_in_another(rt: HostRuntime) -> Result<(), Fail> {
 }
 
 #[test]
+fn elements_open_to_the_limit(rt: HostRuntime) -> Result<(), Fail> {
+    let mut deepest = Vec::new(rt.alloc());
+    add_pairs(&mut deepest, [0x30, 0x80], 32)?;
+    add_pairs(&mut deepest, [0x00, 0x00], 32)?;
+    assert!(rt; lengths_of(deepest.as_slice()) == Some((124, 0)));
+    let mut too_deep = Vec::new(rt.alloc());
+    add_pairs(&mut too_deep, [0x30, 0x80], 33)?;
+    assert!(rt; fault_of(too_deep.as_slice()) == Some(BerFault::TooDeep));
+    Ok(())
+}
+
+#[test]
 fn whole_longer_than_a_length(rt: HostRuntime) -> Result<(), Fail> {
     let mut bytes = Vec::new(rt.alloc());
     add_pairs(&mut bytes, [0x30, 0x80], 1)?;

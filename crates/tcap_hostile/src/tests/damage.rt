@@ -275,6 +275,7 @@ fn damaged_messages(rt: HostRuntime) -> Result<(), Fail> {
         let set_count = settings(alloc, message.as_slice()).ok_or(hex)?;
         total = total.saturating_add(front_count).saturating_add(set_count);
     }
-    assert!(rt; total > 400_000, "{total} messages");
+    // The messages have 1,739 octets, and each has 256 values, and begins a front.
+    assert!(rt; total == 1_739 * 257, "{total} messages");
     Ok(())
 }

@@ -87,6 +87,14 @@ pub(super) const SCRIPT: &[u8] =
 pub(super) const PLAYED: &[u8] =
     b"A new 1\nA number 1\nA send A1 62104804000000016c08a10602010102010a\nB begin 1 context - info -\nB invoked 1 id 1 linked - op local 10 param -\nB begin 2 context - info -\nB invoked 2 id 1 linked - op local 10 param -\nB done\nB send B1 651b4804000000014904000000016c0da20b020101300602010a0401aa\nB done\nB send B2 651b4804000000024904000000016c0da20b020101300602010a0401bb\nA continue 1 context - info -\nA last 1 id 1 number 1 op local 10 param 0401bb\nA continue 1 context - info -\nA localreject 1 id 1 result 0\n";
 
+/// The example "A lost End".
+const LOST_SCRIPT: &[u8] =
+    b"A new\nA invoke 1 1 1 10 5000 - -\nA begin 1 - -\ndeliver A1\nB more 1 1 10 0401AA\nB continue 1 - -\ndeliver B1\nagain B1\nB last 1 1 10 0401BB\nB end 1 - -\nlose B2\nadvance 5000\nA prearranged 1\n";
+
+/// What it prints.
+const LOST: &[u8] =
+    b"A new 1\nA number 1\nA send A1 62104804000000016c08a10602010102010a\nB begin 1 context - info -\nB invoked 1 id 1 linked - op local 10 param -\nB done\nB send B1 651b4804000000014904000000016c0da70b020101300602010a0401aa\nA continue 1 context - info -\nA more 1 id 1 number 1 op local 10 param 0401aa\nA continue 1 context - info -\nA more 1 id 1 number 1 op local 10 param 0401aa\nB done\nB send B2 64154904000000016c0da20b020101300602010a0401bb\nA lapsed 1 id 1 number 1\n";
+
 /// Two Begins, and the front of a third.
 const STREAM: &[u8] = &[
     0x62, 0x06, 0x48, 0x04, 0x00, 0x00, 0x00, 0x01, 0x62, 0x06, 0x48, 0x04, 0x00, 0x00, 0x00, 0x01,
@@ -95,6 +103,15 @@ const STREAM: &[u8] = &[
 
 /// The lines of its first Begin, of the second, and of the front, one after another.
 const LINES: [&[u8]; 4] = [b"", b"good\n", b"good\ngood\n", b"good\ngood\nrest 3\n"];
+
+/// A Begin with an Invoke, and the front of another, of "Stream and play endings".
+const ENDING: &[u8] = &[
+    0x62, 0x15, 0x48, 0x04, 0x00, 0x00, 0x00, 0x01, 0x6c, 0x0d, 0xa1, 0x0b, 0x02, 0x01, 0x01, 0x02,
+    0x01, 0x02, 0x30, 0x03, 0x04, 0x01, 0xaa, 0x62, 0x15, 0x48,
+];
+
+/// A Begin, and an octet that no element begins with: "A stream with a fault".
+const FAULTY: &[u8] = &[0x62, 0x06, 0x48, 0x04, 0x00, 0x00, 0x00, 0x01, 0x00];
 
 /// What a run of the command gave, by what it wrote and its status, beside those that are wanted. Where memory
 /// was refused, what is written has to be one of these texts.
@@ -132,22 +149,16 @@ fn command_with_each_growth_refused(rt: HostRuntime) -> Result<(), Fail> {
         (&["show", BEGIN], b"", (0, SHOWN), &LINES[..1], 2),
         (&["check", BEGIN], b"", (0, b"good\n"), &LINES[..1], 2),
         (&["canon", BEGIN], b"", (0, REWRITTEN), &LINES[..1], 6),
-        (&["play"], SCRIPT, (0, PLAYED), &LINES[..1], 20),
-        (
-            &["play"],
-            IDLE_SCRIPT.as_bytes(),
-            (0, IDLE_TEXT.as_bytes()),
-            &LINES[..1],
-            6,
-        ),
-        (
-            &["play"],
-            ADDRESSES_SCRIPT.as_bytes(),
-            (1, ADDRESSES_TEXT.as_bytes()),
-            &LINES[..1],
-            8,
-        ),
         (&["stream"], STREAM, (1, LINES[3]), &LINES[..3], 4),
+        (&["stream"], ENDING, (1, b"good\nrest 3\n"), &LINES[..2], 2),
+        (
+            &["stream"],
+            FAULTY,
+            (1, b"good\nfault stream ber 2\n"),
+            &LINES[..2],
+            2,
+        ),
+        (&["stream"], b"", (0, b""), &LINES[..1], 0),
     ];
     for (words, input, wanted, left, least) in rows {
         let growths = refused_growths(
@@ -157,6 +168,58 @@ fn command_with_each_growth_refused(rt: HostRuntime) -> Result<(), Fail> {
         assert!(rt;
             growths.is_some_and(|count| count >= least),
             "at {words:?}, {growths:?}"
+        );
+    }
+    Ok(())
+}
+
+#[test]
+fn plays_with_each_growth_refused(rt: HostRuntime) -> Result<(), Fail> {
+    let alloc = rt.alloc();
+    let heap = Refusing::new(alloc);
+    let idle = IDLE_SCRIPT.as_bytes();
+    let addresses = ADDRESSES_SCRIPT.as_bytes();
+    let rows: [(&[u8], &[u8], u8, &[u8], &[u8], u64); 10] = [
+        // The script, and what stands behind it; the status, what is written, and what stands behind that;
+        // the least number of growths.
+        (SCRIPT, b"", 0, PLAYED, b"", 20),
+        (idle, b"", 0, IDLE_TEXT.as_bytes(), b"", 6),
+        (addresses, b"", 1, ADDRESSES_TEXT.as_bytes(), b"", 8),
+        (LOST_SCRIPT, b"", 0, LOST, b"", 20),
+        (LOST_SCRIPT, b"deliver B2\n", 1, LOST, b"line 14 bad\n", 20),
+        (
+            b"A new\n",
+            b"A new 1\n",
+            1,
+            b"A new 1\n",
+            b"line 2 bad\n",
+            3,
+        ),
+        (b"A begin 9 - -\n", b"", 0, b"A refused 2\n", b"", 2),
+        (b"deliver A1\n", b"", 1, b"line 1 bad\n", b"", 2),
+        (b"A  new\n", b"", 1, b"line 1 bad\n", b"", 2),
+        (b"", b"", 0, b"", b"", 0),
+    ];
+    for (script, more, status, written, behind, least) in rows {
+        let mut input = script.to_vec(alloc)?;
+        input.extend_from_slice(more)?;
+        let mut text = written.to_vec(alloc)?;
+        text.extend_from_slice(behind)?;
+        let wanted = (status, text.as_slice());
+        let growths = refused_growths(
+            &heap,
+            || outcome_of_run(
+                alloc,
+                &heap,
+                &["play"],
+                input.as_slice(),
+                wanted,
+                &LINES[..1],
+            ),
+        );
+        assert!(rt;
+            growths.is_some_and(|count| count >= least),
+            "at {script:?}, {growths:?}"
         );
     }
     Ok(())
