@@ -31,7 +31,12 @@ impl Node {
 
 /// The address of the peer: one octet.
 pub(crate) fn peer() -> Address {
-    match Address::new(&[0x02]) {
+    address(0x02)
+}
+
+/// An address of one octet.
+pub(crate) fn address(octet: u8) -> Address {
+    match Address::new(&[octet]) {
         Some(address) => address,
         None => unreachable!(),
     }

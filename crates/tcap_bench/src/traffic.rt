@@ -8,7 +8,7 @@ mod requests;
 
 ghost use Rattle.std.specs.Prelude.{◌≡◌, IfSome};
 
-use crate::node::peer;
+use crate::node::address;
 use digest::Digest;
 use lot::Lot;
 use std::alloc::Global;
@@ -116,9 +116,10 @@ fn digest_of(traffic: &mut Traffic, places: &mut [u32], turns: u32) -> Option<u6
     requires { traffic.old.digest.value ≡ 0 }
     ensures { (turns ≡ 0) → IfSome result (λ digest. digest ≡ 0) }
 {
-    let peer = peer();
+    let peers = [address(0x02), address(0x03), address(0x04)];
     for _ in 0..turns {
-        traffic.go_on_somewhere(&peer, places)?;
+        let peer = peers.get(traffic.lot.below(3) as usize)?;
+        traffic.go_on_somewhere(peer, places)?;
     }
     Some(traffic.digest.value())
 }
@@ -127,10 +128,14 @@ fn digest_of(traffic: &mut Traffic, places: &mut [u32], turns: u32) -> Option<u6
 pub fn traffic_digest(alloc: Global, seed: u64, dialogues: u16, turns: u32) -> u64
     ensures { (turns ≡ 0) → (result ≡ 0) }
 {
+    let mut lot = Lot::new(seed);
+    // A turn takes a millisecond in the mean, so a dialogue is drawn some 16 times at most until it has stood
+    // still too long.
+    let longest = (dialogues as u32).saturating_mul(16);
     let limits = Limits {
         max_dialogues: 65_535,
         reject_ms: REJECT_MS,
-        idle_ms: 0,
+        idle_ms: lot.below(longest) as u64 + 1,
     };
     let Ok(mut places) = vec![in alloc; 0u32; dialogues as usize] else {
         return 0;
@@ -138,7 +143,7 @@ pub fn traffic_digest(alloc: Global, seed: u64, dialogues: u16, turns: u32) -> u
     let mut traffic = Traffic {
         engine: Engine::new(alloc, limits),
         dialogues: dialogues as u32,
-        lot: Lot::new(seed),
+        lot,
         digest: Digest::new(),
     };
     match digest_of(&mut traffic, &mut places, turns) {
