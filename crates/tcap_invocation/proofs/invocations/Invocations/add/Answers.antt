@@ -34,3 +34,12 @@ returns-clause-ok g c =
     let new : c.insert.new.self.entries ≡ c.self.inside.entries.entries ++ (c.args.id, e) ∷ [] =
     rw (to_z-of_z w8 c.args.id c.ranges.id) at c.in_ok-insert.ensures.entries ∙ insert_entry-new int_eq c.self.inside.entries c.args.id e none in
     rw (new, ← c.self.view_is) refl
+
+pub returns-then-timeout-eq0-clause-due : goal.returns-then-timeout-eq0-clause-due
+returns-then-timeout-eq0-clause-due g c = search rules
+
+pub returns-then-timeout-eq0-clause-bad_timeout : goal.returns-then-timeout-eq0-clause-bad_timeout
+returns-then-timeout-eq0-clause-bad_timeout g c = search rules
+
+pub returns-then-timeout-eq0-clause-in_use : goal.returns-then-timeout-eq0-clause-in_use
+returns-then-timeout-eq0-clause-in_use g c = search rules
