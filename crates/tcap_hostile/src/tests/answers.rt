@@ -5,7 +5,7 @@ use ber_core::OutOfMemory;
 use std::alloc::{Allocator, Global};
 use std::fmt::Debug;
 use tcap_component::Problem;
-use tcap_engine::{Address, Answer, By, DropWhy, Output, Why};
+use tcap_engine::{Address, By, DropWhy, Output, Why};
 use tcap_pdu::DialoguePdu;
 use tcap_text::{
     body_text, coded_text, identifier_text, octets_or_dash, optional_octets_or_dash, pdu_text,
@@ -45,6 +45,18 @@ fn begin_line(told: &mut String, word: &str, dialogue: Option<u32>) -> Option<()
     }
 }
 
+/// Begins the line of an indication that names an invocation, `-` where it names none.
+fn begin_identified(
+    alloc: Global,
+    told: &mut String,
+    word: &str,
+    dialogue: Option<u32>,
+    id: Option<i8>,
+) -> Option<()> {
+    begin_line(told, word, dialogue)?;
+    add_words(told, " id", identifier_text(alloc, id))
+}
+
 /// Begins the line of an indication that tells of an invocation.
 fn begin_numbered(told: &mut String, word: &str, dialogue: u32, id: i8, number: u64) -> Option<()> {
     write!(told, "  {word} {dialogue} id {id} number {number}").ok()
@@ -59,6 +71,19 @@ fn add_portion(
 ) -> Option<()> {
     add_words(told, " context", optional_octets_or_dash(alloc, context))?;
     add_words(told, " info", octets_or_dash(alloc, info))
+}
+
+/// Adds an indication of a message with a dialogue portion.
+fn add_indication(
+    alloc: Global,
+    told: &mut String,
+    word: &str,
+    dialogue: u32,
+    context: Option<&[u8]>,
+    info: &[u8],
+) -> Option<()> {
+    begin_line(told, word, Some(dialogue))?;
+    add_portion(alloc, told, context, info)
 }
 
 /// Adds a message that is sent; where it goes, if it isn't the address 01.
@@ -111,26 +136,17 @@ fn add_output<A: Allocator>(
             dialogue,
             context,
             info,
-        } => {
-            begin_line(told, "begin", Some(*dialogue))?;
-            add_portion(alloc, told, *context, info)
-        }
+        } => add_indication(alloc, told, "begin", *dialogue, *context, info),
         Output::Continue {
             dialogue,
             context,
             info,
-        } => {
-            begin_line(told, "continue", Some(*dialogue))?;
-            add_portion(alloc, told, *context, info)
-        }
+        } => add_indication(alloc, told, "continue", *dialogue, *context, info),
         Output::End {
             dialogue,
             context,
             info,
-        } => {
-            begin_line(told, "end", Some(*dialogue))?;
-            add_portion(alloc, told, *context, info)
-        }
+        } => add_indication(alloc, told, "end", *dialogue, *context, info),
         _ => add_abort(alloc, told, output),
     }
 }
@@ -168,8 +184,7 @@ fn add_component<A: Allocator>(
             code,
             parameter,
         } => {
-            begin_line(told, "invoked", *dialogue)?;
-            add_words(told, " id", identifier_text(alloc, Some(*id)))?;
+            begin_identified(alloc, told, "invoked", *dialogue, Some(*id))?;
             add_words(told, " linked", identifier_text(alloc, *linked))?;
             add_words(told, " op", coded_text(alloc, code, *parameter))
         }
@@ -187,8 +202,7 @@ fn add_component<A: Allocator>(
             id,
             problem,
         } => {
-            begin_line(told, "localreject", *dialogue)?;
-            add_words(told, " id", identifier_text(alloc, *id))?;
+            begin_identified(alloc, told, "localreject", *dialogue, *id)?;
             add_words(told, "", problem_text(alloc, *problem))
         }
         Output::RemoteReject {
@@ -197,8 +211,7 @@ fn add_component<A: Allocator>(
             problem,
             by,
         } => {
-            begin_line(told, "remotereject", *dialogue)?;
-            add_words(told, " id", identifier_text(alloc, *id))?;
+            begin_identified(alloc, told, "remotereject", *dialogue, *id)?;
             add_reject(alloc, told, *problem, *by)
         }
         _ => add_closing(alloc, told, output),
@@ -281,20 +294,4 @@ pub(super) fn add_outputs<A: Allocator>(
         write!(told, "\n").ok()?;
     }
     Some(())
-}
-
-/// Adds the lines of an answer.
-pub(super) fn add_answer<A: Allocator>(
-    alloc: Global,
-    told: &mut String,
-    answer: &Answer<'_, A>,
-) -> Option<()> {
-    match answer {
-        Answer::NewDialogue(dialogue) => add_numbered(told, "new", u64::from(*dialogue)),
-        Answer::Number(number) => add_numbered(told, "number", *number),
-        Answer::Done => add_line(told, "done"),
-        Answer::GivenUp(number) => add_numbered(told, "givenup", *number),
-        Answer::Outputs(outputs) => add_outputs(alloc, told, outputs.as_slice()),
-        Answer::Refused(fault) => add_numbered(told, "refused", u64::from(fault.number())),
-    }
 }

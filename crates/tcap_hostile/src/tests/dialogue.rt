@@ -3,7 +3,7 @@
 use super::answers::{add_line, add_numbered, add_outputs, add_value};
 use super::invocations::add_lapses;
 use super::subject::Told;
-use super::words::{Word, event_of, peer, text};
+use super::words::{Word, event_of, number, peer, text};
 use ber_core::OutOfMemory;
 use std::alloc::{Allocator, Global};
 use tcap_dialogue::{Dialogue, Fault, Request, State, Step};
@@ -178,6 +178,16 @@ fn look_at<A: Allocator + Copy>(
     }
 }
 
+/// Adds what lapses of one invocation: `one ID MS`.
+fn add_one<A: Allocator + Copy>(
+    dialogue: &mut Dialogue<A>,
+    words: &[Word<'_>],
+    told: &mut String,
+) -> Option<()> {
+    let id = number(words, 1)?;
+    add_lapse_number(told, dialogue.lapse_one(id, number(words, 2)?))
+}
+
 /// What a dialogue tells of time and of itself: `due MS`, `first MS`, `one ID MS`, `free MS`, `next`, `state`,
 /// `kept`.
 fn look<A: Allocator + Copy>(
@@ -190,11 +200,8 @@ fn look<A: Allocator + Copy>(
         "state" => add_state(told, dialogue)?,
         "kept" => add_kept(alloc, told, dialogue)?,
         "next" => add_value(told, &dialogue.next_timer())?,
-        "one" => {
-            let (id, clock) = (text(words, 1).parse().ok()?, text(words, 2).parse().ok()?);
-            add_lapse_number(told, dialogue.lapse_one(id, clock))?;
-        }
-        _ => look_at(dialogue, text(words, 0), text(words, 1).parse().ok()?, told)?,
+        "one" => add_one(dialogue, words, told)?,
+        word => look_at(dialogue, word, number(words, 1)?, told)?,
     }
     Some(Told::Small)
 }
@@ -227,6 +234,25 @@ fn take<A: Allocator + Copy>(
     }
 }
 
+/// `lapse MS`.
+fn lapse<A: Allocator + Copy>(
+    dialogue: &mut Dialogue<A>,
+    words: &[Word<'_>],
+    told: &mut String,
+) -> Option<Told> {
+    add_lapses(told, dialogue.lapse(number(words, 1)?))
+}
+
+/// `fault CAUSE`.
+fn take_fault<A: Allocator + Copy>(
+    alloc: Global,
+    dialogue: &mut Dialogue<A>,
+    words: &[Word<'_>],
+    told: &mut String,
+) -> Option<Told> {
+    add_taken(alloc, told, dialogue.take_fault(number(words, 1)?))
+}
+
 /// What a dialogue tells of a line: `fault CAUSE`, `lapse MS`, those of `look`, or an event.
 pub(super) fn tell<A: Allocator + Copy>(
     alloc: Global,
@@ -239,11 +265,8 @@ pub(super) fn tell<A: Allocator + Copy>(
         "due" | "first" | "one" | "free" | "next" | "state" | "kept" => {
             look(alloc, dialogue, words, told)
         }
-        "lapse" => add_lapses(told, dialogue.lapse(text(words, 1).parse().ok()?)),
-        "fault" => {
-            let cause: u8 = text(words, 1).parse().ok()?;
-            add_taken(alloc, told, dialogue.take_fault(cause))
-        }
+        "lapse" => lapse(dialogue, words, told),
+        "fault" => take_fault(alloc, dialogue, words, told),
         _ => take(alloc, heap, dialogue, words, told),
     }
 }

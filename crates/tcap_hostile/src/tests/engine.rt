@@ -3,10 +3,10 @@
 use super::answers::{add_numbered, add_outputs, add_value};
 use super::dialogue::{add_fault, add_given_up, add_invoked, add_queued};
 use super::subject::Told;
-use super::words::{Word, event_of, peer, text};
+use super::words::{Word, event_of, number, peer, text};
 use ber_core::OutOfMemory;
 use std::alloc::{Allocator, Global};
-use tcap_engine::{Engine, Event, Fault, Limits, Output, Request};
+use tcap_engine::{Address, Engine, Event, Fault, Limits, Output, Request};
 
 /// A new engine of at most 4 dialogues, or at `1` of at most one; at `idle` with an idle limit of 500
 /// milliseconds.
@@ -52,26 +52,36 @@ fn add_told<A: Allocator>(
     }
 }
 
-/// A request of component handling, or of dialogue handling.
-fn ask<A: Allocator + Copy>(
-    alloc: Global,
+/// An Invoke, by a request for one.
+fn invoke<A: Allocator + Copy>(
+    engine: &mut Engine<A>,
+    d: u32,
+    request: Request<'_>,
+    told: &mut String,
+) -> Option<Told> {
+    let Request::Invoke {
+        id,
+        class,
+        code,
+        parameter,
+        linked,
+        timeout_ms,
+    } = request
+    else {
+        return None;
+    };
+    let invoked = engine.invoke(d, id, class, code, parameter, linked, timeout_ms);
+    add_invoked(told, invoked)
+}
+
+/// A request of component handling.
+fn ask_component<A: Allocator + Copy>(
     engine: &mut Engine<A>,
     d: u32,
     request: Request<'_>,
     told: &mut String,
 ) -> Option<Told> {
     match request {
-        Request::Invoke {
-            id,
-            class,
-            code,
-            parameter,
-            linked,
-            timeout_ms,
-        } => {
-            let invoked = engine.invoke(d, id, class, code, parameter, linked, timeout_ms);
-            add_invoked(told, invoked)
-        }
         Request::ResultLast { id, body } => add_queued(told, engine.result_last(d, id, body)),
         Request::ResultMore { id, body } => add_queued(told, engine.result_more(d, id, body)),
         Request::ErrorBack {
@@ -81,6 +91,19 @@ fn ask<A: Allocator + Copy>(
         } => add_queued(told, engine.error_back(d, id, code, parameter)),
         Request::Reject { id, problem } => add_queued(told, engine.u_reject(d, id, problem)),
         Request::Cancel { id } => add_given_up(told, engine.u_cancel(d, id)),
+        _ => invoke(engine, d, request, told),
+    }
+}
+
+/// A request of dialogue handling, or of component handling.
+fn ask<A: Allocator + Copy>(
+    alloc: Global,
+    engine: &mut Engine<A>,
+    d: u32,
+    request: Request<'_>,
+    told: &mut String,
+) -> Option<Told> {
+    match request {
         Request::Uni { to, context, info } => {
             add_told(alloc, told, engine.uni(d, to, context, info))
         }
@@ -96,6 +119,7 @@ fn ask<A: Allocator + Copy>(
             info,
         } => add_told(alloc, told, engine.finish(d, ending, context, info)),
         Request::Abort { why, info } => add_told(alloc, told, engine.u_abort(d, why, info)),
+        _ => ask_component(engine, d, request, told),
     }
 }
 
@@ -110,6 +134,20 @@ fn add_new(told: &mut String, born: Result<u32, Fault>) -> Option<Told> {
     }
 }
 
+/// What an engine tells of octets from this address.
+fn receive<A: Allocator + Copy>(
+    alloc: Global,
+    engine: &mut Engine<A>,
+    from: &Address,
+    bytes: &[u8],
+    told: &mut String,
+) -> Option<Told> {
+    match engine.receive(from, bytes) {
+        Ok(outputs) => add_told(alloc, told, Ok(outputs)),
+        Err(OutOfMemory) => Some(Told::NoMemory),
+    }
+}
+
 /// What an engine tells of an event.
 fn take<A: Allocator + Copy>(
     alloc: Global,
@@ -119,10 +157,7 @@ fn take<A: Allocator + Copy>(
 ) -> Option<Told> {
     match event {
         Event::NewDialogue => add_new(told, engine.new_dialogue()),
-        Event::Bytes(from, bytes) => match engine.receive(from, bytes) {
-            Ok(outputs) => add_told(alloc, told, Ok(outputs)),
-            Err(OutOfMemory) => Some(Told::NoMemory),
-        },
+        Event::Bytes(from, bytes) => receive(alloc, engine, from, bytes, told),
         Event::Moment(now) => add_told(alloc, told, engine.advance(now)),
         Event::On { dialogue, request } => ask(alloc, engine, dialogue, request, told),
     }
@@ -138,10 +173,21 @@ fn look<A: Allocator + Copy>(
         "now" => add_numbered(told, "now", engine.now()),
         "next" => add_value(told, &engine.next_timer()),
         _ => {
-            let state = engine.state_of(text(words, 1).parse().ok()?);
+            let state = engine.state_of(number(words, 1)?);
             write!(told, "  state {state:?}\n").ok()
         }
     }
+}
+
+/// What an engine tells of a line that stands for an event.
+fn take_line<A: Allocator + Copy>(
+    alloc: Global,
+    engine: &mut Engine<A>,
+    words: &[Word<'_>],
+    told: &mut String,
+) -> Option<Told> {
+    let peer = peer();
+    take(alloc, engine, event_of(words, &peer)?, told)
 }
 
 /// What an engine tells of a line: one of those of `look`, or an event.
@@ -156,9 +202,6 @@ pub(super) fn tell<A: Allocator + Copy>(
             look(engine, words, told)?;
             Some(Told::Small)
         }
-        _ => {
-            let peer = peer();
-            take(alloc, engine, event_of(words, &peer)?, told)
-        }
+        _ => take_line(alloc, engine, words, told),
     }
 }

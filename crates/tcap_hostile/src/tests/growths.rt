@@ -6,6 +6,7 @@ use super::examples::{
 };
 use super::played::{Player, Refusal, growths, play};
 use super::runs::run_growths;
+use super::subject::Heap;
 use refusing::Refusing;
 use std::alloc::Global;
 use std::test::Fail;
@@ -31,45 +32,74 @@ fn behind_title(part: &str) -> Option<&str> {
     Some(example)
 }
 
-/// Plays each of these examples, or tells the first that doesn't come out as it stands.
-fn add_told<'e>(alloc: Global, total: &mut Total, examples: &'e str) -> Result<(), &'e str> {
-    let heap = Refusing::new(alloc);
+/// How an example is handed to its subject.
+#[derive(Clone, Copy)]
+enum Way {
+    /// Line by line, also with the first growth of each call refused.
+    Told,
+    /// Its events by `run`.
+    Handed,
+}
+
+/// How many growths an example has; nothing where it doesn't come out as it stands.
+fn growths_by(alloc: Global, heap: Heap<'_>, way: Way, example: &str) -> Option<u64> {
+    if matches!(way, Way::Handed) {
+        return run_growths(alloc, heap, example);
+    }
     let player = Player {
         alloc,
-        heap: &heap,
+        heap,
         refusal: Refusal::FirstOfEachCall,
     };
-    for example in examples.split('#').filter_map(behind_title) {
-        play(player, example).ok_or(example)?;
-        total.add(growths(alloc, &heap, example).ok_or(example)?);
+    play(player, example)?;
+    growths(alloc, heap, example)
+}
+
+/// Plays the examples of a text, or tells the first that doesn't come out as it stands.
+fn add_examples<'e>(
+    alloc: Global,
+    heap: Heap<'_>,
+    way: Way,
+    total: &mut Total,
+    text: &'e str,
+) -> Result<(), &'e str> {
+    for example in text.split('#').filter_map(behind_title) {
+        total.add(growths_by(alloc, heap, way, example).ok_or(example)?);
     }
     Ok(())
 }
 
-/// Hands the events of each of these examples to `run`, or tells the first whose answers aren't those that stand.
-fn add_handed<'e>(alloc: Global, total: &mut Total, examples: &'e str) -> Result<(), &'e str> {
+/// Plays the examples of a text, by memory of its own.
+fn add_text<'e>(alloc: Global, way: Way, total: &mut Total, text: &'e str) -> Result<(), &'e str> {
     let heap = Refusing::new(alloc);
-    for example in examples.split('#').filter_map(behind_title) {
-        total.add(run_growths(alloc, &heap, example).ok_or(example)?);
+    add_examples(alloc, &heap, way, total, text)
+}
+
+/// Plays the examples of these texts.
+fn total_of<'e>(alloc: Global, way: Way, texts: &[&'e str]) -> Result<Total, &'e str> {
+    let mut total = Total::default();
+    for text in texts {
+        add_text(alloc, way, &mut total, text)?;
     }
-    Ok(())
+    Ok(total)
 }
 
 #[test]
 fn examples_with_each_growth_refused(rt: HostRuntime) -> Result<(), Fail> {
     let alloc = rt.alloc();
-    let mut total = Total::default();
-    add_told(alloc, &mut total, MESSAGES)?;
-    add_told(alloc, &mut total, OUTCOMES)?;
-    add_told(alloc, &mut total, REQUESTS)?;
-    add_told(alloc, &mut total, IDLE)?;
-    add_told(alloc, &mut total, ADDRESSES)?;
-    add_told(alloc, &mut total, CALLS)?;
-    add_told(alloc, &mut total, DIALOGUES)?;
-    add_told(alloc, &mut total, INVOCATIONS)?;
-    add_told(alloc, &mut total, FEEDS)?;
-    add_told(alloc, &mut total, CODEC)?;
-    let Total { examples, growths } = total;
+    let texts = [
+        MESSAGES,
+        OUTCOMES,
+        REQUESTS,
+        IDLE,
+        ADDRESSES,
+        CALLS,
+        DIALOGUES,
+        INVOCATIONS,
+        FEEDS,
+        CODEC,
+    ];
+    let Total { examples, growths } = total_of(alloc, Way::Told, texts.as_slice())?;
     assert!(rt;
         examples == 90 && growths > 1_100,
         "{examples} examples, {growths} growths"
@@ -80,13 +110,8 @@ fn examples_with_each_growth_refused(rt: HostRuntime) -> Result<(), Fail> {
 #[test]
 fn runs_with_each_growth_refused(rt: HostRuntime) -> Result<(), Fail> {
     let alloc = rt.alloc();
-    let mut total = Total::default();
-    add_handed(alloc, &mut total, MESSAGES)?;
-    add_handed(alloc, &mut total, OUTCOMES)?;
-    add_handed(alloc, &mut total, REQUESTS)?;
-    add_handed(alloc, &mut total, IDLE)?;
-    add_handed(alloc, &mut total, ADDRESSES)?;
-    let Total { examples, growths } = total;
+    let texts = [MESSAGES, OUTCOMES, REQUESTS, IDLE, ADDRESSES];
+    let Total { examples, growths } = total_of(alloc, Way::Handed, texts.as_slice())?;
     assert!(rt;
         examples == 51 && growths > 900,
         "{examples} examples, {growths} growths"

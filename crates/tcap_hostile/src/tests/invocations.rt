@@ -1,8 +1,8 @@
 //! A list of invocations, asked by the names of its calls.
 
-use super::answers::{add_line, add_numbered};
+use super::answers::{add_line, add_numbered, add_value};
 use super::subject::Told;
-use super::words::{Word, class, kind, text};
+use super::words::{Word, class, kind, number, text};
 use ber_core::OutOfMemory;
 use std::alloc::Allocator;
 use tcap_invocation::{AddFault, Class, Invocations, Lapse, MAX_MOMENT, Verdict};
@@ -74,9 +74,10 @@ fn add<A: Allocator + Copy>(
     words: &[Word<'_>],
     told: &mut String,
 ) -> Option<Told> {
-    let (id, number) = (text(words, 1).parse().ok()?, text(words, 2).parse().ok()?);
-    let (class, timeout) = (class(text(words, 3))?, text(words, 4).parse().ok()?);
-    add_added(told, added(list, id, number, class, timeout)?)
+    let id = number(words, 1)?;
+    let class = class(text(words, 3))?;
+    let timeout = number(words, 4)?;
+    add_added(told, added(list, id, number(words, 2)?, class, timeout)?)
 }
 
 /// Adds lapses, or tells that memory was refused.
@@ -117,10 +118,10 @@ fn receive<A: Allocator + Copy>(
     words: &[Word<'_>],
 ) -> Option<Verdict> {
     if text(words, 0) == "error" {
-        let clock: u64 = text(words, 2).parse().ok()?;
+        let clock: u64 = number(words, 2)?;
         return Some(list.on_error(id, clock.min(MAX_MOMENT)));
     }
-    let clock: u64 = text(words, 3).parse().ok()?;
+    let clock: u64 = number(words, 3)?;
     Some(list.on_result(id, text(words, 2) == "last", clock.min(MAX_MOMENT)))
 }
 
@@ -130,49 +131,83 @@ fn add_open<A: Allocator + Copy>(told: &mut String, list: &Invocations<A>, id: i
     write!(told, "  open {open} used {used}\n").ok()
 }
 
-/// What is said of one identifier: those of `receive`, `reject ID KIND`, `giveup ID`, `freewait ID`, `open ID`,
-/// `one ID MS`.
+/// What ends a wait for one identifier: `reject ID KIND`, `giveup ID`, `freewait ID`, `one ID MS`.
+fn tell_end<A: Allocator + Copy>(
+    list: &mut Invocations<A>,
+    id: i8,
+    words: &[Word<'_>],
+    told: &mut String,
+) -> Option<()> {
+    match text(words, 0) {
+        "reject" => add_number(told, list.on_reject(id, kind(text(words, 2))?)),
+        "giveup" => add_number(told, list.give_up(id)),
+        "freewait" => add_value(told, &list.free_wait(id)),
+        "one" => add_one(told, list.lapse_one(id, number(words, 2)?)),
+        _ => None,
+    }
+}
+
+/// What is said of one identifier: those of `receive` and of `tell_end`, `open ID`.
 fn tell_one<A: Allocator + Copy>(
     list: &mut Invocations<A>,
     words: &[Word<'_>],
     told: &mut String,
 ) -> Option<()> {
-    let id = text(words, 1).parse().ok()?;
+    let id = number(words, 1)?;
     match text(words, 0) {
         "result" | "error" => add_verdict(told, receive(list, id, words)?),
-        "reject" => add_number(told, list.on_reject(id, kind(text(words, 2))?)),
-        "giveup" => add_number(told, list.give_up(id)),
-        "freewait" => {
-            let freed = list.free_wait(id);
-            write!(told, "  {freed}\n").ok()
-        }
         "open" => add_open(told, list, id),
-        "one" => add_one(told, list.lapse_one(id, text(words, 2).parse().ok()?)),
-        _ => None,
+        _ => tell_end(list, id, words, told),
     }
 }
 
-/// Time: `sent MS`, `due MS`, `first MS`, `free MS`, `next`.
+/// What a list tells of a moment: `sent MS`, `due MS`, `first MS`, `free MS`.
+fn look_at<A: Allocator + Copy>(
+    list: &mut Invocations<A>,
+    word: &str,
+    clock: u64,
+    told: &mut String,
+) -> Option<()> {
+    match word {
+        "sent" => list.sent(clock.min(MAX_MOMENT)),
+        "free" => list.free_due(clock),
+        "due" => add_value(told, &list.due_count(clock))?,
+        _ => add_one(told, list.first_due(clock))?,
+    }
+    Some(())
+}
+
+/// Time: those of `look_at`, `next`.
 fn look<A: Allocator + Copy>(
     list: &mut Invocations<A>,
     words: &[Word<'_>],
     told: &mut String,
 ) -> Option<()> {
-    if text(words, 0) == "next" {
-        return add_number(told, list.next_timer());
-    }
-    let clock: u64 = text(words, 1).parse().ok()?;
     match text(words, 0) {
-        "sent" => list.sent(clock.min(MAX_MOMENT)),
-        "free" => list.free_due(clock),
-        "due" => {
-            let count = list.due_count(clock);
-            return write!(told, "  {count}\n").ok();
-        }
-        "first" => return add_one(told, list.first_due(clock)),
-        _ => return None,
+        "next" => add_number(told, list.next_timer()),
+        word => look_at(list, word, number(words, 1)?, told),
     }
-    Some(())
+}
+
+/// `lapse MS`.
+fn lapse<A: Allocator + Copy>(
+    list: &mut Invocations<A>,
+    words: &[Word<'_>],
+    told: &mut String,
+) -> Option<Told> {
+    add_lapses(told, list.lapse(number(words, 1)?))
+}
+
+/// What takes no memory: those of `look` and of `tell_one`.
+fn tell_small<A: Allocator + Copy>(
+    list: &mut Invocations<A>,
+    words: &[Word<'_>],
+    told: &mut String,
+) -> Option<()> {
+    match text(words, 0) {
+        "next" | "sent" | "free" | "due" | "first" => look(list, words, told),
+        _ => tell_one(list, words, told),
+    }
 }
 
 /// What a list tells of a line.
@@ -182,11 +217,12 @@ pub(super) fn tell<A: Allocator + Copy>(
     told: &mut String,
 ) -> Option<Told> {
     match text(words, 0) {
-        "add" => return add(list, words, told),
-        "lapse" => return add_lapses(told, list.lapse(text(words, 1).parse().ok()?)),
-        "close" => return close(list, told),
-        "next" | "sent" | "free" | "due" | "first" => look(list, words, told)?,
-        _ => tell_one(list, words, told)?,
+        "add" => add(list, words, told),
+        "lapse" => lapse(list, words, told),
+        "close" => close(list, told),
+        _ => {
+            tell_small(list, words, told)?;
+            Some(Told::Small)
+        }
     }
-    Some(Told::Small)
 }

@@ -71,6 +71,17 @@ fn tell_again<'h>(
 }
 
 /// Tells a line by its words, and again where memory was refused.
+fn tell_words<'h>(
+    player: Player<'h>,
+    subject: &mut Subject<'h>,
+    words: &[Word<'_>],
+    told: &mut String,
+) -> Option<u64> {
+    let before = format!(in player.alloc; "{subject:?}").ok()?;
+    tell_again(player, subject, before.as_str(), words, told)
+}
+
+/// Tells a line, and again where memory was refused.
 fn tell_line<'h>(
     player: Player<'h>,
     subject: &mut Subject<'h>,
@@ -78,8 +89,7 @@ fn tell_line<'h>(
     told: &mut String,
 ) -> Option<u64> {
     let words = words_of(player.alloc, line)?;
-    let before = format!(in player.alloc; "{subject:?}").ok()?;
-    tell_again(player, subject, before.as_str(), words.as_slice(), told)
+    tell_words(player, subject, words.as_slice(), told)
 }
 
 /// Tells the lines of an example behind its first, and adds them with their answers: how often memory was refused.
@@ -113,8 +123,10 @@ fn subject_of<'h>(alloc: Global, heap: Heap<'h>, example: &str) -> Option<Subjec
 
 /// Adds the lines of an example as they come out: how often memory was refused.
 fn add_played(player: Player<'_>, example: &str, told: &mut String) -> Option<u64> {
-    let mut subject = subject_of(player.alloc, player.heap, example)?;
-    tell_lines(player, &mut subject, example, told)
+    match subject_of(player.alloc, player.heap, example) {
+        Some(mut subject) => tell_lines(player, &mut subject, example, told),
+        None => None,
+    }
 }
 
 /// Plays an example: how often memory was refused. Nothing where it doesn't come out as it stands, a line isn't

@@ -1,6 +1,6 @@
 //! The events of an example of an engine, handed to `run`.
 
-use super::answers::add_answer;
+use super::answers::{add_line, add_numbered, add_outputs};
 use super::engine::new_engine;
 use super::subject::Heap;
 use super::words::{Word, event_of, peer, words_of};
@@ -52,6 +52,18 @@ fn events_of<'w>(
     Some(events)
 }
 
+/// Adds the lines of an answer.
+fn add_answer(alloc: Global, told: &mut String, answer: &Answer<'_, Heap<'_>>) -> Option<()> {
+    match answer {
+        Answer::NewDialogue(dialogue) => add_numbered(told, "new", u64::from(*dialogue)),
+        Answer::Number(number) => add_numbered(told, "number", *number),
+        Answer::Done => add_line(told, "done"),
+        Answer::GivenUp(number) => add_numbered(told, "givenup", *number),
+        Answer::Outputs(outputs) => add_outputs(alloc, told, outputs.as_slice()),
+        Answer::Refused(fault) => add_numbered(told, "refused", u64::from(fault.number())),
+    }
+}
+
 /// Adds the lines of answers.
 fn add_answers(alloc: Global, told: &mut String, answers: &[Answer<'_, Heap<'_>>]) -> Option<()> {
     for answer in answers {
@@ -71,17 +83,26 @@ fn wanted_of(alloc: Global, example: &str) -> Option<String> {
     Some(text)
 }
 
+/// Runs those of these events that have no answer yet; nothing where memory is refused.
+fn run_rest<'h, 'm>(
+    engine: &mut Engine<Heap<'h>>,
+    events: &[Event<'m>],
+    answers: &mut Vec<Answer<'m, Heap<'h>>, Heap<'h>>,
+) -> Option<()> {
+    let rest = events.get(answers.len()..)?;
+    run(engine, rest, answers).ok()
+}
+
 /// Runs these events and, where memory was refused, once more those that are left: how often memory was refused.
 fn run_on<'h, 'm>(
     engine: &mut Engine<Heap<'h>>,
     events: &[Event<'m>],
     answers: &mut Vec<Answer<'m, Heap<'h>>, Heap<'h>>,
 ) -> Option<u64> {
-    if run(engine, events, answers).is_ok() {
+    if run_rest(engine, events, answers).is_some() {
         return Some(0);
     }
-    let rest = events.get(answers.len()..)?;
-    run(engine, rest, answers).ok()?;
+    run_rest(engine, events, answers)?;
     Some(1)
 }
 
@@ -99,6 +120,32 @@ fn run_twice<'h, 'm>(
     Some(refusals)
 }
 
+/// Runs these events, whose answers go to an empty list: how often memory was refused; nothing where the answers
+/// aren't those that are wanted.
+fn run_told<'h, 'm>(
+    alloc: Global,
+    engine: &mut Engine<Heap<'h>>,
+    events: &[Event<'m>],
+    answers: &mut Vec<Answer<'m, Heap<'h>>, Heap<'h>>,
+    wanted: &str,
+) -> Option<u64> {
+    let mut told = String::new(alloc);
+    let refusals = run_twice(alloc, engine, events, answers, &mut told)?;
+    (told.as_str() == wanted).then_some(refusals)
+}
+
+/// Runs these events on an engine that has answered nothing.
+fn run_answered<'h>(
+    alloc: Global,
+    heap: Heap<'h>,
+    engine: &mut Engine<Heap<'h>>,
+    events: &[Event<'_>],
+    wanted: &str,
+) -> Option<u64> {
+    let mut answers = Vec::new(heap);
+    run_told(alloc, engine, events, &mut answers, wanted)
+}
+
 /// Runs these events on a new engine: how often memory was refused; nothing where its answers aren't those that
 /// are wanted.
 fn run_new(
@@ -109,14 +156,7 @@ fn run_new(
     wanted: &str,
 ) -> Option<u64> {
     let mut engine = new_engine(heap, kind);
-    let mut answers = Vec::new(heap);
-    let mut told = String::new(alloc);
-    let refusals = run_twice(alloc, &mut engine, events, &mut answers, &mut told);
-    if told.as_str() == wanted {
-        refusals
-    } else {
-        None
-    }
+    run_answered(alloc, heap, &mut engine, events, wanted)
 }
 
 /// How many growths the run of these events has, where each of them that is refused in turn ends the first run, and
@@ -149,23 +189,40 @@ fn kind_of(example: &str) -> &str {
     kind
 }
 
-/// How many growths the run of the events of these lines has.
+/// How many growths the run of the events of these lines has, this peer's where they name no other.
+fn growths_from(
+    alloc: Global,
+    heap: Heap<'_>,
+    kind: &str,
+    lines: &[Vec<Word<'_>>],
+    peer: &Address,
+    wanted: &str,
+) -> Option<u64> {
+    let events = events_of(alloc, lines, peer)?;
+    growths_of(alloc, heap, kind, events.as_slice(), wanted)
+}
+
+/// How many growths the run of the events of these lines has, on an engine of this kind.
 fn growths_of_lines(
     alloc: Global,
     heap: Heap<'_>,
-    example: &str,
+    kind: &str,
     lines: &[Vec<Word<'_>>],
     wanted: &str,
 ) -> Option<u64> {
     let peer = peer();
-    let events = events_of(alloc, lines, &peer)?;
-    growths_of(alloc, heap, kind_of(example), events.as_slice(), wanted)
+    growths_from(alloc, heap, kind, lines, &peer, wanted)
+}
+
+/// How many growths the run of an example has whose answers are those that are wanted.
+fn run_lines(alloc: Global, heap: Heap<'_>, example: &str, wanted: &str) -> Option<u64> {
+    let lines = event_lines(alloc, example)?;
+    growths_of_lines(alloc, heap, kind_of(example), lines.as_slice(), wanted)
 }
 
 /// How many growths the run of an example has, where each of them that is refused in turn ends the first
 /// run, and all answers are the example's.
 pub(super) fn run_growths(alloc: Global, heap: Heap<'_>, example: &str) -> Option<u64> {
     let wanted = wanted_of(alloc, example)?;
-    let lines = event_lines(alloc, example)?;
-    growths_of_lines(alloc, heap, example, lines.as_slice(), wanted.as_str())
+    run_lines(alloc, heap, example, wanted.as_str())
 }

@@ -1,6 +1,6 @@
 //! What an example's lines are told to.
 
-use super::words::{Word, text};
+use super::words::{Word, number, text};
 use super::{codec, dialogue, engine, invocations};
 use ber_core::Feed;
 use refusing::Refusing;
@@ -42,8 +42,8 @@ pub(super) enum Subject<'h> {
 
 /// An engine that goes on with the counters that stand behind `engine from`.
 fn resumed_engine<'h>(heap: Heap<'h>, words: &[Word<'_>]) -> Option<Engine<Heap<'h>>> {
-    let next_dialogue = text(words, 2).parse().ok()?;
-    let next_number = text(words, 3).parse().ok()?;
+    let next_dialogue = number(words, 2)?;
+    let next_number = number(words, 3)?;
     Some(engine::resumed(heap, next_dialogue, next_number))
 }
 

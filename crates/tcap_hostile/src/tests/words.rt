@@ -1,6 +1,7 @@
 //! The words of an example's lines, and the events that they stand for.
 
 use std::alloc::Global;
+use std::str::FromStr;
 use tcap_component::{Body, Code, Kind, Problem};
 use tcap_engine::{AbortWhy, Address, Ending, Event, Request};
 use tcap_invocation::Class;
@@ -71,6 +72,14 @@ pub(super) fn text<'w>(words: &'w [Word<'_>], place: usize) -> &'w str {
     }
 }
 
+/// The number that a word spells.
+pub(super) fn number<T: FromStr>(words: &[Word<'_>], place: usize) -> Option<T>
+where
+    <T as FromStr>::Err: Drop,
+{
+    text(words, place).parse().ok()
+}
+
 /// The octets of a word that is there and isn't `-`.
 pub(super) fn octets<'w>(words: &'w [Word<'_>], place: usize) -> Option<&'w [u8]> {
     let word = words.get(place)?;
@@ -124,38 +133,53 @@ pub(super) fn kind(word: &str) -> Option<Kind> {
 /// `invoke D ID CLASS CODE TIMEOUT LINKED PARAM`.
 fn invoke_of<'w>(words: &'w [Word<'_>]) -> Option<Request<'w>> {
     Some(Request::Invoke {
-        id: text(words, 2).parse().ok()?,
+        id: number(words, 2)?,
         class: class(text(words, 3))?,
         code: code(words, 4)?,
-        timeout_ms: text(words, 5).parse().ok()?,
-        linked: text(words, 6).parse().ok(),
+        timeout_ms: number(words, 5)?,
+        linked: number(words, 6),
         parameter: octets(words, 7),
     })
 }
 
+/// The code and the parameter of a result or an error: `CODE PARAM` behind `D ID`.
+fn body_of<'w>(words: &'w [Word<'_>]) -> Option<Body<'w>> {
+    let code = code(words, 3)?;
+    let parameter = octets(words, 4);
+    Some(Body { code, parameter })
+}
+
+/// `error D ID CODE PARAM`.
+fn error_of<'w>(words: &'w [Word<'_>], id: i8) -> Option<Request<'w>> {
+    let Body { code, parameter } = body_of(words)?;
+    Some(Request::ErrorBack {
+        id,
+        code,
+        parameter,
+    })
+}
+
+/// `reject D ID KIND CODE`.
+fn reject_of<'w>(words: &'w [Word<'_>], id: i8) -> Option<Request<'w>> {
+    let problem = Problem::new(kind(text(words, 3))?, number(words, 4)?)?;
+    let id = Some(id);
+    Some(Request::Reject { id, problem })
+}
+
 /// `last D ID CODE PARAM`, `more`, `error`, `reject D ID KIND CODE`, `cancel D ID`.
 fn component_of<'w>(words: &'w [Word<'_>]) -> Option<Request<'w>> {
-    let id = text(words, 2).parse().ok()?;
-    let parameter = octets(words, 4);
-    let code = code(words, 3);
+    let id = number(words, 2)?;
     match text(words, 0) {
         "last" => {
-            let body = code.map(|code| Body { code, parameter });
+            let body = body_of(words);
             Some(Request::ResultLast { id, body })
         }
         "more" => {
-            let body = code.map(|code| Body { code, parameter });
+            let body = body_of(words);
             Some(Request::ResultMore { id, body })
         }
-        "error" => Some(Request::ErrorBack {
-            id,
-            code: code?,
-            parameter,
-        }),
-        "reject" => Some(Request::Reject {
-            id: Some(id),
-            problem: Problem::new(kind(text(words, 3))?, text(words, 4).parse().ok()?)?,
-        }),
+        "error" => error_of(words, id),
+        "reject" => reject_of(words, id),
         "cancel" => Some(Request::Cancel { id }),
         _ => None,
     }
@@ -235,16 +259,20 @@ pub(super) fn peer() -> Address {
     address_of(0x01)
 }
 
+/// What a line asks of a dialogue, with the dialogue.
+fn on_of<'w>(words: &'w [Word<'_>], peer: &'w Address) -> Option<Event<'w>> {
+    let dialogue = number(words, 1)?;
+    let request = request_of(words, peer)?;
+    Some(Event::On { dialogue, request })
+}
+
 /// The event that a line stands for.
 pub(super) fn event_of<'w>(words: &'w [Word<'_>], peer: &'w Address) -> Option<Event<'w>> {
     match text(words, 0) {
         "new" => Some(Event::NewDialogue),
         "raw" => Some(Event::Bytes(peer, info(words, 1))),
         "rawfrom" => Some(Event::Bytes(address(words, 1)?, info(words, 2))),
-        "advance" => Some(Event::Moment(text(words, 1).parse().ok()?)),
-        _ => Some(Event::On {
-            dialogue: text(words, 1).parse().ok()?,
-            request: request_of(words, peer)?,
-        }),
+        "advance" => Some(Event::Moment(number(words, 1)?)),
+        _ => on_of(words, peer),
     }
 }
