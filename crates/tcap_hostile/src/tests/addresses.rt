@@ -130,25 +130,14 @@ fn is_sent(
     Some(learned & born & ended)
 }
 
-/// Whether a new engine sends where it has to, with these addresses.
-fn is_carried_between(
-    alloc: Global,
-    to: &Address,
-    from: &Address,
-    other: &Address,
-    by_user: bool,
-) -> Option<bool> {
-    let mut engine = new_engine(alloc, "");
-    is_sent(alloc, &mut engine, to, from, other, by_user)
-}
-
 /// Whether an engine sends where it has to, with addresses of these lengths.
 fn is_carried(alloc: Global, seed: &mut u64, lengths: [usize; 3], by_user: bool) -> Option<bool> {
     let [to, from, other] = lengths;
     let to = drawn(alloc, seed, to)?;
     let from = drawn(alloc, seed, from)?;
     let other = drawn(alloc, seed, other)?;
-    is_carried_between(alloc, &to, &from, &other, by_user)
+    let mut engine = new_engine(alloc, "");
+    is_sent(alloc, &mut engine, &to, &from, &other, by_user)
 }
 
 #[test]
@@ -200,20 +189,16 @@ fn turn(octets: &mut [u8], place: usize, number: u8) -> Option<()> {
     Some(())
 }
 
-/// The address of the octets of this one, with this number added to the octet at this place.
-fn turned(alloc: Global, address: &Address, place: usize, number: u8) -> Option<Address> {
-    let mut octets = address.octets().to_vec(alloc).ok()?;
-    turn(&mut octets, place, number)?;
-    Address::new(octets.as_slice())
-}
-
 /// Whether an address is the same as another of the same octets, and as none that lacks octets from this place on
 /// or has another one there; nothing where memory is wanting.
 fn is_told_apart(alloc: Global, address: &Address, place: usize) -> Option<bool> {
     let front = Address::new(address.octets().get(..place)?)?;
-    let other = turned(alloc, address, place, 1)?;
-    let same = turned(alloc, &other, place, 255)?;
-    Some(front != *address && other != *address && same == *address)
+    let mut octets = address.octets().to_vec(alloc).ok()?;
+    turn(&mut octets, place, 1)?;
+    let turned = Address::new(octets.as_slice())?;
+    turn(&mut octets, place, 255)?;
+    let same = Address::new(octets.as_slice())?;
+    Some(front != *address && turned != *address && same == *address)
 }
 
 /// Two addresses are the same only where all of their octets are.

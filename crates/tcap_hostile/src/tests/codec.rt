@@ -35,24 +35,6 @@ fn add_fault(told: &mut String, fault: FeedFault) -> Option<Told> {
     Some(Told::Small)
 }
 
-/// Adds what a feed gives for a piece.
-fn add_pushed<A: Allocator + Copy>(
-    alloc: Global,
-    feed: &mut Feed<A>,
-    piece: &[u8],
-    told: &mut String,
-) -> Option<Told> {
-    match feed.push(piece) {
-        Ok(messages) => {
-            for message in messages {
-                add_octets(alloc, told, message.as_slice())?;
-            }
-            Some(Told::Large)
-        }
-        Err(fault) => add_fault(told, fault),
-    }
-}
-
 /// What a feed tells of a line: `push HEX`, `rest`, `fault`.
 pub(super) fn push<A: Allocator + Copy>(
     alloc: Global,
@@ -61,7 +43,15 @@ pub(super) fn push<A: Allocator + Copy>(
     told: &mut String,
 ) -> Option<Told> {
     match text(words, 0) {
-        "push" => add_pushed(alloc, feed, info(words, 1), told),
+        "push" => match feed.push(info(words, 1)) {
+            Ok(messages) => {
+                for message in messages {
+                    add_octets(alloc, told, message.as_slice())?;
+                }
+                Some(Told::Large)
+            }
+            Err(fault) => add_fault(told, fault),
+        },
         "rest" => {
             add_value(told, &feed.rest_len())?;
             Some(Told::Small)
@@ -203,21 +193,8 @@ fn write<A: Allocator + Copy>(
     }
 }
 
-/// Appends: `head` the head of an element 6C of 200 octets, `element` an element 04 of the octet AA, `int N` an
-/// integer 02.
-fn append_to<A: Allocator + Copy>(
-    out: &mut Vec<u8, A>,
-    words: &[Word<'_>],
-) -> Option<Result<(), OutOfMemory>> {
-    match text(words, 0) {
-        "head" => Some(write_head(out, &[0x6c], 200)),
-        "element" => Some(write_element(out, &[0x04], &[0xaa])),
-        "int" => Some(write_int(out, 0x02, number(words, 1)?)),
-        _ => None,
-    }
-}
-
-/// What is appended, by those of `append_to`.
+/// What is appended: `head` the head of an element 6C of 200 octets, `element` an element 04 of the octet AA,
+/// `int N` an integer 02.
 fn append<A: Allocator + Copy>(
     alloc: Global,
     heap: A,
@@ -225,7 +202,12 @@ fn append<A: Allocator + Copy>(
     told: &mut String,
 ) -> Option<Told> {
     let mut out = Vec::new(heap);
-    let written = append_to(&mut out, words)?;
+    let written = match text(words, 0) {
+        "head" => write_head(&mut out, &[0x6c], 200),
+        "element" => write_element(&mut out, &[0x04], &[0xaa]),
+        "int" => write_int(&mut out, 0x02, number(words, 1)?),
+        _ => return None,
+    };
     add_appended(alloc, told, &out, written)
 }
 

@@ -178,16 +178,6 @@ fn look_at<A: Allocator + Copy>(
     }
 }
 
-/// Adds what lapses of one invocation: `one ID MS`.
-fn add_one<A: Allocator + Copy>(
-    dialogue: &mut Dialogue<A>,
-    words: &[Word<'_>],
-    told: &mut String,
-) -> Option<()> {
-    let id = number(words, 1)?;
-    add_lapse_number(told, dialogue.lapse_one(id, number(words, 2)?))
-}
-
 /// What a dialogue tells of time and of itself: `due MS`, `first MS`, `one ID MS`, `free MS`, `next`, `state`,
 /// `kept`.
 fn look<A: Allocator + Copy>(
@@ -195,15 +185,17 @@ fn look<A: Allocator + Copy>(
     dialogue: &mut Dialogue<A>,
     words: &[Word<'_>],
     told: &mut String,
-) -> Option<Told> {
+) -> Option<()> {
     match text(words, 0) {
-        "state" => add_state(told, dialogue)?,
-        "kept" => add_kept(alloc, told, dialogue)?,
-        "next" => add_value(told, &dialogue.next_timer())?,
-        "one" => add_one(dialogue, words, told)?,
-        word => look_at(dialogue, word, number(words, 1)?, told)?,
+        "state" => add_state(told, dialogue),
+        "kept" => add_kept(alloc, told, dialogue),
+        "next" => add_value(told, &dialogue.next_timer()),
+        "one" => {
+            let lapse = dialogue.lapse_one(number(words, 1)?, number(words, 2)?);
+            add_lapse_number(told, lapse)
+        }
+        word => look_at(dialogue, word, number(words, 1)?, told),
     }
-    Some(Told::Small)
 }
 
 /// What a dialogue tells of a message from this address.
@@ -234,25 +226,6 @@ fn take<A: Allocator + Copy>(
     }
 }
 
-/// `lapse MS`.
-fn lapse<A: Allocator + Copy>(
-    dialogue: &mut Dialogue<A>,
-    words: &[Word<'_>],
-    told: &mut String,
-) -> Option<Told> {
-    add_lapses(told, dialogue.lapse(number(words, 1)?))
-}
-
-/// `fault CAUSE`.
-fn take_fault<A: Allocator + Copy>(
-    alloc: Global,
-    dialogue: &mut Dialogue<A>,
-    words: &[Word<'_>],
-    told: &mut String,
-) -> Option<Told> {
-    add_taken(alloc, told, dialogue.take_fault(number(words, 1)?))
-}
-
 /// What a dialogue tells of a line: `fault CAUSE`, `lapse MS`, those of `look`, or an event.
 pub(super) fn tell<A: Allocator + Copy>(
     alloc: Global,
@@ -263,10 +236,14 @@ pub(super) fn tell<A: Allocator + Copy>(
 ) -> Option<Told> {
     match text(words, 0) {
         "due" | "first" | "one" | "free" | "next" | "state" | "kept" => {
-            look(alloc, dialogue, words, told)
+            look(alloc, dialogue, words, told)?;
+            Some(Told::Small)
         }
-        "lapse" => lapse(dialogue, words, told),
-        "fault" => take_fault(alloc, dialogue, words, told),
+        "lapse" => add_lapses(told, dialogue.lapse(number(words, 1)?)),
+        "fault" => {
+            let cause: u8 = number(words, 1)?;
+            add_taken(alloc, told, dialogue.take_fault(cause))
+        }
         _ => take(alloc, heap, dialogue, words, told),
     }
 }

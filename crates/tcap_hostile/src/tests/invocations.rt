@@ -131,23 +131,8 @@ fn add_open<A: Allocator + Copy>(told: &mut String, list: &Invocations<A>, id: i
     write!(told, "  open {open} used {used}\n").ok()
 }
 
-/// What ends a wait for one identifier: `reject ID KIND`, `giveup ID`, `freewait ID`, `one ID MS`.
-fn tell_end<A: Allocator + Copy>(
-    list: &mut Invocations<A>,
-    id: i8,
-    words: &[Word<'_>],
-    told: &mut String,
-) -> Option<()> {
-    match text(words, 0) {
-        "reject" => add_number(told, list.on_reject(id, kind(text(words, 2))?)),
-        "giveup" => add_number(told, list.give_up(id)),
-        "freewait" => add_value(told, &list.free_wait(id)),
-        "one" => add_one(told, list.lapse_one(id, number(words, 2)?)),
-        _ => None,
-    }
-}
-
-/// What is said of one identifier: those of `receive` and of `tell_end`, `open ID`.
+/// What is said of one identifier: those of `receive`, `reject ID KIND`, `giveup ID`, `freewait ID`, `open ID`,
+/// `one ID MS`.
 fn tell_one<A: Allocator + Copy>(
     list: &mut Invocations<A>,
     words: &[Word<'_>],
@@ -156,58 +141,33 @@ fn tell_one<A: Allocator + Copy>(
     let id = number(words, 1)?;
     match text(words, 0) {
         "result" | "error" => add_verdict(told, receive(list, id, words)?),
+        "reject" => add_number(told, list.on_reject(id, kind(text(words, 2))?)),
+        "giveup" => add_number(told, list.give_up(id)),
+        "freewait" => add_value(told, &list.free_wait(id)),
         "open" => add_open(told, list, id),
-        _ => tell_end(list, id, words, told),
+        "one" => add_one(told, list.lapse_one(id, number(words, 2)?)),
+        _ => None,
     }
 }
 
-/// What a list tells of a moment: `sent MS`, `due MS`, `first MS`, `free MS`.
-fn look_at<A: Allocator + Copy>(
-    list: &mut Invocations<A>,
-    word: &str,
-    clock: u64,
-    told: &mut String,
-) -> Option<()> {
-    match word {
-        "sent" => list.sent(clock.min(MAX_MOMENT)),
-        "free" => list.free_due(clock),
-        "due" => add_value(told, &list.due_count(clock))?,
-        _ => add_one(told, list.first_due(clock))?,
-    }
-    Some(())
-}
-
-/// Time: those of `look_at`, `next`.
+/// Time: `sent MS`, `due MS`, `first MS`, `free MS`, `next`.
 fn look<A: Allocator + Copy>(
     list: &mut Invocations<A>,
     words: &[Word<'_>],
     told: &mut String,
 ) -> Option<()> {
-    match text(words, 0) {
-        "next" => add_number(told, list.next_timer()),
-        word => look_at(list, word, number(words, 1)?, told),
+    if text(words, 0) == "next" {
+        return add_number(told, list.next_timer());
     }
-}
-
-/// `lapse MS`.
-fn lapse<A: Allocator + Copy>(
-    list: &mut Invocations<A>,
-    words: &[Word<'_>],
-    told: &mut String,
-) -> Option<Told> {
-    add_lapses(told, list.lapse(number(words, 1)?))
-}
-
-/// What takes no memory: those of `look` and of `tell_one`.
-fn tell_small<A: Allocator + Copy>(
-    list: &mut Invocations<A>,
-    words: &[Word<'_>],
-    told: &mut String,
-) -> Option<()> {
+    let clock: u64 = number(words, 1)?;
     match text(words, 0) {
-        "next" | "sent" | "free" | "due" | "first" => look(list, words, told),
-        _ => tell_one(list, words, told),
+        "sent" => list.sent(clock.min(MAX_MOMENT)),
+        "free" => list.free_due(clock),
+        "due" => return add_value(told, &list.due_count(clock)),
+        "first" => return add_one(told, list.first_due(clock)),
+        _ => return None,
     }
+    Some(())
 }
 
 /// What a list tells of a line.
@@ -217,12 +177,11 @@ pub(super) fn tell<A: Allocator + Copy>(
     told: &mut String,
 ) -> Option<Told> {
     match text(words, 0) {
-        "add" => add(list, words, told),
-        "lapse" => lapse(list, words, told),
-        "close" => close(list, told),
-        _ => {
-            tell_small(list, words, told)?;
-            Some(Told::Small)
-        }
+        "add" => return add(list, words, told),
+        "lapse" => return add_lapses(told, list.lapse(number(words, 1)?)),
+        "close" => return close(list, told),
+        "next" | "sent" | "free" | "due" | "first" => look(list, words, told)?,
+        _ => tell_one(list, words, told)?,
     }
+    Some(Told::Small)
 }

@@ -115,18 +115,21 @@ fn tell_lines<'h>(
     Some(refusals)
 }
 
-/// What the first line of an example says.
-fn subject_of<'h>(alloc: Global, heap: Heap<'h>, example: &str) -> Option<Subject<'h>> {
-    let first = words_of(alloc, example.lines().next()?)?;
-    Subject::new(heap, first.as_slice())
+/// Adds the lines of an example, whose first has these words, as they come out: how often memory was refused.
+fn add_played_to(
+    player: Player<'_>,
+    first: &[Word<'_>],
+    example: &str,
+    told: &mut String,
+) -> Option<u64> {
+    let mut subject = Subject::new(player.heap, first);
+    tell_lines(player, &mut subject, example, told)
 }
 
 /// Adds the lines of an example as they come out: how often memory was refused.
 fn add_played(player: Player<'_>, example: &str, told: &mut String) -> Option<u64> {
-    match subject_of(player.alloc, player.heap, example) {
-        Some(mut subject) => tell_lines(player, &mut subject, example, told),
-        None => None,
-    }
+    let first = words_of(player.alloc, example.lines().next()?)?;
+    add_played_to(player, first.as_slice(), example, told)
 }
 
 /// Plays an example: how often memory was refused. Nothing where it doesn't come out as it stands, a line isn't

@@ -67,13 +67,17 @@ impl<'h> Subject<'h> {
         }
     }
 
-    /// The subject that the words of an example's first line say.
-    pub(super) fn new(heap: Heap<'h>, words: &[Word<'_>]) -> Option<Subject<'h>> {
+    /// The subject that the words of an example's first line say; the codec, which knows no line of an engine,
+    /// where they say none.
+    pub(super) fn new(heap: Heap<'h>, words: &[Word<'_>]) -> Subject<'h> {
         let word = text(words, 0);
-        if word == "engine" {
-            return Some(Subject::Engine(engine_of(heap, words)?));
+        if word != "engine" {
+            return Subject::of_layer(heap, word);
         }
-        Some(Subject::of_layer(heap, word))
+        match engine_of(heap, words) {
+            Some(engine) => Subject::Engine(engine),
+            None => Subject::Codec,
+        }
     }
 
     /// Tells it a line, and adds the lines of its answer; nothing where it doesn't know the line, or

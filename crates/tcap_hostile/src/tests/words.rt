@@ -142,44 +142,29 @@ fn invoke_of<'w>(words: &'w [Word<'_>]) -> Option<Request<'w>> {
     })
 }
 
-/// The code and the parameter of a result or an error: `CODE PARAM` behind `D ID`.
-fn body_of<'w>(words: &'w [Word<'_>]) -> Option<Body<'w>> {
-    let code = code(words, 3)?;
-    let parameter = octets(words, 4);
-    Some(Body { code, parameter })
-}
-
-/// `error D ID CODE PARAM`.
-fn error_of<'w>(words: &'w [Word<'_>], id: i8) -> Option<Request<'w>> {
-    let Body { code, parameter } = body_of(words)?;
-    Some(Request::ErrorBack {
-        id,
-        code,
-        parameter,
-    })
-}
-
-/// `reject D ID KIND CODE`.
-fn reject_of<'w>(words: &'w [Word<'_>], id: i8) -> Option<Request<'w>> {
-    let problem = Problem::new(kind(text(words, 3))?, number(words, 4)?)?;
-    let id = Some(id);
-    Some(Request::Reject { id, problem })
-}
-
 /// `last D ID CODE PARAM`, `more`, `error`, `reject D ID KIND CODE`, `cancel D ID`.
 fn component_of<'w>(words: &'w [Word<'_>]) -> Option<Request<'w>> {
     let id = number(words, 2)?;
+    let parameter = octets(words, 4);
+    let code = code(words, 3);
     match text(words, 0) {
         "last" => {
-            let body = body_of(words);
+            let body = code.map(|code| Body { code, parameter });
             Some(Request::ResultLast { id, body })
         }
         "more" => {
-            let body = body_of(words);
+            let body = code.map(|code| Body { code, parameter });
             Some(Request::ResultMore { id, body })
         }
-        "error" => error_of(words, id),
-        "reject" => reject_of(words, id),
+        "error" => Some(Request::ErrorBack {
+            id,
+            code: code?,
+            parameter,
+        }),
+        "reject" => Some(Request::Reject {
+            id: Some(id),
+            problem: Problem::new(kind(text(words, 3))?, number(words, 4)?)?,
+        }),
         "cancel" => Some(Request::Cancel { id }),
         _ => None,
     }
@@ -259,13 +244,6 @@ pub(super) fn peer() -> Address {
     address_of(0x01)
 }
 
-/// What a line asks of a dialogue, with the dialogue.
-fn on_of<'w>(words: &'w [Word<'_>], peer: &'w Address) -> Option<Event<'w>> {
-    let dialogue = number(words, 1)?;
-    let request = request_of(words, peer)?;
-    Some(Event::On { dialogue, request })
-}
-
 /// The event that a line stands for.
 pub(super) fn event_of<'w>(words: &'w [Word<'_>], peer: &'w Address) -> Option<Event<'w>> {
     match text(words, 0) {
@@ -273,6 +251,9 @@ pub(super) fn event_of<'w>(words: &'w [Word<'_>], peer: &'w Address) -> Option<E
         "raw" => Some(Event::Bytes(peer, info(words, 1))),
         "rawfrom" => Some(Event::Bytes(address(words, 1)?, info(words, 2))),
         "advance" => Some(Event::Moment(number(words, 1)?)),
-        _ => on_of(words, peer),
+        _ => Some(Event::On {
+            dialogue: number(words, 1)?,
+            request: request_of(words, peer)?,
+        }),
     }
 }
