@@ -33,13 +33,13 @@ is_short BadLength = false
 is_short IndefinitePrimitive = false
 is_short TooDeep = false
 
--- The fault of a stream's rest at the front of which no element is read for this reason: where the
+-- The fault of a stream's rest at the beginning of which no element is read for this reason: where the
 -- octets are merely too few, it is that the rest passes the limit, or there is none (own).
 abbrev pub rest_fault : BerFault → List ℕ → Option FeedFault
 rest_fault why rest =
     if is_short why then (if nat_lt length_limit (length rest) then Some TooLong else None) else Some (Ber why)
 
--- The stream is these messages one after the other and then the rest, at the front of which, within
+-- The stream is these messages one after the other and then the rest, at the beginning of which, within
 -- the limit, no element is; why none is tells the fault (own).
 pub record IsCut (cut : Cut) (stream : List ℕ) : Type 0 where
   pub elements : List Parts

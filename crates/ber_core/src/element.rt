@@ -1,3 +1,5 @@
+//! One element: its tag, its contents and what makes it up.
+
 ghost use Rattle.std.specs.Prelude.{◌≡◌};
 ghost use Rattle.ber_core.specs.Tag.{is_constructor};
 

@@ -1,3 +1,5 @@
+//! Why no element could be read, why a feed gives no messages, and that memory was refused.
+
 ghost use Rattle.std.specs.Prelude.{◌≡◌};
 
 use std::alloc::AllocError;

@@ -1,3 +1,5 @@
+//! The feed: the messages of a stream that comes in pieces.
+
 ghost use Rattle.std.specs.Prelude.{◌≡◌, ◌≢◌, ◌++◌, [], length, map, List, ℕ, OnOk, OnErr, IfOk, IfErr, IsErrOf, Some, if◌then◌else◌};
 ghost use Rattle.ber_core.specs.Feeding.{StandsBehind, Completes, Fails};
 

@@ -1,3 +1,5 @@
+//! Identifier octets and length octets (X.690, Structure of an encoding).
+
 ghost use Rattle.std.specs.Prelude.{◌≡◌, ◌≢◌, ◌↔◌, ◌==◌, ℕ, bit_and, false, List, ◌<◌, ◌≤◌, length, Option, IfOk, IfErr, IsOkAnd, IsTrue, Ok};
 ghost use Rattle.ber_core.specs.Results.{Gives};
 ghost use Rattle.ber_core.specs.Tag.{is_constructor};
@@ -28,7 +30,7 @@ pub struct Head<'a> {
     pub rest: &'a [u8],
 }
 
-/// How many further octets a tag has, at the front of what follows its first octet.
+/// How many further octets a tag has, at the beginning of what follows its first octet.
 #[inline(always)]
 fn count_further(bytes: &[u8]) -> Result<usize, BerFault>
     ensures value { Gives (λ n. n) result (further_at 4 bytes.now) }
@@ -151,7 +153,7 @@ pub fn read_head<'a>(bytes: &'a [u8]) -> Result<Head<'a>, BerFault>
 
 /// Whether an element begins with a tag of this one octet and a length of this one octet.
 #[inline(always)]
-pub fn is_plain(tag: u8, length: u8) -> bool
+pub(crate) fn is_plain(tag: u8, length: u8) -> bool
     ensures { IsTrue result ↔ ((tag ≢ 0x00) × (bit_and tag 0x1f == 0x1f ≡ false) × (length < 0x80)) }
 {
     tag != 0x00 && tag & 0x1f != 0x1f && length < 0x80

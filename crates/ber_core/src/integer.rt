@@ -1,3 +1,5 @@
+//! Integers, read and written (X.690, Encoding of an integer value).
+
 ghost use Rattle.std.specs.Prelude.{◌≡◌, ◌+◌, ◌<◌, ◌++◌, [], ◌∷◌, ℤ, Some, IfSome, OnOk, OnErr, length, vec_len, vec_capacity};
 ghost use Rattle.std.specs.Int.{w32, cast_signed};
 ghost use Rattle.ber_core.specs.Tag.{IsTag};
@@ -70,7 +72,7 @@ pub fn read_int(content: &[u8]) -> Option<i32>
     integer(content)
 }
 
-/// The same as `write_int`, for an integer of any length.
+/// `write_int`, for an integer of any length.
 #[inline(never)]
 fn append_int<A: Allocator + Copy>(
     out: &mut Vec<u8, A>,

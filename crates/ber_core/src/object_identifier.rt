@@ -1,3 +1,5 @@
+//! What octets are the contents of an object identifier (X.690, Encoding of an object identifier value).
+
 ghost use Rattle.std.specs.Prelude.{◌≡◌, ◌↔◌, IsTrue, true};
 ghost use Rattle.ber_core.specs.ObjectIdentifier.{IsObjectIdentifier, subidentifiers_at, is_object_identifier};
 

@@ -27,7 +27,7 @@ fn skip_contents(bytes: &[u8]) -> Result<&[u8], BerFault>
 
 /// The content of an element whose head says `len`, and what follows the element.
 #[inline(always)]
-pub fn split_body(len: Option<usize>, body: &[u8]) -> Result<(&[u8], &[u8]), BerFault>
+pub(crate) fn split_body(len: Option<usize>, body: &[u8]) -> Result<(&[u8], &[u8]), BerFault>
     ensures value { Gives (λ x. x.1.now) result (body_at depth_limit len body.now) }
     ensures content { IfOk result (λ x. x.0.now ≡ content_of len body.now x.1.now) }
     ensures shorter { IfOk result (λ x. length x.1.now ≤ length body.now) }

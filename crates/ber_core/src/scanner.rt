@@ -1,3 +1,5 @@
+//! The scanner of one element: one octet after the other, without recursion.
+
 ghost use Rattle.ber_core.specs.Due.{CanBeDue, CanBeDue-prop};
 
 pub mod due;

@@ -1,3 +1,5 @@
+//! The elements of a sequence, in the order of the standard's table.
+
 ghost use Rattle.std.specs.Prelude.{◌≡◌, ◌==◌, ℕ, [], ◌∷◌, false, option_copied, option_map, IfSome};
 ghost use Rattle.ber_core.specs.SequenceReading.{tagged, content_at, first_whole, only_at, alone_at};
 ghost use Rattle.ber_core.specs.Place.{AtFront, IsAt, AtEnd, head_length};
@@ -6,7 +8,7 @@ ghost use Rattle.ber_core.specs.Way.{IsInside, GoesOn};
 
 use crate::element::{Element, read_element};
 
-/// The same of bytes that may begin with the tag.
+/// `take_tagged`, where the first octet is the tag.
 #[tactic(auto, unfolding(crate::specs::SequenceReading::tagged))]
 #[inline(always)]
 fn read_tagged<'a>(bytes: &'a [u8], tag: u8) -> (Option<&'a [u8]>, &'a [u8])
@@ -22,7 +24,7 @@ fn read_tagged<'a>(bytes: &'a [u8], tag: u8) -> (Option<&'a [u8]>, &'a [u8])
     }
 }
 
-/// The same of all bytes. Where another octet stands first, no element is read.
+/// `take_tagged`, where any octet stands first: no element is read behind another tag.
 #[tactic(auto, using(crate::proofs::SequenceGrammar::tagged_none, crate::proofs::SequenceGrammar::tagged_other))]
 #[inline(always)]
 fn split_tagged<'a>(bytes: &'a [u8], tag: u8) -> (Option<&'a [u8]>, &'a [u8])

@@ -1,3 +1,5 @@
+//! Writers of elements, in the shortest definite form.
+
 ghost use Rattle.std.specs.Prelude.{◌≡◌, ◌+◌, ◌<◌, ◌≤◌, ◌++◌, [], ◌∷◌, OnOk, OnErr, IsOk, length, vec_len, vec_capacity};
 ghost use Rattle.ber_core.specs.Length.{length_limit};
 ghost use Rattle.ber_core.specs.Tag.{IsTag};
@@ -81,7 +83,7 @@ fn append<A: Allocator + Copy>(out: &mut Vec<u8, A>, octets: &[u8]) -> Result<()
     Ok(())
 }
 
-/// The same as `write_head`, for a tag of one octet.
+/// `write_head`, for a tag of one octet.
 #[inline(always)]
 fn append_head<A: Allocator + Copy>(
     out: &mut Vec<u8, A>,
@@ -114,7 +116,7 @@ fn append_head<A: Allocator + Copy>(
     Ok(())
 }
 
-/// The same as `write_element`, for a tag of one octet.
+/// `write_element`, for a tag of one octet.
 #[inline(always)]
 fn append_content<A: Allocator + Copy>(
     out: &mut Vec<u8, A>,

@@ -1,3 +1,5 @@
+//! How many octets a written element has.
+
 ghost use Rattle.std.specs.Prelude.{◌≡◌, ◌+◌, ◌<◌, ◌^◌};
 ghost use Rattle.ber_core.specs.WrittenLength.{element_length};
 

@@ -53,7 +53,7 @@ response_of context = written_dialogue (aare true context true (user 0) [])
 abbrev pub continue_of : ℕ → ℕ → List ℕ → ℤ → List ℕ
 continue_of otid dtid context id = written_frame (go_on (to_be_bytes w32 otid) (to_be_bytes w32 dtid) (Some (response_of context)) (written_component (result_last id None)))
 
--- What is told of octets that were to stand at the front of a room: how many they are, where they
+-- What is told of octets that were to stand at the beginning of a room: how many they are, where they
 -- stand there, else 0 (own).
 abbrev pub IsPut : List ℕ → ℕ → List ℕ → Type 0
 IsPut octets told room = (told ≡ 0) ⊎ ((told ≡ length octets) × (take told room ≡ octets))

@@ -88,7 +88,7 @@ fn add_item(total: u64, item: &Result<Component<'_>, ComponentFault>) -> u64
 
 /// Adds the components of a component portion.
 #[tactic(auto, using(crate::proofs::Sums::checksum_append))]
-pub fn add_components(total: u64, content: &[u8]) -> u64
+pub(crate) fn add_components(total: u64, content: &[u8]) -> u64
     ensures { result ≡ checksum total (components_numbers content.now) }
 {
     let mut sum = total;

@@ -42,7 +42,7 @@ fn count_begun(dialogue: &mut Dialogue, peer: &Address, steps: u8, message: &[u8
     count_received(dialogue, peer, count, steps, message)
 }
 
-/// A new dialogue and all its steps; nothing where memory is wanting or the message can't be read.
+/// A new dialogue and all its steps; nothing where memory runs out or the message can't be read.
 fn count_steps(alloc: Global, steps: u8, message: &[u8]) -> Option<u64>
     ensures { (steps < 2) → IfSome result (λ count. count ≡ 0) }
 {
@@ -60,7 +60,7 @@ fn count_steps(alloc: Global, steps: u8, message: &[u8]) -> Option<u64>
     count_begun(&mut dialogue, &peer, steps, message)
 }
 
-/// How many outputs the steps give; 0 where memory is wanting or the message can't be read.
+/// How many outputs the steps give; 0 where memory runs out or the message can't be read.
 pub fn count_outputs(alloc: Global, steps: u8, message: &[u8]) -> u64
     ensures { (steps < 2) → (result ≡ 0) }
 {

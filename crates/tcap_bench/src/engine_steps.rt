@@ -247,7 +247,7 @@ fn open_and_count(
     count_laps(node, step, all, laps)
 }
 
-/// How many outputs the laps give; 0 where memory is wanting.
+/// How many outputs the laps give; 0 where memory runs out.
 pub fn count_engine(alloc: Global, step: u8, dialogues: u16, laps: u32) -> u64
     ensures { (laps ≡ 0) → (result ≡ 0) }
 {

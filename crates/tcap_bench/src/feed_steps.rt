@@ -49,7 +49,7 @@ fn feed_sum(alloc: Global, width: usize, bytes: &[u8]) -> Option<u64>
     Some(sum)
 }
 
-/// The same; 0 where memory is wanting, and for pieces of no octets.
+/// The sum of `feed_sum`; 0 where memory was refused, and for pieces of no octets.
 pub fn stream_sum(alloc: Global, width: u32, bytes: &[u8]) -> u64
     ensures { (result ≡ stream_checksum bytes.now) ⊎ (result ≡ 0) }
 {

@@ -137,7 +137,7 @@ fn open_and_count(node: &mut Node, step: u8, invocations: u16, laps: u32) -> Opt
     count_laps(node, step, dialogue, invocations, laps)
 }
 
-/// How many outputs the laps give; 0 where memory is wanting.
+/// How many outputs the laps give; 0 where memory runs out.
 pub fn count_invocations(alloc: Global, step: u8, invocations: u16, laps: u32) -> u64
     ensures { (laps ≡ 0) → (result ≡ 0) }
 {

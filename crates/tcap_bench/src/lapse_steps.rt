@@ -75,7 +75,7 @@ fn open_and_count(node: &mut Node, dialogues: u16, together: u16, laps: u32) -> 
     count_laps(&mut node.engine, moments, laps)
 }
 
-/// How many outputs the laps give; 0 where memory is wanting.
+/// How many outputs the laps give; 0 where memory runs out.
 pub fn count_lapses(alloc: Global, dialogues: u16, together: u16, laps: u32) -> u64
     ensures { (laps ≡ 0) → (result ≡ 0) }
 {

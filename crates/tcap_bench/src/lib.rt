@@ -44,7 +44,7 @@ pub extern "C" fn tcap_bench_element(bytes: &[u8]) -> u64
 }
 
 /// Hands a stream to a new feed in pieces of so many octets, and answers the checksum of the lengths of
-/// the messages that it gives. It answers 0 where memory is wanting, and for pieces of no octets (own).
+/// the messages that it gives. It answers 0 where memory runs out, and for pieces of no octets (own).
 #[unsafe(no_mangle)]
 pub extern "C" fn tcap_bench_feed(alloc: Global, width: u32, bytes: &[u8]) -> u64
     ensures { (result ≡ stream_checksum bytes.now) ⊎ (result ≡ 0) }
@@ -52,9 +52,9 @@ pub extern "C" fn tcap_bench_feed(alloc: Global, width: u32, bytes: &[u8]) -> u6
     feed_steps::stream_sum(alloc, width, bytes)
 }
 
-/// Writes a Begin to the front of a room, and answers its length: a dialogue request where the context
+/// Writes a Begin to the beginning of a room, and answers its length: a dialogue request where the context
 /// has octets, and Invokes. It answers 0 where the message can't be written, where the room is too
-/// short and where memory is wanting (own).
+/// short and where memory runs out (own).
 #[unsafe(no_mangle)]
 pub extern "C" fn tcap_bench_write_begin(
     alloc: Global,
@@ -69,7 +69,7 @@ pub extern "C" fn tcap_bench_write_begin(
     written::put_begin(alloc, otid, context, invocations, pool, room)
 }
 
-/// Writes a Continue to the front of a room, and answers its length: a dialogue response that accepts
+/// Writes a Continue to the beginning of a room, and answers its length: a dialogue response that accepts
 /// the context, and a Return Result Last without a body. It answers 0 as `tcap_bench_write_begin` does
 /// (own).
 #[unsafe(no_mangle)]
@@ -86,7 +86,7 @@ pub extern "C" fn tcap_bench_write_continue(
     written::put_continue(alloc, otid, dtid, context, id, room)
 }
 
-/// Reads a message and writes it in the canonical form to the front of a room, and answers its length.
+/// Reads a message and writes it in the canonical form to the beginning of a room, and answers its length.
 /// It answers 0 where the message can't be read, and as `tcap_bench_write_begin` does (own).
 #[unsafe(no_mangle)]
 pub extern "C" fn tcap_bench_rewrite(alloc: Global, bytes: &[u8], room: &mut [u8]) -> usize
@@ -97,7 +97,7 @@ pub extern "C" fn tcap_bench_rewrite(alloc: Global, bytes: &[u8], room: &mut [u8
 
 /// Makes a dialogue and takes it so many steps far, and answers how many outputs were given in all:
 /// 1: an Invoke; 2: the Begin; 3: the message is read and taken; 4: a result is queued; 5: the Continue
-/// with it. It answers 0 where memory is wanting or the message can't be read (own).
+/// with it. It answers 0 where memory runs out or the message can't be read (own).
 #[unsafe(no_mangle)]
 pub extern "C" fn tcap_bench_dialogue(alloc: Global, steps: u8, message: &[u8]) -> u64
     // Before the Begin nothing is sent or told.
@@ -112,7 +112,7 @@ pub extern "C" fn tcap_bench_dialogue(alloc: Global, steps: u8, message: &[u8]) 
 /// result; 2: a Begin with an Invoke is received, and the drawn dialogue answered by a result and a
 /// basic end; 3: a Continue with a result is received, and a Continue with an Invoke sent, and after each
 /// lap a moment is handed in; 4: the next moment is handed in, at which nothing is due. It answers 0 where
-/// memory is wanting (own).
+/// memory runs out (own).
 #[unsafe(no_mangle)]
 pub extern "C" fn tcap_bench_engine(alloc: Global, step: u8, dialogues: u16, laps: u32) -> u64
     // The dialogues that are opened first are no step: in no laps nothing is given.
@@ -124,7 +124,7 @@ pub extern "C" fn tcap_bench_engine(alloc: Global, step: u8, dialogues: u16, lap
 /// Makes an engine with so many Active dialogues, of which so many lapse at each moment from 1 on, and takes
 /// it so many laps far: in a lap each dialogue lapses once. After each moment each dialogue that lapsed goes
 /// on with another Invoke, whose timeout is as many moments as a lap has. It answers how many outputs the
-/// laps gave in all, two for each lapse; 0 where memory is wanting (own).
+/// laps gave in all, two for each lapse; 0 where memory runs out (own).
 #[unsafe(no_mangle)]
 pub extern "C" fn tcap_bench_lapses(alloc: Global, dialogues: u16, together: u16, laps: u32) -> u64
     // The dialogues that are opened first are no step: in no laps nothing is given.
@@ -154,7 +154,7 @@ pub extern "C" fn tcap_bench_invocations(
 
 /// Makes an engine that takes so many turns of traffic drawn by lot over so many dialogues, and answers a
 /// digest of all that it answers. A turn is a request, a message or a moment, some of them out of place, or
-/// what begins a dialogue where one is over. It answers 0 where memory is wanting (own).
+/// what begins a dialogue where one is over. It answers 0 where memory runs out (own).
 #[unsafe(no_mangle)]
 pub extern "C" fn tcap_bench_traffic(alloc: Global, seed: u64, dialogues: u16, turns: u32) -> u64
     ensures { (turns ≡ 0) → (result ≡ 0) }

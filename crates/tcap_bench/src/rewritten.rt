@@ -24,7 +24,7 @@ fn rewrite_dialogue(alloc: Global, content: &[u8]) -> Option<Vec<u8>>
     }
 }
 
-/// The same, where there may be no dialogue portion.
+/// The canonical form of a dialogue portion, where there is one.
 fn rewrite_portion(alloc: Global, dialogue: Option<&[u8]>) -> Option<Option<Vec<u8>>>
     ensures { IfSome result (λ portion. option_map (λ octets. octets.items) portion ≡ option_map rewritten_dialogue (option_copied dialogue.entry)) }
 {
@@ -103,7 +103,7 @@ fn rewrite(alloc: Global, bytes: &[u8]) -> Option<Vec<u8>>
     }
 }
 
-/// Puts the message that the bytes are to the front of a room.
+/// Puts the message that the bytes are to the beginning of a room.
 pub fn put_rewritten(alloc: Global, bytes: &[u8], room: &mut [u8]) -> usize
     ensures { IsPut (rewritten bytes.now) result room.new }
 {

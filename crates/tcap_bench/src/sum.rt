@@ -6,7 +6,7 @@ ghost use Rattle.tcap_bench.specs.Checksum.{added, element_checksum};
 use ber_core::read_element;
 
 /// A number added to a checksum.
-pub fn add(total: u64, number: u64) -> u64
+pub(crate) fn add(total: u64, number: u64) -> u64
     ensures { result ≡ added total number }
 {
     total.wrapping_add(number)

@@ -86,8 +86,8 @@ impl Traffic {
         Some(())
     }
 
-    /// One event, or those of a birth, at a place drawn by lot. A place has the dialogue that was born there
-    /// last; where it is over, another is born.
+    /// One event, or those of a birth, at a place drawn by lot. A place has the dialogue that was created there
+    /// last; where it is over, another is created.
     fn go_on_somewhere(&mut self, peer: &Address, places: &mut [u32]) -> Option<()> {
         let at = self.lot.below(self.dialogues) as usize;
         let place = places.get_mut(at)?;
@@ -124,7 +124,7 @@ fn digest_of(traffic: &mut Traffic, places: &mut [u32], turns: u32) -> Option<u6
     Some(traffic.digest.value())
 }
 
-/// The digest of the answers; 0 where memory is wanting.
+/// The digest of the answers; 0 where memory runs out.
 pub fn traffic_digest(alloc: Global, seed: u64, dialogues: u16, turns: u32) -> u64
     ensures { (turns ≡ 0) → (result ≡ 0) }
 {

@@ -156,8 +156,8 @@ fn write_continue(alloc: Global, otid: u32, dtid: u32, context: &[u8], id: i8) -
     write_frame(alloc, &frame).ok()
 }
 
-/// Copies octets to the front of a room, if it has so much, and tells how many.
-pub fn put(octets: &[u8], room: &mut [u8]) -> usize
+/// Copies octets to the beginning of a room, if it has so much, and tells how many.
+pub(crate) fn put(octets: &[u8], room: &mut [u8]) -> usize
     ensures { IsPut octets.now result room.new }
 {
     if octets.len() > room.len() {
@@ -167,7 +167,7 @@ pub fn put(octets: &[u8], room: &mut [u8]) -> usize
     octets.len()
 }
 
-/// Puts a Begin to the front of a room.
+/// Puts a Begin to the beginning of a room.
 pub fn put_begin(
     alloc: Global,
     otid: u32,
@@ -184,7 +184,7 @@ pub fn put_begin(
     }
 }
 
-/// Puts a Continue to the front of a room.
+/// Puts a Continue to the beginning of a room.
 pub fn put_continue(
     alloc: Global,
     otid: u32,

@@ -1,3 +1,5 @@
+//! A worked caller of the codec: the operation code of a message.
+
 ghost use Rattle.std.specs.Prelude.{◌≡◌};
 ghost use Rattle.tcap_component.specs.Views.{code_parts};
 ghost use Rattle.tcap_callers.specs.Operation.{local_number};

@@ -34,7 +34,7 @@ is_good_of stream bytes = stream_is_good bytes
 abbrev pub SpellsBytes : List ℕ → Type 0
 SpellsBytes hex = (bytes : List ℕ) × (spelled_by hex ≡ Some bytes)
 
--- Why there are no bytes of HEX, and so no text: it spells none, or it spells some and memory is wanting
+-- Why there are no bytes of HEX, and so no text: it spells none, or it spells some and memory runs out
 -- (own).
 abbrev pub IsUnspelled : List ℕ → Refusal → Type 0
 IsUnspelled hex BadCommand = ⊥
@@ -66,7 +66,7 @@ pub record IsAnswered (asked : Asked) (had left old new : Option (List ℕ)) (go
   pub written : Appends old new (text_of asked bytes)
   pub verdict : good ≡ is_good_of asked bytes
 
--- There are bytes, and a front of their text, never all of it, was written behind what the writer held
+-- There are bytes, and a prefix of their text, never all of it, was written behind what the writer held
 -- (own).
 pub record IsCut (asked : Asked) (had left old new : Option (List ℕ)) : Type 0 where
   pub bytes : List ℕ
@@ -90,7 +90,7 @@ IsWanting (canon hex) had left old new = SpellsBytes hex × Keeps old new
 IsWanting play had left old new = IsLeft had left × Keeps old new
 IsWanting stream had left old new = IsShort had left old new
 
--- A write failed: a front of the text was written, never all of it (own).
+-- A write failed: a prefix of the text was written, never all of it (own).
 abbrev pub IsUnwritten : Asked → Option (List ℕ) → Option (List ℕ) → Option (List ℕ) → Option (List ℕ) → Type 0
 IsUnwritten (show hex) had left old new = IsCut (show hex) had left old new
 IsUnwritten (check hex) had left old new = IsCut (check hex) had left old new

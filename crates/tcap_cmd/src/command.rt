@@ -1,3 +1,5 @@
+//! A run of the command: its words, its standard input, what it writes, its status.
+
 ghost use Rattle.std.specs.Prelude.{◌≡◌, Bool, Some, Result, map, MatchResult};
 ghost use Rattle.tcap_words.specs.Spelling.{spelled_by};
 ghost use Rattle.tcap_cmd.specs.CommandLine.{asked, Asked, AskToRead, Reads};

@@ -1,3 +1,5 @@
+//! Why a run of the command came to no verdict.
+
 use ber_core::OutOfMemory;
 use tcap_play::PlayFault;
 use tcap_text::WriteFailed;

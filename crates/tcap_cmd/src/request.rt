@@ -1,3 +1,5 @@
+//! What the words of the command ask for.
+
 /// What the words of the command ask for.
 #[derive(Clone, Copy, Debug, PartialEq, Eq)]
 pub enum Request<'a> {

@@ -1,3 +1,5 @@
+//! The words of the command, read by `clap`.
+
 ghost use Rattle.std.specs.Prelude.{◌≡◌, ◌⊎◌, map, option_map, option_and_then, false, IfOk, MatchResult};
 ghost use Rattle.clap.specs.Words.{app_of, rule_of, subcommand_rows_of};
 ghost use Rattle.tcap_cmd.specs.CommandLine.{hex_rule, tcap_app, asked, asked_by, Ask, AskNothing};
@@ -59,7 +61,7 @@ fn request_of<'a>(matches: &ArgMatches<'a>) -> Option<Request<'a>>
 }
 
 /// What the words after the program's name ask for.
-pub fn read_words<'a>(alloc: Global, words: &'a [&'a str]) -> Result<Request<'a>, Refusal>
+pub(crate) fn read_words<'a>(alloc: Global, words: &'a [&'a str]) -> Result<Request<'a>, Refusal>
     ensures { MatchResult result (λ request. Ask (map (λ w. w.now) words.entry.now) (asked request))
         (λ refusal. (refusal ≡ Refusal.OutOfMemory) ⊎ ((refusal ≡ Refusal.BadCommand) × AskNothing (map (λ w. w.now) words.entry.now))) }
 {

@@ -1,3 +1,5 @@
+//! Components: Invoke, Return Result Last, Return Result Not Last, Return Error, Reject (Q.773, Component type).
+
 pub mod length;
 pub mod parts;
 pub mod range;

@@ -1,3 +1,5 @@
+//! The components of a component portion, one after the other.
+
 ghost use Rattle.std.specs.Prelude.{◌≡◌, List, Option, option_map, IfSome, IfOk};
 ghost use Rattle.std.specs.List.{AllByRecursion};
 ghost use Rattle.ber_core.specs.Place.{AtEnd};

@@ -1,3 +1,5 @@
+//! Why a component can't be read, and why one isn't written.
+
 ghost use Rattle.std.specs.Prelude.{◌≡◌};
 ghost use Rattle.tcap_component.specs.declared.fault.WriteFault.TheVariants.{OutOfMemory};
 ghost use Rattle.tcap_component.specs.Written.{fault_number};

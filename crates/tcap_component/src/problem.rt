@@ -1,3 +1,5 @@
+//! The problem of a Reject (Q.773, Problem).
+
 ghost use Rattle.std.specs.Prelude.{◌≤◌};
 ghost use Rattle.tcap_component.specs.Problem.{problem_limit};
 

@@ -10,7 +10,7 @@ use Rattle.tcap_model.specs.Table.TableMove.{Setting, requested_by, situation}
 use Rattle.tcap_dialogue.specs.FaultViews.{RefusedBy}
 use Rattle.tcap_dialogue.specs.StepViews.{outcome}
 
--- Want of memory is never due.
+-- `OutOfMemory` is never due.
 never : (h : Fault → Bool) → h out_of_memory ≡ false → (fs : List Fault) → first_that h fs ≢ Some out_of_memory
 never h e [] = λ q. cc
 never h e (f ∷ fs) = go (h f) refl (never h e fs)
@@ -19,7 +19,7 @@ never h e (f ∷ fs) = go (h f) refl (never h e fs)
     go true b ih = λ q. let is : Some f ≡ Some out_of_memory = rw b at q in let same : f ≡ out_of_memory = cc in let no_memory : true ≡ false = sym b ∙ ap h same ∙ e in cc
     go false b ih = λ q. ih (rw b at q)
 
--- Each fault but want of memory is a refusal that leaves the dialogue as it was.
+-- Each fault but `OutOfMemory` is a refusal that leaves the dialogue as it was.
 pub refused : (f : Fault) → f ≢ out_of_memory → (d : Dialogue) → RefusedBy f (Answer.refused f, Some d) d d
 refused out_of_memory n d = absurd (n refl)
 refused unknown_dialogue n d = refl

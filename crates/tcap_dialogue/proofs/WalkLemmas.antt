@@ -14,7 +14,7 @@ use Rattle.tcap_primitives.specs.declared.output.Output.TheVariants as output
 use Rattle.tcap_invocation.specs.Invocations.{InvocationList}
 use Rattle.tcap_primitives.specs.declared.output.Output as code
 use Rattle.tcap_primitives.specs.OutputViews.{all_shown, shown}
-use Rattle.tcap_dialogue.specs.Walking.{Told, told_from, Done, done_by, done_from, with_reject}
+use Rattle.tcap_dialogue.specs.Walking.{WalkTold, told_from, Done, done_by, done_from, with_reject}
 
 rejects_each : (queue : List Queued) (reject : Option ComponentParts) (rejects : List Queued) →
     queue_each queue_limit (with_reject queue reject) rejects ≡ queue_each queue_limit queue (reject_queued reject ++ rejects)
@@ -40,7 +40,7 @@ done_step dialogue clock done item items =
     done_before done.told done.queue (handled (Some dialogue) (sent_by_rows dialogue done.list (subject_of item)) item) (walked dialogue clock (after_item clock done.list item) items)
 
 -- The same where nothing is queued.
-pub told_step : (dialogue clock : ℕ) (t : Told) (item : Item) (items : List Item) →
+pub told_step : (dialogue clock : ℕ) (t : WalkTold) (item : Item) (items : List Item) →
     told_from dialogue clock (record {
       told = t.told ++ (handled (Some dialogue) (sent_by_rows dialogue t.list (subject_of item)) item).told ∷ [];
       list = after_item clock t.list item;
@@ -48,7 +48,7 @@ pub told_step : (dialogue clock : ℕ) (t : Told) (item : Item) (items : List It
 told_step dialogue clock t item items =
     let h = handled (Some dialogue) (sent_by_rows dialogue t.list (subject_of item)) item in
     let w = walked dialogue clock (after_item clock t.list item) items in
-    ap (λ (os : List Output). let r : Told = record { told = os; list = w.invocations } in r) (append_assoc t.told (h.told ∷ []) w.told)
+    ap (λ (os : List Output). let r : WalkTold = record { told = os; list = w.invocations } in r) (append_assoc t.told (h.told ∷ []) w.told)
 
 -- The same by what the code says of its step.
 pub done_next : (dialogue clock : ℕ) (told told_new : List Output) (list list_new : InvocationList) (queue queue_new : List Queued) (h : Handled) (item : Item) (items_new items : List Item) →

@@ -19,7 +19,7 @@ takes_memory (Answer.outputs []) = false
 takes_memory (Answer.outputs (o ∷ os)) = true
 takes_memory (Answer.refused f) = false
 
--- A refusal is the one that the table gives, and the dialogue is what it says; want of memory comes only
+-- A refusal is the one that the table gives, and the dialogue is what it says; `OutOfMemory` comes only
 -- where the table's answer takes memory, and leaves the dialogue as it was (own).
 abbrev pub RefusedBy : model_fault.Fault → Outcome → model.Dialogue → model.Dialogue → Type 0
 RefusedBy model_fault.Fault.out_of_memory o old new = (new ≡ old) × IsTrue (takes_memory o.0)

@@ -4,8 +4,8 @@ use Rattle.tcap_component.specs.Component.{ComponentParts}
 use Rattle.tcap_component.specs.Component.ComponentParts.{reject_back}
 use Rattle.tcap_component.specs.Views.{problem_parts}
 use Rattle.tcap_model.specs.Procedures.ComponentHandling as model
-use Rattle.tcap_dialogue.specs.declared.handling.Handled.{Handled}
-use Rattle.tcap_dialogue.specs.declared.handling.Reject.{Reject}
+use Rattle.tcap_dialogue.specs.declared.component_handling.Handled.{Handled}
+use Rattle.tcap_dialogue.specs.declared.component_handling.Reject.{Reject}
 use Rattle.tcap_primitives.specs.OutputViews.{shown}
 
 -- A Reject component (Q.773, Reject component).

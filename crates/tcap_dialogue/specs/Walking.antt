@@ -8,16 +8,16 @@ use Rattle.tcap_model.specs.Table.TableMove.{Walked, walked}
 use Rattle.tcap_model.specs.Words.Output.{Output}
 
 -- What was told, and the invocations (own).
-pub record Told : Type 0 where
+pub record WalkTold : Type 0 where
   pub told : List Output
   pub list : InvocationList
 
 -- What is told in the end, from what was told before (own).
-abbrev pub told_by : List Output → Walked → Told
+abbrev pub told_by : List Output → Walked → WalkTold
 told_by told w = record { told = told ++ w.told; list = w.invocations }
 
 -- The same, from what was told and the components that follow (Q.774, Component handling).
-abbrev pub told_from : ℕ → ℕ → Told → List Item → Told
+abbrev pub told_from : ℕ → ℕ → WalkTold → List Item → WalkTold
 told_from dialogue clock t items = told_by t.told (walked dialogue clock t.list items)
 
 -- What was told, the invocations and the queue (own).

@@ -1,15 +1,17 @@
+//! The dialogue, what it keeps, and what a call on it gives.
+
 pub(crate) mod abort;
 pub(crate) mod ask;
 pub(crate) mod beginning;
+pub(crate) mod component_request_faults;
 pub(crate) mod component_requests;
-pub(crate) mod control_changes;
-pub(crate) mod control_faults;
+pub(crate) mod dialogue_request_changes;
+pub(crate) mod dialogue_request_faults;
 pub(crate) mod dialogue_requests;
 pub(crate) mod ending;
-pub(crate) mod judging;
-pub(crate) mod opening;
-pub(crate) mod reception;
-pub(crate) mod sending;
+pub(crate) mod getters;
+pub(crate) mod messages;
+pub(crate) mod outgoing;
 pub(crate) mod timers;
 
 use std::alloc::{Allocator, Global};
@@ -34,7 +36,7 @@ pub struct Step<'m, A: Allocator = Global> {
 ///   `u_cancel`; `uni`, `begin`, `go_on`, `finish`, `u_abort`; or any of them by `ask`.
 /// - Events from outside: `accept`, which makes the dialogue of a Begin, `take_frame`, `take_fault`;
 ///   time: `lapse`, or one by one `due_count`, `first_due`, `lapse_one` and `free_due`; the end of one
-///   that stood still too long, one by one: `open_count`, `close_one`; or it is put off by `touch`.
+///   that was idle too long, one by one: `open_count`, `close_one`; or it is postponed by `touch`.
 /// - Getters: `identifier`, `state`, `peer`, `kept`, `check_invoke`, `next_timer`, `idle_at`.
 ///
 /// Moments are in milliseconds by the caller's clock, at most 2^62. A contract sees the identifier,

@@ -6,9 +6,9 @@
 //! says (tcap_model/specs/Table/TableMove.antt), and what a contract sees of a value stands in specs/.
 #![tactic(auto)]
 
+mod component_handling;
+mod components;
 mod dialogue;
-mod handling;
-mod receive;
 
 pub use dialogue::ask::Asked;
 pub use dialogue::beginning::take_uni;

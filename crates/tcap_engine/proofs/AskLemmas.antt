@@ -8,14 +8,14 @@ use Rattle.tcap_dialogue.specs.AskViews.{asked_view}
 use Rattle.tcap_dialogue.specs.FaultViews.{RefusedBy}
 use Rattle.tcap_dialogue.specs.StepViews.{Outcome}
 use Rattle.tcap_engine.specs.Asking.{asked_answer, ends_dialogue, PlacesMove, PlacesRefuse}
-use Rattle.tcap_engine.specs.Table.{Place, places_with}
+use Rattle.tcap_engine.specs.Table.{TableEntry, places_with}
 use Rattle.tcap_engine.proofs.TableLemmas.{removed-set}
 use Rattle.tcap_model.specs.Table.Dialogue.{Dialogue}
 use Rattle.tcap_model.specs.Words.Answer.{Answer}
 use Rattle.tcap_model.specs.Words.Fault as model
 
 -- A refusal, where the dialogue was written back.
-module _ (o : Outcome) (old new : Dialogue) (d : ℕ) (ps : List Place) (found : lookup (nat_eq d) ps ≡ Some old) where
+module _ (o : Outcome) (old new : Dialogue) (d : ℕ) (ps : List TableEntry) (found : lookup (nat_eq d) ps ≡ Some old) where
   moved : (answer : Answer) → o ≡ (answer, Some new) → PlacesMove o d answer ps (set_value (nat_eq d) ps new)
   moved answer e = (sym (ap (λ (x : Outcome). x.0) e), ap (λ (x : Outcome). places_with d x.1 ps) (sym e))
 
@@ -37,7 +37,7 @@ module _ (o : Outcome) (old new : Dialogue) (d : ℕ) (ps : List Place) (found :
   refused-placed model.Fault.no_context r = moved _ r
 
 -- An answer, where the dialogue was written back or is taken out.
-module _ {A : Type 0} (new : Dialogue) (d : ℕ) (ps : List Place) where
+module _ {A : Type 0} (new : Dialogue) (d : ℕ) (ps : List TableEntry) where
   answered : (a : Asked A) → (asked_view a new).0 ≡ asked_answer a
   answered (asked.Number number) = refl
   answered asked.Done = refl
@@ -61,7 +61,7 @@ module _ {A : Type 0} (new : Dialogue) (d : ℕ) (ps : List Place) where
       (sym (answered a) ∙ ap (λ (x : Outcome). x.0) e, removed-set d new ps ∙ ap (λ (x : Option Dialogue). places_with d x ps) (sym left))
 
   -- The dialogue was settled: it stands where it isn't over.
-  pub settled-placed : (is_over : Bool) (a : Asked A) (o : Outcome) (qs : List Place) → asked_view a new ≡ o → is_over ≡ ends_dialogue a
+  pub settled-placed : (is_over : Bool) (a : Asked A) (o : Outcome) (qs : List TableEntry) → asked_view a new ≡ o → is_over ≡ ends_dialogue a
       → qs ≡ (if is_over then remove_entry (nat_eq d) (set_value (nat_eq d) ps new) else set_value (nat_eq d) ps new) → PlacesMove o d (asked_answer a) ps qs
   settled-placed true a o qs e is q = rw q (gone-placed a o e (sym is))
   settled-placed false a o qs e is q = rw q (kept-placed a o e (sym is))

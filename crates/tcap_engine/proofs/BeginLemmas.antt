@@ -1,4 +1,4 @@
--- A dialogue that a Begin gives birth to is one that an engine may keep.
+-- A dialogue that a Begin creates is one that an engine may keep.
 use Rattle.std.proofs.Common.{ℕ, List, Option, refl}
 use Rattle.tcap_component.specs.ComponentReading.{components_of}
 use Rattle.tcap_model.specs.Table.Dialogue.{fresh_dialogue}

@@ -9,10 +9,10 @@ use Rattle.tcap_model.specs.Words.Answer.{Answer}
 use Rattle.tcap_model.specs.Words.Event.{Event}
 use Rattle.tcap_model.specs.Words.Fault.{Fault}
 use Rattle.tcap_model.specs.Words.Identifiers.{are_dialogues_spent}
-use Rattle.tcap_engine.specs.Table.{Place, AreFrom, AreDrawn, AreWithin, IsWithin, dialogues_of}
+use Rattle.tcap_engine.specs.Table.{TableEntry, AreFrom, AreDrawn, AreWithin, IsWithin, dialogues_of}
 
 -- No dialogue stands under an identifier that wasn't drawn.
-pub absent-drawn : (d : ℕ) (ps : List Place) → AreDrawn d ps → lookup (nat_eq d) ps ≡ None
+pub absent-drawn : (d : ℕ) (ps : List TableEntry) → AreDrawn d ps → lookup (nat_eq d) ps ≡ None
 absent-drawn d [] h = refl
 absent-drawn d (p ∷ ps) h = go (nat_eq d p.0) refl (absent-drawn d ps h.1)
   where
@@ -20,19 +20,19 @@ absent-drawn d (p ∷ ps) h = go (nat_eq d p.0) refl (absent-drawn d ps h.1)
     go true e rest = let same = eqb-true d p.0 e in let below = h.0 in absurd (omega (arith, same, below))
     go false e rest = rw e rest
 
-pub from-push : (low : ℕ) (ps : List Place) (p : Place) → low ≤ p.0 → p.1.standing.identifier ≡ p.0 → AreDrawn p.0 ps → AreFrom low ps → AreFrom low (ps ++ p ∷ [])
+pub from-push : (low : ℕ) (ps : List TableEntry) (p : TableEntry) → low ≤ p.0 → p.1.standing.identifier ≡ p.0 → AreDrawn p.0 ps → AreFrom low ps → AreFrom low (ps ++ p ∷ [])
 from-push low [] p le is drawn h = (le, is, tt)
 from-push low (q ∷ qs) p le is drawn h = let below = drawn.0 in (h.0, h.1, from-push (q.0 + 1) qs p (omega (arith, below)) is drawn.1 h.2)
 
-pub drawn-push : (next : ℕ) (d : Dialogue) (ps : List Place) → AreDrawn next ps → AreDrawn (next + 1) (ps ++ (next, d) ∷ [])
+pub drawn-push : (next : ℕ) (d : Dialogue) (ps : List TableEntry) → AreDrawn next ps → AreDrawn (next + 1) (ps ++ (next, d) ∷ [])
 drawn-push next d [] h = (omega arith, tt)
 drawn-push next d (p ∷ ps) h = let below = h.0 in (omega (arith, below), drawn-push next d ps h.1)
 
-pub within-push : (reject_ms next : ℕ) (ps : List Place) (p : Place) → IsWithin reject_ms next p.1 → AreWithin reject_ms next ps → AreWithin reject_ms next (ps ++ p ∷ [])
+pub within-push : (reject_ms next : ℕ) (ps : List TableEntry) (p : TableEntry) → IsWithin reject_ms next p.1 → AreWithin reject_ms next ps → AreWithin reject_ms next (ps ++ p ∷ [])
 within-push reject_ms next [] p is h = (is, tt)
 within-push reject_ms next (q ∷ qs) p is h = (h.0, within-push reject_ms next qs p is h.1)
 
-pub dialogues-push : (ps : List Place) (p : Place) → dialogues_of (ps ++ p ∷ []) ≡ dialogues_of ps ++ p.1 ∷ []
+pub dialogues-push : (ps : List TableEntry) (p : TableEntry) → dialogues_of (ps ++ p ∷ []) ≡ dialogues_of ps ++ p.1 ∷ []
 dialogues-push [] p = refl
 dialogues-push (q ∷ qs) p = ap (λ (ds : List Dialogue). q.1 ∷ ds) (dialogues-push qs p)
 
@@ -44,12 +44,12 @@ room-to-be-born w e = go (nat_le w.max_dialogues (length w.dialogues)) refl e
     go true full e = absurd cc
     go false free e = grind (arith, tests, free)
 
--- A dialogue is born where nothing stands in the way.
+-- A dialogue is created where nothing stands in the way.
 pub born_by : (w : World) → birth_fault_in w ≡ None → engine_move w Event.new_dialogue ≡ born_in w (Answer.new_dialogue w.next_dialogue) (fresh_dialogue w.next_dialogue w.reject_ms w.idle_ms)
 unfolding engine_move
 born_by w e = ap (asked_in w) e
 
--- Where it isn't said that none can be born, one can.
+-- Where it isn't said that none can be created, one can.
 pub can_be_born : (o : Option Fault) → is_some o ≡ false → o ≡ None
 can_be_born None e = refl
 can_be_born (Some f) e = absurd cc

@@ -7,7 +7,7 @@ use Rattle.std.specs.Option.{option_map}
 use Rattle.tcap_engine.specs.Lapsing.{AreBehind, IsFirstTimer, due_from, rows_timer, timer_of}
 use Rattle.tcap_dialogue.specs.Timers.{earliest}
 use Rattle.tcap_engine.specs.NextTimer.{times_in, timers_in}
-use Rattle.tcap_engine.specs.Table.{Place, AreFrom, dialogues_of}
+use Rattle.tcap_engine.specs.Table.{TableEntry, AreFrom, dialogues_of}
 use Rattle.tcap_engine.proofs.DueLemmas.{is_sooner, first_in, first-cons, named, order}
 use Rattle.tcap_engine.proofs.OrderLemmas.{in_order-append, front_of, put_all-in_order, first-put_all}
 use Rattle.tcap_engine.proofs.TableLemmas.{apart, found-own}
@@ -23,7 +23,7 @@ use Rattle.timed_table.specs.Row.{is_before}
 -- ---- the first of all, where each dialogue has at most one
 
 module _ {X : Type 0} (before : X → X → Bool) (f : Dialogue → Option X) where
-  abbrev pub first_all : List Place → Option X
+  abbrev pub first_all : List TableEntry → Option X
   first_all [] = None
   first_all (p ∷ ps) = front_of before (f p.1) (first_all ps)
 
@@ -33,7 +33,7 @@ module _ {X : Type 0} (before : X → X → Bool) (f : Dialogue → Option X) wh
     IsAhead y = (before y x ≡ false) × ((before x y ≡ true) ⊎ (y ≡ x))
 
     -- the same of each dialogue but that of an identifier
-    abbrev pub AllAhead : ℕ → List Place → Type 0
+    abbrev pub AllAhead : ℕ → List TableEntry → Type 0
     AllAhead d [] = Unit {0}
     AllAhead d (p ∷ ps) = (nat_eq d p.0 ≡ false → IfSome (f p.1) IsAhead) × AllAhead d ps
 
@@ -42,7 +42,7 @@ module _ {X : Type 0} (before : X → X → Bool) (f : Dialogue → Option X) wh
     either (Some y) None k l = k
     either (Some y) (Some z) k l = elim (before z y) as (λ c. IsAhead (cond c z y)) [ true ↦ l | false ↦ k ]
 
-    ahead-beyond : (d low : ℕ) (ps : List Place) → d < low → AreFrom low ps → AllAhead d ps → IfSome (first_all ps) IsAhead
+    ahead-beyond : (d low : ℕ) (ps : List TableEntry) → d < low → AreFrom low ps → AllAhead d ps → IfSome (first_all ps) IsAhead
     ahead-beyond d low [] lt from h = tt
     ahead-beyond d low (p ∷ ps) lt from h =
         let le = from.0 in
@@ -71,7 +71,7 @@ module _ {X : Type 0} (before : X → X → Bool) (f : Dialogue → Option X) wh
             alike false = refl
 
     -- it is the first of all
-    pub first-at : (d low : ℕ) (w : Dialogue) (ps : List Place) → AreFrom low ps → lookup (nat_eq d) ps ≡ Some w → f w ≡ Some x → AllAhead d ps → first_all ps ≡ Some x
+    pub first-at : (d low : ℕ) (w : Dialogue) (ps : List TableEntry) → AreFrom low ps → lookup (nat_eq d) ps ≡ Some w → f w ≡ Some x → AllAhead d ps → first_all ps ≡ Some x
     first-at d low w [] from found is h = absurd cc
     first-at d low w (p ∷ ps) from found is h = go (nat_eq d p.0) refl found (λ k. first-at d (p.0 + 1) w ps from.2 k is h.1)
       where
@@ -84,13 +84,13 @@ module _ {X : Type 0} (before : X → X → Bool) (f : Dialogue → Option X) wh
 
 -- ---- the lapse that is told first
 
-all-first : (now : ℕ) (ps : List Place) → first_of (order now (dialogues_of ps)) ≡ first_all is_sooner (first_in now) ps
+all-first : (now : ℕ) (ps : List TableEntry) → first_of (order now (dialogues_of ps)) ≡ first_all is_sooner (first_in now) ps
 all-first now [] = refl
 all-first now (p ∷ ps) = first-cons now p.1 (dialogues_of ps) ∙ ap (front_of is_sooner (first_in now p.1)) (all-first now ps)
 
 module _ (now t d : ℕ) (l : Lapse) (at : l.deadline ≡ t) where
   -- a lapse of another dialogue, whose timer runs out behind
-  behind-lapse : (p : Place) (time : ℕ) (z : Lapse) → p.1.standing.identifier ≡ p.0 → nat_eq d p.0 ≡ false → is_before (time, p.0) (t, d) ≡ false → time ≤ z.deadline
+  behind-lapse : (p : TableEntry) (time : ℕ) (z : Lapse) → p.1.standing.identifier ≡ p.0 → nat_eq d p.0 ≡ false → is_before (time, p.0) (t, d) ≡ false → time ≤ z.deadline
       → IsAhead is_sooner (first_in now) (due_from d l) (named p.1.standing.identifier z)
   behind-lapse p time z own other behind le =
       let sooner : is_sooner (due_from d l) (named p.1.standing.identifier z) ≡ true = grind (arith, tests, own, other, behind, le, at) in
@@ -107,7 +107,7 @@ module _ (now t d : ℕ) (l : Lapse) (at : l.deadline ≡ t) where
       go true e h = grind (arith, tests, e, h)
       go false e h = h
 
-  ahead-lapse : (p : Place) → p.1.standing.identifier ≡ p.0 → IfSome (timer_of p.1) (λ time. is_before (time, p.0) (t, d) ≡ false) → nat_eq d p.0 ≡ false → IfSome (first_in now p.1) (IsAhead is_sooner (first_in now) (due_from d l))
+  ahead-lapse : (p : TableEntry) → p.1.standing.identifier ≡ p.0 → IfSome (timer_of p.1) (λ time. is_before (time, p.0) (t, d) ≡ false) → nat_eq d p.0 ≡ false → IfSome (first_in now p.1) (IsAhead is_sooner (first_in now) (due_from d l))
   ahead-lapse p own behind other = go (rows_timer p.1) refl (rows-behind p.0 (rows_timer p.1) (idle_end p.1) behind) (first_due_at now p.1.invocations.rows) refl
     where
       go : (o : Option ℕ) → rows_timer p.1 ≡ o → IfSome o (λ time. is_before (time, p.0) (t, d) ≡ false) → (z : Option Lapse) → first_due_at now p.1.invocations.rows ≡ z
@@ -121,12 +121,12 @@ module _ (now t d : ℕ) (l : Lapse) (at : l.deadline ≡ t) where
           let from = subst (λ o. IfSome o (λ y. time ≤ y.deadline)) k (first-from now time p.1.invocations.rows (least-from time (times_of p.1.invocations.rows) e)) in
           behind-lapse p time z own other b from
 
-  all-ahead-lapse : (low : ℕ) (ps : List Place) → AreFrom low ps → AreBehind (t, d) ps → AllAhead is_sooner (first_in now) (due_from d l) d ps
+  all-ahead-lapse : (low : ℕ) (ps : List TableEntry) → AreFrom low ps → AreBehind (t, d) ps → AllAhead is_sooner (first_in now) (due_from d l) d ps
   all-ahead-lapse low [] from h = tt
   all-ahead-lapse low (p ∷ ps) from h = (ahead-lapse p from.1 h.0, all-ahead-lapse (p.0 + 1) ps from.2 h.1)
 
   -- The first lapse of the dialogue with the first timer is told first, if it lapses then.
-  pub first-told : (ps : List Place) (w : Dialogue) → AreFrom 0 ps → lookup (nat_eq d) ps ≡ Some w → AreBehind (t, d) ps → first_due_at now w.invocations.rows ≡ Some l
+  pub first-told : (ps : List TableEntry) (w : Dialogue) → AreFrom 0 ps → lookup (nat_eq d) ps ≡ Some w → AreBehind (t, d) ps → first_due_at now w.invocations.rows ≡ Some l
       → first_of (order now (dialogues_of ps)) ≡ Some (due_from d l)
   first-told ps w from found behind first =
       let own : w.standing.identifier ≡ d = found-own d 0 w ps from found in
@@ -164,14 +164,14 @@ least-times d =
     ∙ ap (front_of nat_lt (rows_timer d)) (least-one (idle_end d))
     ∙ front-earliest (rows_timer d) (idle_end d)
 
-least-all : (ps : List Place) → least (timers_in (dialogues_of ps)) ≡ first_all nat_lt timer_of ps
+least-all : (ps : List TableEntry) → least (timers_in (dialogues_of ps)) ≡ first_all nat_lt timer_of ps
 least-all [] = refl
 least-all (p ∷ ps) =
     first-append (times_in p.1) (timers_in (dialogues_of ps))
     ∙ ap (λ o. front_of nat_lt o (least (timers_in (dialogues_of ps)))) (least-times p.1)
     ∙ ap (front_of nat_lt (timer_of p.1)) (least-all ps)
 
-ahead-timer : (t d : ℕ) (p : Place) (o : Option ℕ) → IfSome o (λ time. is_before (time, p.0) (t, d) ≡ false) → IfSome o (IsAhead nat_lt timer_of t)
+ahead-timer : (t d : ℕ) (p : TableEntry) (o : Option ℕ) → IfSome o (λ time. is_before (time, p.0) (t, d) ≡ false) → IfSome o (IsAhead nat_lt timer_of t)
 ahead-timer t d p None h = tt
 ahead-timer t d p (Some time) h =
     let later : nat_lt time t ≡ false = grind (arith, tests, h) in
@@ -181,10 +181,10 @@ ahead-timer t d p (Some time) h =
     go (inl e) = inl e
     go (inr e) = inr (grind (arith, tests, e, h))
 
-all-ahead-timer : (t d : ℕ) (ps : List Place) → AreBehind (t, d) ps → AllAhead nat_lt timer_of t d ps
+all-ahead-timer : (t d : ℕ) (ps : List TableEntry) → AreBehind (t, d) ps → AllAhead nat_lt timer_of t d ps
 all-ahead-timer t d [] h = tt
 all-ahead-timer t d (p ∷ ps) h = (λ other. ahead-timer t d p (timer_of p.1) h.0, all-ahead-timer t d ps h.1)
 
 -- The first timer is the least of all.
-pub least-timer : (ps : List Place) (first : ℕ × ℕ) → AreFrom 0 ps → IsFirstTimer ps first → least (timers_in (dialogues_of ps)) ≡ Some first.0
+pub least-timer : (ps : List TableEntry) (first : ℕ × ℕ) → AreFrom 0 ps → IsFirstTimer ps first → least (timers_in (dialogues_of ps)) ≡ Some first.0
 least-timer ps first from h = least-all ps ∙ first-at nat_lt timer_of first.0 first.1 0 h.dialogue ps from h.stands h.timer (all-ahead-timer first.0 first.1 ps h.least)

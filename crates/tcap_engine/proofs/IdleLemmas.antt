@@ -1,17 +1,17 @@
--- Dialogues that have stood still too long at a moment: which is told first, and that each is told once.
+-- Dialogues that have been idle too long at a moment: which is told first, and that each is told once.
 use Rattle.std.proofs.Common.{◌≡◌, ◌⊎◌, inl, inr, ℕ, ◌+◌, ◌<◌, ◌≤◌, Bool, true, false, cond, ◌&&◌, ◌||◌, nat_eq, nat_lt, nat_le, List, [], ◌∷◌, ◌++◌, map, filter, Some, None, refl, ap, sym, subst, ◌∙◌, arith, tests}
 use Rattle.std.proofs.lemmas.Bool.{cases_Bool}
 use Rattle.std.specs.List.{AllByRecursion}
 use Rattle.std.specs.Prelude.{IfSome}
 use Rattle.std.specs.Map.{lookup, set_value}
-use Rattle.tcap_engine.specs.Ending.{AreApart, idle_ids, is_among}
-use Rattle.tcap_engine.specs.Table.{Place, AreFrom, dialogues_of}
+use Rattle.tcap_engine.specs.Ending.{AreDistinct, idle_ids, is_among}
+use Rattle.tcap_engine.specs.Table.{TableEntry, AreFrom, dialogues_of}
 use Rattle.tcap_engine.proofs.OrderLemmas.{put-put}
 use Rattle.tcap_engine.proofs.TableLemmas.{apart, found-own}
 use Rattle.tcap_invocation.specs.Order.{put_by, in_order_by}
 use Rattle.tcap_invocation.proofs.CallerLemmas.{all_in_order}
 use Rattle.tcap_model.specs.Table.Dialogue.{Dialogue, idle_end, is_idle_at, touched_at, with_invocations}
-use Rattle.tcap_model.specs.Table.DueLapses.{idle_at_moment, idle_key}
+use Rattle.tcap_model.specs.Table.DueLapses.{idle_at_moment, table_idle_key}
 use Rattle.tcap_model.specs.Words.KeyOrder.{comes_before, key_before}
 use Rattle.tcap_model.specs.Words.State.{is_live}
 use Rattle.timed_table.specs.Row.{is_before}
@@ -19,7 +19,7 @@ use Rattle.timed_table.specs.Row.{is_before}
 -- ---- the order
 
 abbrev pub is_older : Dialogue → Dialogue → Bool
-is_older a b = key_before idle_key a b
+is_older a b = key_before table_idle_key a b
 
 older-once : (a b : Dialogue) → is_older a b ≡ true → is_older b a ≡ false
 older-once a b h = grind (arith, tests, h)
@@ -53,25 +53,25 @@ put-front x (z ∷ zs) h = go (is_older z x) refl h
 
 -- ---- the dialogues in it
 
-abbrev pub idle_in : ℕ → List Place → List Dialogue
+abbrev pub idle_in : ℕ → List TableEntry → List Dialogue
 idle_in now ps = filter (is_idle_at now) (dialogues_of ps)
 
-abbrev pub stood : ℕ → List Place → List Dialogue
+abbrev pub stood : ℕ → List TableEntry → List Dialogue
 stood now ps = idle_at_moment now (dialogues_of ps)
 
-stood-idle : (now : ℕ) (p : Place) (ps : List Place) → is_idle_at now p.1 ≡ true → stood now (p ∷ ps) ≡ put_by is_older p.1 (stood now ps)
+stood-idle : (now : ℕ) (p : TableEntry) (ps : List TableEntry) → is_idle_at now p.1 ≡ true → stood now (p ∷ ps) ≡ put_by is_older p.1 (stood now ps)
 stood-idle now p ps e = ap (λ b. in_order_by is_older (cond b (p.1 ∷ idle_in now ps) (idle_in now ps))) e
 
-stood-still : (now : ℕ) (p : Place) (ps : List Place) → is_idle_at now p.1 ≡ false → stood now (p ∷ ps) ≡ stood now ps
+stood-still : (now : ℕ) (p : TableEntry) (ps : List TableEntry) → is_idle_at now p.1 ≡ false → stood now (p ∷ ps) ≡ stood now ps
 stood-still now p ps e = ap (λ b. in_order_by is_older (cond b (p.1 ∷ idle_in now ps) (idle_in now ps))) e
 
 -- Where a dialogue is touched, it is put among the others.
-idle-put : (now low d : ℕ) (old new : Dialogue) (ps : List Place) → AreFrom low ps → lookup (nat_eq d) ps ≡ Some old → old.standing.identifier ≡ d → is_idle_at now old ≡ true → is_idle_at now new ≡ false
+idle-put : (now low d : ℕ) (old new : Dialogue) (ps : List TableEntry) → AreFrom low ps → lookup (nat_eq d) ps ≡ Some old → old.standing.identifier ≡ d → is_idle_at now old ≡ true → is_idle_at now new ≡ false
     → stood now ps ≡ put_by is_older old (stood now (set_value (nat_eq d) ps new))
 idle-put now low d old new [] from found own idle still = absurd cc
 idle-put now low d old new (p ∷ ps) from found own idle still = go (nat_eq d p.0) refl found (λ f. idle-put now (p.0 + 1) d old new ps from.2 f own idle still)
   where
-    others : List Place
+    others : List TableEntry
     others = set_value (nat_eq d) ps new
 
     past : nat_eq p.0 d ≡ false → (b : Bool) → is_idle_at now p.1 ≡ b → stood now ps ≡ put_by is_older old (stood now others) → stood now (p ∷ ps) ≡ put_by is_older old (stood now (p ∷ others))
@@ -89,8 +89,8 @@ idle-put now low d old new (p ∷ ps) from found own idle still = go (nat_eq d p
 
 -- ---- the first
 
--- Each dialogue has stood still too long behind this moment and identifier, or is the one of both.
-abbrev pub AreIdleBehind : ℕ × ℕ → List Place → Type 0
+-- Each dialogue has been idle too long behind this moment and identifier, or is the one of both.
+abbrev pub AreIdleBehind : ℕ × ℕ → List TableEntry → Type 0
 AreIdleBehind first [] = Unit {0}
 AreIdleBehind first (p ∷ ps) = IfSome (idle_end p.1) (λ time. is_before (time, p.0) first ≡ false) × AreIdleBehind first ps
 
@@ -118,7 +118,7 @@ idle-ends now w idle = go (is_live w.standing.state) (nat_lt 0 w.idle_ms) idle
     go true false e = absurd cc
     go false b e = absurd cc
 
--- One that is touched then doesn't stand still.
+-- One that is touched then doesn't stay idle.
 touched-still : (now : ℕ) (w : Dialogue) → is_idle_at now (touched_at w now) ≡ false
 touched-still now w = go (is_live w.standing.state) (cases_Bool (nat_lt 0 w.idle_ms))
   where
@@ -130,7 +130,7 @@ touched-still now w = go (is_live w.standing.state) (cases_Bool (nat_lt 0 w.idle
 key-behind : (x w : Dialogue) → is_before (x.touched + x.idle_ms, x.standing.identifier) (w.touched + w.idle_ms, w.standing.identifier) ≡ false → is_older x w ≡ false
 key-behind x w h = grind (arith, tests, h)
 
-none-older : (now low t d : ℕ) (w : Dialogue) (ps : List Place) → AreFrom low ps → w.touched + w.idle_ms ≡ t → w.standing.identifier ≡ d → AreIdleBehind (t, d) ps → AllByRecursion (λ y. is_older y w ≡ false) (idle_in now ps)
+none-older : (now low t d : ℕ) (w : Dialogue) (ps : List TableEntry) → AreFrom low ps → w.touched + w.idle_ms ≡ t → w.standing.identifier ≡ d → AreIdleBehind (t, d) ps → AllByRecursion (λ y. is_older y w ≡ false) (idle_in now ps)
 none-older now low t d w [] from at own behind = tt
 none-older now low t d w (p ∷ ps) from at own behind = go (is_idle_at now p.1) refl (none-older now (p.0 + 1) t d w ps from.2 at own behind.1)
   where
@@ -143,7 +143,7 @@ none-older now low t d w (p ∷ ps) from at own behind = go (is_idle_at now p.1)
     go false e ih = ih
 
 -- The dialogue whose limit is reached first is told, and then the rest.
-pub idle-first : (now t d : ℕ) (w : Dialogue) (ps : List Place) → AreFrom 0 ps → lookup (nat_eq d) ps ≡ Some w → idle_end w ≡ Some t → t ≤ now → AreIdleBehind (t, d) ps
+pub idle-first : (now t d : ℕ) (w : Dialogue) (ps : List TableEntry) → AreFrom 0 ps → lookup (nat_eq d) ps ≡ Some w → idle_end w ≡ Some t → t ≤ now → AreIdleBehind (t, d) ps
     → idle_ids now ps ≡ d ∷ idle_ids now (set_value (nat_eq d) ps (touched_at w now))
 idle-first now t d w ps from found ends le behind =
     let own : w.standing.identifier ≡ d = found-own d 0 w ps from found in
@@ -178,7 +178,7 @@ ids-keys : (xs : List Dialogue) → map (λ d. d.standing.identifier) xs ≡ map
 ids-keys [] = refl
 ids-keys (x ∷ xs) = ap (λ (l : List ℕ). x.standing.identifier ∷ l) (ids-keys xs)
 
-keys-same : (now d : ℕ) (old new : Dialogue) (ps : List Place) → lookup (nat_eq d) ps ≡ Some old → new ≡ with_invocations old new.invocations → map key_of (idle_in now (set_value (nat_eq d) ps new)) ≡ map key_of (idle_in now ps)
+keys-same : (now d : ℕ) (old new : Dialogue) (ps : List TableEntry) → lookup (nat_eq d) ps ≡ Some old → new ≡ with_invocations old new.invocations → map key_of (idle_in now (set_value (nat_eq d) ps new)) ≡ map key_of (idle_in now ps)
 keys-same now d old new [] found is = refl
 keys-same now d old new (p ∷ ps) found is = go (nat_eq d p.0) found (λ f. keys-same now d old new ps f is)
   where
@@ -203,11 +203,11 @@ keys-same now d old new (p ∷ ps) found is = go (nat_eq d p.0) found (λ f. key
     go false f ih = split p.1 (dialogues_of (set_value (nat_eq d) ps new)) ∙ ap (one (is_idle_at now p.1) (key_of p.1)) (ih f) ∙ sym (split p.1 (dialogues_of ps))
 
 -- Other invocations in a dialogue leave them as they are.
-pub idle-same : (now d : ℕ) (old new : Dialogue) (ps : List Place) → lookup (nat_eq d) ps ≡ Some old → new ≡ with_invocations old new.invocations → idle_ids now (set_value (nat_eq d) ps new) ≡ idle_ids now ps
+pub idle-same : (now d : ℕ) (old new : Dialogue) (ps : List TableEntry) → lookup (nat_eq d) ps ≡ Some old → new ≡ with_invocations old new.invocations → idle_ids now (set_value (nat_eq d) ps new) ≡ idle_ids now ps
 idle-same now d old new ps found is =
     by-keys (set_value (nat_eq d) ps new) ∙ ap (λ (l : List (ℕ × ℕ)). map (λ (k : ℕ × ℕ). k.1) (in_order_by by_key l)) (keys-same now d old new ps found is) ∙ sym (by-keys ps)
   where
-    by-keys : (qs : List Place) → idle_ids now qs ≡ map (λ (k : ℕ × ℕ). k.1) (in_order_by by_key (map key_of (idle_in now qs)))
+    by-keys : (qs : List TableEntry) → idle_ids now qs ≡ map (λ (k : ℕ × ℕ). k.1) (in_order_by by_key (map key_of (idle_in now qs)))
     by-keys qs = ids-keys (stood now qs) ∙ ap (map (λ (k : ℕ × ℕ). k.1)) (keys-in_order (idle_in now qs))
 
 -- ---- each once
@@ -244,7 +244,7 @@ among-in_order n [] = refl
 among-in_order n (x ∷ xs) = among-put n x (in_order_by is_older xs) ∙ ap (λ b. nat_eq n x.standing.identifier || b) (among-in_order n xs)
 
 -- None that is lower is among them.
-pub among-below : (now n low : ℕ) (ps : List Place) → n < low → AreFrom low ps → is_among (ids_of (idle_in now ps)) n ≡ false
+pub among-below : (now n low : ℕ) (ps : List TableEntry) → n < low → AreFrom low ps → is_among (ids_of (idle_in now ps)) n ≡ false
 among-below now n low [] lt from = refl
 among-below now n low (p ∷ ps) lt from = go (is_idle_at now p.1) (let le = from.0 in among-below now n (p.0 + 1) ps (omega (arith, lt, le)) from.2)
   where
@@ -255,7 +255,7 @@ among-below now n low (p ∷ ps) lt from = go (is_idle_at now p.1) (let le = fro
     go true ih = ap (λ b. b || is_among (ids_of (idle_in now ps)) n) other ∙ ih
     go false ih = ih
 
-apart-put : (x : Dialogue) (ys : List Dialogue) → is_among (ids_of ys) x.standing.identifier ≡ false → AreApart (ids_of ys) → AreApart (ids_of (put_by is_older x ys))
+apart-put : (x : Dialogue) (ys : List Dialogue) → is_among (ids_of ys) x.standing.identifier ≡ false → AreDistinct (ids_of ys) → AreDistinct (ids_of (put_by is_older x ys))
 apart-put x [] none h = (refl, tt)
 apart-put x (y ∷ ys) none h = go (is_older y x) (nat_eq x.standing.identifier y.standing.identifier) refl none (λ k. apart-put x ys k h.1)
   where
@@ -265,24 +265,24 @@ apart-put x (y ∷ ys) none h = go (is_older y x) (nat_eq x.standing.identifier 
     j : ℕ
     j = y.standing.identifier
 
-    go : (b c : Bool) → nat_eq i j ≡ c → (c || is_among (ids_of ys) i) ≡ false → (is_among (ids_of ys) i ≡ false → AreApart (ids_of (put_by is_older x ys))) → AreApart (ids_of (cond b (y ∷ put_by is_older x ys) (x ∷ y ∷ ys)))
+    go : (b c : Bool) → nat_eq i j ≡ c → (c || is_among (ids_of ys) i) ≡ false → (is_among (ids_of ys) i ≡ false → AreDistinct (ids_of (put_by is_older x ys))) → AreDistinct (ids_of (cond b (y ∷ put_by is_older x ys) (x ∷ y ∷ ys)))
     go b true e k ih = absurd cc
     go true false e k ih =
         let back : nat_eq j i ≡ false = grind (arith, tests, e) in
         (among-put j x ys ∙ ap (λ b. b || is_among (ids_of ys) j) back ∙ h.0, ih k)
     go false false e k ih = (ap (λ b. b || is_among (ids_of ys) i) e ∙ k, h)
 
-apart-from : (now low : ℕ) (ps : List Place) → AreFrom low ps → AreApart (ids_of (stood now ps))
+apart-from : (now low : ℕ) (ps : List TableEntry) → AreFrom low ps → AreDistinct (ids_of (stood now ps))
 apart-from now low [] from = tt
 apart-from now low (p ∷ ps) from = go (is_idle_at now p.1) refl (apart-from now (p.0 + 1) ps from.2)
   where
-    go : (b : Bool) → is_idle_at now p.1 ≡ b → AreApart (ids_of (stood now ps)) → AreApart (ids_of (in_order_by is_older (cond b (p.1 ∷ idle_in now ps) (idle_in now ps))))
+    go : (b : Bool) → is_idle_at now p.1 ≡ b → AreDistinct (ids_of (stood now ps)) → AreDistinct (ids_of (in_order_by is_older (cond b (p.1 ∷ idle_in now ps) (idle_in now ps))))
     go true e ih =
         let none : is_among (ids_of (stood now ps)) p.1.standing.identifier ≡ false =
         ap (is_among (ids_of (stood now ps))) from.1 ∙ among-in_order p.0 (idle_in now ps) ∙ among-below now p.0 (p.0 + 1) ps (omega arith) from.2 in
         apart-put p.1 (stood now ps) none ih
     go false e ih = ih
 
--- Each dialogue that has stood still too long is told once.
-pub idle-distinct : (now : ℕ) (ps : List Place) → AreFrom 0 ps → AreApart (idle_ids now ps)
+-- Each dialogue that has been idle too long is told once.
+pub idle-distinct : (now : ℕ) (ps : List TableEntry) → AreFrom 0 ps → AreDistinct (idle_ids now ps)
 idle-distinct now ps from = apart-from now 0 ps from

@@ -10,13 +10,13 @@ use Rattle.tcap_invocation.specs.Lapses.{told_at}
 use Rattle.tcap_invocation.specs.Order.{put_by, first_of}
 use Rattle.tcap_invocation.proofs.CallerLemmas.{length-in_order}
 use Rattle.tcap_model.specs.Table.Dialogue.{Dialogue, idle_end, with_invocations}
-use Rattle.tcap_model.specs.Table.DueLapses.{DueLapse, all_due, all_told, at_moment, due_told, idle_told}
+use Rattle.tcap_model.specs.Table.DueLapses.{DueLapse, all_due, all_told, at_moment, due_told, table_idle_told}
 use Rattle.tcap_dialogue.specs.Timers.{earliest}
 use Rattle.tcap_engine.specs.Ending.{idle_ids}
 use Rattle.tcap_engine.specs.Lapsing.{AreBehind, IsFirstTimer, IsPassed, IsPassedIn, IsPutOff, IsRunOut, due_from, idle_of, row_count, rows_timer, timer_of, told_of}
 use Rattle.tcap_engine.specs.declared.engine.moment.Passed.{Passed}
 use Rattle.tcap_engine.specs.declared.engine.moment.Passed.TheVariants as passed
-use Rattle.tcap_engine.specs.Table.{Place, AreFrom, dialogues_of}
+use Rattle.tcap_engine.specs.Table.{TableEntry, AreFrom, dialogues_of}
 use Rattle.tcap_engine.proofs.OrderLemmas.{put_all, put-put, put-first}
 use Rattle.tcap_engine.proofs.DueLemmas.{is_sooner, sooner-never, sooner-once, sooner-behind, sooner-through, named, told_in, order, order-cons}
 use Rattle.tcap_engine.proofs.FirstLemmas.{first-told}
@@ -46,7 +46,7 @@ past-put now i x (l ∷ ls) zs other =
         sym (put-put is_sooner sooner-once sooner-behind sooner-through (named i l) x rest back)
 
 -- Where the first of a dialogue has lapsed, it is put among what is due then.
-pub put-lapsed : (now low : ℕ) (ps : List Place) (x : DueLapse) (old new : Dialogue) → AreFrom low ps → lookup (nat_eq x.dialogue) ps ≡ Some old → new.standing.identifier ≡ x.dialogue
+pub put-lapsed : (now low : ℕ) (ps : List TableEntry) (x : DueLapse) (old new : Dialogue) → AreFrom low ps → lookup (nat_eq x.dialogue) ps ≡ Some old → new.standing.identifier ≡ x.dialogue
     → told_at now old.invocations.rows ≡ x.lapse ∷ told_at now new.invocations.rows
     → order now (dialogues_of ps) ≡ put_by is_sooner x (order now (dialogues_of (set_value (nat_eq x.dialogue) ps new)))
 put-lapsed now low [] x old new h found own told = absurd cc
@@ -73,7 +73,7 @@ put-lapsed now low (p ∷ ps) x old new h found own told = go (nat_eq x.dialogue
         ∙ ap (put_by is_sooner x) (sym (order-cons now p.1 (dialogues_of (set_value (nat_eq x.dialogue) ps new))))
 
 -- The first is told, and then the rest.
-pub least-first : (now : ℕ) (ps : List Place) (x : DueLapse) (old new : Dialogue) → AreFrom 0 ps → first_of (order now (dialogues_of ps)) ≡ Some x → lookup (nat_eq x.dialogue) ps ≡ Some old → new.standing.identifier ≡ x.dialogue
+pub least-first : (now : ℕ) (ps : List TableEntry) (x : DueLapse) (old new : Dialogue) → AreFrom 0 ps → first_of (order now (dialogues_of ps)) ≡ Some x → lookup (nat_eq x.dialogue) ps ≡ Some old → new.standing.identifier ≡ x.dialogue
     → told_at now old.invocations.rows ≡ x.lapse ∷ told_at now new.invocations.rows
     → all_told now (dialogues_of ps) ≡ due_told x ∷ all_told now (dialogues_of (set_value (nat_eq x.dialogue) ps new))
 least-first now ps x old new h first found own told =
@@ -85,7 +85,7 @@ pub length-all_told : (now : ℕ) (ds : List Dialogue) → length (all_told now 
 length-all_told now ds = length-map (order now ds) due_told ∙ length-in_order is_sooner (all_due now ds)
 
 -- Where a dialogue tells the same, all tell the same.
-order-same : (now d : ℕ) (old new : Dialogue) (ps : List Place) → lookup (nat_eq d) ps ≡ Some old → told_in now new ≡ told_in now old → order now (dialogues_of (set_value (nat_eq d) ps new)) ≡ order now (dialogues_of ps)
+order-same : (now d : ℕ) (old new : Dialogue) (ps : List TableEntry) → lookup (nat_eq d) ps ≡ Some old → told_in now new ≡ told_in now old → order now (dialogues_of (set_value (nat_eq d) ps new)) ≡ order now (dialogues_of ps)
 order-same now d old new [] found same = refl
 order-same now d old new (p ∷ ps) found same = go (nat_eq d p.0) found (λ f. order-same now d old new ps f same)
   where
@@ -99,7 +99,7 @@ order-same now d old new (p ∷ ps) found same = go (nat_eq d p.0) found (λ f. 
         order-cons now new rest ∙ ap (λ (xs : List DueLapse). put_all is_sooner xs (order now rest)) (same ∙ ap (told_in now) (sym is)) ∙ sym (order-cons now p.1 rest)
     go false f ih = order-cons now p.1 (dialogues_of (set_value (nat_eq d) ps new)) ∙ ap (put_all is_sooner (told_in now p.1)) (ih f) ∙ sym (order-cons now p.1 rest)
 
-row_count-set : (d : ℕ) (old new : Dialogue) (ps : List Place) → lookup (nat_eq d) ps ≡ Some old → length new.invocations.rows < length old.invocations.rows → row_count (set_value (nat_eq d) ps new) < row_count ps
+row_count-set : (d : ℕ) (old new : Dialogue) (ps : List TableEntry) → lookup (nat_eq d) ps ≡ Some old → length new.invocations.rows < length old.invocations.rows → row_count (set_value (nat_eq d) ps new) < row_count ps
 row_count-set d old new [] found fewer = absurd cc
 row_count-set d old new (p ∷ ps) found fewer = go (nat_eq d p.0) found (λ f. row_count-set d old new ps f fewer)
   where
@@ -108,7 +108,7 @@ row_count-set d old new (p ∷ ps) found fewer = go (nat_eq d p.0) found (λ f. 
     go true f ih = let is : p.1 ≡ old = cc in let same = ap (λ (w : Dialogue). length w.invocations.rows) is in omega (arith, same, fewer)
     go false f ih = let rest = ih f in omega (arith, rest)
 
-row_count-same : (d : ℕ) (old new : Dialogue) (ps : List Place) → lookup (nat_eq d) ps ≡ Some old → length new.invocations.rows ≡ length old.invocations.rows → row_count (set_value (nat_eq d) ps new) ≡ row_count ps
+row_count-same : (d : ℕ) (old new : Dialogue) (ps : List TableEntry) → lookup (nat_eq d) ps ≡ Some old → length new.invocations.rows ≡ length old.invocations.rows → row_count (set_value (nat_eq d) ps new) ≡ row_count ps
 row_count-same d old new [] found same = refl
 row_count-same d old new (p ∷ ps) found same = go (nat_eq d p.0) found (λ f. row_count-same d old new ps f same)
   where
@@ -118,7 +118,7 @@ row_count-same d old new (p ∷ ps) found same = go (nat_eq d p.0) found (λ f. 
     go false f ih = ap (λ n. length p.1.invocations.rows + n) (ih f)
 
 -- The ends of the others are behind.
-idle-behind : (first : ℕ × ℕ) (ps : List Place) → AreBehind first ps → AreIdleBehind first ps
+idle-behind : (first : ℕ × ℕ) (ps : List TableEntry) → AreBehind first ps → AreIdleBehind first ps
 idle-behind first [] h = tt
 idle-behind first (p ∷ ps) h = (one (rows_timer p.1) (idle_end p.1) h.0, idle-behind first ps h.1)
   where
@@ -132,7 +132,7 @@ idle-behind first (p ∷ ps) h = (one (rows_timer p.1) (idle_end p.1) h.0, idle-
         go false e h = grind (arith, tests, e, h)
 
 -- A timer of its invocations has run out, in the dialogue that was written.
-run-out-told : (now t d : ℕ) (lapse : Option Lapse) (ps : List Place) (old new : Dialogue) → AreFrom 0 ps → IsFirstTimer ps (t, d) → lookup (nat_eq d) ps ≡ Some old → IsRunOut now t lapse old new → new.standing.identifier ≡ d
+run-out-told : (now t d : ℕ) (lapse : Option Lapse) (ps : List TableEntry) (old new : Dialogue) → AreFrom 0 ps → IsFirstTimer ps (t, d) → lookup (nat_eq d) ps ≡ Some old → IsRunOut now t lapse old new → new.standing.identifier ≡ d
     → all_told now (dialogues_of ps) ≡ option_to_list (option_map (λ l. due_told (due_from d l)) lapse) ++ all_told now (dialogues_of (set_value (nat_eq d) ps new))
 run-out-told now t d lapse ps old new from timer found h own = go lapse h.first h.told
   where
@@ -145,8 +145,8 @@ run-out-told now t d lapse ps old new from timer found h own = go lapse h.first 
         ap (map due_told) (sym (order-same now d old new ps found (ap (λ i. map (named i) (told_at now new.invocations.rows)) alike ∙ ap (map (named old.standing.identifier)) (sym told))))
     go (Some l) at told = least-first now ps (due_from d l) old new from (first-told now t d l at ps old from found timer.least (ap first_of told)) found own told
 
-module _ (now t d : ℕ) (ps : List Place) (old new : Dialogue) (from : AreFrom 0 ps) (timer : IsFirstTimer ps (t, d)) (found : lookup (nat_eq d) ps ≡ Some old) where
-  abbrev after : List Place
+module _ (now t d : ℕ) (ps : List TableEntry) (old new : Dialogue) (from : AreFrom 0 ps) (timer : IsFirstTimer ps (t, d)) (found : lookup (nat_eq d) ps ≡ Some old) where
+  abbrev after : List TableEntry
   after = set_value (nat_eq d) ps new
 
   named-so : old.standing.identifier ≡ d
@@ -169,16 +169,16 @@ module _ (now t d : ℕ) (ps : List Place) (old new : Dialogue) (from : AreFrom 
       same : idle_ids now after ≡ idle_ids now ps
       same = idle-same now d old new ps found h.alike
 
-      idle-told-same : new ≡ with_invocations old new.invocations → at_moment now new ≡ at_moment now old → idle_told now new ≡ idle_told now old
+      idle-told-same : new ≡ with_invocations old new.invocations → at_moment now new ≡ at_moment now old → table_idle_told now new ≡ table_idle_told now old
       idle-told-same e rest =
           ap (λ (w : Dialogue). Output.dialogue (DialogueIndication.p_abort w.standing.identifier AbortCause.idle) ∷ ended_told w.standing.identifier w.invocations) rest
 
-  -- its end is put off
+  -- its end is postponed
   put-off : IsPutOff now t old new → t ≤ now → IsPassed now d passed.Idle ps after
   put-off h reached = record {
     told = ap (map due_told) (sym (order-same now d old new ps found (ap (told_in now) h.is_touched)));
     idle = idle-first now t d old ps from found h.ends reached (idle-behind (t, d) ps timer.least) ∙ ap (λ (w : Dialogue). d ∷ idle_ids now (set_value (nat_eq d) ps w)) (sym h.is_touched);
-    ends = ends-set now d old new ps found (ap (idle_told now) h.is_touched);
+    ends = ends-set now d old new ps found (ap (table_idle_told now) h.is_touched);
     left = λ ids among. left-set now d old new ids ps from found (λ other. absurd (let is = among refl in let never : true ≡ false = sym is ∙ other in cc));
     from = from-set d 0 new ps (ap (λ (w : Dialogue). w.standing.identifier) h.is_touched ∙ named-so) from;
     fewer = let first = idle-first now t d old ps from found h.ends reached (idle-behind (t, d) ps timer.least) in
@@ -189,11 +189,11 @@ module _ (now t d : ℕ) (ps : List Place) (old new : Dialogue) (from : AreFrom 
   }
 
 -- The first timer of all has run out, in the dialogue that was written.
-pub passed-set : (now t d : ℕ) (what : Passed) (ps : List Place) (old new : Dialogue) → AreFrom 0 ps → IsFirstTimer ps (t, d) → t ≤ now → lookup (nat_eq d) ps ≡ Some old → IsPassedIn now t what old new → IsPassed now d what ps (set_value (nat_eq d) ps new)
+pub passed-set : (now t d : ℕ) (what : Passed) (ps : List TableEntry) (old new : Dialogue) → AreFrom 0 ps → IsFirstTimer ps (t, d) → t ≤ now → lookup (nat_eq d) ps ≡ Some old → IsPassedIn now t what old new → IsPassed now d what ps (set_value (nat_eq d) ps new)
 passed-set now t d (passed.Lapsed lapse) ps old new from timer le found h = run-out now t d ps old new from timer found (passed.Lapsed lapse) (Some lapse) refl refl h
 passed-set now t d passed.Freed ps old new from timer le found h = run-out now t d ps old new from timer found passed.Freed None refl refl h
 passed-set now t d passed.Idle ps old new from timer le found h = put-off now t d ps old new from timer found h le
 
 -- The dialogue of the first timer is the one that is found.
-pub same-first : (ps : List Place) (t d : ℕ) (w : Dialogue) → IsFirstTimer ps (t, d) → lookup (nat_eq d) ps ≡ Some w → timer_of w ≡ Some t
+pub same-first : (ps : List TableEntry) (t d : ℕ) (w : Dialogue) → IsFirstTimer ps (t, d) → lookup (nat_eq d) ps ≡ Some w → timer_of w ≡ Some t
 same-first ps t d w h found = let stands = h.stands in let same : w ≡ h.dialogue = cc in ap timer_of same ∙ h.timer

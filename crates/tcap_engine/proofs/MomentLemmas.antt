@@ -3,7 +3,7 @@ use Rattle.std.proofs.Common.{◌≡◌, ℕ, zero, suc, ◌+◌, ◌<◌, ◌�
 use Rattle.std.proofs.lemmas.List.{length-map}
 use Rattle.std.specs.Map.{lookup, set_value}
 use Rattle.tcap_engine.specs.Ending.{place_at}
-use Rattle.tcap_engine.specs.Table.{Place, AreFrom, AreDrawn, AreWithin, IsSound, dialogues_of}
+use Rattle.tcap_engine.specs.Table.{TableEntry, AreFrom, AreDrawn, AreWithin, IsSound, dialogues_of}
 use Rattle.tcap_engine.specs.declared.limits.Limits.{Limits}
 use Rattle.tcap_invocation.specs.Stage.{moment_limit}
 use Rattle.tcap_invocation.proofs.CallerLemmas.{AllBelow-after_lapse}
@@ -16,7 +16,7 @@ use Rattle.tcap_model.specs.Words.Output.{Output}
 -- ---- what a moment leaves
 
 -- A write that a moment doesn't tell.
-pub place_at-set_value : (now d : ℕ) (old new : Dialogue) (ps : List Place) → lookup (nat_eq d) ps ≡ Some old → at_moment now new ≡ at_moment now old → map (place_at now) (set_value (nat_eq d) ps new) ≡ map (place_at now) ps
+pub place_at-set_value : (now d : ℕ) (old new : Dialogue) (ps : List TableEntry) → lookup (nat_eq d) ps ≡ Some old → at_moment now new ≡ at_moment now old → map (place_at now) (set_value (nat_eq d) ps new) ≡ map (place_at now) ps
 place_at-set_value now d old new [] found same = refl
 place_at-set_value now d old new (p ∷ ps) found same = go (nat_eq d p.0) found (λ f. place_at-set_value now d old new ps f same)
   where
@@ -25,23 +25,23 @@ place_at-set_value now d old new (p ∷ ps) found same = go (nat_eq d p.0) found
     go true f ih =
         let is : p.1 ≡ old = cc in
         ap (λ (e : Dialogue). (p.0, e) ∷ map (place_at now) ps) (same ∙ ap (at_moment now) (sym is))
-    go false f ih = ap (λ (l : List Place). place_at now p ∷ l) (ih f)
+    go false f ih = ap (λ (l : List TableEntry). place_at now p ∷ l) (ih f)
 
 -- ---- what an engine keeps
 
-from-at : (now low : ℕ) (ps : List Place) → AreFrom low ps → AreFrom low (map (place_at now) ps)
+from-at : (now low : ℕ) (ps : List TableEntry) → AreFrom low ps → AreFrom low (map (place_at now) ps)
 from-at now low [] h = tt
 from-at now low (p ∷ ps) h = (h.0, h.1, from-at now (p.0 + 1) ps h.2)
 
-drawn-at : (now next : ℕ) (ps : List Place) → AreDrawn next ps → AreDrawn next (map (place_at now) ps)
+drawn-at : (now next : ℕ) (ps : List TableEntry) → AreDrawn next ps → AreDrawn next (map (place_at now) ps)
 drawn-at now next [] h = tt
 drawn-at now next (p ∷ ps) h = (h.0, drawn-at now next ps h.1)
 
-within-at : (now reject_ms next : ℕ) (ps : List Place) → AreWithin reject_ms next ps → AreWithin reject_ms next (map (place_at now) ps)
+within-at : (now reject_ms next : ℕ) (ps : List TableEntry) → AreWithin reject_ms next ps → AreWithin reject_ms next (map (place_at now) ps)
 within-at now reject_ms next [] h = tt
 within-at now reject_ms next (p ∷ ps) h = ((h.0.0, AllBelow-after_lapse next p.1.invocations h.0.1 now), within-at now reject_ms next ps h.1)
 
-pub sound-at : (now : ℕ) (limits : Limits) (next_dialogue next_number clock : ℕ) (ps : List Place) → now ≤ moment_limit → IsSound limits next_dialogue next_number clock ps → IsSound limits next_dialogue next_number now (map (place_at now) ps)
+pub sound-at : (now : ℕ) (limits : Limits) (next_dialogue next_number clock : ℕ) (ps : List TableEntry) → now ≤ moment_limit → IsSound limits next_dialogue next_number clock ps → IsSound limits next_dialogue next_number now (map (place_at now) ps)
 sound-at now limits next_dialogue next_number clock ps late h = record {
   limited = h.limited;
   time = late;
@@ -51,7 +51,7 @@ sound-at now limits next_dialogue next_number clock ps late h = record {
   room = let same = length-map ps (place_at now) in let room = h.room in omega (arith, same, room);
 }
 
-pub dialogues-at : (now : ℕ) (ps : List Place) → dialogues_of (map (place_at now) ps) ≡ map (at_moment now) (dialogues_of ps)
+pub dialogues-at : (now : ℕ) (ps : List TableEntry) → dialogues_of (map (place_at now) ps) ≡ map (at_moment now) (dialogues_of ps)
 dialogues-at now [] = refl
 dialogues-at now (p ∷ ps) = ap (λ (ds : List Dialogue). at_moment now p.1 ∷ ds) (dialogues-at now ps)
 

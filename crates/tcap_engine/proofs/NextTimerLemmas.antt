@@ -5,7 +5,7 @@ use Rattle.std.specs.Map.{lookup}
 use Rattle.tcap_engine.specs.Ending.{idle_ids}
 use Rattle.tcap_engine.specs.Lapsing.{AreUntimed, IsFirstTimer, IsQuiet, rows_timer, timer_of}
 use Rattle.tcap_engine.specs.NextTimer.{IsAccepted, IsChanged, IsStill, if_within, next_timer_in, times_in, timers_in}
-use Rattle.tcap_engine.specs.Table.{Place, AreFrom, dialogues_of}
+use Rattle.tcap_engine.specs.Table.{TableEntry, AreFrom, dialogues_of}
 use Rattle.tcap_engine.proofs.FirstLemmas.{least-timer, least-times}
 use Rattle.tcap_engine.proofs.MomentLemmas.{dialogues-at}
 use Rattle.tcap_engine.proofs.QuietLemmas.{AreLate, idle-due, late-quiet}
@@ -18,7 +18,7 @@ use Rattle.tcap_invocation.specs.Lapses.{stays}
 use Rattle.tcap_invocation.specs.Stage.{moment_limit}
 use Rattle.tcap_invocation.specs.Timers.{time_of, times_of}
 use Rattle.tcap_model.specs.Table.Dialogue.{Dialogue, idle_end, is_idle_at}
-use Rattle.tcap_model.specs.Table.DueLapses.{all_idle_told, at_moment, idle_key, idle_told, left_at}
+use Rattle.tcap_model.specs.Table.DueLapses.{all_idle_told, at_moment, table_idle_key, table_idle_told, left_at}
 use Rattle.tcap_model.specs.Table.EngineMove.{EngineMoved, engine_move, advanced, moment_in, unmoved}
 use Rattle.tcap_model.specs.Table.World.{World}
 use Rattle.tcap_model.specs.Words.Answer.{Answer}
@@ -42,14 +42,14 @@ accepted-move w now h =
     ap (λ b. moment_in w now (if b then Some Fault.moment_too_late else None)) within
     ∙ ap (λ b. if b then unmoved w (Answer.outputs []) else advanced w now) up
 
--- ---- dialogues that have stood still too long
+-- ---- dialogues that have been idle too long
 
-in-order-none : (xs : List Dialogue) → map (λ (d : Dialogue). d.standing.identifier) (in_order idle_key xs) ≡ [] → xs ≡ []
+in-order-none : (xs : List Dialogue) → map (λ (d : Dialogue). d.standing.identifier) (in_order table_idle_key xs) ≡ [] → xs ≡ []
 in-order-none [] e = refl
-in-order-none (x ∷ xs) e = let long = ap length e in let all = length-map (in_order idle_key (x ∷ xs)) (λ (d : Dialogue). d.standing.identifier) in let same = length-in_order (key_before idle_key) (x ∷ xs) in absurd (omega (arith, long, all, same))
+in-order-none (x ∷ xs) e = let long = ap length e in let all = length-map (in_order table_idle_key (x ∷ xs)) (λ (d : Dialogue). d.standing.identifier) in let same = length-in_order (key_before table_idle_key) (x ∷ xs) in absurd (omega (arith, long, all, same))
 
-pub quiet-ends : (now : ℕ) (ps : List Place) → idle_ids now ps ≡ [] → all_idle_told now (dialogues_of ps) ≡ []
-quiet-ends now ps e = ap (λ (l : List Dialogue). flat_map (idle_told now) (in_order idle_key l)) (in-order-none (filter (is_idle_at now) (dialogues_of ps)) e)
+pub quiet-ends : (now : ℕ) (ps : List TableEntry) → idle_ids now ps ≡ [] → all_idle_told now (dialogues_of ps) ≡ []
+quiet-ends now ps e = ap (λ (l : List Dialogue). flat_map (table_idle_told now) (in_order table_idle_key l)) (in-order-none (filter (is_idle_at now) (dialogues_of ps)) e)
 
 -- None has.
 abbrev AreAwake : ℕ → List Dialogue → Type 0
@@ -64,7 +64,7 @@ kept-awake now (d ∷ ds) e = go (is_idle_at now d) refl e (kept-awake now ds)
     go true i e ih = absurd cc
     go false i e ih = (i, ih e)
 
-none-awake : (now : ℕ) (ds : List Dialogue) → map (λ (d : Dialogue). d.standing.identifier) (in_order idle_key (filter (is_idle_at now) ds)) ≡ [] → AreAwake now ds
+none-awake : (now : ℕ) (ds : List Dialogue) → map (λ (d : Dialogue). d.standing.identifier) (in_order table_idle_key (filter (is_idle_at now) ds)) ≡ [] → AreAwake now ds
 none-awake now ds e = kept-awake now ds (in-order-none (filter (is_idle_at now) ds) e)
 
 awake-left : (now : ℕ) (ds : List Dialogue) → AreAwake now ds → filter_map (left_at now) ds ≡ map (at_moment now) ds
@@ -96,7 +96,7 @@ gone-fewer now (d ∷ ds) x xs e = go (is_idle_at now d) e (gone-fewer now ds x 
 
 -- ---- before the first timer
 
-still-quiet : (w : World) (now : ℕ) (ps : List Place) → w.dialogues ≡ dialogues_of ps → IsAccepted w now → IsQuiet now ps → IsStill w now
+still-quiet : (w : World) (now : ℕ) (ps : List TableEntry) → w.dialogues ≡ dialogues_of ps → IsAccepted w now → IsQuiet now ps → IsStill w now
 still-quiet w now ps is accepted h =
     accepted-move w now accepted
     ∙ ap (λ ds. record { answer = (advanced (record w { dialogues = ds }) now).answer; after = (advanced (record w { dialogues = ds }) now).after }) is
@@ -104,7 +104,7 @@ still-quiet w now ps is accepted h =
     ∙ ap (λ os. record { answer = Answer.outputs os; after = record w { clock = now; dialogues = filter_map (left_at now) (dialogues_of ps) } }) (quiet-ends now ps h.idle)
     ∙ ap (λ ds. record { answer = Answer.outputs []; after = record w { clock = now; dialogues = ds } }) (awake-left now (dialogues_of ps) (none-awake now (dialogues_of ps) h.idle) ∙ sym (dialogues-at now ps) ∙ ap dialogues_of h.rest ∙ sym is)
 
-pub late-still : (w : World) (now : ℕ) (ps : List Place) → w.dialogues ≡ dialogues_of ps → IsAccepted w now → AreLate now ps → IsStill w now
+pub late-still : (w : World) (now : ℕ) (ps : List TableEntry) → w.dialogues ≡ dialogues_of ps → IsAccepted w now → AreLate now ps → IsStill w now
 late-still w now ps is accepted late = still-quiet w now ps is accepted (late-quiet now ps late)
 
 -- ---- from the first timer on
@@ -133,7 +133,7 @@ fewer-rows now t (r ∷ rs) le i = go r.1.stage i (fewer-rows now t rs le) (fewe
     go (Waiting until) (inr i) ih most = dropped (nat_lt now until) (ih i)
 
 -- Where a dialogue has fewer invocations then, the list is another.
-changed-list : (now d : ℕ) (w : Dialogue) (ps : List Place) → lookup (nat_eq d) ps ≡ Some w → length (at_moment now w).invocations.rows < length w.invocations.rows → map (at_moment now) (dialogues_of ps) ≢ dialogues_of ps
+changed-list : (now d : ℕ) (w : Dialogue) (ps : List TableEntry) → lookup (nat_eq d) ps ≡ Some w → length (at_moment now w).invocations.rows < length w.invocations.rows → map (at_moment now) (dialogues_of ps) ≢ dialogues_of ps
 changed-list now d w [] found fewer same = absurd cc
 changed-list now d w (p ∷ ps) found fewer same = go (nat_eq d p.0) found (λ f. changed-list now d w ps f fewer tail)
   where
@@ -150,7 +150,7 @@ changed-list now d w (p ∷ ps) found fewer same = go (nat_eq d p.0) found (λ f
         absurd (omega (arith, more, fewer))
     go false f ih = ih f
 
--- The timer that was reached is that of its invocations, where it hasn't stood still too long.
+-- The timer that was reached is that of its invocations, where it hasn't been idle too long.
 rows-reached : (now t : ℕ) (w : Dialogue) → timer_of w ≡ Some t → t ≤ now → is_idle_at now w ≡ false → rows_timer w ≡ Some t
 rows-reached now t w timer le awake = go (rows_timer w) (idle_end w) refl timer (idle-due now w ∙ awake)
   where
@@ -164,13 +164,13 @@ rows-reached now t w timer le awake = go (rows_timer w) (idle_end w) refl timer 
         pick true q e = let same : y ≡ t = cc in let late : nat_le y now ≡ true = grind (arith, tests, same, le) in absurd cc
         pick false q e = r ∙ e
 
-pub reached-changed : (w : World) (now : ℕ) (ps : List Place) (first : ℕ × ℕ) → w.dialogues ≡ dialogues_of ps → IsAccepted w now → IsFirstTimer ps first → first.0 ≤ now → IsChanged w now
+pub reached-changed : (w : World) (now : ℕ) (ps : List TableEntry) (first : ℕ × ℕ) → w.dialogues ≡ dialogues_of ps → IsAccepted w now → IsFirstTimer ps first → first.0 ≤ now → IsChanged w now
 reached-changed w now ps first is accepted h le same = go (filter (is_idle_at now) (dialogues_of ps)) refl
   where
     still : filter_map (left_at now) (dialogues_of ps) ≡ dialogues_of ps
     still = ap (filter_map (left_at now)) (sym is) ∙ ap (λ (m : EngineMoved). m.after.dialogues) (sym (accepted-move w now accepted)) ∙ same ∙ is
 
-    awake-of : (ds : List Dialogue) → AreAwake now ds → (d : ℕ) (x : Dialogue) (qs : List Place) → dialogues_of qs ≡ ds → lookup (nat_eq d) qs ≡ Some x → is_idle_at now x ≡ false
+    awake-of : (ds : List Dialogue) → AreAwake now ds → (d : ℕ) (x : Dialogue) (qs : List TableEntry) → dialogues_of qs ≡ ds → lookup (nat_eq d) qs ≡ Some x → is_idle_at now x ≡ false
     awake-of ds awake d x [] e found = absurd cc
     awake-of [] awake d x (q ∷ qs) e found = absurd cc
     awake-of (y ∷ ys) awake d x (q ∷ qs) e found = pick (nat_eq d q.0) found (awake-of ys awake.1 d x qs cc)
@@ -195,14 +195,14 @@ reached-changed w now ps first is accepted h le same = go (filter (is_idle_at no
 
 -- ---- the next timer
 
-none-least : (ps : List Place) → AreUntimed ps → least (timers_in (dialogues_of ps)) ≡ None
+none-least : (ps : List TableEntry) → AreUntimed ps → least (timers_in (dialogues_of ps)) ≡ None
 none-least [] h = refl
 none-least (p ∷ ps) h = ap (λ (l : List ℕ). least (l ++ timers_in (dialogues_of ps))) (no-times (times_in p.1) (least-times p.1 ∙ h.0)) ∙ none-least ps h.1
 
-pub next-none : (w : World) (ps : List Place) → w.dialogues ≡ dialogues_of ps → AreUntimed ps → next_timer_in w ≡ None
+pub next-none : (w : World) (ps : List TableEntry) → w.dialogues ≡ dialogues_of ps → AreUntimed ps → next_timer_in w ≡ None
 next-none w ps is h = ap (λ ds. if_within (least (timers_in ds))) is ∙ ap if_within (none-least ps h)
 
-pub next-first : (w : World) (ps : List Place) (first : ℕ × ℕ) → w.dialogues ≡ dialogues_of ps → AreFrom 0 ps → IsFirstTimer ps first → next_timer_in w ≡ if_within (Some first.0)
+pub next-first : (w : World) (ps : List TableEntry) (first : ℕ × ℕ) → w.dialogues ≡ dialogues_of ps → AreFrom 0 ps → IsFirstTimer ps first → next_timer_in w ≡ if_within (Some first.0)
 next-first w ps first is from h = ap (λ ds. if_within (least (timers_in ds))) is ∙ ap if_within (least-timer ps first from h)
 
 pub is-within : (t : ℕ) → t ≤ moment_limit → if_within (Some t) ≡ Some t

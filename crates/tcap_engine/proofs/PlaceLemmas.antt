@@ -1,7 +1,7 @@
 -- The table and the engine after the dialogue of an identifier moved.
 use Rattle.std.proofs.Common.{◌≡◌, ℕ, ◌≤◌, Bool, true, false, cond, nat_eq, List, [], ◌∷◌, length, Option, Some, None, refl, subst, arith}
 use Rattle.std.specs.Map.{lookup, set_value, remove_entry}
-use Rattle.tcap_engine.specs.Table.{Place, AreFrom, AreDrawn, AreWithin, IsWithin, IsSound, dialogues_of, places_with}
+use Rattle.tcap_engine.specs.Table.{TableEntry, AreFrom, AreDrawn, AreWithin, IsWithin, IsSound, dialogues_of, places_with}
 use Rattle.tcap_engine.specs.declared.limits.Limits.{Limits}
 use Rattle.tcap_engine.proofs.KeptLemmas.{IsKept}
 use Rattle.tcap_engine.proofs.TableLemmas.{set-in, removed-in, from-set, from-removed}
@@ -10,13 +10,13 @@ use Rattle.tcap_model.specs.Table.Dialogue.{Dialogue}
 use Rattle.tcap_model.specs.Table.EngineMove.{with_dialogue}
 
 -- The dialogues are those of the model.
-pub dialogues-with : (d : ℕ) (o : Option Dialogue) (ps : List Place) → AreFrom 0 ps → dialogues_of (places_with d o ps) ≡ with_dialogue d o (dialogues_of ps)
+pub dialogues-with : (d : ℕ) (o : Option Dialogue) (ps : List TableEntry) → AreFrom 0 ps → dialogues_of (places_with d o ps) ≡ with_dialogue d o (dialogues_of ps)
 dialogues-with d None ps h = removed-in d 0 ps h
 dialogues-with d (Some new) ps h = set-in d 0 new ps h
 
 -- ---- what an engine keeps
 
-drawn-set : (d next : ℕ) (new : Dialogue) (ps : List Place) → AreDrawn next ps → AreDrawn next (set_value (nat_eq d) ps new)
+drawn-set : (d next : ℕ) (new : Dialogue) (ps : List TableEntry) → AreDrawn next ps → AreDrawn next (set_value (nat_eq d) ps new)
 drawn-set d next new [] h = tt
 drawn-set d next new (p ∷ ps) h = go (nat_eq d p.0) (drawn-set d next new ps h.1)
   where
@@ -24,7 +24,7 @@ drawn-set d next new (p ∷ ps) h = go (nat_eq d p.0) (drawn-set d next new ps h
     go true ih = h
     go false ih = (h.0, ih)
 
-drawn-removed : (d next : ℕ) (ps : List Place) → AreDrawn next ps → AreDrawn next (remove_entry (nat_eq d) ps)
+drawn-removed : (d next : ℕ) (ps : List TableEntry) → AreDrawn next ps → AreDrawn next (remove_entry (nat_eq d) ps)
 drawn-removed d next [] h = tt
 drawn-removed d next (p ∷ ps) h = go (nat_eq d p.0) (drawn-removed d next ps h.1)
   where
@@ -32,7 +32,7 @@ drawn-removed d next (p ∷ ps) h = go (nat_eq d p.0) (drawn-removed d next ps h
     go true ih = h.1
     go false ih = (h.0, ih)
 
-within-set : (d reject_ms next : ℕ) (new : Dialogue) (ps : List Place) → IsWithin reject_ms next new → AreWithin reject_ms next ps → AreWithin reject_ms next (set_value (nat_eq d) ps new)
+within-set : (d reject_ms next : ℕ) (new : Dialogue) (ps : List TableEntry) → IsWithin reject_ms next new → AreWithin reject_ms next ps → AreWithin reject_ms next (set_value (nat_eq d) ps new)
 within-set d reject_ms next new [] n h = tt
 within-set d reject_ms next new (p ∷ ps) n h = go (nat_eq d p.0) (within-set d reject_ms next new ps n h.1)
   where
@@ -40,7 +40,7 @@ within-set d reject_ms next new (p ∷ ps) n h = go (nat_eq d p.0) (within-set d
     go true ih = (n, h.1)
     go false ih = (h.0, ih)
 
-within-removed : (d reject_ms next : ℕ) (ps : List Place) → AreWithin reject_ms next ps → AreWithin reject_ms next (remove_entry (nat_eq d) ps)
+within-removed : (d reject_ms next : ℕ) (ps : List TableEntry) → AreWithin reject_ms next ps → AreWithin reject_ms next (remove_entry (nat_eq d) ps)
 within-removed d reject_ms next [] h = tt
 within-removed d reject_ms next (p ∷ ps) h = go (nat_eq d p.0) (within-removed d reject_ms next ps h.1)
   where
@@ -48,11 +48,11 @@ within-removed d reject_ms next (p ∷ ps) h = go (nat_eq d p.0) (within-removed
     go true ih = h.1
     go false ih = (h.0, ih)
 
-within-more : (reject_ms next more : ℕ) (ps : List Place) → next ≤ more → AreWithin reject_ms next ps → AreWithin reject_ms more ps
+within-more : (reject_ms next more : ℕ) (ps : List TableEntry) → next ≤ more → AreWithin reject_ms next ps → AreWithin reject_ms more ps
 within-more reject_ms next more [] le h = tt
 within-more reject_ms next more (p ∷ ps) le h = ((h.0.0, AllBelow-more next more p.1.invocations.rows le h.0.1), within-more reject_ms next more ps le h.1)
 
-length-set : (d : ℕ) (new : Dialogue) (ps : List Place) → length (set_value (nat_eq d) ps new) ≡ length ps
+length-set : (d : ℕ) (new : Dialogue) (ps : List TableEntry) → length (set_value (nat_eq d) ps new) ≡ length ps
 length-set d new [] = refl
 length-set d new (p ∷ ps) = go (nat_eq d p.0) (length-set d new ps)
   where
@@ -60,7 +60,7 @@ length-set d new (p ∷ ps) = go (nat_eq d p.0) (length-set d new ps)
     go true ih = refl
     go false ih = omega (arith, ih)
 
-length-gone : (d : ℕ) (ps : List Place) → length (remove_entry (nat_eq d) ps) ≤ length ps
+length-gone : (d : ℕ) (ps : List TableEntry) → length (remove_entry (nat_eq d) ps) ≤ length ps
 length-gone d [] = omega arith
 length-gone d (p ∷ ps) = go (nat_eq d p.0) (length-gone d ps)
   where
@@ -73,7 +73,7 @@ abbrev pub AreKept : ℕ → ℕ → ℕ → Option Dialogue → Type 0
 AreKept identifier reject_ms next None = Unit {0}
 AreKept identifier reject_ms next (Some new) = IsKept identifier reject_ms next new
 
-pub sound-with : (limits : Limits) (next_dialogue next more clock d : ℕ) (o : Option Dialogue) (ps : List Place) → next ≤ more → AreKept d limits.reject_ms more o → IsSound limits next_dialogue next clock ps → IsSound limits next_dialogue more clock (places_with d o ps)
+pub sound-with : (limits : Limits) (next_dialogue next more clock d : ℕ) (o : Option Dialogue) (ps : List TableEntry) → next ≤ more → AreKept d limits.reject_ms more o → IsSound limits next_dialogue next clock ps → IsSound limits next_dialogue more clock (places_with d o ps)
 sound-with limits next_dialogue next more clock d None ps le k h = record {
   limited = h.limited;
   time = h.time;
@@ -92,7 +92,7 @@ sound-with limits next_dialogue next more clock d (Some new) ps le k h = record 
 }
 
 -- The dialogue that is found is one that the engine keeps.
-pub found-within : (d reject_ms next : ℕ) (old : Dialogue) (ps : List Place) → lookup (nat_eq d) ps ≡ Some old → AreWithin reject_ms next ps → IsWithin reject_ms next old
+pub found-within : (d reject_ms next : ℕ) (old : Dialogue) (ps : List TableEntry) → lookup (nat_eq d) ps ≡ Some old → AreWithin reject_ms next ps → IsWithin reject_ms next old
 found-within d reject_ms next old [] f h = absurd cc
 found-within d reject_ms next old (p ∷ ps) f h = go (nat_eq d p.0) f (λ q. found-within d reject_ms next old ps q h.1)
   where

@@ -7,7 +7,7 @@ use Rattle.tcap_dialogue.specs.FaultViews.{RefusedBy}
 use Rattle.tcap_primitives.specs.FaultViews.{fault_view}
 use Rattle.tcap_dialogue.specs.StepViews.{Outcome, outcome}
 use Rattle.tcap_engine.specs.Asking.{AsksIn, PlacesMove, PlacesRefuse}
-use Rattle.tcap_engine.specs.Table.{Place, places_with}
+use Rattle.tcap_engine.specs.Table.{TableEntry, places_with}
 use Rattle.tcap_invocation.specs.Closing.{given_up_at}
 use Rattle.tcap_model.specs.Procedures.Refusals.{due_on}
 use Rattle.tcap_model.specs.Table.Dialogue.{Dialogue}
@@ -82,7 +82,7 @@ module _ (s : Setting) (r : Request) (x new : Dialogue) where
   refused-same model.Fault.moment_too_late e = as-before _ e
   refused-same model.Fault.no_context e = as-before _ e
 
-module _ (s : Setting) (r : Request) (d : ℕ) (ps qs : List Place) where
+module _ (s : Setting) (r : Request) (d : ℕ) (ps qs : List TableEntry) where
   abbrev says : Dialogue → Outcome
   says x = outcome (table_move s x (DialogueEvent.request r))
 

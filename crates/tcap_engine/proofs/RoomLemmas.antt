@@ -17,17 +17,17 @@ use Rattle.tcap_invocation.specs.Lapses.{after_lapse, due_at, stays}
 use Rattle.tcap_invocation.specs.Stage.{is_pending}
 use Rattle.tcap_invocation.proofs.CallerLemmas.{length-in_order, total, total_in_order}
 use Rattle.tcap_model.specs.Table.Dialogue.{Dialogue, idle_end, is_idle_at}
-use Rattle.tcap_model.specs.Table.DueLapses.{all_due, all_idle_told, all_told, due_in, due_key, due_told, idle_key, idle_told}
+use Rattle.tcap_model.specs.Table.DueLapses.{all_due, all_idle_told, all_told, due_in, due_key, due_told, table_idle_key, table_idle_told}
 use Rattle.tcap_model.specs.Table.TableMove.{ended_told}
 use Rattle.tcap_model.specs.Words.KeyOrder.{in_order, key_before}
 use Rattle.tcap_model.specs.Words.State.{is_live}
 use Rattle.timed_table.specs.Row.{Row, due_values, entries_of, is_due}
 
--- How many lapse in a dialogue at a moment, and how many are told at most if it has stood still too long.
+-- How many lapse in a dialogue at a moment, and how many are told at most if it has been idle too long.
 abbrev pub moment_weight : ℕ → Dialogue → ℕ
 moment_weight now d = length (due_at now d.invocations.rows) + cond (is_idle_at now d) (1 + length (ended_at d.invocations.rows)) 0
 
--- One if a dialogue has stood still too long at a moment.
+-- One if a dialogue has been idle too long at a moment.
 abbrev pub idle_weight : ℕ → Dialogue → ℕ
 idle_weight now d = cond (is_idle_at now d) 1 0
 
@@ -43,24 +43,24 @@ told-cons now d ds =
     told : (xs : List Dialogue) → length (all_told now xs) ≡ length (all_due now xs)
     told xs = length-map (in_order due_key (all_due now xs)) due_told ∙ length-in_order (key_before due_key) (all_due now xs)
 
-length-told : (now : ℕ) (ds : List Dialogue) → length (flat_map (idle_told now) ds) ≡ total (λ d. length (idle_told now d)) ds
+length-told : (now : ℕ) (ds : List Dialogue) → length (flat_map (table_idle_told now) ds) ≡ total (λ d. length (table_idle_told now d)) ds
 length-told now [] = refl
 length-told now (d ∷ ds) =
-    ap length (flat_map-cons (idle_told now) d ds) ∙ length-append (idle_told now d) (flat_map (idle_told now) ds) ∙ ap (λ n. length (idle_told now d) + n) (length-told now ds)
+    ap length (flat_map-cons (table_idle_told now) d ds) ∙ length-append (table_idle_told now d) (flat_map (table_idle_told now) ds) ∙ ap (λ n. length (table_idle_told now d) + n) (length-told now ds)
 
-idle-cons : (now : ℕ) (d : Dialogue) (ds : List Dialogue) → length (all_idle_told now (d ∷ ds)) ≡ cond (is_idle_at now d) (length (idle_told now d)) 0 + length (all_idle_told now ds)
-idle-cons now d ds = told (d ∷ ds) ∙ go (is_idle_at now d) ∙ ap (λ n. cond (is_idle_at now d) (length (idle_told now d)) 0 + n) (sym (told ds))
+idle-cons : (now : ℕ) (d : Dialogue) (ds : List Dialogue) → length (all_idle_told now (d ∷ ds)) ≡ cond (is_idle_at now d) (length (table_idle_told now d)) 0 + length (all_idle_told now ds)
+idle-cons now d ds = told (d ∷ ds) ∙ go (is_idle_at now d) ∙ ap (λ n. cond (is_idle_at now d) (length (table_idle_told now d)) 0 + n) (sym (told ds))
   where
     long : Dialogue → ℕ
-    long e = length (idle_told now e)
+    long e = length (table_idle_told now e)
 
     rest : List Dialogue
     rest = filter (is_idle_at now) ds
 
-    told : (xs : List Dialogue) → length (all_idle_told now xs) ≡ total (λ e. length (idle_told now e)) (filter (is_idle_at now) xs)
-    told xs = length-told now (in_order idle_key (filter (is_idle_at now) xs)) ∙ total_in_order (key_before idle_key) (λ e. length (idle_told now e)) (filter (is_idle_at now) xs)
+    told : (xs : List Dialogue) → length (all_idle_told now xs) ≡ total (λ e. length (table_idle_told now e)) (filter (is_idle_at now) xs)
+    told xs = length-told now (in_order table_idle_key (filter (is_idle_at now) xs)) ∙ total_in_order (key_before table_idle_key) (λ e. length (table_idle_told now e)) (filter (is_idle_at now) xs)
 
-    go : (b : Bool) → total (λ e. length (idle_told now e)) (cond b (d ∷ rest) rest) ≡ cond b (length (idle_told now d)) 0 + total (λ e. length (idle_told now e)) rest
+    go : (b : Bool) → total (λ e. length (table_idle_told now e)) (cond b (d ∷ rest) rest) ≡ cond b (length (table_idle_told now d)) 0 + total (λ e. length (table_idle_told now e)) rest
     go true = refl
     go false = omega arith
 
@@ -71,7 +71,7 @@ ids-cons now p ps = ids (p ∷ ps) ∙ go (is_idle_at now p.1) ∙ ap (λ n. idl
     rest = filter (is_idle_at now) (dialogues_of ps)
 
     ids : (qs : List (ℕ × Dialogue)) → length (idle_ids now qs) ≡ length (filter (is_idle_at now) (dialogues_of qs))
-    ids qs = length-map (in_order idle_key (filter (is_idle_at now) (dialogues_of qs))) (λ d. d.standing.identifier) ∙ length-in_order (key_before idle_key) (filter (is_idle_at now) (dialogues_of qs))
+    ids qs = length-map (in_order table_idle_key (filter (is_idle_at now) (dialogues_of qs))) (λ d. d.standing.identifier) ∙ length-in_order (key_before table_idle_key) (filter (is_idle_at now) (dialogues_of qs))
 
     go : (b : Bool) → length (cond b (p.1 ∷ rest) rest) ≡ cond b 1 0 + length rest
     go true = omega arith
@@ -91,7 +91,7 @@ fewer-ended now (r ∷ rows) = go (stays now r.1.stage) (is_pending r.1.stage) r
     go false true e ih = omega (arith, ih)
     go false false e ih = ih
 
-idle-most : (now : ℕ) (d : Dialogue) → length (idle_told now d) ≤ 1 + length (ended_at d.invocations.rows)
+idle-most : (now : ℕ) (d : Dialogue) → length (table_idle_told now d) ≤ 1 + length (ended_at d.invocations.rows)
 idle-most now d =
     let told : length (ended_told d.standing.identifier (after_lapse d.invocations now)) ≡ length (ended_at (after_lapse d.invocations now).rows) = length-map (ended_at (after_lapse d.invocations now).rows) _ in
     let fewer = fewer-ended now d.invocations.rows in
@@ -116,7 +116,7 @@ late-end now d h = go (is_live d.standing.state) (nat_lt 0 d.idle_ms) h
     go true false e = refl
     go false b e = refl
 
--- None of its invocations is due, and it hasn't stood still too long.
+-- None of its invocations is due, and it hasn't been idle too long.
 pub late-timer : (now : ℕ) (d : Dialogue) → is_due now (timer_of d) ≡ false → (is_due now (rows_timer d) ≡ false) × (is_idle_at now d ≡ false)
 late-timer now d h = let both = late-either now (rows_timer d) (idle_end d) h in (both.0, late-end now d both.1)
 
@@ -134,7 +134,7 @@ module _ (now : ℕ) where
   abbrev room : List (Row Dialogue) → ℕ
   room rows = length (all_told now (dialogues_of (entries_of rows))) + length (all_idle_told now (dialogues_of (entries_of rows)))
 
-  room-cons : (r : Row Dialogue) (rows : List (Row Dialogue)) → room (r ∷ rows) ≡ length (due_at now r.value.invocations.rows) + cond (is_idle_at now r.value) (length (idle_told now r.value)) 0 + room rows
+  room-cons : (r : Row Dialogue) (rows : List (Row Dialogue)) → room (r ∷ rows) ≡ length (due_at now r.value.invocations.rows) + cond (is_idle_at now r.value) (length (table_idle_told now r.value)) 0 + room rows
   room-cons r rows =
       let told = told-cons now r.value (dialogues_of (entries_of rows)) in
       let idle = idle-cons now r.value (dialogues_of (entries_of rows)) in
@@ -144,7 +144,7 @@ module _ (now : ℕ) where
   room-late r rows late =
       let none = late-none now r.value late in
       let zero = none.0 in
-      let still = ap (λ b. cond b (length (idle_told now r.value)) 0) none.1 in
+      let still = ap (λ b. cond b (length (table_idle_told now r.value)) 0) none.1 in
       let all = room-cons r rows in
       omega (arith, zero, still, all)
 
@@ -156,7 +156,7 @@ module _ (now : ℕ) where
       left : List (Row Dialogue)
       left = filter (λ r. is_due now r.time) rows
 
-      most : (b : Bool) → cond b (length (idle_told now r.value)) 0 ≤ cond b (1 + length (ended_at r.value.invocations.rows)) 0
+      most : (b : Bool) → cond b (length (table_idle_told now r.value)) 0 ≤ cond b (1 + length (ended_at r.value.invocations.rows)) 0
       most true = idle-most now r.value
       most false = omega arith
 
@@ -168,7 +168,7 @@ module _ (now : ℕ) where
           omega (arith, ih, all, weights, less)
       go false e ih = let all = room-late r rows (ap (is_due now) (sym h.0) ∙ e) in omega (arith, ih, all)
 
-  -- Those that have stood still too long are dialogues whose timer was reached.
+  -- Those that have been idle too long are dialogues whose timer was reached.
   pub idle-rows-count : (rows : List (Row Dialogue)) → AreTimed rows → length (idle_ids now (entries_of rows)) ≡ sum_by (idle_weight now) (due_values now rows)
   idle-rows-count [] h = refl
   idle-rows-count (r ∷ rows) h = go (is_due now r.time) refl (idle-rows-count rows h.1)
@@ -196,7 +196,7 @@ module _ (now : ℕ) where
       count = sum_by (moment_weight now) (due_values now rows)
 
       here : (b : Bool) → 0 < length (due_at now r.value.invocations.rows) + cond b (1 + length (ended_at r.value.invocations.rows)) 0 + count → (0 < count → 0 < room rows)
-          → 0 < length (due_at now r.value.invocations.rows) + cond b (length (idle_told now r.value)) 0 + room rows
+          → 0 < length (due_at now r.value.invocations.rows) + cond b (length (table_idle_told now r.value)) 0 + room rows
       here true k ih = omega arith
       here false k ih =
           let one = one-of (length (due_at now r.value.invocations.rows)) count (room rows) (omega (arith, k)) ih in

@@ -53,7 +53,7 @@ pub timed-settled : (is_over : Bool) (d : ℕ) (new : Dialogue) (rows : List (Ro
 timed-settled true d new rows h = timed-gone d new rows h
 timed-settled false d new rows h = timed-set d new rows h
 
--- One that is born.
+-- One that is created.
 pub timed-push : (d : ℕ) (new : Dialogue) (time : Option ℕ) (rows : List (Row Dialogue)) → time ≡ timer_of new → AreTimed rows → AreTimed (rows ++ record { identifier = d; value = new; time = time } ∷ [])
 timed-push d new time [] is h = (is, tt)
 timed-push d new time (r ∷ rows) is h = (h.0, timed-push d new time rows is h.1)

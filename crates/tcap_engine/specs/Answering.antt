@@ -16,7 +16,7 @@ use Rattle.tcap_model.specs.Words.Fault as model
 abbrev pub Moves : EngineMoved → Answer → World → Type 0
 Moves m answer new = (answer ≡ m.answer) × (new ≡ m.after)
 
--- A refusal is the one that the move gives; want of memory comes only where the move's answer takes
+-- A refusal is the one that the move gives; `OutOfMemory` comes only where the move's answer takes
 -- memory, and leaves the engine as it was (own).
 abbrev pub EngineRefuses : model.Fault → EngineMoved → World → World → Type 0
 EngineRefuses model.Fault.out_of_memory m old new = (new ≡ old) × IsTrue (takes_memory m.answer)
@@ -27,7 +27,7 @@ abbrev pub EngineAnswers : {T : Type 0} → (T → Answer) → Result T Fault �
 EngineAnswers view (Ok x) m old new = Moves m (view x) new
 EngineAnswers view (Err f) m old new = EngineRefuses (fault_view f) m old new
 
--- A dialogue is born (own).
+-- A dialogue is created (own).
 abbrev pub birth_answer : ℕ → Answer
 birth_answer dialogue = Answer.new_dialogue dialogue
 

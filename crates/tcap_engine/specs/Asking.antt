@@ -13,7 +13,7 @@ use Rattle.tcap_model.specs.Table.Dialogue.{Dialogue}
 use Rattle.tcap_model.specs.Words.Answer.{Answer}
 use Rattle.tcap_model.specs.Words.Fault as model
 use Rattle.tcap_model.specs.Words.Identifiers.{last_number}
-use Rattle.tcap_engine.specs.Table.{Place, places_with}
+use Rattle.tcap_engine.specs.Table.{TableEntry, places_with}
 
 -- What was answered (own).
 abbrev pub asked_answer : {A : Type 0} → Asked A → Answer
@@ -40,29 +40,29 @@ ends_dialogue (asked.Step step) = step.over
 
 -- The answer is that of the outcome, and its dialogue is the outcome's in the table then, or is gone
 -- (own).
-abbrev pub PlacesMove : Outcome → ℕ → Answer → List Place → List Place → Type 0
+abbrev pub PlacesMove : Outcome → ℕ → Answer → List TableEntry → List TableEntry → Type 0
 PlacesMove o d answer old new = (answer ≡ o.0) × (new ≡ places_with d o.1 old)
 
--- The same of a refusal; want of memory comes only where the outcome takes memory, and leaves the table
+-- The same of a refusal; `OutOfMemory` comes only where the outcome takes memory, and leaves the table
 -- as it was (own).
-abbrev pub PlacesRefuse : model.Fault → Outcome → ℕ → List Place → List Place → Type 0
+abbrev pub PlacesRefuse : model.Fault → Outcome → ℕ → List TableEntry → List TableEntry → Type 0
 PlacesRefuse model.Fault.out_of_memory o d old new = (new ≡ old) × IsTrue (takes_memory o.0)
 PlacesRefuse f o d old new = PlacesMove o d (Answer.refused f) old new
 
 -- The same of an answer or a refusal (own).
-abbrev pub PlacesAnswer : {A : Type 0} → Result (Asked A) Fault → Outcome → ℕ → List Place → List Place → Type 0
+abbrev pub PlacesAnswer : {A : Type 0} → Result (Asked A) Fault → Outcome → ℕ → List TableEntry → List TableEntry → Type 0
 PlacesAnswer (Ok a) o d old new = PlacesMove o d (asked_answer a) old new
 PlacesAnswer (Err f) o d old new = PlacesRefuse (fault_view f) o d old new
 
 -- The same, where the dialogue of the identifier is this one, if it stands; else it is unknown, and
 -- nothing changes (own).
-abbrev pub AsksIn : {A : Type 0} → Result (Asked A) Fault → (Dialogue → Outcome) → ℕ → Option Dialogue → List Place → List Place → Type 0
+abbrev pub AsksIn : {A : Type 0} → Result (Asked A) Fault → (Dialogue → Outcome) → ℕ → Option Dialogue → List TableEntry → List TableEntry → Type 0
 AsksIn result says d None old new = (result ≡ Err fault.UnknownDialogue) × (new ≡ old)
 AsksIn result says d (Some dialogue) old new = PlacesAnswer result (says dialogue) d old new
 
 -- What a table gives where a message reaches one of its dialogues, if that stands; where none stands
 -- nothing is told and nothing changes; where memory was refused nothing changes either (own).
-abbrev pub ReachesIn : {T : Type 0} → (T → Answer) → Result T OutOfMemory → (Dialogue → Outcome) → ℕ → Option Dialogue → List Place → List Place → Type 0
+abbrev pub ReachesIn : {T : Type 0} → (T → Answer) → Result T OutOfMemory → (Dialogue → Outcome) → ℕ → Option Dialogue → List TableEntry → List TableEntry → Type 0
 ReachesIn view (Err refused) says d dialogue old new = new ≡ old
 ReachesIn view (Ok outputs) says d None old new = (view outputs ≡ Answer.outputs []) × (new ≡ old)
 ReachesIn view (Ok outputs) says d (Some dialogue) old new = PlacesMove (says dialogue) d (view outputs) old new

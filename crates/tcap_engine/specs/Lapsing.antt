@@ -2,7 +2,7 @@
 use Rattle.std.specs.Prelude.{◌≡◌, ℕ, ◌+◌, ◌<◌, true, false, nat_eq, List, [], ◌∷◌, ◌++◌, map, length, option_to_list, Option, Some, None, IfSome}
 use Rattle.std.specs.Map.{lookup}
 use Rattle.tcap_engine.specs.Ending.{ends_in, idle_ids, is_among, left_by, place_at}
-use Rattle.tcap_engine.specs.Table.{Place, AreFrom, dialogues_of}
+use Rattle.tcap_engine.specs.Table.{TableEntry, AreFrom, dialogues_of}
 use Rattle.tcap_invocation.specs.declared.invocations.lapse.Lapse.{Lapse}
 use Rattle.tcap_invocation.specs.Lapses.{told_at}
 use Rattle.tcap_invocation.specs.Timers.{next_timer_at}
@@ -19,31 +19,31 @@ use Rattle.timed_table.specs.Row.{is_before}
 abbrev pub rows_timer : Dialogue → Option ℕ
 rows_timer d = next_timer_at d.invocations.rows
 
--- The moment at which time next changes a dialogue: that, or the one at which it has stood still too long
+-- The moment at which time next changes a dialogue: that, or the one at which it has been idle too long
 -- (Q.774, Invocation timer; Q.774, Reject timer; the last is own).
 abbrev pub timer_of : Dialogue → Option ℕ
 timer_of d = earliest (rows_timer d) (idle_end d)
 
 -- No timer runs in any dialogue (own).
-abbrev pub AreUntimed : List Place → Type 0
+abbrev pub AreUntimed : List TableEntry → Type 0
 AreUntimed [] = Unit {0}
 AreUntimed (p ∷ ps) = (timer_of p.1 ≡ None) × AreUntimed ps
 
 -- The timer of each dialogue runs out behind this moment and identifier, or is the one of both (own).
-abbrev pub AreBehind : ℕ × ℕ → List Place → Type 0
+abbrev pub AreBehind : ℕ × ℕ → List TableEntry → Type 0
 AreBehind first [] = Unit {0}
 AreBehind first (p ∷ ps) = IfSome (timer_of p.1) (λ time. is_before (time, p.0) first ≡ false) × AreBehind first ps
 
 -- A timer and the identifier of its dialogue: none runs out before it, and of those that run out at the same
 -- moment none has a lower identifier (own).
-pub record IsFirstTimer (ps : List Place) (first : ℕ × ℕ) : Type 0 where
+pub record IsFirstTimer (ps : List TableEntry) (first : ℕ × ℕ) : Type 0 where
   pub dialogue : Dialogue
   pub stands : lookup (nat_eq first.1) ps ≡ Some dialogue
   pub timer : timer_of dialogue ≡ Some first.0
   pub least : AreBehind first ps
 
 -- A moment tells nothing, ends none and leaves each dialogue as it is (own).
-pub record IsQuiet (now : ℕ) (ps : List Place) : Type 0 where
+pub record IsQuiet (now : ℕ) (ps : List TableEntry) : Type 0 where
   pub told : all_told now (dialogues_of ps) ≡ []
   pub idle : idle_ids now ps ≡ []
   pub rest : map (place_at now) ps ≡ ps
@@ -58,7 +58,7 @@ pub record IsRunOut (now time : ℕ) (lapse : Option Lapse) (old new : Dialogue)
   pub alike : new ≡ with_invocations old new.invocations
   pub fewer : length new.invocations.rows < length old.invocations.rows
 
--- A dialogue has stood still too long: its end is put off, as if it were touched now, until all lapses are told
+-- A dialogue has been idle too long: its end is postponed, as if it were touched now, until all lapses are told
 -- (own).
 pub record IsPutOff (now time : ℕ) (old new : Dialogue) : Type 0 where
   pub ends : idle_end old ≡ Some time
@@ -71,7 +71,7 @@ IsPassedIn now time passed.Freed old new = IsRunOut now time None old new
 IsPassedIn now time passed.Idle old new = IsPutOff now time old new
 
 -- How many invocations stand in all dialogues (own).
-abbrev pub row_count : List Place → ℕ
+abbrev pub row_count : List TableEntry → ℕ
 row_count [] = 0
 row_count (p ∷ ps) = length p.1.invocations.rows + row_count ps
 
@@ -86,7 +86,7 @@ told_of d (passed.Lapsed lapse) = due_told (due_from d lapse) ∷ []
 told_of d passed.Freed = []
 told_of d passed.Idle = []
 
--- The dialogue, where its end is put off (own).
+-- The dialogue, where its end is postponed (own).
 abbrev pub idle_of : ℕ → Passed → List ℕ
 idle_of d (passed.Lapsed lapse) = []
 idle_of d passed.Freed = []
@@ -94,15 +94,15 @@ idle_of d passed.Idle = d ∷ []
 
 -- How much time may still do at a moment: a step for each invocation, and one for each dialogue that has stood
 -- still too long (own).
-abbrev pub step_count : ℕ → List Place → ℕ
+abbrev pub step_count : ℕ → List TableEntry → ℕ
 step_count now ps = row_count ps + length (idle_ids now ps)
 
 -- The first timer of all, which a moment has reached, ran out: what is told at the moment is the lapse, if it was
--- one, and then the rest; of the dialogues that have stood still too long it is the first, if its end is put off,
+-- one, and then the rest; of the dialogues that have been idle too long it is the first, if its end is postponed,
 -- and then the rest, and what is told of each is the same. What the moment leaves, but for some dialogues that
 -- are over and that one among them, is the same; the identifiers rise as before
 -- (Q.774, Invocation timer; Q.774, Reject timer).
-pub record IsPassed (now d : ℕ) (what : Passed) (old new : List Place) : Type 0 where
+pub record IsPassed (now d : ℕ) (what : Passed) (old new : List TableEntry) : Type 0 where
   pub told : all_told now (dialogues_of old) ≡ told_of d what ++ all_told now (dialogues_of new)
   pub idle : idle_ids now old ≡ idle_of d what ++ idle_ids now new
   pub ends : (id : ℕ) → ends_in now new id ≡ ends_in now old id

@@ -8,7 +8,7 @@ use Rattle.tcap_model.specs.Histories.History.{History}
 abbrev pub most_dialogues : ℕ
 most_dialogues = 65535
 
--- An engine of one dialogue at least, whose identifiers wait, and whose dialogues stand still, for no longer
+-- An engine of one dialogue at least, whose identifiers wait, and whose dialogues stay idle, for no longer
 -- than a moment may be (own).
 pub record AreLimits (limits : Limits) : Type 0 where
   pub one : 1 ≤ limits.max_dialogues

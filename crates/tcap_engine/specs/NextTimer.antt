@@ -10,7 +10,7 @@ use Rattle.tcap_model.specs.Table.World.{World}
 use Rattle.tcap_model.specs.Words.Answer.{Answer}
 use Rattle.tcap_model.specs.Words.Event.{Event}
 
--- The moments at which an invocation lapses, a wait ends or the dialogue has stood still too long
+-- The moments at which an invocation lapses, a wait ends or the dialogue has been idle too long
 -- (Q.774, Invocation timer; Q.774, Reject timer; the last is own).
 abbrev pub times_in : Dialogue → List ℕ
 times_in d = times_of d.invocations.rows ++ option_to_list (idle_end d)

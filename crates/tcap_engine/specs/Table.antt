@@ -9,25 +9,25 @@ use Rattle.tcap_model.specs.Table.Dialogue.{Dialogue}
 use Rattle.tcap_model.specs.Table.World.{World}
 
 -- An identifier and its dialogue (own).
-abbrev pub Place : Type 0
-Place = ℕ × Dialogue
+abbrev pub TableEntry : Type 0
+TableEntry = ℕ × Dialogue
 
 -- The dialogues (own).
-abbrev pub dialogues_of : List Place → List Dialogue
+abbrev pub dialogues_of : List TableEntry → List Dialogue
 dialogues_of ps = map (λ p. p.1) ps
 
 -- The places after the dialogue of an identifier became another one, or is over (own).
-abbrev pub places_with : ℕ → Option Dialogue → List Place → List Place
+abbrev pub places_with : ℕ → Option Dialogue → List TableEntry → List TableEntry
 places_with d None ps = remove_entry (nat_eq d) ps
 places_with d (Some after) ps = set_value (nat_eq d) ps after
 
 -- Each dialogue stands under its identifier, and the identifiers rise from this one on (own).
-abbrev pub AreFrom : ℕ → List Place → Type 0
+abbrev pub AreFrom : ℕ → List TableEntry → Type 0
 AreFrom low [] = Unit {0}
 AreFrom low (p ∷ ps) = (low ≤ p.0) × (p.1.standing.identifier ≡ p.0) × AreFrom (p.0 + 1) ps
 
 -- Each identifier was drawn: it is below the next one (own).
-abbrev pub AreDrawn : ℕ → List Place → Type 0
+abbrev pub AreDrawn : ℕ → List TableEntry → Type 0
 AreDrawn next [] = Unit {0}
 AreDrawn next (p ∷ ps) = (p.0 < next) × AreDrawn next ps
 
@@ -37,12 +37,12 @@ abbrev pub IsWithin : ℕ → ℕ → Dialogue → Type 0
 IsWithin reject_ms next d = (d.invocations.reject_ms ≡ reject_ms) × AllBelow next d.invocations.rows
 
 -- The same of each dialogue (own).
-abbrev pub AreWithin : ℕ → ℕ → List Place → Type 0
+abbrev pub AreWithin : ℕ → ℕ → List TableEntry → Type 0
 AreWithin reject_ms next [] = Unit {0}
 AreWithin reject_ms next (p ∷ ps) = IsWithin reject_ms next p.1 × AreWithin reject_ms next ps
 
 -- What every engine keeps (own).
-pub record IsSound (limits : Limits) (next_dialogue next_number clock : ℕ) (places : List Place) : Type 0 where
+pub record IsSound (limits : Limits) (next_dialogue next_number clock : ℕ) (places : List TableEntry) : Type 0 where
   pub limited : AreLimits limits
   pub time : clock ≤ moment_limit
   pub from : AreFrom 0 places

@@ -28,17 +28,17 @@ pub(crate) struct Dialogues<A: Allocator + Copy = Global> {
 pub(crate) struct Room {
     /// For what is told.
     pub(crate) told: usize,
-    /// For the identifiers of the dialogues that have stood still too long.
+    /// For the identifiers of the dialogues that have been idle too long.
     pub(crate) idle: usize,
 }
 
 impl<A: Allocator + Copy> Model for Dialogues<A> {
     ghost use Rattle.std.specs.Prelude.{List};
-    ghost use Rattle.tcap_engine.specs.Table.{Place};
+    ghost use Rattle.tcap_engine.specs.Table.{TableEntry};
     ghost use Rattle.tcap_engine.specs.Timed.{AreTimed};
     ghost use Rattle.timed_table.specs.Row.{entries_of};
 
-    ghost Value = { List Place };
+    ghost Value = { List TableEntry };
 
     ghost view = { λ t. entries_of t.rows };
 
@@ -68,21 +68,25 @@ impl<A: Allocator + Copy> Dialogues<A> {
     }
 
     /// The dialogue with an identifier, if it stands.
-    pub(crate) fn get(&self, d: u32) -> Option<&Dialogue<A>>
-        ensures { option_copied result ≡ lookup (nat_eq d) self.now }
+    pub(crate) fn get(&self, identifier: u32) -> Option<&Dialogue<A>>
+        ensures { option_copied result ≡ lookup (nat_eq identifier) self.now }
     {
-        self.rows.get(d)
+        self.rows.get(identifier)
     }
 
     /// Takes in a dialogue under an identifier above all others. All memory that its place will need is taken
     /// here.
-    pub(crate) fn insert(&mut self, d: u32, dialogue: Dialogue<A>) -> Result<(), OutOfMemory>
-        requires { AreDrawn d self.old }
-        ensures ok { OnOk result (self.new ≡ self.old ++ (d, dialogue) ∷ []) }
+    pub(crate) fn insert(
+        &mut self,
+        identifier: u32,
+        dialogue: Dialogue<A>,
+    ) -> Result<(), OutOfMemory>
+        requires { AreDrawn identifier self.old }
+        ensures ok { OnOk result (self.new ≡ self.old ++ (identifier, dialogue) ∷ []) }
         ensures err { OnErr result (self.new ≡ self.old) }
     {
         let timer = dialogue.next_timer();
-        match self.rows.insert(d, dialogue, timer) {
+        match self.rows.insert(identifier, dialogue, timer) {
             Ok(()) => Ok(()),
             Err(_) => Err(OutOfMemory),
         }
@@ -115,7 +119,7 @@ impl<A: Allocator + Copy> Dialogues<A> {
     }
 }
 
-/// Whether a dialogue has stood still too long at a moment.
+/// Whether a dialogue has been idle too long at a moment.
 fn is_idle<A: Allocator + Copy>(dialogue: &Dialogue<A>, now: u64) -> bool
     ensures { result ≡ is_idle_at now dialogue.now }
 {
@@ -126,16 +130,16 @@ fn is_idle<A: Allocator + Copy>(dialogue: &Dialogue<A>, now: u64) -> bool
 /// timer.
 pub(crate) fn settle<A: Allocator + Copy>(
     rows: &mut Table<Dialogue<A>, A>,
-    d: u32,
+    identifier: u32,
     is_over: bool,
     timer: Option<u64>,
 )
-    ensures rows { rows.new ≡ (if is_over then without d rows.old else with_time d timer rows.old) }
-    ensures entries { entries_of rows.new ≡ (if is_over then remove_entry (nat_eq d) (entries_of rows.old) else entries_of rows.old) }
+    ensures rows { rows.new ≡ (if is_over then without identifier rows.old else with_time identifier timer rows.old) }
+    ensures entries { entries_of rows.new ≡ (if is_over then remove_entry (nat_eq identifier) (entries_of rows.old) else entries_of rows.old) }
 {
     if is_over {
-        rows.remove(d);
+        rows.remove(identifier);
     } else {
-        rows.set_time(d, timer);
+        rows.set_time(identifier, timer);
     }
 }

@@ -1,15 +1,17 @@
+//! The engine and what it keeps.
+
 pub(crate) mod advance;
 pub(crate) mod asking;
-pub(crate) mod births;
 pub(crate) mod component_requests;
+pub(crate) mod creation;
+pub(crate) mod delivery;
 pub(crate) mod dialogue_requests;
-pub(crate) mod handling;
+pub(crate) mod events;
+pub(crate) mod getters;
 pub(crate) mod idle;
-pub(crate) mod kinds;
+pub(crate) mod messages;
 pub(crate) mod moment;
-pub(crate) mod opening;
-pub(crate) mod reaching;
-pub(crate) mod receiving;
+pub(crate) mod request_answers;
 pub(crate) mod requests;
 
 use crate::dialogues::Dialogues;

@@ -29,6 +29,6 @@ pub enum Answer<'m, A: Allocator = Global> {
     GivenUp(u64),
     /// What is sent and told, in this order.
     Outputs(Vec<Output<'m, A>, A>),
-    /// The request was refused for this cause, which is never want of memory.
+    /// The request was refused for this cause, which is never `OutOfMemory`.
     Refused(Fault),
 }

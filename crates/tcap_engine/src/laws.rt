@@ -73,9 +73,9 @@ pub fn two_ends()
     ensures { EachIsTwoEnded }
 {}
 
-/// The same for whoever runs any number of engines, each at addresses of its own, where each byte string that
-/// one receives was sent to it by another: at any time later, in any order, any number of times, or never.
-/// From new engines on, call by call or run by run, all stand at one list of their events and answers in time
+/// What `two_ends` says, for whoever runs any number of engines, each at addresses of its own. Each byte
+/// string that one receives was sent to it by another: at any time later, in any order, any number of times,
+/// or never. From new engines on, call by call or run by run, all stand at one list of their events and answers in time
 /// (our own).
 pub fn several_engines()
     ensures begin { NewOnesHear }

@@ -1,3 +1,5 @@
+//! The limits of an engine.
+
 /// What an engine keeps to (our own).
 #[derive(Clone, Copy, Debug, PartialEq, Eq)]
 pub struct Limits {
@@ -6,7 +8,7 @@ pub struct Limits {
     /// How long an invoke identifier waits for a Reject of its result or error, 0 to 2^62 milliseconds
     /// (Q.774, Reject timer; the length is our own).
     pub reject_ms: u64,
-    /// How long a dialogue that is Sent or Active may stand still before it is over, at most 2^62
+    /// How long a dialogue that is Sent or Active may stay idle before it is over, at most 2^62
     /// milliseconds; 0 for as long as it likes (our own).
     pub idle_ms: u64,
 }

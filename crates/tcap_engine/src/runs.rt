@@ -34,7 +34,7 @@ pub fn run<'m, A: Allocator + Copy>(
     run_each(engine, events, answers)
 }
 
-/// The same, event by event.
+/// `run`, event by event.
 fn run_each<'m, A: Allocator + Copy>(
     engine: &mut Engine<A>,
     events: &[Event<'m>],

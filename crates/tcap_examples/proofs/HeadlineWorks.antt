@@ -62,7 +62,7 @@ filter_map-most f (x ∷ xs) = let most = filter_map-most f xs in elim (by_optio
   | inr some ↦ rw some.1 (omega (arith, most))
 ]
 
--- A pair that neither gives birth to a dialogue nor names it, unless it is a moment.
+-- A pair that neither creates a dialogue nor names it, unless it is a moment.
 abbrev IsQuiet : ℕ → Pair → Type 0
 IsQuiet dialogue pair =
     (is_birth_of dialogue pair ≡ false) × ((names pair.event dialogue ≡ false) ⊎ (is_moment pair.event ≡ true))

@@ -1,4 +1,4 @@
--- Isolation on histories in which dialogues stand still too long.
+-- Isolation on histories in which dialogues stay idle too long.
 use Rattle.std.specs.Prelude.{◌≢◌, refl}
 use Rattle.tcap_examples.proofs.Apart.{apart, answer_number}
 use Rattle.tcap_examples.specs.Computing.{computing}

@@ -1,4 +1,4 @@
--- Histories in which dialogues that stood still too long are judged or told wrongly aren't legal.
+-- Histories in which dialogues that were idle too long are judged or told wrongly aren't legal.
 use Rattle.std.specs.Prelude.{refl}
 use Rattle.tcap_examples.proofs.Apart.{apart, first_number, told_number}
 use Rattle.tcap_examples.proofs.LegalHistories.{goes_wrong, goes_wrong_by}

@@ -1,3 +1,5 @@
+//! Operation classes (Q.771, Operation classes).
+
 ghost use Rattle.std.specs.Prelude.{◌≡◌};
 ghost use Rattle.tcap_invocation.specs.Class.{reports_success, reports_failure};
 

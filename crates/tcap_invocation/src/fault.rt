@@ -1,3 +1,5 @@
+//! Why an invocation isn't taken into the list.
+
 ghost use Rattle.std.specs.Prelude.{◌≡◌};
 ghost use Rattle.tcap_invocation.specs.Fault.{fault_number};
 ghost use Rattle.tcap_invocation.specs.declared.fault.AddFault.TheVariants.{OutOfMemory};

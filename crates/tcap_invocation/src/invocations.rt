@@ -1,3 +1,5 @@
+//! The invocations of one dialogue (Q.774, Invocation state machine).
+
 ghost use Rattle.std.specs.Prelude.{◌≡◌, ◌↔◌, ◌≤◌, [], is_some, IsSome, IfSome, IfNone, OnOk, OnErr, IsErrOf, IsOkUnless, IsTrue, true, Err};
 ghost use Rattle.tcap_invocation.specs.Invocations.{InvocationList, AllBelow, IsSound, entry_at, passing, sent_at, add_fault, added, after_sent};
 ghost use Rattle.tcap_invocation.specs.Stage.{moment_limit, IsTimeout};
@@ -105,7 +107,7 @@ impl<A: Allocator + Copy> Invocations<A> {
         ensures ok { OnOk result (self.new ≡ added self.old id number class timeout) }
         ensures err { OnErr result (self.new ≡ self.old) }
 
-        // The refusal that is due comes, and where none is due only want of memory.
+        // The refusal that is due comes, and where none is due only `OutOfMemory`.
         ensures due { IfSome (add_fault self.old.rows id timeout) (λ fault. result ≡ Err fault) }
         ensures memory { IfNone (add_fault self.old.rows id timeout) (IsOkUnless result AddFault.OutOfMemory) }
 

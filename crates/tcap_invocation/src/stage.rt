@@ -1,3 +1,5 @@
+//! The state of an invocation (Q.774, Invocation state machine).
+
 ghost use Rattle.std.specs.Prelude.{◌≡◌};
 ghost use Rattle.tcap_invocation.specs.Lapses.{is_held, stays, due_deadline};
 

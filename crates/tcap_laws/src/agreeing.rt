@@ -79,7 +79,7 @@ pub fn fresh_is_born()
         ≡ Some (fresh_dialogue (next_dialogue h) h.start.reject_ms h.start.idle_ms) }
 {}
 
-/// A Begin that is accepted is answered by the dialogue that it gives birth to, and that dialogue is
+/// A Begin that is accepted is answered by the dialogue that it creates, and that dialogue is
 /// what the history says (Q.774, Dialogue begin).
 pub fn begun_is_born()
     ensures answer { (h : History) (from : Address) (bytes : List ℕ) (origin : List ℕ) (context : Option (List ℕ))

@@ -28,7 +28,7 @@ pub fn over_stays_over()
         life dialogue (later ++ past) ≡ Life.over }
 {}
 
-/// A dialogue that was born is never unborn again (our own).
+/// A dialogue that was created is never unborn again (our own).
 pub fn born_stays_born()
     ensures { (dialogue : ℕ) (later past : Past) → life dialogue past ≢ Life.unborn →
         life dialogue (later ++ past) ≢ Life.unborn }
@@ -52,9 +52,9 @@ pub fn number_is_drawn_once()
     ensures within { (h : History) → IsLegal h → next_number h ≤ last_number }
 {}
 
-/// The identifiers of dialogues are drawn from a counter, each once: a reply gives birth to none, or
+/// The identifiers of dialogues are drawn from a counter, each once: a reply creates none, or
 /// to the next one. In a legal history the dialogues rise one by one from the start, the counter
-/// never passes its last identifier, and those that were born are the ones that live or lived (our
+/// never passes its last identifier, and those that were created are the ones that live or lived (our
 /// own).
 pub fn dialogue_is_born_once()
     ensures next { (h : History) (event : Event) (dialogue : ℕ) → born_of event (reply h event) ≡ Some dialogue →

@@ -2,9 +2,9 @@
 use Rattle.std.proofs.Common.{ℕ, List}
 use Rattle.tcap_pdu.specs.DialogueSpelling.{PduValue, SpellsDialogue}
 use Rattle.tcap_pdu.specs.DialogueSpelling.PduValue.{aarq, audt, aare, abrt, foreign}
-use Rattle.tcap_pdu.specs.DialogueWritten.{HasContext, HasInformation, HasDiagnostic}
+use Rattle.tcap_pdu.specs.DialogueWritten.{IsContextGood, IsInformationGood, HasDiagnostic}
 
-pub spelled_context : (p : PduValue) (bytes : List ℕ) → SpellsDialogue p bytes → HasContext p
+pub spelled_context : (p : PduValue) (bytes : List ℕ) → SpellsDialogue p bytes → IsContextGood p
 unfolding SpellsDialogue
 spelled_context (aarq v c i) bytes s = s.is_content.is_context
 spelled_context (audt v c i) bytes s = s.is_content.is_context
@@ -12,7 +12,7 @@ spelled_context (aare v c a d i) bytes s = s.is_content.is_context
 spelled_context (abrt b i) bytes s = tt
 spelled_context (foreign e) bytes s = tt
 
-pub spelled_information : (p : PduValue) (bytes : List ℕ) → SpellsDialogue p bytes → HasInformation p
+pub spelled_information : (p : PduValue) (bytes : List ℕ) → SpellsDialogue p bytes → IsInformationGood p
 unfolding SpellsDialogue
 spelled_information (aarq v c i) bytes s = s.is_content.is_information
 spelled_information (audt v c i) bytes s = s.is_content.is_information

@@ -8,21 +8,21 @@ use Rattle.tcap_pdu.specs.declared.fault.PduFault.{PduFault}
 use Rattle.tcap_pdu.specs.DialogueSpelling.{PduValue, IsForeign, SpellsDialogue}
 use Rattle.tcap_pdu.specs.DialogueSpelling.PduValue.{aarq, audt, aare, abrt, foreign}
 use Rattle.tcap_pdu.specs.DialogueReading.{pdu_at}
-use Rattle.tcap_pdu.specs.DialogueWritten.{written_dialogue, HasContext, HasInformation, IsWritable, WriteFault}
-use Rattle.tcap_pdu.specs.DialogueDue.{context_of, is_context, is_foreign, has_information, due_fault, unless, length_at, portion_length}
+use Rattle.tcap_pdu.specs.DialogueWritten.{written_dialogue, IsContextGood, IsInformationGood, IsWritable, WriteFault}
+use Rattle.tcap_pdu.specs.DialogueDue.{context_of, is_context, is_foreign, is_information_good, due_fault, unless, length_at, portion_length}
 use Rattle.tcap_pdu.proofs.DialogueLength.{length-dialogue}
 use Rattle.tcap_pdu.proofs.DueSteps.{context_short}
 use Rattle.tcap_pdu.proofs.DialogueParts.{information_takes, information_again}
 use Rattle.tcap_pdu.proofs.PortionGrammar.{pdu_takes, pdu_again}
 
-context_takes : (p : PduValue) → is_context (context_of p) ≡ true → HasContext p
+context_takes : (p : PduValue) → is_context (context_of p) ≡ true → IsContextGood p
 context_takes (aarq v c i) h = object_identifier_takes c h
 context_takes (audt v c i) h = object_identifier_takes c h
 context_takes (aare v c a d i) h = object_identifier_takes c h
 context_takes (abrt b i) h = tt
 context_takes (foreign e) h = tt
 
-context_again : (p : PduValue) → HasContext p → is_context (context_of p) ≡ true
+context_again : (p : PduValue) → IsContextGood p → is_context (context_of p) ≡ true
 context_again (aarq v c i) h = object_identifier_again c h
 context_again (audt v c i) h = object_identifier_again c h
 context_again (aare v c a d i) h = object_identifier_again c h
@@ -42,14 +42,14 @@ foreign_read : (bytes : List ℕ) → IsForeign bytes → is_foreign (pdu_at byt
 unfolding SpellsDialogue
 foreign_read bytes h = let s : SpellsDialogue (foreign bytes) bytes = (refl, h) in rw (pdu_again (foreign bytes) bytes s) refl
 
-information_is : (p : PduValue) → has_information p ≡ true → HasInformation p
+information_is : (p : PduValue) → is_information_good p ≡ true → IsInformationGood p
 information_is (aarq v c i) h = information_takes i h
 information_is (audt v c i) h = information_takes i h
 information_is (aare v c a d i) h = information_takes i h
 information_is (abrt b i) h = information_takes i h
 information_is (foreign e) h = foreign_by_read e (pdu_at e) refl h
 
-information_has : (p : PduValue) → HasInformation p → has_information p ≡ true
+information_has : (p : PduValue) → IsInformationGood p → is_information_good p ≡ true
 information_has (aarq v c i) h = information_again i h
 information_has (audt v c i) h = information_again i h
 information_has (aare v c a d i) h = information_again i h
@@ -65,18 +65,18 @@ due_is : (p : PduValue) → IsDue p (due_fault p)
 unfolding due_fault
 due_is p = elim (cases_Bool (is_context (context_of p))) [
   | inr c ↦ rw c (λ h. false≢true (sym c ∙ context_again p h))
-  | inl c ↦ elim (cases_Bool (has_information p)) [
+  | inl c ↦ elim (cases_Bool (is_information_good p)) [
     | inr i ↦ rw (c, i) (context_takes p c, λ h. false≢true (sym i ∙ information_has p h))
     | inl i ↦ elim (cases_Bool (ltb 65535 (length (written_dialogue p)))) [
       | inl long ↦ rw (c, i, long) (context_takes p c, information_is p i, ltb-true 65535 (length (written_dialogue p)) long)
-      | inr short ↦ rw (c, i, short) (record { has_context = context_takes p c; has_information = information_is p i; is_short = ltb-false 65535 (length (written_dialogue p)) short })
+      | inr short ↦ rw (c, i, short) (record { is_context_good = context_takes p c; is_information_good = information_is p i; is_short = ltb-false 65535 (length (written_dialogue p)) short })
     ]
   ]
 ]
 
 due_none : (p : PduValue) → IsWritable p → due_fault p ≡ None
 unfolding due_fault
-due_none p w = rw (context_again p w.has_context, information_has p w.has_information, le-ltb 65535 (length (written_dialogue p)) w.is_short) refl
+due_none p w = rw (context_again p w.is_context_good, information_has p w.is_information_good, le-ltb 65535 (length (written_dialogue p)) w.is_short) refl
 
 by_due : (p : PduValue) (n : ℕ) (o : Option PduFault) → IsDue p o → unless o (length (written_dialogue p)) ≡ Ok n → IsWritable p × (n ≡ length (written_dialogue p))
 by_due p n None d e = (d, sym (read_is {E = PduFault} (length (written_dialogue p)) n e))
@@ -99,7 +99,7 @@ not_writable p f e w = let e = e in not_refused f (length (written_dialogue p)) 
 
 -- what a PDU that can be written says of its lengths
 pub context_within : (p : PduValue) → IsWritable p → IfSome (context_of p) (λ c. length c ≤ 255)
-context_within p w = context_short (context_of p) (context_again p w.has_context)
+context_within p w = context_short (context_of p) (context_again p w.is_context_good)
 
 pub short_within : (p : PduValue) → IsWritable p → portion_length p ≤ 65535
 short_within p w = let l = length-dialogue p in let s = w.is_short in omega (arith, l, s)

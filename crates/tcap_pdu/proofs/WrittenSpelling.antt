@@ -153,11 +153,11 @@ external_spelled syntax tag n fs Spells is plain len le spells =
 
 pub written_spells : (p : PduValue) → IsWritable p → HasDiagnostic p → SpellsDialogue p (written_dialogue p)
 unfolding SpellsDialogue written_dialogue
-written_spells (aarq v c i) w d = external_spelled structured_syntax 0x60 _ (request_fields v c i) (SpellsRequest v c i) refl plain-60 (length-request v c i) w.is_short (request_spelled v c i w.has_context w.has_information)
-written_spells (audt v c i) w d = external_spelled unstructured_syntax 0x60 _ (request_fields v c i) (SpellsRequest v c i) refl plain-60 (length-request v c i) w.is_short (request_spelled v c i w.has_context w.has_information)
-written_spells (aare v c a s i) w d = external_spelled structured_syntax 0x61 _ (response_fields v c a s i) (SpellsResponse v c a s i) refl plain-61 (length-response v c a s i) w.is_short (response_spelled v c a s i w.has_context w.has_information d)
-written_spells (abrt b i) w d = external_spelled structured_syntax 0x64 _ (abort_fields b i) (SpellsAbort b i) refl plain-64 (length-abort b i) w.is_short (abort_spelled b i w.has_information)
-written_spells (foreign e) w d = (refl, w.has_information)
+written_spells (aarq v c i) w d = external_spelled structured_syntax 0x60 _ (request_fields v c i) (SpellsRequest v c i) refl plain-60 (length-request v c i) w.is_short (request_spelled v c i w.is_context_good w.is_information_good)
+written_spells (audt v c i) w d = external_spelled unstructured_syntax 0x60 _ (request_fields v c i) (SpellsRequest v c i) refl plain-60 (length-request v c i) w.is_short (request_spelled v c i w.is_context_good w.is_information_good)
+written_spells (aare v c a s i) w d = external_spelled structured_syntax 0x61 _ (response_fields v c a s i) (SpellsResponse v c a s i) refl plain-61 (length-response v c a s i) w.is_short (response_spelled v c a s i w.is_context_good w.is_information_good d)
+written_spells (abrt b i) w d = external_spelled structured_syntax 0x64 _ (abort_fields b i) (SpellsAbort b i) refl plain-64 (length-abort b i) w.is_short (abort_spelled b i w.is_information_good)
+written_spells (foreign e) w d = (refl, w.is_information_good)
 
 pub written_read : (p : PduValue) → IsWritable p → HasDiagnostic p → dialogue_at (written_dialogue p) ≡ Ok p
 written_read p w d = dialogue_again (written_dialogue p) p (written_spells p w d)

@@ -35,23 +35,23 @@ is_foreign (Some (foreign external)) = true
 
 -- Whether the user information is a list of EXTERNALs, and a foreign EXTERNAL one
 -- (Q.773, Dialogue portion).
-abbrev pub has_information : PduValue → Bool
-has_information (aarq version1 context info) = is_information info
-has_information (audt version1 context info) = is_information info
-has_information (aare version1 context accepted diagnostic info) = is_information info
-has_information (abrt by_provider info) = is_information info
-has_information (foreign external) = is_foreign (pdu_at external)
+abbrev pub is_information_good : PduValue → Bool
+is_information_good (aarq version1 context info) = is_information info
+is_information_good (audt version1 context info) = is_information info
+is_information_good (aare version1 context accepted diagnostic info) = is_information info
+is_information_good (abrt by_provider info) = is_information info
+is_information_good (foreign external) = is_foreign (pdu_at external)
 
 -- The first fault of the PDU's contents (own).
 abbrev pub content_fault : PduValue → Option PduFault
-content_fault p = if is_context (context_of p) then (if has_information p then None else Some BadInfo) else Some BadOid
+content_fault p = if is_context (context_of p) then (if is_information_good p then None else Some BadInfo) else Some BadOid
 
 -- The fault, or else that of a length above the limit (own).
 abbrev pub or_long : Option PduFault → ℕ → Option PduFault
 or_long (Some f) n = Some f
 or_long None n = if nat_lt portion_limit n then Some TooLong else None
 
--- The first fault that is due, want of memory apart (own).
+-- The first fault that is due, `OutOfMemory` apart (own).
 unfoldable pub due_fault : PduValue → Option PduFault
 due_fault p = or_long (content_fault p) (length (written_dialogue p))
 

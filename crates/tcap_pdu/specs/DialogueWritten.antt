@@ -62,21 +62,21 @@ written_dialogue (foreign external) = external
 
 -- The application context name, where the PDU names one, is an object identifier
 -- (Q.773, Dialogue portion).
-abbrev pub HasContext : PduValue → Type 0
-HasContext (aarq version1 context info) = IsObjectIdentifier context
-HasContext (audt version1 context info) = IsObjectIdentifier context
-HasContext (aare version1 context accepted diagnostic info) = IsObjectIdentifier context
-HasContext (abrt by_provider info) = Unit {0}
-HasContext (foreign external) = Unit {0}
+abbrev pub IsContextGood : PduValue → Type 0
+IsContextGood (aarq version1 context info) = IsObjectIdentifier context
+IsContextGood (audt version1 context info) = IsObjectIdentifier context
+IsContextGood (aare version1 context accepted diagnostic info) = IsObjectIdentifier context
+IsContextGood (abrt by_provider info) = Unit {0}
+IsContextGood (foreign external) = Unit {0}
 
 -- The user information is a list of EXTERNALs, and a foreign EXTERNAL is one
 -- (Q.773, Dialogue portion).
-abbrev pub HasInformation : PduValue → Type 0
-HasInformation (aarq version1 context info) = IsInformation info
-HasInformation (audt version1 context info) = IsInformation info
-HasInformation (aare version1 context accepted diagnostic info) = IsInformation info
-HasInformation (abrt by_provider info) = IsInformation info
-HasInformation (foreign external) = IsForeign external
+abbrev pub IsInformationGood : PduValue → Type 0
+IsInformationGood (aarq version1 context info) = IsInformation info
+IsInformationGood (audt version1 context info) = IsInformation info
+IsInformationGood (aare version1 context accepted diagnostic info) = IsInformation info
+IsInformationGood (abrt by_provider info) = IsInformation info
+IsInformationGood (foreign external) = IsForeign external
 
 -- A diagnostic, where there is one, is at most 127 (own).
 abbrev pub HasDiagnostic : PduValue → Type 0
@@ -86,16 +86,16 @@ HasDiagnostic (aare version1 context accepted diagnostic info) = source_number d
 HasDiagnostic (abrt by_provider info) = Unit {0}
 HasDiagnostic (foreign external) = Unit {0}
 
--- Nothing but want of memory keeps the PDU from being written (own).
+-- Nothing but `OutOfMemory` keeps the PDU from being written (own).
 pub record IsWritable (p : PduValue) : Type 0 where
-  pub has_context : HasContext p
-  pub has_information : HasInformation p
+  pub is_context_good : IsContextGood p
+  pub is_information_good : IsInformationGood p
   pub is_short : length (written_dialogue p) ≤ portion_limit
 
 -- Why the PDU is not written, each with when, in the order BadOid, BadInfo, TooLong, OutOfMemory: of
 -- several the first is told (own).
 abbrev pub WriteFault : PduValue → PduFault → Type 0
-WriteFault p BadOid = HasContext p → ⊥
-WriteFault p BadInfo = HasContext p × (HasInformation p → ⊥)
-WriteFault p TooLong = HasContext p × HasInformation p × (portion_limit < length (written_dialogue p))
+WriteFault p BadOid = IsContextGood p → ⊥
+WriteFault p BadInfo = IsContextGood p × (IsInformationGood p → ⊥)
+WriteFault p TooLong = IsContextGood p × IsInformationGood p × (portion_limit < length (written_dialogue p))
 WriteFault p OutOfMemory = IsWritable p

@@ -16,7 +16,7 @@ message_limit = 65535
 abbrev pub written_frame : Message → List ℕ
 written_frame m = written (message_tag m ∷ []) (written_fields (fields m))
 
--- Why the message is not written: it is above the limit, or it is not and memory is wanting. No
+-- Why the message is not written: it is above the limit, or it is not and memory runs out. No
 -- other fault of writing speaks of a message (own).
 abbrev pub IsWriteFault : Message → PduFault → Type 0
 IsWriteFault m OutOfMemory = length (written_frame m) ≤ message_limit

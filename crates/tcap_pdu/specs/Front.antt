@@ -1,4 +1,4 @@
--- The identifiers at the front of a message that may be faulty.
+-- The identifiers at the beginning of a message that may be faulty.
 use Rattle.std.specs.Prelude.{◌≡◌, ℕ, List, [], ◌∷◌, ◌++◌, take, Bool, true, Option, Some, None, Result, Ok, Err, if◌then◌else◌}
 use Rattle.ber_core.specs.declared.fault.BerFault.{BerFault}
 use Rattle.ber_core.specs.Tag.{is_constructor}
@@ -35,7 +35,7 @@ pub data StandsFirst (tag : ℕ) : List ℕ → Option (List ℕ) → List ℕ �
   stands : (e : Parts) (rest : List ℕ) → IsElement depth_limit e → e.tag ≡ tag ∷ [] → StandsFirst tag (e.whole ++ rest) (Some e.content) rest
   lacks : (bytes : List ℕ) → ((e : Parts) (rest : List ℕ) → IsElement depth_limit e → e.tag ≡ tag ∷ [] → bytes ≡ e.whole ++ rest → ⊥) → StandsFirst tag bytes None bytes
 
--- Origin and destination at the front of the bytes: a whole first element 48 gives the origin if it
+-- Origin and destination at the beginning of the bytes: a whole first element 48 gives the origin if it
 -- has 1 to 4 octets, and is passed over in any case; a whole element 49 that comes next gives the
 -- destination if it has 1 to 4 octets. Both are none if the head can't be read or is primitive (own).
 pub data Front : List ℕ → Option (List ℕ) → Option (List ℕ) → Type 0 where
@@ -46,7 +46,7 @@ pub data Front : List ℕ → Option (List ℕ) → Option (List ℕ) → Type 0
 abbrev pub both : Option (List ℕ) → Option (List ℕ) → Option (List ℕ) × Option (List ℕ)
 both o d = (o, d)
 
--- Origin and destination at the front of what is looked at, read from left to right (own).
+-- Origin and destination at the beginning of what is looked at, read from left to right (own).
 abbrev pub ids_at : List ℕ → Option (List ℕ) × Option (List ℕ)
 ids_at inside =
     let o = tagged 0x48 inside in
@@ -58,6 +58,6 @@ abbrev pub front_by : Result (List ℕ × Bool × Option ℕ × List ℕ) BerFau
 front_by (Err f) = both None None
 front_by (Ok h) = if h.1 then ids_at (cut h.2 h.3) else both None None
 
--- Origin and destination at the front of the bytes, read from left to right (own).
+-- Origin and destination at the beginning of the bytes, read from left to right (own).
 unfoldable pub front_at : List ℕ → Option (List ℕ) × Option (List ℕ)
 front_at bytes = front_by (head_at bytes)

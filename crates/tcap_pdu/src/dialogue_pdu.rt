@@ -1,3 +1,5 @@
+//! Dialogue PDUs: AARQ, AUDT, AARE, ABRT (Q.773, Dialogue portion).
+
 mod append;
 mod len;
 mod parts;

@@ -1,3 +1,5 @@
+//! Why bytes are no message or no dialogue portion, and why one isn't written.
+
 ghost use Rattle.std.specs.Prelude.{◌≡◌};
 
 use crate::tag::{

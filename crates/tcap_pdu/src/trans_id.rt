@@ -1,3 +1,5 @@
+//! Transaction identifiers (Q.773, Transaction ID).
+
 ghost use Rattle.std.specs.Prelude.{◌≡◌, ◌↔◌, ◌<◌, ◌≤◌, IsSome, IfSome, length};
 ghost use Rattle.std.specs.Int.{w32, to_be_bytes, from_be_bytes};
 ghost use Rattle.tcap_pdu.specs.TransId.{IsTransId, id_of};

@@ -2,7 +2,7 @@
 use Rattle.std.specs.Prelude.{ℕ, ◌+◌, ◌==◌, Bool, true, List, [], ◌∷◌, length, Option, Some, None, if◌then◌else◌}
 use Rattle.ber_core.specs.Place.{Slice}
 
--- A list with an octet more at the front of its first piece (own).
+-- A list with an octet more at the beginning of its first piece (own).
 abbrev pub with_octet : ℕ → List (List ℕ) → List (List ℕ)
 with_octet octet [] = (octet ∷ []) ∷ []
 with_octet octet (piece ∷ pieces) = (octet ∷ piece) ∷ pieces

@@ -44,7 +44,7 @@ pub record Stepped : Type 0 where
 -- ---- engines and messages
 
 -- Each engine lets 16 dialogues stand, and an identifier waits a second for a Reject of its answer; how
--- long a dialogue may stand still the script says; the first dialogue and the first invocation are 1 (own).
+-- long a dialogue may stay idle the script says; the first dialogue and the first invocation are 1 (own).
 abbrev pub play_start : ℕ → Start
 play_start idle_ms = record { max_dialogues = 16; reject_ms = 1000; idle_ms = idle_ms; next_dialogue = 1; next_number = 1 }
 

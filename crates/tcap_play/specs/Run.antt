@@ -15,7 +15,7 @@ pub record IsPlayed (had left old new : Option (List ℕ)) (good : Bool) : Type 
   pub written : Appends old new (play_text_of script)
   pub verdict : good ≡ play_is_good script
 
--- All that the reader had is the script, and a front of what its play prints, never all of it, was written
+-- All that the reader had is the script, and a prefix of what its play prints, never all of it, was written
 -- behind what the writer held (own).
 pub record IsPlayCut (had left old new : Option (List ℕ)) : Type 0 where
   pub script : List ℕ

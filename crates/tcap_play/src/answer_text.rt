@@ -51,7 +51,7 @@ fn add_outputs<A: Allocator + Copy>(
 
 /// Adds the lines of an answer of a side that has sent so many messages before it: its outputs one by
 /// one, every other answer in one line.
-pub fn add_answer<A: Allocator + Copy>(
+pub(crate) fn add_answer<A: Allocator + Copy>(
     alloc: A,
     text: &mut String<A>,
     side: Side,

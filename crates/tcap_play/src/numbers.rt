@@ -1,3 +1,5 @@
+//! Numbers in a script.
+
 ghost use Rattle.std.specs.Prelude.{◌≡◌, neg_ℤ, pos, option_and_then};
 ghost use Rattle.tcap_play.specs.Numbers.{is_padded, number_up_to, number_between, between, negative};
 

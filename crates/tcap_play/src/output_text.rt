@@ -20,7 +20,7 @@ use tcap_engine::{Address, DropWhy, Output};
 use tcap_text::octets_or_dash;
 
 /// Adds a line of a side.
-pub fn add_line<A: Allocator + Copy>(
+pub(crate) fn add_line<A: Allocator + Copy>(
     text: &mut String<A>,
     side: Side,
     words: &str,
@@ -104,7 +104,7 @@ fn output_text<A: Allocator + Copy>(
 }
 
 /// Adds the line of an output of a side; `number` is that of the message, if it sends one.
-pub fn add_output<A: Allocator + Copy>(
+pub(crate) fn add_output<A: Allocator + Copy>(
     alloc: A,
     text: &mut String<A>,
     side: Side,

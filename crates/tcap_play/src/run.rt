@@ -9,7 +9,7 @@ use std::io::{Read, Write};
 use tcap_text::{PlayFault, read_script, write_text};
 
 /// Plays the script that the reader gives: reads it all, writes what its play prints, and tells whether
-/// it is good. With another fault than Write nothing was written; with that one a front of the text,
+/// it is good. With another fault than Write nothing was written; with that one a prefix of the text,
 /// never all of it. The read that finds the end counts as one.
 ///
 /// ```rust

@@ -1,3 +1,5 @@
+//! The two sides of a play.
+
 /// One of the two engines of a play.
 #[derive(Clone, Copy)]
 pub enum Side {

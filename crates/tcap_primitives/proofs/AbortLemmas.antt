@@ -21,7 +21,7 @@ pub abort_short : length (written_dialogue (abrt true [])) ≤ 100
 abort_short = omega (arith, length-dialogue (abrt true []), abort_counts)
 
 pub abort_writable : IsWritable (abrt true [])
-abort_writable = record { has_context = tt; has_information = no_information; is_short = omega (arith, abort_short) }
+abort_writable = record { is_context_good = tt; is_information_good = no_information; is_short = omega (arith, abort_short) }
 
 response_counts : (context : List ℕ) → length context ≤ 255 → portion_length (aare true context false (Source.provider 2) []) ≤ 1000
 unfolding portion_length
@@ -45,4 +45,4 @@ response_short context is = omega (arith, length-dialogue (aare true context fal
 
 pub response_writable : (context : List ℕ) → IsObjectIdentifier context → IsWritable (aare true context false (Source.provider 2) [])
 response_writable context is =
-    record { has_context = is; has_information = no_information; is_short = omega (arith, response_short context is) }
+    record { is_context_good = is; is_information_good = no_information; is_short = omega (arith, response_short context is) }

@@ -2,8 +2,8 @@
 use Rattle.std.specs.Prelude.{option_copied}
 use Rattle.tcap_model.specs.Words.Request.{DialogueRequest}
 use Rattle.tcap_primitives.specs.RequestViews.{ending_view, reason_view}
-use Rattle.tcap_primitives.specs.declared.control.Control.{Control}
-use Rattle.tcap_primitives.specs.declared.control.Control.TheVariants as control
+use Rattle.tcap_primitives.specs.declared.dialogue_request.Control.{Control}
+use Rattle.tcap_primitives.specs.declared.dialogue_request.Control.TheVariants as control
 
 -- A request of dialogue handling, by what its slices hold (own).
 abbrev pub control_view : Control → DialogueRequest

@@ -21,7 +21,7 @@ pub record IsLeftOf (bytes portion : Slice) : Type 0 where
   pub before : List Item
   pub follows : components_of portion.now ≡ before ++ components_of bytes.now
 
--- A component whose slices lie in place at the front of what is left of the component portion (own).
+-- A component whose slices lie in place at the beginning of what is left of the component portion (own).
 pub record StandsIn (c : Component) (portion : Slice) : Type 0 where
   pub bytes : Slice
   pub is_left : IsLeftOf bytes portion

@@ -1,3 +1,5 @@
+//! Application context names.
+
 ghost use Rattle.std.specs.Prelude.{◌≡◌, true};
 ghost use Rattle.ber_core.specs.ObjectIdentifier.{is_object_identifier};
 

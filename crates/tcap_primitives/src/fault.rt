@@ -1,3 +1,5 @@
+//! Why a request is refused.
+
 ghost use Rattle.std.specs.Prelude.{◌≡◌};
 ghost use Rattle.tcap_primitives.specs.FaultViews.{fault_view};
 ghost use Rattle.tcap_primitives.specs.declared.fault.Fault.TheVariants.{OutOfMemory as NoMemory};

@@ -6,7 +6,7 @@
 #![tactic(auto)]
 
 mod context;
-mod control;
+mod dialogue_request;
 mod fault;
 mod output;
 mod provider_abort;
@@ -16,11 +16,11 @@ mod request;
 mod sending;
 
 pub use context::Context;
-pub use control::Control;
+pub use dialogue_request::Control;
 pub use fault::Fault;
 pub use output::{By, DropWhy, Output, Why};
 pub use provider_abort::{Abort, Cause, write_abort};
-pub use queue::{Invoking, MAX_QUEUE, MAX_REJECT, Part, Queue};
+pub use queue::{Invoking, MAX_QUEUE, Part, Queue};
 pub use request::{AbortWhy, Ending, Request};
 pub use sending::portions::{abort_pdu, answering_pdu, begin_pdu, refusing_pdu, uni_pdu};
 pub use sending::{Bearer, Sending};

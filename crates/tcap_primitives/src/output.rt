@@ -1,3 +1,5 @@
+//! Indications to the user, and messages to be sent (Q.771).
+
 use std::alloc::{Allocator, Global};
 use tcap_address::Address;
 use tcap_component::{Body, Code, Problem};
@@ -12,7 +14,7 @@ pub enum Why {
     Abnormal,
     /// There is no common dialogue portion.
     NoCommon,
-    /// The dialogue stood still too long (our own).
+    /// The dialogue was idle too long (our own).
     Idle,
 }
 

@@ -25,7 +25,7 @@ pub enum Cause {
     Faulty(FrameFault),
     /// The destination names no dialogue that takes the message: cause 1.
     UnrecognizedId,
-    /// No dialogue can be born: cause 4.
+    /// No dialogue can be created: cause 4.
     ResourceLimitation,
 }
 

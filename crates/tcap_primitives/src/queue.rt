@@ -1,19 +1,18 @@
+//! The components that wait for the next message of a dialogue.
+
 ghost use Rattle.std.specs.Prelude.{◌≡◌, length};
 ghost use Rattle.tcap_primitives.specs.Parts.{total};
 
 pub mod append;
 pub mod cancel;
+pub mod outgoing;
 pub mod room;
-pub mod sending;
 
 use std::alloc::{Allocator, Global};
 use tcap_invocation::Class;
 
 /// The greatest number of octets of a queue (our own).
 pub const MAX_QUEUE: usize = 60_000;
-
-/// The greatest number of octets of a Reject.
-pub const MAX_REJECT: usize = 8;
 
 /// The invocation that an Invoke asks for.
 #[derive(Clone, Copy, Debug)]

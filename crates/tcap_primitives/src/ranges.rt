@@ -17,7 +17,7 @@ pub fn octets(bytes: &[u8])
     ensures { IsTrue (are_octets bytes.now) }
 {}
 
-/// The same, where there are any.
+/// Optional octets are octets.
 fn octets_if_any(bytes: Option<&[u8]>)
     ensures { IsTrue (are_octets_if_any (option_copied bytes.entry)) }
 {
@@ -38,7 +38,7 @@ fn identifier(id: i8)
     ensures { IsTrue (is_identifier id) }
 {}
 
-/// The same, where there is one.
+/// An optional identifier is one octet.
 fn identifier_if_any(id: Option<i8>)
     ensures { IsTrue (is_identifier_if_any id) }
 {
@@ -62,7 +62,7 @@ fn local_code(number: i32)
     ensures { IsTrue (is_code (CodeParts.local number)) }
 {}
 
-/// The same, or a code is global and has octets.
+/// A code is local and has four octets at most, or is global and has octets.
 fn code(given: &Code<'_>)
     ensures { IsTrue (is_code (code_parts given.now)) }
 {

@@ -1,3 +1,5 @@
+//! Request primitives of a dialogue (Q.771).
+
 use tcap_address::Address;
 use tcap_component::{Body, Code, Problem};
 use tcap_invocation::Class;

@@ -51,7 +51,7 @@ IsOf named (reception.Begun origin request components) = Unit {0}
 IsOf named (reception.Taken dialogue frame) = named ≡ Some dialogue
 IsOf named (reception.Broken dialogue origin fault) = named ≡ Some dialogue
 
--- No dialogue is born where none can be (own).
+-- No dialogue is created where none can be (own).
 abbrev pub CanBear : Bool → Reception → Type 0
 CanBear is_full (reception.Dropped why) = Unit {0}
 CanBear is_full (reception.Aborted abort) = Unit {0}

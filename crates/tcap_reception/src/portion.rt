@@ -54,7 +54,7 @@ pub fn judge_begin<'m>(dialogue: Option<&'m [u8]>) -> BeginVerdict<'m>
     }
 }
 
-/// The same of a dialogue portion that is there.
+/// `judge_begin`, of a dialogue portion that is there.
 #[tactic(auto, using(crate::proofs::PortionNames::request_names))]
 fn judge_request<'m>(portion: &'m [u8]) -> BeginVerdict<'m>
     ensures verdict { begin_view result ≡ begin_verdict_by (dialogue_at portion.now) }
@@ -102,7 +102,7 @@ pub fn judge_uni<'m>(dialogue: Option<&'m [u8]>) -> PortionVerdict<'m>
     }
 }
 
-/// The same of a dialogue portion that is there.
+/// `judge_uni`, of a dialogue portion that is there.
 fn judge_unstructured<'m>(portion: &'m [u8]) -> PortionVerdict<'m>
     ensures verdict { portion_view result ≡ uni_verdict_by (dialogue_at portion.now) }
     ensures place { PortionIn 0x60 result (Some portion.entry) }

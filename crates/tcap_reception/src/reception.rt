@@ -18,7 +18,7 @@ use tcap_pdu::{Frame, FrameFault, TransId};
 use tcap_primitives::{Abort, Cause, DropWhy};
 
 /// The context and the user information of an AARQ or an AUDT, if there is one.
-pub type Request<'m> = Option<(&'m [u8], &'m [u8])>;
+pub type AarqParts<'m> = Option<(&'m [u8], &'m [u8])>;
 
 /// What becomes of received bytes (our own).
 #[derive(Drop)]
@@ -29,13 +29,13 @@ pub enum Reception<'m> {
     Aborted(Abort<'m>),
     /// A Unidirectional is told, with its components.
     Unidirectional {
-        request: Request<'m>,
+        request: AarqParts<'m>,
         components: &'m [u8],
     },
-    /// A Begin is accepted: a dialogue is born, with the originator as its peer.
+    /// A Begin is accepted: a dialogue is created, with the originator as its peer.
     Begun {
         origin: TransId,
-        request: Request<'m>,
+        request: AarqParts<'m>,
         components: &'m [u8],
     },
     /// A dialogue that is live takes a Continue, an End or an Abort.
@@ -129,7 +129,7 @@ fn hear_last<'m>(frame: Frame<'m>, named: Option<u32>) -> Reception<'m>
 }
 
 /// A message is taken by the live dialogue that its destination names, if it names one; a Begin is
-/// aborted where no dialogue can be born (Q.774, Transaction sublayer procedures).
+/// aborted where no dialogue can be created (Q.774, Transaction sublayer procedures).
 pub fn hear_message<'m>(frame: Frame<'m>, named: Option<u32>, is_full: bool) -> Reception<'m>
     ensures value { (is_live : ℕ → Bool) → named ≡ addressed_if_any is_live (destination (message frame.entry)) → reception_view result ≡ message_by is_live is_full (message frame.entry) }
     ensures can { CanRun result }

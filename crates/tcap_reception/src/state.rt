@@ -1,3 +1,5 @@
+//! The states of a dialogue (Q.774, Transaction state machine).
+
 ghost use Rattle.std.specs.Prelude.{◌≡◌};
 ghost use Rattle.tcap_model.specs.Words.State.{is_live, peer_of};
 ghost use Rattle.tcap_reception.specs.StateViews.{phase_view, state_of};

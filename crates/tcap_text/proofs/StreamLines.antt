@@ -12,7 +12,7 @@ use Rattle.tcap_text.specs.declared.fault.PlayFault.TheVariants as fault
 use Rattle.tcap_words.specs.Show.{check_text_of, show_is_good}
 use Rattle.tcap_words.specs.Writing.{IsFront}
 
--- ---- fronts of texts
+-- ---- prefixes of texts
 
 -- a front behind a text that was written whole
 pub front-behind : (lead text : List ℕ) (a b c : Option (List ℕ)) → Appends a b lead → IsFront text b c → IsFront (lead ++ text) a c
@@ -24,7 +24,7 @@ front-behind lead text a b c w f = record {
   written = Appends-trans a b c lead f.front w f.written;
 }
 
--- a front of a text is one of a longer text
+-- a prefix of a text is one of a longer text
 pub front-before : (text more : List ℕ) (a b : Option (List ℕ)) → IsFront text a b → IsFront (text ++ more) a b
 front-before text more a b f = record {
   front = f.front;

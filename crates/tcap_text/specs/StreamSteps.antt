@@ -8,7 +8,7 @@ use Rattle.tcap_text.specs.declared.fault.PlayFault.TheVariants as fault
 use Rattle.tcap_text.specs.StreamText.{verdict_lines, all_good, last_line_by, ends_by}
 use Rattle.tcap_words.specs.Writing.{IsFront}
 
--- The lines of some messages were written, and of no more: memory is wanting for the next (own).
+-- The lines of some messages were written, and of no more: memory runs out for the next (own).
 pub record IsTold (messages : List (List ℕ)) (old new : Option (List ℕ)) : Type 0 where
   pub told : List (List ℕ)
   pub untold : List (List ℕ)

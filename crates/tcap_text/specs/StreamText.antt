@@ -21,7 +21,7 @@ ber_number TooDeep = 5
 abbrev pub verdict_lines : List (List ℕ) → List ℕ
 verdict_lines messages = flat_map check_text_of messages
 
--- The line of the fault that stands; want of memory never stands (own).
+-- The line of the fault that stands; `OutOfMemory` never stands (own).
 abbrev pub fault_line : FeedFault → List ℕ
 fault_line OutOfMemory = []
 fault_line (Ber why) = number_line (codes "fault stream ber") (ber_number why)

@@ -1,3 +1,5 @@
+//! What became of a message of a play.
+
 /// What became of a message of a play.
 #[derive(Clone, Copy)]
 pub enum Fate {

@@ -1,3 +1,5 @@
+//! Why a run over a reader and a writer came to no verdict.
+
 use ber_core::OutOfMemory;
 use std::alloc::AllocError;
 use tcap_words::WriteFailed;

@@ -1,3 +1,5 @@
+//! The status of a verdict.
+
 ghost use Rattle.std.specs.Prelude.{◌≡◌};
 ghost use Rattle.tcap_text.specs.Status.{verdict_status};
 

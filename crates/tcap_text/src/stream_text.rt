@@ -8,7 +8,10 @@ use std::alloc::Allocator;
 
 /// The last line of a stream that the feed has taken, where no more is read: its fault, or how many octets
 /// of an unfinished element are left, if any.
-pub fn last_text<A: Allocator + Copy>(alloc: A, feed: &Feed<A>) -> Result<String<A>, OutOfMemory>
+pub(crate) fn last_text<A: Allocator + Copy>(
+    alloc: A,
+    feed: &Feed<A>,
+) -> Result<String<A>, OutOfMemory>
     ensures ok { IfOk result (λ text. string_bytes text ≡ last_line_by feed.now.fault (length feed.now.rest)) }
     // Memory is wanting only where something is printed.
     ensures err { IsErr result → last_line_by feed.now.fault (length feed.now.rest) ≢ [] }

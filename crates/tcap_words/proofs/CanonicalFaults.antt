@@ -1,4 +1,4 @@
--- What was read is not written only where it is too long, or for want of memory.
+-- What was read is not written only where it is too long, or for lack of memory.
 use Rattle.std.proofs.Common.{◌≡◌, ℕ, ◌<◌, List, length, ◌⊎◌, inl, inr, sym, ◌∙◌}
 use Rattle.tcap_pdu.specs.declared.fault.PduFault.TheVariants as pdu
 use Rattle.tcap_pdu.specs.DialogueSpelling.{PduValue, SpellsDialogue}

@@ -38,7 +38,7 @@ pdu-again : (content : List ℕ) (p : PduValue) → dialogue_at content ≡ Ok p
 pdu-again content p e le =
     let form : canonical_dialogue content ≡ written_dialogue p = ap canonical_pdu e in
     let s = dialogue_takes content p e in
-    let w : IsWritable p = record { has_context = spelled_context p content s; has_information = spelled_information p content s; is_short = subst (λ (x : List ℕ). length x ≤ 65535) form le } in
+    let w : IsWritable p = record { is_context_good = spelled_context p content s; is_information_good = spelled_information p content s; is_short = subst (λ (x : List ℕ). length x ≤ 65535) form le } in
     ap dialogue_at form ∙ (written_read p w (spelled_diagnostic p content s) ∙ sym e)
 
 dialogue-again : (content : List ℕ) → is_read (dialogue_at content) ≡ true → length (canonical_dialogue content) ≤ 65535 → dialogue_at (canonical_dialogue content) ≡ dialogue_at content

@@ -1,3 +1,5 @@
+//! The words of a component.
+
 ghost use Rattle.std.specs.Prelude.{◌≡◌, ◌++◌, codes, OnOk, IfOk, string_bytes, option_copied, option_map};
 ghost use Rattle.std.specs.Fmt.{signed_decimal};
 ghost use Rattle.tcap_component.specs.Views.{code_parts, body_parts, problem_parts, fault_parts, component_parts};
@@ -213,7 +215,7 @@ fn add_reject<A: Allocator + Copy>(
 }
 
 /// Adds the words of a component.
-pub fn add_component<A: Allocator + Copy>(
+pub(crate) fn add_component<A: Allocator + Copy>(
     alloc: A,
     text: &mut String<A>,
     component: &Component<'_>,
@@ -239,7 +241,7 @@ pub fn add_component<A: Allocator + Copy>(
 }
 
 /// Adds the words of a faulty component.
-pub fn add_fault<A: Allocator + Copy>(
+pub(crate) fn add_fault<A: Allocator + Copy>(
     text: &mut String<A>,
     fault: ComponentFault,
 ) -> Result<(), OutOfMemory>

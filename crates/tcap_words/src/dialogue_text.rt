@@ -1,3 +1,5 @@
+//! The words of a dialogue portion.
+
 ghost use Rattle.std.specs.Prelude.{◌≡◌, ◌++◌, OnOk, IfOk, string_bytes};
 ghost use Rattle.tcap_pdu.specs.DialogueSpelling.{result_number};
 ghost use Rattle.tcap_pdu.specs.DialogueSpelling.PduValue.{aare, abrt, foreign};
@@ -126,7 +128,7 @@ pub fn pdu_text<A: Allocator + Copy>(
 }
 
 /// Adds the line under a dialogue portion with these contents.
-pub fn add_portion<A: Allocator + Copy>(
+pub(crate) fn add_portion<A: Allocator + Copy>(
     alloc: A,
     text: &mut String<A>,
     content: &[u8],

@@ -50,7 +50,7 @@ fn rewrite_dialogue<A: Allocator + Copy>(alloc: A, content: &[u8]) -> Result<Vec
     }
 }
 
-/// The same, where there may be no dialogue portion.
+/// The canonical form of a dialogue portion, where there is one.
 pub fn rewrite_portion<A: Allocator + Copy>(
     alloc: A,
     dialogue: Option<&[u8]>,

@@ -1,3 +1,5 @@
+//! What a subcommand prints, and its verdict.
+
 ghost use Rattle.std.specs.Prelude.{◌≡◌, string_bytes};
 ghost use Rattle.tcap_words.specs.Verdict.{is_good};
 

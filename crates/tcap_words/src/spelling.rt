@@ -1,3 +1,5 @@
+//! Octets in hexadecimal.
+
 ghost use Rattle.std.specs.Prelude.{◌≡◌, ◌↔◌, Bool, is_some, true, option_map, IsTrue, IfOk, OnErr};
 ghost use Rattle.hex.specs.Hex.{is_hex_digit};
 ghost use Rattle.tcap_words.specs.Spelling.{IsHex, spelled_by};
@@ -21,7 +23,7 @@ fn is_hex(hex: &[u8]) -> bool
 
 /// The octets that a word of hexadecimal spells, None where it spells none: where it has another
 /// character than the digits, of either case, or an odd number of them. Its digits are judged before
-/// memory is asked for, so want of memory is answered only for a word that spells octets.
+/// memory is asked for, so `OutOfMemory` is answered only for a word that spells octets.
 pub fn hex_octets<A: Allocator>(alloc: A, hex: &[u8]) -> Result<Option<Vec<u8, A>>, OutOfMemory>
     ensures value { IfOk result (λ octets. option_map (λ o. o.items) octets ≡ spelled_by hex.now) }
     ensures err { OnErr result (is_some (spelled_by hex.now) ≡ true) }
@@ -35,7 +37,7 @@ pub fn hex_octets<A: Allocator>(alloc: A, hex: &[u8]) -> Result<Option<Vec<u8, A
     }
 }
 
-/// The same for a word that most likely spells octets: it is decoded first, and its digits are looked
+/// The octets of a word that most likely spells some: it is decoded first, and its digits are looked
 /// through only where it can't be.
 pub fn decode_hex<A: Allocator>(alloc: A, hex: &[u8]) -> Result<Option<Vec<u8, A>>, OutOfMemory>
     ensures value { IfOk result (λ octets. option_map (λ o. o.items) octets ≡ spelled_by hex.now) }

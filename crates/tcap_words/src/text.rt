@@ -1,3 +1,5 @@
+//! Lines of a text.
+
 ghost use Rattle.std.specs.Prelude.{◌≡◌, ◌++◌, OnOk, IfOk, string_bytes, option_copied};
 ghost use Rattle.tcap_words.specs.Text.{line, octets_line, number_line, octets_words, optional_octets_words, answer_words};
 
@@ -13,7 +15,7 @@ pub fn add_line<A: Allocator + Copy>(text: &mut String<A>, words: &str) -> Resul
 }
 
 /// Adds a line of a name and octets in hexadecimal.
-pub fn add_octets<A: Allocator + Copy>(
+pub(crate) fn add_octets<A: Allocator + Copy>(
     alloc: A,
     text: &mut String<A>,
     name: &str,
@@ -52,7 +54,7 @@ pub fn octets_or_dash<A: Allocator + Copy>(
 }
 
 /// Adds octets in hexadecimal, `-` where there are none or they are absent.
-pub fn add_optional_octets<A: Allocator + Copy>(
+pub(crate) fn add_optional_octets<A: Allocator + Copy>(
     alloc: A,
     text: &mut String<A>,
     octets: Option<&[u8]>,
@@ -83,7 +85,7 @@ pub fn optional_octets_or_dash<A: Allocator + Copy>(
 }
 
 /// `yes` or `no`.
-pub fn yes_or_no(answer: bool) -> &'static str
+pub(crate) fn yes_or_no(answer: bool) -> &'static str
     ensures { result.now ≡ answer_words answer }
 {
     if answer { "yes" } else { "no" }

@@ -1,3 +1,5 @@
+//! The verdict on the bytes of a message.
+
 /// The verdict on the bytes of a message: the first that holds.
 #[derive(Clone, Copy)]
 pub enum Verdict {

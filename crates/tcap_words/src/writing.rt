@@ -1,3 +1,5 @@
+//! Writing a text to a writer.
+
 ghost use Rattle.std.specs.Prelude.{◌≤◌, length, take, unwrap_or, IfSome, MatchResult};
 ghost use Rattle.std.specs.Io.KnownBytes.{Appends};
 ghost use Rattle.tcap_words.specs.Writing.{IsFront};
@@ -8,7 +10,7 @@ use std::io::{ErrorKind, Write};
 #[derive(Clone, Copy, Debug, PartialEq, Eq)]
 pub struct WriteFailed;
 
-/// Writes a front of the text by one write, and tells its length, 0 where the write was interrupted;
+/// Writes a prefix of the text by one write, and tells its length, 0 where the write was interrupted;
 /// None where it failed.
 fn write_front<W: Write>(out: &mut W, text: &[u8]) -> Option<usize>
     ensures bound { IfSome result (λ count. count ≤ length text.now) }
@@ -22,7 +24,7 @@ fn write_front<W: Write>(out: &mut W, text: &[u8]) -> Option<usize>
     }
 }
 
-/// Writes the text; where a write fails, a front of it was written, and never all of it. An empty text
+/// Writes the text; where a write fails, a prefix of it was written, and never all of it. An empty text
 /// is written without a call of the writer.
 pub fn write_text<W: Write>(out: &mut W, text: &[u8]) -> Result<(), WriteFailed>
     ensures { MatchResult result

@@ -1,3 +1,5 @@
+//! The values whose times are due.
+
 use slab::Slab;
 use std::alloc::{Allocator, Global};
 use timer_queue::Due;

@@ -1,3 +1,5 @@
+//! The table: values under rising identifiers, with a time beside each.
+
 ghost use Rattle.std.specs.Prelude.{◌≡◌, ◌++◌, ◌∷◌, [], ℕ, nat_eq, length, option_copied, OnOk, OnErr, IfErr, MatchOption};
 ghost use Rattle.std.specs.Map.{lookup, remove_entry};
 ghost use Rattle.timed_table.specs.Row.{AllBelow, IsRising, HasNoTime, IsFirst, entries_of, row_of, time_in, with_time, without, due_values};

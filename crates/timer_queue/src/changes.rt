@@ -1,3 +1,5 @@
+//! Changes of the heap that several calls need.
+
 ghost use Rattle.std.specs.Prelude.{◌≡◌, ◌<◌, ◌≤◌, ◌+◌, ◌++◌, [], ◌∷◌, None, ℕ, length, slice_set, MatchOption, vec_len, vec_capacity};
 ghost use Rattle.timer_queue.specs.Heap.{IsSound, IsOrdered, item_at, key_at};
 ghost use Rattle.timer_queue.specs.Queue.{HasNoTimer, IsFirst};

@@ -1,3 +1,5 @@
+//! The items that are due.
+
 ghost use Rattle.std.specs.Prelude.{◌≡◌, ◌<◌, ◌++◌, length};
 ghost use Rattle.timer_queue.specs.Order.{is_due, timer_at};
 ghost use Rattle.timer_queue.specs.Due.{is_due_place, downwards, below_place, after_place, from_place};

@@ -1,3 +1,5 @@
+//! The heap of items: order, and moving up and down.
+
 ghost use Rattle.std.specs.Prelude.{◌≡◌, ◌≢◌, ◌<◌, ◌+◌, ◌*◌, ◌≤◌, ℕ, false, length};
 ghost use Rattle.timer_queue.specs.Order.{comes_before, timer_at};
 ghost use Rattle.timer_queue.specs.Heap.{IsChild, IsOrdered, IsOrderedBut, IsFineBelow, IsFineAbove, IsTied, item_at, key_at, heap_swapped, heap_with, places_swapped, places_with};

@@ -1,3 +1,5 @@
+//! The queue of timers.
+
 ghost use Rattle.std.specs.Prelude.{◌≡◌, ◌<◌, ◌++◌, [], ◌∷◌, None, OnOk, OnErr, MatchOption, length, slice_set};
 ghost use Rattle.timer_queue.specs.Order.{timer_at};
 ghost use Rattle.timer_queue.specs.Queue.{HasNoTimer, IsFirst};

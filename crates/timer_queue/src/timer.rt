@@ -1,3 +1,5 @@
+//! A timer: a moment and the name of its item.
+
 ghost use Rattle.std.specs.Prelude.{◌≡◌, ◌+◌, ◌*◌, ◌^◌};
 ghost use Rattle.timer_queue.specs.Order.{comes_before};
 

@@ -72,7 +72,7 @@ fn join<A: Allocator + Copy>(alloc: A, begun: &[u8], last: &[u8]) -> Result<Vec<
 }
 
 /// The messages that a piece completes behind these octets of an element, and how it ends.
-pub fn cut_piece<'p, A: Allocator + Copy>(
+pub(crate) fn cut_piece<'p, A: Allocator + Copy>(
     alloc: A,
     scanner: Scanner,
     begun: &[u8],

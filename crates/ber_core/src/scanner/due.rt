@@ -1,3 +1,5 @@
+//! What the next octet of an element is.
+
 ghost use Rattle.std.specs.Prelude.{◌≡◌};
 
 /// What the next octet of an element is.

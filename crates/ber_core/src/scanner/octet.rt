@@ -15,7 +15,7 @@ use crate::scan::MAX_DEPTH;
 
 /// The scanner where this is due and so many indefinite elements are open.
 #[inline(always)]
-pub fn due_at(due: Due, nested: u8) -> Option<Scanner>
+pub(crate) fn due_at(due: Due, nested: u8) -> Option<Scanner>
     requires { CanBeDue due nested }
     ensures { (rest : List ℕ) → goes_on_or result rest ≡ at_due due nested rest }
 {
@@ -24,7 +24,7 @@ pub fn due_at(due: Due, nested: u8) -> Option<Scanner>
 
 /// Behind an element: the contents of the one around it go on; `None` where none is open.
 #[inline(always)]
-pub fn behind_element(nested: u8) -> Option<Scanner>
+pub(crate) fn behind_element(nested: u8) -> Option<Scanner>
     requires { nested ≤ depth_limit }
     ensures { (rest : List ℕ) → goes_on_or result rest ≡ outer_at nested rest }
 {

@@ -1,3 +1,5 @@
+//! Components, read and written.
+
 use std::alloc::Global;
 use std::test::Fail;
 use tcap_component::{

@@ -1,3 +1,5 @@
+//! Dialogue portions, read and written.
+
 ghost use Rattle.tcap_pdu.specs.DialogueViews.{pdu_value};
 ghost use Rattle.tcap_pdu.specs.DialogueWritten.{HasDiagnostic};
 

@@ -1,3 +1,5 @@
+//! Elements, lists, sequences and streams.
+
 ghost use Rattle.std.specs.Prelude.{◌≤◌, length};
 
 use ber_core::{

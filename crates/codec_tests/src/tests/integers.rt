@@ -1,3 +1,5 @@
+//! Integers, read and written.
+
 use ber_core::{OutOfMemory, read_int, write_int};
 use std::alloc::Global;
 use std::test::Fail;

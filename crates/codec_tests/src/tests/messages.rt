@@ -1,3 +1,5 @@
+//! Messages, read and written.
+
 ghost use Rattle.tcap_pdu.specs.FrameSpelling.{HasCause};
 ghost use Rattle.tcap_pdu.specs.FrameViews.{message};
 
@@ -207,7 +209,7 @@ fn last_octet(id: Option<TransId>) -> Option<u8> {
     id?.octets().last().copied()
 }
 
-/// Origin and destination at the front of a message, by their last octet.
+/// Origin and destination at the beginning of a message, by their last octet.
 fn front_octets(bytes: &[u8]) -> (Option<u8>, Option<u8>) {
     let (origin, destination) = front_ids(bytes);
     (last_octet(origin), last_octet(destination))
@@ -232,7 +234,7 @@ fn fronts_of_faulty_messages(rt: HostRuntime) -> Result<(), Fail> {
         ),
         (&[0x65, 0x05, 0x48, 0x00, 0x49, 0x01, 7], None, Some(7)),
         (&[0x63, 0x06, 0x48, 0x04, 0, 0, 0, 7], Some(7), None),
-        // A destination may stand first; a front of another kind has none.
+        // A destination may stand first; a prefix of another kind has none.
         (&[0x64, 0x06, 0x49, 0x04, 0, 0, 0, 1], None, Some(1)),
         (
             &[0x64, 0x08, 0x04, 0x00, 0x49, 0x04, 0, 0, 0, 1],

@@ -1,3 +1,5 @@
+//! Messages and dialogue portions at their limits.
+
 use std::alloc::{AllocError, Global};
 use std::test::Fail;
 use tcap_pdu::{Frame, FrameFault, PduFault, TransId, frame_fits, read_frame, write_frame};

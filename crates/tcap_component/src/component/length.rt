@@ -104,7 +104,7 @@ fn parameter_len(parameter: Option<&[u8]>) -> usize
 
 /// The length of a written code and parameter, in octets.
 #[inline(always)]
-pub fn body_len(body: &Body<'_>) -> usize
+pub(crate) fn body_len(body: &Body<'_>) -> usize
     requires { CanCode (code_parts body.now.code) }
     ensures value { result ≡ length (written_fields (body_fields (body_parts body.now))) }
     ensures within { result < 2 ^ 63 + 2 ^ 9 }
@@ -131,7 +131,7 @@ fn result_len(body: Option<Body<'_>>) -> usize
 
 /// The length of the written contents of a component, in octets.
 #[inline(always)]
-pub fn contents_len(component: &Component<'_>) -> usize
+pub(crate) fn contents_len(component: &Component<'_>) -> usize
     requires { HasCode (coded_part (component_parts component.now)) }
     ensures value { result ≡ length (written_contents (component_parts component.now)) }
     ensures within { result < 2 ^ 63 + 2 ^ 11 }
@@ -187,7 +187,7 @@ fn has_good_parameter(component: &Component<'_>) -> bool
 /// The length of the written contents of a component, in octets, or why the component can't be
 /// written: its code, its parameter, its length.
 #[inline(always)]
-pub fn checked_len(component: &Component<'_>) -> Result<usize, WriteFault>
+pub(crate) fn checked_len(component: &Component<'_>) -> Result<usize, WriteFault>
     ensures ok { IfOk result (λ len. CanWriteComponent (component_parts component.now) × (len ≡ length (written_contents (component_parts component.now)))) }
     ensures within { IfOk result (λ len. len ≤ length_limit) }
     ensures err { IfErr result (λ f. IsWriteFault (component_parts component.now) f) }

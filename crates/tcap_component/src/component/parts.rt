@@ -19,7 +19,7 @@ use ber_core::{is_oid, read_int, take_any, take_content, take_tagged};
 /// The identifier that one octet is.
 #[tactic(auto, unfolding(crate::specs::ComponentReading::identifier_of))]
 #[inline(always)]
-pub fn identifier(content: &[u8]) -> Option<i8>
+pub(crate) fn identifier(content: &[u8]) -> Option<i8>
     ensures { result ≡ identifier_of content.now }
 {
     match content {
@@ -47,7 +47,7 @@ fn take_octet(bytes: &[u8]) -> Option<(u8, &[u8])>
 /// 02 identifier, and what follows it.
 #[tactic(auto, unfolding(crate::specs::ComponentReading::identifier_at, crate::specs::ComponentReading::identifier_of))]
 #[inline(always)]
-pub fn take_identifier(bytes: &[u8]) -> Option<(i8, &[u8])>
+pub(crate) fn take_identifier(bytes: &[u8]) -> Option<(i8, &[u8])>
     ensures value { option_map (λ r. (r.0, r.1.now)) result ≡ identifier_at bytes.now }
     ensures code { IfSome result (λ r. GoesOn 0x06 r.1 bytes.entry) }
     ensures body { IfSome result (λ r. GoesOn 0x30 r.1 bytes.entry) }
@@ -63,7 +63,7 @@ pub fn take_identifier(bytes: &[u8]) -> Option<(i8, &[u8])>
 /// [80 linked identifier], and what follows it.
 #[tactic(auto, unfolding(crate::specs::ComponentReading::linked_at))]
 #[inline(always)]
-pub fn take_linked(bytes: &[u8]) -> Option<(Option<i8>, &[u8])>
+pub(crate) fn take_linked(bytes: &[u8]) -> Option<(Option<i8>, &[u8])>
     ensures value { option_map (λ r. (r.0, r.1.now)) result ≡ linked_at bytes.now }
     ensures code { IfSome result (λ r. GoesOn 0x06 r.1 bytes.entry) }
 {
@@ -109,7 +109,7 @@ fn take_code<'a>(bytes: &'a [u8]) -> Option<(Code<'a>, &'a [u8])>
 /// Code, [parameter].
 #[tactic(auto, unfolding(crate::specs::ComponentReading::body_at))]
 #[inline(always)]
-pub fn read_body<'a>(bytes: &'a [u8]) -> Option<Body<'a>>
+pub(crate) fn read_body<'a>(bytes: &'a [u8]) -> Option<Body<'a>>
     ensures value { option_map body_parts result ≡ body_at bytes.now }
     ensures place { IfSome result (λ b. CodedOnWay [] b.code b.parameter bytes.entry) }
 {
@@ -123,7 +123,7 @@ pub fn read_body<'a>(bytes: &'a [u8]) -> Option<Body<'a>>
 
 /// A result: 02 identifier, [30 { code, [parameter] }].
 #[tactic(auto, unfolding(crate::specs::ComponentReading::result_at))]
-pub fn read_result<'a>(bytes: &'a [u8]) -> Option<(i8, Option<Body<'a>>)>
+pub(crate) fn read_result<'a>(bytes: &'a [u8]) -> Option<(i8, Option<Body<'a>>)>
     ensures value { option_map (λ r. (r.0, option_map body_parts r.1)) result ≡ result_at bytes.now }
     ensures place { IfSome result (λ r. BodyOnWay (0x30 ∷ []) r.1 bytes.entry) }
 {
@@ -141,7 +141,7 @@ pub fn read_result<'a>(bytes: &'a [u8]) -> Option<(i8, Option<Body<'a>>)>
 
 /// 02 identifier or 05 with nothing, and what follows it.
 #[tactic(auto, unfolding(crate::specs::ComponentReading::rejected_at))]
-pub fn take_rejected(bytes: &[u8]) -> Option<(Option<i8>, &[u8])>
+pub(crate) fn take_rejected(bytes: &[u8]) -> Option<(Option<i8>, &[u8])>
     ensures { option_map (λ r. (r.0, r.1.now)) result ≡ rejected_at bytes.now }
 {
     if let (Some(content), rest) = take_tagged(bytes, tag::INTEGER) {
@@ -170,7 +170,7 @@ fn kind_of(bytes: &[u8]) -> Option<Kind>
 }
 
 /// The tag of a problem of this kind.
-pub fn tag_of(kind: Kind) -> u8
+pub(crate) fn tag_of(kind: Kind) -> u8
     ensures { result ≡ problem_tag kind }
 {
     match kind {
@@ -183,7 +183,7 @@ pub fn tag_of(kind: Kind) -> u8
 
 /// 80, 81, 82 or 83 with a problem's code, 00 to 7F.
 #[tactic(auto, unfolding(crate::specs::ComponentReading::problem_at, crate::specs::ComponentReading::problem_code))]
-pub fn read_problem(bytes: &[u8]) -> Option<Problem>
+pub(crate) fn read_problem(bytes: &[u8]) -> Option<Problem>
     ensures { option_map problem_parts result ≡ problem_at bytes.now }
 {
     let kind = kind_of(bytes)?;

@@ -15,7 +15,7 @@ fn identifier(_id: i8)
     ensures { IsIdentifier _id }
 {}
 
-/// The same of one that may be there.
+/// An optional identifier is one octet.
 #[inline(always)]
 fn identifier_if_any(id: Option<i8>)
     ensures { IsIdentifierIfAny id }
@@ -55,7 +55,7 @@ fn problem(problem: Problem)
 
 /// The numbers of a component whose code can be written.
 #[inline(always)]
-pub fn in_range(component: &Component<'_>)
+pub(crate) fn in_range(component: &Component<'_>)
     requires { HasCode (coded_part (component_parts component.now)) }
     ensures { InRange (component_parts component.now) }
 {

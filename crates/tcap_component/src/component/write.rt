@@ -182,7 +182,7 @@ pub fn write_component<A: Allocator + Copy>(
     ensures ok { OnOk result (CanWriteComponent (component_parts component.now)) }
     // It spells the component, so reading gives the component back.
     ensures spelled { IfOk result (λ octets. SpellsComponent (component_parts component.now) octets.items) }
-    // Each fault that is due comes, and no other but want of memory, which comes last.
+    // Each fault that is due comes, and no other but `OutOfMemory`, which comes last.
     ensures due { (f : WriteFault) → IsWriteFault (component_parts component.now) f → IsErrOf result f }
     ensures only { IfErr result (λ f. IsWriteFault (component_parts component.now) f ⊎ ((f ≡ fault.OutOfMemory) × CanWriteComponent (component_parts component.now))) }
 {

@@ -29,7 +29,7 @@ use tcap_primitives::{Abort, Output, Why, write_abort};
 use tcap_reception::Phase;
 
 /// What an Abort to a dialogue tells (Q.774, Abort by the user; Q.774, Abort by the provider).
-pub fn abort_told<'m, A: Allocator>(dialogue: u32, reason: &AbortPart<'m>) -> Output<'m, A>
+pub(crate) fn abort_told<'m, A: Allocator>(dialogue: u32, reason: &AbortPart<'m>) -> Output<'m, A>
     ensures told { shown result ≡ abort_told dialogue (reason_of reason.now) }
     ensures place { (components : Slice) → LieIn (reason_slice reason.now) components (slices_of result) }
 {

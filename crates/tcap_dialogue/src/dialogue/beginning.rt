@@ -1,4 +1,4 @@
-//! What gives birth to a dialogue, or has none: a Begin and a Unidirectional.
+//! What creates a dialogue, or has none: a Begin and a Unidirectional.
 
 ghost use Rattle.std.specs.Prelude.{◌≡◌, ℕ, ◌∷◌, ◌≤◌, Option, true, option_copied, IfOk, IfSome};
 ghost use Rattle.ber_core.specs.ObjectIdentifier.{IsObjectIdentifier};
@@ -17,7 +17,7 @@ ghost use Rattle.tcap_model.specs.Words.Output as model;
 ghost use Rattle.tcap_model.specs.Words.Output.{DialogueIndication};
 
 use super::Dialogue;
-use crate::receive::{count_items, walk, walk_alone};
+use crate::components::{count_items, walk, walk_alone};
 use ber_core::OutOfMemory;
 use std::alloc::Allocator;
 use tcap_address::Address;
@@ -78,7 +78,7 @@ impl<A: Allocator + Copy> Dialogue<A> {
         Ok(outputs)
     }
 
-    /// The dialogue with this identifier that a Begin gives birth to at this moment, and what is told.
+    /// The dialogue with this identifier that a Begin creates at this moment, and what is told.
     /// `reject_ms`, `idle_ms` and `clock` are at most 2^62 milliseconds, `from` is the address of its sender,
     /// which is kept, `otid` the originator, `aarq` the contents octets of the application context name and
     /// the user information of its AARQ, if it has one, and `components` the contents of its component

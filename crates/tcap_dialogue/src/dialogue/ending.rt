@@ -13,7 +13,7 @@ use tcap_primitives::Output;
 
 /// The dialogue is over: tells each of its invocations that is Queued or Sent as ended, by number, and
 /// takes it out; there is room for all of them.
-pub fn tell_ended<'m, A: Allocator + Copy>(
+pub(crate) fn tell_ended<'m, A: Allocator + Copy>(
     dialogue: u32,
     invocations: &mut Invocations<A>,
     outputs: &mut Vec<Output<'m, A>, A>,

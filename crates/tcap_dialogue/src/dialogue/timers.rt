@@ -1,4 +1,4 @@
-//! What lapses with time, invocation by invocation, and how a dialogue ends that stands still.
+//! What lapses with time, invocation by invocation, and how a dialogue ends that stays idle.
 
 ghost use Rattle.std.specs.Prelude.{◌≡◌, ◌≢◌, ◌≤◌, [], ◌∷◌, length, IfSome, IfOk, OnOk, OnErr};
 ghost use Rattle.tcap_dialogue.specs.Timers.{earliest};
@@ -37,7 +37,7 @@ impl<A: Allocator + Copy> Dialogue<A> {
     }
 
     /// The moment at which time next changes something: the least deadline of a Sent invocation or end of
-    /// the wait of an identifier, or the moment at which the dialogue has stood still too long, in
+    /// the wait of an identifier, or the moment at which the dialogue has been idle too long, in
     /// milliseconds, at most 2^63. Nothing where there is none. It takes no memory (own).
     pub fn next_timer(&self) -> Option<u64>
         ensures { result ≡ earliest (next_timer_at self.now.invocations.rows) (idle_end self.now) }
@@ -45,7 +45,7 @@ impl<A: Allocator + Copy> Dialogue<A> {
         earliest(self.invocations.next_timer(), self.idle_at())
     }
 
-    /// The moment at which the dialogue has stood still too long: its idle limit after it was touched last,
+    /// The moment at which the dialogue has been idle too long: its idle limit after it was touched last,
     /// in milliseconds, at most 2^63. Nothing unless it is Sent or Active and has an idle limit. It takes
     /// no memory (own).
     pub fn idle_at(&self) -> Option<u64>

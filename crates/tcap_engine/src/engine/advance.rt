@@ -19,7 +19,7 @@ use tcap_primitives::ranges;
 impl<A: Allocator + Copy> Engine<A> {
     /// The clock is at this moment, in milliseconds, at most 2^62: tells each invocation whose deadline
     /// was reached, by deadline, then dialogue, then number (TC-L-CANCEL indication), and frees each
-    /// identifier that has waited. Then each dialogue that has stood still too long is over, by the moment
+    /// identifier that has waited. Then each dialogue that has been idle too long is over, by the moment
     /// at which it had, then dialogue: TC-P-ABORT indication, and each invocation that is left, by number;
     /// no message goes out (own). A moment below the clock does nothing. Faults: `MomentTooLate`,
     /// `OutOfMemory`.
@@ -34,7 +34,7 @@ impl<A: Allocator + Copy> Engine<A> {
         self.go_to(now)
     }
 
-    /// The same, by the engine's move.
+    /// `advance`, by the engine's move.
     #[tactic(auto, unfolding(tcap_model::specs::Table::EngineMove::engine_move))]
     fn go_to<'m>(&mut self, now: u64) -> Result<Vec<Output<'m, A>, A>, Fault>
         ensures moves { EngineAnswers outputs_answer result (engine_move self.old (Event.moment now)) self.old self.new }

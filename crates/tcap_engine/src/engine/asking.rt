@@ -55,20 +55,20 @@ fn ask_one<'m, A: Allocator + Copy>(
 /// A request on the dialogue of an identifier, which is taken out where it is over.
 pub(super) fn ask_in<'m, A: Allocator + Copy>(
     table: &mut Dialogues<A>,
-    d: u32,
+    identifier: u32,
     clock: u64,
     number: u64,
     request: &Request<'_>,
 ) -> Result<Asked<'m, A>, Fault>
     requires clock { clock ≤ moment_limit }
-    requires number { IfSome (lookup (nat_eq d) table.old) (λ x. AllBelow number x.invocations.rows) }
-    ensures { AsksIn result (λ x. outcome (table_move (asked clock number) x (DialogueEvent.request (request_view request.now)))) d (lookup (nat_eq d) table.old) table.old table.new }
+    requires number { IfSome (lookup (nat_eq identifier) table.old) (λ x. AllBelow number x.invocations.rows) }
+    ensures { AsksIn result (λ x. outcome (table_move (asked clock number) x (DialogueEvent.request (request_view request.now)))) identifier (lookup (nat_eq identifier) table.old) table.old table.new }
 {
-    let Some(dialogue) = table.rows.get_mut(d) else {
+    let Some(dialogue) = table.rows.get_mut(identifier) else {
         return Err(Fault::UnknownDialogue);
     };
     let asked = ask_one(dialogue, clock, number, request)?;
     let timer = dialogue.next_timer();
-    settle(&mut table.rows, d, ends_dialogue(&asked), timer);
+    settle(&mut table.rows, identifier, ends_dialogue(&asked), timer);
     Ok(asked)
 }

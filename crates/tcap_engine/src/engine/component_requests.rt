@@ -12,7 +12,7 @@ ghost use Rattle.tcap_model.specs.Words.Request as model;
 ghost use Rattle.tcap_model.specs.Words.Request.{ComponentRequest};
 
 use super::Engine;
-use super::kinds::{given_up_of, number_of, queued_of};
+use super::request_answers::{given_up_of, number_of, queued_of};
 use std::alloc::Allocator;
 use tcap_component::{Body, Code, Problem};
 use tcap_dialogue::{Fault, Request};
@@ -25,7 +25,7 @@ impl<A: Allocator + Copy> Engine<A> {
     /// `TooLong`, `OutOfMemory`.
     pub fn invoke(
         &mut self,
-        d: u32,
+        dialogue: u32,
         id: i8,
         class: Class,
         code: Code<'_>,
@@ -33,8 +33,8 @@ impl<A: Allocator + Copy> Engine<A> {
         linked: Option<i8>,
         timeout_ms: u64,
     ) -> Result<u64, Fault>
-        ensures moves { EngineAnswers numbered result (engine_move self.old (Event.on_dialogue d (model.Request.component (ComponentRequest.invoke id class (code_parts code.entry) (option_copied parameter.entry) linked timeout_ms)))) self.old self.new }
-        ensures stands { Stands numbered result (Event.on_dialogue d (model.Request.component (ComponentRequest.invoke id class (code_parts code.entry) (option_copied parameter.entry) linked timeout_ms))) self.old self.new }
+        ensures moves { EngineAnswers numbered result (engine_move self.old (Event.on_dialogue dialogue (model.Request.component (ComponentRequest.invoke id class (code_parts code.entry) (option_copied parameter.entry) linked timeout_ms)))) self.old self.new }
+        ensures stands { Stands numbered result (Event.on_dialogue dialogue (model.Request.component (ComponentRequest.invoke id class (code_parts code.entry) (option_copied parameter.entry) linked timeout_ms))) self.old self.new }
         ensures err { OnErr result (self.new ≡ self.old) }
     {
         let request = Request::Invoke {
@@ -45,40 +45,50 @@ impl<A: Allocator + Copy> Engine<A> {
             linked,
             timeout_ms,
         };
-        number_of(self.request(d, &request))
+        number_of(self.request(dialogue, &request))
     }
 
     /// TC-RESULT-L request: the last or only result of an invocation of the peer, -128 to 127, is queued.
     /// Faults: `UnknownDialogue`, `WrongState`, `BadOid`, `BadParameter`, `TooLong`, `OutOfMemory`.
-    pub fn result_last(&mut self, d: u32, id: i8, body: Option<Body<'_>>) -> Result<(), Fault>
-        ensures moves { EngineAnswers queued_done result (engine_move self.old (Event.on_dialogue d (model.Request.component (ComponentRequest.result_last id (option_map body_parts body.entry))))) self.old self.new }
-        ensures stands { Stands queued_done result (Event.on_dialogue d (model.Request.component (ComponentRequest.result_last id (option_map body_parts body.entry)))) self.old self.new }
+    pub fn result_last(
+        &mut self,
+        dialogue: u32,
+        id: i8,
+        body: Option<Body<'_>>,
+    ) -> Result<(), Fault>
+        ensures moves { EngineAnswers queued_done result (engine_move self.old (Event.on_dialogue dialogue (model.Request.component (ComponentRequest.result_last id (option_map body_parts body.entry))))) self.old self.new }
+        ensures stands { Stands queued_done result (Event.on_dialogue dialogue (model.Request.component (ComponentRequest.result_last id (option_map body_parts body.entry)))) self.old self.new }
         ensures err { OnErr result (self.new ≡ self.old) }
     {
-        queued_of(self.request(d, &Request::ResultLast { id, body }))
+        queued_of(self.request(dialogue, &Request::ResultLast { id, body }))
     }
 
     /// TC-RESULT-NL request: a result of an invocation of the peer, -128 to 127, that others follow is
     /// queued. Faults: as of `result_last`.
-    pub fn result_more(&mut self, d: u32, id: i8, body: Option<Body<'_>>) -> Result<(), Fault>
-        ensures moves { EngineAnswers queued_done result (engine_move self.old (Event.on_dialogue d (model.Request.component (ComponentRequest.result_more id (option_map body_parts body.entry))))) self.old self.new }
-        ensures stands { Stands queued_done result (Event.on_dialogue d (model.Request.component (ComponentRequest.result_more id (option_map body_parts body.entry)))) self.old self.new }
+    pub fn result_more(
+        &mut self,
+        dialogue: u32,
+        id: i8,
+        body: Option<Body<'_>>,
+    ) -> Result<(), Fault>
+        ensures moves { EngineAnswers queued_done result (engine_move self.old (Event.on_dialogue dialogue (model.Request.component (ComponentRequest.result_more id (option_map body_parts body.entry))))) self.old self.new }
+        ensures stands { Stands queued_done result (Event.on_dialogue dialogue (model.Request.component (ComponentRequest.result_more id (option_map body_parts body.entry)))) self.old self.new }
         ensures err { OnErr result (self.new ≡ self.old) }
     {
-        queued_of(self.request(d, &Request::ResultMore { id, body }))
+        queued_of(self.request(dialogue, &Request::ResultMore { id, body }))
     }
 
     /// TC-U-ERROR request: the error of an invocation of the peer, -128 to 127, is queued; `parameter` is
     /// the octets of one element. Faults: as of `result_last`.
     pub fn error_back(
         &mut self,
-        d: u32,
+        dialogue: u32,
         id: i8,
         code: Code<'_>,
         parameter: Option<&[u8]>,
     ) -> Result<(), Fault>
-        ensures moves { EngineAnswers queued_done result (engine_move self.old (Event.on_dialogue d (model.Request.component (ComponentRequest.error_back id (code_parts code.entry) (option_copied parameter.entry))))) self.old self.new }
-        ensures stands { Stands queued_done result (Event.on_dialogue d (model.Request.component (ComponentRequest.error_back id (code_parts code.entry) (option_copied parameter.entry)))) self.old self.new }
+        ensures moves { EngineAnswers queued_done result (engine_move self.old (Event.on_dialogue dialogue (model.Request.component (ComponentRequest.error_back id (code_parts code.entry) (option_copied parameter.entry))))) self.old self.new }
+        ensures stands { Stands queued_done result (Event.on_dialogue dialogue (model.Request.component (ComponentRequest.error_back id (code_parts code.entry) (option_copied parameter.entry)))) self.old self.new }
         ensures err { OnErr result (self.new ≡ self.old) }
     {
         let request = Request::ErrorBack {
@@ -86,26 +96,26 @@ impl<A: Allocator + Copy> Engine<A> {
             code,
             parameter,
         };
-        queued_of(self.request(d, &request))
+        queued_of(self.request(dialogue, &request))
     }
 
     /// TC-U-REJECT request: a Reject is queued, of the component with this identifier, -128 to 127, if it
     /// is known. Faults: `UnknownDialogue`, `WrongState`, `TooLong`, `OutOfMemory`.
-    pub fn u_reject(&mut self, d: u32, id: Option<i8>, problem: Problem) -> Result<(), Fault>
-        ensures moves { EngineAnswers queued_done result (engine_move self.old (Event.on_dialogue d (model.Request.component (ComponentRequest.u_reject id (problem_parts problem))))) self.old self.new }
-        ensures stands { Stands queued_done result (Event.on_dialogue d (model.Request.component (ComponentRequest.u_reject id (problem_parts problem)))) self.old self.new }
+    pub fn u_reject(&mut self, dialogue: u32, id: Option<i8>, problem: Problem) -> Result<(), Fault>
+        ensures moves { EngineAnswers queued_done result (engine_move self.old (Event.on_dialogue dialogue (model.Request.component (ComponentRequest.u_reject id (problem_parts problem))))) self.old self.new }
+        ensures stands { Stands queued_done result (Event.on_dialogue dialogue (model.Request.component (ComponentRequest.u_reject id (problem_parts problem)))) self.old self.new }
         ensures err { OnErr result (self.new ≡ self.old) }
     {
-        queued_of(self.request(d, &Request::Reject { id, problem }))
+        queued_of(self.request(dialogue, &Request::Reject { id, problem }))
     }
 
     /// TC-U-CANCEL request: the Queued or Sent invocation with this identifier, -128 to 127, is given up,
     /// and its number answered. Takes no memory. Faults: `UnknownDialogue`, `NoSuchInvocation`.
-    pub fn u_cancel(&mut self, d: u32, id: i8) -> Result<u64, Fault>
-        ensures moves { EngineAnswers gave_up result (engine_move self.old (Event.on_dialogue d (model.Request.component (ComponentRequest.u_cancel id)))) self.old self.new }
-        ensures stands { Stands gave_up result (Event.on_dialogue d (model.Request.component (ComponentRequest.u_cancel id))) self.old self.new }
+    pub fn u_cancel(&mut self, dialogue: u32, id: i8) -> Result<u64, Fault>
+        ensures moves { EngineAnswers gave_up result (engine_move self.old (Event.on_dialogue dialogue (model.Request.component (ComponentRequest.u_cancel id)))) self.old self.new }
+        ensures stands { Stands gave_up result (Event.on_dialogue dialogue (model.Request.component (ComponentRequest.u_cancel id))) self.old self.new }
         ensures err { OnErr result (self.new ≡ self.old) }
     {
-        given_up_of(self.request(d, &Request::Cancel { id }))
+        given_up_of(self.request(dialogue, &Request::Cancel { id }))
     }
 }

@@ -10,7 +10,7 @@ ghost use Rattle.tcap_model.specs.Words.Request as model;
 ghost use Rattle.tcap_model.specs.Words.Request.{DialogueRequest};
 
 use super::Engine;
-use super::kinds::outputs_of;
+use super::request_answers::outputs_of;
 use std::alloc::Allocator;
 use tcap_dialogue::{AbortWhy, Address, Ending, Fault, Output, Request};
 
@@ -23,16 +23,16 @@ impl<A: Allocator + Copy> Engine<A> {
     /// (Q.774, Unstructured dialogue).
     pub fn uni<'m>(
         &mut self,
-        d: u32,
+        dialogue: u32,
         to: &Address,
         context: Option<&[u8]>,
         info: &[u8],
     ) -> Result<Vec<Output<'m, A>, A>, Fault>
-        ensures moves { EngineAnswers outputs_answer result (engine_move self.old (Event.on_dialogue d (model.Request.dialogue (DialogueRequest.uni to.now (option_copied context.entry) info.now)))) self.old self.new }
-        ensures stands { Stands outputs_answer result (Event.on_dialogue d (model.Request.dialogue (DialogueRequest.uni to.now (option_copied context.entry) info.now))) self.old self.new }
+        ensures moves { EngineAnswers outputs_answer result (engine_move self.old (Event.on_dialogue dialogue (model.Request.dialogue (DialogueRequest.uni to.now (option_copied context.entry) info.now)))) self.old self.new }
+        ensures stands { Stands outputs_answer result (Event.on_dialogue dialogue (model.Request.dialogue (DialogueRequest.uni to.now (option_copied context.entry) info.now))) self.old self.new }
         ensures err { OnErr result (self.new ≡ self.old) }
     {
-        outputs_of(self.request(d, &Request::Uni { to, context, info }))
+        outputs_of(self.request(dialogue, &Request::Uni { to, context, info }))
     }
 
     /// TC-BEGIN request: the queue goes out in a Begin to this address, which the dialogue keeps, with an
@@ -41,16 +41,16 @@ impl<A: Allocator + Copy> Engine<A> {
     /// `OutOfMemory` (Q.774, Dialogue begin).
     pub fn begin<'m>(
         &mut self,
-        d: u32,
+        dialogue: u32,
         to: &Address,
         context: Option<&[u8]>,
         info: &[u8],
     ) -> Result<Vec<Output<'m, A>, A>, Fault>
-        ensures moves { EngineAnswers outputs_answer result (engine_move self.old (Event.on_dialogue d (model.Request.dialogue (DialogueRequest.begin to.now (option_copied context.entry) info.now)))) self.old self.new }
-        ensures stands { Stands outputs_answer result (Event.on_dialogue d (model.Request.dialogue (DialogueRequest.begin to.now (option_copied context.entry) info.now))) self.old self.new }
+        ensures moves { EngineAnswers outputs_answer result (engine_move self.old (Event.on_dialogue dialogue (model.Request.dialogue (DialogueRequest.begin to.now (option_copied context.entry) info.now)))) self.old self.new }
+        ensures stands { Stands outputs_answer result (Event.on_dialogue dialogue (model.Request.dialogue (DialogueRequest.begin to.now (option_copied context.entry) info.now))) self.old self.new }
         ensures err { OnErr result (self.new ≡ self.old) }
     {
-        outputs_of(self.request(d, &Request::Begin { to, context, info }))
+        outputs_of(self.request(dialogue, &Request::Begin { to, context, info }))
     }
 
     /// TC-CONTINUE request: the queue goes out in a Continue to the kept address. In Received an AARQ is
@@ -59,15 +59,15 @@ impl<A: Allocator + Copy> Engine<A> {
     /// is answered, `TooLong`, `OutOfMemory` (Q.774, Dialogue continuation).
     pub fn go_on<'m>(
         &mut self,
-        d: u32,
+        dialogue: u32,
         context: Option<&[u8]>,
         info: &[u8],
     ) -> Result<Vec<Output<'m, A>, A>, Fault>
-        ensures moves { EngineAnswers outputs_answer result (engine_move self.old (Event.on_dialogue d (model.Request.dialogue (DialogueRequest.go_on (option_copied context.entry) info.now)))) self.old self.new }
-        ensures stands { Stands outputs_answer result (Event.on_dialogue d (model.Request.dialogue (DialogueRequest.go_on (option_copied context.entry) info.now))) self.old self.new }
+        ensures moves { EngineAnswers outputs_answer result (engine_move self.old (Event.on_dialogue dialogue (model.Request.dialogue (DialogueRequest.go_on (option_copied context.entry) info.now)))) self.old self.new }
+        ensures stands { Stands outputs_answer result (Event.on_dialogue dialogue (model.Request.dialogue (DialogueRequest.go_on (option_copied context.entry) info.now))) self.old self.new }
         ensures err { OnErr result (self.new ≡ self.old) }
     {
-        outputs_of(self.request(d, &Request::Continue { context, info }))
+        outputs_of(self.request(dialogue, &Request::Continue { context, info }))
     }
 
     /// TC-END request: a basic end sends the queue in an End to the kept address, a prearranged one nothing;
@@ -75,13 +75,13 @@ impl<A: Allocator + Copy> Engine<A> {
     /// `WrongState`, `BadOid`, `BadParameter`, `NoContext`, `TooLong`, `OutOfMemory` (Q.774, Dialogue end).
     pub fn finish<'m>(
         &mut self,
-        d: u32,
+        dialogue: u32,
         ending: Ending,
         context: Option<&[u8]>,
         info: &[u8],
     ) -> Result<Vec<Output<'m, A>, A>, Fault>
-        ensures moves { EngineAnswers outputs_answer result (engine_move self.old (Event.on_dialogue d (model.Request.dialogue (DialogueRequest.finish (ending_view ending) (option_copied context.entry) info.now)))) self.old self.new }
-        ensures stands { Stands outputs_answer result (Event.on_dialogue d (model.Request.dialogue (DialogueRequest.finish (ending_view ending) (option_copied context.entry) info.now))) self.old self.new }
+        ensures moves { EngineAnswers outputs_answer result (engine_move self.old (Event.on_dialogue dialogue (model.Request.dialogue (DialogueRequest.finish (ending_view ending) (option_copied context.entry) info.now)))) self.old self.new }
+        ensures stands { Stands outputs_answer result (Event.on_dialogue dialogue (model.Request.dialogue (DialogueRequest.finish (ending_view ending) (option_copied context.entry) info.now))) self.old self.new }
         ensures err { OnErr result (self.new ≡ self.old) }
     {
         let request = Request::End {
@@ -89,7 +89,7 @@ impl<A: Allocator + Copy> Engine<A> {
             context,
             info,
         };
-        outputs_of(self.request(d, &request))
+        outputs_of(self.request(dialogue, &request))
     }
 
     /// TC-U-ABORT request: an Abort goes out to the kept address, if the peer knows the dialogue; this is over,
@@ -97,14 +97,14 @@ impl<A: Allocator + Copy> Engine<A> {
     /// `NoContext`, `TooLong`, `OutOfMemory` (Q.774, Dialogue abort).
     pub fn u_abort<'m>(
         &mut self,
-        d: u32,
+        dialogue: u32,
         why: AbortWhy,
         info: &[u8],
     ) -> Result<Vec<Output<'m, A>, A>, Fault>
-        ensures moves { EngineAnswers outputs_answer result (engine_move self.old (Event.on_dialogue d (model.Request.dialogue (DialogueRequest.u_abort (reason_view why) info.now)))) self.old self.new }
-        ensures stands { Stands outputs_answer result (Event.on_dialogue d (model.Request.dialogue (DialogueRequest.u_abort (reason_view why) info.now))) self.old self.new }
+        ensures moves { EngineAnswers outputs_answer result (engine_move self.old (Event.on_dialogue dialogue (model.Request.dialogue (DialogueRequest.u_abort (reason_view why) info.now)))) self.old self.new }
+        ensures stands { Stands outputs_answer result (Event.on_dialogue dialogue (model.Request.dialogue (DialogueRequest.u_abort (reason_view why) info.now))) self.old self.new }
         ensures err { OnErr result (self.new ≡ self.old) }
     {
-        outputs_of(self.request(d, &Request::Abort { why, info }))
+        outputs_of(self.request(dialogue, &Request::Abort { why, info }))
     }
 }

@@ -1,10 +1,10 @@
-//! The end of the dialogues that have stood still too long.
+//! The end of the dialogues that have been idle too long.
 
 ghost use Rattle.std.specs.Prelude.{◌≡◌, ◌≤◌, ◌+◌, ◌++◌, nat_eq, length, vec_len, vec_capacity};
 ghost use Rattle.std.specs.List.{flat_map};
 ghost use Rattle.std.specs.Map.{remove_entry};
 ghost use Rattle.tcap_primitives.specs.OutputViews.{all_shown};
-ghost use Rattle.tcap_engine.specs.Ending.{AreApart, over_in, without_all};
+ghost use Rattle.tcap_engine.specs.Ending.{AreDistinct, over_in, without_all};
 ghost use Rattle.tcap_engine.specs.Table.{AreFrom};
 ghost use Rattle.tcap_invocation.specs.Closing.{ended_at};
 ghost use Rattle.tcap_model.specs.Table.TableMove.{ended_told};
@@ -14,18 +14,18 @@ use std::alloc::Allocator;
 use tcap_dialogue::{Dialogue, Output, Why};
 
 /// Tells each invocation that is left of a dialogue that is over, by number; there is room for all.
-fn tell_left<'m, A: Allocator + Copy>(
+fn tell_ended<'m, A: Allocator + Copy>(
     dialogue: &mut Dialogue<A>,
-    d: u32,
+    identifier: u32,
     outputs: &mut Vec<Output<'m, A>, A>,
 )
     requires { vec_len outputs.old + length (ended_at dialogue.old.invocations.rows) ≤ vec_capacity outputs.old }
-    ensures told { all_shown outputs.new.items ≡ all_shown outputs.old.items ++ ended_told d dialogue.old.invocations }
+    ensures told { all_shown outputs.new.items ≡ all_shown outputs.old.items ++ ended_told identifier dialogue.old.invocations }
     ensures room { vec_capacity outputs.new ≡ vec_capacity outputs.old }
 {
     while let Some((number, id)) = dialogue.close_one() {
         outputs.push_reserved(Output::Ended {
-            dialogue: d,
+            dialogue: identifier,
             number,
             id,
         });
@@ -35,38 +35,38 @@ fn tell_left<'m, A: Allocator + Copy>(
 /// The dialogue of an identifier is over (TC-P-ABORT indication); there is room for all that is told.
 fn end_one<'m, A: Allocator + Copy>(
     table: &mut Dialogues<A>,
-    d: u32,
+    identifier: u32,
     outputs: &mut Vec<Output<'m, A>, A>,
 )
     requires from { AreFrom 0 table.old }
-    requires room { vec_len outputs.old + length (over_in table.old d) ≤ vec_capacity outputs.old }
-    ensures told { all_shown outputs.new.items ≡ all_shown outputs.old.items ++ over_in table.old d }
+    requires room { vec_len outputs.old + length (over_in table.old identifier) ≤ vec_capacity outputs.old }
+    ensures told { all_shown outputs.new.items ≡ all_shown outputs.old.items ++ over_in table.old identifier }
     ensures room { vec_capacity outputs.new ≡ vec_capacity outputs.old }
-    ensures table { table.new ≡ remove_entry (nat_eq d) table.old }
+    ensures table { table.new ≡ remove_entry (nat_eq identifier) table.old }
 {
-    let Some(mut dialogue) = table.rows.remove(d) else {
+    let Some(mut dialogue) = table.rows.remove(identifier) else {
         return;
     };
     outputs.push_reserved(Output::PAbort {
-        dialogue: d,
+        dialogue: identifier,
         why: Why::Idle,
     });
-    tell_left(&mut dialogue, d, outputs);
+    tell_ended(&mut dialogue, identifier, outputs);
 }
 
-/// The dialogues of these identifiers are over, the first first; there is room for all that is told.
+/// The dialogues of these identifiers are over, earliest first; there is room for all that is told.
 pub(super) fn end_all<'m, A: Allocator + Copy>(
     table: &mut Dialogues<A>,
     ids: &[u32],
     outputs: &mut Vec<Output<'m, A>, A>,
 )
     requires from { AreFrom 0 table.old }
-    requires apart { AreApart ids.now }
+    requires apart { AreDistinct ids.now }
     requires room { vec_len outputs.old + length (flat_map (over_in table.old) ids.now) ≤ vec_capacity outputs.old }
     ensures told { all_shown outputs.new.items ≡ all_shown outputs.old.items ++ flat_map (over_in table.old) ids.now }
     ensures table { table.new ≡ without_all ids.now table.old }
 {
-    for d in ids {
-        end_one(table, *d, outputs);
+    for identifier in ids {
+        end_one(table, *identifier, outputs);
     }
 }

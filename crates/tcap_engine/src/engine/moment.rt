@@ -1,4 +1,4 @@
-//! What lapses at a moment in all dialogues, and which of them have stood still too long.
+//! What lapses at a moment in all dialogues, and which of them have been idle too long.
 
 ghost use Rattle.std.specs.Prelude.{◌≡◌, ◌≢◌, ◌≤◌, ◌+◌, ◌++◌, [], length, vec_len, vec_capacity, ℕ, IfSome, IfNone, Some, MatchOption};
 ghost use Rattle.tcap_primitives.specs.OutputViews.{all_shown};
@@ -19,7 +19,7 @@ pub(crate) enum Passed {
     Lapsed(Lapse),
     /// Identifiers are free that have waited.
     Freed,
-    /// It has stood still too long; its end is put off until all lapses are told.
+    /// It has been idle too long; its end is postponed until all lapses are told.
     Idle,
 }
 
@@ -64,25 +64,30 @@ fn pass_in<A: Allocator + Copy>(dialogue: &mut Dialogue<A>, now: u64, time: u64)
     }
 }
 
-/// The same of the first timer of all, whose dialogue has this identifier.
-fn pass_first<A: Allocator + Copy>(table: &mut Dialogues<A>, now: u64, time: u64, d: u32) -> Passed
+/// `pass_in`, of the first timer of all, whose dialogue has this identifier.
+fn pass_first<A: Allocator + Copy>(
+    table: &mut Dialogues<A>,
+    now: u64,
+    time: u64,
+    identifier: u32,
+) -> Passed
     requires from { AreFrom 0 table.old }
-    requires first { IsFirstTimer table.old (time, d) }
+    requires first { IsFirstTimer table.old (time, identifier) }
     requires reached { time ≤ now }
     requires late { now ≤ moment_limit }
-    ensures { IsPassed now d result table.old table.new }
+    ensures { IsPassed now identifier result table.old table.new }
 {
-    let Some(dialogue) = table.rows.get_mut(d) else {
+    let Some(dialogue) = table.rows.get_mut(identifier) else {
         return Passed::Freed;
     };
     let passed = pass_in(dialogue, now, time);
     let timer = dialogue.next_timer();
-    table.rows.set_time(d, timer);
+    table.rows.set_time(identifier, timer);
     passed
 }
 
-/// Tells what lapses, the first first, frees each identifier whose wait is over, and puts off the end of each
-/// dialogue that has stood still too long: these are the identifiers, the first first. There is room for all.
+/// Tells what lapses, earliest first, frees each identifier whose wait is over, and postpones the end of each
+/// dialogue that has been idle too long: these are the identifiers, earliest first. There is room for all.
 pub(super) fn tell_due<'m, A: Allocator + Copy>(
     table: &mut Dialogues<A>,
     now: u64,
@@ -102,14 +107,14 @@ pub(super) fn tell_due<'m, A: Allocator + Copy>(
     ensures quiet { IsQuiet now table.new }
     ensures from { AreFrom 0 table.new }
 {
-    while let Some((time, d)) = first_by(table, now) {
-        match pass_first(table, now, time, d) {
+    while let Some((time, identifier)) = first_by(table, now) {
+        match pass_first(table, now, time, identifier) {
             Passed::Lapsed(lapse) => outputs.push_reserved(Output::Lapsed {
-                dialogue: d,
+                dialogue: identifier,
                 number: lapse.number,
                 id: lapse.id,
             }),
-            Passed::Idle => idle.push_reserved(d),
+            Passed::Idle => idle.push_reserved(identifier),
             Passed::Freed => {}
         }
     }

@@ -30,26 +30,40 @@ impl<A: Allocator + Copy> Engine<A> {
     /// Any request on the dialogue with this identifier; the calls of their own names are the same. Faults:
     /// `UnknownDialogue`, and those of the request.
     #[tactic(auto, using(crate::proofs::StandingLemmas::stands_after))]
-    pub fn request<'m>(&mut self, d: u32, request: &Request<'_>) -> Result<Asked<'m, A>, Fault>
-        ensures moves { EngineAnswers asked_answer result (engine_move self.old (Event.on_dialogue d (request_view request.now))) self.old self.new }
+    pub fn request<'m>(
+        &mut self,
+        dialogue: u32,
+        request: &Request<'_>,
+    ) -> Result<Asked<'m, A>, Fault>
+        ensures moves { EngineAnswers asked_answer result (engine_move self.old (Event.on_dialogue dialogue (request_view request.now))) self.old self.new }
         // The answer is of the request's kind.
         ensures kind { IfOk result (λ asked. MayAnswer (kind_of (request_view request.now)) (asked_answer asked)) }
         // Whatever legal history the engine stood at: the reply, and the history that it stands at then.
-        ensures stands { Stands asked_answer result (Event.on_dialogue d (request_view request.now)) self.old self.new }
+        ensures stands { Stands asked_answer result (Event.on_dialogue dialogue (request_view request.now)) self.old self.new }
         // A refusal changes nothing.
         ensures err { OnErr result (self.new ≡ self.old) }
     {
-        ranges::short(d);
+        ranges::short(dialogue);
         ranges::request(request);
-        self.ask(d, request)
+        self.ask(dialogue, request)
     }
 
-    /// The same, by the engine's move.
-    pub(super) fn ask<'m>(&mut self, d: u32, request: &Request<'_>) -> Result<Asked<'m, A>, Fault>
-        ensures moves { EngineAnswers asked_answer result (engine_move self.old (Event.on_dialogue d (request_view request.now))) self.old self.new }
+    /// `request`, by the engine's move.
+    pub(super) fn ask<'m>(
+        &mut self,
+        dialogue: u32,
+        request: &Request<'_>,
+    ) -> Result<Asked<'m, A>, Fault>
+        ensures moves { EngineAnswers asked_answer result (engine_move self.old (Event.on_dialogue dialogue (request_view request.now))) self.old self.new }
         ensures err { OnErr result (self.new ≡ self.old) }
     {
-        let asked = ask_in(&mut self.table, d, self.clock, self.next_number, request)?;
+        let asked = ask_in(
+            &mut self.table,
+            dialogue,
+            self.clock,
+            self.next_number,
+            request,
+        )?;
         let next = next_number(&asked, self.next_number);
         self.next_number = next;
         Ok(asked)

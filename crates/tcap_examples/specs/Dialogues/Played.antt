@@ -78,15 +78,15 @@ unfoldable pub play : Played → List DialogueEvent → Played
 play p [] = p
 play p (event ∷ events) = play (after_move p event (table_move p.setting p.dialogue event)) events
 
--- A dialogue as it is born, with what it tells (own).
+-- A dialogue as it is created, with what it tells (own).
 abbrev pub after_birth : Moved → Played
 after_birth m = record { setting = first_setting; dialogue = m.after; answers = m.answer ∷ []; is_over = m.is_over }
 
--- No dialogue is born (own).
+-- No dialogue is created (own).
 abbrev pub unborn : Played
 unborn = record opened { is_over = true }
 
--- The dialogue that is born, if one is (own).
+-- The dialogue that is created, if one is (own).
 abbrev pub begun_by : Reception → Played
 begun_by (Reception.dropped why) = unborn
 begun_by (Reception.aborted answer) = unborn
@@ -120,7 +120,7 @@ broken_with (Reception.broken dialogue (Some answer) cause) = Some (dialogue, (w
 abbrev pub is_none_live : ℕ → Bool
 is_none_live dialogue = false
 
--- The dialogue that is born by a Begin with these bytes, if it is accepted (own).
+-- The dialogue that is created by a Begin with these bytes, if it is accepted (own).
 unfoldable pub begun_from : List ℕ → Played
 begun_from bytes = begun_by (reception is_none_live false bytes)
 

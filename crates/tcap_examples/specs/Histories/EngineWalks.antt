@@ -33,7 +33,7 @@ dialogue_2 state queue rows = record {
   kept = kept_in state;
 }
 
--- The engine where both dialogues were born (own).
+-- The engine where both dialogues were created (own).
 abbrev pub engine_of_two : ℕ → ℕ → List Dialogue → World
 engine_of_two clock next_number dialogues = record (engine_with clock next_number dialogues) { next_dialogue = 3 }
 
@@ -85,7 +85,7 @@ second_fresh = dialogue_2 State.fresh [] []
 abbrev pub second_queued : Dialogue
 second_queued = dialogue_2 State.fresh (invoke_queued invoke_1 2 ∷ []) (class_one_row (pos 1) 2 (Queued 10) ∷ [])
 
--- A dialogue is asked for, and number 2 is born (own).
+-- A dialogue is asked for, and number 2 is created (own).
 abbrev pub new_dialogue_2 : World → Step
 new_dialogue_2 after = record { event = Event.new_dialogue; answer = Answer.new_dialogue 2; after = after }
 

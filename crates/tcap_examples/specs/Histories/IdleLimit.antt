@@ -1,4 +1,4 @@
--- Worked histories: dialogues that stand still too long.
+-- Worked histories: dialogues that stay idle too long.
 use Rattle.std.specs.Prelude.{ℕ, pos, List, [], ◌∷◌, map, Some, None}
 use Rattle.tcap_invocation.specs.declared.class.Class.TheVariants.{One}
 use Rattle.tcap_model.specs.Words.Answer.{Answer}
@@ -31,7 +31,7 @@ idle_worked pairs stated = worked idle_start (map limited pairs) stated
 
 -- ---- what is told and sent
 
--- TC-P-ABORT of a dialogue that stood still too long (own).
+-- TC-P-ABORT of a dialogue that was idle too long (own).
 abbrev pub idle_abort : ℕ → Output
 idle_abort dialogue = told.p_abort dialogue AbortCause.idle
 
@@ -59,13 +59,13 @@ two_invokes_begun = hex 26 0x6218_480400000001_6C10_A106_020101_02010A_A106_0201
 abbrev pub begin_told : List Output
 begin_told = told.begin 1 None [] ∷ told.invoked (Some 1) (pos 1) None (code 2) (Some (hex 5 0x3003_0401AA)) ∷ []
 
--- The shown Begin is received, and dialogue 1 is born of it (own).
+-- The shown Begin is received, and dialogue 1 is created of it (own).
 abbrev pub begin_heard : Pair
 begin_heard = received_pair shown_begin begin_told
 
 -- ---- the limit
 
--- A dialogue is over when it has stood still for the limit after its Begin, not before: it tells so, and
+-- A dialogue is over when it has been idle for the limit after its Begin, not before: it tells so, and
 -- its invocation is ended; a Continue finds none then (own).
 abbrev pub idle_after_the_begin : Worked
 idle_after_the_begin = idle_worked (opened_with_invoke (
@@ -97,7 +97,7 @@ a_continue_renews_the_limit = idle_worked (opened_with_invoke (
     ∷ []))
     (closed_at 1 7 1 (pos 1) Closing.ended ∷ [])
 
--- Of two dialogues that are over at one moment, the one that stood still first is told first (own).
+-- Of two dialogues that are over at one moment, the one that was idle first is told first (own).
 abbrev pub two_idle_dialogues_in_order : Worked
 two_idle_dialogues_in_order = idle_worked (
     dialogue_born 1

@@ -1,4 +1,4 @@
--- What becomes of a dialogue that may stand still too long, line by line.
+-- What becomes of a dialogue that may stay idle too long, line by line.
 use Rattle.std.specs.Prelude.{◌≡◌, ℕ, List, [], ◌∷◌, map, None}
 use Rattle.tcap_model.specs.Histories.Life.{Life, Course, course}
 use Rattle.tcap_model.specs.Histories.Pair.{Past}

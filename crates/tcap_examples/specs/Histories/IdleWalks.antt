@@ -40,12 +40,12 @@ idle_walk steps = record {
   steps = steps;
 }
 
--- Such an engine where dialogue 1 was born: the clock, the number of the next invocation, and the
+-- Such an engine where dialogue 1 was created: the clock, the number of the next invocation, and the
 -- dialogues that stand (own).
 abbrev pub idle_engine : ℕ → ℕ → List Dialogue → World
 idle_engine clock next_number dialogues = limited_engine (engine_with clock next_number dialogues)
 
--- Such an engine where both dialogues were born (own).
+-- Such an engine where both dialogues were created (own).
 abbrev pub idle_engine_of_two : ℕ → List Dialogue → World
 idle_engine_of_two clock dialogues = record (idle_engine clock 1 dialogues) { next_dialogue = 3 }
 
@@ -80,7 +80,7 @@ opened_by_steps steps =
     ∷ begin_step one_begun (idle_engine 0 2 (one_sent ∷ []))
     ∷ steps
 
--- The dialogue stands until it has stood still for the limit, and a Continue finds none then (own).
+-- The dialogue stands until it has been idle for the limit, and a Continue finds none then (own).
 abbrev pub idle_after_the_begin_steps : Walk
 idle_after_the_begin_steps = idle_walk (opened_by_steps (
     moment_step 499 [] (idle_engine 499 2 (one_sent ∷ []))
@@ -155,7 +155,7 @@ an_invoke_renews_nothing_steps = idle_walk (opened_by_steps (
 
 -- ---- a dialogue in Initiation Received
 
--- The dialogue that is born of the shown Begin (own).
+-- The dialogue that is created of the shown Begin (own).
 abbrev pub begun_by_the_peer : Dialogue
 begun_by_the_peer = first_in (State.received (hex 4 0x00000001)) 0 [] []
 

@@ -16,7 +16,7 @@ use Rattle.tcap_examples.specs.Values.Peer.{sent}
 
 -- ---- dialogues
 
--- Where no dialogue can be born, a Begin is answered with cause 4 whatever its dialogue portion is, and
+-- Where no dialogue can be created, a Begin is answered with cause 4 whatever its dialogue portion is, and
 -- a faulty one with its own cause (own).
 abbrev pub resource_limitation_first : Worked
 resource_limitation_first = worked (record usual_start { max_dialogues = 1 }) (

@@ -48,7 +48,7 @@ dialogue_aborted = worked usual_start (opened_by_the_peer (
     ∷ []))
     []
 
--- A Begin whose AARQ has another version is refused, and no dialogue is born (own).
+-- A Begin whose AARQ has another version is refused, and no dialogue is created (own).
 abbrev pub version_refused : Worked
 version_refused = worked usual_start (
     received_pair (hex 8 0x6226_480400000001 ++ aarq_version 0x80020700) (sent no_common_portion ∷ [])

@@ -37,7 +37,7 @@ empty_engine = record {
       [];
 }
 
--- The engine once dialogue 1 was born, at this clock, with the number of the next invocation and the
+-- The engine once dialogue 1 was created, at this clock, with the number of the next invocation and the
 -- dialogues that stand (own).
 abbrev pub engine_with : ℕ → ℕ → List Dialogue → World
 engine_with clock next_number dialogues =
@@ -97,7 +97,7 @@ class_one_row id number stage = (id, record { number = number; class = One; stag
 abbrev pub walk : List Step → Walk
 walk steps = record { start = steps_start; before = empty_engine; steps = steps }
 
--- A dialogue is asked for, and number 1 is born (own).
+-- A dialogue is asked for, and number 1 is created (own).
 abbrev pub new_dialogue_1 : World → Step
 new_dialogue_1 after = record { event = Event.new_dialogue; answer = Answer.new_dialogue 1; after = after }
 

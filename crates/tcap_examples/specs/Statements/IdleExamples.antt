@@ -1,4 +1,4 @@
--- The histories on which the statements are instantiated where dialogues stand still too long.
+-- The histories on which the statements are instantiated where dialogues stay idle too long.
 use Rattle.std.specs.Prelude.{[], ◌∷◌, drop}
 use Rattle.tcap_examples.specs.Histories.IdleLimit as worked
 use Rattle.tcap_model.specs.Histories.History.{History}

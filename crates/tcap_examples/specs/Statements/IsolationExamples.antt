@@ -123,7 +123,7 @@ IsAloneThroughout dialogue start (pair ∷ past) =
     where_so (names pair.event dialogue) (IsAlone (record { start = start; pairs = past }) dialogue pair.event)
     × IsAloneThroughout dialogue start past
 
--- The second engine of "Repeated Begin": two dialogues that are born of one Begin (own).
+-- The second engine of "Repeated Begin": two dialogues that are created of one Begin (own).
 abbrev pub of_one_begin : Past
 of_one_begin = side engine_b repeated_begin.trace
 

@@ -17,7 +17,7 @@ use Rattle.tcap_examples.specs.Values.Peer.{arrived, sent}
 
 -- ---- events and answers, where there is no idle limit
 
--- A dialogue is asked for, and this one is born (own).
+-- A dialogue is asked for, and this one is created (own).
 abbrev pub dialogue_born : ℕ → Pair
 dialogue_born dialogue = record { event = Event.new_dialogue; answer = Answer.new_dialogue dialogue; idle_ms = 0 }
 

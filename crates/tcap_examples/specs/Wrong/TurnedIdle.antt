@@ -9,7 +9,7 @@ use Rattle.tcap_examples.specs.Histories.StepWords.{invoke_request}
 use Rattle.tcap_examples.specs.Values.Hex.{hex}
 use Rattle.tcap_examples.specs.Wrong.TurnedMoves.{Move, Shows, has_peer}
 use Rattle.tcap_model.specs.Table.Dialogue.{Dialogue, is_idle_at, touched_at}
-use Rattle.tcap_model.specs.Table.DueLapses.{all_idle_told, all_told, at_moment, idle_at_moment, idle_key, idle_told}
+use Rattle.tcap_model.specs.Table.DueLapses.{all_idle_told, all_told, at_moment, idle_at_moment, table_idle_key, table_idle_told}
 use Rattle.tcap_model.specs.Table.EngineMove.{EngineMoved, advanced, engine_move}
 use Rattle.tcap_model.specs.Table.TableMove.{ended_told}
 use Rattle.tcap_model.specs.Table.World.{World}
@@ -53,7 +53,7 @@ idle_before_lapses = telling (λ w now. all_idle_told now w.dialogues ++ all_tol
 -- They are told in the order of their identifiers (own).
 abbrev pub idle_by_dialogue : Move
 idle_by_dialogue = telling (λ w now.
-    all_told now w.dialogues ++ flat_map (idle_told now) (filter (is_idle_at now) w.dialogues))
+    all_told now w.dialogues ++ flat_map (table_idle_told now) (filter (is_idle_at now) w.dialogues))
 
 -- An Abort without contents to the peer, where it is known (own).
 abbrev pub abort_to : Option (List ℕ) → List Output
@@ -64,7 +64,7 @@ abort_to (Some peer) = sent (hex 4 0x6706_4904 ++ peer) ∷ []
 abbrev pub sending_aborts : Move
 sending_aborts = telling (λ w now.
     all_told now w.dialogues
-    ++ flat_map (λ d. abort_to (peer_of d.standing.state) ++ idle_told now d) (idle_at_moment now w.dialogues))
+    ++ flat_map (λ d. abort_to (peer_of d.standing.state) ++ table_idle_told now d) (idle_at_moment now w.dialogues))
 
 -- ---- who is judged
 
@@ -72,7 +72,7 @@ sending_aborts = telling (λ w now.
 abbrev pub ending_by : (ℕ → Dialogue → Bool) → Move
 ending_by judged = at_moments (λ w now. record {
   answer = Answer.outputs (all_told now w.dialogues
-      ++ flat_map (idle_told now) (in_order idle_key (filter (judged now) w.dialogues)));
+      ++ flat_map (table_idle_told now) (in_order table_idle_key (filter (judged now) w.dialogues)));
   after = record w {
     clock = now;
     dialogues = map (at_moment now) (filter (λ d. not (judged now d)) w.dialogues);

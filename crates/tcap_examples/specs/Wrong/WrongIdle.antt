@@ -1,4 +1,4 @@
--- Histories in which an engine judges wrongly which dialogues stood still too long, or tells it wrongly.
+-- Histories in which an engine judges wrongly which dialogues were idle too long, or tells it wrongly.
 use Rattle.std.specs.Prelude.{pos, List, [], ◌∷◌, map}
 use Rattle.tcap_invocation.specs.declared.class.Class.TheVariants.{One}
 use Rattle.tcap_model.specs.Words.Answer.{Answer}

@@ -1,3 +1,5 @@
+//! Worked dialogues that end by an Abort, by the user or by a faulty message.
+
 #![tactic(auto, unfolding(crate::specs::Computing::computing))]
 
 ghost use Rattle.std.specs.Prelude.{◌≡◌, pos, List, [], ◌∷◌, ◌++◌, true, false, Option, Some, None};

@@ -1,3 +1,5 @@
+//! Worked dialogues: what received components tell.
+
 #![tactic(auto, unfolding(crate::specs::Computing::computing))]
 
 ghost use Rattle.std.specs.Prelude.{◌≡◌, pos, negsuc, List, [], ◌∷◌, ◌++◌, replicate, false, Option, Some, None};

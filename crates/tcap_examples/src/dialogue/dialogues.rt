@@ -1,3 +1,5 @@
+//! Worked dialogues: how one begins and is answered.
+
 #![tactic(auto, unfolding(crate::specs::Computing::computing))]
 
 ghost use Rattle.std.specs.Prelude.{◌≡◌, pos, List, [], ◌∷◌, ◌++◌, drop, false, Option, Some, None};

@@ -2,7 +2,7 @@
 //! do, and the first is answered. Left out are these, which never hold together on one dialogue.
 //!
 //! - "No such dialogue" and the next: it is judged before there is a dialogue.
-//! - The limit of a queue or of a message, and want of memory: a definition wants no memory.
+//! - The limit of a queue or of a message, and `OutOfMemory`: a definition takes no memory.
 //! - "No context" and the limit of a message, of all requests but TC-UNI, whose row has another fault
 //!   between them: what is refused since nothing carries it isn't part of the message, and without it
 //!   the message has the queue, of at most 60,000 octets, and two identifiers.

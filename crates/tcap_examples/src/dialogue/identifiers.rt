@@ -1,3 +1,5 @@
+//! Worked dialogues: when an invoke identifier is in use.
+
 #![tactic(auto, unfolding(crate::specs::Computing::computing))]
 
 ghost use Rattle.std.specs.Prelude.{◌≡◌, pos, List, [], ◌∷◌, ◌++◌, false, Option, Some, None};

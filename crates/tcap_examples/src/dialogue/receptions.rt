@@ -1,3 +1,5 @@
+//! Worked receptions: messages to no dialogue, and faulty ones.
+
 #![tactic(auto, unfolding(crate::specs::Computing::computing))]
 
 ghost use Rattle.std.specs.Prelude.{◌≡◌, ℕ, List, [], ◌∷◌, ◌++◌, replicate, true, false, Option, Some, None};
@@ -64,7 +66,7 @@ pub fn dropped_input()
     ensures too_long { reception is_none_live false (replicate 65536 0) ≡ Reception.dropped DropCause.too_long }
 {}
 
-/// Where no dialogue can be born a Begin is aborted with cause 4, whatever its dialogue portion is; a
+/// Where no dialogue can be created a Begin is aborted with cause 4, whatever its dialogue portion is; a
 /// faulty one with its own cause. Otherwise an abnormal portion is answered by an ABRT.
 pub fn a_begin_that_bears_no_dialogue()
     ensures full { aborted_with (reception is_none_live true shown_begin)

@@ -1,4 +1,4 @@
-//! Dialogues that stand still too long: the histories say when they are over, and what is told then.
+//! Dialogues that stay idle too long: the histories say when they are over, and what is told then.
 #![tactic(auto, unfolding(crate::specs::Computing::computing))]
 
 ghost use Rattle.tcap_examples.specs.Histories.IdleLimit as worked;
@@ -6,7 +6,7 @@ ghost use Rattle.tcap_examples.specs.Histories.IdleRows.{LiveAsStated, dialogues
 ghost use Rattle.tcap_examples.specs.Histories.MarkRows.{MeanAsStated};
 ghost use Rattle.tcap_examples.specs.Histories.Worked.{Works};
 
-/// A dialogue is over once it has stood still for the limit after its Begin.
+/// A dialogue is over once it has been idle for the limit after its Begin.
 pub fn idle_after_the_begin()
     ensures { Works worked.idle_after_the_begin }
 {}

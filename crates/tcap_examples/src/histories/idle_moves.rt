@@ -1,4 +1,4 @@
-//! Histories with dialogues that stand still too long, through which the engine's move runs.
+//! Histories with dialogues that stay idle too long, through which the engine's move runs.
 #![tactic(auto, unfolding(crate::specs::Computing::computing))]
 
 ghost use Rattle.tcap_examples.specs.Histories.EngineSteps.{Runs, RunsThrough};

@@ -4,7 +4,7 @@
 ghost use Rattle.tcap_examples.specs.Histories.Worked.{Works};
 ghost use Rattle.tcap_examples.specs.Histories.Readings as worked;
 
-/// Where no dialogue can be born, a Begin is answered with cause 4, and a faulty one with its own.
+/// Where no dialogue can be created, a Begin is answered with cause 4, and a faulty one with its own.
 pub fn resource_limitation_first()
     ensures { Works worked.resource_limitation_first }
 {}

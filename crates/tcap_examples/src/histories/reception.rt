@@ -15,7 +15,7 @@ pub fn dialogue_refused_and_aborted()
     ensures aborted { Works worked.dialogue_aborted }
 {}
 
-/// An AARQ of another version is refused, and no dialogue is born.
+/// An AARQ of another version is refused, and no dialogue is created.
 pub fn version_refused()
     ensures { Works worked.version_refused }
 {}

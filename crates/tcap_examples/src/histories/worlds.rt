@@ -1,3 +1,5 @@
+//! Worked histories, and what an engine holds after them.
+
 #![tactic(auto, unfolding(crate::specs::Computing::computing))]
 
 ghost use Rattle.tcap_examples.specs.Histories.SteppedHistories.{repeated_aare_steps, identifier_freed_steps, late_result_steps};

@@ -1,4 +1,4 @@
-//! Wrong answers where dialogues stood still too long: each history is legal up to its last answer, and
+//! Wrong answers where dialogues were idle too long: each history is legal up to its last answer, and
 //! not with it.
 #![tactic(auto, using(crate::proofs::WrongIdleTold::wrong_idle_told))]
 

@@ -1,4 +1,4 @@
-//! Statements over histories in which dialogues stand still too long.
+//! Statements over histories in which dialogues stay idle too long.
 #![tactic(auto, using(crate::proofs::IdleAlone::idle_alone), unfolding(crate::specs::Computing::computing))]
 
 ghost use Rattle.std.specs.Prelude.{◌≡◌, ◌≢◌, IsTrue};

@@ -79,7 +79,7 @@ pub fn the_last_number_is_seen()
     ensures not_alone { IsAlone two_dialogues 1 invokes_again → ⊥ }
 {}
 
-/// Each of two dialogues is alone at every place: in this history, where both are born of one Begin, and
+/// Each of two dialogues is alone at every place: in this history, where both are created of one Begin, and
 /// where both have one peer.
 pub fn alone_throughout()
     ensures first { IsAloneThroughout 1 two_left two_dialogues.pairs }

@@ -51,7 +51,7 @@ fn is_to(told: Result<Vec<Output<'_>>, Fault>, address: &Address) -> Option<bool
     Some(goes_to(told.ok()?.as_slice(), address))
 }
 
-/// Whether what comes from an address is answered to it. Nothing where memory is wanting.
+/// Whether what comes from an address is answered to it. Nothing where memory runs out.
 fn answers(alloc: Global, engine: &mut Engine, from: &Address, hex: &str) -> Option<bool> {
     let bytes = hex::decode(alloc, hex).ok()?;
     let told = engine.receive(from, bytes.as_slice()).ok()?;
@@ -190,7 +190,7 @@ fn turn(octets: &mut [u8], place: usize, number: u8) -> Option<()> {
 }
 
 /// Whether an address is the same as another of the same octets, and as none that lacks octets from this place on
-/// or has another one there; nothing where memory is wanting.
+/// or has another one there; nothing where memory runs out.
 fn is_told_apart(alloc: Global, address: &Address, place: usize) -> Option<bool> {
     let front = Address::new(address.octets().get(..place)?)?;
     let mut octets = address.octets().to_vec(alloc).ok()?;

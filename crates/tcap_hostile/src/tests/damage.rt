@@ -1,4 +1,4 @@
-//! Damaged messages: each front of each message, and each octet of it set to each value.
+//! Damaged messages: each prefix of each message, and each octet of it set to each value.
 
 use super::engine::new_engine;
 use super::vectors::VECTORS;
@@ -175,7 +175,7 @@ fn is_bounded(engine: &Engine, from: &Address, octets: usize, told: &[Output<'_>
 }
 
 /// Whether the invocation 1 of an engine, of which this was told, has one closing indication once its deadline
-/// has come. By then no dialogue stands, since none may stand still for so long.
+/// has come. By then no dialogue stands, since none may stay idle for so long.
 fn is_closed_once(engine: &mut Engine, told: &[Output<'_>]) -> Option<bool> {
     let lapsed = engine.advance(1000).ok()?;
     let closed = closings(told)?.saturating_add(closings(lapsed.as_slice())?);
@@ -204,7 +204,7 @@ fn takes(engine: &mut Engine, from: &Address, octets: &[u8]) -> Option<bool> {
     goes_on_well(engine, from, octets.len(), told.as_slice())
 }
 
-/// Whether an engine that waits for a result, and whose dialogues may stand still for 500 milliseconds, takes these
+/// Whether an engine that waits for a result, and whose dialogues may stay idle for 500 milliseconds, takes these
 /// octets within its bounds. They come from an address of the same octets, the first 255 of them, and all that is
 /// sent, then and later, goes there and can be read.
 fn is_heard(alloc: Global, octets: &[u8]) -> Option<bool> {

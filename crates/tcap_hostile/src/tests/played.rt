@@ -51,9 +51,9 @@ fn is_printed(alloc: Global, subject: &Subject<'_>, before: &str) -> Option<bool
 }
 
 /// Tells a line to a subject that printed this before, and again where memory was refused, and counts how often
-/// that was: once at most. Want of memory is answered where a growth was refused in this call, and only there, it
+/// that was: once at most. `OutOfMemory` is answered where a growth was refused in this call, and only there, it
 /// leaves the subject as it was, and it comes in place of an answer that may take memory. So where the first growth
-/// of each call is refused, an answer that is no want of memory took none.
+/// of each call is refused, an answer that is no `OutOfMemory` took none.
 fn tell_again<'h>(
     player: Player<'h>,
     subject: &mut Subject<'h>,

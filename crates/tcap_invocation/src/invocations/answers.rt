@@ -1,3 +1,5 @@
+//! Received results and errors, by the operation class.
+
 ghost use Rattle.std.specs.Prelude.{◌≡◌, ◌≤◌};
 ghost use Rattle.tcap_invocation.specs.Class.{return_result};
 ghost use Rattle.tcap_invocation.specs.Class.Received.{return_error};

@@ -1,3 +1,5 @@
+//! What closes an invocation but an answer or time, and what frees its identifier.
+
 ghost use Rattle.std.specs.Prelude.{◌≡◌, ◌≢◌, ◌<◌, [], ◌∷◌, length, is_some, OnOk, OnErr, IfOk, IfSome};
 ghost use Rattle.tcap_invocation.specs.Invocations.{IsSound, entry_at, passing};
 ghost use Rattle.tcap_invocation.specs.Stage.{is_waiting};
@@ -76,7 +78,7 @@ impl<A: Allocator + Copy> Invocations<A> {
         self.take_ended()
     }
 
-    /// The same, row by row.
+    /// `close_one`, row by row.
     fn take_ended(&mut self) -> Option<(u64, i8)>
         ensures told { result ≡ first_ended_at self.old.rows }
         ensures list { self.new ≡ after_close_one self.old }

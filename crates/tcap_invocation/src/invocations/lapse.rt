@@ -1,3 +1,5 @@
+//! Invocations whose deadline has come (TC-L-CANCEL indication).
+
 ghost use Rattle.std.specs.Prelude.{◌≡◌, ◌≢◌, [], ◌∷◌, length, OnOk, OnErr, IfOk, IfSome};
 ghost use Rattle.tcap_invocation.specs.Invocations.{IsSound};
 ghost use Rattle.tcap_invocation.specs.Lapses.{due_at, told_at, first_due_at, lapse_of, lapse_at, after_lapse, after_lapse_one, after_free_due, is_held, stays};
@@ -66,7 +68,7 @@ impl<A: Allocator + Copy> Invocations<A> {
         self.take_due(id, clock)
     }
 
-    /// The same, row by row.
+    /// `lapse_one`, row by row.
     fn take_due(&mut self, id: i8, clock: u64) -> Option<Lapse>
         ensures lapse { result ≡ lapse_at clock self.old.rows id }
         ensures list { self.new ≡ after_lapse_one self.old id clock }

@@ -1,3 +1,5 @@
+//! Invocations together with their timers.
+
 ghost use Rattle.std.specs.List.{IsDistinct};
 ghost use Rattle.std.specs.Map.{keys_of};
 ghost use Rattle.std.specs.Ordering.{int_eq};

@@ -1,4 +1,4 @@
--- Which dialogue a reply gives birth to: none, or the next one, which then stands.
+-- Which dialogue a reply creates: none, or the next one, which then stands.
 use Rattle.std.proofs.Common.{◌≡◌, ℕ, ◌⊎◌, false, List, [], ◌∷◌, ◌++◌, is_some, Option, Some, None, refl, ap, inl, inr}
 use Rattle.std.proofs.lemmas.Bool.{true≢false}
 use Rattle.tcap_pdu.specs.FrameReading.{frame_at}
@@ -92,7 +92,7 @@ taken-begun dialogue past Life.over from message = refl
 
 -- ---- births
 
--- a dialogue that may be born, is the next one, and stands by this life
+-- a dialogue that may be created, is the next one, and stands by this life
 pub record IsBirth (next : ℕ) (due : Option Fault) (born : Option ℕ) (made : Life) : Type 0 where
   pub is_next : born ≡ Some next
   pub is_due : due ≡ None

@@ -32,7 +32,7 @@ filter-fewer p q (x ∷ xs) stricter =
     go false false e le = le
     go true false e le = let never = e refl in absurd cc
 
--- ---- a dialogue that was born and stands stood before
+-- ---- a dialogue that was created and stands stood before
 
 stood : (dialogue : ℕ) (pair : Pair) (past : Past) → life dialogue past ≢ Life.unborn
     → is_standing (life dialogue (pair ∷ past)) ≡ true → is_standing (life dialogue past) ≡ true
@@ -54,7 +54,7 @@ stood-fewer start pair past legal =
     (λ dialogue at. stood dialogue pair past ((was_born-lives start past legal dialogue).0
     (listed-was_born dialogue past at)))
 
--- ---- a dialogue is born only where there is room
+-- ---- a dialogue is created only where there is room
 
 room : (most standing next : ℕ) → birth_fault most standing next ≡ None → standing + 1 ≤ most
 room most standing next e = go (nat_le most standing) refl e

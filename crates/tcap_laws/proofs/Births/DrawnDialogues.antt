@@ -57,13 +57,13 @@ dialogues-rise start past legal =
     subst (λ (ds : List ℕ). AllPairs (λ c d. c < d) ds) (sym (dialogues-drawn start past legal))
     (range-rises start.next_dialogue (births past))
 
--- ---- who was born
+-- ---- who was created
 
 same-birth : (dialogue : ℕ) (born : Option ℕ) → is_that dialogue born ≡ true → born ≡ Some dialogue
 same-birth dialogue None e = absurd (true≢false (sym e))
 same-birth dialogue (Some named) e = ap (λ (d : ℕ). Some d) (eqb-true named dialogue e)
 
--- no identifier from the counter on was born
+-- no identifier from the counter on was created
 pub beyond-unborn : (start : Start) (past : Past) → AreReplies start past → (dialogue : ℕ)
     → start.next_dialogue + births past ≤ dialogue → was_born dialogue past ≡ false
 beyond-unborn start [] legal dialogue beyond = refl

@@ -53,7 +53,7 @@ refused_moment dialogue id now answer idle_ms past e = go (life dialogue past)
     go (Life.standing s c) = rw e refl
     go Life.over = rw e refl
 
--- an early moment finds no dialogue that stood still too long
+-- an early moment finds no dialogue that was idle too long
 not_early : (start : Start) (past : Past) (dialogue now : ℕ) → AreReplies start past → now < clock past
     → is_idle_by start.idle_ms past now dialogue ≡ false
 not_early start past dialogue now legal early = go (life dialogue past) refl

@@ -33,7 +33,7 @@ use Rattle.tcap_model.specs.Words.Request.{Request, Ending, ComponentRequest, Di
 use Rattle.tcap_model.specs.Invocations.Span.{span}
 use Rattle.tcap_model.specs.Words.State.{State}
 
--- ---- the dialogue of an invocation was born
+-- ---- the dialogue of an invocation was created
 
 pub found_alive : (start : Start) (past : Past) (n : ℕ) (i : Invocation) → AreReplies start past
     → invocation_of n past ≡ Some i → was_alive (life i.dialogue past) ≡ true

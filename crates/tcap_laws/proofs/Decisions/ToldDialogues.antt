@@ -1,4 +1,4 @@
--- What the dialogues that stood still too long tell of the number n is what its own dialogue tells.
+-- What the dialogues that were idle too long tell of the number n is what its own dialogue tells.
 use Rattle.std.proofs.Common.{◌≡◌, ℕ, ◌==◌, ◌+◌, Bool, true, false, cond, ◌&&◌, ◌||◌, List, [], ◌∷◌, ◌++◌, Option, Some, None, inl, inr, refl, ap, sym, ◌∙◌, arith}
 use Rattle.std.proofs.lemmas.Bool.Decides.{nat_tests}
 use Rattle.std.proofs.lemmas.List.{append-nil}
@@ -61,7 +61,7 @@ module _ (one : ℕ) (tells : ℕ → List Told) (others : (d : ℕ) → (d == o
       go true false p q = rw (others y q) (sym (append-nil (tells x)))
       go false b p q = rw (others x p) (append-nil (tells y))
 
-  -- each dialogue that was born is listed once
+  -- each dialogue that was created is listed once
   listed_step : (start : Start) (pair : Pair) (past : Past) (born : Option ℕ) (was : Bool)
       → AreReplies start (pair ∷ past) → born_by pair ≡ born → was_born one past ≡ was
       → cond was (tells one) [] ++ flat_map tells (option_to_list born) ≡ cond (is_that one born || was) (tells one) []
@@ -95,7 +95,7 @@ module _ (one : ℕ) (tells : ℕ → List Told) (others : (d : ℕ) → (d == o
 -- ---- a moment
 
 module _ (n : ℕ) (place past : Past) (now : ℕ) where
-  -- what a dialogue tells of an invocation, where it stood still too long
+  -- what a dialogue tells of an invocation, where it was idle too long
   abbrev pub told_by_idle : ℕ → Invocation → List Told
   told_by_idle dialogue i = told_if_any n place (ended_at_moment dialogue past now i)
 
@@ -111,7 +111,7 @@ module _ (n : ℕ) (place past : Past) (now : ℕ) where
   ended_elsewhere : (i : Invocation) (dialogue : ℕ) → (dialogue == i.dialogue) ≡ false → told_by_idle dialogue i ≡ []
   ended_elsewhere i dialogue e = let apart : (i.dialogue == dialogue) ≡ false = grind (arith, nat_tests) in rw apart refl
 
-  -- what its own dialogue tells of it, if it stood still too long
+  -- what its own dialogue tells of it, if it was idle too long
   abbrev pub idle_of : ℕ → Invocation → List Told
   idle_of idle_ms i = cond (is_idle_by idle_ms past now i.dialogue) (told_by_idle i.dialogue i) []
 

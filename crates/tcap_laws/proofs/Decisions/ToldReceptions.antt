@@ -139,7 +139,7 @@ module _ (n : ℕ) (place : Past) (h : History) (dialogue : ℕ) (from : Address
       (Output.dialogue (DialogueIndication.p_abort d (AbortCause.cause cause)) ∷ ended_in d h.pairs [])
       ∙ (ap (λ z. z ++ told n place (ended_in d h.pairs [])) (abort_told_of f origin) ∙ e)
 
-  -- a destination at the front of a faulty message
+  -- a destination at the beginning of a faulty message
   front_tells : (front : Option (List ℕ)) (by : Option ℕ → Reception)
       → names_in bytes dialogue ≡ is_destined dialogue front
       → (wanted ≡ [] → Tells (by None)) → ((d : ℕ) → told n place (ended_in d h.pairs []) ≡ wanted

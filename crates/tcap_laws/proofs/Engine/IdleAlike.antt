@@ -1,4 +1,4 @@
--- What the dialogues that stood still too long tell at a moment, in order, is what the history says.
+-- What the dialogues that were idle too long tell at a moment, in order, is what the history says.
 use Rattle.std.proofs.Common.{◌≡◌, ℕ, ◌&&◌, Bool, true, false, cond, List, [], ◌∷◌, ◌++◌, Option, Some, refl, sym, ap, ◌∙◌}
 use Rattle.std.specs.Prelude.{filter, filter_map}
 use Rattle.std.specs.List.{AllByRecursion, cons_option, flat_map}
@@ -10,9 +10,9 @@ use Rattle.tcap_model.specs.Histories.Life.{Life, life, touched, live_in}
 use Rattle.tcap_model.specs.Histories.Pair.{Past}
 use Rattle.tcap_model.specs.Replies.Due.{standing_of}
 use Rattle.tcap_model.specs.Replies.Legal.{AreReplies}
-use Rattle.tcap_model.specs.Replies.Reply.{is_idle_by, idle_dialogues, idle_key as key_said, idle_told as told_said}
+use Rattle.tcap_model.specs.Replies.Reply.{is_idle_by, idle_dialogues, table_idle_key as key_said, table_idle_told as told_said}
 use Rattle.tcap_model.specs.Table.Dialogue.{Dialogue, is_idle_at}
-use Rattle.tcap_model.specs.Table.DueLapses.{idle_key, idle_told, all_idle_told}
+use Rattle.tcap_model.specs.Table.DueLapses.{table_idle_key, table_idle_told, all_idle_told}
 use Rattle.tcap_model.specs.Table.World.{dialogue_at, dialogue_by, rows_of}
 use Rattle.tcap_model.specs.Words.KeyOrder.{comes_before, key_before, put, in_order}
 use Rattle.tcap_model.specs.Words.Output.{Output, AbortCause, DialogueIndication}
@@ -92,7 +92,7 @@ module _ (start : Start) (past : Past) (legal : AreReplies start past) (now reje
   abbrev idle : List ℕ → List ℕ
   idle ids = filter (is_idle_by idle_ms past now) ids
 
-  -- those that stood still too long by what the dialogues keep did so by the history
+  -- those that were idle too long by what the dialogues keep did so by the history
   filtered : (ids : List ℕ) → filter (is_idle_at now) (filter_map at ids) ≡ filter_map at (idle ids)
   filtered [] = refl
   filtered (i ∷ ids) = go (life i past) refl (filtered ids)
@@ -116,7 +116,7 @@ module _ (start : Start) (past : Past) (legal : AreReplies start past) (now reje
 
   -- each of them has its key, and tells what the history says
   abbrev Tells : ℕ → Type 0
-  Tells i = IsMade at (key_said idle_ms past) idle_key (told_said past now) (idle_told now) i
+  Tells i = IsMade at (key_said idle_ms past) table_idle_key (told_said past now) (table_idle_told now) i
 
   each_idle : (ids : List ℕ) → AllByRecursion Tells (idle ids)
   each_idle [] = tt
@@ -145,6 +145,6 @@ module _ (start : Start) (past : Past) (legal : AreReplies start past) (now reje
   pub idle-alike : all_idle_told now (filter_map at (dialogues past))
       ≡ flat_map (told_said past now) (idle_dialogues idle_ms past now)
   idle-alike =
-      ap (λ ds. flat_map (idle_told now) (in_order idle_key ds)) (filtered (dialogues past))
-      ∙ said-in_order at (key_said idle_ms past) idle_key (told_said past now) (idle_told now) (idle (dialogues past))
+      ap (λ ds. flat_map (table_idle_told now) (in_order table_idle_key ds)) (filtered (dialogues past))
+      ∙ said-in_order at (key_said idle_ms past) table_idle_key (told_said past now) (table_idle_told now) (idle (dialogues past))
       (each_idle (dialogues past))

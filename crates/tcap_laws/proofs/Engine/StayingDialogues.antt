@@ -149,7 +149,7 @@ module _ (h : History) (dialogue : ℕ) (legal : IsLegal h) (state : State) (con
       (rows_still h.start h.pairs legal.1 now (reply h (Event.moment now)) accepted early h.start.reject_ms dialogue)
       refl refl
     where
-      -- it hasn't stood still too long
+      -- it hasn't been idle too long
       same_life : (b : Bool) → is_live state ≡ b
           → life_by_moment (is_idle h.start.idle_ms (touched dialogue h.pairs) now) state context
           ≡ Life.standing state context

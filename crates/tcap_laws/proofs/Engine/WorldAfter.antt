@@ -134,7 +134,7 @@ module _ (h : History) (event : Event) where
         (ap (filter_map later) dialogues-kept
         ∙ same-map later before (λ i. each-stays i (none-born i) (stays i)) (dialogues h.pairs))
 
-  -- where a dialogue is born
+  -- where a dialogue is created
   module _ (legal : IsLegal h) (born : born_by here ≡ Some (next_dialogue h)) where
     earlier : (i : ℕ) → i < next_dialogue h → is_birth_of i here ≡ false
     earlier i lt = ap (is_that i) born ∙ other

@@ -39,7 +39,7 @@ use Rattle.tcap_laws.proofs.FarEnds.AnswersNamed.{destined-octets, named-destine
 
 -- ---- the far dialogue
 
--- a dialogue of one engine that no Begin gave birth to, and one of another whose peer it is, and which keeps
+-- a dialogue of one engine that no Begin created, and one of another whose peer it is, and which keeps
 -- an address of the one
 pub record Facing (net : Net) : Type 0 where
   pub engine : Engine
@@ -156,7 +156,7 @@ module _ (net : Net) (is : IsNet net) (facing : Facing net) where
         (subst (λ (e : Event). Tells (reply h e) told) invoke-told.told.is_event
         (subst (λ (a : Answer). Tells a told) legal-here.1 told_invoke.tells))
 
-    -- it gives birth to the dialogue
+    -- it creates the dialogue
     by-birth : is_that f (born_on_message (reply h (Event.received invoke-told.told.from invoke-told.told.bytes)))
         ≡ true → IsFromHere
     by-birth birth =

@@ -1,5 +1,5 @@
 -- What is told of received bytes, and of what: an answer of an invocation of its dialogue and its
--- identifier, an Invoke in a dialogue that the bytes name or give birth to.
+-- identifier, an Invoke in a dialogue that the bytes name or create.
 use Rattle.std.proofs.Common.{◌≡◌, ◌⊎◌, ℕ, ℤ, true, false, Bool, List, Option, Some, None, refl, ap, ◌∙◌, inl, inr}
 use Rattle.std.proofs.lemmas.Bool.{eq-eqb}
 use Rattle.std.specs.Prelude.{cond}
@@ -42,7 +42,7 @@ RejectsInvoke kind.Invoke = Unit {0}
 RejectsInvoke kind.Result = ⊥
 RejectsInvoke kind.Error = ⊥
 
--- bytes name this dialogue, or give birth to it
+-- bytes name this dialogue, or create it
 abbrev pub IsPlaced : List ℕ → Option ℕ → Option ℕ → Type 0
 IsPlaced bytes born None = Unit {0}
 IsPlaced bytes born (Some dialogue) = IsNamedBy bytes dialogue ⊎ (is_that dialogue born ≡ true)

@@ -189,7 +189,7 @@ module _ (start : Start) (dialogue : ℕ) (past : Past) (legal : AreReplies star
       (ap (λ (l : Life). live_in l && is_idle idle_ms (touched dialogue seen) now) (only_life dialogue past)
       ∙ ap (λ last. live_in (life dialogue past) && is_idle idle_ms last now) (only_touched dialogue past))
 
-  -- the dialogue itself, as often as it was born and is idle
+  -- the dialogue itself, as often as it was created and is idle
   abbrev itself : List ℕ
   itself = filter (is_own dialogue) (filter (is_idle_by idle_ms past now) (dialogues past))
 

@@ -184,7 +184,7 @@ pub same-id : (c d : ℕ) → c < 2 ^ 32 → d < 2 ^ 32 → local_id c ≡ local
 same-id c d c_short d_short e =
     sym (from_be_bytes-to_be_bytes_4 c c_short) ∙ (ap (from_be_bytes w32) e ∙ from_be_bytes-to_be_bytes_4 d d_short)
 
--- a dialogue that was born has an identifier of 32 bits
+-- a dialogue that was created has an identifier of 32 bits
 pub born-short : (start : Start) (past : Past) (dialogue : ℕ) → is_start start ≡ true → AreReplies start past
     → life dialogue past ≢ Life.unborn → dialogue < 2 ^ 32
 born-short start past dialogue starts legal born =

@@ -1,4 +1,4 @@
--- How a dialogue heard of its peer: by the Begin that gave birth to it, or by the first Continue. It keeps
+-- How a dialogue heard of its peer: by the Begin that created it, or by the first Continue. It keeps
 -- the address of its sender.
 use Rattle.std.proofs.Common.{◌≡◌, ℕ, Bool, true, false, ◌⊎◌, List, [], ◌∷◌, Option, Some, Result, Ok, Err, refl, ap, subst, ◌∙◌, inl, inr, ◌&&◌, if◌then◌else◌}
 use Rattle.tcap_pdu.specs.declared.fault.FrameFault.{FrameFault}

@@ -72,7 +72,7 @@ continue-names dialogue from bytes origin to components portion named read =
 
 -- ---- opened on both sides
 
--- no message of the peer gave birth to the dialogue
+-- no message of the peer created the dialogue
 abbrev pub NeverBegun : ℕ → Past → Type 0
 NeverBegun dialogue past =
     (pair : Pair) (before : Past) (from : Address) (bytes : List ℕ) → StandsIn pair before past
@@ -93,7 +93,7 @@ never-before dialogue other engine pair before trace happens never asked past fr
 abbrev pub KeepsOf : Net → Engine → ℕ → Past → Type 0
 KeepsOf net engine dialogue past = IsTrue (is_at net.places engine (kept_address dialogue past))
 
--- a dialogue of each engine that no Begin gave birth to, and the other's has this one's identifier as its
+-- a dialogue of each engine that no Begin created, and the other's has this one's identifier as its
 -- peer's and keeps an address of this one's engine: it never is so
 pub record BothOpened (net : Net) (engine other : Engine) (c d : ℕ) (peer : List ℕ) : Type 0 where
   pub is_named : dialogue_named peer ≡ Some c

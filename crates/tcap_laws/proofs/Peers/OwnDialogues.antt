@@ -1,5 +1,5 @@
 -- A dialogue that its user opened, or whose peer wasn't known once, was never begun by a message; one that a
--- Begin gave birth to keeps the address of its sender.
+-- Begin created keeps the address of its sender.
 use Rattle.std.proofs.Common.{◌≡◌, ◌≢◌, ◌⊎◌, ℕ, ◌+◌, ◌<◌, ◌^◌, Bool, true, List, [], ◌∷◌, ◌++◌, Option, Some, None, Result, Ok, Err, refl, sym, ap, subst, ◌∙◌, inl, inr, arith, if◌then◌else◌}
 use Rattle.std.proofs.lemmas.Bool.{eq-eqb}
 use Rattle.tcap_pdu.specs.declared.fault.FrameFault.{FrameFault}
@@ -31,7 +31,7 @@ use Rattle.tcap_laws.proofs.Receptions.ToldFromOctets.{legal-before}
 
 -- ---- a birth
 
--- the Begin that gave birth to a dialogue
+-- the Begin that created a dialogue
 pub record IsBegun (dialogue : ℕ) (from : Address) (bytes : List ℕ) (pair : Pair) (past : Past) : Type 0 where
   pub origin : List ℕ
   pub portion : Option (List ℕ)

@@ -11,7 +11,7 @@ use Rattle.tcap_laws.proofs.ListLemmas.{each-append}
 use Rattle.tcap_laws.proofs.Receptions.EachComponent.{each-map}
 use Rattle.tcap_laws.proofs.Receptions.EachOutput.{told_ended, told_p_abort}
 
--- the property holds of a lapse, of the abort of a dialogue that stood still, and of each end
+-- the property holds of a lapse, of the abort of a dialogue that was idle, and of each end
 pub record HoldsAtMoments (P : Output → Type 0) : Type 0 where
   pub lapses : (l : Lapsing) → P (lapse_told l)
   pub aborts : (dialogue : ℕ) → P (told_p_abort dialogue AbortCause.idle)

@@ -99,7 +99,7 @@ pub record HoldsBesides (P : Output → Type 0) : Type 0 where
   pub drops : (why : DropCause) → P (Output.dropped why)
 
 -- and of what each component of a message tells: in a Unidirectional, in a dialogue that the bytes name,
--- and in one that they give birth to
+-- and in one that they create
 pub record HoldsOfEach (P : Output → Type 0) (h : History) (from : Address) (bytes : List ℕ)
     (r : Reception) : Type 0 where
   pub of_uni : (m : Message) → SpellsFrame m bytes → (item : Item) → IsReadIn (portion_of m) item

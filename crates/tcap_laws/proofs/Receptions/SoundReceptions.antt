@@ -1,4 +1,4 @@
--- What becomes of received bytes: what is sent can be sent, and a dialogue is born by a Begin alone.
+-- What becomes of received bytes: what is sent can be sent, and a dialogue is created by a Begin alone.
 use Rattle.std.proofs.Common.{◌≡◌, ℕ, ◌≤◌, true, false, Bool, List, [], ◌∷◌, length, nat_lt, ◌==◌, Option, Some, None, Result, Ok, Err, if◌then◌else◌, refl, ap, subst, arith}
 use Rattle.ber_core.specs.ObjectIdentifier.{IsObjectIdentifier}
 use Rattle.tcap_pdu.specs.declared.fault.DialogueFault.{DialogueFault}
@@ -25,7 +25,7 @@ abbrev pub IfSends : Option Message → Type 0
 IfSends None = Unit {0}
 IfSends (Some aborting) = Sends aborting
 
--- what is sent can be sent; a Unidirectional that is told was read as one, what gives birth to a
+-- what is sent can be sent; a Unidirectional that is told was read as one, what creates a
 -- dialogue as a Begin, and what a dialogue takes as that message
 abbrev pub IsSound : Bool → List ℕ → Reception → Type 0
 IsSound full bytes (Reception.dropped why) = Unit {0}

@@ -1,4 +1,4 @@
--- A dialogue that is born has no invocations.
+-- A dialogue that is created has no invocations.
 use Rattle.std.proofs.Common.{◌≡◌, ℕ, ◌==◌, ◌&&◌, Bool, true, false, cond, List, [], ◌∷◌, ◌++◌, Option, Some, None, refl, ap, sym, ◌∙◌, arith}
 use Rattle.std.proofs.lemmas.Bool.Decides.{nat_tests}
 use Rattle.std.proofs.lemmas.List.{append-nil}
@@ -32,7 +32,7 @@ use Rattle.tcap_model.specs.Table.World.{stage_by, row_by, is_number, row_of, ro
 use Rattle.tcap_model.specs.Words.Address.{Address}
 use Rattle.tcap_model.specs.Histories.Kept.{kept_address, kept_after}
 
--- ---- each invocation is of a dialogue that was born
+-- ---- each invocation is of a dialogue that was created
 
 abbrev IsOfBorn : Past → Invocation → Type 0
 IsOfBorn past i = was_alive (life i.dialogue past) ≡ true
@@ -114,7 +114,7 @@ module _ (h : History) (legal : IsLegal h) where
   pub next_unborn : life next h.pairs ≡ Life.unborn
   next_unborn = unborn-life next h.pairs (beyond-unborn h.start h.pairs legal.1 next (omega arith))
 
-  -- one that is born was never touched
+  -- one that is created was never touched
   pub next_untouched : (event : Event) → touched next (due_pair h event ∷ h.pairs) ≡ 0
   next_untouched event =
       ap (λ l. cond (touches next l (due_pair h event)) (clock h.pairs) (touched next h.pairs)) next_unborn

@@ -66,7 +66,7 @@ module _ (idle_ms : ℕ) (past : Past) (limited : AreLimited idle_ms past) (now 
     abbrev earlier : Past
     earlier = at_moment now answer idle_ms ∷ past
 
-    -- no dialogue has stood still too long
+    -- no dialogue has been idle too long
     moved_still : (dialogue : ℕ) (l : Life) → life dialogue past ≡ l
         → moved_life idle_ms (touched dialogue past) now l ≡ l
     moved_still dialogue Life.unborn is = refl

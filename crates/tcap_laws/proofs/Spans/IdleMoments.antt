@@ -1,4 +1,4 @@
--- A live dialogue hasn't stood still too long yet: the moment that reached its limit ended it.
+-- A live dialogue hasn't been idle too long yet: the moment that reached its limit ended it.
 use Rattle.std.proofs.Common.{◌≡◌, ℕ, ◌+◌, ◌<◌, ◌≤◌, Bool, true, false, ◌&&◌, if◌then◌else◌, nat_lt, nat_le, max, List, [], ◌∷◌, Option, Result, Ok, Err, refl, ap, sym, ◌∙◌, arith}
 use Rattle.std.proofs.lemmas.Bool.Decides.{nat_tests}
 use Rattle.tcap_pdu.specs.declared.fault.FrameFault.{FrameFault}

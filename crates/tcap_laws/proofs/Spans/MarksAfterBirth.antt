@@ -1,4 +1,4 @@
--- A dialogue that was born stays so, and before its birth it has no marks.
+-- A dialogue that was created stays so, and before its birth it has no marks.
 use Rattle.std.proofs.Common.{◌≡◌, ℕ, ℤ, Bool, true, false, ◌&&◌, if◌then◌else◌, List, [], ◌∷◌, ◌++◌, map, Option, Result, Ok, Err, refl, ap, ◌∙◌}
 use Rattle.std.specs.Prelude.{is_some}
 use Rattle.tcap_pdu.specs.declared.fault.FrameFault.{FrameFault}
@@ -20,7 +20,7 @@ use Rattle.tcap_model.specs.Invocations.Span.{span}
 use Rattle.tcap_model.specs.Words.State.{State, is_live}
 use Rattle.tcap_model.specs.Words.Time.{is_idle}
 
--- ---- a dialogue that was born stays so
+-- ---- a dialogue that was created stays so
 
 abbrev pub was_alive : Life → Bool
 was_alive Life.unborn = false

@@ -59,7 +59,7 @@ moved_life idle_ms last now Life.unborn = Life.unborn
 moved_life idle_ms last now (Life.standing s c) = life_by_moment (is_idle idle_ms last now) s c
 moved_life idle_ms last now Life.over = Life.over
 
--- the marks of an accepted moment: that of the moment, and the end where a dialogue stood still too long
+-- the marks of an accepted moment: that of the moment, and the end where a dialogue was idle too long
 abbrev pub moment_noted : ℕ → ℕ → Past → ℕ → List Noted
 moment_noted dialogue idle_ms past now = noted_at_clock (clock past) (Mark.moment now
     ∷ end_if_over (life dialogue past) (moved_life idle_ms (touched dialogue past) now (life dialogue past)))
@@ -182,7 +182,7 @@ module _ (i : Invocation) (past : Past) (made : is_some (invocation_of i.number 
       (marks_after_birth i.dialogue i.id (touched i.dialogue past) (life i.dialogue past) pair)
       (sym (sent_clock-append (span i past) added) ∙ (ap sent_clock (sym grown) ∙ sent)) (ih nones.0)
 
-  -- who has a Sent mark has a dialogue that was born
+  -- who has a Sent mark has a dialogue that was created
   alive_then : added ≡ [] → was_alive (life i.dialogue past) ≡ true
   alive_then e = go (was_alive (life i.dialogue past)) refl
     where

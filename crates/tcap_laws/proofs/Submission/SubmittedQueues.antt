@@ -110,7 +110,7 @@ module _ (h : History) (d idle_ms : ℕ) (legal : AreReplies h.start h.pairs) (w
   abbrev with_answer : Event → Answer → Pair
   with_answer event answer = record { event = event; answer = answer; idle_ms = idle_ms }
 
-  -- what is born now has nothing that waits
+  -- what is created now has nothing that waits
   next-empty : next_dialogue h ≡ d → waiting ≡ []
   next-empty next =
       let beyond : h.start.next_dialogue + births h.pairs ≤ d = omega (arith, next) in

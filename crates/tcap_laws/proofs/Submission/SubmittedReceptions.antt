@@ -71,7 +71,7 @@ module _ (h : History) (d : ℕ) (from : Address) (bytes : List ℕ) (q : List Q
   abbrev named_queue : List Queued
   named_queue = queue_named (names_in bytes d)
 
-  -- by whether the dialogue was born of them
+  -- by whether the dialogue was created of them
   abbrev queue_by : Bool → List Queued
   queue_by birth = if birth then queue_at_birth d h.pairs (frame_at bytes) else named_queue
 

@@ -20,7 +20,7 @@ accepted_by h now None e = go (nat_lt now (clock h.pairs))
     go true = refl
     go false = refl
 
--- a moment ends a dialogue that is live and has stood still too long
+-- a moment ends a dialogue that is live and has been idle too long
 pub left_by_moment : (idle : Bool) (state : State) (context : Option (List ℕ))
     → life_by_moment idle state context ≡ cond (is_live state && idle) Life.over (Life.standing state context)
 left_by_moment true state context =

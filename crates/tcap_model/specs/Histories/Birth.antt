@@ -44,18 +44,18 @@ born_on_message (Answer.given_up n) = None
 born_on_message (Answer.outputs outputs) = first_begun outputs
 born_on_message (Answer.refused fault) = None
 
--- The dialogue that an event with this answer gives birth to (own).
+-- The dialogue that an event with this answer creates (own).
 abbrev pub born_of : Event → Answer → Option ℕ
 born_of Event.new_dialogue answer = born_on_request answer
 born_of (Event.on_dialogue dialogue request) answer = None
 born_of (Event.received from bytes) answer = born_on_message answer
 born_of (Event.moment now) answer = None
 
--- The dialogue that a pair gives birth to, if any (own).
+-- The dialogue that a pair creates, if any (own).
 abbrev pub born_by : Pair → Option ℕ
 born_by pair = born_of pair.event pair.answer
 
--- How many dialogues were born (own).
+-- How many dialogues were created (own).
 abbrev pub births : Past → ℕ
 births [] = 0
 births (pair ∷ past) = if is_some (born_by pair) then births past + 1 else births past
@@ -64,7 +64,7 @@ births (pair ∷ past) = if is_some (born_by pair) then births past + 1 else bir
 abbrev pub next_dialogue : History → ℕ
 next_dialogue history = history.start.next_dialogue + births history.pairs
 
--- The dialogues that were born, in order of birth (own).
+-- The dialogues that were created, in order of birth (own).
 abbrev pub dialogues : Past → List ℕ
 dialogues past = gathered (λ pair before. option_to_list (born_by pair)) past
 
@@ -72,6 +72,6 @@ dialogues past = gathered (λ pair before. option_to_list (born_by pair)) past
 abbrev pub is_birth_of : ℕ → Pair → Bool
 is_birth_of dialogue pair = is_that dialogue (born_by pair)
 
--- Whether the dialogue was born (own).
+-- Whether the dialogue was created (own).
 abbrev pub was_born : ℕ → Past → Bool
 was_born dialogue past = list_any (is_birth_of dialogue) past

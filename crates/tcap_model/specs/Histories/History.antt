@@ -3,8 +3,8 @@ use Rattle.std.specs.Prelude.{ℕ}
 use Rattle.tcap_model.specs.Histories.Pair.{Past}
 
 -- The limits of an engine: how many dialogues may stand, how long an identifier waits for a Reject of
--- its answer, and how long a dialogue may stand still, both in milliseconds, and 0 for a dialogue that
--- may stand still for good; and its first dialogue identifier and invocation number (own).
+-- its answer, and how long a dialogue may stay idle, both in milliseconds, and 0 for a dialogue that
+-- may stay idle for good; and its first dialogue identifier and invocation number (own).
 pub record Start : Type 0 where
   pub max_dialogues : ℕ
   pub reject_ms : ℕ

@@ -43,7 +43,7 @@ kept_by_event kept state context (Event.received from bytes) accepted =
     if is_live state then kept_by_message kept from state context (frame_at bytes) else kept
 kept_by_event kept state context (Event.moment now) accepted = kept
 
--- A dialogue that a Begin gives birth to keeps the address of the sender; one that was asked for has none
+-- A dialogue that a Begin creates keeps the address of the sender; one that was asked for has none
 -- to keep yet (own).
 abbrev pub kept_at_birth : Event → Address
 kept_at_birth Event.new_dialogue = []

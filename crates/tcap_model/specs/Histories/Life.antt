@@ -1,4 +1,4 @@
--- The life of a dialogue: whether it was born, its state and application context, when it was touched
+-- The life of a dialogue: whether it was created, its state and application context, when it was touched
 -- last, and its end.
 use Rattle.std.specs.Prelude.{ℕ, ◌&&◌, Bool, true, false, List, [], ◌∷◌, Option, Some, None, Result, Ok, Err, filter, if◌then◌else◌}
 use Rattle.tcap_pdu.specs.declared.fault.FrameFault.{FrameFault}
@@ -128,7 +128,7 @@ life_if_live true state context bytes = life_by_message state context (frame_at 
 
 -- ---- moments
 
--- What a moment makes of a dialogue that stands, by whether it has stood still too long then: it is over
+-- What a moment makes of a dialogue that stands, by whether it has been idle too long then: it is over
 -- if it is live (own).
 abbrev pub life_by_moment : Bool → State → Option (List ℕ) → Life
 life_by_moment false state context = Life.standing state context

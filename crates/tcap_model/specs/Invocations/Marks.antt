@@ -123,7 +123,7 @@ abbrev pub end_if_over : Life → Life → List Mark
 end_if_over before after = if is_over before then [] else (if is_over after then Mark.end ∷ [] else [])
 
 -- The marks of an event that has a special meaning: an accepted request, a message, and an accepted
--- moment, which may be the end of a dialogue that stood still too long; by the lives before and after it
+-- moment, which may be the end of a dialogue that was idle too long; by the lives before and after it
 -- and by whether it was accepted (Q.774, Invocation state machine; the end at a moment is own).
 abbrev pub special_marks : ℤ → Life → Life → Event → Bool → Option (List Mark)
 special_marks id before after Event.new_dialogue accepted = None

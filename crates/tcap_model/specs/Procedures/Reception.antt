@@ -18,7 +18,7 @@ pub data Reception : Type 0 where
   aborted : (abort : Message) → Reception
   -- a Unidirectional is told, with its components
   unidirectional : (context : Option (List ℕ)) (info components : List ℕ) → Reception
-  -- a Begin is accepted: a dialogue is born, with the originator as its peer
+  -- a Begin is accepted: a dialogue is created, with the originator as its peer
   begun : (origin : List ℕ) (context : Option (List ℕ)) (info components : List ℕ) → Reception
   -- a dialogue that is live takes a Continue, an End or an Abort
   taken : (dialogue : ℕ) (message : Message) → Reception
@@ -65,7 +65,7 @@ abbrev pub final_message_by : Option ℕ → Message → Reception
 final_message_by (Some d) m = Reception.taken d m
 final_message_by None m = Reception.dropped DropCause.no_dialogue
 
--- What becomes of a message, where `is_full` says that no dialogue can be born: a Begin is then
+-- What becomes of a message, where `is_full` says that no dialogue can be created: a Begin is then
 -- aborted with cause 4, resource limitation, whatever its dialogue portion is
 -- (Q.774, Transaction sublayer procedures).
 abbrev pub message_by : (ℕ → Bool) → Bool → Message → Reception
@@ -130,7 +130,7 @@ reading_by is_live is_full bytes (Ok m) = message_by is_live is_full m
 reading_by is_live is_full bytes (Err f) = faulty is_live bytes f
 
 -- What becomes of received bytes, where `is_live` says which dialogues are live and `is_full` whether
--- none can be born: above 65,535 bytes they are dropped (Q.774, Transaction sublayer procedures).
+-- none can be created: above 65,535 bytes they are dropped (Q.774, Transaction sublayer procedures).
 abbrev pub reception : (ℕ → Bool) → Bool → List ℕ → Reception
 reception is_live is_full bytes =
     if nat_lt message_limit (length bytes) then Reception.dropped DropCause.too_long else reading_by is_live is_full

@@ -19,7 +19,7 @@ use Rattle.tcap_model.specs.Procedures.RequestMessage.{message_of}
 -- ---- the order of the faults
 
 -- The faults of each request, in the order in which they are judged; of several the first is
--- answered, and want of memory is the last (own).
+-- answered, and `OutOfMemory` is the last (own).
 abbrev pub faults_of : Request → List Fault
 faults_of (Request.component (ComponentRequest.invoke id class code parameter linked timeout)) =
     Fault.unknown_dialogue ∷ Fault.bad_timeout ∷ Fault.bad_oid ∷ Fault.bad_parameter ∷ Fault.invoke_id_in_use
@@ -172,7 +172,7 @@ pub record Situation : Type 0 where
   pub number : ℕ
   pub is_spent : Bool
 
--- When each fault holds for a request on a dialogue that stands, want of memory apart (own).
+-- When each fault holds for a request on a dialogue that stands, `OutOfMemory` apart (own).
 abbrev pub holds : Situation → Request → Fault → Bool
 holds s request Fault.out_of_memory = false
 holds s request Fault.unknown_dialogue = false

@@ -54,6 +54,6 @@ due_by h dialogue request Life.over = Some Fault.unknown_dialogue
 abbrev pub due : History → ℕ → Request → Option Fault
 due h dialogue request = due_by h dialogue request (life dialogue h.pairs)
 
--- Why no dialogue can be born, if so (own).
+-- Why no dialogue can be created, if so (own).
 abbrev pub birth_due : History → Option Fault
 birth_due h = birth_fault h.start.max_dialogues (length (standing_dialogues h.pairs)) (next_dialogue h)

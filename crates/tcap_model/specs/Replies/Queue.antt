@@ -60,7 +60,7 @@ queue_by_message dialogue past (Life.standing state context) queue (Err f) = que
 queue_by_message dialogue past Life.unborn queue read = queue
 queue_by_message dialogue past Life.over queue read = queue
 
--- The queue of a dialogue that a Begin gives birth to: the Rejects of its components
+-- The queue of a dialogue that a Begin creates: the Rejects of its components
 -- (Q.774, Component related abnormal conditions).
 abbrev pub queue_at_birth : ℕ → Past → Result Message FrameFault → List Queued
 queue_at_birth dialogue past (Ok (Message.begin origin portion components)) =
@@ -131,7 +131,7 @@ queue_by_event dialogue past queue (Event.received from bytes) answer =
     queue_by_bytes dialogue past (life dialogue past) queue bytes
 queue_by_event dialogue past queue (Event.moment now) answer = queue
 
--- The queue that an event gives birth with (own).
+-- The queue that an event creates a dialogue with (own).
 abbrev pub queue_born : ℕ → Past → Event → List Queued
 queue_born dialogue past Event.new_dialogue = []
 queue_born dialogue past (Event.on_dialogue named request) = []

@@ -180,9 +180,9 @@ lapse_told l = Output.component (ComponentIndication.closed l.invocation.dialogu
 abbrev pub lapses : Past → ℕ → List Output
 lapses past now = map lapse_told (in_order lapse_key (filter_map (lapsing_at past now) (invocations past)))
 
--- ---- dialogues that stand still
+-- ---- dialogues that stay idle
 
--- Whether a dialogue is live and has stood still too long at a moment (own).
+-- Whether a dialogue is live and has been idle too long at a moment (own).
 abbrev pub is_idle_by : ℕ → Past → ℕ → ℕ → Bool
 is_idle_by idle_ms past now dialogue =
     live_in (life dialogue past) && is_idle idle_ms (touched dialogue past) now
@@ -191,7 +191,7 @@ is_idle_by idle_ms past now dialogue =
 abbrev pub idle_key : ℕ → Past → ℕ → List ℕ
 idle_key idle_ms past dialogue = (touched dialogue past + idle_ms) ∷ dialogue ∷ []
 
--- The dialogues that are over at a moment because they stood still too long (own).
+-- The dialogues that are over at a moment because they were idle too long (own).
 abbrev pub idle_dialogues : ℕ → Past → ℕ → List ℕ
 idle_dialogues idle_ms past now =
     in_order (idle_key idle_ms past) (filter (is_idle_by idle_ms past now) (dialogues past))
@@ -207,14 +207,14 @@ ended_at_moment dialogue past now i =
     if (i.dialogue == dialogue) && is_none (first_closing i.class i.timeout (marks_up_to_moment past now i))
     then Some (Output.component (ComponentIndication.closed dialogue i.number i.id Closing.ended)) else None
 
--- What is told of a dialogue that stood still too long: TC-P-ABORT, and each invocation that is left, by
+-- What is told of a dialogue that was idle too long: TC-P-ABORT, and each invocation that is left, by
 -- number; no message goes out (own).
 abbrev pub idle_told : Past → ℕ → ℕ → List Output
 idle_told past now dialogue =
     Output.dialogue (DialogueIndication.p_abort dialogue AbortCause.idle)
     ∷ filter_map (ended_at_moment dialogue past now) (invocations past)
 
--- What is told at a moment: first all that lapses, and then dialogue by dialogue those that stood still
+-- What is told at a moment: first all that lapses, and then dialogue by dialogue those that were idle
 -- too long (Q.774, Invocation timer; that dialogues end is own).
 abbrev pub moment_outputs : ℕ → Past → ℕ → List Output
 moment_outputs idle_ms past now = lapses past now ++ flat_map (idle_told past now) (idle_dialogues idle_ms past now)

@@ -54,11 +54,11 @@ touched_at d now = record d { touched = now }
 abbrev pub keeping : Dialogue → Address → Dialogue
 keeping d address = record d { kept = address }
 
--- Whether a dialogue is live and has stood still too long at a moment (own).
+-- Whether a dialogue is live and has been idle too long at a moment (own).
 abbrev pub is_idle_at : ℕ → Dialogue → Bool
 is_idle_at now d = is_live d.standing.state && is_idle d.idle_ms d.touched now
 
--- When a dialogue will have stood still too long: none, unless it is live and has an idle limit (own).
+-- When a dialogue will have been idle too long: none, unless it is live and has an idle limit (own).
 abbrev pub idle_end : Dialogue → Option ℕ
 idle_end d = if is_live d.standing.state && nat_lt 0 d.idle_ms then Some (d.touched + d.idle_ms) else None
 

@@ -1,4 +1,4 @@
--- What lapses at a moment in all dialogues, which of them have stood still too long, and each dialogue
+-- What lapses at a moment in all dialogues, which of them have been idle too long, and each dialogue
 -- after it.
 use Rattle.std.specs.Prelude.{ℕ, ◌+◌, List, [], ◌∷◌, map, filter, Option, Some, None, if◌then◌else◌}
 use Rattle.std.specs.List.{flat_map}
@@ -39,26 +39,26 @@ all_told now dialogues = map due_told (in_order due_key (all_due now dialogues))
 abbrev pub at_moment : ℕ → Dialogue → Dialogue
 at_moment now d = with_invocations d (after_lapse d.invocations now)
 
--- ---- dialogues that stand still
+-- ---- dialogues that stay idle
 
--- Those that have stood still too long are told by the moment at which they reached the limit, then by
+-- Those that have been idle too long are told by the moment at which they reached the limit, then by
 -- dialogue (own).
-abbrev pub idle_key : Dialogue → List ℕ
-idle_key d = (d.touched + d.idle_ms) ∷ d.standing.identifier ∷ []
+abbrev pub table_idle_key : Dialogue → List ℕ
+table_idle_key d = (d.touched + d.idle_ms) ∷ d.standing.identifier ∷ []
 
--- The dialogues that have stood still too long at a moment, in the order in which they are told (own).
+-- The dialogues that have been idle too long at a moment, in the order in which they are told (own).
 abbrev pub idle_at_moment : ℕ → List Dialogue → List Dialogue
-idle_at_moment now dialogues = in_order idle_key (filter (is_idle_at now) dialogues)
+idle_at_moment now dialogues = in_order table_idle_key (filter (is_idle_at now) dialogues)
 
 -- What is told of one: TC-P-ABORT, and each invocation that is left when what is due has lapsed (own).
-abbrev pub idle_told : ℕ → Dialogue → List Output
-idle_told now d =
+abbrev pub table_idle_told : ℕ → Dialogue → List Output
+table_idle_told now d =
     Output.dialogue (DialogueIndication.p_abort d.standing.identifier AbortCause.idle)
     ∷ ended_told d.standing.identifier (after_lapse d.invocations now)
 
 -- What is told of all, dialogue by dialogue (own).
 abbrev pub all_idle_told : ℕ → List Dialogue → List Output
-all_idle_told now dialogues = flat_map (idle_told now) (idle_at_moment now dialogues)
+all_idle_told now dialogues = flat_map (table_idle_told now) (idle_at_moment now dialogues)
 
 -- A dialogue after a moment, if it still stands (own).
 abbrev pub left_at : ℕ → Dialogue → Option Dialogue

@@ -83,7 +83,7 @@ moved_in w identifier m = record {
       };
 }
 
--- A dialogue is born under the next identifier (own).
+-- A dialogue is created under the next identifier (own).
 abbrev pub born_in : World → Answer → Dialogue → EngineMoved
 born_in w answer d = record {
   answer = answer;
@@ -92,7 +92,7 @@ born_in w answer d = record {
 
 -- ---- requests
 
--- Why no dialogue can be born, if so (own).
+-- Why no dialogue can be created, if so (own).
 abbrev pub birth_fault_in : World → Option Fault
 birth_fault_in w = birth_fault w.max_dialogues (length w.dialogues) w.next_dialogue
 
@@ -130,12 +130,12 @@ reached_in w identifier sent event None = unmoved w (Answer.outputs [])
 reached_in w identifier sent event (Some d) =
     moved_in w identifier (sending_first sent (table_move (setting_in w) d event))
 
--- A dialogue that a Begin gives birth to (Q.774, Dialogue begin).
+-- A dialogue that a Begin creates (Q.774, Dialogue begin).
 abbrev pub begun_in : World → Moved → EngineMoved
 begun_in w m = born_in w m.answer m.after
 
 -- What becomes of bytes received from an address: they are dropped or aborted, told as a Unidirectional,
--- give birth to a dialogue, or reach the one that they name; an Abort goes to the address that they came
+-- create a dialogue, or reach the one that they name; an Abort goes to the address that they came
 -- from (Q.774, Transaction sublayer procedures; where it goes is own).
 abbrev pub received_in : World → Address → Reception → EngineMoved
 received_in w from (Reception.dropped why) = unmoved w (Answer.outputs (Output.dropped why ∷ []))
@@ -153,7 +153,7 @@ received_in w from (Reception.broken identifier abort cause) =
 -- ---- moments
 
 -- An accepted moment becomes the clock; what is due in all dialogues is told, and each identifier that
--- has waited is free; then the dialogues that have stood still too long are over
+-- has waited is free; then the dialogues that have been idle too long are over
 -- (Q.774, Invocation timer; Q.774, Reject timer; that dialogues end is own).
 abbrev pub advanced : World → ℕ → EngineMoved
 advanced w now = record {

@@ -248,7 +248,7 @@ framed s d from (Message.end to portion components) =
     ended_by d (portion_verdict d.standing.state d.standing.context portion) (walked_in s.clock d components)
 framed s d from (Message.abort to reason) = over_with d (abort_told d.standing.identifier reason ∷ []) d.invocations
 
--- A dialogue that is born by a Begin: it is told with its components, and the Rejects of these are
+-- A dialogue that is created by a Begin: it is told with its components, and the Rejects of these are
 -- queued; the address from which the Begin came is kept (Q.774, Dialogue begin; the address is own).
 abbrev pub begun_with : Setting → ℕ → ℕ → ℕ → Address → List ℕ → Option (List ℕ) → List ℕ → Walked → Moved
 begun_with s identifier reject_ms idle_ms from origin context info w = record {
@@ -277,7 +277,7 @@ abbrev pub lapsed : Dialogue → ℕ → Moved
 lapsed d now = answering (with_invocations d (after_lapse d.invocations now))
     (Answer.outputs (map (row_lapse_told d.standing.identifier) (told_at now d.invocations.rows)))
 
--- The same at which the dialogue has stood still too long: what lapses is told, and then the dialogue is
+-- The same at which the dialogue has been idle too long: what lapses is told, and then the dialogue is
 -- over, and no message goes out (own).
 abbrev pub idled : Dialogue → ℕ → Moved
 idled d now = over_with d (map (row_lapse_told d.standing.identifier) (told_at now d.invocations.rows)

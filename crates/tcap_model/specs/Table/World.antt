@@ -19,7 +19,7 @@ use Rattle.tcap_model.specs.Histories.Life.{Life, life, touched}
 use Rattle.tcap_model.specs.Histories.Pair.{Past}
 
 -- An engine: how many dialogues may stand, how long an identifier waits for a Reject, how long a dialogue
--- may stand still, the next dialogue identifier and invocation number, the clock, and the dialogues that
+-- may stay idle, the next dialogue identifier and invocation number, the clock, and the dialogues that
 -- stand, by identifier (own).
 pub record World : Type 0 where
   pub max_dialogues : ℕ

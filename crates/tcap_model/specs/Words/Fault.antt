@@ -3,7 +3,7 @@ use Rattle.std.specs.Prelude.{ℕ}
 
 -- The faults of a request (own).
 pub data Fault : Type 0 where
-  -- memory is wanting
+  -- memory runs out
   out_of_memory : Fault
   -- no dialogue of this identifier stands
   unknown_dialogue : Fault

@@ -18,7 +18,7 @@ are_dialogues_spent next = next == last_dialogue
 abbrev pub are_numbers_spent : ℕ → Bool
 are_numbers_spent next = next == last_number
 
--- Why no dialogue can be born, the first that holds: as many stand as may, or no identifier is left
+-- Why no dialogue can be created, the first that holds: as many stand as may, or no identifier is left
 -- (own).
 abbrev pub birth_fault : ℕ → ℕ → ℕ → Option Fault
 birth_fault most standing next =

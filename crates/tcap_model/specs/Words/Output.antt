@@ -6,7 +6,7 @@ use Rattle.tcap_component.specs.Problem.{ProblemParts}
 use Rattle.tcap_model.specs.Words.Address.{Address}
 
 -- Why the provider aborted: the cause that the message has, or that of a faulty message; an abnormal
--- dialogue portion; no common dialogue portion; the dialogue stood still too long
+-- dialogue portion; no common dialogue portion; the dialogue was idle too long
 -- (Q.771, Provider abort; the last is own).
 pub data AbortCause : Type 0 where
   cause : (number : ℕ) → AbortCause

@@ -1,3 +1,5 @@
+//! The parts of a dialogue PDU, written one by one.
+
 ghost use Rattle.std.specs.Prelude.{◌≡◌, ◌+◌, ◌≤◌, ◌++◌, [], ◌∷◌, OnOk, length};
 ghost use Rattle.ber_core.specs.ObjectIdentifier.{object_identifier_limit};
 ghost use Rattle.ber_core.specs.Sequence.Field.{filled};
@@ -125,7 +127,7 @@ fn append_information<A: Allocator + Copy>(
 /// Appends an AARQ or an AUDT, by syntax and tag, with its EXTERNAL.
 #[tactic(auto, using(crate::proofs::DialogueLength::element_most, crate::proofs::DialogueLength::information_most))]
 #[inline(always)]
-pub fn append_request<A: Allocator + Copy>(
+pub(crate) fn append_request<A: Allocator + Copy>(
     out: &mut Vec<u8, A>,
     syntax: &[u8],
     tag: u8,
@@ -151,7 +153,7 @@ pub fn append_request<A: Allocator + Copy>(
 /// Appends an AARE with its EXTERNAL.
 #[tactic(auto, using(crate::proofs::DialogueLength::element_most, crate::proofs::DialogueLength::information_most))]
 #[inline(always)]
-pub fn append_response<A: Allocator + Copy>(
+pub(crate) fn append_response<A: Allocator + Copy>(
     out: &mut Vec<u8, A>,
     version1: bool,
     context: &[u8],
@@ -191,7 +193,7 @@ fn append_source<A: Allocator + Copy>(
 /// Appends an ABRT with its EXTERNAL.
 #[tactic(auto, using(crate::proofs::DialogueLength::element_most, crate::proofs::DialogueLength::information_most))]
 #[inline(always)]
-pub fn append_abort<A: Allocator + Copy>(
+pub(crate) fn append_abort<A: Allocator + Copy>(
     out: &mut Vec<u8, A>,
     by_provider: bool,
     info: &[u8],

@@ -1,10 +1,12 @@
+//! How long a written dialogue portion is, and whether it can be written.
+
 ghost use Rattle.std.specs.Prelude.{◌≡◌, ◌+◌, ◌<◌, ◌≤◌, ◌^◌, IfSome, IfNone, length};
 ghost use Rattle.std.specs.Result.{result_ok};
 ghost use Rattle.ber_core.specs.ObjectIdentifier.{object_identifier_limit};
 ghost use Rattle.ber_core.specs.Results.{Gives};
 ghost use Rattle.tcap_pdu.specs.DialogueViews.{pdu_value};
 ghost use Rattle.tcap_pdu.specs.DialogueWritten.{portion_limit, written_dialogue, IsWritable};
-ghost use Rattle.tcap_pdu.specs.DialogueDue.{context_of, is_context, has_information, content_fault, length_at, information_length, opening_length, answer_length, held_length, external_length, portion_length};
+ghost use Rattle.tcap_pdu.specs.DialogueDue.{context_of, is_context, is_information_good, content_fault, length_at, information_length, opening_length, answer_length, held_length, external_length, portion_length};
 
 use crate::dialogue_pdu::DialoguePdu;
 use crate::dialogue_pdu::parts::is_user_information;
@@ -15,7 +17,7 @@ use ber_core::{MAX_LENGTH, element_len, is_oid};
 
 /// Whether the application context name, where there is one, is an object identifier.
 #[inline(always)]
-fn has_context(pdu: &DialoguePdu<'_>) -> bool
+fn is_context_good(pdu: &DialoguePdu<'_>) -> bool
     ensures { result ≡ is_context (context_of (pdu_value pdu.now)) }
 {
     match pdu {
@@ -28,8 +30,8 @@ fn has_context(pdu: &DialoguePdu<'_>) -> bool
 
 /// Whether the user information is a list of EXTERNALs, and a foreign EXTERNAL one.
 #[inline(always)]
-fn has_information(pdu: &DialoguePdu<'_>) -> bool
-    ensures { result ≡ has_information (pdu_value pdu.now) }
+fn is_information_good(pdu: &DialoguePdu<'_>) -> bool
+    ensures { result ≡ is_information_good (pdu_value pdu.now) }
 {
     match pdu {
         DialoguePdu::Aarq { info, .. }
@@ -47,9 +49,9 @@ fn has_information(pdu: &DialoguePdu<'_>) -> bool
 fn content_fault(pdu: &DialoguePdu<'_>) -> Option<PduFault>
     ensures { result ≡ content_fault (pdu_value pdu.now) }
 {
-    if !has_context(pdu) {
+    if !is_context_good(pdu) {
         Some(PduFault::BadOid)
-    } else if !has_information(pdu) {
+    } else if !is_information_good(pdu) {
         Some(PduFault::BadInfo)
     } else {
         None
@@ -58,7 +60,7 @@ fn content_fault(pdu: &DialoguePdu<'_>) -> Option<PduFault>
 
 /// How many octets user information of this length takes; it is left out where it is empty.
 #[inline(always)]
-pub fn information_len(info: usize) -> usize
+pub(crate) fn information_len(info: usize) -> usize
     requires { info + 4 < 2 ^ 64 }
     ensures { result ≡ information_length info }
 {
@@ -68,7 +70,7 @@ pub fn information_len(info: usize) -> usize
 /// How many octets a version and a context of this length take.
 #[tactic(auto, using(crate::proofs::DialogueLength::element_most))]
 #[inline(always)]
-pub fn opening_len(context: usize) -> usize
+pub(crate) fn opening_len(context: usize) -> usize
     requires { context ≤ object_identifier_limit }
     ensures { result ≡ opening_length context }
 {
@@ -78,7 +80,7 @@ pub fn opening_len(context: usize) -> usize
 /// How many octets a result and a diagnostic take.
 #[tactic(auto, using(crate::proofs::DialogueLength::element_most))]
 #[inline(always)]
-pub fn answer_len() -> usize
+pub(crate) fn answer_len() -> usize
     ensures { result ≡ answer_length }
 {
     element_len(element_len(1)) + element_len(element_len(element_len(1)))
@@ -87,7 +89,7 @@ pub fn answer_len() -> usize
 /// How many octets an EXTERNAL holds, for a PDU with contents of this length.
 #[tactic(auto, using(crate::proofs::DialogueLength::element_most))]
 #[inline(always)]
-pub fn held_len(contents: usize) -> usize
+pub(crate) fn held_len(contents: usize) -> usize
     requires { contents + 64 < 2 ^ 64 }
     ensures { result ≡ held_length contents }
 {
@@ -125,10 +127,10 @@ fn portion_len(pdu: &DialoguePdu<'_>) -> usize
     }
 }
 
-/// The length that is written, or the first fault that is due, want of memory apart.
+/// The length that is written, or the first fault that is due, `OutOfMemory` apart.
 #[tactic(auto, using(crate::proofs::DueSteps::due_content, crate::proofs::DueSteps::due_long, crate::proofs::DueSteps::due_none))]
 #[inline(always)]
-pub fn checked_len(pdu: &DialoguePdu<'_>) -> Result<usize, PduFault>
+pub(crate) fn checked_len(pdu: &DialoguePdu<'_>) -> Result<usize, PduFault>
     ensures { Gives (λ n. n) result (length_at (pdu_value pdu.now)) }
 {
     if let Some(fault) = content_fault(pdu) {

@@ -1,3 +1,5 @@
+//! The parts of a dialogue PDU, read one by one.
+
 ghost use Rattle.std.specs.Prelude.{◌≡◌, ◌==◌, ℕ, [], ◌∷◌, false, Some, IfSome, option_map};
 ghost use Rattle.ber_core.specs.Way.{IsInside, IsInsideIfAny, IsOnWay, GoesOn};
 ghost use Rattle.tcap_pdu.specs.DialoguePartsReading.{one_octet, tag_and, one_at, is_external, is_information, information_at, version_of, version_at, context_at, opening, opening_at, number_at, source_of, diagnostic_at};
@@ -13,7 +15,7 @@ use ber_core::{Elements, is_oid, read_alone, take_content, take_only, take_tagge
 
 /// The one octet that a content is.
 #[tactic(auto, unfolding(crate::specs::DialoguePartsReading::one_octet))]
-pub fn only_octet(content: &[u8]) -> Option<u8>
+pub(crate) fn only_octet(content: &[u8]) -> Option<u8>
     ensures { result ≡ one_octet content.now }
 {
     match content {
@@ -24,7 +26,7 @@ pub fn only_octet(content: &[u8]) -> Option<u8>
 
 /// The tag, of one octet, and the content of the one element that the bytes are.
 #[tactic(auto, unfolding(crate::specs::DialoguePartsReading::one_at))]
-pub fn take_one<'a>(bytes: &'a [u8]) -> Option<(u8, &'a [u8])>
+pub(crate) fn take_one<'a>(bytes: &'a [u8]) -> Option<(u8, &'a [u8])>
     ensures value { option_map (λ r. tag_and r.0 r.1.now) result ≡ one_at bytes.now }
     ensures inside { IfSome result (λ r. IsInside r.0 r.1 bytes.entry) }
 {
@@ -61,7 +63,7 @@ pub fn is_user_information(bytes: &[u8]) -> bool
 
 /// [BE user information], and nothing after it.
 #[tactic(auto, unfolding(crate::specs::DialoguePartsReading::information_at))]
-pub fn read_information<'a>(bytes: &'a [u8]) -> Option<&'a [u8]>
+pub(crate) fn read_information<'a>(bytes: &'a [u8]) -> Option<&'a [u8]>
     ensures value { option_map (λ info. info.now) result ≡ information_at bytes.now }
     ensures inside { IfSome result (λ info. IsInsideIfAny 0xbe info bytes.entry) }
 {
@@ -112,7 +114,7 @@ fn read_context<'a>(bytes: &'a [u8]) -> Option<&'a [u8]>
 
 /// [80 protocol version], A1 application context name; and what follows them.
 #[tactic(auto, unfolding(crate::specs::DialoguePartsReading::opening_at))]
-pub fn read_opening<'a>(bytes: &'a [u8]) -> Option<(bool, &'a [u8], &'a [u8])>
+pub(crate) fn read_opening<'a>(bytes: &'a [u8]) -> Option<(bool, &'a [u8], &'a [u8])>
     ensures value { option_map (λ r. opening r.0 r.1.now r.2.now) result ≡ opening_at bytes.now }
     ensures context { IfSome result (λ r. IsOnWay (0xa1 ∷ 0x06 ∷ []) r.1 bytes.entry) }
     ensures goes_on { (other : ℕ) → (0x80 == other) ≡ false → (0xa1 == other) ≡ false →
@@ -126,7 +128,7 @@ pub fn read_opening<'a>(bytes: &'a [u8]) -> Option<(bool, &'a [u8], &'a [u8])>
 
 /// The integer of one octet that is held: one element 02.
 #[tactic(auto, unfolding(crate::specs::DialoguePartsReading::number_at))]
-pub fn read_number(bytes: &[u8]) -> Option<u8>
+pub(crate) fn read_number(bytes: &[u8]) -> Option<u8>
     ensures { result ≡ number_at bytes.now }
 {
     only_octet(take_only(bytes, INTEGER)?)
@@ -148,7 +150,7 @@ fn diagnostic_of(tag: u8, number: u8) -> Option<Diagnostic>
 
 /// The result source diagnostic that is held: one element A1 or A2, which holds one element 02.
 #[tactic(auto, unfolding(crate::specs::DialoguePartsReading::diagnostic_at))]
-pub fn read_diagnostic(bytes: &[u8]) -> Option<Diagnostic>
+pub(crate) fn read_diagnostic(bytes: &[u8]) -> Option<Diagnostic>
     ensures { option_map source result ≡ diagnostic_at bytes.now }
 {
     let (tag, held) = take_one(bytes)?;

@@ -1,3 +1,5 @@
+//! Reading a dialogue portion.
+
 ghost use Rattle.std.specs.Prelude.{◌≡◌, [], ◌∷◌, None, IfOk, IfErr, IfSome, IsOkAnd, option_map};
 ghost use Rattle.ber_core.specs.Place.{Slice};
 ghost use Rattle.ber_core.specs.Way.{IsOnWay, IsOnWayIfAny, GoesOn};
@@ -166,7 +168,7 @@ fn read_by_syntax<'a>(bytes: &'a [u8], syntax: &'a [u8], rest: &'a [u8]) -> Opti
 
 /// The PDU that the bytes spell, if any.
 #[tactic(auto, unfolding(crate::specs::DialogueReading::pdu_at))]
-pub fn read_pdu<'a>(bytes: &'a [u8]) -> Option<DialoguePdu<'a>>
+pub(crate) fn read_pdu<'a>(bytes: &'a [u8]) -> Option<DialoguePdu<'a>>
     ensures value { option_map pdu_value result ≡ pdu_at bytes.now }
     ensures place { IfSome result (λ pdu. PduOnWay (0x28 ∷ 0xa0 ∷ []) pdu bytes.entry bytes.entry) }
 {
@@ -175,7 +177,7 @@ pub fn read_pdu<'a>(bytes: &'a [u8]) -> Option<DialoguePdu<'a>>
     read_by_syntax(bytes, syntax, rest)
 }
 
-/// The same, with the fault.
+/// The PDU that the bytes spell, or why there is none.
 #[tactic(auto, unfolding(crate::specs::DialogueReading::dialogue_at))]
 fn read_portion<'a>(bytes: &'a [u8]) -> Result<DialoguePdu<'a>, DialogueFault>
     ensures value { Gives pdu_value result (dialogue_at bytes.now) }

@@ -1,3 +1,5 @@
+//! Writing a dialogue portion.
+
 ghost use Rattle.std.specs.Prelude.{◌≡◌, ◌≤◌, ◌++◌, IfOk, IfErr, IfSome, OnOk, length};
 ghost use Rattle.std.specs.Result.{IsErrOf};
 ghost use Rattle.ber_core.specs.ObjectIdentifier.{object_identifier_limit};
@@ -92,7 +94,7 @@ pub fn write_dialogue<A: Allocator + Copy>(
     ensures ok { IfOk result (λ out.
         IsWritable (pdu_value pdu.now) × (out.items ≡ written_dialogue (pdu_value pdu.now))) }
     ensures spelled { IfOk result (λ out. SpellsDialogue (pdu_value pdu.now) out.items) }
-    // Which fault, the first in the order; want of memory only where no other is due.
+    // Which fault, the first in the order; `OutOfMemory` only where no other is due.
     ensures err { IfErr result (λ f. WriteFault (pdu_value pdu.now) f) }
     // The same, computed: what the layers above cite.
     ensures due { IfSome (due_fault (pdu_value pdu.now)) (λ f. IsErrOf result f) }

@@ -1,3 +1,5 @@
+//! The identifiers at the beginning of a message, for the answer to a faulty one.
+
 ghost use Rattle.std.specs.Prelude.{◌≡◌, ℕ, List, Option, option_copied};
 ghost use Rattle.tcap_pdu.specs.Front.{Front, front_at, id_in, cut, both};
 
@@ -39,7 +41,7 @@ fn split_front(bytes: &[u8]) -> (Option<TransId>, Option<TransId>)
     (as_id(origin), as_id(destination))
 }
 
-/// The originating and the destination transaction identifier at the front of a message that may be
+/// The originating and the destination transaction identifier at the beginning of a message that may be
 /// faulty, `None` where there is none to be read (our own).
 pub fn front_ids(bytes: &[u8]) -> (Option<TransId>, Option<TransId>)
     // What is read stands at the front, and nothing else does.

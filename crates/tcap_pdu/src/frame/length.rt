@@ -1,3 +1,5 @@
+//! How long a written message is, and whether it is short enough.
+
 ghost use Rattle.std.specs.Prelude.{◌≡◌, ◌↔◌, ◌+◌, ◌^◌, ◌<◌, ◌≤◌, List, ℕ, Option, length, option_map, IsTrue, IfSome, IfNone};
 ghost use Rattle.tcap_pdu.specs.TransId.{IsTransId};
 ghost use Rattle.tcap_pdu.specs.FrameSpelling.{HasIds};

@@ -1,3 +1,5 @@
+//! The portions of a message.
+
 ghost use Rattle.std.specs.Prelude.{◌≡◌, option_copied};
 ghost use Rattle.tcap_pdu.specs.FrameLength.{reason_with};
 ghost use Rattle.tcap_pdu.specs.FrameViews.{reason_of};

@@ -1,3 +1,5 @@
+//! Reading a message.
+
 ghost use Rattle.std.specs.Prelude.{◌≡◌, ◌==◌, ℕ, false, None, IfOk, IfErr, IfSome, IsOkAnd, is_ok, ok_or, option_map, if◌then◌else◌};
 ghost use Rattle.std.specs.List.{list_all};
 ghost use Rattle.ber_core.specs.ListReading.{items_of};

@@ -1,3 +1,5 @@
+//! Writing a message.
+
 ghost use Rattle.std.specs.Prelude.{◌≡◌, ◌<◌, ◌≤◌, ◌++◌, [], ◌∷◌, length, option_copied, IfOk, OnOk, IfErr, IsErrOf};
 ghost use Rattle.ber_core.specs.Length.{length_limit};
 ghost use Rattle.ber_core.specs.Sequence.Field.{must, may, filled};

@@ -110,7 +110,7 @@ ended-told dialogue past components = go (invocations past)
     go [] = tt
     go (i ∷ is) = one-ended dialogue i (filter_map (ended_of dialogue past components) is) ((i.dialogue == dialogue) && still_open i) (go is)
 
--- what is told of a dialogue that stood still too long
+-- what is told of a dialogue that was idle too long
 pub idle-told : (past : Past) (now dialogue : ℕ) → AllSendFine (idle_told past now dialogue)
 idle-told past now dialogue = (tt, go (invocations past))
   where

@@ -43,7 +43,7 @@ fn portion_request<'w, A: Allocator>(
     }
 }
 
-/// The same, made on the engine of a letter, whose messages go to the other engine.
+/// The request with a dialogue portion, made on the engine of a letter, whose messages go to the other engine.
 pub(crate) fn portion_request_on<'w, A: Allocator>(
     addresses: &'w Addresses,
     side_word: &[u8],

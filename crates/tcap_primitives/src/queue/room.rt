@@ -9,11 +9,13 @@ ghost use Rattle.tcap_primitives.specs.FaultViews.{fault_view};
 ghost use Rattle.tcap_primitives.specs.QueueViews.{queue_view};
 ghost use Rattle.tcap_model.specs.Procedures.QueueRules.{queue_limit, queued, fits};
 
-use super::{MAX_QUEUE, MAX_REJECT, Queue};
+use super::{MAX_QUEUE, Queue};
 use crate::fault::Fault;
 use ber_core::OutOfMemory;
 use std::alloc::{AllocError, Allocator};
-use tcap_component::{Component, WriteFault, component_fault, component_len, write_component};
+use tcap_component::{
+    Component, MAX_REJECT, WriteFault, component_fault, component_len, write_component,
+};
 
 /// The fault of a request whose component can't be written.
 fn fault_of(fault: WriteFault) -> Fault

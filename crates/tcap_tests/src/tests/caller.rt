@@ -1,3 +1,5 @@
+//! The worked callers, run.
+
 use std::test::Fail;
 use tcap_callers::{clock_after, first_operation, hear_at, operate};
 use tcap_engine::{Address, DropWhy, Engine, Fault, Limits, Output};

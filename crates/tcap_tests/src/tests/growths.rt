@@ -1,3 +1,5 @@
+//! Each growth refused in turn, in the texts and in runs of the command.
+
 use super::addressed::{ADDRESSES_SCRIPT, ADDRESSES_TEXT};
 use super::plays::{IDLE_SCRIPT, IDLE_TEXT};
 use refusing::Refusing;
@@ -10,13 +12,13 @@ use tcap_cmd::{canon_text, check_text, run_command, show_text};
 enum Outcome {
     /// What it gives with memory enough.
     Done,
-    /// Want of memory.
+    /// `OutOfMemory`.
     NoMemory,
     /// Anything else.
     Other,
 }
 
-/// How many growths of a call were refused in turn, each answered by want of memory, before it ended well.
+/// How many growths of a call were refused in turn, each answered by `OutOfMemory`, before it ended well.
 fn refused_growths<F: FnMut() -> Outcome>(heap: &Refusing<Global>, mut call: F) -> Option<u64>
     requires { F.IsAlwaysCallable call }
 {
@@ -95,7 +97,7 @@ const LOST_SCRIPT: &[u8] =
 const LOST: &[u8] =
     b"A new 1\nA number 1\nA send A1 62104804000000016c08a10602010102010a\nB begin 1 context - info -\nB invoked 1 id 1 linked - op local 10 param -\nB done\nB send B1 651b4804000000014904000000016c0da70b020101300602010a0401aa\nA continue 1 context - info -\nA more 1 id 1 number 1 op local 10 param 0401aa\nA continue 1 context - info -\nA more 1 id 1 number 1 op local 10 param 0401aa\nB done\nB send B2 64154904000000016c0da20b020101300602010a0401bb\nA lapsed 1 id 1 number 1\n";
 
-/// Two Begins, and the front of a third.
+/// Two Begins, and the beginning of a third.
 const STREAM: &[u8] = &[
     0x62, 0x06, 0x48, 0x04, 0x00, 0x00, 0x00, 0x01, 0x62, 0x06, 0x48, 0x04, 0x00, 0x00, 0x00, 0x01,
     0x62, 0x06, 0x48,
@@ -104,7 +106,7 @@ const STREAM: &[u8] = &[
 /// The lines of its first Begin, of the second, and of the front, one after another.
 const LINES: [&[u8]; 4] = [b"", b"good\n", b"good\ngood\n", b"good\ngood\nrest 3\n"];
 
-/// A Begin with an Invoke, and the front of another, of "Stream and play endings".
+/// A Begin with an Invoke, and the beginning of another, of "Stream and play endings".
 const ENDING: &[u8] = &[
     0x62, 0x15, 0x48, 0x04, 0x00, 0x00, 0x00, 0x01, 0x6c, 0x0d, 0xa1, 0x0b, 0x02, 0x01, 0x01, 0x02,
     0x01, 0x02, 0x30, 0x03, 0x04, 0x01, 0xaa, 0x62, 0x15, 0x48,

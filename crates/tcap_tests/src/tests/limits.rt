@@ -1,3 +1,5 @@
+//! Messages at the limit of their length.
+
 use std::alloc::Global;
 use std::test::Fail;
 use tcap_cmd::{canon_text, check_text, show_text};

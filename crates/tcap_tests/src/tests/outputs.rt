@@ -1,3 +1,5 @@
+//! Outputs that are interrupted, closed, or full in the middle of a text.
+
 use super::words::run_within;
 use std::alloc::Global;
 use std::io;

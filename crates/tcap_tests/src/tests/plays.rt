@@ -1,3 +1,5 @@
+//! Scripts, by `run_play` and by the command.
+
 use super::outputs::Narrow;
 use super::words::{run, run_within};
 use std::io;

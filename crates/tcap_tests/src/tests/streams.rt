@@ -1,3 +1,5 @@
+//! Streams, by `run_stream` and by the command.
+
 use super::outputs::Narrow;
 use super::words::run_within;
 use std::io;

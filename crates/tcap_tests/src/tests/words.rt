@@ -1,3 +1,5 @@
+//! The words of the command, its status and its lines.
+
 use super::outputs::Narrow;
 use std::alloc::Global;
 use std::io::Read;

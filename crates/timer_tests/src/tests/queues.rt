@@ -1,3 +1,5 @@
+//! Queues of timers beside a plain list.
+
 use std::test::Fail;
 use timer_queue::{Timer, TimerQueue};
 

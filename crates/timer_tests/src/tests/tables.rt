@@ -1,3 +1,5 @@
+//! Tables, by what they print and tell.
+
 ghost use Rattle.std.specs.Prelude.{◌≡◌, nat_eq, OnSome, IfNone};
 ghost use Rattle.std.specs.Map.{set_value};
 ghost use Rattle.timed_table.specs.Row.{entries_of, with_value};
@@ -6,7 +8,7 @@ use std::alloc::Global;
 use std::test::Fail;
 use timed_table::Table;
 
-/// A table of two values, of which the second has no time; nothing where memory is wanting.
+/// A table of two values, of which the second has no time; nothing where memory runs out.
 fn sample(alloc: Global) -> Option<Table<u64>> {
     let mut table = Table::new(alloc);
     table.insert(5, 50, Some(40)).ok()?;

@@ -7,42 +7,42 @@ use Rattle.tcap_engine.proofs.RefusedEngine.{table-still}
 use Rattle.tcap_engine.proofs.engine.Engine.ask.Goals as goal
 
 pub ask_in-requires-clause-number : goal.ask_in-requires-clause-number
-ask_in-requires-clause-number g c = found-below c.args.d c.self.inside.limits.reject_ms c.self.inside.next_number c.self.inside.table c.self.invariant.within
+ask_in-requires-clause-number g c = found-below c.args.dialogue c.self.inside.limits.reject_ms c.self.inside.next_number c.self.inside.table c.self.invariant.within
 
 pub invariant_of-self : goal.invariant_of-self
 invariant_of-self g c =
     let s = c.self.inside in
-    sound-err s.limits s.next_dialogue s.next_number s.clock c.args.d s.table (request_view c.args.request.now) c.self.invariant _ c.in_err-asked.field-0.0 c.ask_in.new.table c.in_err-asked.ensures
+    sound-err s.limits s.next_dialogue s.next_number s.clock c.args.dialogue s.table (request_view c.args.request.now) c.self.invariant _ c.in_err-asked.field-0.0 c.ask_in.new.table c.in_err-asked.ensures
 
 pub returns-in_err-asked-clause-moves : goal.returns-in_err-asked-clause-moves
 returns-in_err-asked-clause-moves g c =
     let s = c.self.inside in
     let is : c.from_residual.result ≡ Err c.in_err-asked.field-0.0 = search rules in
     rw (is, ← c.self.view_is)
-    (asked-err s.limits s.next_dialogue s.next_number s.clock c.args.d s.table (request_view c.args.request.now) c.self.invariant _ c.in_err-asked.field-0.0 c.ask_in.new.table c.in_err-asked.ensures)
+    (asked-err s.limits s.next_dialogue s.next_number s.clock c.args.dialogue s.table (request_view c.args.request.now) c.self.invariant _ c.in_err-asked.field-0.0 c.ask_in.new.table c.in_err-asked.ensures)
 
 pub next_number-next-requires : goal.next_number-next-requires
 next_number-next-requires g c =
     let s = c.self.inside in
     let fits : Fits w64 s.next_number = search rules in
     let le : s.next_number ≤ last_number = omega (arith, fits) in
-    left-ok s.limits s.next_dialogue s.next_number s.clock c.args.d s.table (request_view c.args.request.now) c.self.invariant c.in_ok-asked.asked c.ask_in.new.table le c.in_ok-asked.ensures
+    left-ok s.limits s.next_dialogue s.next_number s.clock c.args.dialogue s.table (request_view c.args.request.now) c.self.invariant c.in_ok-asked.asked c.ask_in.new.table le c.in_ok-asked.ensures
 
 pub invariant_of-self-2 : goal.invariant_of-self-2
 invariant_of-self-2 g c =
     let s = c.self.inside in
     rw c.next_number-next.ensures
-    (sound-ok s.limits s.next_dialogue s.next_number s.clock c.args.d s.table (request_view c.args.request.now) c.self.invariant c.in_ok-asked.asked c.ask_in.new.table c.in_ok-asked.ensures)
+    (sound-ok s.limits s.next_dialogue s.next_number s.clock c.args.dialogue s.table (request_view c.args.request.now) c.self.invariant c.in_ok-asked.asked c.ask_in.new.table c.in_ok-asked.ensures)
 
 pub returns-clause-moves : goal.returns-clause-moves
 returns-clause-moves g c =
     let s = c.self.inside in
     rw (c.next_number-next.ensures, ← c.self.view_is)
-    (asked-ok s.limits s.next_dialogue s.next_number s.clock c.args.d s.table (request_view c.args.request.now) c.self.invariant c.in_ok-asked.asked c.ask_in.new.table c.in_ok-asked.ensures)
+    (asked-ok s.limits s.next_dialogue s.next_number s.clock c.args.dialogue s.table (request_view c.args.request.now) c.self.invariant c.in_ok-asked.asked c.ask_in.new.table c.in_ok-asked.ensures)
 
 pub returns-in_err-asked-clause-err : goal.returns-in_err-asked-clause-err
 returns-in_err-asked-clause-err g c =
     let s = c.self.inside in
     let is : c.from_residual.result ≡ Err c.in_err-asked.field-0.0 = search rules in
-    let same : c.ask_in.new.table ≡ s.table = table-still (asked s.clock s.next_number) (request_view c.args.request.now) c.args.d s.table c.ask_in.new.table _ c.in_err-asked.field-0.0 c.in_err-asked.ensures in
+    let same : c.ask_in.new.table ≡ s.table = table-still (asked s.clock s.next_number) (request_view c.args.request.now) c.args.dialogue s.table c.ask_in.new.table _ c.in_err-asked.field-0.0 c.in_err-asked.ensures in
     rw (is, same) c.self.view_is

@@ -5,8 +5,8 @@ use Rattle.std.specs.List.{flat_map}
 use Rattle.std.specs.Prelude.{IsTrue}
 use Rattle.tcap_dialogue.specs.FaultViews.{takes_memory}
 use Rattle.tcap_primitives.specs.OutputViews.{all_shown, shown}
-use Rattle.tcap_engine.specs.Ending.{AreApart, idle_ids, left_by, over_in, place_at, without_all}
-use Rattle.tcap_engine.specs.Table.{Place, dialogues_of}
+use Rattle.tcap_engine.specs.Ending.{AreDistinct, idle_ids, left_by, over_in, place_at, without_all}
+use Rattle.tcap_engine.specs.Table.{TableEntry, dialogues_of}
 use Rattle.tcap_engine.proofs.EndLemmas.{ends-all, left-all}
 use Rattle.tcap_engine.proofs.IdleLemmas.{idle-distinct}
 use Rattle.tcap_engine.proofs.MomentLemmas.{sound-at, not-zero}
@@ -23,7 +23,7 @@ use Rattle.tcap_engine.proofs.engine.Engine.pass.Goals as goal
 pub returns-in_err-idle-clause-moves : goal.returns-in_err-idle-clause-moves
 returns-in_err-idle-clause-moves g c =
     let now = c.args.now in
-    let ps : List Place = c.self.inside.table in
+    let ps : List TableEntry = c.self.inside.table in
     let refused = c.in_err-idle.ensures.succeeds in
     let some : 0 < c.room_at-room.result.idle = not-zero c.room_at-room.result.idle (λ z. let no = refused z in absurd cc) in
     let count = c.room_at-room.ensures.idle in
@@ -37,14 +37,14 @@ returns-in_err-idle-clause-moves g c =
 
 pub end_all-requires-clause-apart : goal.end_all-requires-clause-apart
 end_all-requires-clause-apart g c =
-    let ps : List Place = c.self.inside.table in
-    subst AreApart (sym (c.deref.ensures.value ∙ c.tell_due.ensures.idle)) (idle-distinct c.args.now ps c.self.invariant.from)
+    let ps : List TableEntry = c.self.inside.table in
+    subst AreDistinct (sym (c.deref.ensures.value ∙ c.tell_due.ensures.idle)) (idle-distinct c.args.now ps c.self.invariant.from)
 
 pub end_all-requires-clause-room : goal.end_all-requires-clause-room
 end_all-requires-clause-room g c =
     let now = c.args.now in
-    let ps : List Place = c.self.inside.table in
-    let after : List Place = c.tell_due.new.table in
+    let ps : List TableEntry = c.self.inside.table in
+    let after : List TableEntry = c.tell_due.new.table in
     let ids : List ℕ = c.deref.result.now in
     let are : ids ≡ idle_ids now ps = c.deref.ensures.value ∙ c.tell_due.ensures.idle in
     let over : flat_map (over_in after) ids ≡ all_idle_told now (dialogues_of ps) =
@@ -65,8 +65,8 @@ end_all-requires-clause-room g c =
 pub invariant_of-self : goal.invariant_of-self
 invariant_of-self g c =
     let now = c.args.now in
-    let ps : List Place = c.self.inside.table in
-    let after : List Place = c.tell_due.new.table in
+    let ps : List TableEntry = c.self.inside.table in
+    let after : List TableEntry = c.tell_due.new.table in
     let are : c.deref.result.now ≡ idle_ids now ps = c.deref.ensures.value ∙ c.tell_due.ensures.idle in
     let left : c.end_all.new.table ≡ left_by now (idle_ids now ps) ps =
     c.end_all.ensures.table ∙ ap (λ l. without_all l after) are ∙ ap (without_all (idle_ids now ps)) (sym c.tell_due.ensures.quiet.rest) ∙ c.tell_due.ensures.left in
@@ -76,8 +76,8 @@ invariant_of-self g c =
 pub returns-clause-moves : goal.returns-clause-moves
 returns-clause-moves g c =
     let now = c.args.now in
-    let ps : List Place = c.self.inside.table in
-    let after : List Place = c.tell_due.new.table in
+    let ps : List TableEntry = c.self.inside.table in
+    let after : List TableEntry = c.tell_due.new.table in
     let are : c.deref.result.now ≡ idle_ids now ps = c.deref.ensures.value ∙ c.tell_due.ensures.idle in
     let over : flat_map (over_in after) c.deref.result.now ≡ all_idle_told now (dialogues_of ps) =
     ap (flat_map (over_in after)) are ∙ over-all now (idle_ids now ps) after ps c.tell_due.ensures.quiet.rest c.tell_due.ensures.ends ∙ ends-all now ps c.self.invariant.from in

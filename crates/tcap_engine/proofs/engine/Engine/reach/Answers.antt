@@ -9,7 +9,7 @@ pub invariant_of-self : goal.invariant_of-self
 invariant_of-self g c =
     let s = c.self.inside in
     let m = message c.args.frame.now in
-    sound-reached s.limits s.next_dialogue s.next_number s.clock c.args.d s.table c.self.invariant (DialogueEvent.frame c.args.from.now m)
+    sound-reached s.limits s.next_dialogue s.next_number s.clock c.args.identifier s.table c.self.invariant (DialogueEvent.frame c.args.from.now m)
     (λ x. table_move (at_clock s.clock) x (DialogueEvent.frame c.args.from.now m)) (λ x. framed-alike s.clock s.next_number x c.args.from.now m) (λ x h. kept-frame s.limits.reject_ms s.next_number s.clock x c.args.from.now m h)
     (λ os. all_shown os.items) c.take_in.result c.take_in.new.table c.take_in.ensures
 
@@ -18,6 +18,6 @@ returns-clause-ok g c =
     let s = c.self.inside in
     let m = message c.args.frame.now in
     rw (← c.self.view_is)
-    (reached-if s.limits s.next_dialogue s.next_number s.clock c.args.d s.table c.self.invariant (DialogueEvent.frame c.args.from.now m)
+    (reached-if s.limits s.next_dialogue s.next_number s.clock c.args.identifier s.table c.self.invariant (DialogueEvent.frame c.args.from.now m)
     (λ x. table_move (at_clock s.clock) x (DialogueEvent.frame c.args.from.now m)) (λ x. framed-alike s.clock s.next_number x c.args.from.now m) (λ x h. kept-frame s.limits.reject_ms s.next_number s.clock x c.args.from.now m h)
     (λ os. all_shown os.items) c.take_in.result c.take_in.new.table c.take_in.ensures)

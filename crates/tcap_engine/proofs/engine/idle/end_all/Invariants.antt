@@ -1,7 +1,7 @@
 use Rattle.std.proofs.Common.{◌≡◌, ◌+◌, ◌≤◌, ◌++◌, drop, length, vec_len, vec_capacity}
 use Rattle.std.specs.List.{flat_map}
 use Rattle.tcap_primitives.specs.OutputViews.{all_shown}
-use Rattle.tcap_engine.specs.Ending.{AreApart, over_in, without_all}
+use Rattle.tcap_engine.specs.Ending.{AreDistinct, over_in, without_all}
 use Rattle.tcap_engine.specs.Table.{AreFrom}
 use Rattle.tcap_engine.proofs.engine.idle.end_all.Given as goal
 
@@ -11,5 +11,5 @@ invariant-loop-d g l = record {
   room : vec_len l.outputs + length (flat_map (over_in l.table) (drop l.d-index l.ids)) ≤ vec_capacity l.outputs;
   left : without_all (drop l.d-index l.ids) l.table ≡ without_all l.ids l.initial.table;
   from : AreFrom 0 l.table;
-  apart : AreApart (drop l.d-index l.ids);
+  apart : AreDistinct (drop l.d-index l.ids);
 }

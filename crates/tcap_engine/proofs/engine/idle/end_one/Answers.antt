@@ -3,7 +3,7 @@ use Rattle.std.proofs.lemmas.List.{map-append}
 use Rattle.std.specs.Map.{lookup}
 use Rattle.tcap_primitives.specs.OutputViews.{all_shown, shown}
 use Rattle.tcap_engine.specs.Ending.{over_in, over_told}
-use Rattle.tcap_engine.specs.Table.{Place}
+use Rattle.tcap_engine.specs.Table.{TableEntry}
 use Rattle.tcap_engine.proofs.TableLemmas.{found-own}
 use Rattle.tcap_engine.proofs.TimedLemmas.{timed-without}
 use Rattle.tcap_model.specs.Table.TableMove.{ended_told}
@@ -12,15 +12,15 @@ use Rattle.timed_table.specs.Row.{entries_of}
 use Rattle.tcap_engine.proofs.engine.idle.end_one.Goals as goal
 
 pub invariant_of-table : goal.invariant_of-table
-invariant_of-table g c = rw c.remove.ensures.rows (timed-without c.args.d c.table.inside.rows c.table.invariant)
+invariant_of-table g c = rw c.remove.ensures.rows (timed-without c.args.identifier c.table.inside.rows c.table.invariant)
 
 pub invariant_of-table-2 : goal.invariant_of-table-2
-invariant_of-table-2 g c = rw c.remove.ensures.rows (timed-without c.args.d c.table.inside.rows c.table.invariant)
+invariant_of-table-2 g c = rw c.remove.ensures.rows (timed-without c.args.identifier c.table.inside.rows c.table.invariant)
 
 pub returns-clause-told : goal.returns-clause-told
 returns-clause-told g c =
-    let ps : List Place = entries_of c.table.inside.rows in
-    let d = c.args.d in
+    let ps : List TableEntry = entries_of c.table.inside.rows in
+    let d = c.args.identifier in
     let old = c.in-Some.dialogue in
     let before = all_shown c.args.outputs.now.items in
     let aborted : Output = Output.dialogue (DialogueIndication.p_abort d AbortCause.idle) in
@@ -32,4 +32,4 @@ returns-clause-told g c =
     ap over_told found ∙ ap (λ i. Output.dialogue (DialogueIndication.p_abort i AbortCause.idle) ∷ ended_told i old.invocations) own in
     let pushed : all_shown c.push_reserved.new.self.items ≡ before ++ aborted ∷ [] = ap all_shown c.push_reserved.ensures.items ∙ map-append shown c.args.outputs.now.items _ in
     rw (← c.table.view_is)
-    (c.tell_left.ensures.told ∙ ap (λ os. os ++ ended) pushed ∙ append_assoc before (aborted ∷ []) ended ∙ ap (λ os. before ++ os) (sym over))
+    (c.tell_ended.ensures.told ∙ ap (λ os. os ++ ended) pushed ∙ append_assoc before (aborted ∷ []) ended ∙ ap (λ os. before ++ os) (sym over))

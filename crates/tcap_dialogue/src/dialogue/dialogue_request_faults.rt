@@ -1,0 +1,168 @@
+//! The first due fault of a request of dialogue handling.
+
+ghost use Rattle.std.specs.Prelude.{◌≡◌, not, option_copied, true};
+ghost use Rattle.std.specs.Option.{option_map};
+ghost use Rattle.tcap_primitives.specs.ControlViews.{control_view};
+ghost use Rattle.tcap_primitives.specs.FaultViews.{fault_view};
+ghost use Rattle.tcap_reception.specs.StateViews.{phase_view};
+ghost use Rattle.tcap_dialogue.specs.StepViews.{asked};
+ghost use Rattle.tcap_model.specs.Procedures.Refusals.{can_name, context_given, due_on, gives_any, has_no_context, information_given, is_filled, is_not_class_four, lacks_context, passes_message};
+ghost use Rattle.tcap_model.specs.Procedures.RequestMessage.{message_of};
+ghost use Rattle.tcap_model.specs.Procedures.States.{has_peer, has_request, is_asked, is_fresh};
+ghost use Rattle.tcap_model.specs.Table.TableMove.{situation};
+ghost use Rattle.tcap_model.specs.Words.Request.{Request};
+ghost use Rattle.tcap_pdu.specs.DialoguePartsReading.{is_information};
+
+use super::Dialogue;
+use std::alloc::Allocator;
+use tcap_primitives::{AbortWhy, Control, Ending, Fault};
+use tcap_reception::Phase;
+
+/// Whether no message was sent or received.
+fn is_fresh(phase: &Phase) -> bool
+    ensures { result ≡ is_fresh (phase_view phase.now) }
+{
+    match phase {
+        Phase::Fresh => true,
+        Phase::Sent | Phase::Received(_) | Phase::Active(_) => false,
+    }
+}
+
+/// Whether the peer was heard.
+fn has_peer(phase: &Phase) -> bool
+    ensures { result ≡ has_peer (phase_view phase.now) }
+{
+    match phase {
+        Phase::Fresh | Phase::Sent => false,
+        Phase::Received(_) | Phase::Active(_) => true,
+    }
+}
+
+/// Whether there is something.
+fn is_filled(bytes: &[u8]) -> bool
+    ensures { result ≡ is_filled bytes.now }
+{
+    match bytes {
+        [] => false,
+        [_, ..] => true,
+    }
+}
+
+/// Whether user information is given without a context.
+fn lacks_context(context: Option<&[u8]>, info: &[u8]) -> bool
+    ensures { result ≡ lacks_context (option_copied context.entry) info.now }
+{
+    context.is_none() && is_filled(info)
+}
+
+/// Whether a context or user information is given.
+fn gives_any(context: Option<&[u8]>, info: &[u8]) -> bool
+    ensures { result ≡ gives_any (option_copied context.entry) info.now }
+{
+    context.is_some() || is_filled(info)
+}
+
+impl<A: Allocator + Copy> Dialogue<A> {
+    /// Whether a Begin with an AARQ was received and isn't answered yet.
+    fn is_asked(&self) -> bool
+        ensures { result ≡ is_asked self.now.standing.state self.now.standing.context }
+    {
+        match &self.phase {
+            Phase::Fresh | Phase::Sent | Phase::Active(_) => false,
+            Phase::Received(_) => self.context.is_some(),
+        }
+    }
+
+    /// Whether the state of the dialogue has the request.
+    fn has_control(&self, control: &Control<'_>) -> bool
+        ensures { result ≡ has_request self.now.standing.state self.now.standing.context (Request.dialogue (control_view control.now)) }
+    {
+        match control {
+            Control::Uni { .. } | Control::Begin { .. } => is_fresh(&self.phase),
+            Control::Continue { .. } => has_peer(&self.phase),
+            Control::End { ending, .. } => match ending {
+                Ending::Basic => has_peer(&self.phase),
+                Ending::Prearranged => true,
+            },
+            Control::Abort { why, .. } => match why {
+                AbortWhy::User => true,
+                AbortWhy::NotSupported => self.is_asked(),
+            },
+        }
+    }
+
+    /// Whether a context or user information is given for which there is no dialogue portion.
+    fn has_no_context(&self, control: &Control<'_>) -> bool
+        ensures { result ≡ has_no_context self.now.standing.state self.now.standing.context (Request.dialogue (control_view control.now)) }
+    {
+        match control {
+            Control::Uni { context, info, .. } | Control::Begin { context, info, .. } => {
+                lacks_context(*context, info)
+            }
+            Control::Continue { context, info } => !self.is_asked() && gives_any(*context, info),
+            Control::End {
+                ending,
+                context,
+                info,
+            } => match ending {
+                Ending::Basic => !self.is_asked() && gives_any(*context, info),
+                Ending::Prearranged => gives_any(*context, info),
+            },
+            Control::Abort { why, info } => match why {
+                AbortWhy::User => {
+                    !(has_peer(&self.phase) && self.context.is_some()) && is_filled(info)
+                }
+                AbortWhy::NotSupported => false,
+            },
+        }
+    }
+
+    /// Whether a Unidirectional would carry nothing, or an Invoke of another class than 4.
+    fn is_not_class_four(&self, control: &Control<'_>) -> bool
+        ensures { result ≡ is_not_class_four self.now.standing.queue (Request.dialogue (control_view control.now)) }
+    {
+        match control {
+            Control::Uni { .. } => !self.queue.can_go_alone(),
+            Control::Begin { .. }
+            | Control::Continue { .. }
+            | Control::End { .. }
+            | Control::Abort { .. } => false,
+        }
+    }
+
+    /// Whether the message would be above the limit, where what is given is good.
+    fn is_too_long(&self, control: &Control<'_>) -> bool
+        ensures { can_name (context_given (Request.dialogue (control_view control.now))) ≡ true → is_information (information_given (Request.dialogue (control_view control.now))) ≡ true →
+            result ≡ passes_message (message_of self.now.standing (Request.dialogue (control_view control.now))) }
+    {
+        match self.sending(control) {
+            None => false,
+            Some(sending) => !sending.fits(),
+        }
+    }
+
+    /// The fault of a request that is due, `OutOfMemory` apart.
+    pub(super) fn control_fault(&self, control: &Control<'_>) -> Option<Fault>
+        ensures { let r = Request.dialogue (control_view control.now) in option_map fault_view result ≡ due_on (situation (asked 0 0) self.now r) r }
+    {
+        if !self.has_control(control) {
+            return Some(Fault::WrongState);
+        }
+        if control.has_bad_oid() {
+            return Some(Fault::BadOid);
+        }
+        if control.has_bad_parameter() {
+            return Some(Fault::BadParameter);
+        }
+        if self.has_no_context(control) {
+            return Some(Fault::NoContext);
+        }
+        if self.is_not_class_four(control) {
+            return Some(Fault::NotClassFour);
+        }
+        if self.is_too_long(control) {
+            return Some(Fault::TooLong);
+        }
+        None
+    }
+}

@@ -1,0 +1,249 @@
+//! Messages to a dialogue, and faulty ones.
+
+ghost use Rattle.std.specs.Prelude.{◌≡◌, ◌+◌, ◌*◌, ◌≤◌, ◌<◌, Option, length, unwrap_or, option_copied, IfOk, OnOk, OnErr, vec_len, vec_capacity};
+ghost use Rattle.ber_core.specs.Place.{Slice};
+ghost use Rattle.tcap_primitives.specs.OutputViews.{cause_view};
+ghost use Rattle.tcap_reception.specs.PortionViews.{portion_view, PortionIn};
+ghost use Rattle.tcap_primitives.specs.QueueViews.{queue_view};
+ghost use Rattle.tcap_primitives.specs.Slices.{AllInPlace, HeldIn};
+ghost use Rattle.tcap_reception.specs.StateViews.{phase_view};
+ghost use Rattle.tcap_dialogue.specs.StepViews.{at_clock, outcome, stepped};
+ghost use Rattle.tcap_invocation.specs.Stage.{moment_limit};
+ghost use Rattle.tcap_model.specs.Procedures.PortionRules.{portion_verdict};
+ghost use Rattle.tcap_model.specs.Procedures.PortionRules.PortionVerdict.{normal};
+ghost use Rattle.tcap_model.specs.Table.TableMove.{DialogueEvent, Setting, continued_by, ended_by, framed, table_move, walked_in};
+ghost use Rattle.tcap_model.specs.Words.State.{State, address_by, peer_by};
+ghost use Rattle.tcap_pdu.specs.FramePortions.{dialogue_slice, components_slice};
+ghost use Rattle.tcap_pdu.specs.FrameViews.{message};
+
+use super::ending::tell_ended;
+use super::{Dialogue, Step};
+use crate::components::{count_items, walk, walk_ending};
+use ber_core::OutOfMemory;
+use std::alloc::Allocator;
+use tcap_address::Address;
+use tcap_pdu::{Frame, TransId};
+use tcap_primitives::{Output, Why};
+use tcap_reception::{Phase, PortionVerdict, judge_portion};
+
+/// The state after a Continue: the peer that is known stays (Q.774, Transaction state machine).
+fn continued(phase: &Phase, origin: &TransId) -> Phase
+    ensures { phase_view result ≡ State.active (peer_by (phase_view phase.now) origin.now) }
+{
+    match phase {
+        Phase::Fresh | Phase::Sent => Phase::Active(origin.copied()),
+        Phase::Received(peer) | Phase::Active(peer) => Phase::Active(peer.copied()),
+    }
+}
+
+/// The sender of a Continue to a dialogue in Sent is kept; later ones are not (our own).
+#[inline]
+fn keep_sender(phase: &Phase, kept: &mut Address, from: &Address)
+    ensures { kept.new ≡ address_by (phase_view phase.now) kept.old from.now }
+{
+    match phase {
+        Phase::Sent => kept.set(from),
+        Phase::Fresh | Phase::Received(_) | Phase::Active(_) => {}
+    }
+}
+
+impl<A: Allocator + Copy> Dialogue<A> {
+    /// A Continue whose dialogue portion is as it should be: it is told with its components, and the
+    /// Rejects that answer them are queued; the sender of the first is kept. All room is found first.
+    fn continue_normal<'m>(
+        &mut self,
+        from: &Address,
+        origin: &TransId,
+        context: Option<&'m [u8]>,
+        info: &'m [u8],
+        components: &'m [u8],
+        clock: u64,
+    ) -> Result<Step<'m, A>, OutOfMemory>
+        requires { clock ≤ moment_limit }
+        ensures ok { IfOk result (λ s. stepped s self.new ≡ outcome (continued_by (at_clock clock) self.old from.now origin.now (normal (option_copied context.entry) info.now) (walked_in clock self.old components.now))) }
+        ensures err { OnErr result (self.new ≡ self.old) }
+        ensures kept { self.new.standing.identifier ≡ self.old.standing.identifier }
+        ensures place { (portion : Option Slice) → HeldIn 0x61 context.entry info.entry portion → IfOk result (λ s. AllInPlace portion components.entry s.outputs.items) }
+    {
+        let items = count_items(components);
+        let mut outputs = Vec::with_capacity(
+            *self.queue.octets.allocator(),
+            items.saturating_add(1),
+        )?;
+        self.queue.reserve_rejects(items)?;
+        outputs.push_reserved(Output::Continue {
+            dialogue: self.identifier,
+            context,
+            info,
+        });
+        walk(
+            self.identifier,
+            clock,
+            components,
+            &mut self.invocations,
+            &mut self.queue,
+            &mut outputs,
+        );
+        keep_sender(&self.phase, &mut self.kept, from);
+        self.phase = continued(&self.phase, origin);
+        self.touched = clock;
+        Ok(Step {
+            outputs,
+            over: false,
+        })
+    }
+
+    /// An End whose dialogue portion is as it should be: it is told with its components, and then the
+    /// dialogue is over. All room is found first.
+    fn end_normal<'m>(
+        &mut self,
+        context: Option<&'m [u8]>,
+        info: &'m [u8],
+        components: &'m [u8],
+        clock: u64,
+    ) -> Result<Step<'m, A>, OutOfMemory>
+        requires { clock ≤ moment_limit }
+        ensures ok { IfOk result (λ s. stepped s self.new ≡ outcome (ended_by self.old (normal (option_copied context.entry) info.now) (walked_in clock self.old components.now))) }
+        ensures err { OnErr result (self.new ≡ self.old) }
+        ensures kept { self.new.standing.identifier ≡ self.old.standing.identifier }
+        ensures place { (portion : Option Slice) → HeldIn 0x61 context.entry info.entry portion → IfOk result (λ s. AllInPlace portion components.entry s.outputs.items) }
+    {
+        let items = count_items(components);
+        let count = items
+            .saturating_add(self.invocations.open_count())
+            .saturating_add(1);
+        let mut outputs = Vec::with_capacity(*self.queue.octets.allocator(), count)?;
+        outputs.push_reserved(Output::End {
+            dialogue: self.identifier,
+            context,
+            info,
+        });
+        walk_ending(
+            self.identifier,
+            clock,
+            components,
+            &mut self.invocations,
+            &mut outputs,
+        );
+        tell_ended(self.identifier, &mut self.invocations, &mut outputs);
+        Ok(Step {
+            outputs,
+            over: true,
+        })
+    }
+
+    /// A Continue (Q.774, Dialogue continuation).
+    fn receive_continue<'m>(
+        &mut self,
+        from: &Address,
+        origin: &TransId,
+        dialogue: Option<&'m [u8]>,
+        components: &'m [u8],
+        clock: u64,
+    ) -> Result<Step<'m, A>, OutOfMemory>
+        requires { clock ≤ moment_limit }
+        ensures ok { IfOk result (λ s. stepped s self.new ≡ outcome (continued_by (at_clock clock) self.old from.now origin.now (portion_verdict self.old.standing.state self.old.standing.context (option_copied dialogue.entry)) (walked_in clock self.old components.now))) }
+        ensures err { OnErr result (self.new ≡ self.old) }
+        ensures kept { self.new.standing.identifier ≡ self.old.standing.identifier }
+        ensures place { IfOk result (λ s. AllInPlace dialogue.entry components.entry s.outputs.items) }
+    {
+        match judge_portion(&self.phase, &self.context, dialogue) {
+            PortionVerdict::Normal { context, info } => {
+                self.continue_normal(from, origin, context, info, components, clock)
+            }
+            PortionVerdict::Abnormal => self.abort_abnormal(from, origin),
+        }
+    }
+
+    /// An End (Q.774, Dialogue end).
+    fn receive_end<'m>(
+        &mut self,
+        dialogue: Option<&'m [u8]>,
+        components: &'m [u8],
+        clock: u64,
+    ) -> Result<Step<'m, A>, OutOfMemory>
+        requires { clock ≤ moment_limit }
+        ensures ok { IfOk result (λ s. stepped s self.new ≡ outcome (ended_by self.old (portion_verdict self.old.standing.state self.old.standing.context (option_copied dialogue.entry)) (walked_in clock self.old components.now))) }
+        ensures err { OnErr result (self.new ≡ self.old) }
+        ensures kept { self.new.standing.identifier ≡ self.old.standing.identifier }
+        ensures place { IfOk result (λ s. AllInPlace dialogue.entry components.entry s.outputs.items) }
+    {
+        match judge_portion(&self.phase, &self.context, dialogue) {
+            PortionVerdict::Normal { context, info } => {
+                self.end_normal(context, info, components, clock)
+            }
+            PortionVerdict::Abnormal => self.abort_provider(Why::Abnormal),
+        }
+    }
+
+    /// `take_frame`, message by message.
+    fn receive_message<'m>(
+        &mut self,
+        from: &Address,
+        frame: &Frame<'m>,
+        clock: u64,
+    ) -> Result<Step<'m, A>, OutOfMemory>
+        requires { clock ≤ moment_limit }
+        ensures ok { IfOk result (λ s. stepped s self.new ≡ outcome (framed (at_clock clock) self.old from.now (message frame.now))) }
+        ensures err { OnErr result (self.new ≡ self.old) }
+        ensures kept { self.new.standing.identifier ≡ self.old.standing.identifier }
+        ensures place { (other : Slice) → IfOk result (λ s. AllInPlace (dialogue_slice frame.now) (unwrap_or (components_slice frame.now) other) s.outputs.items) }
+    {
+        match frame {
+            Frame::Continue {
+                otid,
+                dialogue,
+                components,
+                ..
+            } => self.receive_continue(from, otid, *dialogue, components, clock),
+            Frame::End {
+                dialogue,
+                components,
+                ..
+            } => self.receive_end(*dialogue, components, clock),
+            Frame::Abort { reason, .. } => self.receive_abort(reason),
+            Frame::Uni { .. } | Frame::Begin { .. } => Ok(Step {
+                outputs: Vec::new(*self.queue.octets.allocator()),
+                over: false,
+            }),
+        }
+    }
+
+    /// A Continue, an End or an Abort from this address to the dialogue while it is live, in Sent or in
+    /// Active, at this moment, at most 2^62: what is told, and what is sent. The first Continue whose
+    /// dialogue portion is as it should be has its sender kept for good. A Unidirectional and a Begin are
+    /// never to a dialogue, and do nothing (Q.774, Transaction sublayer procedures).
+    #[tactic(auto, unfolding(tcap_model::specs::Table::TableMove::table_move))]
+    pub fn take_frame<'m>(
+        &mut self,
+        from: &Address,
+        frame: &Frame<'m>,
+        clock: u64,
+    ) -> Result<Step<'m, A>, OutOfMemory>
+        requires { clock ≤ moment_limit }
+        // What is told, and the dialogue unless it is over.
+        ensures ok { IfOk result (λ s. stepped s self.new ≡ outcome (table_move (at_clock clock) self.old (DialogueEvent.frame from.now (message frame.now)))) }
+        ensures err { OnErr result (self.new ≡ self.old) }
+        // The identifier stays, also of one that is over.
+        ensures kept { self.new.standing.identifier ≡ self.old.standing.identifier }
+        // The slices that are told are the parts of the message, and no equal octets elsewhere.
+        ensures place { (other : Slice) → IfOk result (λ s. AllInPlace (dialogue_slice frame.now) (unwrap_or (components_slice frame.now) other) s.outputs.items) }
+    {
+        self.receive_message(from, frame, clock)
+    }
+
+    /// A faulty message names the dialogue: TC-P-ABORT with this P-Abort cause, 0 to 127, and the
+    /// dialogue is over (Q.774, Abort by the provider).
+    #[tactic(auto, unfolding(tcap_model::specs::Table::TableMove::table_move))]
+    pub fn take_fault<'m>(&mut self, cause: u8) -> Result<Step<'m, A>, OutOfMemory>
+        // What is told; the dialogue is over.
+        ensures ok { (around : Setting) → IfOk result (λ s. stepped s self.new ≡ outcome (table_move around self.old (DialogueEvent.fault cause))) }
+        ensures err { OnErr result (self.new ≡ self.old) }
+        // The identifier stays, also of one that is over.
+        ensures kept { self.new.standing.identifier ≡ self.old.standing.identifier }
+        // There is room for one output more.
+        ensures room { IfOk result (λ s. vec_len s.outputs < vec_capacity s.outputs) }
+    {
+        self.abort_provider(Why::Cause(cause))
+    }
+}

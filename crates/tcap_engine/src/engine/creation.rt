@@ -1,0 +1,116 @@
+//! Dialogues that are created.
+
+ghost use Rattle.std.specs.Prelude.{◌≡◌, ◌<◌, ◌+◌, None, OnErr, OnOk, IfOk, IfSome};
+ghost use Rattle.std.specs.Option.{option_map};
+ghost use Rattle.ber_core.specs.ObjectIdentifier.{IsObjectIdentifier};
+ghost use Rattle.tcap_reception.specs.GivenViews.{context_given, info_given};
+ghost use Rattle.tcap_primitives.specs.FaultViews.{fault_view};
+ghost use Rattle.tcap_engine.specs.Answering.{EngineAnswers, Moves, birth_answer, outputs_answer};
+ghost use Rattle.tcap_engine.specs.HistoryForm.{Stands};
+ghost use Rattle.tcap_engine.specs.Table.{IsWithin, with_born};
+ghost use Rattle.tcap_model.specs.Table.EngineMove.{engine_move, begun_in, birth_fault_in, setting_in};
+ghost use Rattle.tcap_model.specs.Table.TableMove.{born};
+ghost use Rattle.tcap_model.specs.Words.Event.{Event};
+ghost use Rattle.tcap_model.specs.Words.Identifiers.{last_dialogue};
+
+use super::Engine;
+use ber_core::OutOfMemory;
+use std::alloc::Allocator;
+use tcap_dialogue::{Address, Dialogue, Fault, Output};
+use tcap_pdu::TransId;
+use tcap_reception::AarqParts;
+
+impl<A: Allocator + Copy> Engine<A> {
+    /// A new dialogue, in which nothing has happened: its identifier. Faults: `DialoguesFull`,
+    /// `DialogueIdsSpent`, `OutOfMemory`.
+    #[tactic(auto, using(crate::proofs::StandingLemmas::stands_after))]
+    pub fn new_dialogue(&mut self) -> Result<u32, Fault>
+        ensures moves { EngineAnswers birth_answer result (engine_move self.old Event.new_dialogue) self.old self.new }
+        ensures err { OnErr result (self.new ≡ self.old) }
+        // Whatever legal history the engine stood at: the reply, and the history that it stands at then.
+        ensures stands { Stands birth_answer result Event.new_dialogue self.old self.new }
+    {
+        self.create()
+    }
+
+    /// `new_dialogue`, by the engine's move.
+    #[tactic(auto, using(crate::proofs::BirthLemmas::born_by), unfolding(tcap_model::specs::Table::EngineMove::engine_move))]
+    fn create(&mut self) -> Result<u32, Fault>
+        ensures moves { EngineAnswers birth_answer result (engine_move self.old Event.new_dialogue) self.old self.new }
+        ensures err { OnErr result (self.new ≡ self.old) }
+    {
+        if let Some(fault) = self.birth_fault() {
+            return Err(fault);
+        }
+        let identifier = self.next_dialogue;
+        let alloc = self.table.allocator();
+        let limits = self.limits;
+        self.keep(Dialogue::fresh(alloc, identifier, limits.reject_ms, limits.idle_ms))?;
+        Ok(identifier)
+    }
+
+    /// A Begin creates a dialogue: what is told (Q.774, Dialogue begin).
+    #[tactic(auto, using(crate::proofs::BeginLemmas::kept_born))]
+    pub(super) fn accept_begin<'m>(
+        &mut self,
+        from: &Address,
+        origin: &TransId,
+        request: AarqParts<'m>,
+        components: &'m [u8],
+    ) -> Result<Vec<Output<'m, A>, A>, OutOfMemory>
+        requires free { birth_fault_in self.old ≡ None }
+        requires named { IfSome request (λ r. IsObjectIdentifier r.0.now) }
+        ensures ok { IfOk result (λ os. Moves (begun_in self.old (born (setting_in self.old) self.old.next_dialogue self.old.reject_ms self.old.idle_ms from.now origin.now (context_given request.entry) (info_given request.entry) components.now)) (outputs_answer os) self.new) }
+        ensures err { OnErr result (self.new ≡ self.old) }
+    {
+        let (dialogue, outputs) = Dialogue::accept(
+            self.table.allocator(),
+            self.next_dialogue,
+            self.limits.reject_ms,
+            self.limits.idle_ms,
+            from,
+            origin,
+            request,
+            components,
+            self.clock,
+        )?;
+        self.keep(dialogue)?;
+        Ok(outputs)
+    }
+
+    /// Takes in a dialogue that is created under the next identifier, which is drawn then.
+    fn keep(&mut self, dialogue: Dialogue<A>) -> Result<(), OutOfMemory>
+        requires free { birth_fault_in self.old ≡ None }
+        requires next { dialogue.standing.identifier ≡ self.old.next_dialogue }
+        requires within { IsWithin self.old.reject_ms self.old.next_number dialogue }
+        ensures ok { OnOk result (self.new ≡ with_born self.old dialogue) }
+        ensures err { OnErr result (self.new ≡ self.old) }
+    {
+        let identifier = self.next_dialogue;
+        let following = next_identifier(identifier);
+        self.table.insert(identifier, dialogue)?;
+        self.next_dialogue = following;
+        Ok(())
+    }
+
+    /// Why no dialogue can be created, the first that holds.
+    pub(crate) fn birth_fault(&self) -> Option<Fault>
+        ensures { option_map fault_view result ≡ birth_fault_in self.now }
+    {
+        if self.limits.max_dialogues <= self.table.len() {
+            Some(Fault::DialoguesFull)
+        } else if self.next_dialogue == u32::MAX {
+            Some(Fault::DialogueIdsSpent)
+        } else {
+            None
+        }
+    }
+}
+
+/// The identifier that is drawn after this one: no identifier is drawn twice.
+fn next_identifier(identifier: u32) -> u32
+    requires { identifier < last_dialogue }
+    ensures { result ≡ identifier + 1 }
+{
+    identifier + 1
+}

@@ -1,0 +1,91 @@
+//! A new engine, and what is seen of one.
+
+ghost use Rattle.std.specs.Prelude.{◌≡◌, ℕ, [], true, false, option_copied};
+ghost use Rattle.tcap_engine.specs.Limits.{AreLimits, empty_history};
+ghost use Rattle.tcap_engine.specs.StateOf.{state_in, state_in_life};
+ghost use Rattle.tcap_engine.specs.NextTimer.{IsAccepted, IsChanged, IsStill, next_timer_in};
+ghost use Rattle.tcap_model.specs.Histories.Clock.{clock};
+ghost use Rattle.tcap_model.specs.Histories.History.{History};
+ghost use Rattle.tcap_model.specs.Histories.Life.{life};
+ghost use Rattle.tcap_model.specs.Table.EngineMove.{dialogue_in};
+ghost use Rattle.tcap_model.specs.Table.World.{StandsAt, first_world};
+ghost use Rattle.timed_table.specs.Row.{is_due};
+
+use super::Engine;
+use crate::dialogues::Dialogues;
+use crate::limits::Limits;
+use std::alloc::Allocator;
+use tcap_dialogue::{Dialogue, State};
+use tcap_invocation::MAX_MOMENT;
+use tcap_primitives::ranges;
+
+impl<A: Allocator + Copy> Engine<A> {
+    /// An engine with clock 0 and no dialogues, whose first dialogue and first invocation are 1.
+    pub fn new(alloc: A, limits: Limits) -> Engine<A>
+        requires { AreLimits limits }
+        ensures value { result ≡ first_world (record { max_dialogues = limits.max_dialogues; reject_ms = limits.reject_ms; idle_ms = limits.idle_ms; next_dialogue = 1; next_number = 1 }) }
+        // Nothing has happened.
+        ensures stands { StandsAt (empty_history limits 1 1) result }
+    {
+        Engine::resume(alloc, limits, 1, 1)
+    }
+
+    /// An engine with clock 0 and no dialogues that goes on with these counters: the identifier of its
+    /// first dialogue and the number of its first invocation.
+    pub fn resume(alloc: A, limits: Limits, next_dialogue: u32, next_number: u64) -> Engine<A>
+        requires { AreLimits limits }
+        ensures value { result ≡ first_world (record { max_dialogues = limits.max_dialogues; reject_ms = limits.reject_ms; idle_ms = limits.idle_ms; next_dialogue = next_dialogue; next_number = next_number }) }
+        ensures stands { StandsAt (empty_history limits next_dialogue next_number) result }
+    {
+        ranges::short(next_dialogue);
+        ranges::long(next_number);
+        Engine {
+            limits,
+            next_dialogue,
+            next_number,
+            clock: 0,
+            table: Dialogues::new(alloc),
+        }
+    }
+
+    /// The clock: the last moment that was accepted, in milliseconds, 0 to 2^62.
+    pub fn now(&self) -> u64
+        ensures value { result ≡ self.now.clock }
+        ensures stands { (h : History) → StandsAt h self.now → result ≡ clock h.pairs }
+    {
+        self.clock
+    }
+
+    /// The state of the dialogue with this identifier, `None` where none stands (Q.774, Transaction state
+    /// machine).
+    pub fn state_of(&self, dialogue: u32) -> Option<State>
+        ensures value { result ≡ state_in self.now dialogue }
+        // That of its life: none before the birth, and none once it is over.
+        ensures stands { (h : History) → StandsAt h self.now → result ≡ state_in_life (life dialogue h.pairs) }
+    {
+        self.dialogue_at(dialogue).map(Dialogue::state)
+    }
+
+    /// The least moment, in milliseconds, at which `advance` tells something, frees an identifier or ends a
+    /// dialogue; `None` where none is. A caller may sleep until then. It takes no memory (our own).
+    pub fn next_timer(&self) -> Option<u64>
+        ensures value { result ≡ next_timer_in self.now }
+        // A moment below it does nothing but set the clock; one from it on changes a dialogue.
+        ensures before { (now : ℕ) → IsAccepted self.now now → is_due now result ≡ false → IsStill self.now now }
+        ensures reached { (now : ℕ) → IsAccepted self.now now → is_due now result ≡ true → IsChanged self.now now }
+    {
+        let first = self.table.first_timer()?;
+        if first.0 <= MAX_MOMENT {
+            Some(first.0)
+        } else {
+            None
+        }
+    }
+
+    /// The dialogue with this identifier, if it stands.
+    pub(super) fn dialogue_at(&self, dialogue: u32) -> Option<&Dialogue<A>>
+        ensures { option_copied result ≡ dialogue_in dialogue self.now.dialogues }
+    {
+        self.table.get(dialogue)
+    }
+}
