@@ -10,7 +10,7 @@ use Rattle.tcap_model.specs.Histories.Life.{Life, life, touched, live_in}
 use Rattle.tcap_model.specs.Histories.Pair.{Past}
 use Rattle.tcap_model.specs.Replies.Due.{standing_of}
 use Rattle.tcap_model.specs.Replies.Legal.{AreReplies}
-use Rattle.tcap_model.specs.Replies.Reply.{is_idle_by, idle_dialogues, table_idle_key as key_said, table_idle_told as told_said}
+use Rattle.tcap_model.specs.Replies.Reply.{is_idle_by, idle_dialogues, idle_key as key_said, idle_told as told_said}
 use Rattle.tcap_model.specs.Table.Dialogue.{Dialogue, is_idle_at}
 use Rattle.tcap_model.specs.Table.DueLapses.{table_idle_key, table_idle_told, all_idle_told}
 use Rattle.tcap_model.specs.Table.World.{dialogue_at, dialogue_by, rows_of}
