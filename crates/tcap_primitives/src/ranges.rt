@@ -89,6 +89,15 @@ fn problem(given: Problem)
     let _ = given.code();
 }
 
+/// The context and the user information of a dialogue portion are octets.
+fn portion(context: Option<&[u8]>, info: &[u8])
+    ensures context { IsTrue (are_octets_if_any (option_copied context.entry)) }
+    ensures info { IsTrue (are_octets info.now) }
+{
+    octets_if_any(context);
+    octets(info);
+}
+
 /// The numbers of a request are those that its types hold.
 pub fn request(asked: &Request<'_>)
     ensures { IsTrue (is_request (request_view asked.now)) }
@@ -128,12 +137,10 @@ pub fn request(asked: &Request<'_>)
         Request::Cancel { id } => identifier(*id),
         Request::Uni { to, context, info } | Request::Begin { to, context, info } => {
             address(to);
-            octets_if_any(*context);
-            octets(info);
+            portion(*context, info);
         }
         Request::Continue { context, info } | Request::End { context, info, .. } => {
-            octets_if_any(*context);
-            octets(info);
+            portion(*context, info);
         }
         Request::Abort { info, .. } => octets(info),
     }

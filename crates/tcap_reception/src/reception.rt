@@ -141,47 +141,14 @@ pub fn hear_message<'m>(frame: Frame<'m>, named: Option<u32>, is_full: bool) -> 
             dialogue,
             components,
         } => hear_uni(dialogue, components),
+        Frame::Begin { otid, .. } if is_full => aborted_by(otid, Cause::ResourceLimitation),
         Frame::Begin {
             otid,
             dialogue,
             components,
-        } => {
-            if is_full {
-                aborted_by(otid, Cause::ResourceLimitation)
-            } else {
-                hear_begin(otid, dialogue, components)
-            }
-        }
-        Frame::Continue {
-            otid,
-            dtid,
-            dialogue,
-            components,
-        } => match named {
-            Some(named) => Reception::Taken {
-                dialogue: named,
-                frame: Frame::Continue {
-                    otid,
-                    dtid,
-                    dialogue,
-                    components,
-                },
-            },
-            None => aborted_by(otid, Cause::UnrecognizedId),
-        },
-        Frame::End {
-            dtid,
-            dialogue,
-            components,
-        } => hear_last(
-            Frame::End {
-                dtid,
-                dialogue,
-                components,
-            },
-            named,
-        ),
-        Frame::Abort { dtid, reason } => hear_last(Frame::Abort { dtid, reason }, named),
+        } => hear_begin(otid, dialogue, components),
+        Frame::Continue { otid, .. } if named.is_none() => aborted_by(otid, Cause::UnrecognizedId),
+        frame => hear_last(frame, named),
     }
 }
 
