@@ -10,15 +10,18 @@ ghost use Rattle.ber_core.specs.Examples.{begin_octets, indefinite_octets, cuts_
 /// A fault behind a message stands as soon as its octet has come, and the message is told all the same.
 pub fn fault_after_a_message()
     ensures begun { cut_of (0x62 ∷ 0x06 ∷ []) ≡ cut_into [] (0x62 ∷ 0x06 ∷ []) None }
-    ensures whole { cut_of (begin_octets ++ 0x00 ∷ []) ≡ cut_into (begin_octets ∷ []) (0x00 ∷ []) (Some (Ber BadTag)) }
-    ensures longer { cut_of (begin_octets ++ 0x00 ∷ begin_octets) ≡ cut_into (begin_octets ∷ []) (0x00 ∷ begin_octets) (Some (Ber BadTag)) }
+    ensures whole { cut_of (begin_octets ++ 0x00 ∷ [])
+        ≡ cut_into (begin_octets ∷ []) (0x00 ∷ []) (Some (Ber BadTag)) }
+    ensures longer { cut_of (begin_octets ++ 0x00 ∷ begin_octets)
+        ≡ cut_into (begin_octets ∷ []) (0x00 ∷ begin_octets) (Some (Ber BadTag)) }
 {}
 
 /// A message of indefinite form throughout is whole with the last of its 31 octets, and not before.
 pub fn one_octet_at_a_time()
     ensures before { cuts_of_fronts 31 indefinite_octets ≡ fronts_alone 31 indefinite_octets }
     ensures whole { cut_of indefinite_octets ≡ cut_into (indefinite_octets ∷ []) [] None }
-    ensures two { cut_of (indefinite_octets ++ begin_octets) ≡ cut_into (indefinite_octets ∷ begin_octets ∷ []) [] None }
+    ensures two { cut_of (indefinite_octets ++ begin_octets)
+        ≡ cut_into (indefinite_octets ∷ begin_octets ∷ []) [] None }
 {}
 
 /// At 65,535 octets an element may still be held, and be a message; with one octet more it is too long.

@@ -82,7 +82,8 @@ fn append_int<A: Allocator + Copy>(
     requires { IsTag (tag ∷ []) }
     ensures ok { OnOk result (out.new.items ≡ out.old.items ++ written (tag ∷ []) (integer_octets value)) }
     ensures err { OnErr result (out.new.items ≡ out.old.items) }
-    ensures full { OnErr result (vec_capacity out.old < vec_len out.old + length (written (tag ∷ []) (integer_octets value))) }
+    ensures full { OnErr result (vec_capacity out.old < vec_len out.old + length
+        (written (tag ∷ []) (integer_octets value))) }
 {
     let word = value.cast_unsigned();
     let a = (word / 0x100_0000) as u8;
@@ -111,7 +112,8 @@ pub fn write_int<A: Allocator + Copy>(
     requires { IsTag (tag ∷ []) }
     ensures ok { OnOk result (out.new.items ≡ out.old.items ++ written (tag ∷ []) (integer_octets value)) }
     ensures err { OnErr result (out.new.items ≡ out.old.items) }
-    ensures full { OnErr result (vec_capacity out.old < vec_len out.old + length (written (tag ∷ []) (integer_octets value))) }
+    ensures full { OnErr result (vec_capacity out.old < vec_len out.old + length
+        (written (tag ∷ []) (integer_octets value))) }
     // What is written is the number.
     ensures spelled { IsInteger value (integer_octets value) }
 {

@@ -58,7 +58,8 @@ pub fn take_content<'a>(bytes: &'a [u8], tag: u8) -> Option<(&'a [u8], &'a [u8])
     ensures value { option_map (λ r. (r.0.now, r.1.now)) result ≡ content_at tag bytes.now }
     ensures place { IfSome result (λ r. IsAt (head_length bytes.now) r.0 bytes.entry × AtEnd r.1 bytes.entry) }
     ensures inside { IfSome result (λ r. IsInside tag r.0 bytes.entry) }
-    ensures goes_on { (other : ℕ) → (tag == other) ≡ false → IfSome result (λ r. GoesOn other r.1 bytes.entry) }
+    ensures goes_on { (other : ℕ) → (tag == other) ≡ false
+        → IfSome result (λ r. GoesOn other r.1 bytes.entry) }
 {
     match take_tagged(bytes, tag) {
         (Some(content), rest) => Some((content, rest)),
@@ -100,7 +101,8 @@ pub fn take_only<'a>(bytes: &'a [u8], tag: u8) -> Option<&'a [u8]>
 pub fn read_alone<'a>(bytes: &'a [u8]) -> Option<Element<'a>>
     ensures value { option_map parts result ≡ alone_at bytes.now }
     ensures place { IfSome result (λ e. InPlace e bytes.entry) }
-    ensures inside { (tag : ℕ) → IfSome result (λ e. e.tag.now ≡ tag ∷ [] → IsInside tag e.content bytes.entry) }
+    ensures inside { (tag : ℕ) → IfSome result (λ e. e.tag.now ≡ tag ∷ []
+        → IsInside tag e.content bytes.entry) }
 {
     match read_element(bytes) {
         Ok((element, [])) => Some(element),

@@ -20,7 +20,8 @@ fn append_all<A: Allocator + Copy>(
     requires third { length third.now ≤ 65540 }
     ensures ok { OnOk result (out.new.items ≡ out.old.items ++ (first.now ++ second.now ++ third.now)) }
     ensures err { OnErr result (out.new.items ≡ out.old.items) }
-    ensures full { OnErr result (vec_capacity out.old < vec_len out.old + length (first.now ++ second.now ++ third.now)) }
+    ensures full { OnErr result (vec_capacity out.old < vec_len out.old + length
+        (first.now ++ second.now ++ third.now)) }
 {
     out.reserve(first.len() + second.len() + third.len())?;
     out.extend_from_slice(first)?;
@@ -41,7 +42,8 @@ fn append_element<A: Allocator + Copy>(
     requires content { length content.now ≤ length_limit }
     ensures ok { OnOk result (out.new.items ≡ out.old.items ++ (written_head tag.now len ++ content.now)) }
     ensures err { OnErr result (out.new.items ≡ out.old.items) }
-    ensures full { OnErr result (vec_capacity out.old < vec_len out.old + length (written_head tag.now len ++ content.now)) }
+    ensures full { OnErr result (vec_capacity out.old < vec_len out.old + length
+        (written_head tag.now len ++ content.now)) }
 {
     let high = (len / 256) as u8;
     let low = (len % 256) as u8;

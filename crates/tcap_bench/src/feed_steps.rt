@@ -23,7 +23,8 @@ fn add_messages(total: u64, messages: &[Vec<u8>]) -> u64
 /// Hands a piece to a feed, and adds the lengths of the messages that it completes; nothing where memory is
 /// wanting.
 fn add_piece(feed: &mut Feed, sum: u64, piece: &[u8]) -> Option<u64>
-    ensures { (stream : List ℕ) → StandsBehind stream feed.old → IfSome result (λ added. IsAdded stream piece.now feed.new sum added) }
+    ensures { (stream : List ℕ) → StandsBehind stream feed.old
+        → IfSome result (λ added. IsAdded stream piece.now feed.new sum added) }
 {
     match feed.push(piece) {
         Ok(messages) => Some(add_messages(sum, messages.as_slice())),

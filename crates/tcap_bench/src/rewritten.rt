@@ -26,7 +26,8 @@ fn rewrite_dialogue(alloc: Global, content: &[u8]) -> Option<Vec<u8>>
 
 /// The canonical form of a dialogue portion, where there is one.
 fn rewrite_portion(alloc: Global, dialogue: Option<&[u8]>) -> Option<Option<Vec<u8>>>
-    ensures { IfSome result (λ portion. option_map (λ octets. octets.items) portion ≡ option_map rewritten_dialogue (option_copied dialogue.entry)) }
+    ensures { IfSome result (λ portion. option_map (λ octets. octets.items) portion
+        ≡ option_map rewritten_dialogue (option_copied dialogue.entry)) }
 {
     match dialogue {
         Some(content) => Some(Some(rewrite_dialogue(alloc, content)?)),
@@ -70,7 +71,8 @@ fn spell(
     components: &[u8],
 ) -> Option<Vec<u8>>
     requires { HasCause (message frame) }
-    ensures { IfSome result (λ octets. octets.items ≡ written_frame (with_portions (option_copied dialogue.entry) components.now (message frame.entry))) }
+    ensures { IfSome result (λ octets. octets.items
+        ≡ written_frame (with_portions (option_copied dialogue.entry) components.now (message frame.entry))) }
 {
     write_frame(alloc, &frame.with_portions(dialogue, components)).ok()
 }

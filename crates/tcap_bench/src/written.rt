@@ -87,7 +87,8 @@ fn spell_begin(
     dialogue: Option<&[u8]>,
     components: &[u8],
 ) -> Option<Vec<u8>>
-    ensures { IfSome result (λ octets. octets.items ≡ written_frame (begin (to_be_bytes w32 otid) (option_copied dialogue.entry) components.now)) }
+    ensures { IfSome result (λ octets. octets.items
+        ≡ written_frame (begin (to_be_bytes w32 otid) (option_copied dialogue.entry) components.now)) }
 {
     let frame = Frame::Begin {
         otid: TransId::of(otid),

@@ -34,7 +34,8 @@ pub fn hear_at<'m, A: Allocator + Copy>(
     bytes: &'m [u8],
     now: u64,
 ) -> (Told<'m, A, OutOfMemory>, Told<'m, A, Fault>)
-    ensures { (h : History) → StandsAt h engine.old → IfOk result.0 (λ _. IfOk result.1 (λ lapsed. StandsOn (with_pair h (Event.received from.now bytes.now)) (Event.moment now) (outputs_answer lapsed) engine.new)) }
+    ensures { (h : History) → StandsAt h engine.old → IfOk result.0 (λ _. IfOk result.1 (λ lapsed. StandsOn
+        (with_pair h (Event.received from.now bytes.now)) (Event.moment now) (outputs_answer lapsed) engine.new)) }
 {
     let heard = engine.receive(from, bytes);
     let lapsed = engine.advance(now);

@@ -92,7 +92,8 @@ fn told_result<A: Allocator + Copy>(answers: &[Answer<'_, A>]) -> Option<(u32, u
 /// What the user of the first engine asks for: a new dialogue, which is 1, operation 10, and a Begin to an
 /// address.
 fn asked_events(to: &Address) -> [Event<'_>; 3]
-    ensures { (places : Places) (engine : Which) (trace : Trace) → AreCarried places engine (events_view result) trace }
+    ensures { (places : Places) (engine : Which) (trace : Trace)
+        → AreCarried places engine (events_view result) trace }
 {
     let invoke = Request::Invoke {
         id: 1,
@@ -122,7 +123,8 @@ fn asked_events(to: &Address) -> [Event<'_>; 3]
 
 /// What the user of the other asks for: the result, and a Continue.
 fn answering_events() -> [Event<'static>; 2]
-    ensures { (places : Places) (engine : Which) (trace : Trace) → AreCarried places engine (events_view result) trace }
+    ensures { (places : Places) (engine : Which) (trace : Trace)
+        → AreCarried places engine (events_view result) trace }
 {
     let result = Request::ResultLast { id: 1, body: None };
     let go_on = Request::Continue {

@@ -19,7 +19,8 @@ const REFUSED: u8 = 2;
 /// The bytes that HEX spells. Where they can't be had its digits are judged, so that bad HEX is told as such
 /// with little memory too.
 fn bytes_of<A: Allocator>(heap: A, hex: &str) -> Result<Vec<u8, A>, Refusal>
-    ensures { MatchResult result (λ bytes. spelled_by hex.now ≡ Some bytes.items) (λ refusal. IsUnspelled hex.now refusal) }
+    ensures { MatchResult result (λ bytes. spelled_by hex.now
+        ≡ Some bytes.items) (λ refusal. IsUnspelled hex.now refusal) }
 {
     decode_hex(heap, hex.as_bytes())?.ok_or(Refusal::BadHex)
 }
@@ -83,7 +84,8 @@ fn respond<A: Allocator + Copy, R: Read, W: Write>(
     reader: &mut R,
     out: &mut W,
 ) -> Result<bool, Refusal>
-    ensures gave { Gave (map (λ w. w.now) words.now) (R.remaining reader.old) (R.remaining reader.new) (W.contents out.old) (W.contents out.new) result }
+    ensures gave { Gave (map (λ w. w.now) words.now) (R.remaining reader.old)
+        (R.remaining reader.new) (W.contents out.old) (W.contents out.new) result }
     ensures reader { ¬ (AskToRead (map (λ w. w.now) words.now)) → reader.new ≡ reader.old }
 {
     let request = read_words(alloc, words)?;

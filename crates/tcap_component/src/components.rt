@@ -40,9 +40,11 @@ impl<'a> Components<'a> {
     #[tactic(auto, using(crate::proofs::ListGrammar::first_fault_again, crate::proofs::ListGrammar::first_fault_is, crate::proofs::SpelledWritable::all_writable))]
     pub fn new(content: &'a [u8]) -> Components<'a>
         // The components before the first fault, and then that fault.
-        ensures first_fault { (cs : List ComponentParts) (f : Option FaultParts) → FirstFault cs f content.now → components_left result ≡ items cs f }
+        ensures first_fault { (cs : List ComponentParts) (f : Option FaultParts)
+            → FirstFault cs f content.now → components_left result ≡ items cs f }
         // There are such components and such a fault, or none.
-        ensures is { (cs : List ComponentParts) × (f : Option FaultParts) × FirstFault cs f content.now × (components_left result ≡ items cs f) }
+        ensures is { (cs : List ComponentParts) × (f : Option FaultParts)
+            × FirstFault cs f content.now × (components_left result ≡ items cs f) }
         // All of these bytes are still to be read.
         ensures place { bytes_left result ≡ content.entry }
         // What is given can be written, but for its length.

@@ -55,11 +55,13 @@ pub(crate) fn walk<'m, A: Allocator + Copy>(
 )
     requires clock { clock ≤ moment_limit }
     requires outputs { vec_len outputs.old + length (components_of components.now) ≤ vec_capacity outputs.old }
-    requires octets { vec_len queue.old.octets + 8 * length (components_of components.now) ≤ vec_capacity queue.old.octets }
+    requires octets { vec_len queue.old.octets + 8 * length (components_of components.now)
+        ≤ vec_capacity queue.old.octets }
     requires parts { vec_len queue.old.parts + length (components_of components.now) ≤ vec_capacity queue.old.parts }
     ensures done { record { told = all_shown outputs.new.items; list = invocations.new; queue = queue_view queue.new }
         ≡ done_from dialogue clock (record { told = all_shown outputs.old.items; list = invocations.old; queue = queue_view queue.old }) (components_of components.now) }
-    ensures place { (portion : Option Slice) → AllInPlace portion components.entry outputs.old.items → AllInPlace portion components.entry outputs.new.items }
+    ensures place { (portion : Option Slice) → AllInPlace portion components.entry outputs.old.items
+        → AllInPlace portion components.entry outputs.new.items }
 {
     for item in Components::new(components) {
         let handled = take_item(invocations, dialogue, clock, item);
@@ -84,7 +86,8 @@ pub(crate) fn walk_ending<'m, A: Allocator + Copy>(
     ensures room { vec_capacity outputs.old ≤ vec_capacity outputs.new }
     ensures len { vec_len outputs.new ≤ vec_len outputs.old + length (components_of components.now) }
     ensures left { length (ended_at invocations.new.rows) ≤ length (ended_at invocations.old.rows) }
-    ensures place { (portion : Option Slice) → AllInPlace portion components.entry outputs.old.items → AllInPlace portion components.entry outputs.new.items }
+    ensures place { (portion : Option Slice) → AllInPlace portion components.entry outputs.old.items
+        → AllInPlace portion components.entry outputs.new.items }
 {
     for item in Components::new(components) {
         let handled = take_item(invocations, dialogue, clock, item);
@@ -98,8 +101,10 @@ pub(crate) fn walk_alone<'m, A: Allocator + Copy>(
     outputs: &mut Vec<Output<'m, A>, A>,
 )
     requires outputs { vec_len outputs.old + length (components_of components.now) ≤ vec_capacity outputs.old }
-    ensures told { all_shown outputs.new.items ≡ all_shown outputs.old.items ++ uni_told (components_of components.now) }
-    ensures place { (portion : Option Slice) → AllInPlace portion components.entry outputs.old.items → AllInPlace portion components.entry outputs.new.items }
+    ensures told { all_shown outputs.new.items ≡ all_shown outputs.old.items
+        ++ uni_told (components_of components.now) }
+    ensures place { (portion : Option Slice) → AllInPlace portion components.entry outputs.old.items
+        → AllInPlace portion components.entry outputs.new.items }
 {
     for item in Components::new(components) {
         outputs.push_reserved(take_alone(item));

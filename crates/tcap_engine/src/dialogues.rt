@@ -102,8 +102,10 @@ impl<A: Allocator + Copy> Dialogues<A> {
     /// How much room the answer to a moment needs, as far as a `usize` can tell: none for outputs where
     /// nothing is told.
     pub(crate) fn room_at(&self, now: u64) -> Room
-        ensures enough { length (all_told now (dialogues_of self.now)) + length (all_idle_told now (dialogues_of self.now)) ≤ result.told ⊎ (result.told ≡ 2 ^ 64 - 1) }
-        ensures some { result.told ≢ 0 → all_told now (dialogues_of self.now) ++ all_idle_told now (dialogues_of self.now) ≢ [] }
+        ensures enough { length (all_told now (dialogues_of self.now)) + length
+            (all_idle_told now (dialogues_of self.now)) ≤ result.told ⊎ (result.told ≡ 2 ^ 64 - 1) }
+        ensures some { result.told ≢ 0 → all_told now (dialogues_of self.now)
+            ++ all_idle_told now (dialogues_of self.now) ≢ [] }
         ensures idle { result.idle ≡ min (length (idle_ids now self.now)) (2 ^ 64 - 1) }
     {
         let mut told: usize = 0;
@@ -135,7 +137,8 @@ pub(crate) fn settle<A: Allocator + Copy>(
     timer: Option<u64>,
 )
     ensures rows { rows.new ≡ (if is_over then without identifier rows.old else with_time identifier timer rows.old) }
-    ensures entries { entries_of rows.new ≡ (if is_over then remove_entry (nat_eq identifier) (entries_of rows.old) else entries_of rows.old) }
+    ensures entries { entries_of rows.new
+        ≡ (if is_over then remove_entry (nat_eq identifier) (entries_of rows.old) else entries_of rows.old) }
 {
     if is_over {
         rows.remove(identifier);

@@ -23,13 +23,17 @@ pub fn run<'m, A: Allocator + Copy>(
     // How many events were done: all of them, or not the one to which memory was refused.
     ensures ok { OnOk result (length answers.new.items ≡ length answers.old.items + length events.now) }
     ensures err { OnErr result (length answers.new.items < length answers.old.items + length events.now) }
-    ensures moves { Runs engine.old (done answers.old.items answers.new.items (events_view events.now)) engine.new (answers_view answers.old.items) (answers_view answers.new.items) }
+    ensures moves { Runs engine.old (done answers.old.items answers.new.items (events_view events.now)) engine.new
+        (answers_view answers.old.items) (answers_view answers.new.items) }
     // Whatever legal history the engine stood at: the replies, and the history that it stands at then.
-    ensures stands { (h : History) → StandsAt h engine.old → StandsThrough h (done answers.old.items answers.new.items (events_view events.now)) engine.new (answers_view answers.old.items) (answers_view answers.new.items) }
+    ensures stands { (h : History) → StandsAt h engine.old
+        → StandsThrough h (done answers.old.items answers.new.items (events_view events.now)) engine.new
+        (answers_view answers.old.items) (answers_view answers.new.items) }
     // And of every number the headline holds there, whether all events were done or not: its closing
     // indications are those that its decision asks for, with the outcome's contents, at most one, and
     // exactly one after its deadline or the end of its dialogue.
-    ensures headline { (h : History) → StandsAt h engine.old → Headline (after_events h (done answers.old.items answers.new.items (events_view events.now))) }
+    ensures headline { (h : History) → StandsAt h engine.old
+        → Headline (after_events h (done answers.old.items answers.new.items (events_view events.now))) }
 {
     run_each(engine, events, answers)
 }
@@ -43,9 +47,12 @@ fn run_each<'m, A: Allocator + Copy>(
     // How many events were done: all of them, or not the one to which memory was refused.
     ensures ok { OnOk result (length answers.new.items ≡ length answers.old.items + length events.now) }
     ensures err { OnErr result (length answers.new.items < length answers.old.items + length events.now) }
-    ensures moves { Runs engine.old (done answers.old.items answers.new.items (events_view events.now)) engine.new (answers_view answers.old.items) (answers_view answers.new.items) }
+    ensures moves { Runs engine.old (done answers.old.items answers.new.items (events_view events.now)) engine.new
+        (answers_view answers.old.items) (answers_view answers.new.items) }
     // Whatever legal history the engine stood at: the replies, and the history that it stands at then.
-    ensures stands { (h : History) → StandsAt h engine.old → StandsThrough h (done answers.old.items answers.new.items (events_view events.now)) engine.new (answers_view answers.old.items) (answers_view answers.new.items) }
+    ensures stands { (h : History) → StandsAt h engine.old
+        → StandsThrough h (done answers.old.items answers.new.items (events_view events.now)) engine.new
+        (answers_view answers.old.items) (answers_view answers.new.items) }
 {
     for event in events {
         answer_one(engine, event, answers)?;
@@ -60,8 +67,10 @@ fn answer_one<'m, A: Allocator + Copy>(
     answers: &mut Vec<Answer<'m, A>, A>,
 ) -> Result<(), OutOfMemory>
     ensures ok { OnOk result (length answers.new.items ≡ length answers.old.items + 1) }
-    ensures moves { OnOk result (Runs engine.old (event_view event.now ∷ []) engine.new (answers_view answers.old.items) (answers_view answers.new.items)) }
-    ensures stands { OnOk result ((h : History) → StandsAt h engine.old → StandsThrough h (event_view event.now ∷ []) engine.new (answers_view answers.old.items) (answers_view answers.new.items)) }
+    ensures moves { OnOk result (Runs engine.old (event_view event.now ∷ []) engine.new
+        (answers_view answers.old.items) (answers_view answers.new.items)) }
+    ensures stands { OnOk result ((h : History) → StandsAt h engine.old → StandsThrough h (event_view event.now
+        ∷ []) engine.new (answers_view answers.old.items) (answers_view answers.new.items)) }
     ensures engine { OnErr result (engine.new ≡ engine.old) }
     ensures answers { OnErr result (answers.new.items ≡ answers.old.items) }
 {

@@ -59,7 +59,8 @@ impl<A: Allocator + Copy> Model for Invocations<A> {
 
     ghost view = { λ v. record { reject_ms = v.reject_ms; rows = v.entries.entries } };
 
-    ghost invariant = { λ v. IsSound (record { reject_ms = v.reject_ms; rows = v.entries.entries }) × IsTimed v.entries.entries v.timers };
+    ghost invariant = { λ v. IsSound (record { reject_ms = v.reject_ms; rows = v.entries.entries })
+        × IsTimed v.entries.entries v.timers };
 }
 
 impl<A: Allocator + Copy> Invocations<A> {

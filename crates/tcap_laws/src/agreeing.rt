@@ -89,7 +89,8 @@ pub fn begun_is_born()
         (born (setting_at h) (next_dialogue h) h.start.reject_ms h.start.idle_ms from origin context info
         components).answer
         ≡ reply h (Event.received from bytes) }
-    ensures dialogue { (h : History) (from : Address) (bytes : List ℕ) (origin : List ℕ) (portion : Option (List ℕ))
+    ensures dialogue { (h : History) (from : Address) (bytes : List ℕ)
+        (origin : List ℕ) (portion : Option (List ℕ))
         (context : Option (List ℕ)) (info components : List ℕ) → IsLegal h
         → frame_at bytes ≡ Ok (Message.begin origin portion components) →
         reception (λ dialogue. live_in (life dialogue h.pairs)) (is_some (birth_due h)) bytes

@@ -34,11 +34,13 @@ ghost use Rattle.tcap_model.specs.Invocations.Span.{span};
 /// history (our own).
 pub fn only_tells_life()
     ensures clock { (dialogue : ℕ) (past : Past) → clock (only dialogue past) ≡ clock past }
-    ensures born { (dialogue : ℕ) (past : Past) → was_born dialogue (only dialogue past) ≡ was_born dialogue past }
+    ensures born { (dialogue : ℕ) (past : Past) → was_born dialogue (only dialogue past)
+        ≡ was_born dialogue past }
     ensures life { (dialogue : ℕ) (past : Past) → life dialogue (only dialogue past) ≡ life dialogue past }
     ensures kept { (dialogue : ℕ) (past : Past) →
         kept_address dialogue (only dialogue past) ≡ kept_address dialogue past }
-    ensures unseen { (dialogue : ℕ) (id : ℤ) (pair : Pair) (past : Past) → is_seen_by dialogue pair past ≡ false →
+    ensures unseen { (dialogue : ℕ) (id : ℤ) (pair : Pair) (past : Past)
+        → is_seen_by dialogue pair past ≡ false →
         marks dialogue id pair past ≡ [] }
     ensures seen { (dialogue : ℕ) (id : ℤ) (pair : Pair) (past : Past) →
         marks dialogue id (pair_within dialogue pair.event pair.answer pair.idle_ms) (only dialogue past)
@@ -52,16 +54,20 @@ pub fn only_tells_invocations()
         invocations (only dialogue h.pairs) ≡ filter (λ (i : Invocation). i.dialogue == dialogue) (invocations h.pairs) }
     ensures latest { (h : History) (dialogue : ℕ) (id : ℤ) → IsLegal h
         → latest dialogue id (only dialogue h.pairs) ≡ latest dialogue id h.pairs }
-    ensures found { (h : History) (dialogue n : ℕ) (i : Invocation) → IsLegal h → invocation_of n h.pairs ≡ Some i
+    ensures found { (h : History) (dialogue n : ℕ) (i : Invocation)
+        → IsLegal h → invocation_of n h.pairs ≡ Some i
         → i.dialogue ≡ dialogue →
         invocation_of n (only dialogue h.pairs) ≡ Some i }
-    ensures span { (h : History) (dialogue n : ℕ) (i : Invocation) → IsLegal h → invocation_of n h.pairs ≡ Some i
+    ensures span { (h : History) (dialogue n : ℕ) (i : Invocation)
+        → IsLegal h → invocation_of n h.pairs ≡ Some i
         → i.dialogue ≡ dialogue →
         span i (only dialogue h.pairs) ≡ span i h.pairs }
-    ensures deadline { (h : History) (dialogue n : ℕ) (i : Invocation) → IsLegal h → invocation_of n h.pairs ≡ Some i
+    ensures deadline { (h : History) (dialogue n : ℕ) (i : Invocation)
+        → IsLegal h → invocation_of n h.pairs ≡ Some i
         → i.dialogue ≡ dialogue →
         deadline i (only dialogue h.pairs) ≡ deadline i h.pairs }
-    ensures outcome { (h : History) (dialogue n : ℕ) (i : Invocation) → IsLegal h → invocation_of n h.pairs ≡ Some i
+    ensures outcome { (h : History) (dialogue n : ℕ) (i : Invocation)
+        → IsLegal h → invocation_of n h.pairs ≡ Some i
         → i.dialogue ≡ dialogue →
         outcome n (only dialogue h.pairs) ≡ outcome n h.pairs }
 {}
@@ -69,7 +75,8 @@ pub fn only_tells_invocations()
 /// What a dialogue sees of a legal history decides its invocations as the history does, each at the place
 /// that it sees; so the same identifiers are in use, and the same invocations are pending (our own).
 pub fn only_tells_decisions()
-    ensures decision { (h : History) (dialogue n : ℕ) (i : Invocation) → IsLegal h → invocation_of n h.pairs ≡ Some i
+    ensures decision { (h : History) (dialogue n : ℕ) (i : Invocation)
+        → IsLegal h → invocation_of n h.pairs ≡ Some i
         → i.dialogue ≡ dialogue →
         decision n (only dialogue h.pairs) ≡
         option_map (λ (t : Told). record {

@@ -43,7 +43,8 @@ pub fn number_is_drawn_once()
         number_of (reply h event) ≡ option_map (λ (i : Invocation). i.number) (invoked_of event (reply h event)) }
     ensures next { (h : History) (event : Event) (number : ℕ) → number_of (reply h event) ≡ Some number →
         number ≡ next_number h }
-    ensures drawn { (h : History) → IsLegal h → numbers h.pairs ≡ range_with_len h.start.next_number (invokes h.pairs) }
+    ensures drawn { (h : History) → IsLegal h → numbers h.pairs
+        ≡ range_with_len h.start.next_number (invokes h.pairs) }
     ensures rising { (h : History) → IsLegal h → AllPairs (λ m n. m < n) (numbers h.pairs) }
     ensures of_invocations { (h : History) → IsLegal h
         → numbers h.pairs ≡ map (λ (i : Invocation). i.number) (invocations h.pairs) }
@@ -57,7 +58,8 @@ pub fn number_is_drawn_once()
 /// never passes its last identifier, and those that were created are the ones that live or lived (our
 /// own).
 pub fn dialogue_is_born_once()
-    ensures next { (h : History) (event : Event) (dialogue : ℕ) → born_of event (reply h event) ≡ Some dialogue →
+    ensures next { (h : History) (event : Event) (dialogue : ℕ)
+        → born_of event (reply h event) ≡ Some dialogue →
         dialogue ≡ next_dialogue h }
     ensures drawn { (h : History) → IsLegal h → dialogues h.pairs
         ≡ range_with_len h.start.next_dialogue (births h.pairs) }

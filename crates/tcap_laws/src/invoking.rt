@@ -54,7 +54,8 @@ pub fn decision_stays()
 /// A decision is the outcome of its invocation at the first place where there is one (our own).
 pub fn decision_is_outcome()
     // An invocation has a decision where it has an outcome, and both are the same closing.
-    ensures closing { (n : ℕ) (past : Past) → option_map (λ (t : Told). t.closing) (decision n past) ≡ outcome n past }
+    ensures closing { (n : ℕ) (past : Past) → option_map (λ (t : Told). t.closing) (decision n past)
+        ≡ outcome n past }
     ensures now { (n : ℕ) (pair : Pair) (past : Past) → outcome n past ≡ None
         → decision n (pair ∷ past) ≡ decided_at n (pair ∷ past) }
     ensures found { (n : ℕ) (past : Past) (t : Told) → decision n past ≡ Some t →
@@ -71,7 +72,8 @@ pub fn open_until_deadline()
     ensures within { (n : ℕ) (past : Past) (i : Invocation) (until : ℕ) → invocation_of n past ≡ Some i
         → is_reused i past ≡ false → outcome n past ≡ None →
         deadline i past ≡ Some until → clock past ≤ until }
-    ensures before { (h : History) (n : ℕ) (i : Invocation) (until : ℕ) → IsLegal h → invocation_of n h.pairs ≡ Some i
+    ensures before { (h : History) (n : ℕ) (i : Invocation) (until : ℕ)
+        → IsLegal h → invocation_of n h.pairs ≡ Some i
         → outcome n h.pairs ≡ None →
         deadline i h.pairs ≡ Some until → clock h.pairs < until }
 {}
@@ -112,7 +114,8 @@ pub fn earlier_moment_does_nothing()
 
 /// The latest invocation of an identifier of a dialogue is the one of its number (our own).
 pub fn latest_is_of_its_number()
-    ensures { (h : History) (dialogue : ℕ) (id : ℤ) (i : Invocation) → IsLegal h → latest dialogue id h.pairs ≡ Some i →
+    ensures { (h : History) (dialogue : ℕ) (id : ℤ) (i : Invocation)
+        → IsLegal h → latest dialogue id h.pairs ≡ Some i →
         (i.dialogue ≡ dialogue) × (i.id ≡ id) × (invocation_of i.number h.pairs ≡ Some i) }
 {}
 

@@ -107,7 +107,8 @@ pub fn kept_once()
 /// dialogue always have a meaning: their components up to the first fault where the dialogue portion
 /// is as it should be, and else the dialogue's end (Q.774, Invocation state machine).
 pub fn marks_are_of_the_grammar()
-    ensures components { (id : ℤ) (components : List ComponentParts) (fault : Option FaultParts) (content : List ℕ) →
+    ensures components { (id : ℤ) (components : List ComponentParts)
+        (fault : Option FaultParts) (content : List ℕ) →
         FirstFault components fault content →
         component_marks id (components_of content) ≡ marks_of_components id components }
     ensures named { (dialogue : ℕ) (m : Message) (from : Address) (bytes : List ℕ) → SpellsFrame m bytes
@@ -122,11 +123,13 @@ pub fn marks_are_of_the_grammar()
         ≡ PortionVerdict.normal told info) }
     ensures abnormal { (state : State) (context portion : Option (List ℕ)) → IsAbnormal state context portion →
         portion_verdict state context portion ≡ PortionVerdict.abnormal }
-    ensures made { (dialogue : ℕ) (id : ℤ) (state : State) (context : Option (List ℕ)) (bytes : List ℕ) (pair : Pair)
+    ensures made { (dialogue : ℕ) (id : ℤ) (state : State) (context : Option (List ℕ))
+        (bytes : List ℕ) (pair : Pair)
         (past : Past) →
         Reaches dialogue state context bytes pair past → (made : List Mark) →
         Means state context id bytes made → marks dialogue id pair past ≡ noted_at past made }
-    ensures some { (dialogue : ℕ) (id : ℤ) (state : State) (context : Option (List ℕ)) (bytes : List ℕ) (pair : Pair)
+    ensures some { (dialogue : ℕ) (id : ℤ) (state : State) (context : Option (List ℕ))
+        (bytes : List ℕ) (pair : Pair)
         (past : Past) →
         Reaches dialogue state context bytes pair past → (made : List Mark) × Means state context id bytes made }
 {}

@@ -21,20 +21,24 @@ pub fn one_frame()
 /// Bytes have at most one fault, and where they have one they spell no message (our own).
 pub fn one_frame_fault()
     ensures one { (bytes : List ℕ) (f g : FrameFault) → IsFrameFault bytes f → IsFrameFault bytes g → f ≡ g }
-    ensures no_frame { (m : Message) (bytes : List ℕ) (f : FrameFault) → SpellsFrame m bytes → IsFrameFault bytes f → ⊥ }
+    ensures no_frame { (m : Message) (bytes : List ℕ) (f : FrameFault)
+        → SpellsFrame m bytes → IsFrameFault bytes f → ⊥ }
 {}
 
 /// What is written spells the message, and reading it gives the message back and leaves nothing
 /// (Q.773, Structure of TC messages).
 pub fn written_frame()
-    ensures spelled { (m : Message) → HasIds m → HasCause m → length (written_frame m) ≤ message_limit → SpellsFrame m (written_frame m) }
-    ensures read { (m : Message) → HasIds m → HasCause m → length (written_frame m) ≤ message_limit → frame_at (written_frame m) ≡ Ok m }
+    ensures spelled { (m : Message) → HasIds m → HasCause m → length (written_frame m) ≤ message_limit
+        → SpellsFrame m (written_frame m) }
+    ensures read { (m : Message) → HasIds m → HasCause m → length (written_frame m) ≤ message_limit
+        → frame_at (written_frame m) ≡ Ok m }
 {}
 
 /// The length that `frame_fits` goes by is that of what `write_frame` writes, where the message's
 /// contents of 6B are not empty or it has no 6B (our own).
 pub fn frame_length()
-    ensures { (m : Message) → dialogue_of m ≢ Some [] → length (written_frame m) ≡ frame_length (nonzero (dialogue_length m)) m }
+    ensures { (m : Message) → dialogue_of m ≢ Some [] → length (written_frame m)
+        ≡ frame_length (nonzero (dialogue_length m)) m }
 {}
 
 /// Bytes spell at most one dialogue PDU (Q.773, Dialogue portion).

@@ -63,7 +63,8 @@ fn write_reason<A: Allocator + Copy>(
 ) -> Result<Vec<u8, A>, PduFault>
     requires reason { IsReason (reason_of reason) }
     requires short { IsShortReason (reason_of reason) }
-    ensures written { IfOk result (λ octets. octets.items ≡ written_frame (Message.abort peer.now (reason_of reason.entry))) }
+    ensures written { IfOk result (λ octets. octets.items
+        ≡ written_frame (Message.abort peer.now (reason_of reason.entry))) }
     ensures memory { IfErr result (λ fault. fault ≡ NoMemory) }
 {
     let frame = Frame::Abort {
@@ -82,7 +83,8 @@ fn write_pdu<A: Allocator + Copy>(
     requires can { IsWritable (pdu_value pdu.now) }
     requires diagnostic { HasDiagnostic (pdu_value pdu.now) }
     requires short { IsShortReason (Reason.portion (written_dialogue (pdu_value pdu.now))) }
-    ensures written { IfOk result (λ octets. octets.items ≡ written_frame (Message.abort peer.now (Reason.portion (written_dialogue (pdu_value pdu.now))))) }
+    ensures written { IfOk result (λ octets. octets.items
+        ≡ written_frame (Message.abort peer.now (Reason.portion (written_dialogue (pdu_value pdu.now))))) }
     ensures memory { IfErr result (λ fault. fault ≡ NoMemory) }
 {
     let portion = write_dialogue(alloc, pdu)?;

@@ -195,7 +195,8 @@ pub fn judge_portion<'m, A: Allocator + Copy>(
     context: &Option<Context<A>>,
     dialogue: Option<&'m [u8]>,
 ) -> PortionVerdict<'m>
-    ensures verdict { portion_view result ≡ portion_verdict (phase_view phase.now) (context_view context.now) (option_copied dialogue.entry) }
+    ensures verdict { portion_view result
+        ≡ portion_verdict (phase_view phase.now) (context_view context.now) (option_copied dialogue.entry) }
     ensures place { PortionIn 0x61 result dialogue.entry }
 {
     match phase {

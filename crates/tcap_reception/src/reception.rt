@@ -81,7 +81,8 @@ fn hear_begin<'m>(
     dialogue: Option<&'m [u8]>,
     components: &'m [u8],
 ) -> Reception<'m>
-    ensures value { reception_view result ≡ begin_by (begin_verdict (option_copied dialogue.entry)) origin components.now }
+    ensures value { reception_view result
+        ≡ begin_by (begin_verdict (option_copied dialogue.entry)) origin components.now }
     ensures can { CanRun result }
     ensures of { (named : Option ℕ) → IsOf named result }
 {
@@ -131,7 +132,8 @@ fn hear_last<'m>(frame: Frame<'m>, named: Option<u32>) -> Reception<'m>
 /// A message is taken by the live dialogue that its destination names, if it names one; a Begin is
 /// aborted where no dialogue can be created (Q.774, Transaction sublayer procedures).
 pub fn hear_message<'m>(frame: Frame<'m>, named: Option<u32>, is_full: bool) -> Reception<'m>
-    ensures value { (is_live : ℕ → Bool) → named ≡ addressed_if_any is_live (destination (message frame.entry)) → reception_view result ≡ message_by is_live is_full (message frame.entry) }
+    ensures value { (is_live : ℕ → Bool) → named ≡ addressed_if_any is_live (destination
+        (message frame.entry)) → reception_view result ≡ message_by is_live is_full (message frame.entry) }
     ensures can { CanRun result }
     ensures of { IsOf named result }
     ensures born { CanBear is_full result }
@@ -236,7 +238,8 @@ pub fn hear_fault<'m>(
     origin: Option<TransId>,
     fault: FrameFault,
 ) -> Reception<'m>
-    ensures value { (is_live : ℕ → Bool) → named ≡ addressed_if_any is_live (front_at bytes.now).1 → origin ≡ (front_at bytes.now).0 → reception_view result ≡ faulty is_live bytes.now fault }
+    ensures value { (is_live : ℕ → Bool) → named ≡ addressed_if_any is_live (front_at bytes.now).1
+        → origin ≡ (front_at bytes.now).0 → reception_view result ≡ faulty is_live bytes.now fault }
     ensures can { CanRun result }
     ensures of { IsOf named result }
     ensures born { (is_full : Bool) → CanBear is_full result }

@@ -51,9 +51,12 @@ fn octets_text<A: Allocator + Copy>(alloc: A, octets: &[u8]) -> Result<Shown<A>,
 /// The text of a message whose verdict is good.
 fn frame_text<A: Allocator + Copy>(alloc: A, frame: Frame<'_>) -> Result<Shown<A>, OutOfMemory>
     requires { HasCause (message frame) }
-    ensures text { IfOk result (λ shown. shown.text.items ≡ canon_line verdict.Good (canonical_frame (message frame.entry))) }
-    ensures good { IfOk result (λ shown. shown.good ≡ is_good (canon_verdict verdict.Good (canonical_frame (message frame.entry)))) }
-    ensures hex { IfOk result (λ shown. shown.good ≡ true → IsHexLine shown.text.items (canonical_frame (message frame.entry))) }
+    ensures text { IfOk result (λ shown. shown.text.items
+        ≡ canon_line verdict.Good (canonical_frame (message frame.entry))) }
+    ensures good { IfOk result (λ shown. shown.good
+        ≡ is_good (canon_verdict verdict.Good (canonical_frame (message frame.entry)))) }
+    ensures hex { IfOk result (λ shown. shown.good ≡ true
+        → IsHexLine shown.text.items (canonical_frame (message frame.entry))) }
 {
     match rewrite_frame(alloc, frame) {
         Ok(octets) => octets_text(alloc, octets.as_slice()),

@@ -72,7 +72,8 @@ fn add_coded<A: Allocator + Copy>(
     code: &Code<'_>,
     parameter: Option<&[u8]>,
 ) -> Result<(), OutOfMemory>
-    ensures { OnOk result (string_bytes text.new ≡ string_bytes text.old ++ coded_words (code_parts code.now) (option_copied parameter.entry)) }
+    ensures { OnOk result (string_bytes text.new ≡ string_bytes text.old
+        ++ coded_words (code_parts code.now) (option_copied parameter.entry)) }
 {
     add_code(alloc, text, code)?;
     text.push_str(" param ")?;
@@ -85,7 +86,8 @@ pub fn coded_text<A: Allocator + Copy>(
     code: &Code<'_>,
     parameter: Option<&[u8]>,
 ) -> Result<String<A>, OutOfMemory>
-    ensures { IfOk result (λ words. string_bytes words ≡ coded_words (code_parts code.now) (option_copied parameter.entry)) }
+    ensures { IfOk result (λ words. string_bytes words
+        ≡ coded_words (code_parts code.now) (option_copied parameter.entry)) }
 {
     let mut words = String::new(alloc);
     add_coded(alloc, &mut words, code, parameter)?;
@@ -98,7 +100,8 @@ fn add_body<A: Allocator + Copy>(
     text: &mut String<A>,
     body: &Option<Body<'_>>,
 ) -> Result<(), OutOfMemory>
-    ensures { OnOk result (string_bytes text.new ≡ string_bytes text.old ++ body_words (option_map body_parts body.now)) }
+    ensures { OnOk result (string_bytes text.new ≡ string_bytes text.old
+        ++ body_words (option_map body_parts body.now)) }
 {
     match body {
         Some(body) => add_coded(alloc, text, &body.code, body.parameter),
@@ -164,7 +167,8 @@ fn add_invoke<A: Allocator + Copy>(
     code: &Code<'_>,
     parameter: Option<&[u8]>,
 ) -> Result<(), OutOfMemory>
-    ensures { OnOk result (string_bytes text.new ≡ string_bytes text.old ++ component_words (invoke id linked (code_parts code.now) (option_copied parameter.entry))) }
+    ensures { OnOk result (string_bytes text.new ≡ string_bytes text.old
+        ++ component_words (invoke id linked (code_parts code.now) (option_copied parameter.entry))) }
 {
     write!(text, "invoke {id} linked ")?;
     add_identifier(text, linked)?;
@@ -180,7 +184,8 @@ fn add_result<A: Allocator + Copy>(
     id: i8,
     body: &Option<Body<'_>>,
 ) -> Result<(), OutOfMemory>
-    ensures { OnOk result (string_bytes text.new ≡ string_bytes text.old ++ (name.now ++ (codes " " ++ (signed_decimal id ++ (codes " op " ++ body_words (option_map body_parts body.now)))))) }
+    ensures { OnOk result (string_bytes text.new ≡ string_bytes text.old ++ (name.now
+        ++ (codes " " ++ (signed_decimal id ++ (codes " op " ++ body_words (option_map body_parts body.now)))))) }
 {
     write!(text, "{name} {id} op ")?;
     add_body(alloc, text, body)
@@ -194,7 +199,8 @@ fn add_error<A: Allocator + Copy>(
     code: &Code<'_>,
     parameter: Option<&[u8]>,
 ) -> Result<(), OutOfMemory>
-    ensures { OnOk result (string_bytes text.new ≡ string_bytes text.old ++ component_words (error_back id (code_parts code.now) (option_copied parameter.entry))) }
+    ensures { OnOk result (string_bytes text.new ≡ string_bytes text.old
+        ++ component_words (error_back id (code_parts code.now) (option_copied parameter.entry))) }
 {
     write!(text, "error {id} code ")?;
     add_coded(alloc, text, code, parameter)
@@ -206,7 +212,8 @@ fn add_reject<A: Allocator + Copy>(
     id: Option<i8>,
     problem: Problem,
 ) -> Result<(), OutOfMemory>
-    ensures { OnOk result (string_bytes text.new ≡ string_bytes text.old ++ component_words (reject_back id (problem_parts problem))) }
+    ensures { OnOk result (string_bytes text.new ≡ string_bytes text.old
+        ++ component_words (reject_back id (problem_parts problem))) }
 {
     text.push_str("reject ")?;
     add_identifier(text, id)?;
@@ -220,7 +227,8 @@ pub(crate) fn add_component<A: Allocator + Copy>(
     text: &mut String<A>,
     component: &Component<'_>,
 ) -> Result<(), OutOfMemory>
-    ensures { OnOk result (string_bytes text.new ≡ string_bytes text.old ++ component_words (component_parts component.now)) }
+    ensures { OnOk result (string_bytes text.new ≡ string_bytes text.old
+        ++ component_words (component_parts component.now)) }
 {
     match component {
         Component::Invoke {

@@ -57,7 +57,8 @@ fn response_text<A: Allocator + Copy>(
     diagnostic: Diagnostic,
     info: &[u8],
 ) -> Result<String<A>, OutOfMemory>
-    ensures { IfOk result (λ words. string_bytes words ≡ pdu_words (aare version1 context.now accepted (source diagnostic) info.now)) }
+    ensures { IfOk result (λ words. string_bytes words
+        ≡ pdu_words (aare version1 context.now accepted (source diagnostic) info.now)) }
 {
     let version = yes_or_no(version1);
     let context = hex::encode(alloc, context)?;

@@ -9,8 +9,13 @@ ghost use Rattle.tcap_words.specs.Canonical.{canonical_of, canon_text_of, IsHexL
 /// message, its canonical form is itself, and `canon` prints it again. The bytes that the printed HEX
 /// spells are that form (our own).
 pub fn canon_twice()
-    ensures verdict { (bytes : List ℕ) → verdict_of bytes ≡ Good → length (canonical_of bytes) ≤ message_limit → verdict_of (canonical_of bytes) ≡ Good }
-    ensures form { (bytes : List ℕ) → verdict_of bytes ≡ Good → length (canonical_of bytes) ≤ message_limit → canonical_of (canonical_of bytes) ≡ canonical_of bytes }
-    ensures printed { (bytes again : List ℕ) → verdict_of bytes ≡ Good → length (canonical_of bytes) ≤ message_limit → IsHexLine (canon_text_of bytes) again → (again ≡ canonical_of bytes) × (canon_text_of again ≡ canon_text_of bytes) }
-    ensures text { (bytes : List ℕ) → verdict_of bytes ≡ Good → length (canonical_of bytes) ≤ message_limit → canon_text_of (canonical_of bytes) ≡ canon_text_of bytes }
+    ensures verdict { (bytes : List ℕ) → verdict_of bytes ≡ Good
+        → length (canonical_of bytes) ≤ message_limit → verdict_of (canonical_of bytes) ≡ Good }
+    ensures form { (bytes : List ℕ) → verdict_of bytes ≡ Good → length (canonical_of bytes)
+        ≤ message_limit → canonical_of (canonical_of bytes) ≡ canonical_of bytes }
+    ensures printed { (bytes again : List ℕ) → verdict_of bytes ≡ Good
+        → length (canonical_of bytes) ≤ message_limit → IsHexLine (canon_text_of bytes) again
+        → (again ≡ canonical_of bytes) × (canon_text_of again ≡ canon_text_of bytes) }
+    ensures text { (bytes : List ℕ) → verdict_of bytes ≡ Good → length (canonical_of bytes)
+        ≤ message_limit → canon_text_of (canonical_of bytes) ≡ canon_text_of bytes }
 {}

@@ -45,7 +45,8 @@ pub fn add_dialogue<A: Allocator + Copy>(
     text: &mut String<A>,
     dialogue: Option<&[u8]>,
 ) -> Result<(), OutOfMemory>
-    ensures { OnOk result (string_bytes text.new ≡ string_bytes text.old ++ dialogue_lines (option_copied dialogue.entry)) }
+    ensures { OnOk result (string_bytes text.new ≡ string_bytes text.old
+        ++ dialogue_lines (option_copied dialogue.entry)) }
 {
     match dialogue {
         Some(content) => {
@@ -62,7 +63,8 @@ fn add_item<A: Allocator + Copy>(
     text: &mut String<A>,
     item: &Result<Component<'_>, ComponentFault>,
 ) -> Result<(), OutOfMemory>
-    ensures { OnOk result (string_bytes text.new ≡ string_bytes text.old ++ inner_line (item_words (item_view item.now))) }
+    ensures { OnOk result (string_bytes text.new ≡ string_bytes text.old
+        ++ inner_line (item_words (item_view item.now))) }
 {
     text.push_str("    ")?;
     match item {
@@ -81,7 +83,8 @@ fn add_items<A: Allocator + Copy>(
     text: &mut String<A>,
     components: &[u8],
 ) -> Result<bool, OutOfMemory>
-    ensures text { OnOk result (string_bytes text.new ≡ string_bytes text.old ++ item_lines (components_of components.now)) }
+    ensures text { OnOk result (string_bytes text.new ≡ string_bytes text.old
+        ++ item_lines (components_of components.now)) }
     ensures good { IfOk result (λ good. good ≡ is_good (components_verdict components.now)) }
 {
     let mut good = true;
@@ -117,8 +120,10 @@ pub fn add_portions<A: Allocator + Copy>(
     dialogue: Option<&[u8]>,
     components: &[u8],
 ) -> Result<bool, OutOfMemory>
-    ensures text { OnOk result (string_bytes text.new ≡ string_bytes text.old ++ portion_lines (option_copied dialogue.entry) components.now) }
-    ensures good { IfOk result (λ good. good ≡ is_good (portions_verdict (option_copied dialogue.entry) components.now)) }
+    ensures text { OnOk result (string_bytes text.new ≡ string_bytes text.old
+        ++ portion_lines (option_copied dialogue.entry) components.now) }
+    ensures good { IfOk result (λ good. good
+        ≡ is_good (portions_verdict (option_copied dialogue.entry) components.now)) }
 {
     add_dialogue(alloc, text, dialogue)?;
     let good = add_components(alloc, text, components)?;

@@ -55,8 +55,10 @@ pub fn rewrite_portion<A: Allocator + Copy>(
     alloc: A,
     dialogue: Option<&[u8]>,
 ) -> Result<Option<Vec<u8, A>>, CanonFault>
-    ensures ok { IfOk result (λ portion. option_map (λ octets. octets.items) portion ≡ option_map canonical_dialogue (option_copied dialogue.entry)) }
-    ensures err { IfErr result (λ fault. IsCanonFault (unwrap_or (option_map canonical_dialogue (option_copied dialogue.entry)) []) fault) }
+    ensures ok { IfOk result (λ portion. option_map (λ octets. octets.items) portion
+        ≡ option_map canonical_dialogue (option_copied dialogue.entry)) }
+    ensures err { IfErr result (λ fault. IsCanonFault
+        (unwrap_or (option_map canonical_dialogue (option_copied dialogue.entry)) []) fault) }
 {
     match dialogue {
         Some(content) => Ok(Some(rewrite_dialogue(alloc, content)?)),
@@ -72,7 +74,8 @@ fn append_component<A: Allocator + Copy>(
 ) -> Result<(), CanonFault>
     requires code { HasCode (coded_part (component_parts component.now)) }
     requires parameter { HasParameter (coded_part (component_parts component.now)) }
-    ensures ok { OnOk result (octets.new.items ≡ octets.old.items ++ written_component (component_parts component.now)) }
+    ensures ok { OnOk result (octets.new.items ≡ octets.old.items
+        ++ written_component (component_parts component.now)) }
     ensures err { IfErr result (λ fault. IsCanonFault (written_component (component_parts component.now)) fault) }
 {
     match write_component(alloc, component) {
@@ -140,9 +143,12 @@ pub fn assemble<A: Allocator + Copy>(
     components: &[u8],
 ) -> Result<Vec<u8, A>, CanonFault>
     requires { HasCause (message frame) }
-    ensures ok { IfOk result (λ octets. octets.items ≡ written_frame (with_portions (option_copied dialogue.entry) components.now (message frame.entry))) }
-    ensures short { OnOk result (length (written_frame (with_portions (option_copied dialogue.entry) components.now (message frame.entry))) ≤ message_limit) }
-    ensures err { IfErr result (λ fault. IsCanonFault (written_frame (with_portions (option_copied dialogue.entry) components.now (message frame.entry))) fault) }
+    ensures ok { IfOk result (λ octets. octets.items
+        ≡ written_frame (with_portions (option_copied dialogue.entry) components.now (message frame.entry))) }
+    ensures short { OnOk result (length (written_frame
+        (with_portions (option_copied dialogue.entry) components.now (message frame.entry))) ≤ message_limit) }
+    ensures err { IfErr result (λ fault. IsCanonFault
+        (written_frame (with_portions (option_copied dialogue.entry) components.now (message frame.entry))) fault) }
 {
     let canonical = frame.with_portions(dialogue, components);
     spell_frame(alloc, &canonical)

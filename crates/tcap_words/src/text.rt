@@ -59,7 +59,8 @@ pub(crate) fn add_optional_octets<A: Allocator + Copy>(
     text: &mut String<A>,
     octets: Option<&[u8]>,
 ) -> Result<(), OutOfMemory>
-    ensures { OnOk result (string_bytes text.new ≡ string_bytes text.old ++ optional_octets_words (option_copied octets.entry)) }
+    ensures { OnOk result (string_bytes text.new ≡ string_bytes text.old
+        ++ optional_octets_words (option_copied octets.entry)) }
 {
     match octets {
         Some(octets) => {

@@ -67,8 +67,11 @@ pub(crate) fn insert_row<T: Drop, A: Allocator + Copy>(
     requires sound { IsSound keys.old.entries values.old timers.old }
     requires below { AllBelow id (all_rows keys.old.entries values.old timers.old) }
     ensures sound { IsSound keys.new.entries values.new timers.new }
-    ensures ok { OnOk result (all_rows keys.new.entries values.new timers.new ≡ all_rows keys.old.entries values.old timers.old ++ record { identifier = id; value = value; time = time } ∷ []) }
-    ensures err { OnErr result (all_rows keys.new.entries values.new timers.new ≡ all_rows keys.old.entries values.old timers.old) }
+    ensures ok { OnOk result (all_rows keys.new.entries values.new timers.new
+        ≡ all_rows keys.old.entries values.old timers.old
+        ++ record { identifier = id; value = value; time = time } ∷ []) }
+    ensures err { OnErr result (all_rows keys.new.entries values.new timers.new
+        ≡ all_rows keys.old.entries values.old timers.old) }
     ensures value_returned { IfErr result (λ failed. failed.value ≡ value) }
 {
     let Ok(key) = make_room(values, keys, timers) else {
@@ -91,7 +94,8 @@ pub(crate) fn remove_row<T: Drop, A: Allocator + Copy>(
     requires { IsSound keys.old.entries values.old timers.old }
     ensures sound { IsSound keys.new.entries values.new timers.new }
     ensures value { result ≡ lookup (nat_eq id) (entries_of (all_rows keys.old.entries values.old timers.old)) }
-    ensures rows { all_rows keys.new.entries values.new timers.new ≡ without id (all_rows keys.old.entries values.old timers.old) }
+    ensures rows { all_rows keys.new.entries values.new timers.new
+        ≡ without id (all_rows keys.old.entries values.old timers.old) }
 {
     let key = keys.swap_remove(&id)?;
     timers.set(key, None);
@@ -108,7 +112,8 @@ pub(crate) fn time_row<T: Drop, A: Allocator + Copy>(
 )
     requires { IsSound keys.now.entries values.now timers.old }
     ensures sound { IsSound keys.now.entries values.now timers.new }
-    ensures rows { all_rows keys.now.entries values.now timers.new ≡ with_time id time (all_rows keys.now.entries values.now timers.old) }
+    ensures rows { all_rows keys.now.entries values.now timers.new
+        ≡ with_time id time (all_rows keys.now.entries values.now timers.old) }
 {
     if let Some(key) = keys.get(&id) {
         timers.set(*key, timer_named(id, time));

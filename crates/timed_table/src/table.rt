@@ -85,7 +85,8 @@ impl<T: Drop, A: Allocator + Copy> Table<T, A> {
 
     /// The value under an identifier, to be written; its row keeps its identifier and its time.
     pub fn get_mut(&mut self, id: u32) -> Option<&mut T>
-        ensures* writes_back { sem 𝓛 (LendsSo (the_row T.row A.row A.Allocator) T.row self.entry result (λ new w. IsWritten id w self.old new) (λ new. new ≡ self.old)) }
+        ensures* writes_back { sem 𝓛 (LendsSo (the_row T.row A.row A.Allocator) T.row self.entry result
+            (λ new w. IsWritten id w self.old new) (λ new. new ≡ self.old)) }
         ensures value { option_copied_mut result ≡ lookup (nat_eq id) (entries_of self.old) }
     {
         let key = *self.keys.get(&id)?;
@@ -105,7 +106,8 @@ impl<T: Drop, A: Allocator + Copy> Table<T, A> {
     /// here; an `Err` has the value back.
     pub fn insert(&mut self, id: u32, value: T, time: Option<u64>) -> Result<(), AllocFailed<T>>
         requires { AllBelow id self.old }
-        ensures ok { OnOk result (self.new ≡ self.old ++ record { identifier = id; value = value; time = time } ∷ []) }
+        ensures ok { OnOk result (self.new ≡ self.old ++ record { identifier = id; value = value; time = time }
+            ∷ []) }
         ensures err { OnErr result (self.new ≡ self.old) }
         ensures value_returned { IfErr result (λ failed. failed.value ≡ value) }
     {
@@ -150,7 +152,8 @@ impl<T: Drop, A: Allocator + Copy> Table<T, A> {
 
     /// The values whose time is at or before a moment, each once, in no order; takes no memory.
     pub fn due(&self, moment: u64) -> DueRows<'_, T, A>
-        ensures { (weight : T → ℕ) → sum_by weight (due_rows_left result) ≡ sum_by weight (due_values moment self.now) }
+        ensures { (weight : T → ℕ) → sum_by weight (due_rows_left result)
+            ≡ sum_by weight (due_values moment self.now) }
     {
         DueRows::new(self.timers.due(moment), &self.values)
     }

@@ -50,7 +50,8 @@ pub(crate) fn set_timer(
 pub(crate) fn first_item(heap: &[usize], timers: &[Option<Timer>]) -> Option<usize>
     requires as_many { length heap.now ≡ length timers.now }
     requires within { (place : ℕ) → place < length timers.now → item_at heap.now place < length timers.now }
-    requires listed { (item : ℕ) → item < length timers.now → (place : ℕ) × (place < length timers.now) × (item_at heap.now place ≡ item) }
+    requires listed { (item : ℕ) → item < length timers.now → (place : ℕ)
+        × (place < length timers.now) × (item_at heap.now place ≡ item) }
     requires ordered { IsOrdered (key_at timers.now heap.now) (length timers.now) }
     ensures { MatchOption result (HasNoTimer timers.now) (IsFirst timers.now) }
 {

@@ -25,7 +25,8 @@ impl<'a> Due<'a> {
 
     /// The walk over what is due in a heap, from its first item on.
     pub(crate) fn new(heap: &'a [usize], timers: &'a [Option<Timer>], moment: u64) -> Due<'a>
-        ensures { due_left result ≡ map (item_at heap.now) (downwards (is_due_place moment heap.now timers.now) (length heap.now) 0) }
+        ensures { due_left result
+            ≡ map (item_at heap.now) (downwards (is_due_place moment heap.now timers.now) (length heap.now) 0) }
     {
         let place = first_place(heap, timers, moment);
         Due {
@@ -85,7 +86,8 @@ fn is_due(timers: &[Option<Timer>], moment: u64, item: usize) -> bool
 
 /// The first place of the heap, if it is due; else a place past it.
 fn first_place(heap: &[usize], timers: &[Option<Timer>], moment: u64) -> usize
-    ensures { from_place (is_due_place moment heap.now timers.now) (length heap.now) result ≡ downwards (is_due_place moment heap.now timers.now) (length heap.now) 0 }
+    ensures { from_place (is_due_place moment heap.now timers.now) (length heap.now) result
+        ≡ downwards (is_due_place moment heap.now timers.now) (length heap.now) 0 }
 {
     if is_due_place(heap, timers, moment, 0) {
         0
@@ -125,7 +127,8 @@ fn place_or_later(heap: &[usize], timers: &[Option<Timer>], moment: u64, place: 
 /// comes after the place above.
 fn later_place(heap: &[usize], timers: &[Option<Timer>], moment: u64, place: usize) -> usize
     requires { place < length heap.now }
-    ensures { from_place (is_due_place moment heap.now timers.now) (length heap.now) result ≡ after_place (is_due_place moment heap.now timers.now) (length heap.now) place }
+    ensures { from_place (is_due_place moment heap.now timers.now) (length heap.now) result
+        ≡ after_place (is_due_place moment heap.now timers.now) (length heap.now) place }
 {
     if place == 0 {
         return heap.len();

@@ -109,7 +109,8 @@ fn take_further(
 ) -> Result<Option<Scanner>, BerFault>
     requires left { 0 < left }
     requires nested { nested ≤ depth_limit }
-    ensures { Leads (λ rest. behind_further constructed nested (octet ∷ rest) (further_at left (octet ∷ rest))) result }
+    ensures { Leads (λ rest. behind_further constructed nested
+        (octet ∷ rest) (further_at left (octet ∷ rest))) result }
 {
     if octet < 0x80 {
         return Ok(due_at(Due::Length(constructed), nested));
@@ -124,7 +125,8 @@ fn take_further(
 #[inline(always)]
 fn take_first_further(nested: u8, constructed: bool, octet: u8) -> Result<Option<Scanner>, BerFault>
     requires { nested ≤ depth_limit }
-    ensures { Leads (λ rest. behind_further constructed nested (octet ∷ rest) (all_further_at (octet ∷ rest))) result }
+    ensures { Leads (λ rest. behind_further constructed nested
+        (octet ∷ rest) (all_further_at (octet ∷ rest))) result }
 {
     if octet == 0x80 {
         return Err(BerFault::BadTag);
@@ -192,7 +194,8 @@ fn take_long_length(
 fn take_content(nested: u8, left: u16) -> Option<Scanner>
     requires left { 0 < left }
     requires nested { nested ≤ depth_limit }
-    ensures { (octet : ℕ) (rest : List ℕ) → goes_on_or result rest ≡ at_due (Due.Content left) nested (octet ∷ rest) }
+    ensures { (octet : ℕ) (rest : List ℕ) → goes_on_or result rest
+        ≡ at_due (Due.Content left) nested (octet ∷ rest) }
 {
     if left == 1 {
         return behind_element(nested);

@@ -13,7 +13,8 @@ use crate::scan::MAX_DEPTH;
 /// Whether an indefinite element begins with a tag of this one octet and this length.
 #[inline(always)]
 fn opens(tag: u8, length: u8) -> bool
-    ensures { IsTrue result ↔ ((tag ≢ 0x00) × (bit_and tag 0x1f == 0x1f ≡ false) × (bit_and tag 0x20 == 0 ≡ false) × (length ≡ 0x80)) }
+    ensures { IsTrue result ↔ ((tag ≢ 0x00) × (bit_and tag 0x1f == 0x1f ≡ false)
+        × (bit_and tag 0x20 == 0 ≡ false) × (length ≡ 0x80)) }
 {
     tag != 0x00 && tag & 0x1f != 0x1f && tag & 0x20 != 0 && length == 0x80
 }
@@ -21,7 +22,8 @@ fn opens(tag: u8, length: u8) -> bool
 /// Passes over the content behind a head whose length is `81` and this octet: gives what follows.
 #[inline(always)]
 fn skim_long(nested: u8, tag: u8, len: u8, content: &[u8]) -> Option<&[u8]>
-    ensures value { IfSome result (λ after. (more : List ℕ) → outer_at nested (after.now ++ more) ≡ at_tag nested (tag ∷ 0x81 ∷ len ∷ (content.now ++ more))) }
+    ensures value { IfSome result (λ after. (more : List ℕ) → outer_at nested (after.now ++ more)
+        ≡ at_tag nested (tag ∷ 0x81 ∷ len ∷ (content.now ++ more))) }
     ensures shorter { IfSome result (λ after. length after.now ≤ length content.now) }
 {
     if is_plain(tag, 0) && len as usize <= content.len() {
@@ -35,7 +37,8 @@ fn skim_long(nested: u8, tag: u8, len: u8, content: &[u8]) -> Option<&[u8]>
 #[inline(always)]
 fn skim_one(nested: u8, tag: u8, len: u8, body: &[u8]) -> Option<(u8, &[u8])>
     requires { nested ≤ depth_limit }
-    ensures value { IfSome result (λ r. (more : List ℕ) → outer_at r.0 (r.1.now ++ more) ≡ at_tag nested (tag ∷ len ∷ (body.now ++ more))) }
+    ensures value { IfSome result (λ r. (more : List ℕ) → outer_at r.0 (r.1.now ++ more)
+        ≡ at_tag nested (tag ∷ len ∷ (body.now ++ more))) }
     ensures most { IfSome result (λ r. r.0 ≤ depth_limit) }
     ensures shorter { IfSome result (λ r. length r.1.now ≤ length body.now) }
 {
@@ -56,7 +59,8 @@ fn skim_one(nested: u8, tag: u8, len: u8, body: &[u8]) -> Option<(u8, &[u8])>
 #[inline(always)]
 fn skim(nested: u8, bytes: &[u8]) -> (Option<Scanner>, &[u8])
     requires { nested ≤ depth_limit }
-    ensures value { (more : List ℕ) → goes_on_or result.0 (result.1.now ++ more) ≡ at_tag nested (bytes.now ++ more) }
+    ensures value { (more : List ℕ) → goes_on_or result.0 (result.1.now ++ more)
+        ≡ at_tag nested (bytes.now ++ more) }
     ensures shorter { length result.1.now ≤ length bytes.now }
     ensures whole { IfNone result.0 (length result.1.now < length bytes.now) }
 {
@@ -89,7 +93,8 @@ impl Scanner {
     /// Passes over what is plain; `None` where the element ends, and what follows.
     #[inline(always)]
     pub fn skim(self, bytes: &[u8]) -> (Option<Scanner>, &[u8])
-        ensures value { (more : List ℕ) → goes_on_or result.0 (result.1.now ++ more) ≡ goes_on self (bytes.now ++ more) }
+        ensures value { (more : List ℕ) → goes_on_or result.0 (result.1.now ++ more)
+            ≡ goes_on self (bytes.now ++ more) }
         ensures shorter { length result.1.now ≤ length bytes.now }
         ensures whole { IfNone result.0 (length result.1.now < length bytes.now) }
     {

@@ -16,7 +16,8 @@ use crate::fault::BerFault;
 fn pass(nested: u8, left: u16, bytes: &[u8]) -> (Option<Scanner>, &[u8])
     requires left { 0 < left }
     requires nested { nested ≤ depth_limit }
-    ensures value { (more : List ℕ) → goes_on_or result.0 (result.1.now ++ more) ≡ at_due (Due.Content left) nested (bytes.now ++ more) }
+    ensures value { (more : List ℕ) → goes_on_or result.0 (result.1.now ++ more)
+        ≡ at_due (Due.Content left) nested (bytes.now ++ more) }
     ensures shorter { length result.1.now ≤ length bytes.now }
 {
     let count = left as usize;
@@ -53,8 +54,10 @@ impl Scanner {
     /// Takes an octet, and with it what there is of a content behind it; gives what follows.
     #[inline(always)]
     fn advance(self, octet: u8, bytes: &[u8]) -> Result<(Option<Scanner>, &[u8]), BerFault>
-        ensures ok { IfOk result (λ r. (more : List ℕ) → goes_on_or r.0 (r.1.now ++ more) ≡ goes_on self (octet ∷ (bytes.now ++ more))) }
-        ensures err { IfErr result (λ f. (is_short f ≡ false) × ((more : List ℕ) → goes_on self (octet ∷ (bytes.now ++ more)) ≡ Err f)) }
+        ensures ok { IfOk result (λ r. (more : List ℕ) → goes_on_or r.0 (r.1.now ++ more)
+            ≡ goes_on self (octet ∷ (bytes.now ++ more))) }
+        ensures err { IfErr result (λ f. (is_short f ≡ false)
+            × ((more : List ℕ) → goes_on self (octet ∷ (bytes.now ++ more)) ≡ Err f)) }
         ensures shorter { IfOk result (λ r. length r.1.now ≤ length bytes.now) }
     {
         match self.take(octet)? {
@@ -72,8 +75,10 @@ impl Scanner {
     /// the scanner behind them.
     #[inline(always)]
     pub fn scan(self, bytes: &[u8]) -> Result<(Option<Scanner>, &[u8]), BerFault>
-        ensures ok { IfOk result (λ r. (more : List ℕ) → goes_on_or r.0 (r.1.now ++ more) ≡ goes_on self (bytes.now ++ more)) }
-        ensures err { IfErr result (λ f. (is_short f ≡ false) × ((more : List ℕ) → goes_on self (bytes.now ++ more) ≡ Err f)) }
+        ensures ok { IfOk result (λ r. (more : List ℕ) → goes_on_or r.0 (r.1.now ++ more)
+            ≡ goes_on self (bytes.now ++ more)) }
+        ensures err { IfErr result (λ f. (is_short f ≡ false)
+            × ((more : List ℕ) → goes_on self (bytes.now ++ more) ≡ Err f)) }
         ensures shorter { IfOk result (λ r. length r.1.now ≤ length bytes.now) }
         ensures whole { IfOk result (λ r. IfNone r.0 (length r.1.now < length bytes.now)) }
         ensures all { IfOk result (λ r. IfSome r.0 (λ s. r.1.now ≡ [])) }

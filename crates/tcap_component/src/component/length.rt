@@ -188,7 +188,8 @@ fn has_good_parameter(component: &Component<'_>) -> bool
 /// written: its code, its parameter, its length.
 #[inline(always)]
 pub(crate) fn checked_len(component: &Component<'_>) -> Result<usize, WriteFault>
-    ensures ok { IfOk result (λ len. CanWriteComponent (component_parts component.now) × (len ≡ length (written_contents (component_parts component.now)))) }
+    ensures ok { IfOk result (λ len. CanWriteComponent (component_parts component.now)
+        × (len ≡ length (written_contents (component_parts component.now)))) }
     ensures within { IfOk result (λ len. len ≤ length_limit) }
     ensures err { IfErr result (λ f. IsWriteFault (component_parts component.now) f) }
 {
@@ -223,9 +224,11 @@ pub fn component_fault(component: &Component<'_>) -> Option<WriteFault>
 #[tactic(auto, using(crate::proofs::WrittenGrammar::length_rules))]
 pub fn component_len(component: &Component<'_>) -> Option<usize>
     // The length of what is written, or nothing where there is a fault.
-    ensures exact { result ≡ length_if_any (written_component (component_parts component.now)) (write_fault (component_parts component.now)) }
+    ensures exact { result ≡ length_if_any (written_component (component_parts component.now))
+        (write_fault (component_parts component.now)) }
     ensures refused { IsNone result ↔ ((f : WriteFault) × IsWriteFault (component_parts component.now) f) }
-    ensures value { IfSome result (λ n. CanWriteComponent (component_parts component.now) × (n ≡ length (written_component (component_parts component.now)))) }
+    ensures value { IfSome result (λ n. CanWriteComponent (component_parts component.now)
+        × (n ≡ length (written_component (component_parts component.now)))) }
 {
     match checked_len(component) {
         Ok(len) => Some(element_len(len)),

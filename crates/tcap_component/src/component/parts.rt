@@ -34,7 +34,8 @@ pub(crate) fn identifier(content: &[u8]) -> Option<i8>
 fn take_octet(bytes: &[u8]) -> Option<(u8, &[u8])>
     ensures value { IfSome result (λ r. tagged 0x02 bytes.now ≡ (Some (r.0 ∷ []), r.1.now)) }
     ensures place { IfSome result (λ r. AtEnd r.1 bytes.entry) }
-    ensures goes_on { (other : ℕ) → (0x02 == other) ≡ false → IfSome result (λ r. GoesOn other r.1 bytes.entry) }
+    ensures goes_on { (other : ℕ) → (0x02 == other) ≡ false
+        → IfSome result (λ r. GoesOn other r.1 bytes.entry) }
 {
     match bytes {
         [first, length, octet, rest @ ..] if *first == tag::INTEGER && *length == 1 => {
@@ -79,7 +80,8 @@ pub(crate) fn take_linked(bytes: &[u8]) -> Option<(Option<i8>, &[u8])>
 /// 06 object identifier, and what follows it. Most codes are local, so it stands apart.
 #[inline(never)]
 fn take_global<'a>(bytes: &'a [u8]) -> Option<(Code<'a>, &'a [u8])>
-    ensures value { option_map (λ r. (code_parts r.0, r.1.now)) result ≡ bound (content_at 0x06 bytes.now) global_from }
+    ensures value { option_map (λ r. (code_parts r.0, r.1.now)) result
+        ≡ bound (content_at 0x06 bytes.now) global_from }
     ensures place { IfSome result (λ r. CodeOnWay [] r.0 bytes.entry × AtEnd r.1 bytes.entry) }
 {
     let (octets, rest) = take_content(bytes, tag::OBJECT_IDENTIFIER)?;

@@ -226,13 +226,15 @@ fn split_component<'a>(bytes: &'a [u8]) -> Result<(Component<'a>, &'a [u8]), Com
 #[inline(always)]
 pub fn read_component<'a>(bytes: &'a [u8]) -> Result<(Component<'a>, &'a [u8]), ComponentFault>
     // What is read is spelled by the bytes before the rest.
-    ensures found { IfOk result (λ r. (whole : List ℕ) × SpellsComponent (component_parts r.0) whole × (bytes.now ≡ whole ++ r.1.now)) }
+    ensures found { IfOk result (λ r. (whole : List ℕ) × SpellsComponent (component_parts r.0) whole
+        × (bytes.now ≡ whole ++ r.1.now)) }
     // Its code and its parameter can be written, and its numbers are such as a component has.
     ensures writable { IfOk result (λ r. HasParts (component_parts r.0) × InRange (component_parts r.0)) }
     // Its slices are parts of the bytes, at their places, and so is what follows it.
     ensures place { IfOk result (λ r. ComponentInPlace r.0 bytes.entry × AtEnd r.1 bytes.entry) }
     // Each component is read.
-    ensures only { (c : ComponentParts) (whole rest : List ℕ) → SpellsComponent c whole → bytes.now ≡ whole ++ rest →
+    ensures only { (c : ComponentParts) (whole rest : List ℕ)
+        → SpellsComponent c whole → bytes.now ≡ whole ++ rest →
         IsOkAnd result (λ r. (component_parts r.0 ≡ c) × (r.1.now ≡ rest)) }
     // Which fault, the first case that holds.
     ensures fault { IfErr result (λ f. IsComponentFault bytes.now (fault_parts f)) }

@@ -69,7 +69,8 @@ fn write_result<A: Allocator + Copy>(
 ) -> Result<(), OutOfMemory>
     requires code { HasCode (option_map body_parts body) }
     requires short { length (written_field (may 0x30 (written_body (option_map body_parts body)))) ≤ length_limit }
-    ensures { OnOk result (out.new.items ≡ out.old.items ++ written_fields (must 0x02 (identifier id) ∷ may 0x30 (written_body (option_map body_parts body.entry)) ∷ [])) }
+    ensures { OnOk result (out.new.items ≡ out.old.items ++ written_fields
+        (must 0x02 (identifier id) ∷ may 0x30 (written_body (option_map body_parts body.entry)) ∷ [])) }
 {
     write_identifier(out, tag::INTEGER, id)?;
     if let Some(body) = body {
@@ -85,7 +86,8 @@ fn write_reject<A: Allocator + Copy>(
     id: Option<i8>,
     problem: Problem,
 ) -> Result<(), OutOfMemory>
-    ensures { OnOk result (out.new.items ≡ out.old.items ++ written_fields (rejected_field id ∷ must (problem_tag (problem_parts problem).kind) ((problem_parts problem).code ∷ []) ∷ [])) }
+    ensures { OnOk result (out.new.items ≡ out.old.items ++ written_fields (rejected_field id
+        ∷ must (problem_tag (problem_parts problem).kind) ((problem_parts problem).code ∷ []) ∷ [])) }
 {
     match id {
         Some(id) => write_identifier(out, tag::INTEGER, id)?,
@@ -184,7 +186,8 @@ pub fn write_component<A: Allocator + Copy>(
     ensures spelled { IfOk result (λ octets. SpellsComponent (component_parts component.now) octets.items) }
     // Each fault that is due comes, and no other but `OutOfMemory`, which comes last.
     ensures due { (f : WriteFault) → IsWriteFault (component_parts component.now) f → IsErrOf result f }
-    ensures only { IfErr result (λ f. IsWriteFault (component_parts component.now) f ⊎ ((f ≡ fault.OutOfMemory) × CanWriteComponent (component_parts component.now))) }
+    ensures only { IfErr result (λ f. IsWriteFault (component_parts component.now) f
+        ⊎ ((f ≡ fault.OutOfMemory) × CanWriteComponent (component_parts component.now))) }
 {
     let contents = checked_len(component)?;
     in_range(component);

@@ -22,7 +22,8 @@ pub(crate) fn result_judged<'m, A: Allocator>(
     last: bool,
     verdict: Verdict,
 ) -> Handled<'m, A>
-    ensures handled { handled_view result ≡ result_judged dialogue id (option_map body_parts body.entry) last verdict }
+    ensures handled { handled_view result
+        ≡ result_judged dialogue id (option_map body_parts body.entry) last verdict }
     ensures slices { AreOf (result_of last id body.entry) (slices_of result.told) }
 {
     match verdict {
@@ -59,7 +60,8 @@ pub(crate) fn error_judged<'m, A: Allocator>(
     parameter: Option<&'m [u8]>,
     verdict: Verdict,
 ) -> Handled<'m, A>
-    ensures handled { handled_view result ≡ error_judged dialogue id (code_parts code.entry) (option_copied parameter.entry) verdict }
+    ensures handled { handled_view result
+        ≡ error_judged dialogue id (code_parts code.entry) (option_copied parameter.entry) verdict }
     ensures slices { AreOf (component.ErrorBack id code.entry parameter.entry) (slices_of result.told) }
 {
     match verdict {

@@ -32,7 +32,9 @@ fn take_invoke<'m, A: Allocator + Copy>(
     code: Code<'m>,
     parameter: Option<&'m [u8]>,
 ) -> Handled<'m, A>
-    ensures handled { handled_view result ≡ invoke_handled (Some dialogue) (sent_by_rows dialogue invocations.now linked) id linked (code_parts code.entry) (option_copied parameter.entry) }
+    ensures handled { handled_view result
+        ≡ invoke_handled (Some dialogue) (sent_by_rows dialogue invocations.now linked) id linked
+        (code_parts code.entry) (option_copied parameter.entry) }
     ensures slices { AreOf (component.Invoke id linked code.entry parameter.entry) (slices_of result.told) }
 {
     if let Some(linked) = linked {
@@ -62,7 +64,8 @@ fn take_result<'m, A: Allocator + Copy>(
     last: bool,
 ) -> Handled<'m, A>
     requires { clock ≤ moment_limit }
-    ensures handled { handled_view result ≡ result_handled (Some dialogue) (sent_by_rows dialogue invocations.old (Some id)) id (option_map body_parts body.entry) last }
+    ensures handled { handled_view result ≡ result_handled (Some dialogue)
+        (sent_by_rows dialogue invocations.old (Some id)) id (option_map body_parts body.entry) last }
     ensures list { invocations.new ≡ after_received invocations.old id (return_result last) clock }
     ensures slices { AreOf (result_of last id body.entry) (slices_of result.told) }
 {
@@ -80,7 +83,8 @@ fn take_error<'m, A: Allocator + Copy>(
     parameter: Option<&'m [u8]>,
 ) -> Handled<'m, A>
     requires { clock ≤ moment_limit }
-    ensures handled { handled_view result ≡ error_handled (Some dialogue) (sent_by_rows dialogue invocations.old (Some id)) id (code_parts code.entry) (option_copied parameter.entry) }
+    ensures handled { handled_view result ≡ error_handled (Some dialogue) (sent_by_rows dialogue invocations.old
+        (Some id)) id (code_parts code.entry) (option_copied parameter.entry) }
     ensures list { invocations.new ≡ after_received invocations.old id return_error clock }
     ensures slices { AreOf (component.ErrorBack id code.entry parameter.entry) (slices_of result.told) }
 {
@@ -95,7 +99,8 @@ fn take_reject<'m, A: Allocator + Copy>(
     id: i8,
     problem: Problem,
 ) -> Handled<'m, A>
-    ensures handled { handled_view result ≡ reject_handled (Some dialogue) (sent_by_rows dialogue invocations.old (Some id)) (Some id) (problem_parts problem) }
+    ensures handled { handled_view result ≡ reject_handled (Some dialogue)
+        (sent_by_rows dialogue invocations.old (Some id)) (Some id) (problem_parts problem) }
     ensures list { invocations.new ≡ after_reject invocations.old id (problem_parts problem).kind }
     ensures slices { slices_of result.told ≡ Slices.none }
 {
@@ -156,7 +161,8 @@ fn take_reject_back<'m, A: Allocator + Copy>(
     id: Option<i8>,
     problem: Problem,
 ) -> Handled<'m, A>
-    ensures handled { handled_view result ≡ handled (Some dialogue) (sent_by_rows dialogue invocations.old id) (Ok (reject_back id (problem_parts problem))) }
+    ensures handled { handled_view result ≡ handled (Some dialogue)
+        (sent_by_rows dialogue invocations.old id) (Ok (reject_back id (problem_parts problem))) }
     ensures list { invocations.new ≡ after_item 0 invocations.old (Ok (reject_back id (problem_parts problem))) }
     ensures slices { slices_of result.told ≡ Slices.none }
 {
@@ -174,7 +180,8 @@ fn take_component<'m, A: Allocator + Copy>(
     component: Component<'m>,
 ) -> Handled<'m, A>
     requires { clock ≤ moment_limit }
-    ensures handled { handled_view result ≡ handled (Some dialogue) (sent_by_rows dialogue invocations.old (subject_of (Ok (component_parts component.entry)))) (Ok (component_parts component.entry)) }
+    ensures handled { handled_view result ≡ handled (Some dialogue) (sent_by_rows dialogue invocations.old
+        (subject_of (Ok (component_parts component.entry)))) (Ok (component_parts component.entry)) }
     ensures list { invocations.new ≡ after_item clock invocations.old (Ok (component_parts component.entry)) }
     ensures slices { AreOf component.entry (slices_of result.told) }
 {
@@ -210,7 +217,8 @@ pub(crate) fn take_item<'m, A: Allocator + Copy>(
     item: Result<Component<'m>, ComponentFault>,
 ) -> Handled<'m, A>
     requires { clock ≤ moment_limit }
-    ensures handled { handled_view result ≡ handled (Some dialogue) (sent_by_rows dialogue invocations.old (subject_of (item_view item.entry))) (item_view item.entry) }
+    ensures handled { handled_view result ≡ handled (Some dialogue)
+        (sent_by_rows dialogue invocations.old (subject_of (item_view item.entry))) (item_view item.entry) }
     ensures list { invocations.new ≡ after_item clock invocations.old (item_view item.entry) }
     ensures slices { AreOfItem item.entry (slices_of result.told) }
 {

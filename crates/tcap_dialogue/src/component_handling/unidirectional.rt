@@ -31,7 +31,8 @@ fn alone_invoke<'m, A: Allocator>(
     code: Code<'m>,
     parameter: Option<&'m [u8]>,
 ) -> Output<'m, A>
-    ensures told { shown result ≡ (invoke_handled None None id linked (code_parts code.entry) (option_copied parameter.entry)).told }
+    ensures told { shown result
+        ≡ (invoke_handled None None id linked (code_parts code.entry) (option_copied parameter.entry)).told }
     ensures slices { AreOf (component.Invoke id linked code.entry parameter.entry) (slices_of result) }
 {
     match linked {

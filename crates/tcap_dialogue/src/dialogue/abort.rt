@@ -64,7 +64,8 @@ fn portion_told<'m, A: Allocator>(dialogue: u32, portion: &'m [u8]) -> Output<'m
 /// EXTERNAL and by an AARE that isn't accepted, unless there is no common dialogue portion.
 fn pdu_told<'m, A: Allocator>(dialogue: u32, pdu: DialoguePdu<'m>) -> Output<'m, A>
     ensures told { shown result ≡ portion_told dialogue (Ok (pdu_value pdu.entry)) }
-    ensures place { (portion components : Slice) → PduInPlace pdu.entry portion → LieIn (Some portion) components (slices_of result) }
+    ensures place { (portion components : Slice) → PduInPlace pdu.entry portion
+        → LieIn (Some portion) components (slices_of result) }
 {
     match pdu {
         DialoguePdu::Abrt {
@@ -143,10 +144,12 @@ fn address_by<'a>(phase: &Phase, kept: &'a Address, from: &'a Address) -> &'a Ad
 impl<A: Allocator + Copy> Dialogue<A> {
     /// Tells first what the message tells, then each invocation that the end of the dialogue ends.
     fn over_with<'m>(&mut self, first: Output<'m, A>) -> Result<Step<'m, A>, OutOfMemory>
-        ensures ok { IfOk result (λ s. stepped s self.new ≡ outcome (over_with self.old (shown first.entry ∷ []) self.old.invocations)) }
+        ensures ok { IfOk result (λ s. stepped s self.new
+            ≡ outcome (over_with self.old (shown first.entry ∷ []) self.old.invocations)) }
         ensures err { OnErr result (self.new ≡ self.old) }
         ensures kept { self.new.standing.identifier ≡ self.old.standing.identifier }
-        ensures place { (portion : Option Slice) (components : Slice) → LieIn portion components (slices_of first.entry) → IfOk result (λ s. AllInPlace portion components s.outputs.items) }
+        ensures place { (portion : Option Slice) (components : Slice) → LieIn portion components
+            (slices_of first.entry) → IfOk result (λ s. AllInPlace portion components s.outputs.items) }
         ensures room { IfOk result (λ s. vec_len s.outputs < vec_capacity s.outputs) }
     {
         let count = self.invocations.open_count().saturating_add(2);
@@ -164,10 +167,12 @@ impl<A: Allocator + Copy> Dialogue<A> {
         &mut self,
         reason: &AbortPart<'m>,
     ) -> Result<Step<'m, A>, OutOfMemory>
-        ensures ok { IfOk result (λ s. stepped s self.new ≡ outcome (over_with self.old (abort_told self.old.standing.identifier (reason_of reason.now) ∷ []) self.old.invocations)) }
+        ensures ok { IfOk result (λ s. stepped s self.new ≡ outcome (over_with self.old
+            (abort_told self.old.standing.identifier (reason_of reason.now) ∷ []) self.old.invocations)) }
         ensures err { OnErr result (self.new ≡ self.old) }
         ensures kept { self.new.standing.identifier ≡ self.old.standing.identifier }
-        ensures place { (components : Slice) → IfOk result (λ s. AllInPlace (reason_slice reason.now) components s.outputs.items) }
+        ensures place { (components : Slice)
+            → IfOk result (λ s. AllInPlace (reason_slice reason.now) components s.outputs.items) }
     {
         let told = abort_told(self.identifier, reason);
         self.over_with(told)
@@ -175,10 +180,12 @@ impl<A: Allocator + Copy> Dialogue<A> {
 
     /// The provider here aborts, and the dialogue is over.
     pub(super) fn abort_provider<'m>(&mut self, why: Why) -> Result<Step<'m, A>, OutOfMemory>
-        ensures ok { IfOk result (λ s. stepped s self.new ≡ outcome (over_with self.old (provider_told self.old (cause_view why) ∷ []) self.old.invocations)) }
+        ensures ok { IfOk result (λ s. stepped s self.new
+            ≡ outcome (over_with self.old (provider_told self.old (cause_view why) ∷ []) self.old.invocations)) }
         ensures err { OnErr result (self.new ≡ self.old) }
         ensures kept { self.new.standing.identifier ≡ self.old.standing.identifier }
-        ensures place { (portion : Option Slice) (components : Slice) → IfOk result (λ s. AllInPlace portion components s.outputs.items) }
+        ensures place { (portion : Option Slice) (components : Slice)
+            → IfOk result (λ s. AllInPlace portion components s.outputs.items) }
         ensures room { IfOk result (λ s. vec_len s.outputs < vec_capacity s.outputs) }
     {
         let dialogue = self.identifier;
@@ -194,7 +201,8 @@ impl<A: Allocator + Copy> Dialogue<A> {
         ensures ok { IfOk result (λ s. stepped s self.new ≡ outcome (abnormal_over self.old from.now origin.now)) }
         ensures err { OnErr result (self.new ≡ self.old) }
         ensures kept { self.new.standing.identifier ≡ self.old.standing.identifier }
-        ensures place { (portion : Option Slice) (components : Slice) → IfOk result (λ s. AllInPlace portion components s.outputs.items) }
+        ensures place { (portion : Option Slice) (components : Slice)
+            → IfOk result (λ s. AllInPlace portion components s.outputs.items) }
     {
         let alloc = *self.queue.octets.allocator();
         let peer = peer_by(&self.phase, origin).copied();

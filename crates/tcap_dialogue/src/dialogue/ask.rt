@@ -37,7 +37,8 @@ impl<A: Allocator + Copy> Dialogue<A> {
     ) -> Result<Asked<'m, A>, Fault>
         requires clock { clock ≤ moment_limit }
         requires number { IsNumbered number self.old.invocations.rows (request_view request.now) }
-        ensures answer { Asks result (outcome (table_move (asked clock number) self.old (DialogueEvent.request (request_view request.now)))) self.old self.new }
+        ensures answer { Asks result (outcome (table_move (asked clock number) self.old
+            (DialogueEvent.request (request_view request.now)))) self.old self.new }
         ensures kept { self.new.standing.identifier ≡ self.old.standing.identifier }
     {
         match *request {
@@ -80,7 +81,8 @@ fn of_number<'m, A: Allocator + Copy>(answer: Result<u64, Fault>) -> Result<Aske
 
 /// The answer where a component is queued.
 fn of_queued<'m, A: Allocator + Copy>(answer: Result<(), Fault>) -> Result<Asked<'m, A>, Fault>
-    ensures { (o : Outcome) (old new : model.Dialogue) → Answers queued_done answer o old new → Asks result o old new }
+    ensures { (o : Outcome) (old new : model.Dialogue) → Answers queued_done answer o old new
+        → Asks result o old new }
 {
     answer?;
     Ok(Asked::Done)

@@ -30,7 +30,8 @@ fn parts_of<'m>(pdu: Option<(&'m [u8], &'m [u8])>) -> (Option<&'m [u8]>, &'m [u8
     ensures context { result.0 ≡ context_slice pdu.entry }
     ensures given { option_copied result.0 ≡ context_given pdu.entry }
     ensures info { result.1.now ≡ info_given pdu.entry }
-    ensures place { (tag : ℕ) (portion : Option Slice) → GivenIn tag pdu.entry portion → HeldIn tag result.0 result.1 portion }
+    ensures place { (tag : ℕ) (portion : Option Slice) → GivenIn tag pdu.entry portion
+        → HeldIn tag result.0 result.1 portion }
 {
     match pdu {
         None => (None, &[]),
@@ -52,8 +53,10 @@ impl<A: Allocator + Copy> Dialogue<A> {
     ) -> Result<Vec<Output<'m, A>, A>, OutOfMemory>
         requires clock { clock ≤ moment_limit }
         requires named { can_name (option_copied context) ≡ true }
-        ensures ok { IfOk result (λ outputs. begun outputs.items self.new ≡ outcome (begun_from clock self.old from.now otid.now (option_copied context.entry) info.now components.now)) }
-        ensures place { (portion : Option Slice) → HeldIn 0x60 context.entry info.entry portion → IfOk result (λ outputs. AllInPlace portion components.entry outputs.items) }
+        ensures ok { IfOk result (λ outputs. begun outputs.items self.new ≡ outcome
+            (begun_from clock self.old from.now otid.now (option_copied context.entry) info.now components.now)) }
+        ensures place { (portion : Option Slice) → HeldIn 0x60 context.entry info.entry portion
+            → IfOk result (λ outputs. AllInPlace portion components.entry outputs.items) }
     {
         let alloc = *self.queue.octets.allocator();
         let items = count_items(components);
@@ -100,9 +103,12 @@ impl<A: Allocator + Copy> Dialogue<A> {
         requires clock { clock ≤ moment_limit }
         requires named { IfSome aarq (λ a. IsObjectIdentifier a.0.now) }
         // What is told, and the dialogue.
-        ensures ok { IfOk result (λ r. begun r.1.items r.0 ≡ outcome (born (at_clock clock) identifier reject_ms idle_ms from.now otid.now (context_given aarq.entry) (info_given aarq.entry) components.now)) }
+        ensures ok { IfOk result (λ r. begun r.1.items r.0
+            ≡ outcome (born (at_clock clock) identifier reject_ms idle_ms from.now otid.now
+            (context_given aarq.entry) (info_given aarq.entry) components.now)) }
         // The slices that are told are those that were given, and parts of the component portion.
-        ensures place { (portion : Option Slice) → GivenIn 0x60 aarq.entry portion → IfOk result (λ r. AllInPlace portion components.entry r.1.items) }
+        ensures place { (portion : Option Slice) → GivenIn 0x60 aarq.entry portion
+            → IfOk result (λ r. AllInPlace portion components.entry r.1.items) }
     {
         let (context, info) = parts_of(aarq);
         let mut dialogue = Dialogue::fresh(alloc, identifier, reject_ms, idle_ms);
@@ -119,9 +125,11 @@ pub fn take_uni<'m, A: Allocator + Copy>(
     audt: Option<(&'m [u8], &'m [u8])>,
     components: &'m [u8],
 ) -> Result<Vec<Output<'m, A>, A>, OutOfMemory>
-    ensures ok { IfOk result (λ outputs. all_shown outputs.items ≡ model.Output.dialogue (DialogueIndication.uni (context_given audt.entry) (info_given audt.entry)) ∷ uni_told (components_of components.now)) }
+    ensures ok { IfOk result (λ outputs. all_shown outputs.items ≡ model.Output.dialogue (DialogueIndication.uni
+        (context_given audt.entry) (info_given audt.entry)) ∷ uni_told (components_of components.now)) }
     // The slices that are told are those that were given, and parts of the component portion.
-    ensures place { (portion : Option Slice) → GivenIn 0x60 audt.entry portion → IfOk result (λ outputs. AllInPlace portion components.entry outputs.items) }
+    ensures place { (portion : Option Slice) → GivenIn 0x60 audt.entry portion
+        → IfOk result (λ outputs. AllInPlace portion components.entry outputs.items) }
 {
     let (context, info) = parts_of(audt);
     let count = count_items(components).saturating_add(1);

@@ -96,7 +96,8 @@ impl<A: Allocator + Copy> Dialogue<A> {
         timeout_ms: u64,
     ) -> Option<Fault>
         requires { number < 2 ^ 64 - 1 }
-        ensures { let r = Request.component (invoke id class (code_parts code.entry) (option_copied parameter.entry) linked timeout_ms) in
+        ensures { let r = Request.component
+            (invoke id class (code_parts code.entry) (option_copied parameter.entry) linked timeout_ms) in
             option_map fault_view result ≡ due_on (situation (asked 0 number) self.now r) r }
     {
         if let Some(fault) = self.check_invoke(id, code, parameter, timeout_ms) {

@@ -35,7 +35,8 @@ impl<A: Allocator + Copy> Dialogue<A> {
     ) -> Result<u64, Fault>
         requires left { number < 2 ^ 64 - 1 }
         requires above { AllBelow number self.old.invocations.rows }
-        ensures answer { Answers numbered result (requested 0 number self.old (Request.component (invoke id class (code_parts code.entry) (option_copied parameter.entry) linked timeout_ms))) self.old self.new }
+        ensures answer { Answers numbered result (requested 0 number self.old (Request.component (invoke id class
+            (code_parts code.entry) (option_copied parameter.entry) linked timeout_ms))) self.old self.new }
         ensures kept { self.new.standing.identifier ≡ self.old.standing.identifier }
     {
         if let Some(fault) = self.invoke_refusal(
@@ -59,7 +60,8 @@ impl<A: Allocator + Copy> Dialogue<A> {
 
     /// TC-RESULT-L request.
     pub fn result_last(&mut self, id: i8, body: Option<Body<'_>>) -> Result<(), Fault>
-        ensures answer { Answers queued_done result (requested 0 0 self.old (Request.component (result_last id (option_map body_parts body.entry)))) self.old self.new }
+        ensures answer { Answers queued_done result (requested 0 0 self.old
+            (Request.component (result_last id (option_map body_parts body.entry)))) self.old self.new }
         ensures kept { self.new.standing.identifier ≡ self.old.standing.identifier }
     {
         self.queue_answer(&Component::ResultLast { id, body })
@@ -67,7 +69,8 @@ impl<A: Allocator + Copy> Dialogue<A> {
 
     /// TC-RESULT-NL request.
     pub fn result_more(&mut self, id: i8, body: Option<Body<'_>>) -> Result<(), Fault>
-        ensures answer { Answers queued_done result (requested 0 0 self.old (Request.component (result_more id (option_map body_parts body.entry)))) self.old self.new }
+        ensures answer { Answers queued_done result (requested 0 0 self.old
+            (Request.component (result_more id (option_map body_parts body.entry)))) self.old self.new }
         ensures kept { self.new.standing.identifier ≡ self.old.standing.identifier }
     {
         self.queue_answer(&Component::ResultMore { id, body })
@@ -80,7 +83,8 @@ impl<A: Allocator + Copy> Dialogue<A> {
         code: Code<'_>,
         parameter: Option<&[u8]>,
     ) -> Result<(), Fault>
-        ensures answer { Answers queued_done result (requested 0 0 self.old (Request.component (error_back id (code_parts code.entry) (option_copied parameter.entry)))) self.old self.new }
+        ensures answer { Answers queued_done result (requested 0 0 self.old (Request.component
+            (error_back id (code_parts code.entry) (option_copied parameter.entry)))) self.old self.new }
         ensures kept { self.new.standing.identifier ≡ self.old.standing.identifier }
     {
         let component = Component::ErrorBack {
@@ -93,7 +97,8 @@ impl<A: Allocator + Copy> Dialogue<A> {
 
     /// TC-U-REJECT request. A Reject of a result or an error frees the identifier that waits for it.
     pub fn u_reject(&mut self, id: Option<i8>, problem: Problem) -> Result<(), Fault>
-        ensures answer { Answers queued_done result (requested 0 0 self.old (Request.component (u_reject id (problem_parts problem)))) self.old self.new }
+        ensures answer { Answers queued_done result
+            (requested 0 0 self.old (Request.component (u_reject id (problem_parts problem)))) self.old self.new }
         ensures kept { self.new.standing.identifier ≡ self.old.standing.identifier }
     {
         self.queue_answer(&Component::RejectBack { id, problem })?;
@@ -104,7 +109,8 @@ impl<A: Allocator + Copy> Dialogue<A> {
     /// TC-U-CANCEL request: the number of the invocation that is given up. An Invoke that wasn't sent
     /// leaves the queue. It takes no memory.
     pub fn u_cancel(&mut self, id: i8) -> Result<u64, Fault>
-        ensures answer { Answers gave_up result (requested 0 0 self.old (Request.component (u_cancel id))) self.old self.new }
+        ensures answer { Answers gave_up result
+            (requested 0 0 self.old (Request.component (u_cancel id))) self.old self.new }
         ensures kept { self.new.standing.identifier ≡ self.old.standing.identifier }
     {
         let Some(number) = self.invocations.give_up(id) else {
@@ -116,7 +122,8 @@ impl<A: Allocator + Copy> Dialogue<A> {
 
     /// Queues a component that answers the peer.
     fn queue_answer(&mut self, component: &Component<'_>) -> Result<(), Fault>
-        ensures answer { Answers queued_done result (answered self.old (component_parts component.now)) self.old self.new }
+        ensures answer { Answers queued_done result
+            (answered self.old (component_parts component.now)) self.old self.new }
         ensures kept { self.new.standing.identifier ≡ self.old.standing.identifier }
     {
         if let Some(fault) = self.answer_refusal(component) {

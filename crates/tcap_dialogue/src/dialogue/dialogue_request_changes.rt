@@ -50,9 +50,11 @@ impl<A: Allocator + Copy> Dialogue<A> {
         control: &Control<'_>,
         more: usize,
     ) -> Result<Vec<Output<'m, A>, A>, OutOfMemory>
-        ensures sent { IfOk result (λ v. all_shown v.items ≡ sent_for_request self.now (Request.dialogue (control_view control.now))) }
+        ensures sent { IfOk result (λ v. all_shown v.items
+            ≡ sent_for_request self.now (Request.dialogue (control_view control.now))) }
         ensures room { IfOk result (λ v. vec_len v + more ≤ vec_capacity v) }
-        ensures memory { OnErr result (IsTrue (is_some (message_of self.now.standing (Request.dialogue (control_view control.now))) || nat_lt 0 more)) }
+        ensures memory { OnErr result (IsTrue
+            (is_some (message_of self.now.standing (Request.dialogue (control_view control.now))) || nat_lt 0 more)) }
     {
         let alloc = *self.queue.octets.allocator();
         match self.sending(control) {
@@ -86,7 +88,8 @@ impl<A: Allocator + Copy> Dialogue<A> {
     ) -> Result<Step<'m, A>, OutOfMemory>
         requires clock { clock ≤ moment_limit }
         requires named { can_name (option_copied context) ≡ true }
-        ensures ok { IfOk result (λ s. stepped s self.new ≡ outcome (accepted (asked clock 0) self.old (Request.dialogue (DialogueRequest.begin to.now (option_copied context.entry) info.now)))) }
+        ensures ok { IfOk result (λ s. stepped s self.new ≡ outcome (accepted (asked clock 0) self.old
+            (Request.dialogue (DialogueRequest.begin to.now (option_copied context.entry) info.now)))) }
         ensures err { OnErr result (self.new ≡ self.old) }
         ensures kept { self.new.standing.identifier ≡ self.old.standing.identifier }
     {
@@ -111,9 +114,11 @@ impl<A: Allocator + Copy> Dialogue<A> {
         clock: u64,
     ) -> Result<Step<'m, A>, OutOfMemory>
         requires { clock ≤ moment_limit }
-        ensures ok { IfOk result (λ s. stepped s self.new ≡ outcome (accepted (asked clock 0) self.old (Request.dialogue (DialogueRequest.go_on (option_copied context.entry) info.now)))) }
+        ensures ok { IfOk result (λ s. stepped s self.new ≡ outcome (accepted (asked clock 0) self.old
+            (Request.dialogue (DialogueRequest.go_on (option_copied context.entry) info.now)))) }
         ensures err { OnErr result (self.new ≡ self.old) }
-        ensures memory { OnErr result (IsTrue (takes_memory (accepted (asked clock 0) self.old (Request.dialogue (DialogueRequest.go_on (option_copied context.entry) info.now))).answer)) }
+        ensures memory { OnErr result (IsTrue (takes_memory (accepted (asked clock 0) self.old
+            (Request.dialogue (DialogueRequest.go_on (option_copied context.entry) info.now))).answer)) }
         ensures kept { self.new.standing.identifier ≡ self.old.standing.identifier }
     {
         let outputs = self.sent_outputs(&Control::Continue { context, info }, 0)?;
@@ -128,9 +133,11 @@ impl<A: Allocator + Copy> Dialogue<A> {
 
     /// A request goes through with which the dialogue is over.
     fn take_last<'m>(&mut self, control: &Control<'_>) -> Result<Step<'m, A>, OutOfMemory>
-        ensures ok { IfOk result (λ s. stepped s self.new ≡ outcome (over_with self.old (sent_for_request self.old (Request.dialogue (control_view control.now))) self.old.invocations)) }
+        ensures ok { IfOk result (λ s. stepped s self.new ≡ outcome (over_with self.old
+            (sent_for_request self.old (Request.dialogue (control_view control.now))) self.old.invocations)) }
         ensures err { OnErr result (self.new ≡ self.old) }
-        ensures memory { OnErr result (IsTrue (takes_memory (over_with self.old (sent_for_request self.old (Request.dialogue (control_view control.now))) self.old.invocations).answer)) }
+        ensures memory { OnErr result (IsTrue (takes_memory (over_with self.old
+            (sent_for_request self.old (Request.dialogue (control_view control.now))) self.old.invocations).answer)) }
         ensures kept { self.new.standing.identifier ≡ self.old.standing.identifier }
     {
         let left = self.invocations.open_count();
@@ -150,9 +157,11 @@ impl<A: Allocator + Copy> Dialogue<A> {
     ) -> Result<Step<'m, A>, OutOfMemory>
         requires clock { clock ≤ moment_limit }
         requires named { can_name (context_given (Request.dialogue (control_view control.now))) ≡ true }
-        ensures ok { IfOk result (λ s. stepped s self.new ≡ outcome (accepted (asked clock 0) self.old (Request.dialogue (control_view control.now)))) }
+        ensures ok { IfOk result (λ s. stepped s self.new
+            ≡ outcome (accepted (asked clock 0) self.old (Request.dialogue (control_view control.now)))) }
         ensures err { OnErr result (self.new ≡ self.old) }
-        ensures memory { OnErr result (IsTrue (takes_memory (accepted (asked clock 0) self.old (Request.dialogue (control_view control.now))).answer)) }
+        ensures memory { OnErr result (IsTrue
+            (takes_memory (accepted (asked clock 0) self.old (Request.dialogue (control_view control.now))).answer)) }
         ensures kept { self.new.standing.identifier ≡ self.old.standing.identifier }
     {
         match control {

@@ -75,7 +75,8 @@ impl<A: Allocator + Copy> Dialogue<A> {
 
     /// Whether the state of the dialogue has the request.
     fn has_control(&self, control: &Control<'_>) -> bool
-        ensures { result ≡ has_request self.now.standing.state self.now.standing.context (Request.dialogue (control_view control.now)) }
+        ensures { result ≡ has_request self.now.standing.state self.now.standing.context
+            (Request.dialogue (control_view control.now)) }
     {
         match control {
             Control::Uni { .. } | Control::Begin { .. } => is_fresh(&self.phase),
@@ -93,7 +94,8 @@ impl<A: Allocator + Copy> Dialogue<A> {
 
     /// Whether a context or user information is given for which there is no dialogue portion.
     fn has_no_context(&self, control: &Control<'_>) -> bool
-        ensures { result ≡ has_no_context self.now.standing.state self.now.standing.context (Request.dialogue (control_view control.now)) }
+        ensures { result ≡ has_no_context self.now.standing.state self.now.standing.context
+            (Request.dialogue (control_view control.now)) }
     {
         match control {
             Control::Uni { context, info, .. } | Control::Begin { context, info, .. } => {
@@ -132,7 +134,8 @@ impl<A: Allocator + Copy> Dialogue<A> {
 
     /// Whether the message would be above the limit, where what is given is good.
     fn is_too_long(&self, control: &Control<'_>) -> bool
-        ensures { can_name (context_given (Request.dialogue (control_view control.now))) ≡ true → is_information (information_given (Request.dialogue (control_view control.now))) ≡ true →
+        ensures { can_name (context_given (Request.dialogue (control_view control.now))) ≡ true
+            → is_information (information_given (Request.dialogue (control_view control.now))) ≡ true →
             result ≡ passes_message (message_of self.now.standing (Request.dialogue (control_view control.now))) }
     {
         match self.sending(control) {
@@ -143,7 +146,8 @@ impl<A: Allocator + Copy> Dialogue<A> {
 
     /// The fault of a request that is due, `OutOfMemory` apart.
     pub(super) fn control_fault(&self, control: &Control<'_>) -> Option<Fault>
-        ensures { let r = Request.dialogue (control_view control.now) in option_map fault_view result ≡ due_on (situation (asked 0 0) self.now r) r }
+        ensures { let r = Request.dialogue (control_view control.now) in option_map fault_view result
+            ≡ due_on (situation (asked 0 0) self.now r) r }
     {
         if !self.has_control(control) {
             return Some(Fault::WrongState);

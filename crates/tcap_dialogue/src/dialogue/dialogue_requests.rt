@@ -21,9 +21,11 @@ impl<A: Allocator + Copy> Dialogue<A> {
         clock: u64,
     ) -> Result<Step<'m, A>, Fault>
         requires { clock ≤ moment_limit }
-        ensures step { Steps result (requested clock 0 self.old (Request.dialogue (control_view control.now))) self.old self.new }
+        ensures step { Steps result (requested clock 0 self.old
+            (Request.dialogue (control_view control.now))) self.old self.new }
         // Whatever number an invocation would get.
-        ensures any { (number : ℕ) → Steps result (requested clock number self.old (Request.dialogue (control_view control.now))) self.old self.new }
+        ensures any { (number : ℕ) → Steps result
+            (requested clock number self.old (Request.dialogue (control_view control.now))) self.old self.new }
         ensures kept { self.new.standing.identifier ≡ self.old.standing.identifier }
     {
         if let Some(fault) = self.control_fault(control) {
@@ -41,7 +43,8 @@ impl<A: Allocator + Copy> Dialogue<A> {
         context: Option<&[u8]>,
         info: &[u8],
     ) -> Result<Step<'m, A>, Fault>
-        ensures step { Steps result (requested 0 0 self.old (Request.dialogue (DialogueRequest.uni to.now (option_copied context.entry) info.now))) self.old self.new }
+        ensures step { Steps result (requested 0 0 self.old
+            (Request.dialogue (DialogueRequest.uni to.now (option_copied context.entry) info.now))) self.old self.new }
         ensures kept { self.new.standing.identifier ≡ self.old.standing.identifier }
     {
         self.control(&Control::Uni { to, context, info }, 0)
@@ -59,7 +62,8 @@ impl<A: Allocator + Copy> Dialogue<A> {
         clock: u64,
     ) -> Result<Step<'m, A>, Fault>
         requires { clock ≤ moment_limit }
-        ensures step { Steps result (requested clock 0 self.old (Request.dialogue (DialogueRequest.begin to.now (option_copied context.entry) info.now))) self.old self.new }
+        ensures step { Steps result (requested clock 0 self.old (Request.dialogue
+            (DialogueRequest.begin to.now (option_copied context.entry) info.now))) self.old self.new }
         ensures kept { self.new.standing.identifier ≡ self.old.standing.identifier }
     {
         self.control(&Control::Begin { to, context, info }, clock)
@@ -76,7 +80,8 @@ impl<A: Allocator + Copy> Dialogue<A> {
         clock: u64,
     ) -> Result<Step<'m, A>, Fault>
         requires { clock ≤ moment_limit }
-        ensures step { Steps result (requested clock 0 self.old (Request.dialogue (DialogueRequest.go_on (option_copied context.entry) info.now))) self.old self.new }
+        ensures step { Steps result (requested clock 0 self.old
+            (Request.dialogue (DialogueRequest.go_on (option_copied context.entry) info.now))) self.old self.new }
         ensures kept { self.new.standing.identifier ≡ self.old.standing.identifier }
     {
         self.control(&Control::Continue { context, info }, clock)
@@ -92,7 +97,8 @@ impl<A: Allocator + Copy> Dialogue<A> {
         context: Option<&[u8]>,
         info: &[u8],
     ) -> Result<Step<'m, A>, Fault>
-        ensures step { Steps result (requested 0 0 self.old (Request.dialogue (DialogueRequest.finish (ending_view ending) (option_copied context.entry) info.now))) self.old self.new }
+        ensures step { Steps result (requested 0 0 self.old (Request.dialogue
+            (DialogueRequest.finish (ending_view ending) (option_copied context.entry) info.now))) self.old self.new }
         ensures kept { self.new.standing.identifier ≡ self.old.standing.identifier }
     {
         self.control(
@@ -110,7 +116,8 @@ impl<A: Allocator + Copy> Dialogue<A> {
     /// context of an AARQ with an AARE. Faults: WrongState where NotSupported answers no AARQ, BadParameter, NoContext
     /// for information that no ABRT carries, TooLong, OutOfMemory (Q.774, Abort by the user).
     pub fn u_abort<'m>(&mut self, why: AbortWhy, info: &[u8]) -> Result<Step<'m, A>, Fault>
-        ensures step { Steps result (requested 0 0 self.old (Request.dialogue (DialogueRequest.u_abort (reason_view why) info.now))) self.old self.new }
+        ensures step { Steps result (requested 0 0 self.old
+            (Request.dialogue (DialogueRequest.u_abort (reason_view why) info.now))) self.old self.new }
         ensures kept { self.new.standing.identifier ≡ self.old.standing.identifier }
     {
         self.control(&Control::Abort { why, info }, 0)

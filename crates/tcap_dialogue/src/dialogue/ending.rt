@@ -22,7 +22,8 @@ pub(crate) fn tell_ended<'m, A: Allocator + Copy>(
     ensures told { all_shown outputs.new.items ≡ all_shown outputs.old.items ++ ended_told dialogue invocations.old }
     ensures room { vec_capacity outputs.old ≤ vec_capacity outputs.new }
     // What is told so has no slices.
-    ensures place { (portion : Option Slice) (components : Slice) → AllInPlace portion components outputs.old.items → AllInPlace portion components outputs.new.items }
+    ensures place { (portion : Option Slice) (components : Slice)
+        → AllInPlace portion components outputs.old.items → AllInPlace portion components outputs.new.items }
     ensures len { vec_len outputs.new ≡ vec_len outputs.old + length (ended_at invocations.old.rows) }
 {
     while let Some((number, id)) = invocations.close_one() {

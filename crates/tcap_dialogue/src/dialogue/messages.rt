@@ -60,10 +60,13 @@ impl<A: Allocator + Copy> Dialogue<A> {
         clock: u64,
     ) -> Result<Step<'m, A>, OutOfMemory>
         requires { clock ≤ moment_limit }
-        ensures ok { IfOk result (λ s. stepped s self.new ≡ outcome (continued_by (at_clock clock) self.old from.now origin.now (normal (option_copied context.entry) info.now) (walked_in clock self.old components.now))) }
+        ensures ok { IfOk result (λ s. stepped s self.new
+            ≡ outcome (continued_by (at_clock clock) self.old from.now origin.now
+            (normal (option_copied context.entry) info.now) (walked_in clock self.old components.now))) }
         ensures err { OnErr result (self.new ≡ self.old) }
         ensures kept { self.new.standing.identifier ≡ self.old.standing.identifier }
-        ensures place { (portion : Option Slice) → HeldIn 0x61 context.entry info.entry portion → IfOk result (λ s. AllInPlace portion components.entry s.outputs.items) }
+        ensures place { (portion : Option Slice) → HeldIn 0x61 context.entry info.entry portion
+            → IfOk result (λ s. AllInPlace portion components.entry s.outputs.items) }
     {
         let items = count_items(components);
         let mut outputs = Vec::with_capacity(
@@ -103,10 +106,12 @@ impl<A: Allocator + Copy> Dialogue<A> {
         clock: u64,
     ) -> Result<Step<'m, A>, OutOfMemory>
         requires { clock ≤ moment_limit }
-        ensures ok { IfOk result (λ s. stepped s self.new ≡ outcome (ended_by self.old (normal (option_copied context.entry) info.now) (walked_in clock self.old components.now))) }
+        ensures ok { IfOk result (λ s. stepped s self.new ≡ outcome (ended_by self.old
+            (normal (option_copied context.entry) info.now) (walked_in clock self.old components.now))) }
         ensures err { OnErr result (self.new ≡ self.old) }
         ensures kept { self.new.standing.identifier ≡ self.old.standing.identifier }
-        ensures place { (portion : Option Slice) → HeldIn 0x61 context.entry info.entry portion → IfOk result (λ s. AllInPlace portion components.entry s.outputs.items) }
+        ensures place { (portion : Option Slice) → HeldIn 0x61 context.entry info.entry portion
+            → IfOk result (λ s. AllInPlace portion components.entry s.outputs.items) }
     {
         let items = count_items(components);
         let count = items
@@ -142,7 +147,10 @@ impl<A: Allocator + Copy> Dialogue<A> {
         clock: u64,
     ) -> Result<Step<'m, A>, OutOfMemory>
         requires { clock ≤ moment_limit }
-        ensures ok { IfOk result (λ s. stepped s self.new ≡ outcome (continued_by (at_clock clock) self.old from.now origin.now (portion_verdict self.old.standing.state self.old.standing.context (option_copied dialogue.entry)) (walked_in clock self.old components.now))) }
+        ensures ok { IfOk result (λ s. stepped s self.new
+            ≡ outcome (continued_by (at_clock clock) self.old from.now origin.now
+            (portion_verdict self.old.standing.state self.old.standing.context (option_copied dialogue.entry))
+            (walked_in clock self.old components.now))) }
         ensures err { OnErr result (self.new ≡ self.old) }
         ensures kept { self.new.standing.identifier ≡ self.old.standing.identifier }
         ensures place { IfOk result (λ s. AllInPlace dialogue.entry components.entry s.outputs.items) }
@@ -163,7 +171,9 @@ impl<A: Allocator + Copy> Dialogue<A> {
         clock: u64,
     ) -> Result<Step<'m, A>, OutOfMemory>
         requires { clock ≤ moment_limit }
-        ensures ok { IfOk result (λ s. stepped s self.new ≡ outcome (ended_by self.old (portion_verdict self.old.standing.state self.old.standing.context (option_copied dialogue.entry)) (walked_in clock self.old components.now))) }
+        ensures ok { IfOk result (λ s. stepped s self.new
+            ≡ outcome (ended_by self.old (portion_verdict self.old.standing.state self.old.standing.context
+            (option_copied dialogue.entry)) (walked_in clock self.old components.now))) }
         ensures err { OnErr result (self.new ≡ self.old) }
         ensures kept { self.new.standing.identifier ≡ self.old.standing.identifier }
         ensures place { IfOk result (λ s. AllInPlace dialogue.entry components.entry s.outputs.items) }
@@ -184,10 +194,12 @@ impl<A: Allocator + Copy> Dialogue<A> {
         clock: u64,
     ) -> Result<Step<'m, A>, OutOfMemory>
         requires { clock ≤ moment_limit }
-        ensures ok { IfOk result (λ s. stepped s self.new ≡ outcome (framed (at_clock clock) self.old from.now (message frame.now))) }
+        ensures ok { IfOk result (λ s. stepped s self.new
+            ≡ outcome (framed (at_clock clock) self.old from.now (message frame.now))) }
         ensures err { OnErr result (self.new ≡ self.old) }
         ensures kept { self.new.standing.identifier ≡ self.old.standing.identifier }
-        ensures place { (other : Slice) → IfOk result (λ s. AllInPlace (dialogue_slice frame.now) (unwrap_or (components_slice frame.now) other) s.outputs.items) }
+        ensures place { (other : Slice) → IfOk result (λ s. AllInPlace
+            (dialogue_slice frame.now) (unwrap_or (components_slice frame.now) other) s.outputs.items) }
     {
         match frame {
             Frame::Continue {
@@ -222,12 +234,14 @@ impl<A: Allocator + Copy> Dialogue<A> {
     ) -> Result<Step<'m, A>, OutOfMemory>
         requires { clock ≤ moment_limit }
         // What is told, and the dialogue unless it is over.
-        ensures ok { IfOk result (λ s. stepped s self.new ≡ outcome (table_move (at_clock clock) self.old (DialogueEvent.frame from.now (message frame.now)))) }
+        ensures ok { IfOk result (λ s. stepped s self.new
+            ≡ outcome (table_move (at_clock clock) self.old (DialogueEvent.frame from.now (message frame.now)))) }
         ensures err { OnErr result (self.new ≡ self.old) }
         // The identifier stays, also of one that is over.
         ensures kept { self.new.standing.identifier ≡ self.old.standing.identifier }
         // The slices that are told are the parts of the message, and no equal octets elsewhere.
-        ensures place { (other : Slice) → IfOk result (λ s. AllInPlace (dialogue_slice frame.now) (unwrap_or (components_slice frame.now) other) s.outputs.items) }
+        ensures place { (other : Slice) → IfOk result (λ s. AllInPlace
+            (dialogue_slice frame.now) (unwrap_or (components_slice frame.now) other) s.outputs.items) }
     {
         self.receive_message(from, frame, clock)
     }
@@ -237,7 +251,8 @@ impl<A: Allocator + Copy> Dialogue<A> {
     #[tactic(auto, unfolding(tcap_model::specs::Table::TableMove::table_move))]
     pub fn take_fault<'m>(&mut self, cause: u8) -> Result<Step<'m, A>, OutOfMemory>
         // What is told; the dialogue is over.
-        ensures ok { (around : Setting) → IfOk result (λ s. stepped s self.new ≡ outcome (table_move around self.old (DialogueEvent.fault cause))) }
+        ensures ok { (around : Setting) → IfOk result (λ s. stepped s self.new
+            ≡ outcome (table_move around self.old (DialogueEvent.fault cause))) }
         ensures err { OnErr result (self.new ≡ self.old) }
         // The identifier stays, also of one that is over.
         ensures kept { self.new.standing.identifier ≡ self.old.standing.identifier }

@@ -23,7 +23,8 @@ use tcap_reception::Phase;
 impl<A: Allocator + Copy> Dialogue<A> {
     /// The Unidirectional with the queue.
     fn uni_sending<'a>(&'a self, context: Option<&'a [u8]>, info: &'a [u8]) -> Sending<'a>
-        ensures message { sending_view result ≡ Message.unidirectional (uni_portion (option_copied context.entry) info.now) (joined self.now.standing.queue) }
+        ensures message { sending_view result ≡ Message.unidirectional
+            (uni_portion (option_copied context.entry) info.now) (joined self.now.standing.queue) }
         ensures sound { CanBear (option_copied context.entry) info.now (Some result) }
     {
         Sending {
@@ -36,7 +37,8 @@ impl<A: Allocator + Copy> Dialogue<A> {
 
     /// The Begin with the queue.
     fn begin_sending<'a>(&'a self, context: Option<&'a [u8]>, info: &'a [u8]) -> Sending<'a>
-        ensures message { sending_view result ≡ Message.begin (local_id self.now.standing.identifier) (begin_portion (option_copied context.entry) info.now) (joined self.now.standing.queue) }
+        ensures message { sending_view result ≡ Message.begin (local_id self.now.standing.identifier)
+            (begin_portion (option_copied context.entry) info.now) (joined self.now.standing.queue) }
         ensures sound { CanBear (option_copied context.entry) info.now (Some result) }
     {
         Sending {
@@ -54,7 +56,8 @@ impl<A: Allocator + Copy> Dialogue<A> {
         context: Option<&'a [u8]>,
         info: &'a [u8],
     ) -> Option<Sending<'a>>
-        ensures message { option_map sending_view result ≡ message_of self.now.standing (Request.dialogue (DialogueRequest.go_on (option_copied context.entry) info.now)) }
+        ensures message { option_map sending_view result ≡ message_of self.now.standing
+            (Request.dialogue (DialogueRequest.go_on (option_copied context.entry) info.now)) }
         ensures sound { CanBear (option_copied context.entry) info.now result }
     {
         match &self.phase {
@@ -80,7 +83,8 @@ impl<A: Allocator + Copy> Dialogue<A> {
 
     /// The End with the queue, once the peer is known.
     fn end_sending<'a>(&'a self, context: Option<&'a [u8]>, info: &'a [u8]) -> Option<Sending<'a>>
-        ensures message { option_map sending_view result ≡ end_message self.now.standing self.now.standing.state (answer_portion self.now.standing.state self.now.standing.context (option_copied context.entry) info.now) }
+        ensures message { option_map sending_view result ≡ end_message self.now.standing self.now.standing.state
+            (answer_portion self.now.standing.state self.now.standing.context (option_copied context.entry) info.now) }
         ensures sound { CanBear (option_copied context.entry) info.now result }
     {
         match &self.phase {
@@ -109,7 +113,8 @@ impl<A: Allocator + Copy> Dialogue<A> {
         context: Option<&'a [u8]>,
         info: &'a [u8],
     ) -> Option<Sending<'a>>
-        ensures message { option_map sending_view result ≡ message_of self.now.standing (Request.dialogue (DialogueRequest.finish (ending_view ending) (option_copied context.entry) info.now)) }
+        ensures message { option_map sending_view result ≡ message_of self.now.standing
+            (Request.dialogue (DialogueRequest.finish (ending_view ending) (option_copied context.entry) info.now)) }
         ensures sound { CanBear (option_copied context.entry) info.now result }
     {
         match ending {
@@ -120,7 +125,8 @@ impl<A: Allocator + Copy> Dialogue<A> {
 
     /// The user's Abort, once the peer is known.
     fn user_abort_sending<'a>(&'a self, info: &'a [u8]) -> Option<Sending<'a>>
-        ensures message { option_map sending_view result ≡ abort_message self.now.standing.state (user_abort self.now.standing.context info.now) }
+        ensures message { option_map sending_view result
+            ≡ abort_message self.now.standing.state (user_abort self.now.standing.context info.now) }
         ensures sound { CanBear None info.now result }
     {
         match &self.phase {
@@ -134,7 +140,8 @@ impl<A: Allocator + Copy> Dialogue<A> {
 
     /// The Abort that refuses the application context of an AARQ.
     fn refusing_sending<'a>(&'a self, info: &'a [u8]) -> Option<Sending<'a>>
-        ensures message { option_map sending_view result ≡ refusing_message self.now.standing.state self.now.standing.context info.now }
+        ensures message { option_map sending_view result
+            ≡ refusing_message self.now.standing.state self.now.standing.context info.now }
         ensures sound { CanBear None info.now result }
     {
         let asked = self.context.as_ref()?;
@@ -149,7 +156,8 @@ impl<A: Allocator + Copy> Dialogue<A> {
 
     /// The Abort of an abort by the user.
     fn abort_sending<'a>(&'a self, why: AbortWhy, info: &'a [u8]) -> Option<Sending<'a>>
-        ensures message { option_map sending_view result ≡ message_of self.now.standing (Request.dialogue (DialogueRequest.u_abort (reason_view why) info.now)) }
+        ensures message { option_map sending_view result
+            ≡ message_of self.now.standing (Request.dialogue (DialogueRequest.u_abort (reason_view why) info.now)) }
         ensures sound { CanBear None info.now result }
     {
         match why {
@@ -160,8 +168,10 @@ impl<A: Allocator + Copy> Dialogue<A> {
 
     /// The message that a request sends, if any.
     pub(super) fn sending<'a>(&'a self, control: &Control<'a>) -> Option<Sending<'a>>
-        ensures message { option_map sending_view result ≡ message_of self.now.standing (Request.dialogue (control_view control.now)) }
-        ensures sound { CanBear (context_given (Request.dialogue (control_view control.now))) (information_given (Request.dialogue (control_view control.now))) result }
+        ensures message { option_map sending_view result
+            ≡ message_of self.now.standing (Request.dialogue (control_view control.now)) }
+        ensures sound { CanBear (context_given (Request.dialogue (control_view control.now)))
+            (information_given (Request.dialogue (control_view control.now))) result }
     {
         match control {
             Control::Uni { context, info, .. } => Some(self.uni_sending(*context, info)),

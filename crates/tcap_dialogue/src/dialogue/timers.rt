@@ -29,7 +29,8 @@ impl<A: Allocator + Copy> Dialogue<A> {
     /// (TC-L-CANCEL indication).
     pub fn lapse(&mut self, clock: u64) -> Result<Vec<Lapse, A>, OutOfMemory>
         ensures told { IfOk result (λ lapses. lapses.items ≡ told_at clock self.old.invocations.rows) }
-        ensures dialogue { OnOk result (self.new ≡ with_invocations self.old (after_lapse self.old.invocations clock)) }
+        ensures dialogue { OnOk result (self.new
+            ≡ with_invocations self.old (after_lapse self.old.invocations clock)) }
         ensures err { OnErr result (self.new ≡ self.old) }
         ensures memory { OnErr result (told_at clock self.old.invocations.rows ≢ []) }
     {
@@ -81,7 +82,8 @@ impl<A: Allocator + Copy> Dialogue<A> {
         ensures told { result ≡ first_ended_at self.old.invocations.rows }
         ensures dialogue { self.new ≡ with_invocations self.old (after_close_one self.old.invocations) }
         // What is told from here on is the rest.
-        ensures rest { IfSome result (λ one. ended_at self.old.invocations.rows ≡ one ∷ ended_at self.new.invocations.rows) }
+        ensures rest { IfSome result (λ one. ended_at self.old.invocations.rows
+            ≡ one ∷ ended_at self.new.invocations.rows) }
     {
         self.invocations.close_one()
     }
@@ -105,7 +107,8 @@ impl<A: Allocator + Copy> Dialogue<A> {
         ensures lapse { result ≡ lapse_at clock self.old.invocations.rows id }
         ensures dialogue { self.new ≡ with_invocations self.old (after_lapse_one self.old.invocations id clock) }
         // If it is the first that is due, what is told from here on is the rest.
-        ensures first { IfSome (first_due_at clock self.old.invocations.rows) (λ l. l.id ≡ id → told_at clock self.old.invocations.rows ≡ l ∷ told_at clock self.new.invocations.rows) }
+        ensures first { IfSome (first_due_at clock self.old.invocations.rows) (λ l. l.id ≡ id
+            → told_at clock self.old.invocations.rows ≡ l ∷ told_at clock self.new.invocations.rows) }
         // What all lapses together leave is the same.
         ensures rest { after_lapse self.new.invocations clock ≡ after_lapse self.old.invocations clock }
     {

@@ -25,7 +25,8 @@ impl<A: Allocator + Copy> Engine<A> {
     /// `OutOfMemory`.
     #[tactic(auto, using(crate::proofs::StandingLemmas::stands_after))]
     pub fn advance<'m>(&mut self, now: u64) -> Result<Vec<Output<'m, A>, A>, Fault>
-        ensures moves { EngineAnswers outputs_answer result (engine_move self.old (Event.moment now)) self.old self.new }
+        ensures moves { EngineAnswers outputs_answer result
+            (engine_move self.old (Event.moment now)) self.old self.new }
         ensures err { OnErr result (self.new ≡ self.old) }
         // Whatever legal history the engine stood at: the reply, and the history that it stands at then.
         ensures stands { Stands outputs_answer result (Event.moment now) self.old self.new }
@@ -37,7 +38,8 @@ impl<A: Allocator + Copy> Engine<A> {
     /// `advance`, by the engine's move.
     #[tactic(auto, unfolding(tcap_model::specs::Table::EngineMove::engine_move))]
     fn go_to<'m>(&mut self, now: u64) -> Result<Vec<Output<'m, A>, A>, Fault>
-        ensures moves { EngineAnswers outputs_answer result (engine_move self.old (Event.moment now)) self.old self.new }
+        ensures moves { EngineAnswers outputs_answer result
+            (engine_move self.old (Event.moment now)) self.old self.new }
         ensures err { OnErr result (self.new ≡ self.old) }
     {
         if now > MAX_MOMENT {

@@ -33,7 +33,8 @@ fn ask_one<'m, A: Allocator + Copy>(
 ) -> Result<Asked<'m, A>, Fault>
     requires clock { clock ≤ moment_limit }
     requires number { AllBelow number dialogue.old.invocations.rows }
-    ensures answer { Asks result (outcome (table_move (asked clock number) dialogue.old (DialogueEvent.request (request_view request.now)))) dialogue.old dialogue.new }
+    ensures answer { Asks result (outcome (table_move (asked clock number) dialogue.old
+        (DialogueEvent.request (request_view request.now)))) dialogue.old dialogue.new }
     ensures kept { dialogue.new.standing.identifier ≡ dialogue.old.standing.identifier }
 {
     if number == u64::MAX {
@@ -62,7 +63,8 @@ pub(super) fn ask_in<'m, A: Allocator + Copy>(
 ) -> Result<Asked<'m, A>, Fault>
     requires clock { clock ≤ moment_limit }
     requires number { IfSome (lookup (nat_eq identifier) table.old) (λ x. AllBelow number x.invocations.rows) }
-    ensures { AsksIn result (λ x. outcome (table_move (asked clock number) x (DialogueEvent.request (request_view request.now)))) identifier (lookup (nat_eq identifier) table.old) table.old table.new }
+    ensures { AsksIn result (λ x. outcome (table_move (asked clock number) x (DialogueEvent.request
+        (request_view request.now)))) identifier (lookup (nat_eq identifier) table.old) table.old table.new }
 {
     let Some(dialogue) = table.rows.get_mut(identifier) else {
         return Err(Fault::UnknownDialogue);

@@ -33,8 +33,12 @@ impl<A: Allocator + Copy> Engine<A> {
         linked: Option<i8>,
         timeout_ms: u64,
     ) -> Result<u64, Fault>
-        ensures moves { EngineAnswers numbered result (engine_move self.old (Event.on_dialogue dialogue (model.Request.component (ComponentRequest.invoke id class (code_parts code.entry) (option_copied parameter.entry) linked timeout_ms)))) self.old self.new }
-        ensures stands { Stands numbered result (Event.on_dialogue dialogue (model.Request.component (ComponentRequest.invoke id class (code_parts code.entry) (option_copied parameter.entry) linked timeout_ms))) self.old self.new }
+        ensures moves { EngineAnswers numbered result
+            (engine_move self.old (Event.on_dialogue dialogue (model.Request.component (ComponentRequest.invoke id class
+            (code_parts code.entry) (option_copied parameter.entry) linked timeout_ms)))) self.old self.new }
+        ensures stands { Stands numbered result
+            (Event.on_dialogue dialogue (model.Request.component (ComponentRequest.invoke id class
+            (code_parts code.entry) (option_copied parameter.entry) linked timeout_ms))) self.old self.new }
         ensures err { OnErr result (self.new ≡ self.old) }
     {
         let request = Request::Invoke {
@@ -56,8 +60,11 @@ impl<A: Allocator + Copy> Engine<A> {
         id: i8,
         body: Option<Body<'_>>,
     ) -> Result<(), Fault>
-        ensures moves { EngineAnswers queued_done result (engine_move self.old (Event.on_dialogue dialogue (model.Request.component (ComponentRequest.result_last id (option_map body_parts body.entry))))) self.old self.new }
-        ensures stands { Stands queued_done result (Event.on_dialogue dialogue (model.Request.component (ComponentRequest.result_last id (option_map body_parts body.entry)))) self.old self.new }
+        ensures moves { EngineAnswers queued_done result
+            (engine_move self.old (Event.on_dialogue dialogue (model.Request.component
+            (ComponentRequest.result_last id (option_map body_parts body.entry))))) self.old self.new }
+        ensures stands { Stands queued_done result (Event.on_dialogue dialogue (model.Request.component
+            (ComponentRequest.result_last id (option_map body_parts body.entry)))) self.old self.new }
         ensures err { OnErr result (self.new ≡ self.old) }
     {
         queued_of(self.request(dialogue, &Request::ResultLast { id, body }))
@@ -71,8 +78,11 @@ impl<A: Allocator + Copy> Engine<A> {
         id: i8,
         body: Option<Body<'_>>,
     ) -> Result<(), Fault>
-        ensures moves { EngineAnswers queued_done result (engine_move self.old (Event.on_dialogue dialogue (model.Request.component (ComponentRequest.result_more id (option_map body_parts body.entry))))) self.old self.new }
-        ensures stands { Stands queued_done result (Event.on_dialogue dialogue (model.Request.component (ComponentRequest.result_more id (option_map body_parts body.entry)))) self.old self.new }
+        ensures moves { EngineAnswers queued_done result
+            (engine_move self.old (Event.on_dialogue dialogue (model.Request.component
+            (ComponentRequest.result_more id (option_map body_parts body.entry))))) self.old self.new }
+        ensures stands { Stands queued_done result (Event.on_dialogue dialogue (model.Request.component
+            (ComponentRequest.result_more id (option_map body_parts body.entry)))) self.old self.new }
         ensures err { OnErr result (self.new ≡ self.old) }
     {
         queued_of(self.request(dialogue, &Request::ResultMore { id, body }))
@@ -87,8 +97,12 @@ impl<A: Allocator + Copy> Engine<A> {
         code: Code<'_>,
         parameter: Option<&[u8]>,
     ) -> Result<(), Fault>
-        ensures moves { EngineAnswers queued_done result (engine_move self.old (Event.on_dialogue dialogue (model.Request.component (ComponentRequest.error_back id (code_parts code.entry) (option_copied parameter.entry))))) self.old self.new }
-        ensures stands { Stands queued_done result (Event.on_dialogue dialogue (model.Request.component (ComponentRequest.error_back id (code_parts code.entry) (option_copied parameter.entry)))) self.old self.new }
+        ensures moves { EngineAnswers queued_done result
+            (engine_move self.old (Event.on_dialogue dialogue (model.Request.component (ComponentRequest.error_back id
+            (code_parts code.entry) (option_copied parameter.entry))))) self.old self.new }
+        ensures stands { Stands queued_done result
+            (Event.on_dialogue dialogue (model.Request.component (ComponentRequest.error_back id
+            (code_parts code.entry) (option_copied parameter.entry)))) self.old self.new }
         ensures err { OnErr result (self.new ≡ self.old) }
     {
         let request = Request::ErrorBack {
@@ -102,8 +116,10 @@ impl<A: Allocator + Copy> Engine<A> {
     /// TC-U-REJECT request: a Reject is queued, of the component with this identifier, -128 to 127, if it
     /// is known. Faults: `UnknownDialogue`, `WrongState`, `TooLong`, `OutOfMemory`.
     pub fn u_reject(&mut self, dialogue: u32, id: Option<i8>, problem: Problem) -> Result<(), Fault>
-        ensures moves { EngineAnswers queued_done result (engine_move self.old (Event.on_dialogue dialogue (model.Request.component (ComponentRequest.u_reject id (problem_parts problem))))) self.old self.new }
-        ensures stands { Stands queued_done result (Event.on_dialogue dialogue (model.Request.component (ComponentRequest.u_reject id (problem_parts problem)))) self.old self.new }
+        ensures moves { EngineAnswers queued_done result (engine_move self.old (Event.on_dialogue dialogue
+            (model.Request.component (ComponentRequest.u_reject id (problem_parts problem))))) self.old self.new }
+        ensures stands { Stands queued_done result (Event.on_dialogue dialogue
+            (model.Request.component (ComponentRequest.u_reject id (problem_parts problem)))) self.old self.new }
         ensures err { OnErr result (self.new ≡ self.old) }
     {
         queued_of(self.request(dialogue, &Request::Reject { id, problem }))
@@ -112,8 +128,10 @@ impl<A: Allocator + Copy> Engine<A> {
     /// TC-U-CANCEL request: the Queued or Sent invocation with this identifier, -128 to 127, is given up,
     /// and its number answered. Takes no memory. Faults: `UnknownDialogue`, `NoSuchInvocation`.
     pub fn u_cancel(&mut self, dialogue: u32, id: i8) -> Result<u64, Fault>
-        ensures moves { EngineAnswers gave_up result (engine_move self.old (Event.on_dialogue dialogue (model.Request.component (ComponentRequest.u_cancel id)))) self.old self.new }
-        ensures stands { Stands gave_up result (Event.on_dialogue dialogue (model.Request.component (ComponentRequest.u_cancel id))) self.old self.new }
+        ensures moves { EngineAnswers gave_up result (engine_move self.old
+            (Event.on_dialogue dialogue (model.Request.component (ComponentRequest.u_cancel id)))) self.old self.new }
+        ensures stands { Stands gave_up result
+            (Event.on_dialogue dialogue (model.Request.component (ComponentRequest.u_cancel id))) self.old self.new }
         ensures err { OnErr result (self.new ≡ self.old) }
     {
         given_up_of(self.request(dialogue, &Request::Cancel { id }))

@@ -60,7 +60,9 @@ impl<A: Allocator + Copy> Engine<A> {
     ) -> Result<Vec<Output<'m, A>, A>, OutOfMemory>
         requires free { birth_fault_in self.old ≡ None }
         requires named { IfSome request (λ r. IsObjectIdentifier r.0.now) }
-        ensures ok { IfOk result (λ os. Moves (begun_in self.old (born (setting_in self.old) self.old.next_dialogue self.old.reject_ms self.old.idle_ms from.now origin.now (context_given request.entry) (info_given request.entry) components.now)) (outputs_answer os) self.new) }
+        ensures ok { IfOk result (λ os. Moves (begun_in self.old
+            (born (setting_in self.old) self.old.next_dialogue self.old.reject_ms self.old.idle_ms from.now origin.now
+            (context_given request.entry) (info_given request.entry) components.now)) (outputs_answer os) self.new) }
         ensures err { OnErr result (self.new ≡ self.old) }
     {
         let (dialogue, outputs) = Dialogue::accept(

@@ -29,7 +29,9 @@ pub(super) fn take_in<'m, A: Allocator + Copy>(
     frame: &Frame<'m>,
 ) -> Result<Vec<Output<'m, A>, A>, OutOfMemory>
     requires { clock ≤ moment_limit }
-    ensures { ReachesIn outputs_answer result (λ x. outcome (table_move (at_clock clock) x (DialogueEvent.frame from.now (message frame.now)))) identifier (lookup (nat_eq identifier) table.old) table.old table.new }
+    ensures { ReachesIn outputs_answer result (λ x. outcome
+        (table_move (at_clock clock) x (DialogueEvent.frame from.now (message frame.now)))) identifier
+        (lookup (nat_eq identifier) table.old) table.old table.new }
 {
     let alloc = table.allocator();
     let Some(dialogue) = table.rows.get_mut(identifier) else {
@@ -49,7 +51,8 @@ pub(super) fn break_in<'m, A: Allocator + Copy>(
     cause: Cause,
 ) -> Result<Vec<Output<'m, A>, A>, OutOfMemory>
     requires { IsSome (lookup (nat_eq identifier) table.old) }
-    ensures reached { ReachesIn outputs_answer result (λ x. outcome (table_move (at_clock 0) x (DialogueEvent.fault (cause_number cause)))) identifier (lookup (nat_eq identifier) table.old) table.old table.new }
+    ensures reached { ReachesIn outputs_answer result (λ x. outcome (table_move (at_clock 0) x (DialogueEvent.fault
+        (cause_number cause)))) identifier (lookup (nat_eq identifier) table.old) table.old table.new }
     ensures room { IfOk result (λ os. vec_len os < vec_capacity os) }
 {
     let alloc = table.allocator();
@@ -70,7 +73,8 @@ impl<A: Allocator + Copy> Engine<A> {
         from: &Address,
         frame: &Frame<'m>,
     ) -> Result<Vec<Output<'m, A>, A>, OutOfMemory>
-        ensures ok { IfOk result (λ os. Moves (reached_in self.old identifier [] (DialogueEvent.frame from.now (message frame.now)) (dialogue_in identifier self.old.dialogues)) (outputs_answer os) self.new) }
+        ensures ok { IfOk result (λ os. Moves (reached_in self.old identifier [] (DialogueEvent.frame from.now
+            (message frame.now)) (dialogue_in identifier self.old.dialogues)) (outputs_answer os) self.new) }
         ensures err { OnErr result (self.new ≡ self.old) }
     {
         take_in(&mut self.table, identifier, self.clock, from, frame)
@@ -86,7 +90,9 @@ impl<A: Allocator + Copy> Engine<A> {
         fault: FrameFault,
     ) -> Result<Vec<Output<'m, A>, A>, OutOfMemory>
         requires { is_live_in self.old.dialogues identifier ≡ true }
-        ensures ok { IfOk result (λ os. Moves (reached_in self.old identifier (sent_if_any from.now (fault_abort fault origin)) (DialogueEvent.fault (fault_cause fault)) (dialogue_in identifier self.old.dialogues)) (outputs_answer os) self.new) }
+        ensures ok { IfOk result (λ os. Moves (reached_in self.old identifier
+            (sent_if_any from.now (fault_abort fault origin)) (DialogueEvent.fault (fault_cause fault))
+            (dialogue_in identifier self.old.dialogues)) (outputs_answer os) self.new) }
         ensures err { OnErr result (self.new ≡ self.old) }
     {
         match origin {
@@ -104,7 +110,9 @@ impl<A: Allocator + Copy> Engine<A> {
         fault: FrameFault,
     ) -> Result<Vec<Output<'m, A>, A>, OutOfMemory>
         requires { is_live_in self.old.dialogues identifier ≡ true }
-        ensures ok { IfOk result (λ os. Moves (reached_in self.old identifier (sent_if_any from.now (fault_abort fault (Some peer))) (DialogueEvent.fault (fault_cause fault)) (dialogue_in identifier self.old.dialogues)) (outputs_answer os) self.new) }
+        ensures ok { IfOk result (λ os. Moves (reached_in self.old identifier
+            (sent_if_any from.now (fault_abort fault (Some peer))) (DialogueEvent.fault (fault_cause fault))
+            (dialogue_in identifier self.old.dialogues)) (outputs_answer os) self.new) }
         ensures err { OnErr result (self.new ≡ self.old) }
     {
         let cause = Cause::Faulty(fault);

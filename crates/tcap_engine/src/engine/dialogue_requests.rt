@@ -28,8 +28,11 @@ impl<A: Allocator + Copy> Engine<A> {
         context: Option<&[u8]>,
         info: &[u8],
     ) -> Result<Vec<Output<'m, A>, A>, Fault>
-        ensures moves { EngineAnswers outputs_answer result (engine_move self.old (Event.on_dialogue dialogue (model.Request.dialogue (DialogueRequest.uni to.now (option_copied context.entry) info.now)))) self.old self.new }
-        ensures stands { Stands outputs_answer result (Event.on_dialogue dialogue (model.Request.dialogue (DialogueRequest.uni to.now (option_copied context.entry) info.now))) self.old self.new }
+        ensures moves { EngineAnswers outputs_answer result
+            (engine_move self.old (Event.on_dialogue dialogue (model.Request.dialogue
+            (DialogueRequest.uni to.now (option_copied context.entry) info.now)))) self.old self.new }
+        ensures stands { Stands outputs_answer result (Event.on_dialogue dialogue (model.Request.dialogue
+            (DialogueRequest.uni to.now (option_copied context.entry) info.now))) self.old self.new }
         ensures err { OnErr result (self.new ≡ self.old) }
     {
         outputs_of(self.request(dialogue, &Request::Uni { to, context, info }))
@@ -46,8 +49,11 @@ impl<A: Allocator + Copy> Engine<A> {
         context: Option<&[u8]>,
         info: &[u8],
     ) -> Result<Vec<Output<'m, A>, A>, Fault>
-        ensures moves { EngineAnswers outputs_answer result (engine_move self.old (Event.on_dialogue dialogue (model.Request.dialogue (DialogueRequest.begin to.now (option_copied context.entry) info.now)))) self.old self.new }
-        ensures stands { Stands outputs_answer result (Event.on_dialogue dialogue (model.Request.dialogue (DialogueRequest.begin to.now (option_copied context.entry) info.now))) self.old self.new }
+        ensures moves { EngineAnswers outputs_answer result
+            (engine_move self.old (Event.on_dialogue dialogue (model.Request.dialogue
+            (DialogueRequest.begin to.now (option_copied context.entry) info.now)))) self.old self.new }
+        ensures stands { Stands outputs_answer result (Event.on_dialogue dialogue (model.Request.dialogue
+            (DialogueRequest.begin to.now (option_copied context.entry) info.now))) self.old self.new }
         ensures err { OnErr result (self.new ≡ self.old) }
     {
         outputs_of(self.request(dialogue, &Request::Begin { to, context, info }))
@@ -63,8 +69,11 @@ impl<A: Allocator + Copy> Engine<A> {
         context: Option<&[u8]>,
         info: &[u8],
     ) -> Result<Vec<Output<'m, A>, A>, Fault>
-        ensures moves { EngineAnswers outputs_answer result (engine_move self.old (Event.on_dialogue dialogue (model.Request.dialogue (DialogueRequest.go_on (option_copied context.entry) info.now)))) self.old self.new }
-        ensures stands { Stands outputs_answer result (Event.on_dialogue dialogue (model.Request.dialogue (DialogueRequest.go_on (option_copied context.entry) info.now))) self.old self.new }
+        ensures moves { EngineAnswers outputs_answer result
+            (engine_move self.old (Event.on_dialogue dialogue (model.Request.dialogue
+            (DialogueRequest.go_on (option_copied context.entry) info.now)))) self.old self.new }
+        ensures stands { Stands outputs_answer result (Event.on_dialogue dialogue
+            (model.Request.dialogue (DialogueRequest.go_on (option_copied context.entry) info.now))) self.old self.new }
         ensures err { OnErr result (self.new ≡ self.old) }
     {
         outputs_of(self.request(dialogue, &Request::Continue { context, info }))
@@ -80,8 +89,11 @@ impl<A: Allocator + Copy> Engine<A> {
         context: Option<&[u8]>,
         info: &[u8],
     ) -> Result<Vec<Output<'m, A>, A>, Fault>
-        ensures moves { EngineAnswers outputs_answer result (engine_move self.old (Event.on_dialogue dialogue (model.Request.dialogue (DialogueRequest.finish (ending_view ending) (option_copied context.entry) info.now)))) self.old self.new }
-        ensures stands { Stands outputs_answer result (Event.on_dialogue dialogue (model.Request.dialogue (DialogueRequest.finish (ending_view ending) (option_copied context.entry) info.now))) self.old self.new }
+        ensures moves { EngineAnswers outputs_answer result
+            (engine_move self.old (Event.on_dialogue dialogue (model.Request.dialogue
+            (DialogueRequest.finish (ending_view ending) (option_copied context.entry) info.now)))) self.old self.new }
+        ensures stands { Stands outputs_answer result (Event.on_dialogue dialogue (model.Request.dialogue
+            (DialogueRequest.finish (ending_view ending) (option_copied context.entry) info.now))) self.old self.new }
         ensures err { OnErr result (self.new ≡ self.old) }
     {
         let request = Request::End {
@@ -101,8 +113,10 @@ impl<A: Allocator + Copy> Engine<A> {
         why: AbortWhy,
         info: &[u8],
     ) -> Result<Vec<Output<'m, A>, A>, Fault>
-        ensures moves { EngineAnswers outputs_answer result (engine_move self.old (Event.on_dialogue dialogue (model.Request.dialogue (DialogueRequest.u_abort (reason_view why) info.now)))) self.old self.new }
-        ensures stands { Stands outputs_answer result (Event.on_dialogue dialogue (model.Request.dialogue (DialogueRequest.u_abort (reason_view why) info.now))) self.old self.new }
+        ensures moves { EngineAnswers outputs_answer result (engine_move self.old (Event.on_dialogue dialogue
+            (model.Request.dialogue (DialogueRequest.u_abort (reason_view why) info.now)))) self.old self.new }
+        ensures stands { Stands outputs_answer result (Event.on_dialogue dialogue
+            (model.Request.dialogue (DialogueRequest.u_abort (reason_view why) info.now))) self.old self.new }
         ensures err { OnErr result (self.new ≡ self.old) }
     {
         outputs_of(self.request(dialogue, &Request::Abort { why, info }))

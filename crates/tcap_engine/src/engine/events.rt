@@ -21,9 +21,12 @@ use tcap_dialogue::{Asked, Fault, Output};
 
 /// A refusal is an answer, but for lack of memory.
 fn refused<'m, A: Allocator + Copy>(fault: Fault) -> Result<Answer<'m, A>, OutOfMemory>
-    ensures moves { (m : EngineMoved) (old new : World) → EngineRefuses (fault_view fault) m old new → EngineHears answer_view result m old new }
-    ensures memory { (m : EngineMoved) (old new : World) → EngineRefuses (fault_view fault) m old new → OnErr result (IsTrue (takes_memory m.answer)) }
-    ensures stands { (h : History) (event : model.Event) (new : World) → StandsRefused (fault_view fault) h event new → HeardOn answer_view result h event new }
+    ensures moves { (m : EngineMoved) (old new : World) → EngineRefuses (fault_view fault) m old new
+        → EngineHears answer_view result m old new }
+    ensures memory { (m : EngineMoved) (old new : World) → EngineRefuses (fault_view fault) m old new
+        → OnErr result (IsTrue (takes_memory m.answer)) }
+    ensures stands { (h : History) (event : model.Event) (new : World)
+        → StandsRefused (fault_view fault) h event new → HeardOn answer_view result h event new }
 {
     if fault == Fault::OutOfMemory {
         Err(OutOfMemory)
@@ -36,9 +39,12 @@ fn refused<'m, A: Allocator + Copy>(fault: Fault) -> Result<Answer<'m, A>, OutOf
 fn created<'m, A: Allocator + Copy>(
     identifier: Result<u32, Fault>,
 ) -> Result<Answer<'m, A>, OutOfMemory>
-    ensures moves { (m : EngineMoved) (old new : World) → EngineAnswers birth_answer identifier m old new → EngineHears answer_view result m old new }
-    ensures memory { (m : EngineMoved) (old new : World) → EngineAnswers birth_answer identifier m old new → OnErr result (IsTrue (takes_memory m.answer)) }
-    ensures stands { (h : History) (event : model.Event) (new : World) → StandsAfter birth_answer identifier h event new → HeardOn answer_view result h event new }
+    ensures moves { (m : EngineMoved) (old new : World) → EngineAnswers birth_answer identifier m old new
+        → EngineHears answer_view result m old new }
+    ensures memory { (m : EngineMoved) (old new : World) → EngineAnswers birth_answer identifier m old new
+        → OnErr result (IsTrue (takes_memory m.answer)) }
+    ensures stands { (h : History) (event : model.Event) (new : World)
+        → StandsAfter birth_answer identifier h event new → HeardOn answer_view result h event new }
 {
     match identifier {
         Ok(identifier) => Ok(Answer::NewDialogue(identifier)),
@@ -62,9 +68,12 @@ fn accepted<'m, A: Allocator + Copy>(asked: Asked<'m, A>) -> Answer<'m, A>
 fn asked<'m, A: Allocator + Copy>(
     asked: Result<Asked<'m, A>, Fault>,
 ) -> Result<Answer<'m, A>, OutOfMemory>
-    ensures moves { (m : EngineMoved) (old new : World) → EngineAnswers asked_answer asked.entry m old new → EngineHears answer_view result m old new }
-    ensures memory { (m : EngineMoved) (old new : World) → EngineAnswers asked_answer asked.entry m old new → OnErr result (IsTrue (takes_memory m.answer)) }
-    ensures stands { (h : History) (event : model.Event) (new : World) → StandsAfter asked_answer asked.entry h event new → HeardOn answer_view result h event new }
+    ensures moves { (m : EngineMoved) (old new : World) → EngineAnswers asked_answer asked.entry m old new
+        → EngineHears answer_view result m old new }
+    ensures memory { (m : EngineMoved) (old new : World) → EngineAnswers asked_answer asked.entry m old new
+        → OnErr result (IsTrue (takes_memory m.answer)) }
+    ensures stands { (h : History) (event : model.Event) (new : World)
+        → StandsAfter asked_answer asked.entry h event new → HeardOn answer_view result h event new }
 {
     match asked {
         Ok(asked) => Ok(accepted(asked)),
@@ -76,9 +85,12 @@ fn asked<'m, A: Allocator + Copy>(
 fn told<'m, A: Allocator + Copy>(
     outputs: Result<Vec<Output<'m, A>, A>, Fault>,
 ) -> Result<Answer<'m, A>, OutOfMemory>
-    ensures moves { (m : EngineMoved) (old new : World) → EngineAnswers outputs_answer outputs.entry m old new → EngineHears answer_view result m old new }
-    ensures memory { (m : EngineMoved) (old new : World) → EngineAnswers outputs_answer outputs.entry m old new → OnErr result (IsTrue (takes_memory m.answer)) }
-    ensures stands { (h : History) (event : model.Event) (new : World) → StandsAfter outputs_answer outputs.entry h event new → HeardOn answer_view result h event new }
+    ensures moves { (m : EngineMoved) (old new : World) → EngineAnswers outputs_answer outputs.entry m old new
+        → EngineHears answer_view result m old new }
+    ensures memory { (m : EngineMoved) (old new : World) → EngineAnswers outputs_answer outputs.entry m old new
+        → OnErr result (IsTrue (takes_memory m.answer)) }
+    ensures stands { (h : History) (event : model.Event) (new : World)
+        → StandsAfter outputs_answer outputs.entry h event new → HeardOn answer_view result h event new }
 {
     match outputs {
         Ok(outputs) => Ok(Answer::Outputs(outputs)),
@@ -92,7 +104,8 @@ impl<A: Allocator + Copy> Engine<A> {
     pub fn handle<'m>(&mut self, event: &Event<'m>) -> Result<Answer<'m, A>, OutOfMemory>
         ensures moves { EngineHears answer_view result (engine_move self.old (event_view event.now)) self.old self.new }
         // Where memory may be wanting: not at a refusal, and not where nothing is kept or told.
-        ensures memory { OnErr result (MayWant (event_view event.now) (engine_move self.old (event_view event.now)).answer) }
+        ensures memory { OnErr result (MayWant (event_view event.now)
+            (engine_move self.old (event_view event.now)).answer) }
         // Whatever legal history the engine stood at: the reply, and the history that it stands at then.
         ensures stands { StandsHeard answer_view result (event_view event.now) self.old self.new }
     {

@@ -23,7 +23,7 @@ impl<A: Allocator + Copy> Engine<A> {
     /// An engine with clock 0 and no dialogues, whose first dialogue and first invocation are 1.
     pub fn new(alloc: A, limits: Limits) -> Engine<A>
         requires { AreLimits limits }
-        ensures value { result ≡ first_world (record { max_dialogues = limits.max_dialogues; reject_ms = limits.reject_ms; idle_ms = limits.idle_ms; next_dialogue = 1; next_number = 1 }) }
+        ensures value { result ≡ first_world (empty_history limits 1 1).start }
         // Nothing has happened.
         ensures stands { StandsAt (empty_history limits 1 1) result }
     {
@@ -34,7 +34,7 @@ impl<A: Allocator + Copy> Engine<A> {
     /// first dialogue and the number of its first invocation.
     pub fn resume(alloc: A, limits: Limits, next_dialogue: u32, next_number: u64) -> Engine<A>
         requires { AreLimits limits }
-        ensures value { result ≡ first_world (record { max_dialogues = limits.max_dialogues; reject_ms = limits.reject_ms; idle_ms = limits.idle_ms; next_dialogue = next_dialogue; next_number = next_number }) }
+        ensures value { result ≡ first_world (empty_history limits next_dialogue next_number).start }
         ensures stands { StandsAt (empty_history limits next_dialogue next_number) result }
     {
         ranges::short(next_dialogue);
@@ -71,8 +71,10 @@ impl<A: Allocator + Copy> Engine<A> {
     pub fn next_timer(&self) -> Option<u64>
         ensures value { result ≡ next_timer_in self.now }
         // A moment below it does nothing but set the clock; one from it on changes a dialogue.
-        ensures before { (now : ℕ) → IsAccepted self.now now → is_due now result ≡ false → IsStill self.now now }
-        ensures reached { (now : ℕ) → IsAccepted self.now now → is_due now result ≡ true → IsChanged self.now now }
+        ensures before { (now : ℕ) → IsAccepted self.now now
+            → is_due now result ≡ false → IsStill self.now now }
+        ensures reached { (now : ℕ) → IsAccepted self.now now
+            → is_due now result ≡ true → IsChanged self.now now }
     {
         let first = self.table.first_timer()?;
         if first.0 <= MAX_MOMENT {

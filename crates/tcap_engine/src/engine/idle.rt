@@ -20,7 +20,8 @@ fn tell_ended<'m, A: Allocator + Copy>(
     outputs: &mut Vec<Output<'m, A>, A>,
 )
     requires { vec_len outputs.old + length (ended_at dialogue.old.invocations.rows) ≤ vec_capacity outputs.old }
-    ensures told { all_shown outputs.new.items ≡ all_shown outputs.old.items ++ ended_told identifier dialogue.old.invocations }
+    ensures told { all_shown outputs.new.items ≡ all_shown outputs.old.items
+        ++ ended_told identifier dialogue.old.invocations }
     ensures room { vec_capacity outputs.new ≡ vec_capacity outputs.old }
 {
     while let Some((number, id)) = dialogue.close_one() {

@@ -59,7 +59,8 @@ impl<A: Allocator + Copy> Engine<A> {
 
     /// What becomes of received bytes (Q.774, Transaction sublayer procedures).
     fn hear<'m>(&self, bytes: &'m [u8]) -> Reception<'m>
-        ensures value { reception_view result ≡ reception (is_live_in self.now.dialogues) (is_some (birth_fault_in self.now)) bytes.now }
+        ensures value { reception_view result
+            ≡ reception (is_live_in self.now.dialogues) (is_some (birth_fault_in self.now)) bytes.now }
         ensures can { CanRun result }
         ensures live { IfSome (reached result) (λ dialogue. is_live_in self.now.dialogues dialogue ≡ true) }
         ensures born { CanBear (is_some (birth_fault_in self.now)) result }
@@ -112,7 +113,8 @@ impl<A: Allocator + Copy> Engine<A> {
         requires can { CanRun reception }
         requires live { IfSome (reached reception) (λ dialogue. is_live_in self.old.dialogues dialogue ≡ true) }
         requires born { CanBear (is_some (birth_fault_in self.old)) reception }
-        ensures { EngineHears outputs_answer result (received_in self.old from.now (reception_view reception.entry)) self.old self.new }
+        ensures { EngineHears outputs_answer result
+            (received_in self.old from.now (reception_view reception.entry)) self.old self.new }
     {
         match reception {
             Reception::Dropped(why) => self.tell(Output::Dropped(why)),
@@ -144,7 +146,8 @@ impl<A: Allocator + Copy> Engine<A> {
         from: &Address,
         bytes: &'m [u8],
     ) -> Result<Vec<Output<'m, A>, A>, OutOfMemory>
-        ensures moves { EngineHears outputs_answer result (engine_move self.old (Event.received from.now bytes.now)) self.old self.new }
+        ensures moves { EngineHears outputs_answer result
+            (engine_move self.old (Event.received from.now bytes.now)) self.old self.new }
         // Whatever legal history the engine stood at: the reply, and the history that it stands at then.
         ensures stands { StandsHeard outputs_answer result (Event.received from.now bytes.now) self.old self.new }
     {
@@ -160,7 +163,8 @@ impl<A: Allocator + Copy> Engine<A> {
         from: &Address,
         bytes: &'m [u8],
     ) -> Result<Vec<Output<'m, A>, A>, OutOfMemory>
-        ensures { EngineHears outputs_answer result (engine_move self.old (Event.received from.now bytes.now)) self.old self.new }
+        ensures { EngineHears outputs_answer result
+            (engine_move self.old (Event.received from.now bytes.now)) self.old self.new }
     {
         let reception = self.hear(bytes);
         self.take(from, reception)

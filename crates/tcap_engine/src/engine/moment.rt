@@ -99,7 +99,8 @@ pub(super) fn tell_due<'m, A: Allocator + Copy>(
     requires room { vec_len outputs.old + length (all_told now (dialogues_of table.old)) ≤ vec_capacity outputs.old }
     requires empty { idle.old.items ≡ [] }
     requires space { length (idle_ids now table.old) ≤ vec_capacity idle.old }
-    ensures told { all_shown outputs.new.items ≡ all_shown outputs.old.items ++ all_told now (dialogues_of table.old) }
+    ensures told { all_shown outputs.new.items ≡ all_shown outputs.old.items
+        ++ all_told now (dialogues_of table.old) }
     ensures room { vec_capacity outputs.new ≡ vec_capacity outputs.old }
     ensures idle { idle.new.items ≡ idle_ids now table.old }
     ensures ends { (id : ℕ) → ends_in now table.new id ≡ ends_in now table.old id }

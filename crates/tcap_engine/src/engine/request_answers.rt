@@ -19,8 +19,10 @@ pub(super) fn number_of<A: Allocator + Copy>(
     asked: Result<Asked<'_, A>, Fault>,
 ) -> Result<u64, Fault>
     requires { IfOk asked (λ a. MayAnswer AnswerKind.number (asked_answer a)) }
-    ensures moves { (m : EngineMoved) (old new : World) → EngineAnswers asked_answer asked.entry m old new → EngineAnswers numbered result m old new }
-    ensures stands { (h : History) (event : Event) (new : World) → StandsAfter asked_answer asked.entry h event new → StandsAfter numbered result h event new }
+    ensures moves { (m : EngineMoved) (old new : World) → EngineAnswers asked_answer asked.entry m old new
+        → EngineAnswers numbered result m old new }
+    ensures stands { (h : History) (event : Event) (new : World)
+        → StandsAfter asked_answer asked.entry h event new → StandsAfter numbered result h event new }
     ensures err { (old new : World) → OnErr asked.entry (new ≡ old) → OnErr result (new ≡ old) }
 {
     match asked? {
@@ -34,8 +36,10 @@ pub(super) fn queued_of<A: Allocator + Copy>(
     asked: Result<Asked<'_, A>, Fault>,
 ) -> Result<(), Fault>
     requires { IfOk asked (λ a. MayAnswer AnswerKind.queued (asked_answer a)) }
-    ensures moves { (m : EngineMoved) (old new : World) → EngineAnswers asked_answer asked.entry m old new → EngineAnswers queued_done result m old new }
-    ensures stands { (h : History) (event : Event) (new : World) → StandsAfter asked_answer asked.entry h event new → StandsAfter queued_done result h event new }
+    ensures moves { (m : EngineMoved) (old new : World) → EngineAnswers asked_answer asked.entry m old new
+        → EngineAnswers queued_done result m old new }
+    ensures stands { (h : History) (event : Event) (new : World)
+        → StandsAfter asked_answer asked.entry h event new → StandsAfter queued_done result h event new }
     ensures err { (old new : World) → OnErr asked.entry (new ≡ old) → OnErr result (new ≡ old) }
 {
     match asked? {
@@ -49,8 +53,10 @@ pub(super) fn given_up_of<A: Allocator + Copy>(
     asked: Result<Asked<'_, A>, Fault>,
 ) -> Result<u64, Fault>
     requires { IfOk asked (λ a. MayAnswer AnswerKind.given_up (asked_answer a)) }
-    ensures moves { (m : EngineMoved) (old new : World) → EngineAnswers asked_answer asked.entry m old new → EngineAnswers gave_up result m old new }
-    ensures stands { (h : History) (event : Event) (new : World) → StandsAfter asked_answer asked.entry h event new → StandsAfter gave_up result h event new }
+    ensures moves { (m : EngineMoved) (old new : World) → EngineAnswers asked_answer asked.entry m old new
+        → EngineAnswers gave_up result m old new }
+    ensures stands { (h : History) (event : Event) (new : World)
+        → StandsAfter asked_answer asked.entry h event new → StandsAfter gave_up result h event new }
     ensures err { (old new : World) → OnErr asked.entry (new ≡ old) → OnErr result (new ≡ old) }
 {
     match asked? {
@@ -64,8 +70,10 @@ pub(super) fn outputs_of<'m, A: Allocator + Copy>(
     asked: Result<Asked<'m, A>, Fault>,
 ) -> Result<Vec<Output<'m, A>, A>, Fault>
     requires { IfOk asked (λ a. MayAnswer AnswerKind.outputs (asked_answer a)) }
-    ensures moves { (m : EngineMoved) (old new : World) → EngineAnswers asked_answer asked.entry m old new → EngineAnswers outputs_answer result m old new }
-    ensures stands { (h : History) (event : Event) (new : World) → StandsAfter asked_answer asked.entry h event new → StandsAfter outputs_answer result h event new }
+    ensures moves { (m : EngineMoved) (old new : World) → EngineAnswers asked_answer asked.entry m old new
+        → EngineAnswers outputs_answer result m old new }
+    ensures stands { (h : History) (event : Event) (new : World)
+        → StandsAfter asked_answer asked.entry h event new → StandsAfter outputs_answer result h event new }
     ensures err { (old new : World) → OnErr asked.entry (new ≡ old) → OnErr result (new ≡ old) }
 {
     match asked? {

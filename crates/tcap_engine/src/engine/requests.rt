@@ -35,11 +35,13 @@ impl<A: Allocator + Copy> Engine<A> {
         dialogue: u32,
         request: &Request<'_>,
     ) -> Result<Asked<'m, A>, Fault>
-        ensures moves { EngineAnswers asked_answer result (engine_move self.old (Event.on_dialogue dialogue (request_view request.now))) self.old self.new }
+        ensures moves { EngineAnswers asked_answer result
+            (engine_move self.old (Event.on_dialogue dialogue (request_view request.now))) self.old self.new }
         // The answer is of the request's kind.
         ensures kind { IfOk result (λ asked. MayAnswer (kind_of (request_view request.now)) (asked_answer asked)) }
         // Whatever legal history the engine stood at: the reply, and the history that it stands at then.
-        ensures stands { Stands asked_answer result (Event.on_dialogue dialogue (request_view request.now)) self.old self.new }
+        ensures stands { Stands asked_answer result
+            (Event.on_dialogue dialogue (request_view request.now)) self.old self.new }
         // A refusal changes nothing.
         ensures err { OnErr result (self.new ≡ self.old) }
     {
@@ -54,7 +56,8 @@ impl<A: Allocator + Copy> Engine<A> {
         dialogue: u32,
         request: &Request<'_>,
     ) -> Result<Asked<'m, A>, Fault>
-        ensures moves { EngineAnswers asked_answer result (engine_move self.old (Event.on_dialogue dialogue (request_view request.now))) self.old self.new }
+        ensures moves { EngineAnswers asked_answer result
+            (engine_move self.old (Event.on_dialogue dialogue (request_view request.now))) self.old self.new }
         ensures err { OnErr result (self.new ≡ self.old) }
     {
         let asked = ask_in(

@@ -75,7 +75,8 @@ pub fn faults_of_a_unidirectional()
 
 /// TC-BEGIN: the state, the context, the user information, what carries it.
 pub fn faults_of_a_begin()
-    ensures state { FirstOf (begun_from shown_begin) (asks.begin (Some (hex 1 0x80)) []) Fault.wrong_state Fault.bad_oid }
+    ensures state { FirstOf (begun_from shown_begin)
+        (asks.begin (Some (hex 1 0x80)) []) Fault.wrong_state Fault.bad_oid }
     ensures context { FirstOf opened (asks.begin (Some (hex 1 0x80)) (hex 2 0x0400)) Fault.bad_oid Fault.bad_parameter }
     ensures information { FirstOf opened (asks.begin None (hex 2 0x0400)) Fault.bad_parameter Fault.no_context }
 {}

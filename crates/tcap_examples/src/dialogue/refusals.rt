@@ -21,7 +21,8 @@ pub fn limits_and_refusals()
     ensures no_timeout { Refused opened (asks.invoke (pos 1) One (code 10) None None 0) Fault.bad_timeout }
     ensures code { Refused opened (asks.invoke (pos 1) One bad_code None None 1000) Fault.bad_oid }
     ensures parameter { Refused opened (asks.invoke (pos 1) One (code 10) bad_parameter None 1000) Fault.bad_parameter }
-    ensures long_parameter { Refused opened (asks.invoke (pos 1) One (code 10) long_parameter None 1000) Fault.too_long }
+    ensures long_parameter { Refused opened
+        (asks.invoke (pos 1) One (code 10) long_parameter None 1000) Fault.too_long }
     ensures numbers { Refused (with_numbers_spent opened) (asks.invoke (pos 1) One (code 10) None None 1000)
         Fault.numbers_spent }
     ensures context { Refused opened (asks.begin None (hex 2 0x2800)) Fault.no_context }
@@ -35,7 +36,8 @@ pub fn limits_and_refusals()
 
 /// A queue is empty again once its only Invoke was taken out.
 pub fn a_queue_emptied_again()
-    ensures { Refused (play opened (invoke (pos 1) Four 7 ∷ request (asks.u_cancel (pos 1)) ∷ [])) (asks.uni None [])
+    ensures { Refused (play opened (invoke (pos 1) Four 7 ∷ request (asks.u_cancel (pos 1)) ∷ []))
+        (asks.uni None [])
         Fault.not_class_four }
 {}
 
@@ -61,7 +63,8 @@ pub fn a_message_at_the_limit()
         (request (asks.begin (Some context) (hex 4 0x2882FFC5 ++ replicate 65477 0)) ∷ [])
         (Answer.outputs (sent (hex 58
         0x6282FFFB_480400000001_6B82FFF1_2882FFED_0607_00118605010101_A082FFE0_6082FFDC_80020780_A109_0607_04000001000103_BE82FFC9_2882FFC5 ++ replicate 65477 0) ∷ []) ∷ []) }
-    ensures one_more { Refused opened (asks.begin (Some context) (hex 4 0x2882FFC6 ++ replicate 65478 0)) Fault.too_long }
+    ensures one_more { Refused opened (asks.begin (Some context)
+        (hex 4 0x2882FFC6 ++ replicate 65478 0)) Fault.too_long }
 {}
 
 /// Where no dialogue portion carries it, a context or user information is refused: one request each.

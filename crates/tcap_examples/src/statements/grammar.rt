@@ -46,7 +46,8 @@ pub fn dialogues_named()
 pub fn faults_answered()
     ensures faulty { IsFrameFault example.faulty_continue BadlyFormatted }
     ensures front { Front example.faulty_continue (Some example.peer) (Some example.first_octets) }
-    ensures answered { option_map written_frame (fault_answer example.faulty_continue BadlyFormatted (Some example.peer))
+    ensures answered { option_map written_frame
+        (fault_answer example.faulty_continue BadlyFormatted (Some example.peer))
         ≡ Some example.abort_sent }
     ensures no_origin { fault_answer example.without_origin BadlyFormatted None ≡ None }
     ensures never { fault_answer example.faulty_end BadlyFormatted (Some example.peer) ≡ None }

@@ -54,7 +54,8 @@ pub fn closings_are_the_outcome()
     ensures lapse_legal { IsLegal late_result_history }
     ensures lapsed_found { invocation_of 1 late_result_history.pairs ≡ Some first }
     ensures lapsed_outcome { HasOutcome late_result_history 1 }
-    ensures lapsed_told { map told_closing (closings 1 late_result_history.pairs) ≡ first_ending Closing.lapsed ∷ [] }
+    ensures lapsed_told { map told_closing (closings 1 late_result_history.pairs)
+        ≡ first_ending Closing.lapsed ∷ [] }
 {}
 
 /// One closing indication, since a moment past the deadline came, and since the dialogue is over.

@@ -16,7 +16,8 @@ pub fn an_answer_that_nobody_asked_for()
     ensures net { IsNet three_engines }
     ensures unanswered { closings 1 (side switch (drop 1 three_engines.trace)) ≡ [] }
     ensures origin { ComesFromFar three_places switch 1 answer answer_told.pair.event (drop 1 three_engines.trace) }
-    ensures asked { (source : ComesFromFar three_places switch 1 answer answer_told.pair.event (drop 1 three_engines.trace))
+    ensures asked { (source : ComesFromFar three_places switch 1 answer answer_told.pair.event
+        (drop 1 three_engines.trace))
         → source.far ≡ asked_register }
     ensures two_ends { TwoEnds three_places three_engines.trace }
 {}

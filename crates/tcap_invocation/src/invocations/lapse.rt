@@ -61,7 +61,8 @@ impl<A: Allocator + Copy> Invocations<A> {
         ensures lapse { result ≡ lapse_at clock self.old.rows id }
         ensures list { self.new ≡ after_lapse_one self.old id clock }
         // If it is the first that is due, what is told from here on is the rest.
-        ensures first { IfSome (first_due_at clock self.old.rows) (λ l. l.id ≡ id → told_at clock self.old.rows ≡ l ∷ told_at clock self.new.rows) }
+        ensures first { IfSome (first_due_at clock self.old.rows) (λ l. l.id ≡ id
+            → told_at clock self.old.rows ≡ l ∷ told_at clock self.new.rows) }
         // What all lapses together leave is the same.
         ensures rest { after_lapse self.new clock ≡ after_lapse self.old clock }
     {

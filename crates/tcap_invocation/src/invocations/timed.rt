@@ -34,7 +34,8 @@ fn timer_of(id: &i8, entry: &Invocation) -> Option<Timer>
 
 /// Takes the timer of an invocation out of the list, if it has one.
 fn drop_timer<A: Allocator + Copy>(timers: &mut Timers<A>, id: &i8, entry: &Invocation)
-    ensures timers { (rest : List Timer) → timers.old.timers ≡ put_timer (timer_of (id.now, entry.now)) rest → timers.new.timers ≡ rest }
+    ensures timers { (rest : List Timer) → timers.old.timers ≡ put_timer (timer_of (id.now, entry.now)) rest
+        → timers.new.timers ≡ rest }
     ensures room { timers.new.room ≡ timers.old.room }
 {
     if let Some(timer) = timer_of(id, entry) {

@@ -122,7 +122,8 @@ impl<A: Allocator + Copy> Timers<A> {
 
     /// Takes a timer out of the list.
     pub(super) fn remove(&mut self, timer: Timer)
-        ensures timers { (left : List Timer) → self.old.timers ≡ put_by is_earlier timer left → self.new.timers ≡ left }
+        ensures timers { (left : List Timer) → self.old.timers ≡ put_by is_earlier timer left
+            → self.new.timers ≡ left }
         ensures room { self.new.room ≡ self.old.room }
     {
         let Some(first) = self.first else {

@@ -68,7 +68,8 @@ fn append_number<A: Allocator + Copy>(
     number: u8,
 ) -> Result<(), OutOfMemory>
     requires { IsTag (tag ∷ []) }
-    ensures { OnOk result (out.new.items ≡ out.old.items ++ written (tag ∷ []) (written (0x02 ∷ []) (number ∷ []))) }
+    ensures { OnOk result (out.new.items
+        ≡ out.old.items ++ written (tag ∷ []) (written (0x02 ∷ []) (number ∷ []))) }
 {
     write_head(out, &[tag], element_len(1))?;
     write_element(out, &[INTEGER], &[number])
@@ -163,7 +164,8 @@ pub(crate) fn append_response<A: Allocator + Copy>(
 ) -> Result<(), OutOfMemory>
     requires context { length context.now ≤ object_identifier_limit }
     requires info { length info.now ≤ portion_limit }
-    requires short { external_length (opening_length (length context.now) + answer_length + information_length (length info.now))
+    requires short { external_length (opening_length (length context.now) + answer_length + information_length
+        (length info.now))
         ≤ portion_limit }
     ensures { OnOk result (out.new.items ≡ out.old.items
         ++ written_external structured_syntax 0x61 (response_fields version1 context.now accepted (source diagnostic) info.now)) }

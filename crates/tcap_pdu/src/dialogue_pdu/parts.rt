@@ -94,7 +94,8 @@ fn says_version1(octets: &[u8]) -> Option<bool>
 #[tactic(auto, unfolding(crate::specs::DialoguePartsReading::version_at, crate::specs::DialoguePartsReading::version_of))]
 fn read_version<'a>(bytes: &'a [u8]) -> Option<(bool, &'a [u8])>
     ensures value { option_map (λ r. (r.0, r.1.now)) result ≡ version_at bytes.now }
-    ensures goes_on { (other : ℕ) → (0x80 == other) ≡ false → IfSome result (λ r. GoesOn other r.1 bytes.entry) }
+    ensures goes_on { (other : ℕ) → (0x80 == other) ≡ false
+        → IfSome result (λ r. GoesOn other r.1 bytes.entry) }
 {
     match take_tagged(bytes, PROTOCOL_VERSION) {
         (Some(octets), rest) => Some((says_version1(octets)?, rest)),

@@ -62,7 +62,8 @@ fn reason_len(reason: &AbortPart<'_>, dialogue: Option<usize>) -> Option<usize>
 /// The bytes of the portions, with 6B contents of this many bytes in place of its own.
 #[inline(always)]
 fn portions_len(dialogue: Option<usize>, components: &[u8]) -> Option<usize>
-    ensures some { IfSome result (λ len. (len ≡ may_length dialogue + filled_length (length components.now)) × (len < 2 ^ 18)) }
+    ensures some { IfSome result (λ len. (len ≡ may_length dialogue + filled_length (length components.now))
+        × (len < 2 ^ 18)) }
     ensures none { IfNone result (message_limit < may_length dialogue + filled_length (length components.now)) }
 {
     Some(may_len(dialogue)? + may_len(nonzero(components.len()))?)

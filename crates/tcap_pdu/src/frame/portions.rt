@@ -65,7 +65,8 @@ impl<'a> Frame<'a> {
     /// P-Abort cause stay; an Abort has no components (our own).
     #[inline(always)]
     pub fn with_portions<'b>(self, dialogue: Option<&'b [u8]>, components: &'b [u8]) -> Frame<'b>
-        ensures exact { message result ≡ with_portions (option_copied dialogue.entry) components.now (message self.entry) }
+        ensures exact { message result
+            ≡ with_portions (option_copied dialogue.entry) components.now (message self.entry) }
     {
         match self {
             Frame::Uni { .. } => Frame::Uni {

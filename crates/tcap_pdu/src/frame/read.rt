@@ -51,7 +51,8 @@ fn message_type(tag: &[u8]) -> Option<MessageType>
 #[inline(always)]
 fn take_id<'a>(bytes: &'a [u8], tag: u8) -> Option<(TransId, &'a [u8])>
     ensures value { option_map (λ r. (r.0, r.1.now)) result ≡ id_at tag bytes.now }
-    ensures goes_on { (other : ℕ) → (tag == other) ≡ false → IfSome result (λ r. GoesOn other r.1 bytes.entry) }
+    ensures goes_on { (other : ℕ) → (tag == other) ≡ false
+        → IfSome result (λ r. GoesOn other r.1 bytes.entry) }
 {
     let (octets, rest) = take_content(bytes, tag)?;
     let id = TransId::new(octets)?;
@@ -195,7 +196,8 @@ fn read_abort<'a>(content: &'a [u8]) -> Option<Frame<'a>>
 /// The fault of contents that no message of a type has.
 #[inline(never)]
 fn fault_of_unread(content: &[u8]) -> FrameFault
-    ensures { result ≡ (if list_all is_ok (items_of content.now) then FrameFault.Incorrect else FrameFault.BadlyFormatted) }
+    ensures { result
+        ≡ (if list_all is_ok (items_of content.now) then FrameFault.Incorrect else FrameFault.BadlyFormatted) }
 {
     if is_element_list(content) {
         FrameFault::Incorrect
@@ -210,7 +212,8 @@ fn fault_of_unread(content: &[u8]) -> FrameFault
 fn or_fault<'a>(read: Option<Frame<'a>>, content: &'a [u8]) -> Result<Frame<'a>, FrameFault>
     ensures value { Gives message result (ok_or (option_map message read.entry)
         (if list_all is_ok (items_of content.now) then FrameFault.Incorrect else FrameFault.BadlyFormatted)) }
-    ensures place { IfSome read.entry (λ frame. FrameIn frame content.entry) → IfOk result (λ frame. FrameIn frame content.entry) }
+    ensures place { IfSome read.entry (λ frame. FrameIn frame content.entry)
+        → IfOk result (λ frame. FrameIn frame content.entry) }
 {
     match read {
         Some(frame) => Ok(frame),

@@ -16,7 +16,8 @@ impl<A: Allocator + Copy> Queue<A> {
     pub fn append(&mut self, octets: &[u8], invoking: Option<Invoking>)
         requires octets { vec_len self.old.octets + length octets.now ≤ vec_capacity self.old.octets }
         requires part { vec_len self.old.parts < vec_capacity self.old.parts }
-        ensures queue { queue_view self.new ≡ queue_view self.old ++ (record { octets = octets.now; invoking = option_map invoking_view invoking }) ∷ [] }
+        ensures queue { queue_view self.new ≡ queue_view self.old
+            ++ (record { octets = octets.now; invoking = option_map invoking_view invoking }) ∷ [] }
         ensures octets_room { vec_capacity self.old.octets ≤ vec_capacity self.new.octets }
         ensures octets_len { vec_len self.new.octets ≡ vec_len self.old.octets + length octets.now }
         ensures parts_room { vec_capacity self.old.parts ≤ vec_capacity self.new.parts }
@@ -29,7 +30,8 @@ impl<A: Allocator + Copy> Queue<A> {
     pub fn append_reject(&mut self, id: Option<i8>, problem: Problem)
         requires octets { vec_len self.old.octets + 8 ≤ vec_capacity self.old.octets }
         requires part { vec_len self.old.parts < vec_capacity self.old.parts }
-        ensures queue { queue_view self.new ≡ queue_if_fits queue_limit (queue_view self.old) (queued None (reject_back id (problem_parts problem))) }
+        ensures queue { queue_view self.new
+            ≡ queue_if_fits queue_limit (queue_view self.old) (queued None (reject_back id (problem_parts problem))) }
         ensures octets_room { vec_capacity self.old.octets ≤ vec_capacity self.new.octets }
         ensures octets_len { vec_len self.new.octets ≤ vec_len self.old.octets + 8 }
         ensures parts_room { vec_capacity self.old.parts ≤ vec_capacity self.new.parts }
@@ -52,7 +54,8 @@ fn append_part<A: Allocator + Copy>(
     requires octets { vec_len all.old + length octets.now ≤ vec_capacity all.old }
     requires part { vec_len parts.old < vec_capacity parts.old }
     ensures octets { all.new.items ≡ all.old.items ++ octets.now }
-    ensures parts { parts.new.items ≡ parts.old.items ++ (record { len = length octets.now; invoking = invoking }) ∷ [] }
+    ensures parts { parts.new.items ≡ parts.old.items ++ (record { len = length octets.now; invoking = invoking })
+        ∷ [] }
     ensures octets_room { vec_capacity all.old ≤ vec_capacity all.new }
     ensures parts_room { vec_capacity parts.old ≤ vec_capacity parts.new }
 {

@@ -33,7 +33,8 @@ impl Part {
 
 /// Takes out the Invoke of an invocation from the list of components.
 fn remove_parts<A: Allocator + Copy>(parts: &mut Vec<Part, A>, number: u64)
-    ensures { parts.new.items ≡ filter (λ part. not (asks_for number (option_map invoking_view part.invoking))) parts.old.items }
+    ensures { parts.new.items
+        ≡ filter (λ part. not (asks_for number (option_map invoking_view part.invoking))) parts.old.items }
 {
     parts.retain(
         |part: &Part| -> bool

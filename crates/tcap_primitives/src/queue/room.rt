@@ -58,7 +58,8 @@ impl<A: Allocator + Copy> Queue<A> {
     pub fn make_room(&mut self, component: &Component<'_>) -> Result<Vec<u8, A>, OutOfMemory>
         ensures octets { IfOk result (λ v. v.items ≡ written_component (component_parts component.now)) }
         ensures same { queue_view self.new ≡ queue_view self.old }
-        ensures octets_room { IfOk result (λ v. vec_len self.new.octets + length v.items ≤ vec_capacity self.new.octets) }
+        ensures octets_room { IfOk result (λ v. vec_len self.new.octets + length v.items
+            ≤ vec_capacity self.new.octets) }
         ensures part_room { OnOk result (vec_len self.new.parts < vec_capacity self.new.parts) }
     {
         let Ok(octets) = write_component(*self.octets.allocator(), component) else {

@@ -51,7 +51,8 @@ fn accepting_pdu<'a, A: Allocator + Copy>(
     given: Option<&'a [u8]>,
     info: &'a [u8],
 ) -> DialoguePdu<'a>
-    ensures value { pdu_value result ≡ PduValue.aare true (unwrap_or (option_copied given.entry) asked.now.octets.items) true (Source.user 0) info.now }
+    ensures value { pdu_value result ≡ PduValue.aare true
+        (unwrap_or (option_copied given.entry) asked.now.octets.items) true (Source.user 0) info.now }
     ensures sound { CanCarry (option_copied given.entry) info.now (Some result) }
 {
     DialoguePdu::Aare {
@@ -69,7 +70,8 @@ pub fn answering_pdu<'a, A: Allocator + Copy>(
     given: Option<&'a [u8]>,
     info: &'a [u8],
 ) -> Option<DialoguePdu<'a>>
-    ensures portion { portion_view result ≡ accepting_portion (context_view asked.now) (option_copied given.entry) info.now }
+    ensures portion { portion_view result
+        ≡ accepting_portion (context_view asked.now) (option_copied given.entry) info.now }
     ensures sound { CanCarry (option_copied given.entry) info.now result }
 {
     match asked {

@@ -81,7 +81,8 @@ fn framed<A: Allocator + Copy>(
 impl<'a> Sending<'a> {
     /// Whether the message is within the limit, where the contents of its PDU are good.
     pub fn fits(&self) -> bool
-        ensures { IfSome self.now.pdu (λ p. HasDiagnostic (pdu_value p) × (content_fault (pdu_value p) ≡ None)) → not result ≡ passes_message (Some (sending_view self.now)) }
+        ensures { IfSome self.now.pdu (λ p. HasDiagnostic (pdu_value p) × (content_fault (pdu_value p) ≡ None))
+            → not result ≡ passes_message (Some (sending_view self.now)) }
     {
         let frame = self.bearer.frame(None);
         match &self.pdu {

@@ -23,8 +23,10 @@ pub(super) fn put<A: Allocator + Copy>(timers: &mut Vec<Timer, A>, timer: Timer)
 /// Takes a timer out.
 pub(super) fn take<A: Allocator + Copy>(timers: &mut Vec<Timer, A>, timer: Timer)
     requires order { IsInOrder timers.old.items }
-    ensures timers { (left : List Timer) → timers.old.items ≡ put_by is_earlier timer left → timers.new.items ≡ left }
-    ensures order { (first : Timer) → IsInOrder (first ∷ timers.old.items) → IsInOrder (first ∷ timers.new.items) }
+    ensures timers { (left : List Timer) → timers.old.items ≡ put_by is_earlier timer left
+        → timers.new.items ≡ left }
+    ensures order { (first : Timer) → IsInOrder (first ∷ timers.old.items)
+        → IsInOrder (first ∷ timers.new.items) }
     ensures room { vec_capacity timers.new ≡ vec_capacity timers.old }
 {
     let at = place_of(timers.as_slice(), timer);
