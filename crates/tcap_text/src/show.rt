@@ -1,13 +1,14 @@
 //! The texts of `show` and `check`.
 
 ghost use Rattle.std.specs.Prelude.{◌≡◌, ◌++◌, OnOk, IfOk, string_bytes};
+ghost use Rattle.tcap_pdu.specs.FrameSpelling.{Message};
 ghost use Rattle.tcap_pdu.specs.FrameViews.{message, reason_of};
 ghost use Rattle.tcap_words.specs.Verdict.{is_good, message_verdict};
 ghost use Rattle.tcap_words.specs.Show.{reason_lines, message_lines, show_text_of, show_is_good, check_text_of};
 
 use ber_core::OutOfMemory;
 use std::alloc::Allocator;
-use tcap_pdu::{AbortPart, Frame};
+use tcap_pdu::{AbortPart, Frame, TransId};
 use tcap_words::{
     Shown, add_destination, add_dialogue, add_line, add_number, add_origin, add_portions,
     add_verdict, has_good_reason, read_message, verdict_on, verdict_text,
@@ -26,6 +27,24 @@ fn add_reason<A: Allocator + Copy>(
         AbortPart::Cause(cause) => add_number(text, "  cause", usize::from(*cause)),
         AbortPart::Dialogue(content) => add_dialogue(alloc, text, Some(*content)),
     }
+}
+
+/// Adds the lines of an Abort, and tells whether its verdict is good.
+fn add_abort<A: Allocator + Copy>(
+    alloc: A,
+    text: &mut String<A>,
+    dtid: &TransId,
+    reason: &AbortPart<'_>,
+) -> Result<bool, OutOfMemory>
+    ensures text { OnOk result (string_bytes text.new ≡ string_bytes text.old
+        ++ message_lines (Message.abort dtid.now (reason_of reason.now))) }
+    ensures good { IfOk result (λ good. good
+        ≡ is_good (message_verdict (Message.abort dtid.now (reason_of reason.now)))) }
+{
+    add_line(text, "abort")?;
+    add_destination(alloc, text, dtid)?;
+    add_reason(alloc, text, reason)?;
+    Ok(has_good_reason(reason))
 }
 
 /// Adds the lines of a message, and tells whether its verdict is good.
@@ -74,12 +93,7 @@ fn add_message<A: Allocator + Copy>(
             add_destination(alloc, text, dtid)?;
             add_portions(alloc, text, *dialogue, *components)
         }
-        Frame::Abort { dtid, reason } => {
-            add_line(text, "abort")?;
-            add_destination(alloc, text, dtid)?;
-            add_reason(alloc, text, reason)?;
-            Ok(has_good_reason(reason))
-        }
+        Frame::Abort { dtid, reason } => add_abort(alloc, text, dtid, reason),
     }
 }
 
