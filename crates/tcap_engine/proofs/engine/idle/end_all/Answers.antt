@@ -8,16 +8,16 @@ use Rattle.tcap_engine.specs.Ending.{over_in, without_all}
 use Rattle.tcap_engine.proofs.OverLemmas.{OverStep, over-step, none-without}
 use Rattle.tcap_engine.proofs.engine.idle.end_all.Goals as goal
 
-pub loop-d-preserved : goal.loop-d-preserved
-loop-d-preserved g c =
+pub loop-identifier-preserved : goal.loop-identifier-preserved
+loop-identifier-preserved g c =
     let ids : List ℕ = c.args.ids.now in
-    let i = c.loop-d.d-index in
-    let inv = c.loop-d.invariant in
-    let ps = c.loop-d.table in
+    let i = c.loop-identifier.identifier-index in
+    let inv = c.loop-identifier.invariant in
+    let ps = c.loop-identifier.table in
     let new = c.end_one.new.table in
-    let before = all_shown c.loop-d.outputs.items in
+    let before = all_shown c.loop-identifier.outputs.items in
     let d = get_or ids i 0 in
-    let step : OverStep (drop i ids) (drop (i + 1) ids) d ps = over-step i ids ps c.loop-d-test.true inv.from inv.apart in
+    let step : OverStep (drop i ids) (drop (i + 1) ids) d ps = over-step i ids ps c.loop-identifier-test.true inv.from inv.apart in
     let gone : new ≡ remove_entry (nat_eq d) ps = c.end_one.ensures.table in
     let rest = flat_map (over_in new) (drop (i + 1) ids) in
     let told : all_shown c.end_one.new.outputs.items ≡ before ++ over_in ps d = c.end_one.ensures.told in
@@ -31,7 +31,7 @@ loop-d-preserved g c =
           let inside = inv.room in
           let whole = c.end_one.ensures.room in
           let counted = length-map c.end_one.new.outputs.items shown in
-          let before_counted = length-map c.loop-d.outputs.items shown in
+          let before_counted = length-map c.loop-identifier.outputs.items shown in
           omega (arith, inside, whole, shown_length, long, parts, counted, before_counted);
       left = ap (without_all (drop (i + 1) ids)) gone ∙ step.left ∙ inv.left;
       from = rw gone step.from;
@@ -41,5 +41,5 @@ loop-d-preserved g c =
 pub returns-clause-table : goal.returns-clause-table
 returns-clause-table g c =
     let ids : List ℕ = c.args.ids.now in
-    let none : drop c.loop-d.d-index ids ≡ [] = drop_of_length-le ids (search (rules, arith)) in
-    sym (none-without c.loop-d.table) ∙ ap (λ l. without_all l c.loop-d.table) (sym none) ∙ c.loop-d.invariant.left
+    let none : drop c.loop-identifier.identifier-index ids ≡ [] = drop_of_length-le ids (search (rules, arith)) in
+    sym (none-without c.loop-identifier.table) ∙ ap (λ l. without_all l c.loop-identifier.table) (sym none) ∙ c.loop-identifier.invariant.left

@@ -6,7 +6,7 @@ use Rattle.tcap_engine.proofs.engine.idle.tell_ended.Given as goal
 
 abbrev pub invariant-loop-number : goal.invariant-loop-number
 invariant-loop-number g l = record {
-  told : all_shown l.outputs.items ++ ended_told l.d l.dialogue.invocations ≡ all_shown l.initial.outputs.items ++ ended_told l.d l.initial.dialogue.invocations;
+  told : all_shown l.outputs.items ++ ended_told l.identifier l.dialogue.invocations ≡ all_shown l.initial.outputs.items ++ ended_told l.identifier l.initial.dialogue.invocations;
   room : vec_len l.outputs + length (ended_at l.dialogue.invocations.rows) ≡ vec_len l.initial.outputs + length (ended_at l.initial.dialogue.invocations.rows);
   whole : vec_capacity l.outputs ≡ vec_capacity l.initial.outputs;
 }

@@ -6,7 +6,7 @@ use Rattle.tcap_engine.proofs.engine.moment.tell_due.Goals as goal
 pub loop-time-preserved-in-Idle : goal.loop-time-preserved-in-Idle
 loop-time-preserved-in-Idle g c =
     let inv = c.loop-time.invariant in
-    let d = c.in-Some.d in
+    let d = c.in-Some.identifier in
     let idle_before = c.loop-time.idle.items in
     let rest = idle_ids c.args.now c.pass_first.new.table in
     let pushed : c.push_reserved-in-Idle.new.self.items ≡ idle_before ++ d ∷ [] = search rules in
