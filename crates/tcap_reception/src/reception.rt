@@ -150,7 +150,9 @@ pub fn hear_message<'m>(frame: Frame<'m>, named: Option<u32>, is_full: bool) -> 
             components,
         } => hear_begin(otid, dialogue, components),
         Frame::Continue { otid, .. } if named.is_none() => aborted_by(otid, Cause::UnrecognizedId),
-        frame => hear_last(frame, named),
+        frame @ (Frame::Continue { .. } | Frame::End { .. } | Frame::Abort { .. }) => {
+            hear_last(frame, named)
+        }
     }
 }
 
