@@ -1,4 +1,4 @@
-//! Where messages come from and go to.
+//! `Address`: 0 to 255 octets that name where a message comes from or goes to.
 
 ghost use Rattle.std.specs.Prelude.{◌≡◌, ◌↔◌, ◌≤◌, [], IsSome, IfSome, length};
 

@@ -21,7 +21,7 @@ fn add_messages(total: u64, messages: &[Vec<u8>]) -> u64
 }
 
 /// Hands a piece to a feed, and adds the lengths of the messages that it completes; nothing where memory is
-/// wanting.
+/// refused.
 fn add_piece(feed: &mut Feed, sum: u64, piece: &[u8]) -> Option<u64>
     ensures { (stream : List ℕ) → StandsBehind stream feed.old
         → IfSome result (λ added. IsAdded stream piece.now feed.new sum added) }
@@ -34,7 +34,7 @@ fn add_piece(feed: &mut Feed, sum: u64, piece: &[u8]) -> Option<u64>
 }
 
 /// The checksum of the messages that a feed gives, in pieces of so many octets; nothing where memory is
-/// wanting.
+/// refused.
 fn feed_sum(alloc: Global, width: usize, bytes: &[u8]) -> Option<u64>
     requires { 0 < width }
     ensures { IfSome result (λ sum. sum ≡ stream_checksum bytes.now) }

@@ -138,7 +138,7 @@ pub extern "C" fn tcap_bench_lapses(alloc: Global, dialogues: u16, together: u16
 /// all. A step is, 1: the result of one drawn by lot is received in a Continue, its identifier is free
 /// after the moment, and a Continue with it invoked again is sent; 2: the oldest lapses at the moment,
 /// and such a Continue is sent; 3: the moment alone, at which nothing is due. It answers 0 where memory
-/// is wanting (own).
+/// is refused (own).
 #[unsafe(no_mangle)]
 pub extern "C" fn tcap_bench_invocations(
     alloc: Global,

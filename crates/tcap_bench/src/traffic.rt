@@ -86,7 +86,7 @@ impl Traffic {
         Some(())
     }
 
-    /// One event, or those of a birth, at a place drawn by lot. A place has the dialogue that was created there
+    /// One event, or those that create a dialogue, at a place drawn by lot. A place has the dialogue that was created there
     /// last; where it is over, another is created.
     fn go_on_somewhere(&mut self, peer: &Address, places: &mut [u32]) -> Option<()> {
         let at = self.lot.below(self.dialogues) as usize;
@@ -129,8 +129,8 @@ pub fn traffic_digest(alloc: Global, seed: u64, dialogues: u16, turns: u32) -> u
     ensures { (turns ≡ 0) → (result ≡ 0) }
 {
     let mut lot = Lot::new(seed);
-    // A turn takes a millisecond in the mean, so a dialogue is drawn some 16 times at most until it has stood
-    // still too long.
+    // A turn takes a millisecond in the mean, so a dialogue is drawn some 16 times at most until it has been
+    // idle too long.
     let longest = (dialogues as u32).saturating_mul(16);
     let limits = Limits {
         max_dialogues: 65_535,

@@ -81,7 +81,7 @@ IsBadHex (canon hex) = SpellsBytes hex → ⊥
 IsBadHex play = ⊥
 IsBadHex stream = ⊥
 
--- Where memory may be wanting: HEX spells bytes, or the reader gave no more than a script may have, and
+-- Where memory may be refused: HEX spells bytes, or the reader gave no more than a script may have, and
 -- nothing is written; a stream's lines are written up to there (own).
 abbrev pub IsWanting : Asked → Option (List ℕ) → Option (List ℕ) → Option (List ℕ) → Option (List ℕ) → Type 0
 IsWanting (show hex) had left old new = SpellsBytes hex × Keeps old new
@@ -127,7 +127,7 @@ IsRefused asked InputTooLong had left old new = IsTooLong asked had left old new
 abbrev pub IsAskedRefused : List Text → Refusal → Option (List ℕ) → Option (List ℕ) → Option (List ℕ) → Option (List ℕ) → Type 0
 IsAskedRefused words refusal had left old new = (asked : Asked) × Ask words asked × IsRefused asked refusal had left old new
 
--- When a run for these words may be refused, and what it read and wrote: memory may be wanting while they
+-- When a run for these words may be refused, and what it read and wrote: memory may be refused while they
 -- are read, whatever they ask for, and nothing is written then (own).
 abbrev pub IsRefusal : List Text → Refusal → Option (List ℕ) → Option (List ℕ) → Option (List ℕ) → Option (List ℕ) → Type 0
 IsRefusal words BadCommand had left old new = AskNothing words × Keeps old new

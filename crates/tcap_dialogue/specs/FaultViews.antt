@@ -8,7 +8,7 @@ use Rattle.tcap_primitives.specs.declared.fault.Fault.{Fault}
 use Rattle.tcap_primitives.specs.FaultViews.{fault_view}
 use Rattle.tcap_dialogue.specs.StepViews.{Outcome, stepped}
 
--- Whether something is kept or told, for which memory may be wanting: the answer is no refusal and no
+-- Whether something is kept or told, for which memory may be refused: the answer is no refusal and no
 -- empty list, and nothing was given up (own).
 abbrev pub takes_memory : Answer → Bool
 takes_memory (Answer.new_dialogue dialogue) = true

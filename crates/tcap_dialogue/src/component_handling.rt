@@ -20,14 +20,18 @@ use tcap_primitives::{By, Output};
 /// A Reject that answers a component (Q.773, Reject component).
 #[derive(Clone, Copy)]
 pub struct Reject {
+    /// The invoke identifier, where it could be read.
     pub id: Option<i8>,
+    /// Why the component is rejected.
     pub problem: Problem,
 }
 
 /// What a component tells, and the Reject that answers it, if one does.
 #[derive(Drop)]
 pub struct Handled<'m, A: Allocator> {
+    /// The indication to the user.
     pub told: Output<'m, A>,
+    /// The Reject that answers the component, if one does.
     pub reject: Option<Reject>,
 }
 

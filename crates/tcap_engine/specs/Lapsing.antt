@@ -92,8 +92,8 @@ idle_of d (passed.Lapsed lapse) = []
 idle_of d passed.Freed = []
 idle_of d passed.Idle = d ∷ []
 
--- How much time may still do at a moment: a step for each invocation, and one for each dialogue that has stood
--- still too long (own).
+-- How much time may still do at a moment: a step for each invocation, and one for each dialogue that has been
+-- idle too long (own).
 abbrev pub step_count : ℕ → List TableEntry → ℕ
 step_count now ps = row_count ps + length (idle_ids now ps)
 

@@ -10,7 +10,7 @@ use Rattle.tcap_model.specs.Table.World.{World, StandsAt}
 use Rattle.tcap_model.specs.Words.Answer.{Answer}
 use Rattle.tcap_model.specs.Words.Event.{Event}
 
--- Memory may be wanting where bytes are received, and else only where the answer takes memory (own).
+-- Memory may be refused where bytes are received, and else only where the answer takes memory (own).
 abbrev pub MayWant : Event → Answer → Type 0
 MayWant Event.new_dialogue answer = IsTrue (takes_memory answer)
 MayWant (Event.on_dialogue dialogue request) answer = IsTrue (takes_memory answer)

@@ -12,7 +12,7 @@ use Rattle.tcap_model.specs.Table.World.{World}
 abbrev pub state_in : World → ℕ → Option State
 state_in w identifier = option_map (λ d. view.state_of d.standing.state) (dialogue_in identifier w.dialogues)
 
--- The state in which a life is: none before the birth, and none once it is over
+-- The state in which a life is: none before it is created, and none once it is over
 -- (Q.774, Transaction state machine).
 abbrev pub state_in_life : Life → Option State
 state_in_life Life.unborn = None

@@ -50,6 +50,6 @@ pub record IsSound (limits : Limits) (next_dialogue next_number clock : ℕ) (pl
   pub within : AreWithin limits.reject_ms next_number places
   pub room : length places ≤ limits.max_dialogues
 
--- The engine with one dialogue more, born under the next identifier (own).
+-- The engine with one dialogue more, created under the next identifier (own).
 abbrev pub with_born : World → Dialogue → World
 with_born w d = record w { next_dialogue = w.next_dialogue + 1; dialogues = w.dialogues ++ d ∷ [] }

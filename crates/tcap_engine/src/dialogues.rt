@@ -15,7 +15,7 @@ use std::marker::Model;
 use tcap_dialogue::Dialogue;
 use timed_table::Table;
 
-/// The dialogues by their identifiers, in order of birth; beside each its next timer.
+/// The dialogues by their identifiers, in order of creation; beside each its next timer.
 ///
 /// A contract sees the identifiers and their dialogues, and forgets the timers, which follow from them.
 #[derive(Debug, Drop)]

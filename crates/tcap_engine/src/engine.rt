@@ -28,8 +28,8 @@ use std::marker::Model;
 /// - Getters: `now`, `state_of`, `next_timer`.
 ///
 /// Moments are in milliseconds by the caller's clock, at most 2^62. A contract sees the limits, the
-/// counters, the clock and the dialogues that stand by rising identifier, which is the order of birth,
-/// and forgets how much room there is.
+/// counters, the clock and the dialogues that stand by rising identifier, which is the order of
+/// creation, and forgets the capacity.
 #[derive(Debug, Drop)]
 pub struct Engine<A: Allocator + Copy = Global> {
     limits: Limits,

@@ -9,6 +9,6 @@ pub struct Limits {
     /// (Q.774, Reject timer; the length is our own).
     pub reject_ms: u64,
     /// How long a dialogue that is Sent or Active may stay idle before it is over, at most 2^62
-    /// milliseconds; 0 for as long as it likes (our own).
+    /// milliseconds; 0 for no limit (our own).
     pub idle_ms: u64,
 }

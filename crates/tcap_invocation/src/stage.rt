@@ -12,15 +12,14 @@ pub const MAX_MOMENT: u64 = 0x4000_0000_0000_0000;
 ///           add                 sent
 ///  (free) -------> Queued(timeout) -------> Sent(deadline)
 ///    ^               |                        |         |
-///    |    give_up    |     a Reject of it, a  |         | its last result
-///    |    close_all  |     result or an error |         | or its error,
-///    |               |     that the class     |         | if the class
-///    |               |     doesn't have,      |         | has it
-///    |               |     the deadline,      |         v
-///    |               |     give_up, close_all |     Waiting(until)
-///    |               |                        |         | free_wait, the end
-///    |<--------------+                        |         | of the wait,
-///    |<---------------------------------------+         | close_all
+///    |  give_up,     |   a Reject of it, a    |         | its last result
+///    |  close_one,   |   result or an error   |         | or its error,
+///    |  close_all    |   that the class       |         | if the class
+///    |               |   doesn't have, lapse, |         | has it
+///    |               |   lapse_one, give_up,  |         v
+///    |               |   close_one, close_all |     Waiting(until)
+///    |<--------------+                        |         | free_wait, lapse,
+///    |<---------------------------------------+         | free_due, close_all
 ///    |<-------------------------------------------------+
 /// ```
 ///

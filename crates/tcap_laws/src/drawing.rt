@@ -28,7 +28,7 @@ pub fn over_stays_over()
         life dialogue (later ++ past) ≡ Life.over }
 {}
 
-/// A dialogue that was created is never unborn again (our own).
+/// A dialogue that was created is never again one that was not created yet (our own).
 pub fn born_stays_born()
     ensures { (dialogue : ℕ) (later past : Past) → life dialogue past ≢ Life.unborn →
         life dialogue (later ++ past) ≢ Life.unborn }
@@ -53,8 +53,8 @@ pub fn number_is_drawn_once()
     ensures within { (h : History) → IsLegal h → next_number h ≤ last_number }
 {}
 
-/// The identifiers of dialogues are drawn from a counter, each once: a reply creates none, or
-/// to the next one. In a legal history the dialogues rise one by one from the start, the counter
+/// The identifiers of dialogues are drawn from a counter, each once: a reply creates no
+/// dialogue, or the next one. In a legal history the dialogues rise one by one from the start, the counter
 /// never passes its last identifier, and those that were created are the ones that live or lived (our
 /// own).
 pub fn dialogue_is_born_once()

@@ -8,7 +8,7 @@ ghost use Rattle.tcap_model.specs.Replies.Legal.{IsLegal};
 ghost use Rattle.tcap_model.specs.Statements.EngineMoves.{EachMovesAlike, EachMoveIsSaid};
 
 /// An engine that stands at a history answers each event with the reply, and stands at the history with
-/// the event's pair then: requests, births, received bytes and moments
+/// the event's pair then: requests, new dialogues, received bytes and moments
 /// (Q.774, Transaction sublayer procedures; Q.774, Component handling).
 pub fn moving()
     ensures stands { EachMovesAlike }

@@ -59,7 +59,7 @@ pub(crate) fn add_answer<A: Allocator + Copy>(
     answer: &Answer<'_, A>,
 ) -> Result<(), OutOfMemory>
     ensures lines { OnOk result (string_bytes text.new ≡ string_bytes text.old ++ answer_lines (side_view side) sent (answer_view answer.now)) }
-    // Memory is wanting only where something is printed.
+    // Memory is refused only where something is printed.
     ensures err { OnErr result (prints_nothing (answer_view answer.now) ≡ false) }
 {
     let words = match answer {

@@ -11,6 +11,7 @@ use std::alloc::{Allocator, Global};
 /// the AARQ that was sent or received, so that it can always be written again.
 #[derive(Debug, Drop)]
 pub struct Context<A: Allocator + Copy = Global> {
+    /// The contents octets of the object identifier.
     pub octets: Vec<u8, A>,
     ghost is_name: { is_object_identifier octets.items ≡ true },
 }

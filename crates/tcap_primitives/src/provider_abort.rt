@@ -91,7 +91,7 @@ fn write_pdu<A: Allocator + Copy>(
     write_reason(alloc, peer, AbortPart::Dialogue(&portion))
 }
 
-/// The octets of an Abort, for which nothing but memory can be wanting.
+/// The octets of an Abort, which fail only where memory is refused.
 #[tactic(auto, using(crate::proofs::AbortLemmas::abort_short, crate::proofs::AbortLemmas::abort_writable, crate::proofs::AbortLemmas::response_short, crate::proofs::AbortLemmas::response_writable))]
 fn write_any<A: Allocator + Copy>(alloc: A, abort: &Abort<'_>) -> Result<Vec<u8, A>, PduFault>
     requires { CanWriteAbort abort.now }

@@ -17,14 +17,18 @@ pub const MAX_QUEUE: usize = 60_000;
 /// The invocation that an Invoke asks for.
 #[derive(Clone, Copy, Debug)]
 pub struct Invoking {
+    /// Its number, drawn by the engine.
     pub number: u64,
+    /// The class of its operation.
     pub class: Class,
 }
 
 /// A component of the queue: how many octets it has, and of an Invoke what it asks for.
 #[derive(Clone, Copy, Debug)]
 pub struct Part {
+    /// Octets, at most 60,000.
     pub len: usize,
+    /// The invocation of an Invoke; none of another component.
     pub invoking: Option<Invoking>,
 }
 
@@ -32,7 +36,9 @@ pub struct Part {
 /// written from one slice, and how many of them each component has.
 #[derive(Debug, Drop)]
 pub struct Queue<A: Allocator + Copy = Global> {
+    /// The octets of all components, at most 60,000.
     pub octets: Vec<u8, A>,
+    /// The components, in the order in which they were queued.
     pub parts: Vec<Part, A>,
     ghost whole: { total parts.items ≡ length octets.items },
 }

@@ -1,4 +1,4 @@
-//! The message of a request: what bears the dialogue portion, and the PDU in it.
+//! The message of a request: what carries the dialogue portion, and the PDU in it.
 
 pub mod portions;
 pub mod written;
@@ -37,6 +37,8 @@ pub enum Bearer<'a> {
 /// The message of a request, with the dialogue PDU that it carries, if any.
 #[derive(Drop)]
 pub struct Sending<'a> {
+    /// The message but for its dialogue portion.
     pub bearer: Bearer<'a>,
+    /// The PDU of its dialogue portion, if it has one.
     pub pdu: Option<DialoguePdu<'a>>,
 }

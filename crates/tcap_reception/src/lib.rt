@@ -1,7 +1,7 @@
 //! How far a dialogue is, and what becomes of a received message by that and by its dialogue portion, before
 //! anything is done.
 //!
-//! Stands on `ber_core`, `tcap_pdu`, `tcap_primitives` and the definitions of `tcap_model`. Begin at
+//! Stands on `ber_core`, `tcap_pdu`, `tcap_component`, `tcap_primitives` and the definitions of `tcap_model`. Begin at
 //! `Reception`; `State` has the state diagram.
 #![tactic(auto)]
 

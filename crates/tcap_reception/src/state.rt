@@ -34,9 +34,13 @@ pub enum State {
 /// The state, with the peer's transaction identifier where it is known.
 #[derive(Debug, Drop)]
 pub enum Phase {
+    /// No message was sent or received: Idle.
     Fresh,
+    /// Initiation Sent.
     Sent,
+    /// Initiation Received, with the identifier of the Begin.
     Received(TransId),
+    /// Active, with the identifier of the first message of the peer.
     Active(TransId),
 }
 

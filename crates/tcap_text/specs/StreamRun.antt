@@ -44,7 +44,7 @@ pub record IsEndless (had left old new : Option (List ℕ)) : Type 0 where
   pub halted : IsHalted had left old new
   pub many : most_reads ≤ length halted.stream
 
--- Memory is wanting for what the last piece completes or leaves, or for the last line: the lines of all
+-- Memory is refused for what the last piece completes or leaves, or for the last line: the lines of all
 -- messages before that piece, and then of some that it completes, were written whole (own).
 pub record IsShort (had left old new : Option (List ℕ)) : Type 0 where
   pub read : IsRead had left

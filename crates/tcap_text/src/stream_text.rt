@@ -13,7 +13,7 @@ pub(crate) fn last_text<A: Allocator + Copy>(
     feed: &Feed<A>,
 ) -> Result<String<A>, OutOfMemory>
     ensures ok { IfOk result (λ text. string_bytes text ≡ last_line_by feed.now.fault (length feed.now.rest)) }
-    // Memory is wanting only where something is printed.
+    // Memory is refused only where something is printed.
     ensures err { IsErr result → last_line_by feed.now.fault (length feed.now.rest) ≢ [] }
 {
     let left = feed.rest_len();

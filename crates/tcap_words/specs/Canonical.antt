@@ -65,7 +65,7 @@ unfoldable pub canonical_of : List ℕ → List ℕ
 canonical_of bytes = canonical_by (message_of bytes)
 
 -- Why a part is not written: it is above the limit of a message, so that the message is; or memory is
--- wanting, at any time (own).
+-- refused, at any time (own).
 abbrev pub IsCanonFault : List ℕ → CanonFault → Type 0
 IsCanonFault form canon.OutOfMemory = Unit {0}
 IsCanonFault form canon.TooLong = message_limit < length form

@@ -13,7 +13,7 @@ use ber_core::OutOfMemory;
 use std::alloc::Allocator;
 use tcap_invocation::Lapse;
 
-/// The earlier of two moments, of which each may be wanting.
+/// The earlier of two moments, of which each may be absent.
 fn earliest(first: Option<u64>, second: Option<u64>) -> Option<u64>
     ensures { result ≡ earliest first second }
 {

@@ -1,4 +1,4 @@
-//! Time.
+//! `Engine::advance`: the clock goes to a moment, and what is due lapses or ends (own).
 
 ghost use Rattle.std.specs.Prelude.{◌≡◌, ◌≤◌, OnErr, false};
 ghost use Rattle.tcap_engine.specs.Answering.{EngineAnswers, outputs_answer};

@@ -1,4 +1,4 @@
-//! Any event.
+//! `Engine::handle`: an event as a value, answered by the call of its name (own).
 
 ghost use Rattle.std.specs.Prelude.{◌≡◌, IsTrue, OnErr};
 ghost use Rattle.tcap_dialogue.specs.FaultViews.{takes_memory};
@@ -19,7 +19,7 @@ use ber_core::OutOfMemory;
 use std::alloc::Allocator;
 use tcap_dialogue::{Asked, Fault, Output};
 
-/// A refusal is an answer, but for lack of memory.
+/// A refusal is an answer, but for `OutOfMemory`.
 fn refused<'m, A: Allocator + Copy>(fault: Fault) -> Result<Answer<'m, A>, OutOfMemory>
     ensures moves { (m : EngineMoved) (old new : World) → EngineRefuses (fault_view fault) m old new
         → EngineHears answer_view result m old new }
@@ -103,7 +103,7 @@ impl<A: Allocator + Copy> Engine<A> {
     /// that memory was refused, and then nothing has changed.
     pub fn handle<'m>(&mut self, event: &Event<'m>) -> Result<Answer<'m, A>, OutOfMemory>
         ensures moves { EngineHears answer_view result (engine_move self.old (event_view event.now)) self.old self.new }
-        // Where memory may be wanting: not at a refusal, and not where nothing is kept or told.
+        // Where memory may be refused: not at a refusal, and not where nothing is kept or told.
         ensures memory { OnErr result (MayWant (event_view event.now)
             (engine_move self.old (event_view event.now)).answer) }
         // Whatever legal history the engine stood at: the reply, and the history that it stands at then.

@@ -60,7 +60,7 @@ impl<A: Allocator + Copy> Engine<A> {
     /// machine).
     pub fn state_of(&self, dialogue: u32) -> Option<State>
         ensures value { result ≡ state_in self.now dialogue }
-        // That of its life: none before the birth, and none once it is over.
+        // That of its life: none before it is created, and none once it is over.
         ensures stands { (h : History) → StandsAt h self.now → result ≡ state_in_life (life dialogue h.pairs) }
     {
         self.dialogue_at(dialogue).map(Dialogue::state)

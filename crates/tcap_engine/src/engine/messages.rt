@@ -1,4 +1,4 @@
-//! Bytes that were received.
+//! `Engine::receive`: bytes are read, and what becomes of them is done.
 
 ghost use Rattle.std.specs.Prelude.{◌≡◌, ◌∷◌, [], Bool, ℕ, is_some, option_copied, true, IfOk, IfSome};
 ghost use Rattle.tcap_primitives.specs.AbortViews.{CanWriteAbort, abort_sent};

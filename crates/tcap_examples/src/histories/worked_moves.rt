@@ -40,7 +40,7 @@ pub fn ends_move()
     ensures a_faulty_end { Runs ends.a_faulty_end }
 {}
 
-/// Messages to none, births, and several dialogues.
+/// Messages to none, new dialogues, and several dialogues.
 pub fn dialogues_move()
     ensures resource_limitation_first { Runs readings.resource_limitation_first }
     ensures messages_to_an_idle_dialogue { Runs readings.messages_to_an_idle_dialogue }

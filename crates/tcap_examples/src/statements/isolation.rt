@@ -60,7 +60,7 @@ pub fn a_moment_alone()
     ensures alone { IsAlone before_the_lapse 1 both_lapse }
 {}
 
-/// A dialogue that isn't born is unknown to both, whatever is asked of it.
+/// A dialogue that isn't created yet is unknown to both, whatever is asked of it.
 pub fn no_dialogue_alone()
     ensures legal { IsLegal before_the_lapse }
     ensures unborn { was_born 9 before_the_lapse.pairs ≡ false }

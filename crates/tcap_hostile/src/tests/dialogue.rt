@@ -21,7 +21,7 @@ fn add_step<A: Allocator>(alloc: Global, told: &mut String, step: &Step<'_, A>) 
     Some(Told::Large)
 }
 
-/// Adds the line of a refusal, but for lack of memory.
+/// Adds the line of a refusal, but for `OutOfMemory`.
 pub(super) fn add_fault(told: &mut String, fault: Fault) -> Option<Told> {
     if fault == Fault::OutOfMemory {
         return Some(Told::NoMemory);

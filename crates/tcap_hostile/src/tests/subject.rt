@@ -26,8 +26,8 @@ pub(super) enum Told {
 /// What an example is about; its first line says which.
 #[derive(Debug, Drop)]
 pub(super) enum Subject<'h> {
-    /// `engine`, of at most 4 dialogues; `engine 1`, of at most one; `engine idle`, whose dialogues may stand
-    /// still for 500 milliseconds; `engine from DIALOGUE NUMBER`, by its counters. It waits 1,000 milliseconds
+    /// `engine`, of at most 4 dialogues; `engine 1`, of at most one; `engine idle`, whose dialogues may be
+    /// idle for 500 milliseconds; `engine from DIALOGUE NUMBER`, by its counters. It waits 1,000 milliseconds
     /// for a Reject.
     Engine(Engine<Heap<'h>>),
     /// `dialogue`, of the identifier 1.
@@ -81,7 +81,7 @@ impl<'h> Subject<'h> {
     }
 
     /// Tells it a line, and adds the lines of its answer; nothing where it doesn't know the line, or
-    /// where memory for the lines is wanting.
+    /// where memory for the lines is refused.
     pub(super) fn tell(
         &mut self,
         alloc: Global,

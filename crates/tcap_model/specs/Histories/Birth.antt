@@ -64,11 +64,11 @@ births (pair ∷ past) = if is_some (born_by pair) then births past + 1 else bir
 abbrev pub next_dialogue : History → ℕ
 next_dialogue history = history.start.next_dialogue + births history.pairs
 
--- The dialogues that were created, in order of birth (own).
+-- The dialogues that were created, in order of creation (own).
 abbrev pub dialogues : Past → List ℕ
 dialogues past = gathered (λ pair before. option_to_list (born_by pair)) past
 
--- Whether this pair is the birth of the dialogue (own).
+-- Whether this pair creates the dialogue (own).
 abbrev pub is_birth_of : ℕ → Pair → Bool
 is_birth_of dialogue pair = is_that dialogue (born_by pair)
 

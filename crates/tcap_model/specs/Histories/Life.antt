@@ -15,7 +15,7 @@ use Rattle.tcap_model.specs.Words.Request.{Request, DialogueRequest}
 use Rattle.tcap_model.specs.Words.State.{State, is_live, activated}
 use Rattle.tcap_model.specs.Words.Time.{is_idle}
 
--- A dialogue isn't born yet; it stands, with its state and the application context of its Begin; or
+-- A dialogue isn't created yet; it stands, with its state and the application context of its Begin; or
 -- it is over (Q.774, Transaction state machine).
 pub data Life : Type 0 where
   unborn : Life
@@ -40,7 +40,7 @@ live_in Life.unborn = false
 live_in (Life.standing state context) = is_live state
 live_in Life.over = false
 
--- ---- birth
+-- ---- creation
 
 -- The application context that a Begin with this dialogue portion has (Q.774, Dialogue begin).
 abbrev pub begin_context : BeginVerdict → Option (List ℕ)
@@ -67,7 +67,7 @@ born_life (Event.on_dialogue dialogue request) = Life.unborn
 born_life (Event.received from bytes) = begun_life (frame_at bytes)
 born_life (Event.moment now) = Life.unborn
 
--- Before its birth nothing changes a dialogue; the first argument tells whether this is its birth
+-- Before it is created nothing changes a dialogue; the first argument tells whether this pair creates it
 -- (own).
 abbrev pub life_at_birth : Bool → Event → Life
 life_at_birth false event = Life.unborn
@@ -231,6 +231,6 @@ life dialogue past = (course dialogue past).life
 abbrev pub touched : ℕ → Past → ℕ
 touched dialogue past = (course dialogue past).touched
 
--- The dialogues that stand, in order of birth (own).
+-- The dialogues that stand, in order of creation (own).
 abbrev pub standing_dialogues : Past → List ℕ
 standing_dialogues past = filter (λ dialogue. is_standing (life dialogue past)) (dialogues past)

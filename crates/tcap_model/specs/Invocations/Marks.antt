@@ -146,7 +146,7 @@ marks_if_named false dialogue id touched before pair = []
 marks_if_named true dialogue id touched before pair =
     marks_by_event id before (life_after dialogue touched before pair) pair.event (is_accepted pair.answer)
 
--- An event up to the birth means nothing (own).
+-- An event up to the creation of the dialogue means nothing (own).
 abbrev pub marks_after_birth : ℕ → ℤ → ℕ → Life → Pair → List Mark
 marks_after_birth dialogue id touched Life.unborn pair = []
 marks_after_birth dialogue id touched (Life.standing state context) pair =

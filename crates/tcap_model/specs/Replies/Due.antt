@@ -42,7 +42,7 @@ situation_of h dialogue standing request = record {
   is_spent = are_numbers_spent (next_number h);
 }
 
--- The fault that is due for a request, by the dialogue's life: before its birth and once it is over
+-- The fault that is due for a request, by the dialogue's life: before it is created and once it is over
 -- the dialogue is unknown (own).
 abbrev pub due_by : History → ℕ → Request → Life → Option Fault
 due_by h dialogue request Life.unborn = Some Fault.unknown_dialogue

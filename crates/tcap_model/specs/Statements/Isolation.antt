@@ -36,7 +36,7 @@ abbrev pub IsAlone : History → ℕ → Event → Type 0
 IsAlone h dialogue event =
     compared dialogue event (reply h event) ≡ compared dialogue event (reply (history_of dialogue h) event)
 
--- Neither other dialogues nor their peers are seen in a dialogue, be it born or not: for each event that
+-- Neither other dialogues nor their peers are seen in a dialogue, be it created or not: for each event that
 -- names it, unless no invocation number is left (own).
 abbrev pub EachIsAlone : Type 0
 EachIsAlone =

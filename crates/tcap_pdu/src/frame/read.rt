@@ -23,10 +23,15 @@ use ber_core::{is_element_list, read_alone, take_content, take_tagged};
 /// The message types (Q.773, Message type tag).
 #[derive(Clone, Copy)]
 pub enum MessageType {
+    /// Unidirectional, 61.
     Uni,
+    /// Begin, 62.
     Begin,
+    /// End, 64.
     End,
+    /// Continue, 65.
     Continue,
+    /// Abort, 67.
     Abort,
 }
 
