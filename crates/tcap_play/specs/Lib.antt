@@ -1,6 +1,7 @@
 pub mod AnswerText
 pub mod Computing
 pub mod Examples
+pub mod Indications
 pub mod LineViews
 pub mod Numbers
 pub mod Opening

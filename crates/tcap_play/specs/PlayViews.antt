@@ -1,15 +1,23 @@
 -- Messages and a play as a contract sees them.
 use Rattle.std.specs.Prelude.{◌≡◌, ◌++◌, ◌∷◌, ℕ, Bool, true, false, List, map, Option, Some, None, length, slice_index_or, ◌+◌, ◌<◌}
+use Rattle.std.specs.Option.{option_map, option_and_then}
 use Rattle.tcap_model.specs.Table.World.{StandsAt}
 use Rattle.tcap_model.specs.Histories.History.{History}
 use Rattle.tcap_model.specs.Replies.Reply.{reply}
 use Rattle.tcap_model.specs.Statements.EngineMoves.{with_pair}
 use Rattle.tcap_model.specs.Words.Event.{Event}
+use Rattle.tcap_model.specs.Words.Output.{Output}
 use Rattle.tcap_play.specs.AnswerText.{answer_lines}
+use Rattle.tcap_play.specs.LineViews.{name_view}
+use Rattle.tcap_play.specs.Pieces.{pieces_left}
 use Rattle.tcap_play.specs.Play as play
+use Rattle.tcap_play.specs.Play.{Played, Stepped, behind, carried, followed, handed, has_fate, history_of, lost_from, message_in, message_to, messages_in, messages_of, printed_from, received_from, sent_by, with_fate}
+use Rattle.tcap_play.specs.SideView.{side_view}
 use Rattle.tcap_play.specs.Sides.{Engine, address_of, far}
-use Rattle.tcap_play.specs.Play.{Played, Stepped, behind, has_fate, history_of, messages_in, printed_from, with_fate}
 use Rattle.tcap_play.specs.declared.message.Message.{Message}
+use Rattle.tcap_play.specs.declared.opening.Opening.{Opening}
+use Rattle.tcap_play.specs.declared.script.values.Name.{Name}
+use Rattle.tcap_play.specs.declared.side.Side.{Side}
 use Rattle.tcap_play.specs.declared.station.Station.{Station}
 use Rattle.tcap_text.specs.declared.fate.Fate.{Fate}
 use Rattle.tcap_text.specs.declared.fate.Fate.TheVariants as fate
@@ -81,3 +89,65 @@ GoesOn number line p true a b before after = (q : Played) × IsAt q a b
     × ((lines : List (List ℕ)) → behind before (printed_from number p (line ∷ lines)) ≡ behind after (printed_from (number + 1) q lines))
 GoesOn number line p false a b before after =
     (lines : List (List ℕ)) → behind before (printed_from number p (line ∷ lines)) ≡ record { text = after; good = false }
+
+-- ---- what the calls of a play do
+
+-- The message with this number among those that a side sent, where it is in this state and goes to the other
+-- side, which is this one (own).
+abbrev pub message_for : {A : Type 0} → Side → Fate → ℕ → List (Message A) → Option play.Message
+message_for side fate number sent =
+    option_and_then (message_to (address_of (side_view side))) (message_in (fate_view fate) number (messages_view sent))
+
+-- The message with this number of one station was received by the station of this side, or there was none
+-- that could be (own).
+abbrev pub ReceivesFrom : {A : Type 0} → Side → Fate → ℕ → Bool → (from from_now to to_now : Station A) → (before after : List ℕ) → Type 0
+ReceivesFrom side fate number done from from_now to to_now before after =
+    Receives (message_for side fate number from.sent.items) number (side_view side) done from.sent.items from_now.sent.items to to_now before after
+
+-- What the play does when the message of a name, in this state, is received on the other side (own).
+abbrev pub received_by : Name → Fate → Played → Option Stepped
+received_by name fate p =
+    option_map (received_from (name_view name) play.Fate.delivered p) (carried (name_view name) (fate_view fate) p)
+
+-- What the play does when the message of a name, which waits, is lost (own).
+abbrev pub lost_by : Name → Played → Option Stepped
+lost_by name p =
+    option_map (lost_from (name_view name) p) (message_in play.Fate.waiting name.number (sent_by (side_view name.side) p))
+
+-- What the play does when both engines are at a moment, A first (own).
+abbrev pub advanced_to : ℕ → Played → Stepped
+advanced_to now p = followed (handed Engine.a (Event.moment now) p) (handed Engine.b (Event.moment now))
+
+-- At each play at which these two sides stand there is this step (own).
+abbrev pub StepsBy : {A : Type 0} → (Played → Stepped) → (a b a_now b_now : Station A) → (before after : List ℕ) → Type 0
+StepsBy says a b a_now b_now before after = (p : Played) → IsAt p a b → HasStepped (says p) a_now b_now before after
+
+-- At each play at which these two sides stand there is this step, or none, and it was told which (own).
+abbrev pub ActsBy : {A : Type 0} → (Played → Option Stepped) → Bool → (a b a_now b_now : Station A) → (before after : List ℕ) → Type 0
+ActsBy says done a b a_now b_now before after = (p : Played) → IsAt p a b → Does (says p) done a_now b_now before after
+
+-- At each play at which these two sides stand it goes on behind this line, or ends with it (own).
+abbrev pub GoesOnAt : {A : Type 0} → ℕ → List ℕ → Bool → (a b a_now b_now : Station A) → (before after : List ℕ) → Type 0
+GoesOnAt number line going a b a_now b_now before after =
+    (p : Played) → IsAt p a b → GoesOn number line p going a_now b_now before after
+
+-- What the play prints from its first line on, at each play at which these two sides stand, was added (own).
+abbrev pub PrintsAll : {A : Type 0} → Opening → Bool → (a b : Station A) → (before after : List ℕ) → Type 0
+PrintsAll opening good a b before after =
+    (p : Played) → IsAt p a b → behind before (printed_from (opening.passed + 1) p (pieces_left 10 opening.rest)) ≡ record { text = after; good = good }
+
+-- Any message with this number, in whatever state it was, is in this one (own).
+abbrev pub SetsFate : {A : Type 0} → Fate → ℕ → (sent sent_now : List (Message A)) → Type 0
+SetsFate fate number sent sent_now =
+    (before : play.Fate) (message : play.Message) → message_in before number (messages_view sent) ≡ Some message
+    → messages_view sent_now ≡ with_fate (fate_view fate) number message (messages_view sent)
+
+-- The message that an output sends, if it sends one, is kept behind those that were sent (own).
+abbrev pub KeepsOutput : {A : Type 0} → Output → (sent sent_now : List (Message A)) → Type 0
+KeepsOutput output sent sent_now =
+    (later : List Output) → messages_view sent ++ messages_of (output ∷ later) ≡ messages_view sent_now ++ messages_of later
+
+-- At each history at which the engine of a side stands it was handed this event (own).
+abbrev pub HandsAt : {A : Type 0} → Side → Event → (old new : Station A) → (before after : List ℕ) → Type 0
+HandsAt side event old new before after =
+    (h : History) → StandsAt h old.engine → Hands h (side_view side) event old new before after

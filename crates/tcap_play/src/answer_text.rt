@@ -37,7 +37,8 @@ fn add_outputs<A: Allocator + Copy>(
     sent: usize,
     outputs: &[Output<'_, A>],
 ) -> Result<(), OutOfMemory>
-    ensures lines { OnOk result (string_bytes text.new ≡ string_bytes text.old ++ output_lines (side_view side) sent (all_shown outputs.now)) }
+    ensures lines { OnOk result (string_bytes text.new ≡ string_bytes text.old
+        ++ output_lines (side_view side) sent (all_shown outputs.now)) }
     ensures err { OnErr result (prints_nothing (model.Answer.outputs (all_shown outputs.now)) ≡ false) }
 {
     // The number of a message is above a usize where `sent` is the highest.
@@ -58,7 +59,8 @@ pub(crate) fn add_answer<A: Allocator + Copy>(
     sent: usize,
     answer: &Answer<'_, A>,
 ) -> Result<(), OutOfMemory>
-    ensures lines { OnOk result (string_bytes text.new ≡ string_bytes text.old ++ answer_lines (side_view side) sent (answer_view answer.now)) }
+    ensures lines { OnOk result (string_bytes text.new ≡ string_bytes text.old
+        ++ answer_lines (side_view side) sent (answer_view answer.now)) }
     // Memory is refused only where something is printed.
     ensures err { OnErr result (prints_nothing (answer_view answer.now) ≡ false) }
 {

@@ -3,7 +3,7 @@
 
 ghost use Rattle.std.specs.Prelude.{◌≡◌, codes, true, false, [], ◌∷◌, ◌++◌};
 ghost use Rattle.tcap_model.specs.Statements.Net.{IsNet};
-ghost use Rattle.tcap_play.specs.Examples.{Prints, PrintsUpTo, Streams, repeated_begin_script, repeated_begin_text, shown_begin};
+ghost use Rattle.tcap_play.specs.Examples.{AnswersElsewhere, AnswersNoAddress, AnswersTheOther, DeliversALostEnd, DeliversTwice, GoesToTheOther, IdlesInA, IdlesInB, LosesElsewhere, LosesElsewhereTwice, LosesLate, LosesTwice, Prints, PrintsUpTo, RepeatsElsewhere, RepeatsFirst, Streams, EndsAtAFault, lost_end_script, lost_end_text, repeated_begin_script, repeated_begin_text, shown_begin};
 ghost use Rattle.tcap_play.specs.PlayNet.{HasNoRaw, has_no_raw, net_of, played_of, shown_text};
 
 /// A Begin that comes twice: the far side has two dialogues, and both answer.
@@ -13,15 +13,15 @@ pub fn repeated_begin()
 
 /// An End that is lost: the invocation lapses. A lost message can't be delivered.
 pub fn lost_end()
-    ensures text { Prints (codes "A new\nA invoke 1 1 1 10 5000 - -\nA begin 1 - -\ndeliver A1\nB more 1 1 10 0401AA\nB continue 1 - -\ndeliver B1\nagain B1\nB last 1 1 10 0401BB\nB end 1 - -\nlose B2\nadvance 5000\nA prearranged 1\n") (codes "A new 1\nA number 1\nA send A1 62104804000000016c08a10602010102010a\nB begin 1 context - info -\nB invoked 1 id 1 linked - op local 10 param -\nB done\nB send B1 651b4804000000014904000000016c0da70b020101300602010a0401aa\nA continue 1 context - info -\nA more 1 id 1 number 1 op local 10 param 0401aa\nA continue 1 context - info -\nA more 1 id 1 number 1 op local 10 param 0401aa\nB done\nB send B2 64154904000000016c0da20b020101300602010a0401bb\nA lapsed 1 id 1 number 1\n") }
-    ensures delivered { PrintsUpTo (codes "A new\nA invoke 1 1 1 10 5000 - -\nA begin 1 - -\ndeliver A1\nB more 1 1 10 0401AA\nB continue 1 - -\ndeliver B1\nagain B1\nB last 1 1 10 0401BB\nB end 1 - -\nlose B2\nadvance 5000\nA prearranged 1\ndeliver B2\n") (codes "A new 1\nA number 1\nA send A1 62104804000000016c08a10602010102010a\nB begin 1 context - info -\nB invoked 1 id 1 linked - op local 10 param -\nB done\nB send B1 651b4804000000014904000000016c0da70b020101300602010a0401aa\nA continue 1 context - info -\nA more 1 id 1 number 1 op local 10 param 0401aa\nA continue 1 context - info -\nA more 1 id 1 number 1 op local 10 param 0401aa\nB done\nB send B2 64154904000000016c0da20b020101300602010a0401bb\nA lapsed 1 id 1 number 1\nline 14 bad\n") }
+    ensures text { Prints lost_end_script lost_end_text }
+    ensures delivered { DeliversALostEnd }
 {}
 
 /// An idle limit: the first line that isn't skipped sets it for both engines, and prints nothing; anywhere else
 /// such a line is bad. It is 0 to 2^62 milliseconds, 0 for none.
 pub fn idle_limit()
-    ensures text { Prints (codes "idle 500\nA new\nA begin 1 - -\nadvance 500") (codes "A new 1\nA send A1 6206480400000001\nA pabort 1 idle\n") }
-    ensures other { Prints (codes "# both\n\nidle 500\nB new\nB begin 1 - -\nadvance 500") (codes "B new 1\nB send B1 6206480400000001\nB pabort 1 idle\n") }
+    ensures text { IdlesInA }
+    ensures other { IdlesInB }
     ensures alone { Prints (codes "idle 1") [] }
     ensures least { Prints (codes "idle 0") [] }
     ensures most { Prints (codes "idle 4611686018427387904") [] }
@@ -44,15 +44,15 @@ pub fn endings()
 /// Addresses: a message that doesn't go to the other side names where it goes, and is only lost. A message is
 /// received from another address than the other side's, and an answer to it goes there.
 pub fn addresses()
-    ensures text { PrintsUpTo (codes "A new\nA beginto 1 43 - -\nB rawfrom 43 650C4804000000094904000000FF\ndeliver A1") (codes "A new 1\nA send A1 6206480400000001 to 43\nB send B1 67094904000000094a0101 to 43\nline 4 bad\n") }
-    ensures known { Prints (codes "A new\nA beginto 1 42 - -\ndeliver A1") (codes "A new 1\nA send A1 6206480400000001\nB begin 1 context - info -\n") }
+    ensures text { AnswersElsewhere }
+    ensures known { GoesToTheOther }
     ensures own { Prints (codes "A new\nA beginto 1 41 - -") (codes "A new 1\nA send A1 6206480400000001 to 41\n") }
     ensures none { Prints (codes "A new\nA beginto 1 - - -") (codes "A new 1\nA send A1 6206480400000001 to -\n") }
-    ensures from_none { Prints (codes "B rawfrom - 650C4804000000094904000000FF") (codes "B send B1 67094904000000094a0101 to -\n") }
-    ensures from_other { Prints (codes "A rawfrom 42 650C4804000000094904000000FF") (codes "A send A1 67094904000000094a0101\n") }
-    ensures again { PrintsUpTo (codes "A new\nA beginto 1 43 - -\nagain A1") (codes "A new 1\nA send A1 6206480400000001 to 43\nline 3 bad\n") }
-    ensures lost { Prints (codes "A new\nA beginto 1 43 - -\nlose A1") (codes "A new 1\nA send A1 6206480400000001 to 43\n") }
-    ensures lost_twice { PrintsUpTo (codes "A new\nA beginto 1 43 - -\nlose A1\nlose A1") (codes "A new 1\nA send A1 6206480400000001 to 43\nline 4 bad\n") }
+    ensures from_none { AnswersNoAddress }
+    ensures from_other { AnswersTheOther }
+    ensures again { RepeatsElsewhere }
+    ensures lost { LosesElsewhere }
+    ensures lost_twice { LosesElsewhereTwice }
     ensures no_octets { PrintsUpTo (codes "A new\nA beginto 1 4 - -") (codes "A new 1\nline 2 bad\n") }
     ensures no_address { PrintsUpTo (codes "A rawfrom 00") (codes "line 1 bad\n") }
 {}
@@ -114,10 +114,10 @@ pub fn messages()
     ensures none { PrintsUpTo (codes "deliver A1") (codes "line 1 bad\n") }
     ensures zero { PrintsUpTo (codes "deliver A0") (codes "line 1 bad\n") }
     ensures zero_before { PrintsUpTo (codes "deliver A01") (codes "line 1 bad\n") }
-    ensures lost_twice { PrintsUpTo (codes "A new\nA begin 1 - -\nlose A1\nlose A1") (codes "A new 1\nA send A1 6206480400000001\nline 4 bad\n") }
-    ensures again_first { PrintsUpTo (codes "A new\nA begin 1 - -\nagain A1") (codes "A new 1\nA send A1 6206480400000001\nline 3 bad\n") }
-    ensures delivered_twice { PrintsUpTo (codes "A new\nA begin 1 - -\ndeliver A1\ndeliver A1") (codes "A new 1\nA send A1 6206480400000001\nB begin 1 context - info -\nline 4 bad\n") }
-    ensures lost_late { PrintsUpTo (codes "A new\nA begin 1 - -\ndeliver A1\nlose A1") (codes "A new 1\nA send A1 6206480400000001\nB begin 1 context - info -\nline 4 bad\n") }
+    ensures lost_twice { LosesTwice }
+    ensures again_first { RepeatsFirst }
+    ensures delivered_twice { DeliversTwice }
+    ensures lost_late { LosesLate }
 {}
 
 /// Scripts with a `raw` or `rawfrom` line, and some with none: a line that is skipped or bad isn't one. Octets that nobody
@@ -138,6 +138,6 @@ pub fn streams()
     ensures nothing { Streams [] [] true }
     ensures message { Streams shown_begin (codes "good\n") true }
     ensures rest { Streams (shown_begin ++ 0x62 ∷ 0x15 ∷ 0x48 ∷ []) (codes "good\nrest 3\n") false }
-    ensures fault { Streams (0x62 ∷ 0x06 ∷ 0x48 ∷ 0x04 ∷ 0x00 ∷ 0x00 ∷ 0x00 ∷ 0x01 ∷ 0x00 ∷ []) (codes "good\nfault stream ber 2\n") false }
+    ensures fault { EndsAtAFault }
     ensures faulty { Streams (0x04 ∷ 0x00 ∷ shown_begin) (codes "fault unknown type\ngood\n") false }
 {}

@@ -1,8 +1,8 @@
 //! Messages that were sent, and what became of them.
 
-ghost use Rattle.std.specs.Prelude.{◌≡◌, ◌<◌, ◌+◌, ◌⊎◌, ℕ, Some, None, option_map, MatchOption};
-ghost use Rattle.tcap_play.specs.Play.{Fate as Became, Message as Sent, has_fate, message_in, with_fate};
-ghost use Rattle.tcap_play.specs.PlayViews.{IsThere, fate_view, message_view, messages_view};
+ghost use Rattle.std.specs.Prelude.{◌≡◌, ◌<◌, ◌+◌, ◌⊎◌, Some, None, option_map, MatchOption};
+ghost use Rattle.tcap_play.specs.Play.{has_fate, message_in};
+ghost use Rattle.tcap_play.specs.PlayViews.{IsThere, SetsFate, fate_view, message_view, messages_view};
 
 use std::alloc::{Allocator, Global};
 use tcap_engine::Address;
@@ -18,7 +18,8 @@ pub(crate) struct Message<A: Allocator = Global> {
 
 /// The place of the message with this number, from 1, among so many.
 fn place_among(number: u64, count: usize) -> Option<usize>
-    ensures { MatchOption result ((number ≡ 0) ⊎ (count < number)) (λ place. (number ≡ place + 1) × (place < count)) }
+    ensures { MatchOption result ((number ≡ 0) ⊎ (count < number))
+        (λ place. (number ≡ place + 1) × (place < count)) }
 {
     let place = usize::try_from(number.checked_sub(1)?).ok()?;
     if place < count { Some(place) } else { None }
@@ -51,7 +52,8 @@ pub(crate) fn message_if<A: Allocator>(
     number: u64,
     fate: Fate,
 ) -> Option<&Message<A>>
-    ensures { option_map (λ m. message_view m.now) result ≡ message_in (fate_view fate) number (messages_view sent.now) }
+    ensures { option_map (λ m. message_view m.now) result
+        ≡ message_in (fate_view fate) number (messages_view sent.now) }
 {
     let place = place_of(sent, number, fate)?;
     Some(&sent[place])
@@ -59,7 +61,7 @@ pub(crate) fn message_if<A: Allocator>(
 
 /// The message with this number, from 1, if there is one, is in this state from now on.
 pub(crate) fn set_fate<A: Allocator>(sent: &mut Vec<Message<A>, A>, number: u64, fate: Fate)
-    ensures { (before : Became) (message : Sent) → message_in before number (messages_view sent.old.items) ≡ Some message → messages_view sent.new.items ≡ with_fate (fate_view fate) number message (messages_view sent.old.items) }
+    ensures { SetsFate fate number sent.old.items sent.new.items }
 {
     if let Some(place) = place_among(number, sent.len()) {
         sent[place].fate = fate;

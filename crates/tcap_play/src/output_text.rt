@@ -111,7 +111,8 @@ pub(crate) fn add_output<A: Allocator + Copy>(
     number: u128,
     output: &Output<'_, A>,
 ) -> Result<(), OutOfMemory>
-    ensures { OnOk result (string_bytes text.new ≡ string_bytes text.old ++ output_line (side_view side) number (shown output.now)) }
+    ensures { OnOk result (string_bytes text.new ≡ string_bytes text.old
+        ++ output_line (side_view side) number (shown output.now)) }
 {
     let words = output_text(alloc, side, number, output)?;
     add_line(text, side, &words)

@@ -1,17 +1,15 @@
 //! The play of a script.
 
-ghost use Rattle.std.specs.Prelude.{◌≡◌, ◌≤◌, ◌+◌, ℕ, List, [], IfOk, OnOk, string_bytes, option_map};
-ghost use Rattle.std.specs.Option.{option_and_then};
+ghost use Rattle.std.specs.Prelude.{◌≡◌, ◌≤◌, ◌+◌, ℕ, List, [], IfOk, OnOk, string_bytes};
 ghost use Rattle.tcap_engine.specs.EventViews.{event_view};
 ghost use Rattle.tcap_invocation.specs.Stage.{moment_limit};
 ghost use Rattle.tcap_model.specs.Table.World.{StandsAt};
-ghost use Rattle.tcap_model.specs.Words.Event.{Event as Happened};
-ghost use Rattle.tcap_play.specs.LineViews.{line_view, name_view};
-ghost use Rattle.tcap_play.specs.Pieces.{left, pieces_left};
-ghost use Rattle.tcap_play.specs.Play.{Fate as Became, Message as Sent, Played, behind, carried, followed, handed, history_of, lost_from, message_in, message_to, not_begun, play_is_good, play_text_of, printed_from, received_from, sent_by, step, step_by};
-ghost use Rattle.tcap_play.specs.PlayViews.{Does, GoesOn, HasStepped, IsAt, Loses, Receives, fate_view, messages_view};
+ghost use Rattle.tcap_play.specs.LineViews.{line_view};
+ghost use Rattle.tcap_play.specs.Pieces.{left};
+ghost use Rattle.tcap_play.specs.Play.{Fate as Became, handed, history_of, message_in, not_begun, play_is_good, play_text_of, step, step_by};
+ghost use Rattle.tcap_play.specs.PlayViews.{ActsBy, GoesOnAt, Loses, PrintsAll, ReceivesFrom, StepsBy, advanced_to, lost_by, messages_view, received_by};
 ghost use Rattle.tcap_play.specs.SideView.{side_view};
-ghost use Rattle.tcap_play.specs.Sides.{Engine as Which, address_of};
+ghost use Rattle.tcap_play.specs.Sides.{Engine as Which};
 
 use crate::addresses::Addresses;
 use crate::message::{message_if, set_fate};
@@ -36,7 +34,8 @@ fn call<A: Allocator + Copy>(
     b: &mut Station<A>,
     text: &mut String<A>,
 ) -> Result<(), OutOfMemory>
-    ensures { OnOk result ((p : Played) → IsAt p a.old b.old → HasStepped (handed (side_view side) (event_view event.entry) p) a.new b.new (string_bytes text.old) (string_bytes text.new)) }
+    ensures { OnOk result (StepsBy (handed (side_view side) (event_view event.entry)) a.old b.old a.new b.new
+        (string_bytes text.old) (string_bytes text.new)) }
 {
     match side {
         Side::A => hand(alloc, side, a, event, text),
@@ -56,7 +55,8 @@ fn receive_from<A: Allocator + Copy>(
     to: &mut Station<A>,
     text: &mut String<A>,
 ) -> Result<bool, OutOfMemory>
-    ensures done { IfOk result (λ done. Receives (option_and_then (message_to (address_of (side_view side))) (message_in (fate_view fate) number (messages_view from.old.sent.items))) number (side_view side) done from.old.sent.items from.new.sent.items to.old to.new (string_bytes text.old) (string_bytes text.new)) }
+    ensures done { IfOk result (λ done. ReceivesFrom side fate number done from.old from.new to.old to.new
+        (string_bytes text.old) (string_bytes text.new)) }
     ensures engine { from.new.engine ≡ from.old.engine }
 {
     let Some(message) = message_if(&from.sent, number, fate) else {
@@ -82,7 +82,8 @@ fn receive<A: Allocator + Copy>(
     b: &mut Station<A>,
     text: &mut String<A>,
 ) -> Result<bool, OutOfMemory>
-    ensures { IfOk result (λ done. (p : Played) → IsAt p a.old b.old → Does (option_map (received_from (name_view name) Became.delivered p) (carried (name_view name) (fate_view fate) p)) done a.new b.new (string_bytes text.old) (string_bytes text.new)) }
+    ensures { IfOk result (λ done. ActsBy (received_by name fate) done a.old b.old a.new b.new
+        (string_bytes text.old) (string_bytes text.new)) }
 {
     let number = name.number;
     match name.side {
@@ -93,7 +94,8 @@ fn receive<A: Allocator + Copy>(
 
 /// Loses the message with this number, if it waits, and tells whether it did.
 fn lose_from<A: Allocator + Copy>(from: &mut Station<A>, number: u64) -> bool
-    ensures lost { Loses (message_in Became.waiting number (messages_view from.old.sent.items)) number result from.old.sent.items from.new.sent.items }
+    ensures lost { Loses (message_in Became.waiting number
+        (messages_view from.old.sent.items)) number result from.old.sent.items from.new.sent.items }
     ensures engine { from.new.engine ≡ from.old.engine }
 {
     if message_if(&from.sent, number, Fate::Waiting).is_none() {
@@ -105,7 +107,7 @@ fn lose_from<A: Allocator + Copy>(from: &mut Station<A>, number: u64) -> bool
 
 /// Loses the message of this name, if it waits, and tells whether it did.
 fn lose<A: Allocator + Copy>(name: Name, a: &mut Station<A>, b: &mut Station<A>) -> bool
-    ensures { (p : Played) (text : List ℕ) → IsAt p a.old b.old → Does (option_map (lost_from (name_view name) p) (message_in Became.waiting name.number (sent_by (side_view name.side) p))) result a.new b.new text text }
+    ensures { (text : List ℕ) → ActsBy (lost_by name) result a.old b.old a.new b.new text text }
 {
     match name.side {
         Side::A => lose_from(a, name.number),
@@ -121,7 +123,8 @@ fn advance<A: Allocator + Copy>(
     b: &mut Station<A>,
     text: &mut String<A>,
 ) -> Result<(), OutOfMemory>
-    ensures { OnOk result ((p : Played) → IsAt p a.old b.old → HasStepped (followed (handed Which.a (Happened.moment now) p) (handed Which.b (Happened.moment now))) a.new b.new (string_bytes text.old) (string_bytes text.new)) }
+    ensures { OnOk result (StepsBy (advanced_to now) a.old b.old a.new b.new
+        (string_bytes text.old) (string_bytes text.new)) }
 {
     call(alloc, Side::A, Event::Moment(now), a, b, text)?;
     call(alloc, Side::B, Event::Moment(now), a, b, text)
@@ -136,7 +139,8 @@ fn act<A: Allocator + Copy>(
     b: &mut Station<A>,
     text: &mut String<A>,
 ) -> Result<bool, OutOfMemory>
-    ensures { IfOk result (λ done. (p : Played) → IsAt p a.old b.old → Does (step p (line_view line.entry)) done a.new b.new (string_bytes text.old) (string_bytes text.new)) }
+    ensures { IfOk result (λ done. ActsBy (λ p. step p (line_view line.entry)) done a.old b.old a.new b.new
+        (string_bytes text.old) (string_bytes text.new)) }
 {
     match line {
         Line::Call(side, event) => call(alloc, side, event, a, b, text)?,
@@ -156,7 +160,8 @@ fn act_by<A: Allocator + Copy>(
     b: &mut Station<A>,
     text: &mut String<A>,
 ) -> Result<bool, OutOfMemory>
-    ensures { IfOk result (λ done. (p : Played) → IsAt p a.old b.old → Does (step_by p line.now) done a.new b.new (string_bytes text.old) (string_bytes text.new)) }
+    ensures { IfOk result (λ done. ActsBy (λ p. step_by p line.now) done a.old b.old a.new b.new
+        (string_bytes text.old) (string_bytes text.new)) }
 {
     let addresses = Addresses::new();
     let words = words_of(alloc, line)?;
@@ -193,7 +198,8 @@ fn go_on<A: Allocator + Copy>(
     b: &mut Station<A>,
     text: &mut String<A>,
 ) -> Result<bool, OutOfMemory>
-    ensures { IfOk result (λ going. (p : Played) → IsAt p a.old b.old → GoesOn number line.now p going a.new b.new (string_bytes text.old) (string_bytes text.new)) }
+    ensures { IfOk result (λ going. GoesOnAt number line.now going a.old b.old a.new b.new
+        (string_bytes text.old) (string_bytes text.new)) }
 {
     if is_skipped(line) {
         return Ok(true);
@@ -214,7 +220,8 @@ fn play_lines<A: Allocator + Copy>(
     text: &mut String<A>,
 ) -> Result<bool, OutOfMemory>
     requires { opening.passed + left opening.rest ≤ 18446744073709551615 }
-    ensures { IfOk result (λ good. (p : Played) → IsAt p a.old b.old → behind (string_bytes text.old) (printed_from (opening.entry.passed + 1) p (pieces_left 10 opening.entry.rest)) ≡ record { text = string_bytes text.new; good = good }) }
+    ensures { IfOk result (λ good. PrintsAll opening.entry good a.old b.old
+        (string_bytes text.old) (string_bytes text.new)) }
 {
     let mut number = opening.passed;
     let mut rest = opening.rest;

@@ -1,16 +1,14 @@
 //! One side of a play: an engine, and the messages that it sent.
 
-ghost use Rattle.std.specs.Prelude.{◌≡◌, ◌++◌, ◌∷◌, List, IfOk, OnOk, string_bytes};
+ghost use Rattle.std.specs.Prelude.{◌≡◌, ◌++◌, IfOk, OnOk, string_bytes};
 ghost use Rattle.tcap_primitives.specs.OutputViews.{all_shown, shown};
 ghost use Rattle.tcap_engine.specs.EventViews.{answer_view, event_view};
 ghost use Rattle.tcap_model.specs.Histories.History.{History};
 ghost use Rattle.tcap_model.specs.Replies.Reply.{reply};
 ghost use Rattle.tcap_model.specs.Statements.EngineMoves.{with_pair};
 ghost use Rattle.tcap_model.specs.Table.World.{StandsAt};
-ghost use Rattle.tcap_model.specs.Words.Output.{Output as Printed};
 ghost use Rattle.tcap_play.specs.Play.{messages_in, messages_of};
-ghost use Rattle.tcap_play.specs.PlayViews.{Hands, messages_view};
-ghost use Rattle.tcap_play.specs.SideView.{side_view};
+ghost use Rattle.tcap_play.specs.PlayViews.{HandsAt, KeepsOutput, messages_view};
 
 use crate::answer_text::add_answer;
 use crate::message::Message;
@@ -33,8 +31,10 @@ fn answer_to<'m, A: Allocator + Copy>(
     engine: &mut Engine<A>,
     event: Event<'m>,
 ) -> Result<Answer<'m, A>, OutOfMemory>
-    ensures answer { IfOk result (λ answer. (h : History) → StandsAt h engine.old → answer_view answer ≡ reply h (event_view event.entry)) }
-    ensures stands { OnOk result ((h : History) → StandsAt h engine.old → StandsAt (with_pair h (event_view event.entry)) engine.new) }
+    ensures answer { IfOk result (λ answer. (h : History) → StandsAt h engine.old
+        → answer_view answer ≡ reply h (event_view event.entry)) }
+    ensures stands { OnOk result ((h : History) → StandsAt h engine.old
+        → StandsAt (with_pair h (event_view event.entry)) engine.new) }
 {
     let mut answers = Vec::new(alloc);
     run(engine, &[event], &mut answers)?;
@@ -46,7 +46,7 @@ fn keep_output<A: Allocator + Copy>(
     sent: &mut Vec<Message<A>, A>,
     output: Output<'_, A>,
 ) -> Result<(), OutOfMemory>
-    ensures { OnOk result ((later : List Printed) → messages_view sent.old.items ++ messages_of (shown output.entry ∷ later) ≡ messages_view sent.new.items ++ messages_of later) }
+    ensures { OnOk result (KeepsOutput (shown output.entry) sent.old.items sent.new.items) }
 {
     if let Output::Send { to, bytes } = output {
         sent.reserve(1)?;
@@ -64,7 +64,8 @@ fn keep_outputs<A: Allocator + Copy>(
     sent: &mut Vec<Message<A>, A>,
     outputs: Vec<Output<'_, A>, A>,
 ) -> Result<(), OutOfMemory>
-    ensures { OnOk result (messages_view sent.new.items ≡ messages_view sent.old.items ++ messages_of (all_shown outputs.entry.items)) }
+    ensures { OnOk result (messages_view sent.new.items ≡ messages_view sent.old.items
+        ++ messages_of (all_shown outputs.entry.items)) }
 {
     for output in outputs {
         keep_output(sent, output)?;
@@ -77,7 +78,8 @@ fn keep<A: Allocator + Copy>(
     sent: &mut Vec<Message<A>, A>,
     answer: Answer<'_, A>,
 ) -> Result<(), OutOfMemory>
-    ensures { OnOk result (messages_view sent.new.items ≡ messages_view sent.old.items ++ messages_in (answer_view answer.entry)) }
+    ensures { OnOk result (messages_view sent.new.items ≡ messages_view sent.old.items
+        ++ messages_in (answer_view answer.entry)) }
 {
     match answer {
         Answer::Outputs(outputs) => keep_outputs(sent, outputs),
@@ -94,7 +96,8 @@ pub(crate) fn hand<A: Allocator + Copy>(
     event: Event<'_>,
     text: &mut String<A>,
 ) -> Result<(), OutOfMemory>
-    ensures { OnOk result ((h : History) → StandsAt h station.old.engine → Hands h (side_view side) (event_view event.entry) station.old station.new (string_bytes text.old) (string_bytes text.new)) }
+    ensures { OnOk result (HandsAt side (event_view event.entry) station.old station.new
+        (string_bytes text.old) (string_bytes text.new)) }
 {
     let answer = answer_to(alloc, &mut station.engine, event)?;
     add_answer(alloc, text, side, station.sent.len(), &answer)?;

@@ -1,9 +1,10 @@
 //! The words of an indication that closes an invocation.
 
-ghost use Rattle.std.specs.Prelude.{◌≡◌, IfOk, string_bytes, option_copied, option_map};
-ghost use Rattle.tcap_component.specs.Views.{code_parts, body_parts, problem_parts};
+ghost use Rattle.std.specs.Prelude.{◌≡◌, IfOk, string_bytes, option_map};
+ghost use Rattle.tcap_component.specs.Views.{body_parts, problem_parts};
 ghost use Rattle.tcap_primitives.specs.OutputViews.{rejector, shown};
 ghost use Rattle.tcap_model.specs.Words.Output.{Closing};
+ghost use Rattle.tcap_play.specs.Indications.{error_closing};
 ghost use Rattle.tcap_play.specs.OutputParts.{closing_part};
 ghost use Rattle.tcap_play.specs.OutputText.{closed_words};
 
@@ -22,7 +23,8 @@ fn result_last_text<A: Allocator + Copy>(
     id: i8,
     body: &Option<Body<'_>>,
 ) -> Result<String<A>, OutOfMemory>
-    ensures { IfOk result (λ words. string_bytes words ≡ closed_words dialogue number id (Closing.result_last (option_map body_parts body.now))) }
+    ensures { IfOk result (λ words. string_bytes words
+        ≡ closed_words dialogue number id (Closing.result_last (option_map body_parts body.now))) }
 {
     let invocation = invocation_text(alloc, "last", dialogue, number, id)?;
     let body = body_text(alloc, body)?;
@@ -38,7 +40,8 @@ fn error_text<A: Allocator + Copy>(
     code: &Code<'_>,
     parameter: Option<&[u8]>,
 ) -> Result<String<A>, OutOfMemory>
-    ensures { IfOk result (λ words. string_bytes words ≡ closed_words dialogue number id (Closing.error_back (code_parts code.now) (option_copied parameter.entry))) }
+    ensures { IfOk result (λ words. string_bytes words
+        ≡ closed_words dialogue number id (error_closing code.now parameter.entry)) }
 {
     let invocation = invocation_text(alloc, "error", dialogue, number, id)?;
     let coded = coded_text(alloc, code, parameter)?;
@@ -54,7 +57,8 @@ fn rejected_text<A: Allocator + Copy>(
     problem: Problem,
     by: By,
 ) -> Result<String<A>, OutOfMemory>
-    ensures { IfOk result (λ words. string_bytes words ≡ closed_words dialogue number id (Closing.rejected (problem_parts problem) (rejector by))) }
+    ensures { IfOk result (λ words. string_bytes words
+        ≡ closed_words dialogue number id (Closing.rejected (problem_parts problem) (rejector by))) }
 {
     let invocation = invocation_text(alloc, "rejected", dialogue, number, id)?;
     let problem = problem_text(alloc, problem)?;

@@ -1,9 +1,10 @@
 //! The words of an indication of component handling that closes no invocation.
 
-ghost use Rattle.std.specs.Prelude.{◌≡◌, IfOk, string_bytes, option_copied, option_map};
-ghost use Rattle.tcap_component.specs.Views.{code_parts, body_parts, problem_parts};
+ghost use Rattle.std.specs.Prelude.{◌≡◌, IfOk, string_bytes};
+ghost use Rattle.tcap_component.specs.Views.{problem_parts};
 ghost use Rattle.tcap_primitives.specs.OutputViews.{rejector, shown};
 ghost use Rattle.tcap_model.specs.Words.Output.{ComponentIndication};
+ghost use Rattle.tcap_play.specs.Indications.{invoked_indication, more_indication, reject_indication};
 ghost use Rattle.tcap_play.specs.OutputParts.{component_part};
 ghost use Rattle.tcap_play.specs.OutputText.{place_words, rejector_words, invocation_words, component_words};
 
@@ -59,7 +60,8 @@ fn invoked_text<A: Allocator + Copy>(
     code: &Code<'_>,
     parameter: Option<&[u8]>,
 ) -> Result<String<A>, OutOfMemory>
-    ensures { IfOk result (λ words. string_bytes words ≡ component_words (ComponentIndication.invoked dialogue id linked (code_parts code.now) (option_copied parameter.entry))) }
+    ensures { IfOk result (λ words. string_bytes words
+        ≡ component_words (invoked_indication dialogue id linked code.now parameter.entry)) }
 {
     let place = place_text(alloc, dialogue)?;
     let linked = identifier_text(alloc, linked)?;
@@ -75,7 +77,8 @@ fn result_more_text<A: Allocator + Copy>(
     id: i8,
     body: &Option<Body<'_>>,
 ) -> Result<String<A>, OutOfMemory>
-    ensures { IfOk result (λ words. string_bytes words ≡ component_words (ComponentIndication.result_more dialogue number id (option_map body_parts body.now))) }
+    ensures { IfOk result (λ words. string_bytes words
+        ≡ component_words (more_indication dialogue number id body.now)) }
 {
     let invocation = invocation_text(alloc, "more", dialogue, number, id)?;
     let body = body_text(alloc, body)?;
@@ -89,7 +92,8 @@ fn local_reject_text<A: Allocator + Copy>(
     id: Option<i8>,
     problem: Problem,
 ) -> Result<String<A>, OutOfMemory>
-    ensures { IfOk result (λ words. string_bytes words ≡ component_words (ComponentIndication.local_reject dialogue id (problem_parts problem))) }
+    ensures { IfOk result (λ words. string_bytes words
+        ≡ component_words (ComponentIndication.local_reject dialogue id (problem_parts problem))) }
 {
     let place = place_text(alloc, dialogue)?;
     let id = identifier_text(alloc, id)?;
@@ -105,7 +109,8 @@ fn remote_reject_text<A: Allocator + Copy>(
     problem: Problem,
     by: By,
 ) -> Result<String<A>, OutOfMemory>
-    ensures { IfOk result (λ words. string_bytes words ≡ component_words (ComponentIndication.remote_reject dialogue id (problem_parts problem) (rejector by))) }
+    ensures { IfOk result (λ words. string_bytes words
+        ≡ component_words (reject_indication dialogue id problem by)) }
 {
     let place = place_text(alloc, dialogue)?;
     let id = identifier_text(alloc, id)?;

@@ -32,7 +32,8 @@ fn uni_text<A: Allocator + Copy>(
     context: Option<&[u8]>,
     info: &[u8],
 ) -> Result<String<A>, OutOfMemory>
-    ensures { IfOk result (λ words. string_bytes words ≡ dialogue_words (DialogueIndication.uni (option_copied context.entry) info.now)) }
+    ensures { IfOk result (λ words. string_bytes words
+        ≡ dialogue_words (DialogueIndication.uni (option_copied context.entry) info.now)) }
 {
     let context = context_text(alloc, context, info)?;
     Ok(format!(in alloc; "uni {context}")?)
@@ -46,7 +47,8 @@ fn message_text<A: Allocator + Copy>(
     context: Option<&[u8]>,
     info: &[u8],
 ) -> Result<String<A>, OutOfMemory>
-    ensures { IfOk result (λ words. string_bytes words ≡ message_words name.now dialogue (option_copied context.entry) info.now) }
+    ensures { IfOk result (λ words. string_bytes words
+        ≡ message_words name.now dialogue (option_copied context.entry) info.now) }
 {
     let context = context_text(alloc, context, info)?;
     Ok(format!(in alloc; "{name} {dialogue} {context}")?)
@@ -58,7 +60,8 @@ fn user_abort_text<A: Allocator + Copy>(
     dialogue: u32,
     pdu: &Option<DialoguePdu<'_>>,
 ) -> Result<String<A>, OutOfMemory>
-    ensures { IfOk result (λ words. string_bytes words ≡ dialogue_words (DialogueIndication.u_abort dialogue (option_map pdu_value pdu.now))) }
+    ensures { IfOk result (λ words. string_bytes words
+        ≡ dialogue_words (DialogueIndication.u_abort dialogue (option_map pdu_value pdu.now))) }
 {
     match pdu {
         Some(pdu) => {
@@ -75,7 +78,8 @@ fn provider_abort_text<A: Allocator + Copy>(
     dialogue: u32,
     why: Why,
 ) -> Result<String<A>, OutOfMemory>
-    ensures { IfOk result (λ words. string_bytes words ≡ dialogue_words (DialogueIndication.p_abort dialogue (cause_view why))) }
+    ensures { IfOk result (λ words. string_bytes words
+        ≡ dialogue_words (DialogueIndication.p_abort dialogue (cause_view why))) }
 {
     match why {
         Why::Cause(number) => Ok(format!(in alloc; "pabort {dialogue} cause {number}")?),

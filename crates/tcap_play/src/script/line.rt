@@ -3,8 +3,8 @@
 ghost use Rattle.std.specs.Prelude.{◌≡◌, option_map};
 ghost use Rattle.tcap_primitives.specs.RequestViews.{request_view};
 ghost use Rattle.tcap_engine.specs.EventViews.{event_view};
-ghost use Rattle.tcap_play.specs.LineViews.{line_view, text_of, texts_of};
-ghost use Rattle.tcap_play.specs.ScriptLine.{called_on, asked_on, received_from, received_on, line_of_two, line_of_three, line_of_four, line_of_five, line_of_six, line_of_nine, line_of};
+ghost use Rattle.tcap_play.specs.LineViews.{line_of_six_words, line_view, text_of, texts_of};
+ghost use Rattle.tcap_play.specs.ScriptLine.{called_on, asked_on, received_from, received_on, line_of_two, line_of_three, line_of_four, line_of_five, line_of_nine, line_of};
 
 use crate::addresses::Addresses;
 use crate::script::requests::{
@@ -54,7 +54,8 @@ fn received_from<'w, A: Allocator>(
     from: &'w Word<'_, A>,
     word: &'w Word<'_, A>,
 ) -> Option<Line<'w>>
-    ensures { option_map line_view result ≡ received_from side_word.now (text_of from.entry.now) (text_of word.entry.now) }
+    ensures { option_map line_view result
+        ≡ received_from side_word.now (text_of from.entry.now) (text_of word.entry.now) }
 {
     let from = from.address()?;
     called_on(side_word, Event::Bytes(from, octets(word)?))
@@ -118,7 +119,8 @@ fn line_of_four<'w, A: Allocator>(
     third: &'w Word<'_, A>,
     last: &'w Word<'_, A>,
 ) -> Option<Line<'w>>
-    ensures { option_map line_view result ≡ line_of_four side.now name.now (text_of third.entry.now) (text_of last.entry.now) }
+    ensures { option_map line_view result
+        ≡ line_of_four side.now name.now (text_of third.entry.now) (text_of last.entry.now) }
 {
     if is(name, "cancel") {
         asked_on(side, third.text, cancel_request(last.text)?)
@@ -139,7 +141,8 @@ fn line_of_five<'w, A: Allocator>(
     word: &'w Word<'_, A>,
     information: &'w Word<'_, A>,
 ) -> Option<Line<'w>>
-    ensures { option_map line_view result ≡ line_of_five side.now name.now dialogue.now (text_of word.entry.now) (text_of information.entry.now) }
+    ensures { option_map line_view result
+        ≡ line_of_five side.now name.now dialogue.now (text_of word.entry.now) (text_of information.entry.now) }
 {
     let request = if is(name, "abort") {
         abort_request(word.text, information)?
@@ -159,7 +162,8 @@ fn line_of_six<'w, A: Allocator>(
     word: &'w Word<'_, A>,
     last: &'w Word<'_, A>,
 ) -> Option<Line<'w>>
-    ensures { option_map line_view result ≡ line_of_six side.now name.now dialogue.now (text_of id.entry.now) (text_of word.entry.now) (text_of last.entry.now) }
+    ensures { option_map line_view result
+        ≡ line_of_six_words side.now name.now dialogue.now id.entry.now word.entry.now last.entry.now }
 {
     let request = if is(name, "last") {
         last_request(id.text, word, last)?
@@ -184,7 +188,8 @@ fn line_of_nine<'w>(
     dialogue: &[u8],
     request: Option<Request<'w>>,
 ) -> Option<Line<'w>>
-    ensures { option_map line_view result ≡ line_of_nine side.now name.now dialogue.now (option_map request_view request.entry) }
+    ensures { option_map line_view result
+        ≡ line_of_nine side.now name.now dialogue.now (option_map request_view request.entry) }
 {
     if is(name, "invoke") {
         asked_on(side, dialogue, request?)

@@ -21,7 +21,8 @@ fn portion_request<'w, A: Allocator>(
     context: &'w Word<'_, A>,
     information: &'w Word<'_, A>,
 ) -> Option<Request<'w>>
-    ensures { option_map request_view result ≡ portion_request_of to.entry.now name.now (text_of context.entry.now) (text_of information.entry.now) }
+    ensures { option_map request_view result
+        ≡ portion_request_of to.entry.now name.now (text_of context.entry.now) (text_of information.entry.now) }
 {
     let context = optional_octets(context)?;
     let info = octets(information)?;
@@ -51,7 +52,8 @@ pub(crate) fn portion_request_on<'w, A: Allocator>(
     context: &'w Word<'_, A>,
     information: &'w Word<'_, A>,
 ) -> Option<Request<'w>>
-    ensures { option_map request_view result ≡ portion_request_on side_word.now name.now (text_of context.entry.now) (text_of information.entry.now) }
+    ensures { option_map request_view result
+        ≡ portion_request_on side_word.now name.now (text_of context.entry.now) (text_of information.entry.now) }
 {
     let to = addresses.beyond(side(side_word)?);
     portion_request(to, name, context, information)
@@ -63,7 +65,8 @@ pub(crate) fn begin_request<'w, A: Allocator>(
     context: &'w Word<'_, A>,
     information: &'w Word<'_, A>,
 ) -> Option<Request<'w>>
-    ensures { option_map request_view result ≡ begin_request_of (text_of to.entry.now) (text_of context.entry.now) (text_of information.entry.now) }
+    ensures { option_map request_view result
+        ≡ begin_request_of (text_of to.entry.now) (text_of context.entry.now) (text_of information.entry.now) }
 {
     portion_request(to.address()?, b"begin", context, information)
 }
@@ -87,7 +90,8 @@ pub(crate) fn last_request<'w, A: Allocator>(
     code: &'w Word<'_, A>,
     parameter: &'w Word<'_, A>,
 ) -> Option<Request<'w>>
-    ensures { option_map request_view result ≡ last_request_of id.now (text_of code.entry.now) (text_of parameter.entry.now) }
+    ensures { option_map request_view result
+        ≡ last_request_of id.now (text_of code.entry.now) (text_of parameter.entry.now) }
 {
     let id = identifier(id)?;
     let body = body(code, parameter)?;
@@ -100,7 +104,8 @@ pub(crate) fn more_request<'w, A: Allocator>(
     code: &'w Word<'_, A>,
     parameter: &'w Word<'_, A>,
 ) -> Option<Request<'w>>
-    ensures { option_map request_view result ≡ more_request_of id.now (text_of code.entry.now) (text_of parameter.entry.now) }
+    ensures { option_map request_view result
+        ≡ more_request_of id.now (text_of code.entry.now) (text_of parameter.entry.now) }
 {
     let id = identifier(id)?;
     let body = body(code, parameter)?;
@@ -149,7 +154,9 @@ pub(crate) fn invoke_request<'w, A: Allocator>(
     linked: &[u8],
     parameter: &'w Word<'_, A>,
 ) -> Option<Request<'w>>
-    ensures { option_map request_view result ≡ invoke_request_of id.now class_word.now code_word.now timeout.now linked.now (text_of parameter.entry.now) }
+    ensures { option_map request_view result
+        ≡ invoke_request_of id.now class_word.now code_word.now timeout.now linked.now
+        (text_of parameter.entry.now) }
 {
     Some(Request::Invoke {
         id: identifier(id)?,

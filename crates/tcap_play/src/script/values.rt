@@ -141,7 +141,8 @@ fn body_with<'w, A: Allocator>(
     code_word: &'w Word<'_, A>,
     parameter: &'w Word<'_, A>,
 ) -> Option<Option<Body<'w>>>
-    ensures { option_map (option_map body_parts) result ≡ body_with (text_of code_word.entry.now) (text_of parameter.entry.now) }
+    ensures { option_map (option_map body_parts) result
+        ≡ body_with (text_of code_word.entry.now) (text_of parameter.entry.now) }
 {
     let code = code(code_word.text)?;
     let parameter = optional_octets(parameter)?;
@@ -153,7 +154,8 @@ pub(crate) fn body<'w, A: Allocator>(
     code: &'w Word<'_, A>,
     parameter: &'w Word<'_, A>,
 ) -> Option<Option<Body<'w>>>
-    ensures { option_map (option_map body_parts) result ≡ body_of (text_of code.entry.now) (text_of parameter.entry.now) }
+    ensures { option_map (option_map body_parts) result
+        ≡ body_of (text_of code.entry.now) (text_of parameter.entry.now) }
 {
     match (code.text, parameter.text) {
         (b"-", b"-") => Some(None),
