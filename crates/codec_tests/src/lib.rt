@@ -1,7 +1,7 @@
 //! The tests of elements, messages, components and invocations: of `ber_core`, `tcap_pdu`, `tcap_component`
 //! and `tcap_invocation`.
 //!
-//! Stands on these four and on `refusing`. It has no function but the tests.
+//! Stands on these four. It has no function but the tests.
 #![tactic(auto)]
 
 #[cfg(test)]

@@ -212,6 +212,6 @@ fn calls_drawn_by_lot(rt: HostRuntime) -> Result<(), Fail> {
         assert!(rt; differs.is_none(), "call {differs:?} of {seed}");
     }
     let kinds = counts.iter().filter(|count| **count > 0).count();
-    assert_eq!(rt; kinds, ANSWERS, "{counts:?}");
+    assert!(rt; kinds == ANSWERS, "{counts:?}");
     Ok(())
 }

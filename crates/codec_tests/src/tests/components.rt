@@ -1,5 +1,6 @@
 //! Components, read and written.
 
+use super::elements::long_element;
 use std::alloc::Global;
 use std::test::Fail;
 use tcap_component::{
@@ -82,7 +83,7 @@ fn is_problem(kind: Kind, code: u8, by_provider: bool) -> bool {
 #[test]
 fn problems(rt: HostRuntime) -> Result<(), Fail> {
     assert!(rt; Problem::new(Kind::General, 128).is_none());
-    let rows = [
+    let rows: &[(Kind, u8, bool)] = &[
         (Kind::General, 2, true),
         (Kind::General, 3, false),
         (Kind::Invoke, 5, true),
@@ -93,79 +94,84 @@ fn problems(rt: HostRuntime) -> Result<(), Fail> {
         (Kind::Error, 127, false),
     ];
     for (kind, code, by_provider) in rows {
-        assert!(rt; is_problem(kind, code, by_provider), "{kind:?} {code}");
+        assert!(rt; is_problem(*kind, *code, *by_provider), "{kind:?} {code}");
     }
     Ok(())
 }
 
+/// Components that are faulty, the code of the general fault and the identifier that is told.
+const FAULTY: &[(&[u8], u8, Option<i8>)] = &[
+    // a tag in its long form isn't the listed tag
+    (&[0xbf, 0x01, 0x03, 0x02, 0x01, 0x05], 0, Some(5)),
+    (&[0xbf, 0x81, 0x01, 0x03, 0x02, 0x01, 0x07], 0, Some(7)),
+    (&[0xa5, 0x03, 0x02, 0x01, 0x07], 0, Some(7)),
+    // a broken 30 that stands second, and one that stands third
+    (
+        &[0xa2, 0x07, 0x04, 0x00, 0x30, 0x01, 0xff, 0x04, 0x00],
+        2,
+        None,
+    ),
+    (
+        &[
+            0xa2, 0x0a, 0x02, 0x01, 0x01, 0x04, 0x00, 0x30, 0x03, 0x04, 0x00, 0xff,
+        ],
+        1,
+        Some(1),
+    ),
+    // the identifier is read where the content isn't a list
+    (&[0xa1, 0x04, 0x02, 0x01, 0x07, 0x04], 2, Some(7)),
+    // a linked identifier of no octet
+    (
+        &[0xa1, 0x08, 0x02, 0x01, 0x07, 0x80, 0x00, 0x02, 0x01, 0x01],
+        1,
+        Some(7),
+    ),
+    // a local code of one octet too many, and of five octets
+    (
+        &[0xa1, 0x07, 0x02, 0x01, 0x07, 0x02, 0x02, 0x00, 0x0a],
+        1,
+        Some(7),
+    ),
+    (
+        &[
+            0xa1, 0x0a, 0x02, 0x01, 0x07, 0x02, 0x05, 0x01, 0x00, 0x00, 0x00, 0x00,
+        ],
+        1,
+        Some(7),
+    ),
+    // a global code that is no object identifier, and a second parameter
+    (
+        &[0xa1, 0x06, 0x02, 0x01, 0x07, 0x06, 0x01, 0x80],
+        1,
+        Some(7),
+    ),
+    (
+        &[
+            0xa1, 0x0a, 0x02, 0x01, 0x07, 0x02, 0x01, 0x01, 0x04, 0x00, 0x04, 0x00,
+        ],
+        1,
+        Some(7),
+    ),
+    // an identifier of two octets, a primitive element, and half an element
+    (&[0xa2, 0x04, 0x02, 0x02, 0x00, 0x80], 1, None),
+    (&[0x01, 0x03, 0x02, 0x01, 0x07], 0, None),
+    (&[0xa1, 0x05, 0x02, 0x01, 0x07], 2, None),
+];
+
 #[test]
 fn faults(rt: HostRuntime) -> Result<(), Fail> {
-    let rows: [(&[u8], u8, Option<i8>); 14] = [
-        // a tag in its long form isn't the listed tag
-        (&[0xbf, 0x01, 0x03, 0x02, 0x01, 0x05], 0, Some(5)),
-        (&[0xbf, 0x81, 0x01, 0x03, 0x02, 0x01, 0x07], 0, Some(7)),
-        (&[0xa5, 0x03, 0x02, 0x01, 0x07], 0, Some(7)),
-        // a broken 30 that stands second, and one that stands third
-        (
-            &[0xa2, 0x07, 0x04, 0x00, 0x30, 0x01, 0xff, 0x04, 0x00],
-            2,
-            None,
-        ),
-        (
-            &[
-                0xa2, 0x0a, 0x02, 0x01, 0x01, 0x04, 0x00, 0x30, 0x03, 0x04, 0x00, 0xff,
-            ],
-            1,
-            Some(1),
-        ),
-        // the identifier is read where the content isn't a list
-        (&[0xa1, 0x04, 0x02, 0x01, 0x07, 0x04], 2, Some(7)),
-        // a linked identifier of no octet
-        (
-            &[0xa1, 0x08, 0x02, 0x01, 0x07, 0x80, 0x00, 0x02, 0x01, 0x01],
-            1,
-            Some(7),
-        ),
-        // a local code of one octet too many, and of five octets
-        (
-            &[0xa1, 0x07, 0x02, 0x01, 0x07, 0x02, 0x02, 0x00, 0x0a],
-            1,
-            Some(7),
-        ),
-        (
-            &[
-                0xa1, 0x0a, 0x02, 0x01, 0x07, 0x02, 0x05, 0x01, 0x00, 0x00, 0x00, 0x00,
-            ],
-            1,
-            Some(7),
-        ),
-        // a global code that is no object identifier, and a second parameter
-        (
-            &[0xa1, 0x06, 0x02, 0x01, 0x07, 0x06, 0x01, 0x80],
-            1,
-            Some(7),
-        ),
-        (
-            &[
-                0xa1, 0x0a, 0x02, 0x01, 0x07, 0x02, 0x01, 0x01, 0x04, 0x00, 0x04, 0x00,
-            ],
-            1,
-            Some(7),
-        ),
-        // an identifier of two octets, a primitive element, and half an element
-        (&[0xa2, 0x04, 0x02, 0x02, 0x00, 0x80], 1, None),
-        (&[0x01, 0x03, 0x02, 0x01, 0x07], 0, None),
-        (&[0xa1, 0x05, 0x02, 0x01, 0x07], 2, None),
-    ];
-    for (octets, code, id) in rows {
-        assert!(rt; fault_of(octets) == general(code, id, false), "{octets:?}");
+    for (octets, code, id) in FAULTY {
+        assert!(rt;
+            fault_of(octets) == general(*code, *id, false),
+            "{octets:?}"
+        );
     }
     Ok(())
 }
 
 #[test]
 fn rejects(rt: HostRuntime) -> Result<(), Fail> {
-    let rows: [(&[u8], Option<i8>, Kind, u8); 3] = [
+    let rows: &[(&[u8], Option<i8>, Kind, u8)] = &[
         (
             &[0xa4, 0x05, 0x05, 0x00, 0x80, 0x01, 0x02],
             None,
@@ -186,9 +192,12 @@ fn rejects(rt: HostRuntime) -> Result<(), Fail> {
         ),
     ];
     for (octets, id, kind, code) in rows {
-        assert!(rt; reject_of(octets) == Some((id, kind, code)), "{octets:?}");
+        assert!(rt;
+            reject_of(octets) == Some((*id, *kind, *code)),
+            "{octets:?}"
+        );
     }
-    let faulty: [(&[u8], u8); 5] = [
+    let faulty: &[(&[u8], u8)] = &[
         (&[0xa4], 2),
         (&[0xa4, 0xff], 2),
         (&[0xa4, 0x05, 0x02], 2),
@@ -196,7 +205,10 @@ fn rejects(rt: HostRuntime) -> Result<(), Fail> {
         (&[0xa4, 0x05, 0x05, 0x00, 0x80, 0x01, 0x80], 1),
     ];
     for (octets, code) in faulty {
-        assert!(rt; fault_of(octets) == general(code, None, true), "{octets:?}");
+        assert!(rt;
+            fault_of(octets) == general(*code, None, true),
+            "{octets:?}"
+        );
     }
     Ok(())
 }
@@ -211,87 +223,63 @@ fn components_end_at_a_fault(rt: HostRuntime) -> Result<(), Fail> {
     Ok(())
 }
 
+/// An Invoke of identifier 1 that is not linked.
+fn invoke<'a>(code: Code<'a>, parameter: Option<&'a [u8]>) -> Component<'a> {
+    Component::Invoke {
+        id: 1,
+        linked: None,
+        code,
+        parameter,
+    }
+}
+
+/// The body of a result, with a parameter.
+fn body<'a>(code: u8, parameter: &'a [u8]) -> Option<Body<'a>> {
+    Some(Body {
+        code: Code::Local(i32::from(code)),
+        parameter: Some(parameter),
+    })
+}
+
 #[test]
 fn components_written(rt: HostRuntime) -> Result<(), Fail> {
+    let alloc = rt.alloc();
+    let operation = invoke(Code::Local(10), None);
+    assert!(rt; is_written(alloc, &operation, b"\xa1\x06\x02\x01\x01\x02\x01\x0a"));
+    let body = body(128, b"\x04\x81\x01\xaa");
+    let last = Component::ResultLast { id: -128, body };
+    let octets = b"\xa2\x0d\x02\x01\x80\x30\x08\x02\x02\x00\x80\x04\x81\x01\xaa";
+    assert!(rt; is_written(alloc, &last, octets));
+    let more = Component::ResultMore {
+        id: 127,
+        body: None,
+    };
+    assert!(rt; is_written(alloc, &more, b"\xa7\x03\x02\x01\x7f"));
+    let error = Component::ErrorBack {
+        id: 1,
+        code: Code::Global(&[0x2a, 0x03]),
+        parameter: None,
+    };
+    assert!(rt; is_written(alloc, &error, b"\xa3\x07\x02\x01\x01\x06\x02\x2a\x03"));
     let problem = Problem::new(Kind::Result, 0).ok_or("at most 127")?;
-    let rows: [(Component<'_>, &[u8]); 5] = [
-        (
-            Component::Invoke {
-                id: 1,
-                linked: None,
-                code: Code::Local(10),
-                parameter: None,
-            },
-            &[0xa1, 0x06, 0x02, 0x01, 0x01, 0x02, 0x01, 0x0a],
-        ),
-        (
-            Component::ResultLast {
-                id: -128,
-                body: Some(Body {
-                    code: Code::Local(128),
-                    parameter: Some(&[0x04, 0x81, 0x01, 0xaa]),
-                }),
-            },
-            &[
-                0xa2, 0x0d, 0x02, 0x01, 0x80, 0x30, 0x08, 0x02, 0x02, 0x00, 0x80, 0x04, 0x81, 0x01,
-                0xaa,
-            ],
-        ),
-        (
-            Component::ResultMore {
-                id: 127,
-                body: None,
-            },
-            &[0xa7, 0x03, 0x02, 0x01, 0x7f],
-        ),
-        (
-            Component::ErrorBack {
-                id: 1,
-                code: Code::Global(&[0x2a, 0x03]),
-                parameter: None,
-            },
-            &[0xa3, 0x07, 0x02, 0x01, 0x01, 0x06, 0x02, 0x2a, 0x03],
-        ),
-        (
-            Component::RejectBack { id: None, problem },
-            &[0xa4, 0x05, 0x05, 0x00, 0x82, 0x01, 0x00],
-        ),
-    ];
-    for (component, octets) in rows.iter() {
-        assert!(rt; is_written(rt.alloc(), component, octets), "{octets:?}");
-    }
+    let reject = Component::RejectBack { id: None, problem };
+    assert!(rt; is_written(alloc, &reject, b"\xa4\x05\x05\x00\x82\x01\x00"));
     Ok(())
 }
 
 #[test]
 fn components_refused(rt: HostRuntime) -> Result<(), Fail> {
-    let mut long = vec![in rt.alloc(); 0; 65_535]?;
-    long[0] = 0x04;
-    long[1] = 0x82;
-    long[2] = 0xff;
-    long[3] = 0xfb;
+    let alloc = rt.alloc();
     let cut = [0x04, 0x05, 0xaa];
-    let invokes: [(Code<'_>, &[u8], WriteFault); 3] = [
-        (Code::Global(&[0x80]), &cut, WriteFault::BadOid),
-        (Code::Local(1), &cut, WriteFault::BadParameter),
-        (Code::Local(1), &long, WriteFault::TooLong),
-    ];
-    for (code, parameter, fault) in invokes {
-        let invoke = Component::Invoke {
-            id: 1,
-            linked: None,
-            code,
-            parameter: Some(parameter),
-        };
-        assert!(rt; refusal(rt.alloc(), &invoke) == Some(fault), "{fault:?}");
-    }
-    let more = Component::ResultMore {
-        id: 1,
-        body: Some(Body {
-            code: Code::Local(1),
-            parameter: Some(&cut),
-        }),
-    };
-    assert!(rt; refusal(rt.alloc(), &more) == Some(WriteFault::BadParameter));
+    let bad_name = invoke(Code::Global(&[0x80]), Some(&cut));
+    assert!(rt; refusal(alloc, &bad_name) == Some(WriteFault::BadOid));
+    let bad_parameter = invoke(Code::Local(1), Some(&cut));
+    assert!(rt; refusal(alloc, &bad_parameter) == Some(WriteFault::BadParameter));
+    let long = long_element(alloc, 0x04)?;
+    let too_long = invoke(Code::Local(1), Some(&long));
+    assert!(rt; refusal(alloc, &too_long) == Some(WriteFault::TooLong));
+    let body = body(1, &cut);
+    let more = Component::ResultMore { id: 1, body };
+    assert!(rt; refusal(alloc, &more) == Some(WriteFault::BadParameter));
     Ok(())
 }

@@ -3,6 +3,7 @@
 ghost use Rattle.tcap_pdu.specs.DialogueViews.{pdu_value};
 ghost use Rattle.tcap_pdu.specs.DialogueWritten.{HasDiagnostic};
 
+use super::elements::long_element;
 use std::alloc::Global;
 use std::test::Fail;
 use tcap_pdu::DialoguePdu::{Aare, Aarq, Abrt, Audt, Foreign};
@@ -18,33 +19,40 @@ const AARQ: &[u8] =
 const AARE: &[u8] =
     b"\x28\x28\x06\x07\x00\x11\x86\x05\x01\x01\x01\xa0\x1d\x61\x1b\x80\x02\x07\x80\xa1\x09\x06\x07\x04\x00\x00\x01\x00\x01\x03\xa2\x03\x02\x01\x00\xa3\x05\xa1\x03\x02\x01\x00";
 
-/// An AARQ with the context 2A.
-fn request<'a>(version1: bool) -> Option<DialoguePdu<'a>> {
-    Some(Aarq {
+/// An AUDT of another version, with the name 2A.
+const AUDT: &[u8] =
+    b"\x28\x16\x06\x07\x00\x11\x86\x05\x01\x02\x01\xa0\x0b\x60\x09\x80\x02\x07\x00\xa1\x03\x06\x01\x2a";
+/// An ABRT of the provider, with user information.
+const ABRT: &[u8] =
+    b"\x28\x14\x06\x07\x00\x11\x86\x05\x01\x01\x01\xa0\x09\x64\x07\x80\x01\x01\xbe\x02\x28\x00";
+
+/// An AARQ without user information.
+fn request<'a>(version1: bool, context: &'a [u8]) -> DialoguePdu<'a> {
+    Aarq {
         version1,
-        context: &[0x2a],
+        context,
         info: &[],
-    })
+    }
 }
 
-/// A foreign EXTERNAL.
-fn foreign<'a>(external: &'a [u8]) -> Option<DialoguePdu<'a>> {
-    Some(Foreign { external })
+/// An ABRT.
+fn abort<'a>(by_provider: bool, info: &'a [u8]) -> DialoguePdu<'a> {
+    Abrt { by_provider, info }
 }
 
 /// An AARE with the context of the examples.
-fn response<'a>(version1: bool, accepted: bool, diagnostic: Diagnostic) -> Option<DialoguePdu<'a>> {
-    Some(Aare {
+fn response<'a>(version1: bool, accepted: bool, diagnostic: Diagnostic) -> DialoguePdu<'a> {
+    Aare {
         version1,
         context: CTX,
         accepted,
         diagnostic,
         info: &[],
-    })
+    }
 }
 
 /// What is no dialogue portion that can be read.
-const UNREADABLE: [&[u8]; 20] = [
+const UNREADABLE: &[&[u8]] = &[
     // No EXTERNAL in 28, and no 28.
     b"\x28\x00",
     b"",
@@ -74,101 +82,87 @@ const UNREADABLE: [&[u8]; 20] = [
     b"\x28\x10\x06\x07\x00\x11\x86\x05\x01\x01\x01\xa0\x05\x64\x03\x80\x01\x02",
 ];
 
+/// Whether these octets are read as this PDU.
+fn is_read(bytes: &[u8], pdu: &DialoguePdu<'_>) -> bool {
+    read_dialogue(bytes).ok().as_ref() == Some(pdu)
+}
+
+/// The worked examples: a request, a response, and one of another version.
+fn reads_examples() -> bool {
+    let refused = Diagnostic::Provider(NO_COMMON_DIALOGUE_PORTION);
+    is_read(AARQ, &request(true, CTX))
+        && is_read(AARE, &response(true, true, Diagnostic::User(NULL)))
+        && is_read(
+            b"\x28\x28\x06\x07\x00\x11\x86\x05\x01\x01\x01\xa0\x1d\x61\x1b\x80\x02\x07\x00\xa1\x09\x06\x07\x04\x00\x00\x01\x00\x01\x03\xa2\x03\x02\x01\x01\xa3\x05\xa2\x03\x02\x01\x02",
+            &response(false, false, refused),
+        )
+}
+
+/// The version: absent, an octet more, no bits.
+fn reads_versions() -> bool {
+    is_read(
+        b"\x28\x12\x06\x07\x00\x11\x86\x05\x01\x01\x01\xa0\x07\x60\x05\xa1\x03\x06\x01\x2a",
+        &request(true, &[0x2a]),
+    ) && is_read(
+        b"\x28\x17\x06\x07\x00\x11\x86\x05\x01\x01\x01\xa0\x0c\x60\x0a\x80\x03\x07\x80\x01\xa1\x03\x06\x01\x2a",
+        &request(true, &[0x2a]),
+    ) && is_read(
+        b"\x28\x16\x06\x07\x00\x11\x86\x05\x01\x01\x01\xa0\x0b\x60\x09\x80\x02\x07\x00\xa1\x03\x06\x01\x2a",
+        &request(false, &[0x2a]),
+    ) && is_read(
+        b"\x28\x15\x06\x07\x00\x11\x86\x05\x01\x01\x01\xa0\x0a\x60\x08\x80\x01\x00\xa1\x03\x06\x01\x2a",
+        &request(false, &[0x2a]),
+    )
+}
+
+/// The contents of a syntax are compared, and not its spelling; the syntax of the Unidirectional is the other one.
+fn reads_syntaxes() -> bool {
+    is_read(
+        b"\x28\x11\x06\x81\x07\x00\x11\x86\x05\x01\x01\x01\xa0\x05\x64\x03\x80\x01\x00",
+        &abort(false, &[]),
+    ) && is_read(
+        b"\x28\x12\x06\x07\x00\x11\x86\x05\x01\x02\x01\xa0\x07\x60\x05\xa1\x03\x06\x01\x2a",
+        &Audt {
+            version1: true,
+            context: &[0x2a],
+            info: &[],
+        },
+    )
+}
+
+/// Whether a foreign EXTERNAL is kept whole.
+fn is_kept(external: &[u8]) -> bool {
+    is_read(external, &Foreign { external })
+}
+
+/// A foreign one needs no A0.
+fn reads_foreign() -> bool {
+    is_kept(b"\x28\x04\x06\x02\x2a\x03")
+        && is_kept(b"\x28\x81\x04\x06\x02\x2a\x03")
+        && is_kept(b"\x28\x05\x06\x01\x2a\xa0\x00")
+}
+
+/// Nothing follows the PDU, A0 or 28. User information is a list of EXTERNALs, and may be empty.
+fn reads_aborts() -> bool {
+    is_read(
+        b"\x28\x10\x06\x07\x00\x11\x86\x05\x01\x01\x01\xa0\x05\x64\x03\x80\x01\x00",
+        &abort(false, &[]),
+    ) && is_read(
+        b"\x28\x12\x06\x07\x00\x11\x86\x05\x01\x01\x01\xa0\x07\x64\x05\x80\x01\x01\xbe\x00",
+        &abort(true, &[]),
+    ) && is_read(
+        b"\x28\x14\x06\x07\x00\x11\x86\x05\x01\x01\x01\xa0\x09\x64\x07\x80\x01\x01\xbe\x02\x28\x00",
+        &abort(true, &[0x28, 0x00]),
+    )
+}
+
 #[test]
 fn portions_read(rt: HostRuntime) -> Result<(), Fail> {
-    let accepted = response(true, true, Diagnostic::User(NULL));
-    let refused = response(
-        false,
-        false,
-        Diagnostic::Provider(NO_COMMON_DIALOGUE_PORTION),
-    );
-    let abort = Some(Abrt {
-        by_provider: false,
-        info: &[],
-    });
-    let rows: [(&[u8], Option<DialoguePdu>); 15] = [
-        // The worked examples: a request, a response, and one of another version.
-        (
-            AARQ,
-            Some(Aarq {
-                version1: true,
-                context: CTX,
-                info: &[],
-            }),
-        ),
-        (AARE, accepted),
-        (
-            b"\x28\x28\x06\x07\x00\x11\x86\x05\x01\x01\x01\xa0\x1d\x61\x1b\x80\x02\x07\x00\xa1\x09\x06\x07\x04\x00\x00\x01\x00\x01\x03\xa2\x03\x02\x01\x01\xa3\x05\xa2\x03\x02\x01\x02",
-            refused,
-        ),
-        // The version: absent, an octet more, no bits.
-        (
-            b"\x28\x12\x06\x07\x00\x11\x86\x05\x01\x01\x01\xa0\x07\x60\x05\xa1\x03\x06\x01\x2a",
-            request(true),
-        ),
-        (
-            b"\x28\x17\x06\x07\x00\x11\x86\x05\x01\x01\x01\xa0\x0c\x60\x0a\x80\x03\x07\x80\x01\xa1\x03\x06\x01\x2a",
-            request(true),
-        ),
-        (
-            b"\x28\x16\x06\x07\x00\x11\x86\x05\x01\x01\x01\xa0\x0b\x60\x09\x80\x02\x07\x00\xa1\x03\x06\x01\x2a",
-            request(false),
-        ),
-        (
-            b"\x28\x15\x06\x07\x00\x11\x86\x05\x01\x01\x01\xa0\x0a\x60\x08\x80\x01\x00\xa1\x03\x06\x01\x2a",
-            request(false),
-        ),
-        // The contents of a syntax are compared, and not its spelling.
-        (
-            b"\x28\x11\x06\x81\x07\x00\x11\x86\x05\x01\x01\x01\xa0\x05\x64\x03\x80\x01\x00",
-            abort,
-        ),
-        // A syntax of the Unidirectional.
-        (
-            b"\x28\x12\x06\x07\x00\x11\x86\x05\x01\x02\x01\xa0\x07\x60\x05\xa1\x03\x06\x01\x2a",
-            Some(Audt {
-                version1: true,
-                context: &[0x2a],
-                info: &[],
-            }),
-        ),
-        // A foreign one is kept whole, and needs no A0.
-        (
-            b"\x28\x04\x06\x02\x2a\x03",
-            foreign(b"\x28\x04\x06\x02\x2a\x03"),
-        ),
-        (
-            b"\x28\x81\x04\x06\x02\x2a\x03",
-            foreign(b"\x28\x81\x04\x06\x02\x2a\x03"),
-        ),
-        (
-            b"\x28\x05\x06\x01\x2a\xa0\x00",
-            foreign(b"\x28\x05\x06\x01\x2a\xa0\x00"),
-        ),
-        // Nothing follows the PDU, A0 or 28.
-        (
-            b"\x28\x10\x06\x07\x00\x11\x86\x05\x01\x01\x01\xa0\x05\x64\x03\x80\x01\x00",
-            abort,
-        ),
-        // User information is a list of EXTERNALs, and may be empty.
-        (
-            b"\x28\x12\x06\x07\x00\x11\x86\x05\x01\x01\x01\xa0\x07\x64\x05\x80\x01\x01\xbe\x00",
-            Some(Abrt {
-                by_provider: true,
-                info: &[],
-            }),
-        ),
-        (
-            b"\x28\x14\x06\x07\x00\x11\x86\x05\x01\x01\x01\xa0\x09\x64\x07\x80\x01\x01\xbe\x02\x28\x00",
-            Some(Abrt {
-                by_provider: true,
-                info: &[0x28, 0x00],
-            }),
-        ),
-    ];
-    for (bytes, pdu) in rows.iter() {
-        assert!(rt; read_dialogue(bytes).ok() == *pdu);
-    }
+    assert!(rt; reads_examples());
+    assert!(rt; reads_versions());
+    assert!(rt; reads_syntaxes());
+    assert!(rt; reads_foreign());
+    assert!(rt; reads_aborts());
     for bytes in UNREADABLE {
         assert!(rt; read_dialogue(bytes).is_err(), "{bytes:?}");
     }
@@ -201,65 +195,43 @@ fn is_refused(alloc: Global, context: &[u8], info: &[u8], fault: PduFault) -> bo
 #[test]
 fn portions_written(rt: HostRuntime) -> Result<(), Fail> {
     let alloc = rt.alloc();
-    let (version1, context, info) = (true, CTX, &[0x28, 0x00]);
-    assert!(rt;
-        is_written(
-            alloc,
-            &Aarq {
-                version1,
-                context,
-                info: &[]
-            },
-            AARQ
-        )
-    );
-    let (accepted, diagnostic) = (true, Diagnostic::User(NULL));
-    assert!(rt;
-        is_written(
-            alloc,
-            &Aare {
-                version1,
-                context,
-                accepted,
-                diagnostic,
-                info: &[]
-            },
-            AARE
-        )
-    );
-    assert!(rt;
-        is_written(
-            alloc,
-            &Audt {
-                version1: false,
-                context: &[0x2a],
-                info: &[]
-            },
-            b"\x28\x16\x06\x07\x00\x11\x86\x05\x01\x02\x01\xa0\x0b\x60\x09\x80\x02\x07\x00\xa1\x03\x06\x01\x2a"
-        )
-    );
-    assert!(rt;
-        is_written(
-            alloc,
-            &Abrt {
-                by_provider: true,
-                info
-            },
-            b"\x28\x14\x06\x07\x00\x11\x86\x05\x01\x01\x01\xa0\x09\x64\x07\x80\x01\x01\xbe\x02\x28\x00"
-        )
-    );
-    let foreign = b"\x28\x81\x04\x06\x02\x2a\x03";
-    assert!(rt; is_written(alloc, &Foreign { external: foreign }, foreign));
+    let (context, info): (&[u8], &[u8]) = (&[0x2a], &[]);
+    let request = Aarq {
+        version1: true,
+        context: CTX,
+        info,
+    };
+    assert!(rt; is_written(alloc, &request, AARQ));
+    let response = Aare {
+        version1: true,
+        context: CTX,
+        accepted: true,
+        diagnostic: Diagnostic::User(NULL),
+        info,
+    };
+    assert!(rt; is_written(alloc, &response, AARE));
+    let unidirectional = Audt {
+        version1: false,
+        context,
+        info,
+    };
+    assert!(rt; is_written(alloc, &unidirectional, AUDT));
+    let abort = Abrt {
+        by_provider: true,
+        info: &[0x28, 0x00],
+    };
+    assert!(rt; is_written(alloc, &abort, ABRT));
+    let external = b"\x28\x81\x04\x06\x02\x2a\x03";
+    assert!(rt; is_written(alloc, &Foreign { external }, external));
     Ok(())
 }
 
 #[test]
 fn portions_refused(rt: HostRuntime) -> Result<(), Fail> {
     let alloc = rt.alloc();
-    let mut long = vec![in alloc; 0; 65_535]?;
-    long[..4].copy_from_slice(&[0x28, 0x82, 0xff, 0xfb]);
     assert!(rt; is_refused(alloc, &[0x80], &[0x04, 0x00], PduFault::BadOid));
     assert!(rt; is_refused(alloc, CTX, &[0x04, 0x00], PduFault::BadInfo));
+    let long = long_element(alloc, 0x28)?;
     assert!(rt; is_refused(alloc, CTX, &long, PduFault::TooLong));
     let known = Foreign { external: AARQ };
     assert!(rt; matches!(write_dialogue(alloc, &known), Err(PduFault::BadInfo)));

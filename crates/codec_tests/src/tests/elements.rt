@@ -7,7 +7,7 @@ use ber_core::{
     read_alone, read_element, read_head, take_any, take_content, take_only, take_tagged,
     write_element, write_head,
 };
-use std::alloc::Global;
+use std::alloc::{AllocError, Global};
 use std::test::Fail;
 
 /// The fault of the first element, `None` where one is read.
@@ -23,7 +23,7 @@ fn lengths_of(bytes: &[u8]) -> Option<(usize, usize)> {
 
 #[test]
 fn elements_and_faults(rt: HostRuntime) -> Result<(), Fail> {
-    let rows: [(&[u8], BerFault); 13] = [
+    let rows: &[(&[u8], BerFault)] = &[
         // octets that end too early
         (&[], BerFault::Short),
         (&[0x30, 0x80, 0x00], BerFault::Short),
@@ -42,71 +42,91 @@ fn elements_and_faults(rt: HostRuntime) -> Result<(), Fail> {
         (&[0x04, 0x80], BerFault::IndefinitePrimitive),
     ];
     for (bytes, fault) in rows {
-        assert!(rt; fault_of(bytes) == Some(fault), "{bytes:?}");
+        assert!(rt; fault_of(bytes) == Some(*fault), "{bytes:?}");
     }
-    let rows: [(&[u8], usize, usize); 3] = [
+    let rows: &[(&[u8], usize, usize)] = &[
         (&[0x1f, 0x81, 0x81, 0x81, 0x01, 0x00], 0, 0),
         (&[0x04, 0x83, 0x00, 0x00, 0x01, 0xaa, 0x05], 1, 1),
         (&[0x30, 0x80, 0x04, 0x00, 0x00, 0x00, 0x05], 2, 1),
     ];
     for (bytes, content, rest) in rows {
-        assert!(rt; lengths_of(bytes) == Some((content, rest)), "{bytes:?}");
+        assert!(rt; lengths_of(bytes) == Some((*content, *rest)), "{bytes:?}");
     }
     Ok(())
 }
 
 /// Adds an element of so many content octets.
-fn add_element(alloc: Global, bytes: &mut Vec<u8>, length: u16) -> Result<(), OutOfMemory> {
-    let content = vec![in alloc; 0u8; usize::from(length)]?;
+fn add_element(bytes: &mut Vec<u8>, length: u16) -> Result<(), OutOfMemory> {
+    let content = vec![in *bytes.allocator(); 0u8; usize::from(length)]?;
     write_element(bytes, &[0x04], content.as_slice())
 }
 
+/// An element of 65,535 octets with this tag.
+pub(super) fn long_element(alloc: Global, tag: u8) -> Result<Vec<u8>, AllocError> {
+    let mut bytes = vec![in alloc; 0; 65_535]?;
+    bytes[..4].copy_from_slice(&[tag, 0x82, 0xff, 0xfb]);
+    Ok(bytes)
+}
+
 /// Adds two octets, so many times.
-fn add_pairs(bytes: &mut Vec<u8>, pair: [u8; 2], count: u8) -> Result<(), OutOfMemory> {
+pub(super) fn add_pairs(bytes: &mut Vec<u8>, pair: [u8; 2], count: u8) -> Result<(), OutOfMemory> {
     for _ in 0..count {
         bytes.extend_from_slice(&pair)?;
     }
     Ok(())
 }
 
-/// Indefinite elements, one in another, around an element of 60,000 content octets.
-fn nested(alloc: Global, depth: u8) -> Result<Vec<u8>, OutOfMemory> {
+/// Adds so many heads of indefinite length, elements of so many content octets, and so many ends.
+fn add_nested(
+    bytes: &mut Vec<u8>,
+    heads: u8,
+    lengths: &[u16],
+    ends: u8,
+) -> Result<(), OutOfMemory> {
+    add_pairs(bytes, [0x30, 0x80], heads)?;
+    for length in lengths {
+        add_element(bytes, *length)?;
+    }
+    add_pairs(bytes, [0x00, 0x00], ends)
+}
+
+/// Indefinite elements, one in another, around elements of so many content octets.
+fn nested(alloc: Global, heads: u8, lengths: &[u16], ends: u8) -> Option<Vec<u8>> {
     let mut bytes = Vec::new(alloc);
-    add_pairs(&mut bytes, [0x30, 0x80], depth)?;
-    add_element(alloc, &mut bytes, 60_000)?;
-    add_pairs(&mut bytes, [0x00, 0x00], depth)?;
-    Ok(bytes)
+    add_nested(&mut bytes, heads, lengths, ends).ok()?;
+    Some(bytes)
+}
+
+/// The lengths of the content of such elements, one in another, and of what follows it.
+fn nested_lengths(alloc: Global, heads: u8, lengths: &[u16]) -> Option<(usize, usize)> {
+    lengths_of(nested(alloc, heads, lengths, heads)?.as_slice())
+}
+
+/// The fault of such elements.
+fn nested_fault(alloc: Global, heads: u8, lengths: &[u16], ends: u8) -> Option<BerFault> {
+    fault_of(nested(alloc, heads, lengths, ends)?.as_slice())
 }
 
 #[test]
 fn elements_one_in_another(rt: HostRuntime) -> Result<(), Fail> {
-    let deepest = nested(rt.alloc(), MAX_DEPTH)?;
-    assert!(rt; lengths_of(deepest.as_slice()) == Some((60_128, 0)));
-    let too_deep = nested(rt.alloc(), 33)?;
-    assert!(rt; fault_of(too_deep.as_slice()) == Some(BerFault::TooDeep));
+    let deepest = nested_lengths(rt.alloc(), MAX_DEPTH, &[60_000]);
+    assert!(rt; deepest == Some((60_128, 0)));
+    let too_deep = nested_fault(rt.alloc(), 33, &[60_000], 33);
+    assert!(rt; too_deep == Some(BerFault::TooDeep));
     Ok(())
 }
 
 #[test]
 fn elements_open_to_the_limit(rt: HostRuntime) -> Result<(), Fail> {
-    let mut deepest = Vec::new(rt.alloc());
-    add_pairs(&mut deepest, [0x30, 0x80], 32)?;
-    add_pairs(&mut deepest, [0x00, 0x00], 32)?;
-    assert!(rt; lengths_of(deepest.as_slice()) == Some((124, 0)));
-    let mut too_deep = Vec::new(rt.alloc());
-    add_pairs(&mut too_deep, [0x30, 0x80], 33)?;
-    assert!(rt; fault_of(too_deep.as_slice()) == Some(BerFault::TooDeep));
+    assert!(rt; nested_lengths(rt.alloc(), 32, &[]) == Some((124, 0)));
+    assert!(rt; nested_fault(rt.alloc(), 33, &[], 0) == Some(BerFault::TooDeep));
     Ok(())
 }
 
 #[test]
 fn whole_longer_than_a_length(rt: HostRuntime) -> Result<(), Fail> {
-    let mut bytes = Vec::new(rt.alloc());
-    add_pairs(&mut bytes, [0x30, 0x80], 1)?;
-    add_element(rt.alloc(), &mut bytes, 40_000)?;
-    add_element(rt.alloc(), &mut bytes, 40_000)?;
-    add_pairs(&mut bytes, [0x00, 0x00], 1)?;
-    assert!(rt; lengths_of(bytes.as_slice()) == Some((80_008, 0)));
+    let lengths = nested_lengths(rt.alloc(), 1, &[40_000, 40_000]);
+    assert!(rt; lengths == Some((80_008, 0)));
     Ok(())
 }
 
@@ -169,7 +189,7 @@ fn parts_of_a_sequence(rt: HostRuntime) -> Result<(), Fail> {
 
 #[test]
 fn object_identifiers(rt: HostRuntime) -> Result<(), Fail> {
-    let rows: [(&[u8], bool); 8] = [
+    let rows: &[(&[u8], bool)] = &[
         (&[0x04, 0x00, 0x00, 0x01, 0x00, 0x01, 0x03], true),
         (&[0x2a, 0x86, 0x48], true),
         (&[], false),
@@ -180,17 +200,22 @@ fn object_identifiers(rt: HostRuntime) -> Result<(), Fail> {
         (&[0x01; 256], false),
     ];
     for (content, is) in rows {
-        assert!(rt; is_oid(content) == is, "{content:?}");
+        assert!(rt; is_oid(content) == *is, "{content:?}");
     }
     Ok(())
+}
+
+/// Adds a head, an element and another head.
+fn add_heads(bytes: &mut Vec<u8>) -> Result<(), OutOfMemory> {
+    write_head(bytes, &[0x6c], 200)?;
+    write_element(bytes, &[0x04], &[0xaa])?;
+    write_head(bytes, &[0x62], 65_531)
 }
 
 #[test]
 fn heads_and_elements_written(rt: HostRuntime) -> Result<(), Fail> {
     let mut bytes = Vec::new(rt.alloc());
-    write_head(&mut bytes, &[0x6c], 200)?;
-    write_element(&mut bytes, &[0x04], &[0xaa])?;
-    write_head(&mut bytes, &[0x62], 65_531)?;
+    add_heads(&mut bytes)?;
     let wanted = [0x6c, 0x81, 0xc8, 0x04, 0x01, 0xaa, 0x62, 0x82, 0xff, 0xfb];
     assert!(rt; bytes.as_slice() == wanted.as_slice());
     Ok(())

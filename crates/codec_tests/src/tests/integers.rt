@@ -6,7 +6,7 @@ use std::test::Fail;
 
 #[test]
 fn integers_read(rt: HostRuntime) -> Result<(), Fail> {
-    let rows: [(&[u8], Option<i32>); 9] = [
+    let rows: &[(&[u8], Option<i32>)] = &[
         (&[0x00, 0x80], Some(128)),
         (&[0x80], Some(-128)),
         (&[0xff, 0x7f], Some(-129)),
@@ -18,7 +18,7 @@ fn integers_read(rt: HostRuntime) -> Result<(), Fail> {
         (&[0x01, 0x00, 0x00, 0x00, 0x00], None),
     ];
     for (content, value) in rows {
-        assert!(rt; read_int(content) == value, "{content:?}");
+        assert!(rt; read_int(content) == *value, "{content:?}");
     }
     Ok(())
 }

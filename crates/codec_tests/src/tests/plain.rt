@@ -226,8 +226,10 @@ impl Plain {
 
     pub(super) fn close_all(&mut self) -> Option<Vec<(u64, i8)>> {
         let mut ended = Vec::new(*self.rows.allocator());
-        for row in self.rows.iter().filter(|row| is_to_end(row)) {
-            ended.push((row.number, row.id)).ok()?;
+        for row in self.rows.iter() {
+            if is_to_end(row) {
+                ended.push((row.number, row.id)).ok()?;
+            }
         }
         self.rows.clear();
         Some(ended)

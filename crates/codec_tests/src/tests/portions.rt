@@ -1,30 +1,23 @@
 //! Messages and dialogue portions at their limits.
 
-use std::alloc::{AllocError, Global};
+use super::elements::add_pairs;
+use ber_core::OutOfMemory;
+use std::alloc::Global;
 use std::test::Fail;
 use tcap_pdu::{Frame, FrameFault, PduFault, TransId, frame_fits, read_frame, write_frame};
 
-/// Adds two octets, so many times.
-fn add_pairs(bytes: &mut Vec<u8>, pair: [u8; 2], count: usize) -> Result<(), AllocError> {
-    for _ in 0..count {
-        bytes.extend_from_slice(&pair)?;
-    }
-    Ok(())
-}
-
-/// A Begin of indefinite length, its dialogue portion too, and in it so many indefinite elements, one
-/// in another.
-fn nested(alloc: Global, open: usize) -> Result<Vec<u8>, AllocError> {
-    let mut bytes = Vec::new(alloc);
+/// Adds a Begin of indefinite length, its dialogue portion too, and in it so many indefinite elements, one in
+/// another.
+fn add_nested(bytes: &mut Vec<u8>, open: u8) -> Result<(), OutOfMemory> {
     bytes.extend_from_slice(&[0x62, 0x80, 0x48, 0x01, 0x07, 0x6b, 0x80])?;
-    add_pairs(&mut bytes, [0x30, 0x80], open)?;
-    add_pairs(&mut bytes, [0x00, 0x00], open.saturating_add(2))?;
-    Ok(bytes)
+    add_pairs(bytes, [0x30, 0x80], open)?;
+    add_pairs(bytes, [0x00, 0x00], open.saturating_add(2))
 }
 
 /// How many octets the dialogue portion of such a Begin has, or why it is no message.
-fn portion_len(alloc: Global, open: usize) -> Option<Result<Option<usize>, FrameFault>> {
-    let bytes = nested(alloc, open).ok()?;
+fn portion_len(alloc: Global, open: u8) -> Option<Result<Option<usize>, FrameFault>> {
+    let mut bytes = Vec::new(alloc);
+    add_nested(&mut bytes, open).ok()?;
     match read_frame(&bytes) {
         Ok(frame) => Some(Ok(frame.dialogue().map(|content| content.len()))),
         Err(fault) => Some(Err(fault)),
@@ -103,27 +96,32 @@ fn begin_fits(dialogue: Option<&[u8]>, components: &[u8], length: usize) -> bool
     frame_fits(&frame, length)
 }
 
+/// Whether components one octet short of these make the longest Begin, and these one that is too long.
+fn has_its_limit(alloc: Global, above: &[u8]) -> bool {
+    let Some((_, within)) = above.split_first() else {
+        return false;
+    };
+    // An empty 6B is written, but 0 stands for no 6B.
+    let is_limit = is_longest(alloc, within) & is_too_long(alloc, None, above);
+    is_limit & is_too_long(alloc, Some(&[]), within) & begin_fits(Some(&[]), within, 0)
+}
+
+/// Whether components one octet short of these fit alone and with no dialogue portion, and these don't fit.
+fn fits_at_its_limit(above: &[u8]) -> bool {
+    let Some((_, within)) = above.split_first() else {
+        return false;
+    };
+    let is_full = begin_fits(None, within, 0) & !begin_fits(None, within, 1);
+    is_full & !begin_fits(None, above, 0) & !begin_fits(None, within, usize::MAX)
+}
+
 #[test]
 fn a_begin_at_the_limit(rt: HostRuntime) -> Result<(), Fail> {
     let above = vec![in rt.alloc(); 0u8; 65_522]?;
-    let (within, _) = above.as_slice().split_at(65_521);
-    assert!(rt; is_longest(rt.alloc(), within));
-    assert!(rt; is_too_long(rt.alloc(), None, &above));
-    // An empty 6B is written, but 0 stands for no 6B.
-    assert!(rt; is_too_long(rt.alloc(), Some(&[]), within));
-    assert!(rt; begin_fits(Some(&[]), within, 0));
-    // The last two are lengths that no sum of machine words holds.
-    let rows: [(&[u8], usize, bool); 7] = [
-        (within, 0, true),
-        (&above, 0, false),
-        (within, 1, false),
-        (&[], 65_521, true),
-        (&[], 65_522, false),
-        (within, usize::MAX, false),
-        (&[], usize::MAX - 13, false),
-    ];
-    for (components, length, fits) in rows {
-        assert!(rt; begin_fits(None, components, length) == fits, "{length}");
-    }
+    assert!(rt; has_its_limit(rt.alloc(), &above));
+    assert!(rt; fits_at_its_limit(&above));
+    assert!(rt; begin_fits(None, &[], 65_521) & !begin_fits(None, &[], 65_522));
+    // A length that no sum of machine words holds, as one above.
+    assert!(rt; !begin_fits(None, &[], usize::MAX - 13));
     Ok(())
 }
