@@ -32,60 +32,61 @@ fn is_played(alloc: Global, script: &str, status: u8, written: &str) -> bool {
     run(alloc, &["play"], &mut input).is(status, written.as_bytes(), b"")
 }
 
+/// Scripts, the status of their plays, and what they write.
+const PLAYS: &[(&str, u8, &str)] = &[
+    (ADDRESSES_SCRIPT, 1, ADDRESSES_TEXT),
+    (LEARNED_SCRIPT, 0, LEARNED_TEXT),
+    (KNOWN_SCRIPT, 0, KNOWN_TEXT),
+    (
+        "A new\nA beginto 1 42 - -\ndeliver A1\n",
+        0,
+        "A new 1\nA send A1 6206480400000001\nB begin 1 context - info -\n",
+    ),
+    (
+        "A new\nA beginto 1 41 - -\n",
+        0,
+        "A new 1\nA send A1 6206480400000001 to 41\n",
+    ),
+    // The address of no octets is one too, and no front of another is that other.
+    (
+        "A new\nA beginto 1 - - -\n",
+        0,
+        "A new 1\nA send A1 6206480400000001 to -\n",
+    ),
+    (
+        "A new\nA beginto 1 4200 - -\n",
+        0,
+        "A new 1\nA send A1 6206480400000001 to 4200\n",
+    ),
+    (
+        "B rawfrom - 650C4804000000094904000000FF",
+        0,
+        "B send B1 67094904000000094a0101 to -\n",
+    ),
+    (
+        "A rawfrom 42 650C4804000000094904000000FF",
+        0,
+        "A send A1 67094904000000094a0101\n",
+    ),
+    (
+        "A raw 650C4804000000094904000000FF",
+        0,
+        "A send A1 67094904000000094a0101\n",
+    ),
+    ("A rawfrom 43 -", 0, "A dropped badmessage\n"),
+    (
+        "A new\nA beginto 1 43 04000001000103 -\n",
+        0,
+        "A new 1\nA send A1 62264804000000016b1e281c060700118605010101a011600f80020780a109060704000001000103 to 43\n",
+    ),
+    ("A beginto 9 43 - -\n", 0, "A refused 2\n"),
+];
+
 #[test]
 fn plays_with_addresses(rt: HostRuntime) -> Result<(), Fail> {
-    let rows = [
-        // The script, the status, and what is written.
-        (ADDRESSES_SCRIPT, 1, ADDRESSES_TEXT),
-        (LEARNED_SCRIPT, 0, LEARNED_TEXT),
-        (KNOWN_SCRIPT, 0, KNOWN_TEXT),
-        (
-            "A new\nA beginto 1 42 - -\ndeliver A1\n",
-            0,
-            "A new 1\nA send A1 6206480400000001\nB begin 1 context - info -\n",
-        ),
-        (
-            "A new\nA beginto 1 41 - -\n",
-            0,
-            "A new 1\nA send A1 6206480400000001 to 41\n",
-        ),
-        // The address of no octets is one too, and no front of another is that other.
-        (
-            "A new\nA beginto 1 - - -\n",
-            0,
-            "A new 1\nA send A1 6206480400000001 to -\n",
-        ),
-        (
-            "A new\nA beginto 1 4200 - -\n",
-            0,
-            "A new 1\nA send A1 6206480400000001 to 4200\n",
-        ),
-        (
-            "B rawfrom - 650C4804000000094904000000FF",
-            0,
-            "B send B1 67094904000000094a0101 to -\n",
-        ),
-        (
-            "A rawfrom 42 650C4804000000094904000000FF",
-            0,
-            "A send A1 67094904000000094a0101\n",
-        ),
-        (
-            "A raw 650C4804000000094904000000FF",
-            0,
-            "A send A1 67094904000000094a0101\n",
-        ),
-        ("A rawfrom 43 -", 0, "A dropped badmessage\n"),
-        (
-            "A new\nA beginto 1 43 04000001000103 -\n",
-            0,
-            "A new 1\nA send A1 62264804000000016b1e281c060700118605010101a011600f80020780a109060704000001000103 to 43\n",
-        ),
-        ("A beginto 9 43 - -\n", 0, "A refused 2\n"),
-    ];
-    for (script, status, written) in rows {
+    for (script, status, written) in PLAYS {
         assert!(rt;
-            is_played(rt.alloc(), script, status, written),
+            is_played(rt.alloc(), script, *status, written),
             "at {script}"
         );
     }

@@ -57,8 +57,29 @@ impl Write for Counting {
     }
 }
 
-/// How many reads of a run failed in turn, each told, before a run came to its end. Each read before the one that
-/// failed left so many octets written.
+/// Whether the read of this number failed in a run, and was told: then each read before it left so many octets written.
+/// Nothing where the run came to anything else than this or its end.
+fn is_read_failed(
+    alloc: Global,
+    words: &[&str],
+    input: (&[u8], usize, usize),
+    wanted: &[u8],
+    step: u64,
+    number: u64,
+) -> Option<bool> {
+    let (octets, left, width) = input;
+    let mut reader = Repeated::new(octets, left, width, number);
+    let ran = run(alloc, words, &mut reader);
+    if reader.reads < number {
+        ran.is(0, wanted, b"").then_some(false)
+    } else {
+        let written = step.saturating_mul(number.saturating_sub(1));
+        let is_told = ran.is_part(written, wanted, b"tcap: read failed\n");
+        is_told.then_some(true)
+    }
+}
+
+/// How many reads of a run failed in turn, each told, before a run came to its end.
 fn failed_reads(
     alloc: Global,
     words: &[&str],
@@ -66,23 +87,9 @@ fn failed_reads(
     wanted: &[u8],
     step: u64,
 ) -> Option<u64> {
-    let (octets, left, width) = input;
     for number in 1..256u64 {
-        let mut reader = Repeated::new(octets, left, width, number);
-        let mut out = Vec::new(alloc);
-        let mut err = Vec::new(alloc);
-        let status = run_command(alloc, alloc, words, &mut reader, &mut out, &mut err);
-        if reader.reads < number {
-            let is_whole = status == 0 && out.as_slice() == wanted && err.is_empty();
-            return is_whole.then_some(number - 1);
-        }
-        let is_told = status == 2 && err.as_slice() == b"tcap: read failed\n".as_slice();
-        let written = out.len() as u64;
-        if !is_told
-            || written != step.saturating_mul(number - 1)
-            || !wanted.starts_with(out.as_slice())
-        {
-            return None;
+        if !is_read_failed(alloc, words, input, wanted, step, number)? {
+            return Some(number - 1);
         }
     }
     None
@@ -106,13 +113,43 @@ fn reads_that_fail_in_turn(rt: HostRuntime) -> Result<(), Fail> {
     ];
     for (words, input, wanted, step, reads) in rows {
         let failed = failed_reads(alloc, words, input, wanted, step);
-        assert_eq!(rt; failed, Some(reads), "at {words:?}");
+        assert!(rt; failed == Some(reads), "at {words:?}");
     }
     Ok(())
 }
 
-/// How many writes of a run failed in turn, each told, before a run came to its end. Each write before the one that
-/// failed took so many octets, the last of a text what was left of it.
+/// Whether these are so many writes, which took so many octets each at most, of the front of what is wanted.
+fn is_front(out: &Counting, writes: u64, wanted: &[u8]) -> bool {
+    let taken = out.taken.as_slice();
+    let most = (out.width as u64).saturating_mul(writes.saturating_sub(1));
+    out.writes == writes && taken.len() as u64 <= most && wanted.starts_with(taken)
+}
+
+/// Whether the write of this number failed in a run, and was told: then each write before it took so many octets, the
+/// last of a text what was left of it. Nothing where the run came to anything else than this or its end.
+fn is_write_failed(
+    alloc: Global,
+    words: &[&str],
+    input: (&[u8], usize),
+    width: usize,
+    wanted: &[u8],
+    number: u64,
+) -> Option<bool> {
+    let (octets, left) = input;
+    let mut reader = Repeated::new(octets, left, 4_096, 0);
+    let mut out = Counting::new(alloc, width, number);
+    let mut err = Vec::new(alloc);
+    let status = run_command(alloc, alloc, words, &mut reader, &mut out, &mut err);
+    if out.writes < number {
+        let is_whole = status == 0 && out.taken.as_slice() == wanted && err.is_empty();
+        is_whole.then_some(false)
+    } else {
+        let is_told = status == 2 && err.as_slice() == b"tcap: write failed\n".as_slice();
+        (is_told && is_front(&out, number, wanted)).then_some(true)
+    }
+}
+
+/// How many writes of a run failed in turn, each told, before a run came to its end.
 fn failed_writes(
     alloc: Global,
     words: &[&str],
@@ -120,25 +157,9 @@ fn failed_writes(
     width: usize,
     wanted: &[u8],
 ) -> Option<u64> {
-    let (octets, left) = input;
     for number in 1..256u64 {
-        let mut reader = Repeated::new(octets, left, 4_096, 0);
-        let mut out = Counting::new(alloc, width, number);
-        let mut err = Vec::new(alloc);
-        let status = run_command(alloc, alloc, words, &mut reader, &mut out, &mut err);
-        let taken = out.taken.as_slice();
-        if out.writes < number {
-            let is_whole = status == 0 && taken == wanted && err.is_empty();
-            return is_whole.then_some(number - 1);
-        }
-        let is_told = status == 2 && err.as_slice() == b"tcap: write failed\n".as_slice();
-        let most = (width as u64).saturating_mul(number - 1);
-        if !is_told
-            || out.writes != number
-            || taken.len() as u64 > most
-            || !wanted.starts_with(taken)
-        {
-            return None;
+        if !is_write_failed(alloc, words, input, width, wanted, number)? {
+            return Some(number - 1);
         }
     }
     None
@@ -160,7 +181,7 @@ fn writes_that_fail_in_turn(rt: HostRuntime) -> Result<(), Fail> {
     ];
     for (words, input, width, wanted, writes) in rows {
         let failed = failed_writes(alloc, words, input, width, wanted);
-        assert_eq!(rt; failed, Some(writes), "at {words:?}, {width}");
+        assert!(rt; failed == Some(writes), "at {words:?}, {width}");
     }
     Ok(())
 }

@@ -3,7 +3,7 @@
 use super::addressed::{ADDRESSES_SCRIPT, ADDRESSES_TEXT};
 use super::plays::{IDLE_SCRIPT, IDLE_TEXT};
 use refusing::Refusing;
-use std::alloc::Global;
+use std::alloc::{AllocError, Global};
 use std::test::Fail;
 use tcap_cmd::{canon_text, check_text, run_command, show_text};
 
@@ -35,12 +35,11 @@ fn refused_growths<F: FnMut() -> Outcome>(heap: &Refusing<Global>, mut call: F) 
     None
 }
 
-/// What a text is, beside the one that is wanted.
-fn outcome_of(text: Option<&[u8]>, wanted: &[u8]) -> Outcome {
-    match text {
-        Some(text) if text == wanted => Outcome::Done,
-        Some(_) => Outcome::Other,
-        None => Outcome::NoMemory,
+/// Whether there were growths, so many at least.
+fn is_at_least(growths: Option<u64>, least: u64) -> bool {
+    match growths {
+        Some(count) => count >= least,
+        None => false,
     }
 }
 
@@ -56,28 +55,48 @@ const SHOWN: &[u8] =
 const REWRITTEN: &[u8] =
     b"62344804000000016b1e281c060700118605010101a011600f80020780a1090607040000010001036c0ca10a02010102010230020500\n";
 
+/// A text of a message.
+#[derive(Clone, Copy)]
+enum Text {
+    Shown,
+    Checked,
+    Rewritten,
+}
+
+/// What the text of these bytes is, beside the one that is wanted.
+fn outcome_of(heap: &Refusing<Global>, text: Text, bytes: &[u8], wanted: &[u8]) -> Outcome {
+    let told = match text {
+        Text::Shown => show_text(heap, bytes),
+        Text::Checked => check_text(heap, bytes),
+        Text::Rewritten => canon_text(heap, bytes),
+    };
+    match told {
+        Ok(told) if told.text.as_slice() == wanted => Outcome::Done,
+        Ok(_) => Outcome::Other,
+        Err(_) => Outcome::NoMemory,
+    }
+}
+
+/// How many growths of a text were refused in turn.
+fn growths_of_text(
+    heap: &Refusing<Global>,
+    text: Text,
+    bytes: &[u8],
+    wanted: &[u8],
+) -> Option<u64> {
+    refused_growths(heap, || outcome_of(heap, text, bytes, wanted))
+}
+
 #[test]
 fn texts_with_each_growth_refused(rt: HostRuntime) -> Result<(), Fail> {
     let heap = Refusing::new(rt.alloc());
     let bytes = hex::decode(rt.alloc(), BEGIN)?;
-    let shown = refused_growths(&heap, || {
-        let shown = show_text(&heap, bytes.as_slice()).ok();
-        outcome_of(shown.as_ref().map(|shown| shown.text.as_slice()), SHOWN)
-    });
-    assert!(rt; shown.is_some_and(|count| count > 0));
-    let checked = refused_growths(&heap, || {
-        let shown = check_text(&heap, bytes.as_slice()).ok();
-        outcome_of(
-            shown.as_ref().map(|shown| shown.text.as_slice()),
-            b"good\n".as_slice(),
-        )
-    });
-    assert!(rt; checked.is_some_and(|count| count > 0));
-    let rewritten = refused_growths(&heap, || {
-        let shown = canon_text(&heap, bytes.as_slice()).ok();
-        outcome_of(shown.as_ref().map(|shown| shown.text.as_slice()), REWRITTEN)
-    });
-    assert!(rt; rewritten.is_some_and(|count| count > 4));
+    let shown = growths_of_text(&heap, Text::Shown, bytes.as_slice(), SHOWN);
+    assert!(rt; is_at_least(shown, 1));
+    let checked = growths_of_text(&heap, Text::Checked, bytes.as_slice(), b"good\n");
+    assert!(rt; is_at_least(checked, 1));
+    let rewritten = growths_of_text(&heap, Text::Rewritten, bytes.as_slice(), REWRITTEN);
+    assert!(rt; is_at_least(rewritten, 5));
     Ok(())
 }
 
@@ -167,12 +186,42 @@ fn command_with_each_growth_refused(rt: HostRuntime) -> Result<(), Fail> {
             &heap,
             || outcome_of_run(alloc, &heap, words, input, wanted, left),
         );
-        assert!(rt;
-            growths.is_some_and(|count| count >= least),
-            "at {words:?}, {growths:?}"
-        );
+        assert!(rt; is_at_least(growths, least), "at {words:?}, {growths:?}");
     }
     Ok(())
+}
+
+/// Two texts, one behind the other.
+fn joined(alloc: Global, front: &[u8], behind: &[u8]) -> Result<Vec<u8>, AllocError> {
+    let mut text = front.to_vec(alloc)?;
+    text.extend_from_slice(behind)?;
+    Ok(text)
+}
+
+/// How many growths a play of this script was refused in turn, where it comes to this status and writes this.
+fn growths_of_play(
+    alloc: Global,
+    heap: &Refusing<Global>,
+    script: &[u8],
+    wanted: (u8, &[u8]),
+) -> Option<u64> {
+    refused_growths(
+        heap,
+        || outcome_of_run(alloc, heap, &["play"], script, wanted, &LINES[..1]),
+    )
+}
+
+/// How many growths such a play was refused, whose script and what it writes stand in two parts each.
+fn growths_of_parts(
+    alloc: Global,
+    heap: &Refusing<Global>,
+    script: (&[u8], &[u8]),
+    status: u8,
+    written: (&[u8], &[u8]),
+) -> Option<u64> {
+    let input = joined(alloc, script.0, script.1).ok()?;
+    let text = joined(alloc, written.0, written.1).ok()?;
+    growths_of_play(alloc, heap, input.as_slice(), (status, text.as_slice()))
 }
 
 #[test]
@@ -203,42 +252,27 @@ fn plays_with_each_growth_refused(rt: HostRuntime) -> Result<(), Fail> {
         (b"", b"", 0, b"", b"", 0),
     ];
     for (script, more, status, written, behind, least) in rows {
-        let mut input = script.to_vec(alloc)?;
-        input.extend_from_slice(more)?;
-        let mut text = written.to_vec(alloc)?;
-        text.extend_from_slice(behind)?;
-        let wanted = (status, text.as_slice());
-        let growths = refused_growths(
-            &heap,
-            || outcome_of_run(
-                alloc,
-                &heap,
-                &["play"],
-                input.as_slice(),
-                wanted,
-                &LINES[..1],
-            ),
-        );
-        assert!(rt;
-            growths.is_some_and(|count| count >= least),
-            "at {script:?}, {growths:?}"
-        );
+        let growths = growths_of_parts(alloc, &heap, (script, more), status, (written, behind));
+        assert!(rt; is_at_least(growths, least), "at {script:?}, {growths:?}");
     }
     Ok(())
 }
 
+/// Whether `show` of what is no hexadecimal asks for no memory.
+fn is_bad_hex(alloc: Global, heap: &Refusing<Global>, hex: &str) -> bool {
+    let mut input: &[u8] = &[];
+    let mut out = Vec::new(alloc);
+    let mut err = Vec::new(alloc);
+    heap.refuse(1);
+    let status = run_command(alloc, heap, &["show", hex], &mut input, &mut out, &mut err);
+    status == 2 && err.as_slice() == b"tcap: bad hex\n".as_slice()
+}
+
 #[test]
 fn no_memory_for_bad_hex(rt: HostRuntime) -> Result<(), Fail> {
-    let alloc = rt.alloc();
-    let heap = Refusing::new(alloc);
+    let heap = Refusing::new(rt.alloc());
     for hex in ["6x", "621"] {
-        let mut input: &[u8] = &[];
-        let mut out = Vec::new(alloc);
-        let mut err = Vec::new(alloc);
-        heap.refuse(1);
-        let status = run_command(alloc, &heap, &["show", hex], &mut input, &mut out, &mut err);
-        assert_eq!(rt; status, 2, "at {hex}");
-        assert_eq!(rt; err.as_slice(), b"tcap: bad hex\n".as_slice(), "at {hex}");
+        assert!(rt; is_bad_hex(rt.alloc(), &heap, hex), "at {hex}");
     }
     Ok(())
 }

@@ -4,19 +4,19 @@ use std::alloc::Global;
 use std::test::Fail;
 use tcap_cmd::{canon_text, check_text, show_text};
 
+/// Whether these bytes are shown as this fault.
+fn is_shown(alloc: Global, bytes: &[u8], fault: &[u8]) -> bool {
+    match show_text(alloc, bytes) {
+        Ok(shown) => shown.text.as_slice() == fault && !shown.good,
+        Err(_) => false,
+    }
+}
+
 #[test]
 fn messages_too_long(rt: HostRuntime) -> Result<(), Fail> {
     let bytes = vec![in rt.alloc(); 0u8; 65_536]?;
-    let long = show_text(rt.alloc(), bytes.as_slice())
-        .ok()
-        .ok_or("no memory")?;
-    assert_eq!(rt; long.text.as_slice(), b"fault too long\n".as_slice());
-    assert!(rt; !long.good);
-    let longest = show_text(rt.alloc(), &bytes[1..]).ok().ok_or("no memory")?;
-    assert_eq!(rt;
-        longest.text.as_slice(),
-        b"fault badly formatted\n".as_slice()
-    );
+    assert!(rt; is_shown(rt.alloc(), &bytes, b"fault too long\n"));
+    assert!(rt; is_shown(rt.alloc(), &bytes[1..], b"fault badly formatted\n"));
     Ok(())
 }
 
@@ -33,17 +33,26 @@ fn longest(alloc: Global) -> Result<Vec<u8>, Fail> {
     Ok(bytes)
 }
 
+/// Whether the check of these bytes finds them good.
+fn is_good(alloc: Global, bytes: &[u8]) -> bool {
+    match check_text(alloc, bytes) {
+        Ok(checked) => checked.text.as_slice() == b"good\n".as_slice(),
+        Err(_) => false,
+    }
+}
+
+/// Whether the canonical form of these bytes is too long.
+fn is_too_long(alloc: Global, bytes: &[u8]) -> bool {
+    match canon_text(alloc, bytes) {
+        Ok(long) => long.text.as_slice() == b"fault too long\n".as_slice() && !long.good,
+        Err(_) => false,
+    }
+}
+
 #[test]
 fn canonical_form_too_long(rt: HostRuntime) -> Result<(), Fail> {
     let bytes = longest(rt.alloc())?;
-    let checked = check_text(rt.alloc(), bytes.as_slice())
-        .ok()
-        .ok_or("no memory")?;
-    assert_eq!(rt; checked.text.as_slice(), b"good\n".as_slice());
-    let long = canon_text(rt.alloc(), bytes.as_slice())
-        .ok()
-        .ok_or("no memory")?;
-    assert_eq!(rt; long.text.as_slice(), b"fault too long\n".as_slice());
-    assert!(rt; !long.good);
+    assert!(rt; is_good(rt.alloc(), bytes.as_slice()));
+    assert!(rt; is_too_long(rt.alloc(), bytes.as_slice()));
     Ok(())
 }

@@ -74,20 +74,23 @@ fn closed_outputs(rt: HostRuntime) -> Result<(), Fail> {
         let ran = run_within(alloc, &words, &mut input, room);
         assert!(rt;
             ran.is(status, written.as_bytes(), told.as_bytes()),
-            "at {room}, {words:?}: {ran:?}"
+            "at {room}, {words:?}"
         );
     }
     Ok(())
 }
 
-#[test]
-fn closed_error_output(rt: HostRuntime) -> Result<(), Fail> {
-    let alloc = rt.alloc();
+/// The status of a run whose words are bad, where nothing is written and its line on standard error is refused.
+fn untold_status(alloc: Global) -> Option<u8> {
     let mut input: &[u8] = &[];
     let mut out = Vec::new(alloc);
     let mut err = Narrow::new(alloc, 0);
     let status = run_command(alloc, alloc, &["show"], &mut input, &mut out, &mut err);
-    assert_eq!(rt; status, 2);
-    assert!(rt; out.is_empty());
+    out.is_empty().then_some(status)
+}
+
+#[test]
+fn closed_error_output(rt: HostRuntime) -> Result<(), Fail> {
+    assert!(rt; untold_status(rt.alloc()) == Some(2));
     Ok(())
 }

@@ -2,6 +2,7 @@
 
 use super::outputs::Narrow;
 use super::words::{run, run_within};
+use std::alloc::Global;
 use std::io;
 use std::io::{ErrorKind, Read};
 use std::test::Fail;
@@ -47,9 +48,20 @@ impl Read for LineFeeds {
     }
 }
 
+/// Whether a play of these line feeds answers this, and makes so many reads.
+fn is_read(
+    alloc: Global,
+    mut reader: LineFeeds,
+    answer: Result<bool, PlayFault>,
+    reads: u64,
+) -> bool {
+    // No line asks for anything, so nothing is written, and this writer isn't called.
+    let mut out = Narrow::new(alloc, 0);
+    run_play(alloc, &mut reader, &mut out) == answer && reader.reads == reads
+}
+
 #[test]
 fn reads_of_a_play(rt: HostRuntime) -> Result<(), Fail> {
-    let alloc = rt.alloc();
     let other = ErrorKind::Other;
     let rows = [
         // How many line feeds, how many a read, the read that fails and how; the answer, the reads made.
@@ -69,13 +81,9 @@ fn reads_of_a_play(rt: HostRuntime) -> Result<(), Fail> {
         (usize::MAX, 1, 0, other, Err(PlayFault::TooLong), 1_000_000),
     ];
     for (left, width, failing, kind, answer, reads) in rows {
-        let mut reader = LineFeeds::new(left, width, failing, kind);
-        // No line asks for anything, so nothing is written, and this writer isn't called.
-        let mut out = Narrow::new(alloc, 0);
-        let ran = run_play(alloc, &mut reader, &mut out);
-        assert_eq!(rt;
-            (ran, reader.reads),
-            (answer, reads),
+        let reader = LineFeeds::new(left, width, failing, kind);
+        assert!(rt;
+            is_read(rt.alloc(), reader, answer, reads),
             "at {left}, {width}, {failing}"
         );
     }
@@ -100,39 +108,53 @@ const UNLIMITED_SCRIPT: &str =
 
 const UNLIMITED_TEXT: &str = "A new 1\nA send A1 6206480400000001\n";
 
+/// What is told of an output that takes no more.
+const FAILED: &str = "tcap: write failed\n";
+
+/// Scripts, the octets that the output takes, the status, what is written, and what is told.
+const PLAYS: &[(&str, usize, u8, &str, &str)] = &[
+    ("A new\n", 99, 0, "A new 1\n", ""),
+    ("A new", 99, 0, "A new 1\n", ""),
+    ("# two\n\nB new\nA new\n", 99, 0, "B new 1\nA new 1\n", ""),
+    ("A new\nA knew\nB new\n", 99, 1, "A new 1\nline 2 bad\n", ""),
+    ("A new\n", 3, 2, "A n", FAILED),
+    ("A knew\n", 0, 2, "", FAILED),
+    ("\n# none\n", 0, 0, "", ""),
+    // An idle limit, in the first line that isn't skipped, and nowhere else.
+    (IDLE_SCRIPT, 99, 0, IDLE_TEXT, ""),
+    ("idle 500\n", 0, 0, "", ""),
+    ("idle 0", 0, 0, "", ""),
+    ("idle 4611686018427387904\n", 0, 0, "", ""),
+    ("idle 4611686018427387905\n", 99, 1, "line 1 bad\n", ""),
+    ("idle 01\n", 99, 1, "line 1 bad\n", ""),
+    ("idle\n", 99, 1, "line 1 bad\n", ""),
+    ("idle 1 1\n", 99, 1, "line 1 bad\n", ""),
+    ("# x\n\nidle 1\nidle 1\n", 99, 1, "line 4 bad\n", ""),
+    ("A new\nidle 1\n", 99, 1, "A new 1\nline 2 bad\n", ""),
+    (IDLE_FAR_SCRIPT, 99, 0, IDLE_FAR_TEXT, ""),
+    (UNLIMITED_SCRIPT, 99, 0, UNLIMITED_TEXT, ""),
+];
+
+/// Whether the play of a script, with an output that takes so many octets, comes to this.
+fn is_played(
+    alloc: Global,
+    script: &str,
+    room: usize,
+    status: u8,
+    written: &str,
+    told: &str,
+) -> bool {
+    let mut input = script.as_bytes();
+    let ran = run_within(alloc, &["play"], &mut input, room);
+    ran.is(status, written.as_bytes(), told.as_bytes())
+}
+
 #[test]
 fn plays_of_the_command(rt: HostRuntime) -> Result<(), Fail> {
-    let alloc = rt.alloc();
-    let failed = "tcap: write failed\n";
-    let rows = [
-        // The script, the octets that the output takes, the status, what is written, and what is told.
-        ("A new\n", 99, 0, "A new 1\n", ""),
-        ("A new", 99, 0, "A new 1\n", ""),
-        ("# two\n\nB new\nA new\n", 99, 0, "B new 1\nA new 1\n", ""),
-        ("A new\nA knew\nB new\n", 99, 1, "A new 1\nline 2 bad\n", ""),
-        ("A new\n", 3, 2, "A n", failed),
-        ("A knew\n", 0, 2, "", failed),
-        ("\n# none\n", 0, 0, "", ""),
-        // An idle limit, in the first line that isn't skipped, and nowhere else.
-        (IDLE_SCRIPT, 99, 0, IDLE_TEXT, ""),
-        ("idle 500\n", 0, 0, "", ""),
-        ("idle 0", 0, 0, "", ""),
-        ("idle 4611686018427387904\n", 0, 0, "", ""),
-        ("idle 4611686018427387905\n", 99, 1, "line 1 bad\n", ""),
-        ("idle 01\n", 99, 1, "line 1 bad\n", ""),
-        ("idle\n", 99, 1, "line 1 bad\n", ""),
-        ("idle 1 1\n", 99, 1, "line 1 bad\n", ""),
-        ("# x\n\nidle 1\nidle 1\n", 99, 1, "line 4 bad\n", ""),
-        ("A new\nidle 1\n", 99, 1, "A new 1\nline 2 bad\n", ""),
-        (IDLE_FAR_SCRIPT, 99, 0, IDLE_FAR_TEXT, ""),
-        (UNLIMITED_SCRIPT, 99, 0, UNLIMITED_TEXT, ""),
-    ];
-    for (script, room, status, written, told) in rows {
-        let mut input = script.as_bytes();
-        let ran = run_within(alloc, &["play"], &mut input, room);
+    for (script, room, status, written, told) in PLAYS {
         assert!(rt;
-            ran.is(status, written.as_bytes(), told.as_bytes()),
-            "at {script}: {ran:?}"
+            is_played(rt.alloc(), script, *room, *status, written, told),
+            "at {script}"
         );
     }
     Ok(())
@@ -162,7 +184,7 @@ fn inputs_of_the_command(rt: HostRuntime) -> Result<(), Fail> {
         let ran = run(alloc, words, &mut reader);
         assert!(rt;
             ran.is(status, written.as_bytes(), told.as_bytes()) && reader.reads == reads,
-            "at {words:?}: {ran:?}"
+            "at {words:?}"
         );
     }
     Ok(())
@@ -178,7 +200,7 @@ fn texts_of_the_faults(rt: HostRuntime) -> Result<(), Fail> {
     ];
     for (fault, text) in rows {
         let shown = format!(in rt.alloc(); "{}", fault)?;
-        assert_eq!(rt; shown.as_str(), text);
+        assert!(rt; shown.as_str() == text, "{text}");
     }
     Ok(())
 }
