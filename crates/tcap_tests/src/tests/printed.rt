@@ -12,7 +12,8 @@ pub fn a_begin_shown()
         ≡ Printed.good (codes "begin\n  otid 00000001\n  components 13\n    invoke 1 linked - op local 2 param 30030401aa\n") }
     ensures longer_length { shown (codes "628200154804000000016C0DA10B02010102010230030401AA")
         ≡ Printed.good (codes "begin\n  otid 00000001\n  components 13\n    invoke 1 linked - op local 2 param 30030401aa\n") }
-    ensures checked { checked (codes "62154804000000016C0DA10B02010102010230030401AA") ≡ Printed.good (codes "good\n") }
+    ensures checked { checked (codes "62154804000000016C0DA10B02010102010230030401AA")
+        ≡ Printed.good (codes "good\n") }
     ensures rewritten { rewritten (codes "62154804000000016C0DA10B02010102010230030401AA")
         ≡ Printed.good (codes "62154804000000016c0da10b02010102010230030401aa\n") }
     ensures rewritten_long { rewritten (codes "6281154804000000016C0DA10B02010102010230030401AA")
@@ -23,7 +24,8 @@ pub fn a_begin_shown()
 
 /// Messages of each type without a dialogue portion; 6C without contents is not shown.
 pub fn messages_shown()
-    ensures empty_components { shown (codes "62084804000000016C00") ≡ Printed.good (codes "begin\n  otid 00000001\n") }
+    ensures empty_components { shown (codes "62084804000000016C00")
+        ≡ Printed.good (codes "begin\n  otid 00000001\n") }
     ensures unidirectional { shown (codes "61076C05A203020101")
         ≡ Printed.good (codes "unidirectional\n  components 5\n    result last 1 op - param -\n") }
     ensures nothing_in_it { shown (codes "61026C00") ≡ Printed.good (codes "unidirectional\n") }
@@ -51,11 +53,14 @@ pub fn faults_shown()
 
 /// Dialogue portions: each PDU, a foreign one, and one that can not be read.
 pub fn dialogues_shown()
-    ensures aarq { shown (codes "62354804000000016B1E281C060700118605010101A011600F80020780A1090607040000010001036C0DA10B02010102010230030401AA")
+    ensures aarq { shown
+        (codes "62354804000000016B1E281C060700118605010101A011600F80020780A1090607040000010001036C0DA10B02010102010230030401AA")
         ≡ Printed.good (codes "begin\n  otid 00000001\n  dialogue 30\n    aarq version yes context 04000001000103 info -\n  components 13\n    invoke 1 linked - op local 2 param 30030401aa\n") }
-    ensures other_version { shown (codes "62264804000000016B1E281C060700118605010101A011600F80020700A109060704000001000103")
+    ensures other_version { shown
+        (codes "62264804000000016B1E281C060700118605010101A011600F80020700A109060704000001000103")
         ≡ Printed.good (codes "begin\n  otid 00000001\n  dialogue 30\n    aarq version no context 04000001000103 info -\n") }
-    ensures aare { shown (codes "652F4801054904000000016B242822060700118605010101A017611580020700A10306012AA203020101A305A203020102")
+    ensures aare { shown
+        (codes "652F4801054904000000016B242822060700118605010101A017611580020700A10306012AA203020101A305A203020102")
         ≡ Printed.good (codes "continue\n  otid 05\n  dtid 00000001\n  dialogue 36\n    aare version no context 2a result 1 provider 2 info -\n") }
     ensures abrt { shown (codes "671A4904000000016B122810060700118605010101A0056403800100")
         ≡ Printed.good (codes "abort\n  dtid 00000001\n  dialogue 18\n    abrt user info -\n") }
@@ -87,7 +92,8 @@ pub fn verdicts_checked()
     ensures long_identifier { checked (codes "620748050000000001") ≡ Printed.faulty (codes "fault incorrect\n") }
     ensures empty_identifier { checked (codes "62024800") ≡ Printed.faulty (codes "fault incorrect\n") }
     ensures dialogue { checked (codes "62084804000000016B00") ≡ Printed.faulty (codes "fault dialogue\n") }
-    ensures second_component { checked (codes "65254804000000054904000000016C17A203020180A503020107A20302017FA30602017F020101")
+    ensures second_component { checked
+        (codes "65254804000000054904000000016C17A203020180A503020107A20302017FA30602017F020101")
         ≡ Printed.faulty (codes "fault component 2\n") }
 {}
 
