@@ -72,13 +72,21 @@ fn code(given: &Code<'_>)
     }
 }
 
+/// A code is one, and the parameter that goes with it is octets.
+fn coded(given: &Code<'_>, parameter: Option<&[u8]>)
+    ensures code { IsTrue (is_code (code_parts given.now)) }
+    ensures parameter { IsTrue (are_octets_if_any (option_copied parameter.entry)) }
+{
+    code(given);
+    octets_if_any(parameter);
+}
+
 /// The code and the parameter of a body.
 fn body(given: Option<Body<'_>>)
     ensures { IsTrue (is_body (option_map body_parts given.entry)) }
 {
     if let Some(given) = given {
-        code(&given.code);
-        octets_if_any(given.parameter);
+        coded(&given.code, given.parameter);
     }
 }
 
@@ -112,8 +120,7 @@ pub fn request(asked: &Request<'_>)
             timeout_ms,
         } => {
             identifier(*id);
-            code(given);
-            octets_if_any(*parameter);
+            coded(given, *parameter);
             identifier_if_any(*linked);
             long(*timeout_ms);
         }
@@ -127,8 +134,7 @@ pub fn request(asked: &Request<'_>)
             parameter,
         } => {
             identifier(*id);
-            code(given);
-            octets_if_any(*parameter);
+            coded(given, *parameter);
         }
         Request::Reject { id, problem: given } => {
             identifier_if_any(*id);
