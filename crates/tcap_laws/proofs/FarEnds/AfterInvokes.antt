@@ -1,20 +1,18 @@
 -- Every request that an answer may come from was made after the Invoke was sent.
-use Rattle.std.proofs.Common.{◌≡◌, ℕ, ℤ, ◌==◌, Bool, true, false, List, [], ◌∷◌, ◌++◌, Option, Some, None, refl, sym, ap, subst, ◌∙◌, append_assoc}
+use Rattle.std.proofs.Common.{◌≡◌, ℕ, ◌==◌, Bool, true, false, List, [], ◌∷◌, ◌++◌, Option, Some, None, refl, sym, ap, subst, ◌∙◌, append_assoc}
 use Rattle.std.specs.Prelude.{cond, find, option_to_list}
 use Rattle.std.specs.Option.{option_or}
-use Rattle.tcap_model.specs.Words.Answer.{Answer}
 use Rattle.tcap_model.specs.Words.Event.{Event}
-use Rattle.tcap_model.specs.Histories.History.{History}
 use Rattle.tcap_model.specs.Invocations.Invocation.{Invocation, invocation_of, invoked_by, invoked_of}
 use Rattle.tcap_model.specs.Histories.Life.{Life, life}
 use Rattle.tcap_model.specs.Words.LocalId.{local_id}
-use Rattle.tcap_model.specs.Statements.Net.{Engine, side, history_in, Net, IsNet}
+use Rattle.tcap_model.specs.Statements.Net.{Engine, side, Net, IsNet}
 use Rattle.tcap_model.specs.Words.Output.{Output, ComponentIndication}
 use Rattle.tcap_model.specs.Histories.Pair.{Pair, Past}
-use Rattle.tcap_model.specs.Statements.Places.{StandsIn, Tells}
+use Rattle.tcap_model.specs.Statements.Places.{StandsIn}
 use Rattle.tcap_model.specs.Words.Request.{Request, ComponentRequest}
-use Rattle.tcap_model.specs.Statements.TwoEnds.{AcceptedInvoke, IsOrderly, ToldInvoke, AnswersInvoke, WasInvoked, WasSent, AfterInvoke, EachIsTwoEnded}
-use Rattle.tcap_model.specs.Statements.FarAnswer.{FarAnswer, FarSource, peer_in, IsAnswer}
+use Rattle.tcap_model.specs.Statements.TwoEnds.{AcceptedInvoke, IsOrderly, ToldInvoke, WasInvoked, WasSent, AfterInvoke, EachIsTwoEnded}
+use Rattle.tcap_model.specs.Statements.FarAnswer.{FarAnswer, FarSource, peer_in}
 use Rattle.tcap_laws.proofs.Peers.CarriedComponents.{Carried, stands-before}
 use Rattle.tcap_laws.proofs.Spans.DrawnInvocations.{invocation_step}
 use Rattle.tcap_laws.proofs.FarEnds.ClosedOnce.{once}

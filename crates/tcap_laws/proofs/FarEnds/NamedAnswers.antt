@@ -1,5 +1,5 @@
 -- Each answer that is told of an invocation names it: by its number, its dialogue and its identifier.
-use Rattle.std.proofs.Common.{◌≡◌, ℕ, ℤ, List, ◌∷◌, Option, Some, subst, sym, ap, ◌∙◌}
+use Rattle.std.proofs.Common.{◌≡◌, ℕ, ℤ, List, ◌∷◌, Option, Some, subst}
 use Rattle.tcap_component.specs.declared.problem.Kind.{Kind}
 use Rattle.tcap_component.specs.declared.problem.Kind.TheVariants as kind
 use Rattle.tcap_model.specs.Words.Answer.{Answer}
@@ -7,9 +7,9 @@ use Rattle.tcap_model.specs.Histories.Birth.{born_on_message}
 use Rattle.tcap_model.specs.Statements.ToldFrom.{ToldFromOne}
 use Rattle.tcap_model.specs.Words.Event.{Event}
 use Rattle.tcap_model.specs.Histories.History.{History}
-use Rattle.tcap_model.specs.Invocations.Invocation.{Invocation, invocation_of}
+use Rattle.tcap_model.specs.Invocations.Invocation.{invocation_of}
 use Rattle.tcap_model.specs.Replies.Legal.{AreReplies}
-use Rattle.tcap_model.specs.Statements.Net.{Engine, side, history_in, Net, IsNet}
+use Rattle.tcap_model.specs.Statements.Net.{side, history_in, Net, IsNet}
 use Rattle.tcap_model.specs.Words.Output.{Output}
 use Rattle.tcap_model.specs.Histories.Pair.{Past}
 use Rattle.tcap_model.specs.Statements.Places.{Tells}

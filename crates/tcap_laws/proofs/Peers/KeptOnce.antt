@@ -1,5 +1,5 @@
 -- The address that a dialogue keeps is replaced once at most.
-use Rattle.std.proofs.Common.{◌≡◌, ℕ, Bool, true, false, ◌⊎◌, List, [], ◌∷◌, ◌++◌, Option, Some, Result, Ok, Err, refl, sym, ap, subst, ◌∙◌, inl, inr, if◌then◌else◌}
+use Rattle.std.proofs.Common.{◌≡◌, ℕ, Bool, true, false, ◌⊎◌, List, Option, Some, Result, Ok, Err, refl, sym, ap, subst, ◌∙◌, inl, inr, if◌then◌else◌}
 use Rattle.std.proofs.lemmas.Bool.{eqb-true, true≢false}
 use Rattle.tcap_pdu.specs.declared.fault.FrameFault.{FrameFault}
 use Rattle.tcap_pdu.specs.FrameReading.{frame_at}
@@ -8,16 +8,14 @@ use Rattle.tcap_pdu.proofs.CallerLemmas.{frame_takes}
 use Rattle.tcap_model.specs.Words.Address.{Address}
 use Rattle.tcap_model.specs.Words.Answer.{Answer, is_accepted}
 use Rattle.tcap_model.specs.Words.Event.{Event}
-use Rattle.tcap_model.specs.Histories.History.{History, Start}
-use Rattle.tcap_model.specs.Histories.Kept.{kept_by_request, kept_by_message, kept_by_event, kept_after, kept_address}
-use Rattle.tcap_model.specs.Replies.Legal.{AreReplies}
+use Rattle.tcap_model.specs.Histories.History.{History}
+use Rattle.tcap_model.specs.Histories.Kept.{kept_by_message, kept_by_event, kept_after, kept_address}
 use Rattle.tcap_model.specs.Histories.Life.{Life, life, life_after, life_by_event, life_by_message, life_by_verdict, life_if_named, is_normal, touched}
 use Rattle.tcap_model.specs.Histories.Names.{names}
-use Rattle.tcap_model.specs.Histories.Pair.{Pair, Past}
 use Rattle.tcap_model.specs.Procedures.PortionRules.{PortionVerdict, portion_verdict}
 use Rattle.tcap_model.specs.Procedures.States.{is_fresh, has_peer}
 use Rattle.tcap_model.specs.Replies.Reply.{reply}
-use Rattle.tcap_model.specs.Statements.KeptOnce.{KeepsForGood, KeepsTheFirstSender, FirstContinue}
+use Rattle.tcap_model.specs.Statements.KeptOnce.{KeepsForGood, KeepsTheFirstSender}
 use Rattle.tcap_model.specs.Statements.NormalPortion.{IsNormal}
 use Rattle.tcap_model.specs.Words.Request.{Request, DialogueRequest}
 use Rattle.tcap_model.specs.Words.State.{State, peer_of}

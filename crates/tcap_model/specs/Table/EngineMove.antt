@@ -1,5 +1,5 @@
 -- What the engine does: to each event its answer, and the engine after it.
-use Rattle.std.specs.Prelude.{ℕ, ◌+◌, Bool, false, nat_eq, nat_lt, List, [], ◌∷◌, ◌++◌, length, map, filter_map}
+use Rattle.std.specs.Prelude.{ℕ, ◌+◌, Bool, false, nat_eq, nat_lt, List, [], ◌∷◌, ◌++◌, length, filter_map}
 use Rattle.std.specs.Prelude.{is_some, Option, Some, None, if◌then◌else◌}
 use Rattle.tcap_component.specs.ComponentReading.{components_of}
 use Rattle.tcap_model.specs.Procedures.AbortRules.{message_sent, sent_if_any}
