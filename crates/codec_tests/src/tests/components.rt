@@ -169,6 +169,15 @@ fn faults(rt: HostRuntime) -> Result<(), Fail> {
     Ok(())
 }
 
+/// Rejects that are faulty, and the code of the general fault.
+const FAULTY_REJECTS: &[(&[u8], u8)] = &[
+    (&[0xa4], 2),
+    (&[0xa4, 0xff], 2),
+    (&[0xa4, 0x05, 0x02], 2),
+    (&[0xa4, 0x06, 0x05, 0x01, 0x00, 0x80, 0x01, 0x00], 1),
+    (&[0xa4, 0x05, 0x05, 0x00, 0x80, 0x01, 0x80], 1),
+];
+
 #[test]
 fn rejects(rt: HostRuntime) -> Result<(), Fail> {
     let rows: &[(&[u8], Option<i8>, Kind, u8)] = &[
@@ -197,14 +206,7 @@ fn rejects(rt: HostRuntime) -> Result<(), Fail> {
             "{octets:?}"
         );
     }
-    let faulty: &[(&[u8], u8)] = &[
-        (&[0xa4], 2),
-        (&[0xa4, 0xff], 2),
-        (&[0xa4, 0x05, 0x02], 2),
-        (&[0xa4, 0x06, 0x05, 0x01, 0x00, 0x80, 0x01, 0x00], 1),
-        (&[0xa4, 0x05, 0x05, 0x00, 0x80, 0x01, 0x80], 1),
-    ];
-    for (octets, code) in faulty {
+    for (octets, code) in FAULTY_REJECTS {
         assert!(rt;
             fault_of(octets) == general(*code, None, true),
             "{octets:?}"
