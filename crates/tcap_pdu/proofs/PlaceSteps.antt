@@ -2,7 +2,7 @@
 use Rattle.std.proofs.Common.{ℕ, ◌≡◌, ◌∙◌, true, List, [], ◌∷◌, Option, Some, None, refl, ap, subst, sym, inl, inr}
 use Rattle.std.proofs.lemmas.Bool.{cases_Bool}
 use Rattle.std.specs.List.{list_all}
-use Rattle.std.specs.Prelude.{IfSome, IfOk, unwrap_or, option_map, is_ok, ok_or, Result, Ok, Err, if◌then◌else◌}
+use Rattle.std.specs.Prelude.{IfSome, IfOk, unwrap_or, is_ok, ok_or, Result, Ok, Err, if◌then◌else◌}
 use Rattle.ber_core.specs.Place.{Slice}
 use Rattle.ber_core.specs.Way.{IsInside, IsInsideIfAny, GoesOn, IsOnWay, IsOnWayIfAny}
 use Rattle.ber_core.proofs.CallerLemmas.{by_option, list_again, inside-goes, inside-goes-any, way-one, way-one-any, way-in, way-any}

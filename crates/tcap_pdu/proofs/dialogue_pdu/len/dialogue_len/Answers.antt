@@ -1,4 +1,4 @@
-use Rattle.std.proofs.Common.{rules, ◌≡◌, refl, IfSome, IfNone, ℕ, length, subst, sym, ◌∙◌, Option}
+use Rattle.std.proofs.Common.{rules, ◌≡◌, refl, IfSome, IfNone, ℕ, length, subst, sym, Option}
 use Rattle.std.specs.Result.{result_ok}
 use Rattle.tcap_pdu.specs.DialogueDue.{length_at}
 use Rattle.tcap_pdu.specs.DialogueViews.{pdu_value}
