@@ -1,0 +1,148 @@
+//! All that an engine sends and tells, field by field.
+
+use super::Digest;
+use tcap_engine::Output;
+
+impl Digest {
+    /// Adds what is sent, and what is told of a dialogue.
+    fn dialogue_output(&mut self, output: &Output<'_>) -> bool {
+        match output {
+            Output::Send { to, bytes } => {
+                self.octets(to.octets());
+                self.octets(bytes.as_slice());
+            }
+            Output::Uni { context, info } => self.told(1, 0, *context, info),
+            Output::Begin {
+                dialogue,
+                context,
+                info,
+            } => self.told(2, *dialogue, *context, info),
+            Output::Continue {
+                dialogue,
+                context,
+                info,
+            } => self.told(3, *dialogue, *context, info),
+            Output::End {
+                dialogue,
+                context,
+                info,
+            } => self.told(4, *dialogue, *context, info),
+            Output::UAbort { dialogue, pdu } => {
+                self.number(u64::from(*dialogue));
+                if let Some(pdu) = pdu {
+                    self.pdu(pdu);
+                }
+            }
+            Output::PAbort { dialogue, why } => {
+                self.number(u64::from(*dialogue));
+                self.why(*why);
+            }
+            Output::Dropped(why) => self.number(300 + *why as u64),
+            _ => return false,
+        }
+        true
+    }
+
+    /// Adds what is told of a component that closes no invocation.
+    fn component_output(&mut self, output: &Output<'_>) -> bool {
+        match output {
+            Output::Invoked {
+                dialogue,
+                id,
+                linked,
+                code,
+                parameter,
+            } => {
+                self.named(5, dialogue.unwrap_or(0), 0, *id);
+                self.identifier(*linked);
+                self.code(code);
+                self.optional(*parameter);
+            }
+            Output::ResultMore {
+                dialogue,
+                number,
+                id,
+                body,
+            } => {
+                self.named(6, *dialogue, *number, *id);
+                self.body(body);
+            }
+            Output::LocalReject {
+                dialogue,
+                id,
+                problem,
+            } => {
+                self.named(9, dialogue.unwrap_or(0), 0, id.unwrap_or(0));
+                self.problem(*problem);
+            }
+            Output::RemoteReject {
+                dialogue,
+                id,
+                problem,
+                by,
+            } => {
+                self.named(10 + *by as u64, dialogue.unwrap_or(0), 0, id.unwrap_or(0));
+                self.problem(*problem);
+            }
+            _ => return false,
+        }
+        true
+    }
+
+    /// Adds what is told of an invocation that is closed.
+    fn closing_output(&mut self, output: &Output<'_>) {
+        match output {
+            Output::ResultLast {
+                dialogue,
+                number,
+                id,
+                body,
+            } => {
+                self.named(7, *dialogue, *number, *id);
+                self.body(body);
+            }
+            Output::ErrorBack {
+                dialogue,
+                number,
+                id,
+                code,
+                parameter,
+            } => {
+                self.named(8, *dialogue, *number, *id);
+                self.code(code);
+                self.optional(*parameter);
+            }
+            Output::Rejected {
+                dialogue,
+                number,
+                id,
+                problem,
+                by,
+            } => {
+                self.named(20 + *by as u64, *dialogue, *number, *id);
+                self.problem(*problem);
+            }
+            Output::Lapsed {
+                dialogue,
+                number,
+                id,
+            } => self.named(13, *dialogue, *number, *id),
+            Output::Ended {
+                dialogue,
+                number,
+                id,
+            } => self.named(14, *dialogue, *number, *id),
+            _ => self.number(0),
+        }
+    }
+
+    /// Adds all that an engine sends and tells.
+    pub(crate) fn outputs(&mut self, outputs: &[Output<'_>]) {
+        for output in outputs {
+            if !self.dialogue_output(output) && !self.component_output(output) {
+                self.closing_output(output);
+            }
+        }
+        self.number(outputs.len() as u64);
+    }
+}
