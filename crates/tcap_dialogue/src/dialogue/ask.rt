@@ -29,6 +29,9 @@ pub enum Asked<'m, A: Allocator = Global> {
 impl<A: Allocator + Copy> Dialogue<A> {
     /// Any request, at this moment of the caller's clock, in milliseconds, at most 2^62. `number` is what
     /// an Invoke gets.
+    // Where the request is known, the match on it folds away, and no `Request` and no `Asked` is built in
+    // memory.
+    #[inline(always)]
     pub fn ask<'m>(
         &mut self,
         clock: u64,
@@ -73,6 +76,7 @@ impl<A: Allocator + Copy> Dialogue<A> {
 }
 
 /// The answer to TC-INVOKE.
+#[inline(always)]
 fn of_number<'m, A: Allocator + Copy>(answer: Result<u64, Fault>) -> Result<Asked<'m, A>, Fault>
     ensures { (o : Outcome) (old new : model.Dialogue) → Answers numbered answer o old new → Asks result o old new }
 {
@@ -80,6 +84,7 @@ fn of_number<'m, A: Allocator + Copy>(answer: Result<u64, Fault>) -> Result<Aske
 }
 
 /// The answer where a component is queued.
+#[inline(always)]
 fn of_queued<'m, A: Allocator + Copy>(answer: Result<(), Fault>) -> Result<Asked<'m, A>, Fault>
     ensures { (o : Outcome) (old new : model.Dialogue) → Answers queued_done answer o old new
         → Asks result o old new }
@@ -89,6 +94,7 @@ fn of_queued<'m, A: Allocator + Copy>(answer: Result<(), Fault>) -> Result<Asked
 }
 
 /// The answer to TC-U-CANCEL.
+#[inline(always)]
 fn of_cancel<'m, A: Allocator + Copy>(answer: Result<u64, Fault>) -> Result<Asked<'m, A>, Fault>
     ensures { (o : Outcome) (old new : model.Dialogue) → Answers gave_up answer o old new → Asks result o old new }
 {
@@ -96,6 +102,7 @@ fn of_cancel<'m, A: Allocator + Copy>(answer: Result<u64, Fault>) -> Result<Aske
 }
 
 /// The answer to a request of dialogue handling.
+#[inline(always)]
 fn of_step<'m, A: Allocator + Copy>(
     answer: Result<Step<'m, A>, Fault>,
 ) -> Result<Asked<'m, A>, Fault>

@@ -55,6 +55,7 @@ fn spelling_fault(component: &Component<'_>) -> Option<Fault>
 impl<A: Allocator + Copy> Dialogue<A> {
     /// What of an Invoke the dialogue refuses, whatever its number: BadTimeout, BadOid, BadParameter,
     /// InvokeIdInUse. It takes no memory.
+    #[inline(never)]
     pub fn check_invoke(
         &self,
         id: i8,

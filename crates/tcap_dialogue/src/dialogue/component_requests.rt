@@ -23,6 +23,8 @@ impl<A: Allocator + Copy> Dialogue<A> {
     /// TC-INVOKE request: the invocation is Queued with this number, which is above all that the dialogue
     /// had, and answered. `id` and `linked` are -128 to 127, `parameter` is the octets of one element,
     /// `timeout_ms` is 1 to 2^62 milliseconds.
+    // `ask` is copied to each named call; what it calls stands once.
+    #[inline(never)]
     pub fn invoke(
         &mut self,
         number: u64,
@@ -59,6 +61,7 @@ impl<A: Allocator + Copy> Dialogue<A> {
     }
 
     /// TC-RESULT-L request.
+    #[inline(always)]
     pub fn result_last(&mut self, id: i8, body: Option<Body<'_>>) -> Result<(), Fault>
         ensures answer { Answers queued_done result (requested 0 0 self.old
             (Request.component (result_last id (option_map body_parts body.entry)))) self.old self.new }
@@ -68,6 +71,7 @@ impl<A: Allocator + Copy> Dialogue<A> {
     }
 
     /// TC-RESULT-NL request.
+    #[inline(always)]
     pub fn result_more(&mut self, id: i8, body: Option<Body<'_>>) -> Result<(), Fault>
         ensures answer { Answers queued_done result (requested 0 0 self.old
             (Request.component (result_more id (option_map body_parts body.entry)))) self.old self.new }
@@ -77,6 +81,7 @@ impl<A: Allocator + Copy> Dialogue<A> {
     }
 
     /// TC-U-ERROR request.
+    #[inline(always)]
     pub fn error_back(
         &mut self,
         id: i8,
@@ -96,6 +101,7 @@ impl<A: Allocator + Copy> Dialogue<A> {
     }
 
     /// TC-U-REJECT request. A Reject of a result or an error frees the identifier that waits for it.
+    #[inline(never)]
     pub fn u_reject(&mut self, id: Option<i8>, problem: Problem) -> Result<(), Fault>
         ensures answer { Answers queued_done result
             (requested 0 0 self.old (Request.component (u_reject id (problem_parts problem)))) self.old self.new }
@@ -108,6 +114,7 @@ impl<A: Allocator + Copy> Dialogue<A> {
 
     /// TC-U-CANCEL request: the number of the invocation that is given up. An Invoke that wasn't sent
     /// leaves the queue. It takes no memory.
+    #[inline(never)]
     pub fn u_cancel(&mut self, id: i8) -> Result<u64, Fault>
         ensures answer { Answers gave_up result
             (requested 0 0 self.old (Request.component (u_cancel id))) self.old self.new }
@@ -121,6 +128,7 @@ impl<A: Allocator + Copy> Dialogue<A> {
     }
 
     /// Queues a component that answers the peer.
+    #[inline(never)]
     fn queue_answer(&mut self, component: &Component<'_>) -> Result<(), Fault>
         ensures answer { Answers queued_done result
             (answered self.old (component_parts component.now)) self.old self.new }

@@ -15,6 +15,8 @@ use tcap_primitives::{AbortWhy, Control, Ending, Fault};
 
 impl<A: Allocator + Copy> Dialogue<A> {
     /// A request of dialogue handling at this moment: the first due fault, or it goes through.
+    // `ask` is copied to each named call; what it calls stands once.
+    #[inline(never)]
     pub(super) fn control<'m>(
         &mut self,
         control: &Control<'_>,
@@ -37,6 +39,7 @@ impl<A: Allocator + Copy> Dialogue<A> {
     /// TC-UNI request: the queue goes out in a Unidirectional to this address, and the dialogue is over.
     /// Faults: WrongState unless Fresh, BadOid, BadParameter, NoContext for information without a context,
     /// NotClassFour, TooLong, OutOfMemory (Q.774, Unstructured dialogue).
+    #[inline(always)]
     pub fn uni<'m>(
         &mut self,
         to: &Address,
@@ -54,6 +57,7 @@ impl<A: Allocator + Copy> Dialogue<A> {
     /// there is a context, and the dialogue is Sent. Faults: WrongState unless Fresh, BadOid,
     /// BadParameter, NoContext for information without a context, TooLong, OutOfMemory
     /// (Q.774, Dialogue begin).
+    #[inline(always)]
     pub fn begin<'m>(
         &mut self,
         to: &Address,
@@ -73,6 +77,7 @@ impl<A: Allocator + Copy> Dialogue<A> {
     /// Active. In Received an AARQ is answered, with the context given or else its own. Faults:
     /// WrongState unless Received or Active, BadOid, BadParameter, NoContext for a context or information
     /// where no AARQ is answered, TooLong, OutOfMemory (Q.774, Dialogue continuation).
+    #[inline(always)]
     pub fn go_on<'m>(
         &mut self,
         context: Option<&[u8]>,
@@ -91,6 +96,7 @@ impl<A: Allocator + Copy> Dialogue<A> {
     /// the dialogue is over. Faults: WrongState for a basic end unless Received or Active, BadOid, BadParameter,
     /// NoContext for a context or information where no AARQ is answered, TooLong, OutOfMemory
     /// (Q.774, Dialogue end).
+    #[inline(always)]
     pub fn finish<'m>(
         &mut self,
         ending: Ending,
@@ -115,6 +121,7 @@ impl<A: Allocator + Copy> Dialogue<A> {
     /// over. By the user it carries an ABRT where the dialogue has a context; NotSupported refuses the
     /// context of an AARQ with an AARE. Faults: WrongState where NotSupported answers no AARQ, BadParameter, NoContext
     /// for information that no ABRT carries, TooLong, OutOfMemory (Q.774, Abort by the user).
+    #[inline(always)]
     pub fn u_abort<'m>(&mut self, why: AbortWhy, info: &[u8]) -> Result<Step<'m, A>, Fault>
         ensures step { Steps result (requested 0 0 self.old
             (Request.dialogue (DialogueRequest.u_abort (reason_view why) info.now))) self.old self.new }

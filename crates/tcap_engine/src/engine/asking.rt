@@ -15,6 +15,7 @@ use std::alloc::Allocator;
 use tcap_dialogue::{Asked, Dialogue, Fault, Request};
 
 /// Whether the dialogue is over.
+#[inline(always)]
 fn ends_dialogue<A: Allocator + Copy>(asked: &Asked<'_, A>) -> bool
     ensures { result ≡ ends_dialogue asked.now }
 {
@@ -25,6 +26,7 @@ fn ends_dialogue<A: Allocator + Copy>(asked: &Asked<'_, A>) -> bool
 }
 
 /// Any request on a dialogue, where `number` is what an Invoke gets; the greatest one is never drawn.
+#[inline(always)]
 fn ask_one<'m, A: Allocator + Copy>(
     dialogue: &mut Dialogue<A>,
     clock: u64,
@@ -54,6 +56,7 @@ fn ask_one<'m, A: Allocator + Copy>(
 }
 
 /// A request on the dialogue of an identifier, which is taken out where it is over.
+#[inline(always)]
 pub(super) fn ask_in<'m, A: Allocator + Copy>(
     table: &mut Dialogues<A>,
     identifier: u32,

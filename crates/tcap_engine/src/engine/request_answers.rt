@@ -15,6 +15,7 @@ use std::alloc::Allocator;
 use tcap_dialogue::{Asked, Fault, Output};
 
 /// The number of a new invocation.
+#[inline(always)]
 pub(super) fn number_of<A: Allocator + Copy>(
     asked: Result<Asked<'_, A>, Fault>,
 ) -> Result<u64, Fault>
@@ -32,6 +33,7 @@ pub(super) fn number_of<A: Allocator + Copy>(
 }
 
 /// A component was queued.
+#[inline(always)]
 pub(super) fn queued_of<A: Allocator + Copy>(
     asked: Result<Asked<'_, A>, Fault>,
 ) -> Result<(), Fault>
@@ -49,6 +51,7 @@ pub(super) fn queued_of<A: Allocator + Copy>(
 }
 
 /// The number of the invocation that was given up.
+#[inline(always)]
 pub(super) fn given_up_of<A: Allocator + Copy>(
     asked: Result<Asked<'_, A>, Fault>,
 ) -> Result<u64, Fault>
@@ -66,6 +69,7 @@ pub(super) fn given_up_of<A: Allocator + Copy>(
 }
 
 /// What is sent and told.
+#[inline(always)]
 pub(super) fn outputs_of<'m, A: Allocator + Copy>(
     asked: Result<Asked<'m, A>, Fault>,
 ) -> Result<Vec<Output<'m, A>, A>, Fault>

@@ -16,6 +16,7 @@ use tcap_dialogue::{Asked, Fault, Request};
 use tcap_primitives::ranges;
 
 /// The number of the next invocation: one that was answered is drawn.
+#[inline(always)]
 fn next_number<A: Allocator + Copy>(asked: &Asked<'_, A>, next: u64) -> u64
     requires { IsLeft (asked_answer asked.now) next }
     ensures { result ≡ number_after (asked_answer asked.now) next }
@@ -29,7 +30,9 @@ fn next_number<A: Allocator + Copy>(asked: &Asked<'_, A>, next: u64) -> u64
 impl<A: Allocator + Copy> Engine<A> {
     /// Any request on the dialogue with this identifier; the calls of their own names are the same. Faults:
     /// `UnknownDialogue`, and those of the request.
+    // Each named call has its own copy, in which the request is known and the match on it folds away.
     #[tactic(auto, using(crate::proofs::StandingLemmas::stands_after))]
+    #[inline(always)]
     pub fn request<'m>(
         &mut self,
         dialogue: u32,
@@ -51,6 +54,7 @@ impl<A: Allocator + Copy> Engine<A> {
     }
 
     /// `request`, by the engine's move.
+    #[inline(always)]
     pub(super) fn ask<'m>(
         &mut self,
         dialogue: u32,
