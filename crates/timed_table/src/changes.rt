@@ -13,6 +13,7 @@ use std::alloc::{AllocError, AllocFailed, Allocator};
 use timer_queue::{Timer, TimerQueue};
 
 /// The timer that stands for a time.
+#[inline(always)]
 pub(crate) fn timer_named(id: u32, time: Option<u64>) -> Option<Timer>
     ensures { result ≡ timer_named id time }
 {
@@ -103,6 +104,7 @@ pub(crate) fn remove_row<T: Drop, A: Allocator + Copy>(
 }
 
 /// Writes the time of an identifier, if it has a row.
+#[inline(always)]
 pub(crate) fn time_row<T: Drop, A: Allocator + Copy>(
     values: &Slab<T, A>,
     keys: &Keys<A>,

@@ -132,6 +132,7 @@ impl<T: Drop, A: Allocator + Copy> Table<T, A> {
     }
 
     /// Writes the time beside the value of an identifier, if there is one; takes no memory.
+    #[inline(always)]
     pub fn set_time(&mut self, id: u32, time: Option<u64>)
         ensures rows { self.new ≡ with_time id time self.old }
         ensures entries { entries_of self.new ≡ entries_of self.old }

@@ -28,6 +28,7 @@ pub(crate) fn push_item<A: Allocator>(
 }
 
 /// Writes the timer of an item, and brings the item to its new place.
+#[inline(never)]
 pub(crate) fn set_timer(
     heap: &mut [usize],
     places: &mut [usize],

@@ -88,6 +88,9 @@ impl<A: Allocator + Copy> TimerQueue<A> {
     }
 
     /// Gives an item this timer, or none; where that is its timer, nothing moves. Takes no memory.
+    // Most timers that are set are those that stand: the caller sees that by itself, and calls only for a
+    // change.
+    #[inline(always)]
     pub fn set(&mut self, item: usize, timer: Option<Timer>)
         requires { item < length self.old }
         ensures { self.new ≡ slice_set self.old item timer }
