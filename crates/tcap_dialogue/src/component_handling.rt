@@ -47,6 +47,7 @@ fn remote_rejector(problem: Problem) -> By
 }
 
 /// An answer that closes an invocation and is rejected here.
+#[inline(always)]
 fn unexpected<'m, A: Allocator>(
     dialogue: u32,
     number: u64,
@@ -72,6 +73,7 @@ fn unexpected<'m, A: Allocator>(
 }
 
 /// A component that is rejected here and closes nothing.
+#[inline(always)]
 fn rejecting<'m, A: Allocator>(dialogue: u32, id: i8, problem: Problem) -> Handled<'m, A>
     ensures handled { handled_view result ≡ rejecting_told (Some dialogue) (Some id) (problem_parts problem) }
     ensures slices { slices_of result.told ≡ Slices.none }

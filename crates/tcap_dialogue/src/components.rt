@@ -45,6 +45,8 @@ fn queue_reject<A: Allocator + Copy>(queue: &mut Queue<A>, reject: Option<Reject
 
 /// Takes the components of a message, tells them and queues the Rejects that answer them; there is room
 /// for all that (Q.774, Component handling).
+// Two callers share it, and it has all of `take_item` in it.
+#[inline(never)]
 pub(crate) fn walk<'m, A: Allocator + Copy>(
     dialogue: u32,
     clock: u64,
@@ -72,6 +74,7 @@ pub(crate) fn walk<'m, A: Allocator + Copy>(
 
 /// Takes the components of an End and tells them: the Rejects don't go out, and aren't queued (Q.774,
 /// Dialogue end).
+#[inline(never)]
 pub(crate) fn walk_ending<'m, A: Allocator + Copy>(
     dialogue: u32,
     clock: u64,

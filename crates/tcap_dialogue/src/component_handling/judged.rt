@@ -15,6 +15,7 @@ use tcap_invocation::Verdict;
 use tcap_primitives::Output;
 
 /// A Return Result, Last or not, by the verdict on it (Q.774, Component handling).
+#[inline(always)]
 pub(crate) fn result_judged<'m, A: Allocator>(
     dialogue: u32,
     id: i8,
@@ -53,6 +54,7 @@ pub(crate) fn result_judged<'m, A: Allocator>(
 }
 
 /// A Return Error, by the verdict on it (Q.774, Component handling).
+#[inline(always)]
 pub(crate) fn error_judged<'m, A: Allocator>(
     dialogue: u32,
     id: i8,
@@ -87,6 +89,7 @@ pub(crate) fn error_judged<'m, A: Allocator>(
 
 /// A Reject with an identifier, by the number of the invocation that it closes
 /// (Q.774, Component handling).
+#[inline(always)]
 pub(crate) fn reject_judged<'m, A: Allocator>(
     dialogue: u32,
     id: i8,

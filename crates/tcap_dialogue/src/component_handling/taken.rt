@@ -24,6 +24,7 @@ use tcap_invocation::Invocations;
 use tcap_primitives::Output;
 
 /// An Invoke.
+#[inline(always)]
 fn take_invoke<'m, A: Allocator + Copy>(
     invocations: &Invocations<A>,
     dialogue: u32,
@@ -55,6 +56,7 @@ fn take_invoke<'m, A: Allocator + Copy>(
 }
 
 /// A Return Result, Last or not.
+#[inline(always)]
 fn take_result<'m, A: Allocator + Copy>(
     invocations: &mut Invocations<A>,
     dialogue: u32,
@@ -74,6 +76,7 @@ fn take_result<'m, A: Allocator + Copy>(
 }
 
 /// A Return Error.
+#[inline(always)]
 fn take_error<'m, A: Allocator + Copy>(
     invocations: &mut Invocations<A>,
     dialogue: u32,
@@ -93,6 +96,7 @@ fn take_error<'m, A: Allocator + Copy>(
 }
 
 /// A Reject with an identifier.
+#[inline(always)]
 fn take_reject<'m, A: Allocator + Copy>(
     invocations: &mut Invocations<A>,
     dialogue: u32,
@@ -109,6 +113,7 @@ fn take_reject<'m, A: Allocator + Copy>(
 }
 
 /// A Reject without identifier.
+#[inline(always)]
 pub(crate) fn take_remote<'m, A: Allocator>(
     dialogue: Option<u32>,
     id: Option<i8>,
@@ -129,6 +134,7 @@ pub(crate) fn take_remote<'m, A: Allocator>(
 }
 
 /// A component that can't be read.
+#[inline(always)]
 pub(crate) fn take_unread<'m, A: Allocator>(
     dialogue: Option<u32>,
     fault: ComponentFault,
@@ -155,6 +161,7 @@ pub(crate) fn take_unread<'m, A: Allocator>(
 }
 
 /// A Reject, which may be without identifier.
+#[inline(always)]
 fn take_reject_back<'m, A: Allocator + Copy>(
     invocations: &mut Invocations<A>,
     dialogue: u32,
@@ -173,6 +180,7 @@ fn take_reject_back<'m, A: Allocator + Copy>(
 }
 
 /// A component that was read.
+#[inline(always)]
 fn take_component<'m, A: Allocator + Copy>(
     invocations: &mut Invocations<A>,
     dialogue: u32,
@@ -210,6 +218,9 @@ fn take_component<'m, A: Allocator + Copy>(
 }
 
 /// One component of a message to a dialogue (Q.774, Component handling).
+// What is told is built where it is pushed from; each of these was a move of an `Output`, which is 296
+// octets.
+#[inline(always)]
 pub(crate) fn take_item<'m, A: Allocator + Copy>(
     invocations: &mut Invocations<A>,
     dialogue: u32,
