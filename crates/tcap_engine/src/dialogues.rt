@@ -76,6 +76,7 @@ impl<A: Allocator + Copy> Dialogues<A> {
 
     /// Takes in a dialogue under an identifier above all others. All memory that its place will need is taken
     /// here.
+    #[inline(always)]
     pub(crate) fn insert(
         &mut self,
         identifier: u32,

@@ -57,6 +57,7 @@ fn make_room<T: Drop, A: Allocator + Copy>(
 }
 
 /// Puts a row behind the others.
+#[inline(always)]
 pub(crate) fn insert_row<T: Drop, A: Allocator + Copy>(
     values: &mut Slab<T, A>,
     keys: &mut Keys<A>,

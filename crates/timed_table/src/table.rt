@@ -104,6 +104,7 @@ impl<T: Drop, A: Allocator + Copy> Table<T, A> {
 
     /// Puts a value and its time, if it has one, behind the others. All memory that the row will need is taken
     /// here; an `Err` has the value back.
+    #[inline(always)]
     pub fn insert(&mut self, id: u32, value: T, time: Option<u64>) -> Result<(), AllocFailed<T>>
         requires { AllBelow id self.old }
         ensures ok { OnOk result (self.new ≡ self.old ++ record { identifier = id; value = value; time = time }
