@@ -208,7 +208,9 @@ pub(crate) fn checked_len(component: &Component<'_>) -> Result<usize, WriteFault
 
 /// Why `write_component` refuses the component for another cause than memory, if it does. It takes no
 /// memory.
+// Where the kind of component is known, as in a request, the match on it folds away.
 #[tactic(auto, using(crate::proofs::WrittenGrammar::fault_rules))]
+#[inline(always)]
 pub fn component_fault(component: &Component<'_>) -> Option<WriteFault>
     // The fault that is due, or none where the component can be written.
     ensures is { IfSome result (λ f. IsWriteFault (component_parts component.now) f) }

@@ -113,6 +113,7 @@ impl<A: Allocator + Copy> Dialogue<A> {
     }
 
     /// Why a component that answers the peer is refused, memory apart.
+    #[inline(always)]
     pub(super) fn answer_refusal(&self, component: &Component<'_>) -> Option<Fault>
         ensures { option_map fault_view result ≡ answer_fault self.now (component_parts component.now) }
     {

@@ -61,7 +61,8 @@ impl<A: Allocator + Copy> Dialogue<A> {
     }
 
     /// TC-RESULT-L request.
-    #[inline(always)]
+    // `ask` is copied to each named call; what it calls stands once.
+    #[inline(never)]
     pub fn result_last(&mut self, id: i8, body: Option<Body<'_>>) -> Result<(), Fault>
         ensures answer { Answers queued_done result (requested 0 0 self.old
             (Request.component (result_last id (option_map body_parts body.entry)))) self.old self.new }
@@ -71,7 +72,7 @@ impl<A: Allocator + Copy> Dialogue<A> {
     }
 
     /// TC-RESULT-NL request.
-    #[inline(always)]
+    #[inline(never)]
     pub fn result_more(&mut self, id: i8, body: Option<Body<'_>>) -> Result<(), Fault>
         ensures answer { Answers queued_done result (requested 0 0 self.old
             (Request.component (result_more id (option_map body_parts body.entry)))) self.old self.new }
@@ -81,7 +82,7 @@ impl<A: Allocator + Copy> Dialogue<A> {
     }
 
     /// TC-U-ERROR request.
-    #[inline(always)]
+    #[inline(never)]
     pub fn error_back(
         &mut self,
         id: i8,
@@ -128,7 +129,8 @@ impl<A: Allocator + Copy> Dialogue<A> {
     }
 
     /// Queues a component that answers the peer.
-    #[inline(never)]
+    // Each request knows which kind of component it queues: here the match on that folds away.
+    #[inline(always)]
     fn queue_answer(&mut self, component: &Component<'_>) -> Result<(), Fault>
         ensures answer { Answers queued_done result
             (answered self.old (component_parts component.now)) self.old self.new }

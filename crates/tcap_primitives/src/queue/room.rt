@@ -31,6 +31,7 @@ fn fault_of(fault: WriteFault) -> Fault
 
 impl<A: Allocator + Copy> Queue<A> {
     /// Why a component doesn't come into the queue: BadOid, BadParameter, TooLong. It takes no memory.
+    #[inline(always)]
     pub fn refusal(&self, component: &Component<'_>) -> Option<Fault>
         ensures { option_map fault_view result ≡ queue_fault (queue_view self.now) (component_parts component.now) }
     {
