@@ -74,7 +74,6 @@ pub(crate) fn walk<'m, A: Allocator + Copy>(
 
 /// Takes the components of an End and tells them: the Rejects don't go out, and aren't queued (Q.774,
 /// Dialogue end).
-#[inline(never)]
 pub(crate) fn walk_ending<'m, A: Allocator + Copy>(
     dialogue: u32,
     clock: u64,
