@@ -131,6 +131,8 @@ fn is_idle<A: Allocator + Copy>(dialogue: &Dialogue<A>, now: u64) -> bool
 
 /// After the dialogue of an identifier was written: it is taken out where it is over; else this is its next
 /// timer.
+// A component never ends the dialogue: of its requests only the timer is left here.
+#[inline(always)]
 pub(crate) fn settle<A: Allocator + Copy>(
     rows: &mut Table<Dialogue<A>, A>,
     identifier: u32,
