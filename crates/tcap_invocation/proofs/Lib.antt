@@ -4,6 +4,7 @@ pub mod KeptLemmas
 pub mod LapseLemmas
 mod ListLemmas
 pub mod OrderLemmas
+mod OverLemmas
 pub mod RemovalLemmas
 mod SortLemmas
 pub mod TellingLemmas

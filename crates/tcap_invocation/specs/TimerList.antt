@@ -67,6 +67,10 @@ is_later clock t = nat_lt clock t.time
 abbrev pub is_kept : ℕ → Timer → Bool
 is_kept clock t = t.lapses || nat_lt clock t.time
 
+-- The timer is that of a wait which is over at the clock (own).
+abbrev pub is_over : ℕ → Timer → Bool
+is_over clock t = if t.lapses then false else nat_le t.time clock
+
 -- The time of a timer, if there is one, has come at the clock (own).
 abbrev pub has_come : ℕ → Option Timer → Bool
 has_come clock None = false

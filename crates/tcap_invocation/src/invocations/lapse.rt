@@ -1,6 +1,6 @@
 //! Invocations whose deadline has come (TC-L-CANCEL indication).
 
-ghost use Rattle.std.specs.Prelude.{◌≡◌, ◌≢◌, [], ◌∷◌, length, OnOk, OnErr, IfOk, IfSome};
+ghost use Rattle.std.specs.Prelude.{◌≡◌, ◌≢◌, [], ◌∷◌, length, false, IsTrue, OnOk, OnErr, IfOk, IfSome};
 ghost use Rattle.tcap_invocation.specs.Invocations.{IsSound};
 ghost use Rattle.tcap_invocation.specs.Lapses.{due_at, told_at, first_due_at, lapse_of, lapse_at, after_lapse, after_lapse_one, after_free_due, is_held, stays};
 
@@ -19,6 +19,10 @@ pub struct Lapse {
     /// Its invoke identifier.
     pub id: i8,
 }
+
+/// So many identifiers are freed one by one, since mostly one wait ends at a moment and a walk through all
+/// costs more. Where more are due, or the list is no longer, the walk costs less.
+const FEW: usize = 5;
 
 impl<A: Allocator + Copy> Invocations<A> {
     /// The clock is at this moment: takes out each Sent invocation whose deadline is at most the clock,
@@ -88,6 +92,47 @@ impl<A: Allocator + Copy> Invocations<A> {
         if !self.timers.is_due(clock) {
             return;
         }
+        if self.entries.len() > FEW && self.free_few(clock) {
+            return;
+        }
+        self.free_all(clock);
+    }
+
+    /// Frees identifiers whose wait is over at the clock one by one, a few at most: whether none is left.
+    fn free_few(&mut self, clock: u64) -> bool
+        ensures same { after_free_due self.new clock ≡ after_free_due self.old clock }
+        ensures all { IsTrue result → after_free_due self.new clock ≡ self.new }
+    {
+        for _ in 0..FEW {
+            if !self.free_first(clock) {
+                return true;
+            }
+        }
+        false
+    }
+
+    /// Frees the first identifier whose wait is over at the clock: whether there was one.
+    fn free_first(&mut self, clock: u64) -> bool
+        ensures same { after_free_due self.new clock ≡ after_free_due self.old clock }
+        ensures none { result ≡ false → after_free_due self.new clock ≡ self.new }
+    {
+        if !self.timers.is_due(clock) {
+            return false;
+        }
+        let Some(timer) = self.timers.first_over(clock) else {
+            return false;
+        };
+        let Some(entry) = self.entries.get(&timer.id).copied() else {
+            return false;
+        };
+        take_out(&mut self.entries, &mut self.timers, &timer.id, &entry);
+        true
+    }
+
+    /// `free_due`, by one walk through all.
+    fn free_all(&mut self, clock: u64)
+        ensures { self.new ≡ after_free_due self.old clock }
+    {
         self.timers.end_waits(clock);
         self.entries.retain(
             |_id: &i8, entry: &mut Invocation| -> bool

@@ -3,7 +3,7 @@
 ghost use Rattle.std.specs.Prelude.{◌≡◌, ◌<◌, ◌≤◌, [], List, length, filter, filter_map, option_copied, IfOk, OnOk, OnErr};
 ghost use Rattle.tcap_invocation.specs.declared.invocations.timers.Timer.{Timer};
 ghost use Rattle.tcap_invocation.specs.Order.{put_by, first_of};
-ghost use Rattle.tcap_invocation.specs.TimerList.{is_earlier, told_of_timer, is_later, is_kept, has_come};
+ghost use Rattle.tcap_invocation.specs.TimerList.{is_earlier, told_of_timer, is_later, is_kept, is_over, has_come};
 
 mod sorted;
 mod telling;
@@ -13,7 +13,7 @@ use ber_core::OutOfMemory;
 use sorted::{is_earlier, put, take, take_first};
 use std::alloc::{AllocError, Allocator};
 use std::marker::Model;
-use telling::{due, due_count, first_due, push_due, told_first};
+use telling::{due, due_count, first_due, first_over, push_due, told_first};
 
 /// When an invocation lapses, or when the wait of its identifier ends.
 #[derive(Clone, Copy, Debug)]
@@ -34,6 +34,13 @@ impl Timer {
         ensures { result ≡ is_later clock self.now }
     {
         clock < self.time
+    }
+
+    /// Whether it is that of a wait which is over at the clock.
+    pub(super) fn is_over(&self, clock: u64) -> bool
+        ensures { result ≡ is_over clock self.now }
+    {
+        !self.lapses && self.time <= clock
     }
 
     /// Whether it isn't that of a wait which is over at the clock.
@@ -89,6 +96,18 @@ impl<A: Allocator + Copy> Timers<A> {
         match self.first() {
             Some(timer) => timer.time <= clock,
             None => false,
+        }
+    }
+
+    /// The first of those of a wait that is over at the clock.
+    pub(super) fn first_over(&self, clock: u64) -> Option<Timer>
+        ensures { result ≡ first_of (filter (is_over clock) self.now.timers) }
+    {
+        let first = self.first?;
+        if first.is_over(clock) {
+            Some(first)
+        } else {
+            first_over(due(self.rest.as_slice(), clock), clock)
         }
     }
 

@@ -1,8 +1,8 @@
 //! What is told of timers in order.
 
-ghost use Rattle.std.specs.Prelude.{◌≡◌, ◌≤◌, ◌+◌, ◌++◌, length, filter_map, nat_le, vec_len, vec_capacity};
+ghost use Rattle.std.specs.Prelude.{◌≡◌, ◌≤◌, ◌+◌, ◌++◌, length, filter, filter_map, nat_le, vec_len, vec_capacity};
 ghost use Rattle.tcap_invocation.specs.Order.{first_of};
-ghost use Rattle.tcap_invocation.specs.TimerList.{IsInOrder, told_of_timer, told_first};
+ghost use Rattle.tcap_invocation.specs.TimerList.{IsInOrder, is_over, told_of_timer, told_first};
 
 use super::Timer;
 use crate::invocations::lapse::Lapse;
@@ -33,7 +33,8 @@ pub(super) fn told_first(first: Option<Timer>, clock: u64) -> Option<Lapse>
 /// The front of the list: those whose time has come at the clock.
 pub(super) fn due(timers: &[Timer], clock: u64) -> &[Timer]
     requires { IsInOrder timers.now }
-    ensures { filter_map (told_of_timer clock) result.now ≡ filter_map (told_of_timer clock) timers.now }
+    ensures told { filter_map (told_of_timer clock) result.now ≡ filter_map (told_of_timer clock) timers.now }
+    ensures over { filter (is_over clock) result.now ≡ filter (is_over clock) timers.now }
 {
     let count = timers.partition_point(
         |timer: &Timer| -> bool
@@ -41,6 +42,18 @@ pub(super) fn due(timers: &[Timer], clock: u64) -> &[Timer]
         { timer.time <= clock },
     );
     timers.split_at(count).0
+}
+
+/// The first of those of a wait that is over at the clock.
+pub(super) fn first_over(timers: &[Timer], clock: u64) -> Option<Timer>
+    ensures { result ≡ first_of (filter (is_over clock) timers.now) }
+{
+    for timer in timers.iter() {
+        if timer.is_over(clock) {
+            return Some(*timer);
+        }
+    }
+    None
 }
 
 /// How many of them are of invocations that lapse by the clock.

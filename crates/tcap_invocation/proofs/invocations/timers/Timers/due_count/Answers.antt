@@ -8,7 +8,7 @@ due-requires g c = rw c.as_slice.ensures.value (IsInOrder-rest c.self.inside.fir
 pub overflow_add-result : goal.overflow_add-result
 overflow_add-result g c =
     let few = length-told c.args.clock c.as_slice.result.now in
-    let same = c.due_count-behind.ensures ∙ ap length c.due.ensures in
+    let same = c.due_count-behind.ensures ∙ ap length c.due.ensures.told in
     let long = c.as_slice.ensures.len in
     let small = c.self.inside.rest.small in
     omega (arith, few, same, long, small)
