@@ -5,6 +5,7 @@ pub mod LapseLemmas
 mod ListLemmas
 pub mod OrderLemmas
 mod OverLemmas
+mod QueuedLemmas
 pub mod RemovalLemmas
 mod SortLemmas
 pub mod TellingLemmas

@@ -1,5 +1,5 @@
 -- The first timer of a wait that is over, and what taking its invocation out leaves.
-use Rattle.std.proofs.Common.{◌≡◌, ℕ, suc, zero, ℤ, ◌+◌, ◌<◌, ◌≤◌, Bool, true, false, cond, List, [], ◌∷◌, length, take, filter, Option, Some, None, refl, ap, sym, subst, ◌∙◌, arith, tests, nat_lt, nat_le, ◌||◌}
+use Rattle.std.proofs.Common.{◌≡◌, ℕ, suc, zero, ℤ, ◌+◌, Bool, true, false, cond, List, [], ◌∷◌, length, take, filter, Option, Some, None, refl, ap, sym, subst, ◌∙◌, arith, tests, nat_lt, nat_le}
 use Rattle.std.specs.Prelude.{filter_map}
 use Rattle.std.specs.List.{AllByRecursion, AllWithin, IsDistinct, cons_option}
 use Rattle.std.specs.Map.{keys_of, lookup}

@@ -30,7 +30,7 @@ length-push : (rows : List Row) (r : Row) → length (rows ++ r ∷ []) ≡ leng
 length-push [] r = omega arith
 length-push (x ∷ xs) r = let rest = length-push xs r in omega (arith, rest)
 
-is_sent-at : (rows : List Row) (id : ℤ) (e : Invocation) → sent_at rows id ≡ Some e → is_sent e.stage ≡ true
+pub is_sent-at : (rows : List Row) (id : ℤ) (e : Invocation) → sent_at rows id ≡ Some e → is_sent e.stage ≡ true
 is_sent-at rows id e = go (entry_at rows id)
   where
     go : (o : Option Invocation) → passing is_sent o ≡ Some e → is_sent e.stage ≡ true

@@ -146,7 +146,7 @@ IsTimely-get zero (x ∷ xs) r found o = let same : x ≡ r = cc in subst (λ (r
 IsTimely-get (suc place) (x ∷ xs) r found o = IsTimely-get place xs r found o.2
 
 -- all of them are sent so
-sent_below-cons : (clock place : ℕ) (r : Row) (rs : List Row) → sent_below clock (suc place) (r ∷ rs) ≡ (r.0, sent_entry clock r.1) ∷ sent_below clock place rs
+pub sent_below-cons : (clock place : ℕ) (r : Row) (rs : List Row) → sent_below clock (suc place) (r ∷ rs) ≡ (r.0, sent_entry clock r.1) ∷ sent_below clock place rs
 sent_below-cons clock zero r rs = refl
 sent_below-cons clock (suc place) r rs = ap (sent_place clock (suc place)) (sent_below-cons clock place r rs)
 

@@ -18,6 +18,12 @@ IsTimely (Queued timeout) = IsTimeout timeout
 IsTimely (Sent deadline) = deadline ≤ 2 * moment_limit
 IsTimely (Waiting until) = until ≤ 2 * moment_limit
 
+-- The Invoke waits for the next message (own).
+abbrev pub is_queued : Stage → Bool
+is_queued (Queued timeout) = true
+is_queued (Sent deadline) = false
+is_queued (Waiting until) = false
+
 -- The Invoke was sent, and nothing has closed the invocation: Operation Sent
 -- (Q.774, Invocation state machine).
 abbrev pub is_sent : Stage → Bool

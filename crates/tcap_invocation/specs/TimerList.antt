@@ -5,6 +5,7 @@ use Rattle.tcap_invocation.specs.declared.invocations.lapse.Lapse.{Lapse}
 use Rattle.tcap_invocation.specs.declared.invocations.timers.Timer.{Timer}
 use Rattle.tcap_invocation.specs.declared.stage.Stage.{Stage}
 use Rattle.tcap_invocation.specs.declared.stage.Stage.TheVariants.{Queued, Sent, Waiting}
+use Rattle.tcap_invocation.specs.Stage.{is_queued}
 use Rattle.tcap_invocation.specs.Order.{put_by, in_order_by}
 use Rattle.tcap_invocation.specs.Invocations.{Row, sent_entry}
 
@@ -86,6 +87,16 @@ sent_place clock (suc place) (r ∷ rs) = r ∷ sent_place clock place rs
 abbrev pub sent_below : ℕ → ℕ → List Row → List Row
 sent_below clock zero rows = rows
 sent_below clock (suc place) rows = sent_place clock place (sent_below clock place rows)
+
+-- Each of the rows is Queued (own).
+abbrev pub AreQueued : List Row → Type 0
+AreQueued [] = Unit {0}
+AreQueued (r ∷ rs) = (is_queued r.1.stage ≡ true) × AreQueued rs
+
+-- Those of the rows that are Queued stand behind all others (own).
+abbrev pub AreQueuedLast : List Row → Type 0
+AreQueuedLast [] = Unit {0}
+AreQueuedLast (r ∷ rs) = (is_queued r.1.stage ≡ true → AreQueued rs) × AreQueuedLast rs
 
 -- What ties the timers to the rows: they are those of the rows, and there is room for one of each row (own).
 pub record IsTimed (rows : List Row) (list : TimerList) : Type 0 where

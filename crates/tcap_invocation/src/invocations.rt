@@ -53,14 +53,15 @@ pub struct Invocations<A: Allocator + Copy = Global> {
 
 impl<A: Allocator + Copy> Model for Invocations<A> {
     ghost use Rattle.tcap_invocation.specs.Invocations.{InvocationList, IsSound};
-    ghost use Rattle.tcap_invocation.specs.TimerList.{IsTimed};
+    ghost use Rattle.tcap_invocation.specs.TimerList.{IsTimed, AreQueuedLast};
 
     ghost Value = { InvocationList };
 
     ghost view = { λ v. record { reject_ms = v.reject_ms; rows = v.entries.entries } };
 
     ghost invariant = { λ v. IsSound (record { reject_ms = v.reject_ms; rows = v.entries.entries })
-        × IsTimed v.entries.entries v.timers };
+        × IsTimed v.entries.entries v.timers
+        × AreQueuedLast v.entries.entries };
 }
 
 impl<A: Allocator + Copy> Invocations<A> {

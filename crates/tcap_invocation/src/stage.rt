@@ -1,6 +1,7 @@
 //! The state of an invocation (Q.774, Invocation state machine).
 
 ghost use Rattle.std.specs.Prelude.{◌≡◌};
+ghost use Rattle.tcap_invocation.specs.Stage.{is_queued};
 ghost use Rattle.tcap_invocation.specs.Lapses.{is_held, stays, due_deadline};
 
 /// The latest moment of the clock and the longest timeout, in milliseconds: 2^62 (our own).
@@ -35,6 +36,16 @@ pub enum Stage {
 }
 
 impl Stage {
+    /// Whether the Invoke waits for the next message.
+    pub(crate) fn is_queued(self) -> bool
+        ensures { result ≡ is_queued self }
+    {
+        match self {
+            Stage::Queued(_) => true,
+            Stage::Sent(_) | Stage::Waiting(_) => false,
+        }
+    }
+
     /// The deadline, if it is at most the clock.
     pub(crate) fn due_deadline(self, clock: u64) -> Option<u64>
         ensures { result ≡ due_deadline clock self }

@@ -3,12 +3,12 @@
 ghost use Rattle.std.specs.List.{IsDistinct};
 ghost use Rattle.std.specs.Map.{keys_of};
 ghost use Rattle.std.specs.Ordering.{int_eq};
-ghost use Rattle.std.specs.Prelude.{◌≡◌, ◌<◌, ◌≤◌, ◌*◌, List, length, Some};
+ghost use Rattle.std.specs.Prelude.{◌≡◌, ◌<◌, ◌≤◌, ◌*◌, ℕ, List, false, length, slice_get, Some};
 ghost use Rattle.tcap_invocation.specs.declared.invocations.timers.Timer.{Timer};
 ghost use Rattle.tcap_invocation.specs.declared.stage.Stage.TheVariants.{Waiting};
-ghost use Rattle.tcap_invocation.specs.Invocations.{AreInOrder, entry_at, sent_at, without, at_stage, sent_rows};
-ghost use Rattle.tcap_invocation.specs.Stage.{moment_limit};
-ghost use Rattle.tcap_invocation.specs.TimerList.{IsTimed, timer_of, put_timer, sent_place};
+ghost use Rattle.tcap_invocation.specs.Invocations.{Row, AreInOrder, entry_at, sent_at, without, at_stage, sent_rows};
+ghost use Rattle.tcap_invocation.specs.Stage.{is_queued, moment_limit};
+ghost use Rattle.tcap_invocation.specs.TimerList.{IsTimed, AreQueuedLast, timer_of, put_timer, sent_place, sent_below};
 
 use super::timers::{Timer, Timers};
 use super::{Entries, Invocation};
@@ -64,10 +64,12 @@ pub(super) fn take_out<A: Allocator + Copy>(
     requires found { entry_at entries.old.entries id.now ≡ Some entry.now }
     requires order { AreInOrder entries.old.entries }
     requires timed { IsTimed entries.old.entries timers.old }
+    requires last { AreQueuedLast entries.old.entries }
     ensures rows { entries.new.entries ≡ without entries.old.entries id.now }
     ensures order { AreInOrder entries.new.entries }
     ensures distinct { IsDistinct int_eq (keys_of entries.new.entries) }
     ensures timed { IsTimed entries.new.entries timers.new }
+    ensures last { AreQueuedLast entries.new.entries }
 {
     drop_timer(timers, id, entry);
     entries.shift_remove(id);
@@ -85,10 +87,12 @@ pub(super) fn wait<A: Allocator + Copy>(
     requires found { sent_at entries.old.entries id.now ≡ Some entry }
     requires order { AreInOrder entries.old.entries }
     requires timed { IsTimed entries.old.entries timers.old }
+    requires last { AreQueuedLast entries.old.entries }
     ensures rows { entries.new.entries ≡ at_stage entries.old.entries id.now entry (Waiting until) }
     ensures order { AreInOrder entries.new.entries }
     ensures distinct { IsDistinct int_eq (keys_of entries.new.entries) }
     ensures timed { IsTimed entries.new.entries timers.new }
+    ensures last { AreQueuedLast entries.new.entries }
 {
     drop_timer(timers, id, &entry);
     let waiting = Invocation {
@@ -111,13 +115,38 @@ pub(super) fn send_queued<A: Allocator + Copy>(
     requires order { AreInOrder entries.old.entries }
     requires distinct { IsDistinct int_eq (keys_of entries.old.entries) }
     requires timed { IsTimed entries.old.entries timers.old }
+    requires last { AreQueuedLast entries.old.entries }
     ensures rows { entries.new.entries ≡ sent_rows clock entries.old.entries }
     ensures order { AreInOrder entries.new.entries }
     ensures distinct { IsDistinct int_eq (keys_of entries.new.entries) }
     ensures timed { IsTimed entries.new.entries timers.new }
+    ensures last { AreQueuedLast entries.new.entries }
 {
-    for place in 0..entries.len() {
+    for place in first_queued(entries)..entries.len() {
         send_at(entries, timers, place, clock);
+    }
+}
+
+/// A place before which none is Queued, and behind which all are. Since they stand behind all others, they
+/// are counted from the end, and those that were sent long ago aren't looked at.
+fn first_queued<A: Allocator + Copy>(entries: &Entries<A>) -> usize
+    requires { AreQueuedLast entries.now.entries }
+    ensures { (clock : ℕ) → sent_below clock result entries.now.entries ≡ entries.now.entries }
+{
+    let mut place = entries.len().saturating_sub(1);
+    while 0 < place && is_queued(entries, place - 1) {
+        place -= 1;
+    }
+    place
+}
+
+/// Whether the one at this place is Queued.
+fn is_queued<A: Allocator + Copy>(entries: &Entries<A>, place: usize) -> bool
+    ensures { result ≡ false → (r : Row) → slice_get entries.now.entries place ≡ Some r → is_queued r.1.stage ≡ false }
+{
+    match entries.get_index(place) {
+        Some((_, entry)) => entry.stage.is_queued(),
+        None => false,
     }
 }
 

@@ -8,6 +8,7 @@ use Rattle.tcap_invocation.specs.declared.invocations.Invocation.{Invocation}
 use Rattle.tcap_invocation.specs.declared.stage.Stage.TheVariants.{Queued}
 use Rattle.tcap_invocation.specs.Invocations.{AllBelow}
 use Rattle.tcap_invocation.proofs.OrderLemmas.{AreInOrder-push}
+use Rattle.tcap_invocation.proofs.QueuedLemmas.{AreQueuedLast-push}
 use Rattle.tcap_invocation.proofs.TiedLemmas.{IsTimed-push}
 use Rattle.tcap_invocation.proofs.invocations.Invocations.add.Goals as goal
 
@@ -25,6 +26,7 @@ invariant_of-self-2 g c =
         wait = c.self.invariant.0.wait;
       },
       rw new (IsTimed-push c.self.inside.entries.entries c.self.inside.timers c.reserve.new.self c.self.invariant.1 c.reserve.ensures.more (c.args.id, e) refl c.reserve.ensures.kept (omega (arith, room, long))),
+      rw new (AreQueuedLast-push c.self.inside.entries.entries (c.args.id, e) refl c.self.invariant.2),
     )
 
 pub returns-clause-ok : goal.returns-clause-ok

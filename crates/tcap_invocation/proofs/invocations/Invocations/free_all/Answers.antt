@@ -2,6 +2,7 @@ use Rattle.std.proofs.Common.{refl, rules, filter, arith, ◌≡◌}
 use Rattle.std.proofs.lemmas.Map.Made.{filter_same_pairs}
 use Rattle.tcap_invocation.specs.Lapses.{is_held}
 use Rattle.tcap_invocation.proofs.OrderLemmas.{AreInOrder-filter}
+use Rattle.tcap_invocation.proofs.QueuedLemmas.{AreQueuedLast-filter}
 use Rattle.tcap_invocation.proofs.TiedLemmas.{IsTimed-held}
 use Rattle.tcap_invocation.proofs.invocations.Invocations.free_all.Goals as goal
 
@@ -15,6 +16,7 @@ invariant_of-self g c =
         wait = c.self.invariant.0.wait;
       },
       rw left (IsTimed-held c.self.inside.entries.entries c.self.inside.timers c.end_waits.new.self c.self.invariant.1 (omega (arith, room)) c.args.clock c.end_waits.ensures.timers),
+      rw left (AreQueuedLast-filter _ _ c.self.invariant.2),
     )
 
 pub returns : goal.returns

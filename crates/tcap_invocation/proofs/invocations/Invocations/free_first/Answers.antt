@@ -1,9 +1,7 @@
-use Rattle.std.proofs.Common.{◌≡◌, ap, sym, subst, rules, tests, filter, false, None, Some, List}
-use Rattle.tcap_invocation.specs.declared.invocations.timers.Timer.{Timer}
-use Rattle.tcap_invocation.specs.Invocations.{Row, entry_at, without}
-use Rattle.tcap_invocation.specs.Lapses.{is_held}
+use Rattle.std.proofs.Common.{◌≡◌, ap, subst, rules, tests, filter, false, None, Some, List}
+use Rattle.tcap_invocation.specs.Invocations.{Row, entry_at}
 use Rattle.tcap_invocation.specs.Order.{first_of}
-use Rattle.tcap_invocation.specs.TimerList.{timers_at, has_come, is_over}
+use Rattle.tcap_invocation.specs.TimerList.{has_come, is_over}
 use Rattle.tcap_invocation.proofs.OverLemmas.{over-entry, held-without, held-none}
 use Rattle.tcap_invocation.proofs.TimelyLemmas.{held-all}
 use Rattle.tcap_invocation.proofs.invocations.Invocations.free_first.Goals as goal

@@ -6,6 +6,7 @@ use Rattle.tcap_invocation.specs.Lapses.{stays, told_at}
 use Rattle.tcap_invocation.specs.TimerList.{told_of_timer}
 use Rattle.tcap_invocation.proofs.OrderLemmas.{AreInOrder-filter}
 use Rattle.tcap_invocation.proofs.TimelyLemmas.{told_at-timers, told_at-some}
+use Rattle.tcap_invocation.proofs.QueuedLemmas.{AreQueuedLast-filter}
 use Rattle.tcap_invocation.proofs.TiedLemmas.{IsTimed-stays}
 use Rattle.tcap_invocation.proofs.ListLemmas.{OnErr-of}
 use Rattle.tcap_invocation.proofs.invocations.Invocations.lapse.Goals as goal
@@ -20,6 +21,7 @@ invariant_of-self g c =
         wait = c.self.invariant.0.wait;
       },
       rw left (IsTimed-stays c.self.inside.entries.entries c.self.inside.timers c.expire.new.self c.self.invariant.1 (omega (arith, room)) c.args.clock c.expire.ensures.timers),
+      rw left (AreQueuedLast-filter _ _ c.self.invariant.2),
     )
 
 pub returns-clause-list : goal.returns-clause-list
