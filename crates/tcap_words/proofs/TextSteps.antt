@@ -11,3 +11,10 @@ module _ {T E : Type 0} (r : Result T E) where
 
 pub all_three : (old first second new a b c : List ℕ) → first ≡ old ++ a → second ≡ first ++ b → new ≡ second ++ c → new ≡ old ++ (a ++ (b ++ c))
 all_three = after_two {T = ℕ} {E = ℕ} (Ok 0)
+
+-- four parts were added, and one after them
+pub after_four : {T E : Type 0} (r : Result T E) (old first new a b c d e : List ℕ) → first ≡ old ++ (a ++ (b ++ (c ++ d))) → OnOk r (new ≡ first ++ e) → OnOk r (new ≡ old ++ (a ++ (b ++ (c ++ (d ++ e)))))
+after_four r old first new a b c d e p h =
+    let three : (b ++ (c ++ d)) ++ e ≡ b ++ (c ++ (d ++ e)) = append_assoc b (c ++ d) e ∙ ap (λ (w : List ℕ). b ++ w) (append_assoc c d e) in
+    let four : (a ++ (b ++ (c ++ d))) ++ e ≡ a ++ (b ++ (c ++ (d ++ e))) = append_assoc a (b ++ (c ++ d)) e ∙ ap (λ (w : List ℕ). a ++ w) three in
+    on_ok_weaker r (λ q. q ∙ (ap (λ (w : List ℕ). w ++ e) p ∙ (append_assoc old (a ++ (b ++ (c ++ d))) e ∙ ap (λ (w : List ℕ). old ++ w) four))) h

@@ -7,13 +7,13 @@ ghost use Rattle.tcap_component.specs.Component.CodeParts.{global};
 ghost use Rattle.tcap_component.specs.Component.ComponentParts.{invoke, error_back, reject_back};
 ghost use Rattle.tcap_words.specs.ComponentText.{identifier_words, code_words, coded_words, body_words, kind_words, problem_words, component_words, fault_words};
 
-use crate::text::add_optional_octets;
+use crate::text::{add_hex, add_optional_octets};
 use ber_core::OutOfMemory;
 use std::alloc::Allocator;
 use tcap_component::{Body, Code, Component, ComponentFault, Kind, Problem};
 
 /// Adds an identifier, or `-` where there is none.
-fn add_identifier<A: Allocator + Copy>(
+pub fn add_identifier<A: Allocator + Copy>(
     text: &mut String<A>,
     id: Option<i8>,
 ) -> Result<(), OutOfMemory>
@@ -39,35 +39,25 @@ pub fn identifier_text<A: Allocator + Copy>(
 }
 
 /// Adds the words of a global code.
-fn add_global<A: Allocator + Copy>(
-    alloc: A,
-    text: &mut String<A>,
-    octets: &[u8],
-) -> Result<(), OutOfMemory>
+fn add_global<A: Allocator + Copy>(text: &mut String<A>, octets: &[u8]) -> Result<(), OutOfMemory>
     ensures { OnOk result (string_bytes text.new ≡ string_bytes text.old ++ code_words (global octets.now)) }
 {
-    let hex = hex::encode(alloc, octets)?;
-    write!(text, "global {hex}")?;
-    Ok(())
+    text.push_str("global ")?;
+    add_hex(text, octets)
 }
 
 /// Adds the words of a code.
-fn add_code<A: Allocator + Copy>(
-    alloc: A,
-    text: &mut String<A>,
-    code: &Code<'_>,
-) -> Result<(), OutOfMemory>
+fn add_code<A: Allocator + Copy>(text: &mut String<A>, code: &Code<'_>) -> Result<(), OutOfMemory>
     ensures { OnOk result (string_bytes text.new ≡ string_bytes text.old ++ code_words (code_parts code.now)) }
 {
     match code {
         Code::Local(number) => Ok(write!(text, "local {number}")?),
-        Code::Global(octets) => add_global(alloc, text, *octets),
+        Code::Global(octets) => add_global(text, *octets),
     }
 }
 
 /// Adds the words of a code and a parameter, behind the name of the code.
-fn add_coded<A: Allocator + Copy>(
-    alloc: A,
+pub fn add_coded<A: Allocator + Copy>(
     text: &mut String<A>,
     code: &Code<'_>,
     parameter: Option<&[u8]>,
@@ -75,9 +65,9 @@ fn add_coded<A: Allocator + Copy>(
     ensures { OnOk result (string_bytes text.new ≡ string_bytes text.old
         ++ coded_words (code_parts code.now) (option_copied parameter.entry)) }
 {
-    add_code(alloc, text, code)?;
+    add_code(text, code)?;
     text.push_str(" param ")?;
-    add_optional_octets(alloc, text, parameter)
+    add_optional_octets(text, parameter)
 }
 
 /// The words of a code and a parameter, behind the name of the code.
@@ -90,13 +80,12 @@ pub fn coded_text<A: Allocator + Copy>(
         ≡ coded_words (code_parts code.now) (option_copied parameter.entry)) }
 {
     let mut words = String::new(alloc);
-    add_coded(alloc, &mut words, code, parameter)?;
+    add_coded(&mut words, code, parameter)?;
     Ok(words)
 }
 
 /// Adds the words of a result's body, `-` twice where there is none.
-fn add_body<A: Allocator + Copy>(
-    alloc: A,
+pub fn add_body<A: Allocator + Copy>(
     text: &mut String<A>,
     body: &Option<Body<'_>>,
 ) -> Result<(), OutOfMemory>
@@ -104,7 +93,7 @@ fn add_body<A: Allocator + Copy>(
         ++ body_words (option_map body_parts body.now)) }
 {
     match body {
-        Some(body) => add_coded(alloc, text, &body.code, body.parameter),
+        Some(body) => add_coded(text, &body.code, body.parameter),
         None => Ok(text.push_str("- param -")?),
     }
 }
@@ -117,7 +106,7 @@ pub fn body_text<A: Allocator + Copy>(
     ensures { IfOk result (λ words. string_bytes words ≡ body_words (option_map body_parts body.now)) }
 {
     let mut words = String::new(alloc);
-    add_body(alloc, &mut words, body)?;
+    add_body(&mut words, body)?;
     Ok(words)
 }
 
@@ -134,7 +123,7 @@ fn kind_text(kind: Kind) -> &'static str
 }
 
 /// Adds the words of a problem: its kind and its code.
-fn add_problem<A: Allocator + Copy>(
+pub fn add_problem<A: Allocator + Copy>(
     text: &mut String<A>,
     problem: Problem,
 ) -> Result<(), OutOfMemory>
@@ -160,7 +149,6 @@ pub fn problem_text<A: Allocator + Copy>(
 
 /// Adds the words of an Invoke.
 fn add_invoke<A: Allocator + Copy>(
-    alloc: A,
     text: &mut String<A>,
     id: i8,
     linked: Option<i8>,
@@ -173,12 +161,11 @@ fn add_invoke<A: Allocator + Copy>(
     write!(text, "invoke {id} linked ")?;
     add_identifier(text, linked)?;
     text.push_str(" op ")?;
-    add_coded(alloc, text, code, parameter)
+    add_coded(text, code, parameter)
 }
 
 /// Adds the words of a result, by its name.
 fn add_result<A: Allocator + Copy>(
-    alloc: A,
     text: &mut String<A>,
     name: &str,
     id: i8,
@@ -188,12 +175,11 @@ fn add_result<A: Allocator + Copy>(
         ++ (codes " " ++ (signed_decimal id ++ (codes " op " ++ body_words (option_map body_parts body.now)))))) }
 {
     write!(text, "{name} {id} op ")?;
-    add_body(alloc, text, body)
+    add_body(text, body)
 }
 
 /// Adds the words of an error.
 fn add_error<A: Allocator + Copy>(
-    alloc: A,
     text: &mut String<A>,
     id: i8,
     code: &Code<'_>,
@@ -203,7 +189,7 @@ fn add_error<A: Allocator + Copy>(
         ++ component_words (error_back id (code_parts code.now) (option_copied parameter.entry))) }
 {
     write!(text, "error {id} code ")?;
-    add_coded(alloc, text, code, parameter)
+    add_coded(text, code, parameter)
 }
 
 /// Adds the words of a Reject.
@@ -223,7 +209,6 @@ fn add_reject<A: Allocator + Copy>(
 
 /// Adds the words of a component.
 pub(crate) fn add_component<A: Allocator + Copy>(
-    alloc: A,
     text: &mut String<A>,
     component: &Component<'_>,
 ) -> Result<(), OutOfMemory>
@@ -236,14 +221,14 @@ pub(crate) fn add_component<A: Allocator + Copy>(
             linked,
             code,
             parameter,
-        } => add_invoke(alloc, text, *id, *linked, code, *parameter),
-        Component::ResultLast { id, body } => add_result(alloc, text, "result last", *id, body),
-        Component::ResultMore { id, body } => add_result(alloc, text, "result more", *id, body),
+        } => add_invoke(text, *id, *linked, code, *parameter),
+        Component::ResultLast { id, body } => add_result(text, "result last", *id, body),
+        Component::ResultMore { id, body } => add_result(text, "result more", *id, body),
         Component::ErrorBack {
             id,
             code,
             parameter,
-        } => add_error(alloc, text, *id, code, *parameter),
+        } => add_error(text, *id, code, *parameter),
         Component::RejectBack { id, problem } => add_reject(text, *id, *problem),
     }
 }

@@ -1,43 +1,62 @@
 //! The words of a dialogue portion.
 
-ghost use Rattle.std.specs.Prelude.{◌≡◌, ◌++◌, OnOk, IfOk, string_bytes};
+ghost use Rattle.std.specs.Prelude.{◌≡◌, ◌++◌, codes, OnOk, IfOk, string_bytes};
+ghost use Rattle.std.specs.Fmt.{decimal};
 ghost use Rattle.tcap_pdu.specs.DialogueSpelling.{result_number};
 ghost use Rattle.tcap_pdu.specs.DialogueSpelling.PduValue.{aare, abrt, foreign};
 ghost use Rattle.tcap_pdu.specs.DialogueViews.{pdu_value, source};
-ghost use Rattle.tcap_words.specs.Text.{inner_line};
+ghost use Rattle.hex.specs.Hex.{encode_lower};
+ghost use Rattle.tcap_words.specs.Text.{answer_words, inner_line, octets_words};
 ghost use Rattle.tcap_words.specs.DialogueText.{request_words, diagnostic_words, source_words, pdu_words, portion_words};
 
-use crate::text::{octets_or_dash, yes_or_no};
+use crate::text::{add_hex, add_octets_or_dash, yes_or_no};
 use ber_core::OutOfMemory;
 use std::alloc::Allocator;
 use tcap_pdu::{Diagnostic, DialoguePdu, read_dialogue};
 
-/// The words of an AARQ or an AUDT, by its name.
-fn request_text<A: Allocator + Copy>(
-    alloc: A,
+/// Adds how a dialogue PDU of this name opens: with its version and its context.
+fn add_opening<A: Allocator + Copy>(
+    text: &mut String<A>,
+    name: &str,
+    version1: bool,
+    context: &[u8],
+) -> Result<(), OutOfMemory>
+    ensures { OnOk result (string_bytes text.new ≡ string_bytes text.old ++ (name.now ++ (codes " version "
+        ++ (answer_words version1 ++ (codes " context " ++ encode_lower context.now))))) }
+{
+    text.push_str(name)?;
+    text.push_str(" version ")?;
+    text.push_str(yes_or_no(version1))?;
+    text.push_str(" context ")?;
+    add_hex(text, context)
+}
+
+/// Adds the words of an AARQ or an AUDT, by its name.
+fn add_request<A: Allocator + Copy>(
+    text: &mut String<A>,
     name: &str,
     version1: bool,
     context: &[u8],
     info: &[u8],
-) -> Result<String<A>, OutOfMemory>
-    ensures { IfOk result (λ words. string_bytes words ≡ name.now ++ request_words version1 context.now info.now) }
+) -> Result<(), OutOfMemory>
+    ensures { OnOk result (string_bytes text.new ≡ string_bytes text.old
+        ++ (name.now ++ request_words version1 context.now info.now)) }
 {
-    let version = yes_or_no(version1);
-    let context = hex::encode(alloc, context)?;
-    let info = octets_or_dash(alloc, info)?;
-    Ok(format!(in alloc; "{name} version {version} context {context} info {info}")?)
+    add_opening(text, name, version1, context)?;
+    text.push_str(" info ")?;
+    add_octets_or_dash(text, info)
 }
 
-/// The words of a diagnostic.
-fn diagnostic_text<A: Allocator + Copy>(
-    alloc: A,
+/// Adds the words of a diagnostic.
+fn add_diagnostic<A: Allocator + Copy>(
+    text: &mut String<A>,
     diagnostic: Diagnostic,
-) -> Result<String<A>, OutOfMemory>
-    ensures { IfOk result (λ words. string_bytes words ≡ diagnostic_words (source diagnostic)) }
+) -> Result<(), OutOfMemory>
+    ensures { OnOk result (string_bytes text.new ≡ string_bytes text.old ++ diagnostic_words (source diagnostic)) }
 {
     match diagnostic {
-        Diagnostic::User(number) => Ok(format!(in alloc; "user {number}")?),
-        Diagnostic::Provider(number) => Ok(format!(in alloc; "provider {number}")?),
+        Diagnostic::User(number) => Ok(write!(text, "user {number}")?),
+        Diagnostic::Provider(number) => Ok(write!(text, "provider {number}")?),
     }
 }
 
@@ -48,26 +67,38 @@ fn result_number(accepted: bool) -> u8
     if accepted { 0 } else { 1 }
 }
 
-/// The words of an AARE.
-fn response_text<A: Allocator + Copy>(
-    alloc: A,
+/// Adds what follows the context in an AARE: its result, its diagnostic and its information.
+fn add_answer<A: Allocator + Copy>(
+    text: &mut String<A>,
+    accepted: bool,
+    diagnostic: Diagnostic,
+    info: &[u8],
+) -> Result<(), OutOfMemory>
+    ensures { OnOk result (string_bytes text.new ≡ string_bytes text.old ++ (codes " result "
+        ++ (decimal (result_number accepted) ++ (codes " "
+        ++ (diagnostic_words (source diagnostic) ++ (codes " info " ++ octets_words info.now)))))) }
+{
+    let answer = result_number(accepted);
+    write!(text, " result {answer} ")?;
+    add_diagnostic(text, diagnostic)?;
+    text.push_str(" info ")?;
+    add_octets_or_dash(text, info)
+}
+
+/// Adds the words of an AARE.
+fn add_response<A: Allocator + Copy>(
+    text: &mut String<A>,
     version1: bool,
     context: &[u8],
     accepted: bool,
     diagnostic: Diagnostic,
     info: &[u8],
-) -> Result<String<A>, OutOfMemory>
-    ensures { IfOk result (λ words. string_bytes words
-        ≡ pdu_words (aare version1 context.now accepted (source diagnostic) info.now)) }
+) -> Result<(), OutOfMemory>
+    ensures { OnOk result (string_bytes text.new ≡ string_bytes text.old
+        ++ pdu_words (aare version1 context.now accepted (source diagnostic) info.now)) }
 {
-    let version = yes_or_no(version1);
-    let context = hex::encode(alloc, context)?;
-    let answer = result_number(accepted);
-    let diagnostic = diagnostic_text(alloc, diagnostic)?;
-    let info = octets_or_dash(alloc, info)?;
-    Ok(format!(in alloc;
-        "aare version {version} context {context} result {answer} {diagnostic} info {info}"
-    )?)
+    add_opening(text, "aare", version1, context)?;
+    add_answer(text, accepted, diagnostic, info)
 }
 
 /// Who aborts: `user` or `provider`.
@@ -77,25 +108,59 @@ fn source_name(by_provider: bool) -> &'static str
     if by_provider { "provider" } else { "user" }
 }
 
-/// The words of an ABRT.
-fn abort_text<A: Allocator + Copy>(
-    alloc: A,
+/// Adds the words of an ABRT.
+fn add_abort<A: Allocator + Copy>(
+    text: &mut String<A>,
     by_provider: bool,
     info: &[u8],
-) -> Result<String<A>, OutOfMemory>
-    ensures { IfOk result (λ words. string_bytes words ≡ pdu_words (abrt by_provider info.now)) }
+) -> Result<(), OutOfMemory>
+    ensures { OnOk result (string_bytes text.new ≡ string_bytes text.old ++ pdu_words (abrt by_provider info.now)) }
 {
-    let by = source_name(by_provider);
-    let info = octets_or_dash(alloc, info)?;
-    Ok(format!(in alloc; "abrt {by} info {info}")?)
+    text.push_str("abrt ")?;
+    text.push_str(source_name(by_provider))?;
+    text.push_str(" info ")?;
+    add_octets_or_dash(text, info)
 }
 
-/// The words of an EXTERNAL that is foreign.
-fn foreign_text<A: Allocator + Copy>(alloc: A, external: &[u8]) -> Result<String<A>, OutOfMemory>
-    ensures { IfOk result (λ words. string_bytes words ≡ pdu_words (foreign external.now)) }
+/// Adds the words of an EXTERNAL that is foreign.
+fn add_foreign<A: Allocator + Copy>(
+    text: &mut String<A>,
+    external: &[u8],
+) -> Result<(), OutOfMemory>
+    ensures { OnOk result (string_bytes text.new ≡ string_bytes text.old ++ pdu_words (foreign external.now)) }
 {
-    let external = hex::encode(alloc, external)?;
-    Ok(format!(in alloc; "foreign {external}")?)
+    text.push_str("foreign ")?;
+    add_hex(text, external)
+}
+
+/// Adds the words of a dialogue PDU.
+pub fn add_pdu<A: Allocator + Copy>(
+    text: &mut String<A>,
+    pdu: &DialoguePdu<'_>,
+) -> Result<(), OutOfMemory>
+    ensures { OnOk result (string_bytes text.new ≡ string_bytes text.old ++ pdu_words (pdu_value pdu.now)) }
+{
+    match pdu {
+        DialoguePdu::Aarq {
+            version1,
+            context,
+            info,
+        } => add_request(text, "aarq", *version1, context, info),
+        DialoguePdu::Audt {
+            version1,
+            context,
+            info,
+        } => add_request(text, "audt", *version1, context, info),
+        DialoguePdu::Aare {
+            version1,
+            context,
+            accepted,
+            diagnostic,
+            info,
+        } => add_response(text, *version1, *context, *accepted, *diagnostic, info),
+        DialoguePdu::Abrt { by_provider, info } => add_abort(text, *by_provider, info),
+        DialoguePdu::Foreign { external } => add_foreign(text, *external),
+    }
 }
 
 /// The words of a dialogue PDU.
@@ -105,43 +170,23 @@ pub fn pdu_text<A: Allocator + Copy>(
 ) -> Result<String<A>, OutOfMemory>
     ensures { IfOk result (λ words. string_bytes words ≡ pdu_words (pdu_value pdu.now)) }
 {
-    match pdu {
-        DialoguePdu::Aarq {
-            version1,
-            context,
-            info,
-        } => request_text(alloc, "aarq", *version1, context, info),
-        DialoguePdu::Audt {
-            version1,
-            context,
-            info,
-        } => request_text(alloc, "audt", *version1, context, info),
-        DialoguePdu::Aare {
-            version1,
-            context,
-            accepted,
-            diagnostic,
-            info,
-        } => response_text(alloc, *version1, *context, *accepted, *diagnostic, info),
-        DialoguePdu::Abrt { by_provider, info } => abort_text(alloc, *by_provider, info),
-        DialoguePdu::Foreign { external } => foreign_text(alloc, *external),
-    }
+    let mut words = String::new(alloc);
+    add_pdu(&mut words, pdu)?;
+    Ok(words)
 }
 
 /// Adds the line under a dialogue portion with these contents.
 pub(crate) fn add_portion<A: Allocator + Copy>(
-    alloc: A,
     text: &mut String<A>,
     content: &[u8],
 ) -> Result<(), OutOfMemory>
     ensures { OnOk result (string_bytes text.new ≡ string_bytes text.old ++ inner_line (portion_words content.now)) }
 {
+    text.push_str("    ")?;
     match read_dialogue(content) {
-        Ok(pdu) => {
-            let words = pdu_text(alloc, &pdu)?;
-            write!(text, "    {words}\n")?;
-        }
-        Err(_) => write!(text, "    faulty\n")?,
+        Ok(pdu) => add_pdu(text, &pdu)?,
+        Err(_) => text.push_str("faulty")?,
     }
+    text.push_str("\n")?;
     Ok(())
 }

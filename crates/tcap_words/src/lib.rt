@@ -16,8 +16,11 @@ mod text;
 mod verdict;
 mod writing;
 
-pub use component_text::{body_text, coded_text, identifier_text, problem_text};
-pub use dialogue_text::pdu_text;
+pub use component_text::{
+    add_body, add_coded, add_identifier, add_problem, body_text, coded_text, identifier_text,
+    problem_text,
+};
+pub use dialogue_text::{add_pdu, pdu_text};
 pub use judge::{
     add_verdict, has_good_reason, judge_message, read_message, verdict_on, verdict_text,
 };
@@ -25,6 +28,9 @@ pub use portions::{add_destination, add_dialogue, add_origin, add_portions};
 pub use rewrite::{CanonFault, assemble, rewrite_components, rewrite_portion, spell_frame};
 pub use shown::Shown;
 pub use spelling::{decode_hex, hex_octets};
-pub use text::{add_line, add_number, octets_or_dash, optional_octets_or_dash};
+pub use text::{
+    add_hex, add_line, add_number, add_octets_or_dash, add_optional_octets, octets_or_dash,
+    optional_octets_or_dash,
+};
 pub use verdict::Verdict;
 pub use writing::{WriteFailed, write_text};

@@ -25,7 +25,7 @@ pub fn add_origin<A: Allocator + Copy>(
 ) -> Result<(), OutOfMemory>
     ensures { OnOk result (string_bytes text.new ≡ string_bytes text.old ++ origin_line id.now) }
 {
-    add_octets(alloc, text, "  otid", id.octets())
+    add_octets(text, "  otid", id.octets())
 }
 
 /// Adds the line of a destination transaction identifier.
@@ -36,7 +36,7 @@ pub fn add_destination<A: Allocator + Copy>(
 ) -> Result<(), OutOfMemory>
     ensures { OnOk result (string_bytes text.new ≡ string_bytes text.old ++ destination_line id.now) }
 {
-    add_octets(alloc, text, "  dtid", id.octets())
+    add_octets(text, "  dtid", id.octets())
 }
 
 /// Adds the lines of a dialogue portion, where there is one.
@@ -51,7 +51,7 @@ pub fn add_dialogue<A: Allocator + Copy>(
     match dialogue {
         Some(content) => {
             add_number(text, "  dialogue", content.len())?;
-            add_portion(alloc, text, content)
+            add_portion(text, content)
         }
         None => Ok(()),
     }
@@ -68,7 +68,7 @@ fn add_item<A: Allocator + Copy>(
 {
     text.push_str("    ")?;
     match item {
-        Ok(component) => add_component(alloc, text, component)?,
+        Ok(component) => add_component(text, component)?,
         Err(fault) => add_fault(text, *fault)?,
     }
     text.push_str("\n")?;

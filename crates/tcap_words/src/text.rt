@@ -1,6 +1,7 @@
 //! Lines of a text.
 
-ghost use Rattle.std.specs.Prelude.{◌≡◌, ◌++◌, OnOk, IfOk, string_bytes, option_copied};
+ghost use Rattle.std.specs.Prelude.{◌≡◌, ◌++◌, ◌∷◌, [], ◌<◌, slice_index, OnOk, IfOk, string_bytes, option_copied};
+ghost use Rattle.hex.specs.Hex.{encode_lower, lower_digits};
 ghost use Rattle.tcap_words.specs.Text.{line, octets_line, number_line, octets_words, optional_octets_words, answer_words};
 
 use ber_core::OutOfMemory;
@@ -14,17 +15,70 @@ pub fn add_line<A: Allocator + Copy>(text: &mut String<A>, words: &str) -> Resul
     Ok(())
 }
 
+/// A hexadecimal digit, in lower case, by its value.
+fn digit(value: u8) -> &'static str
+    requires { value < 16 }
+    ensures { result.now ≡ slice_index lower_digits value ∷ [] }
+{
+    match value {
+        0 => "0",
+        1 => "1",
+        2 => "2",
+        3 => "3",
+        4 => "4",
+        5 => "5",
+        6 => "6",
+        7 => "7",
+        8 => "8",
+        9 => "9",
+        10 => "a",
+        11 => "b",
+        12 => "c",
+        13 => "d",
+        14 => "e",
+        _ => "f",
+    }
+}
+
+/// Adds octets in hexadecimal, digit by digit.
+fn add_digits<A: Allocator + Copy>(text: &mut String<A>, octets: &[u8]) -> Result<(), OutOfMemory>
+    ensures { OnOk result (string_bytes text.new ≡ string_bytes text.old ++ encode_lower octets.now) }
+{
+    for octet in octets {
+        text.push_str(digit(*octet / 16))?;
+        text.push_str(digit(*octet % 16))?;
+    }
+    Ok(())
+}
+
+/// Up to so many octets a block of memory costs more than it saves.
+const FEW: usize = 12;
+
+/// Adds octets in hexadecimal, lower case, two digits an octet. A few go digit by digit where they are to
+/// stand, at 28 instructions an octet; more of them are made in a block of their own, at 10 an octet and
+/// some 200 for the block.
+pub fn add_hex<A: Allocator + Copy>(text: &mut String<A>, octets: &[u8]) -> Result<(), OutOfMemory>
+    ensures { OnOk result (string_bytes text.new ≡ string_bytes text.old ++ encode_lower octets.now) }
+{
+    if octets.len() <= FEW {
+        return add_digits(text, octets);
+    }
+    let hex = hex::encode(*text.allocator(), octets)?;
+    Ok(text.push_str(hex.as_str())?)
+}
+
 /// Adds a line of a name and octets in hexadecimal.
 pub(crate) fn add_octets<A: Allocator + Copy>(
-    alloc: A,
     text: &mut String<A>,
     name: &str,
     octets: &[u8],
 ) -> Result<(), OutOfMemory>
     ensures { OnOk result (string_bytes text.new ≡ string_bytes text.old ++ octets_line name.now octets.now) }
 {
-    let hex = hex::encode(alloc, octets)?;
-    write!(text, "{name} {hex}\n")?;
+    text.push_str(name)?;
+    text.push_str(" ")?;
+    add_hex(text, octets)?;
+    text.push_str("\n")?;
     Ok(())
 }
 
@@ -53,9 +107,21 @@ pub fn octets_or_dash<A: Allocator + Copy>(
     Ok(hex::encode(alloc, octets)?)
 }
 
+/// Adds octets in hexadecimal, `-` where there are none.
+pub fn add_octets_or_dash<A: Allocator + Copy>(
+    text: &mut String<A>,
+    octets: &[u8],
+) -> Result<(), OutOfMemory>
+    ensures { OnOk result (string_bytes text.new ≡ string_bytes text.old ++ octets_words octets.now) }
+{
+    if octets.is_empty() {
+        return Ok(text.push_str("-")?);
+    }
+    add_hex(text, octets)
+}
+
 /// Adds octets in hexadecimal, `-` where there are none or they are absent.
-pub(crate) fn add_optional_octets<A: Allocator + Copy>(
-    alloc: A,
+pub fn add_optional_octets<A: Allocator + Copy>(
     text: &mut String<A>,
     octets: Option<&[u8]>,
 ) -> Result<(), OutOfMemory>
@@ -63,13 +129,9 @@ pub(crate) fn add_optional_octets<A: Allocator + Copy>(
         ++ optional_octets_words (option_copied octets.entry)) }
 {
     match octets {
-        Some(octets) => {
-            let words = octets_or_dash(alloc, octets)?;
-            text.push_str(words.as_str())?;
-        }
-        None => text.push_str("-")?,
+        Some(octets) => add_octets_or_dash(text, octets),
+        None => Ok(text.push_str("-")?),
     }
-    Ok(())
 }
 
 /// Octets in hexadecimal, `-` where there are none or they are absent.
