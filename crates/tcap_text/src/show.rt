@@ -97,6 +97,13 @@ fn add_message<A: Allocator + Copy>(
     }
 }
 
+/// How much room is taken at once for the text of a message of this length: two digits an octet and some
+/// words, which is the whole of most texts. A long text grows from there, so that a long message with a
+/// short text takes no more.
+fn likely_len(len: usize) -> usize {
+    len.saturating_mul(2).saturating_add(96).min(1_024)
+}
+
 /// The text of `show`: the message that the bytes are, line by line, or the verdict on them alone.
 ///
 /// ```rust
@@ -109,7 +116,10 @@ pub fn show_text<A: Allocator + Copy>(alloc: A, bytes: &[u8]) -> Result<Shown<A>
 {
     let mut text = String::new(alloc);
     let good = match read_message(bytes) {
-        Ok(frame) => add_message(alloc, &mut text, &frame)?,
+        Ok(frame) => {
+            text.reserve(likely_len(bytes.len()))?;
+            add_message(alloc, &mut text, &frame)?
+        }
         Err(verdict) => {
             add_verdict(&mut text, verdict)?;
             verdict.is_good()

@@ -10,14 +10,14 @@ ghost use Rattle.tcap_text.specs.StreamRun.{IsStreamed, IsUnstreamed};
 
 use crate::fault::PlayFault;
 use crate::input::{MOST_READS, PIECE};
-use crate::show::check_text;
 use crate::stream_text::last_text;
 use ber_core::{Feed, FeedFault};
 use std::alloc::Allocator;
 use std::io::{Read, Write};
-use tcap_words::write_text;
+use tcap_words::{verdict_line, verdict_on, verdict_text, write_text};
 
-/// Writes the line of a message's verdict, and tells whether it is good.
+/// Writes the line of a message's verdict, and tells whether it is good. No text is made of a line that is
+/// known beforehand.
 fn write_verdict<A: Allocator + Copy, W: Write>(
     alloc: A,
     message: &[u8],
@@ -27,9 +27,15 @@ fn write_verdict<A: Allocator + Copy, W: Write>(
         (λ good. Appends (W.contents writer.old) (W.contents writer.new) (check_text_of message.now) × (good ≡ show_is_good message.now))
         (λ fault. IsUntold (message.now ∷ []) (W.contents writer.old) (W.contents writer.new) fault) }
 {
-    let checked = check_text(alloc, message)?;
-    write_text(writer, checked.text.as_slice())?;
-    Ok(checked.good)
+    let verdict = verdict_on(message);
+    match verdict_line(verdict) {
+        Some(line) => write_text(writer, line.as_bytes())?,
+        None => {
+            let checked = verdict_text(alloc, verdict)?;
+            write_text(writer, checked.text.as_slice())?
+        }
+    }
+    Ok(verdict.is_good())
 }
 
 /// Writes the line of each message's verdict, and tells whether all are good.

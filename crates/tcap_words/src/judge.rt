@@ -157,6 +157,21 @@ pub fn verdict_on(bytes: &[u8]) -> Verdict
     }
 }
 
+/// The line of a verdict, None where it has a number: a line that is known beforehand takes no memory.
+pub fn verdict_line(verdict: Verdict) -> Option<&'static str>
+    ensures { IfSome result (λ words. words.now ≡ line (verdict_words verdict)) }
+{
+    match verdict {
+        Verdict::TooLong => Some("fault too long\n"),
+        Verdict::UnknownType => Some("fault unknown type\n"),
+        Verdict::BadlyFormatted => Some("fault badly formatted\n"),
+        Verdict::Incorrect => Some("fault incorrect\n"),
+        Verdict::Dialogue => Some("fault dialogue\n"),
+        Verdict::Component(_) => None,
+        Verdict::Good => Some("good\n"),
+    }
+}
+
 /// Adds the line of a verdict.
 pub fn add_verdict<A: Allocator + Copy>(
     text: &mut String<A>,
@@ -184,6 +199,9 @@ pub fn verdict_text<A: Allocator + Copy>(
     ensures good { IfOk result (λ shown. shown.good ≡ is_good verdict) }
 {
     let mut text = String::new(alloc);
-    add_verdict(&mut text, verdict)?;
+    match verdict_line(verdict) {
+        Some(words) => text.push_str(words)?,
+        None => add_verdict(&mut text, verdict)?,
+    }
     Ok(Shown::of(text, verdict))
 }

@@ -22,7 +22,8 @@ pub use component_text::{
 };
 pub use dialogue_text::{add_pdu, pdu_text};
 pub use judge::{
-    add_verdict, has_good_reason, judge_message, read_message, verdict_on, verdict_text,
+    add_verdict, has_good_reason, judge_message, read_message, verdict_line, verdict_on,
+    verdict_text,
 };
 pub use portions::{add_destination, add_dialogue, add_origin, add_portions};
 pub use rewrite::{CanonFault, assemble, rewrite_components, rewrite_portion, spell_frame};

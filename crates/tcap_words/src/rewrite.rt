@@ -110,7 +110,8 @@ pub fn rewrite_components<A: Allocator + Copy>(
     ensures ok { IfOk result (λ octets. octets.items ≡ canonical_components components.now) }
     ensures err { IfErr result (λ fault. IsCanonFault (canonical_components components.now) fault) }
 {
-    let mut octets = Vec::new(alloc);
+    // A component is seldom longer in the canonical form, so the vector seldom grows.
+    let mut octets = Vec::with_capacity(alloc, components.len())?;
     for item in Components::new(components) {
         append_item(alloc, &mut octets, &item)?;
     }
