@@ -1,5 +1,6 @@
 //! Components: Invoke, Return Result Last, Return Result Not Last, Return Error, Reject (Q.773, Component type).
 
+pub mod append;
 pub mod length;
 pub mod parts;
 pub mod range;

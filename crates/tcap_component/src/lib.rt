@@ -11,7 +11,8 @@ pub mod laws;
 mod problem;
 mod tag;
 
-pub use component::length::{component_fault, component_len};
+pub use component::append::append_component;
+pub use component::length::{component_fault, component_len, judge_component};
 pub use component::read::read_component;
 pub use component::reject::{MAX_REJECT, reject_octets};
 pub use component::write::write_component;

@@ -1,6 +1,6 @@
 //! Why a component can't be written, and how long it is written; no memory is taken.
 
-ghost use Rattle.std.specs.Prelude.{◌≡◌, ℕ, ◌+◌, ◌<◌, ◌≤◌, ◌^◌, length, ◌↔◌, option_copied, IsNone, IfSome, IfNone, IfOk, IfErr};
+ghost use Rattle.std.specs.Prelude.{◌≡◌, ℕ, ◌+◌, ◌<◌, ◌≤◌, ◌^◌, length, ◌↔◌, option_copied, None, Some, IsNone, IfSome, IfNone, IfOk, OnOk, IfErr};
 ghost use Rattle.ber_core.specs.Length.{length_limit};
 ghost use Rattle.std.specs.Option.{option_map};
 ghost use Rattle.ber_core.specs.Integer.{integer_octets};
@@ -236,4 +236,23 @@ pub fn component_len(component: &Component<'_>) -> Option<usize>
         Ok(len) => Some(element_len(len)),
         Err(_) => None,
     }
+}
+
+/// The length of the written component in octets, or why `write_component` refuses it for another cause
+/// than memory: BadOid, BadParameter, TooLong. It judges code and parameter once, and takes no memory.
+#[tactic(auto, using(crate::proofs::WrittenGrammar::fault_rules))]
+#[inline(always)]
+pub fn judge_component(component: &Component<'_>) -> Result<usize, WriteFault>
+    // The length of what is written, and that it can be.
+    ensures value { IfOk result (λ n. n ≡ length (written_component (component_parts component.now))) }
+    ensures ok { OnOk result (CanWriteComponent (component_parts component.now)) }
+    ensures within { IfOk result (λ n. n ≤ length_limit) }
+    // The fault that is due.
+    ensures err { IfErr result (λ f. IsWriteFault (component_parts component.now) f) }
+    // The same, computed.
+    ensures exact { IfErr result (λ f. write_fault (component_parts component.now) ≡ Some f) }
+    ensures none { OnOk result (write_fault (component_parts component.now) ≡ None) }
+{
+    let contents = checked_len(component)?;
+    Ok(element_len(contents))
 }
