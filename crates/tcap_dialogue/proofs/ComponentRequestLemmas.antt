@@ -1,12 +1,14 @@
 -- Component requests: the fault that is due, and what is answered.
-use Rattle.std.proofs.Common.{◌≡◌, ◌≢◌, ℕ, ◌<◌, ◌^◌, ◌-◌, ◌&&◌, ◌||◌, ℤ, Bool, true, false, not, nat_lt, nat_le, List, [], Option, Some, None, refl, sym, ap, subst, ◌∙◌, arith, is_some, if◌then◌else◌}
+use Rattle.std.proofs.Common.{◌≡◌, ◌≢◌, ℕ, ◌<◌, ◌^◌, ◌-◌, ◌&&◌, ◌||◌, ℤ, Bool, true, false, not, nat_lt, nat_le, List, [], Option, Some, None, refl, sym, ap, subst, ◌∙◌, arith, is_some, is_err, IfSome, Result, Err, if◌then◌else◌}
 use Rattle.std.proofs.lemmas.Bool.Decides.{nat_tests}
 use Rattle.ber_core.specs.ListReading.{items_by}
 use Rattle.tcap_pdu.specs.DialoguePartsReading.{is_information}
 use Rattle.tcap_component.specs.Component.{CodeParts, BodyParts, ComponentParts}
 use Rattle.tcap_component.specs.Written.{coded_part, has_code, has_parameter}
 use Rattle.tcap_invocation.specs.declared.class.Class.{Class}
-use Rattle.tcap_invocation.specs.Invocations.{entry_at}
+use Rattle.tcap_invocation.specs.declared.fault.AddFault.{AddFault}
+use Rattle.tcap_invocation.specs.declared.fault.AddFault.TheVariants.{BadTimeout, InUse}
+use Rattle.tcap_invocation.specs.Invocations.{entry_at, add_fault}
 use Rattle.tcap_invocation.specs.Stage.{moment_limit}
 use Rattle.tcap_model.specs.Procedures.QueueRules.{queue_limit, fits, queued}
 use Rattle.tcap_model.specs.Procedures.Refusals.{due_on, invoke_fault}
@@ -64,6 +66,15 @@ used_last false parameter used e = absurd cc
 abbrev queued_by : (code parameter room : Bool) → Option Fault
 queued_by code parameter room = if code then (if parameter then (if room then None else Some Fault.too_long) else Some Fault.bad_parameter) else Some Fault.bad_oid
 
+-- An invocation is taken in only where no fault of it is due.
+pub none-due : (o : Option AddFault) (r : Result (Unit {0}) AddFault) → is_err r ≡ false → IfSome o (λ f. r ≡ Err f) → o ≡ None
+none-due None r e h = refl
+none-due (Some f) r e h = let both : true ≡ false = sym (ap is_err h) ∙ e in absurd cc
+
+-- The tests of an invocation that is taken in, in their order.
+abbrev added_by : (timely used : Bool) → Option AddFault
+added_by timely used = if timely then (if used then Some InUse else None) else Some BadTimeout
+
 due_early : (timely code parameter used spent room : Bool) (f : Fault) → Some f ≡ checked_by timely code parameter used → Some f ≡ due_by timely code parameter used spent room
 due_early false code parameter used spent room f e = e
 due_early true false parameter used spent room f e = e
@@ -78,6 +89,15 @@ due_late true true false used spent room e s = let none : None ≡ Some Fault.ba
 due_late true true true true spent room e s = let none : None ≡ Some Fault.invoke_id_in_use = rw information-none at e in absurd cc
 due_late true true true false spent true e s = rw (information-none, s) refl
 due_late true true true false spent false e s = rw (information-none, s) refl
+
+-- An Invoke that is taken in and fits.
+taken_by : (timely code parameter used spent room : Bool) → added_by timely used ≡ None → spent ≡ false → queued_by code parameter room ≡ None → due_by timely code parameter used spent room ≡ None
+taken_by false code parameter used spent room e s q = absurd cc
+taken_by true code parameter true spent room e s q = absurd cc
+taken_by true false parameter false spent room e s q = absurd cc
+taken_by true true false false spent room e s q = absurd cc
+taken_by true true true false spent false e s q = absurd cc
+taken_by true true true false spent true e s q = rw (information-none, s) refl
 
 -- ---- an Invoke
 
@@ -112,6 +132,12 @@ module _ (number : ℕ) (d : Dialogue) (id : ℤ) (class : Class) (code : CodePa
   invoke-late left e =
       let spent : are_numbers_spent number ≡ false = grind (arith, nat_tests) in
       due_late timely (has_code (coded_part component)) (has_parameter (coded_part component)) used (are_numbers_spent number) (fits queue_limit d.standing.queue (queued None component)) e spent
+
+  -- Nothing is due where the invocation is taken in and the component fits.
+  pub invoke-taken : number < 2 ^ 64 - 1 → add_fault d.invocations.rows id timeout ≡ None → queue_fault d.standing.queue component ≡ None → due_on (situation (asked 0 number) d invoking) invoking ≡ None
+  invoke-taken left e q =
+      let spent : are_numbers_spent number ≡ false = grind (arith, nat_tests) in
+      taken_by timely (has_code (coded_part component)) (has_parameter (coded_part component)) used (are_numbers_spent number) (fits queue_limit d.standing.queue (queued None component)) e spent q
 
 -- ---- answers to the peer, by their tests in order
 

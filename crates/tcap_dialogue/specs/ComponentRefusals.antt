@@ -1,5 +1,5 @@
 -- What a request that queues an answer gives.
-use Rattle.std.specs.Prelude.{Option, Some, None, if◌then◌else◌}
+use Rattle.std.specs.Prelude.{◌≡◌, ℕ, Bool, true, false, Option, Some, None, if◌then◌else◌}
 use Rattle.tcap_component.specs.Component.{ComponentParts}
 use Rattle.tcap_model.specs.Procedures.QueueRules.{queued}
 use Rattle.tcap_model.specs.Procedures.States.{has_peer}
@@ -23,3 +23,8 @@ answered_by d c None = (Answer.done, Some (with_queued d (Some (queued None c)))
 -- What the request of an answer gives (Q.774, Component handling).
 abbrev pub answered : model.Dialogue → ComponentParts → Outcome
 answered d c = answered_by d c (answer_fault d c)
+
+-- What a try to queue an Invoke comes to: what the request gives, with this number, or nothing changed (own).
+abbrev pub InvokeTried : Bool → ℕ → Outcome → model.Dialogue → model.Dialogue → Type 0
+InvokeTried true number o old new = o ≡ (Answer.number number, Some new)
+InvokeTried false number o old new = new ≡ old

@@ -25,6 +25,11 @@ cut-append (p ∷ parts) all octets invoking whole =
     let dropped = drop-append-le p.len all octets within in
     cc (one, dropped, more)
 
+-- The same, where the part says how many octets there are.
+pub cut-counted : (parts : List Part) (all octets : List ℕ) (len : ℕ) (invoking : Option Invoking) → total parts ≡ length all → len ≡ length octets →
+    cut (parts ++ (record { len = len; invoking = invoking }) ∷ []) (all ++ octets) ≡ cut parts all ++ (record { octets = octets; invoking = option_map invoking_view invoking }) ∷ []
+cut-counted parts all octets len invoking whole is = rw is (cut-append parts all octets invoking whole)
+
 -- The components are all the octets.
 pub cut-joined : (parts : List Part) (all : List ℕ) → total parts ≡ length all → joined (cut parts all) ≡ all
 cut-joined [] [] whole = refl

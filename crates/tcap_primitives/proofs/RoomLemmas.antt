@@ -1,5 +1,5 @@
 -- Whether a component comes into a queue.
-use Rattle.std.proofs.Common.{◌≡◌, ℕ, ◌+◌, Bool, true, false, nat_le, nat_lt, List, length, Option, Some, None, refl, ap, arith, if◌then◌else◌}
+use Rattle.std.proofs.Common.{◌≡◌, ℕ, ◌+◌, Bool, true, false, nat_le, nat_lt, List, length, Option, Some, None, refl, sym, ap, ◌∙◌, arith, if◌then◌else◌}
 use Rattle.std.proofs.lemmas.Bool.{ltb-true}
 use Rattle.std.proofs.lemmas.Bool.Decides.{nat_tests}
 use Rattle.ber_core.proofs.CallerLemmas.{some_is}
@@ -58,3 +58,9 @@ pub room-component : (queue : List Queued) (c : ComponentParts) → None ≡ wri
 unfolding write_fault
 room-component queue c e =
     room_by (has_code (coded_part c)) (has_parameter (coded_part c)) (nat_lt length_limit (length (written_component c))) (fits queue_limit queue (queued None c)) e
+
+-- One that can be written is queued or too long, by its length.
+pub room-tested : (parts : List Part) (all : List ℕ) (c : ComponentParts) (held len : ℕ) (room : Bool) → total parts ≡ length all → held ≡ length all → len ≡ length (written_component c) → write_fault c ≡ None → nat_le (held + len) queue_limit ≡ room →
+    queue_fault (cut parts all) c ≡ (if room then None else Some Fault.too_long)
+room-tested parts all c held len room whole holds is e test =
+    room-component (cut parts all) c (sym e) ∙ ap (λ (b : Bool). let none : Option Fault = None in if b then none else Some Fault.too_long) (sym (room-fits parts all (queued None c) held len whole holds is) ∙ test)

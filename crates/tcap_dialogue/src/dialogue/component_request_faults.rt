@@ -1,13 +1,15 @@
 //! Why a component request is refused; no memory is taken.
 
-ghost use Rattle.std.specs.Prelude.{◌≡◌, ℕ, ℤ, Option, ◌<◌, ◌^◌, ◌-◌, ◌&&◌, not, nat_lt, nat_le, option_copied};
+ghost use Rattle.std.specs.Prelude.{◌≡◌, ℕ, ℤ, length, Option, Some, None, IfOk, OnOk, IfErr, ◌<◌, ◌^◌, ◌-◌, ◌&&◌, not, nat_lt, nat_le, option_copied};
 ghost use Rattle.std.specs.Option.{option_map};
 ghost use Rattle.tcap_component.specs.Views.{code_parts, component_parts};
 ghost use Rattle.tcap_dialogue.specs.ComponentRefusals.{answer_fault};
 ghost use Rattle.tcap_primitives.specs.QueueRefusals.{spelling_fault};
 ghost use Rattle.tcap_primitives.specs.FaultViews.{fault_view};
 ghost use Rattle.tcap_reception.specs.StateViews.{phase_view};
-ghost use Rattle.tcap_dialogue.specs.StepViews.{asked};
+ghost use Rattle.tcap_dialogue.specs.StepViews.{asked, requested};
+ghost use Rattle.tcap_dialogue.specs.FaultViews.{RefusedBy};
+ghost use Rattle.tcap_component.specs.Written.{CanWriteComponent, written_component};
 ghost use Rattle.tcap_invocation.specs.declared.class.Class.{Class};
 ghost use Rattle.tcap_invocation.specs.Stage.{moment_limit};
 ghost use Rattle.tcap_model.specs.Procedures.Refusals.{due_on, invoke_fault};
@@ -34,7 +36,7 @@ fn has_peer(phase: &Phase) -> bool
 }
 
 /// Whether a timeout is neither 0 nor above the limit.
-fn is_timeout(timeout_ms: u64) -> bool
+pub(super) fn is_timeout(timeout_ms: u64) -> bool
     ensures { result ≡ (nat_lt 0 timeout_ms && nat_le timeout_ms moment_limit) }
 {
     0 < timeout_ms && timeout_ms <= MAX_MOMENT
@@ -86,7 +88,7 @@ impl<A: Allocator + Copy> Dialogue<A> {
     }
 
     /// Why an Invoke is refused, memory apart. A number is left.
-    pub(super) fn invoke_refusal(
+    fn invoke_refusal(
         &self,
         number: u64,
         id: i8,
@@ -112,14 +114,40 @@ impl<A: Allocator + Copy> Dialogue<A> {
         })
     }
 
-    /// Why a component that answers the peer is refused, memory apart.
+    /// Why an Invoke that wasn't queued is refused: the fault that is due, and where none is, memory.
+    #[inline(never)]
+    pub(super) fn invoke_fault(
+        &self,
+        number: u64,
+        id: i8,
+        class: Class,
+        code: Code<'_>,
+        parameter: Option<&[u8]>,
+        linked: Option<i8>,
+        timeout_ms: u64,
+    ) -> Fault
+        requires { number < 2 ^ 64 - 1 }
+        ensures { RefusedBy (fault_view result) (requested 0 number self.now (Request.component (invoke id class
+            (code_parts code.entry) (option_copied parameter.entry) linked timeout_ms))) self.now self.now }
+    {
+        match self.invoke_refusal(number, id, class, code, parameter, linked, timeout_ms) {
+            Some(fault) => fault,
+            None => Fault::OutOfMemory,
+        }
+    }
+
+    /// How many octets a component that answers the peer has, or why it is refused, memory apart.
     #[inline(always)]
-    pub(super) fn answer_refusal(&self, component: &Component<'_>) -> Option<Fault>
-        ensures { option_map fault_view result ≡ answer_fault self.now (component_parts component.now) }
+    pub(super) fn judge_answer(&self, component: &Component<'_>) -> Result<usize, Fault>
+        ensures len { IfOk result (λ n. n ≡ length (written_component (component_parts component.now))) }
+        ensures can { OnOk result (CanWriteComponent (component_parts component.now)) }
+        ensures ok { OnOk result (answer_fault self.now (component_parts component.now) ≡ None) }
+        ensures err { IfErr result (λ f. answer_fault self.now (component_parts component.now)
+            ≡ Some (fault_view f)) }
     {
         if !has_peer(&self.phase) {
-            return Some(Fault::WrongState);
+            return Err(Fault::WrongState);
         }
-        self.queue.refusal(component)
+        self.queue.judge(component)
     }
 }

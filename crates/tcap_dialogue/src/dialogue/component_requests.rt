@@ -1,10 +1,11 @@
 //! The requests of component handling (Q.771, Component handling): a component is written at once and
 //! queued until the next message goes out.
 
-ghost use Rattle.std.specs.Prelude.{◌≡◌, ◌<◌, ◌^◌, ◌-◌, option_copied};
+ghost use Rattle.std.specs.Prelude.{◌≡◌, ◌+◌, ◌≤◌, ◌<◌, ◌^◌, ◌-◌, IsTrue, option_copied, vec_len, vec_capacity};
+ghost use Rattle.tcap_primitives.specs.QueueViews.{queue_view};
 ghost use Rattle.std.specs.Option.{option_map};
 ghost use Rattle.tcap_component.specs.Views.{code_parts, body_parts, problem_parts, component_parts};
-ghost use Rattle.tcap_dialogue.specs.ComponentRefusals.{answered};
+ghost use Rattle.tcap_dialogue.specs.ComponentRefusals.{answered, InvokeTried};
 ghost use Rattle.tcap_dialogue.specs.FaultViews.{Answers, numbered, queued_done, gave_up};
 ghost use Rattle.tcap_dialogue.specs.StepViews.{requested};
 ghost use Rattle.tcap_invocation.specs.Invocations.{AllBelow};
@@ -14,10 +15,34 @@ ghost use Rattle.tcap_model.specs.Words.Request.{Request};
 ghost use Rattle.tcap_model.specs.Words.Request.ComponentRequest.{invoke, result_last, result_more, error_back, u_reject, u_cancel};
 
 use super::Dialogue;
+use super::component_request_faults::is_timeout;
 use std::alloc::Allocator;
 use tcap_component::{Body, Code, Component, Kind, Problem};
-use tcap_invocation::Class;
-use tcap_primitives::{Fault, Invoking};
+use tcap_invocation::{Class, Invocations};
+use tcap_primitives::{Fault, Invoking, Queue};
+
+/// Makes room for an Invoke of this many octets. Where memory has to be taken, the faults that `add` would
+/// find are looked for before it, so that an Invoke that is refused takes none.
+#[inline(always)]
+fn make_invoke_room<A: Allocator + Copy>(
+    queue: &mut Queue<A>,
+    invocations: &Invocations<A>,
+    id: i8,
+    timeout_ms: u64,
+    len: usize,
+) -> bool
+    ensures same { queue_view queue.new ≡ queue_view queue.old }
+    ensures octets { IsTrue result → vec_len queue.new.octets + len ≤ vec_capacity queue.new.octets }
+    ensures part { IsTrue result → vec_len queue.new.parts < vec_capacity queue.new.parts }
+{
+    if queue.has_room(len) {
+        return true;
+    }
+    if !is_timeout(timeout_ms) || invocations.in_use(id) {
+        return false;
+    }
+    queue.reserve(len).is_ok()
+}
 
 impl<A: Allocator + Copy> Dialogue<A> {
     /// TC-INVOKE request: the invocation is Queued with this number, which is above all that the dialogue
@@ -41,23 +66,10 @@ impl<A: Allocator + Copy> Dialogue<A> {
             (code_parts code.entry) (option_copied parameter.entry) linked timeout_ms))) self.old self.new }
         ensures kept { self.new.standing.identifier ≡ self.old.standing.identifier }
     {
-        if let Some(fault) = self.invoke_refusal(
-            number, id, class, code, parameter, linked, timeout_ms,
-        ) {
-            return Err(fault);
+        if self.queue_invoke(number, id, class, code, parameter, linked, timeout_ms) {
+            return Ok(number);
         }
-        let component = Component::Invoke {
-            id,
-            linked,
-            code,
-            parameter,
-        };
-        let octets = self.queue.make_room(&component)?;
-        if self.invocations.add(id, number, class, timeout_ms).is_err() {
-            return Err(Fault::OutOfMemory);
-        }
-        self.queue.append(&octets, Some(Invoking { number, class }));
-        Ok(number)
+        Err(self.invoke_fault(number, id, class, code, parameter, linked, timeout_ms))
     }
 
     /// TC-RESULT-L request.
@@ -136,12 +148,49 @@ impl<A: Allocator + Copy> Dialogue<A> {
             (answered self.old (component_parts component.now)) self.old self.new }
         ensures kept { self.new.standing.identifier ≡ self.old.standing.identifier }
     {
-        if let Some(fault) = self.answer_refusal(component) {
-            return Err(fault);
-        }
-        let octets = self.queue.make_room(component)?;
-        self.queue.append(&octets, None);
+        let len = self.judge_answer(component)?;
+        self.queue.reserve(len)?;
+        self.queue.append_component(component, len, None);
         Ok(())
+    }
+
+    /// Queues an Invoke and takes its invocation in, or leaves all as it was. Each fault shows in one of the
+    /// steps, so none is looked for beforehand; which one is due is asked where a step fails.
+    #[inline(always)]
+    fn queue_invoke(
+        &mut self,
+        number: u64,
+        id: i8,
+        class: Class,
+        code: Code<'_>,
+        parameter: Option<&[u8]>,
+        linked: Option<i8>,
+        timeout_ms: u64,
+    ) -> bool
+        requires left { number < 2 ^ 64 - 1 }
+        requires above { AllBelow number self.old.invocations.rows }
+        ensures answer { InvokeTried result number (requested 0 number self.old (Request.component (invoke id class
+            (code_parts code.entry) (option_copied parameter.entry) linked timeout_ms))) self.old self.new }
+        ensures kept { self.new.standing.identifier ≡ self.old.standing.identifier }
+    {
+        let component = Component::Invoke {
+            id,
+            linked,
+            code,
+            parameter,
+        };
+        let Ok(len) = self.queue.judge(&component) else {
+            return false;
+        };
+        if !make_invoke_room(&mut self.queue, &self.invocations, id, timeout_ms, len) {
+            return false;
+        }
+        if self.invocations.add(id, number, class, timeout_ms).is_err() {
+            return false;
+        }
+        let invoking = Some(Invoking { number, class });
+        self.queue.append_component(&component, len, invoking);
+        true
     }
 
     /// Frees the identifier of a result or an error that the user rejects.

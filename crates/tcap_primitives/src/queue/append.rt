@@ -3,13 +3,14 @@
 ghost use Rattle.std.specs.Prelude.{◌≡◌, ◌+◌, ◌≤◌, ◌<◌, ◌++◌, ◌∷◌, [], None, length, vec_len, vec_capacity};
 ghost use Rattle.std.specs.Option.{option_map};
 ghost use Rattle.tcap_component.specs.Component.ComponentParts.{reject_back};
-ghost use Rattle.tcap_component.specs.Views.{problem_parts};
+ghost use Rattle.tcap_component.specs.Views.{problem_parts, component_parts};
+ghost use Rattle.tcap_component.specs.Written.{CanWriteComponent, written_component};
 ghost use Rattle.tcap_primitives.specs.QueueViews.{invoking_view, queue_view};
 ghost use Rattle.tcap_model.specs.Procedures.QueueRules.{queue_limit, queued, queue_if_fits};
 
 use super::{Invoking, MAX_QUEUE, Part, Queue};
 use std::alloc::Allocator;
-use tcap_component::{Problem, reject_octets};
+use tcap_component::{Component, Problem, append_component, reject_octets};
 
 impl<A: Allocator + Copy> Queue<A> {
     /// Appends a component, for which there is room.
@@ -24,6 +25,26 @@ impl<A: Allocator + Copy> Queue<A> {
         ensures parts_len { vec_len self.new.parts ≡ vec_len self.old.parts + 1 }
     {
         append_part(&mut self.octets, &mut self.parts, octets, invoking);
+    }
+
+    /// Appends a component that can be written, has so many octets, and for which there is room: it is
+    /// written straight into the queue's octets.
+    #[inline(always)]
+    pub fn append_component(
+        &mut self,
+        component: &Component<'_>,
+        len: usize,
+        invoking: Option<Invoking>,
+    )
+        requires can { CanWriteComponent (component_parts component.now) }
+        requires len { len ≡ length (written_component (component_parts component.now)) }
+        requires octets { vec_len self.old.octets + len ≤ vec_capacity self.old.octets }
+        requires part { vec_len self.old.parts < vec_capacity self.old.parts }
+        ensures { queue_view self.new ≡ queue_view self.old
+            ++ queued (option_map invoking_view invoking) (component_parts component.now) ∷ [] }
+    {
+        append_component(&mut self.octets, component);
+        self.parts.push_reserved(Part { len, invoking });
     }
 
     /// Appends a Reject where it fits; there is room for it.

@@ -1,21 +1,18 @@
 //! Whether a component comes into the queue, and room for it.
 
-ghost use Rattle.std.specs.Prelude.{◌≡◌, ◌+◌, ◌*◌, ◌≤◌, ◌<◌, length, None, IfOk, OnOk, vec_len, vec_capacity};
+ghost use Rattle.std.specs.Prelude.{◌≡◌, ◌+◌, ◌*◌, ◌≤◌, ◌<◌, ◌↔◌, length, None, Some, IsTrue, IfOk, OnOk, IfErr, vec_len, vec_capacity};
 ghost use Rattle.std.specs.Option.{option_map};
 ghost use Rattle.tcap_component.specs.Views.{component_parts};
 ghost use Rattle.tcap_component.specs.Written.{CanWriteComponent, written_component};
 ghost use Rattle.tcap_primitives.specs.QueueRefusals.{written_fault, queue_fault};
 ghost use Rattle.tcap_primitives.specs.FaultViews.{fault_view};
 ghost use Rattle.tcap_primitives.specs.QueueViews.{queue_view};
-ghost use Rattle.tcap_model.specs.Procedures.QueueRules.{queue_limit, queued, fits};
 
 use super::{MAX_QUEUE, Queue};
 use crate::fault::Fault;
 use ber_core::OutOfMemory;
 use std::alloc::{AllocError, Allocator};
-use tcap_component::{
-    Component, MAX_REJECT, WriteFault, component_fault, component_len, write_component,
-};
+use tcap_component::{Component, MAX_REJECT, WriteFault, judge_component, write_component};
 
 /// The fault of a request whose component can't be written.
 fn fault_of(fault: WriteFault) -> Fault
@@ -35,24 +32,54 @@ impl<A: Allocator + Copy> Queue<A> {
     pub fn refusal(&self, component: &Component<'_>) -> Option<Fault>
         ensures { option_map fault_view result ≡ queue_fault (queue_view self.now) (component_parts component.now) }
     {
-        if let Some(fault) = component_fault(component) {
-            return Some(fault_of(fault));
+        match self.judge(component) {
+            Ok(_) => None,
+            Err(fault) => Some(fault),
         }
-        if !self.has_room(component) {
-            return Some(Fault::TooLong);
-        }
-        None
     }
 
-    /// Whether a component that can be written fits.
-    fn has_room(&self, component: &Component<'_>) -> bool
-        requires { CanWriteComponent (component_parts component.now) }
-        ensures { result ≡ fits queue_limit (queue_view self.now) (queued None (component_parts component.now)) }
+    /// How many octets a component that comes into the queue has, or why it doesn't: BadOid, BadParameter,
+    /// TooLong. It takes no memory.
+    #[inline(always)]
+    pub fn judge(&self, component: &Component<'_>) -> Result<usize, Fault>
+        ensures len { IfOk result (λ n. n ≡ length (written_component (component_parts component.now))) }
+        ensures can { OnOk result (CanWriteComponent (component_parts component.now)) }
+        ensures ok { OnOk result (queue_fault (queue_view self.now) (component_parts component.now) ≡ None) }
+        ensures err { IfErr result (λ f. queue_fault (queue_view self.now) (component_parts component.now)
+            ≡ Some (fault_view f)) }
     {
-        match component_len(component) {
-            Some(len) => self.octets.len() + len <= MAX_QUEUE,
-            None => false,
+        match judge_component(component) {
+            Ok(len) => {
+                if self.octets.len() + len <= MAX_QUEUE {
+                    Ok(len)
+                } else {
+                    Err(Fault::TooLong)
+                }
+            }
+            Err(fault) => Err(fault_of(fault)),
         }
+    }
+
+    /// Whether there is room for a component of this many octets, so that it takes no memory.
+    #[inline(always)]
+    pub fn has_room(&self, len: usize) -> bool
+        ensures { IsTrue result ↔ ((vec_len self.now.octets + len ≤ vec_capacity self.now.octets)
+            × (vec_len self.now.parts < vec_capacity self.now.parts)) }
+    {
+        len <= self.octets.capacity() - self.octets.len()
+            && self.parts.len() < self.parts.capacity()
+    }
+
+    /// Makes room for a component of this many octets.
+    #[inline(always)]
+    pub fn reserve(&mut self, len: usize) -> Result<(), AllocError>
+        ensures same { queue_view self.new ≡ queue_view self.old }
+        ensures octets { OnOk result (vec_len self.new.octets + len ≤ vec_capacity self.new.octets) }
+        ensures part { OnOk result (vec_len self.new.parts < vec_capacity self.new.parts) }
+    {
+        self.octets.reserve(len)?;
+        self.parts.reserve(1)?;
+        Ok(())
     }
 
     /// Writes a component to memory of its own and makes room for it in the queue.
