@@ -12,6 +12,7 @@ pub(crate) mod ending;
 pub(crate) mod getters;
 pub(crate) mod messages;
 pub(crate) mod outgoing;
+pub(crate) mod spare;
 pub(crate) mod timers;
 
 use std::alloc::{Allocator, Global};

@@ -12,6 +12,7 @@ mod dialogue;
 
 pub use dialogue::ask::Asked;
 pub use dialogue::beginning::take_uni;
+pub use dialogue::spare::Spare;
 pub use dialogue::{Dialogue, Step};
 pub use tcap_address::Address;
 pub use tcap_primitives::{

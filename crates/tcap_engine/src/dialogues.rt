@@ -1,6 +1,6 @@
 //! The dialogues that stand, and of each the moment at which time next changes it.
 
-ghost use Rattle.std.specs.Prelude.{◌≡◌, ◌≢◌, ◌≤◌, ◌⊎◌, ◌+◌, ◌-◌, ◌++◌, ◌∷◌, ◌^◌, [], nat_eq, length, min, option_copied, OnErr, OnOk, MatchOption, if◌then◌else◌};
+ghost use Rattle.std.specs.Prelude.{◌≡◌, false, ◌≢◌, ◌≤◌, ◌⊎◌, ◌+◌, ◌-◌, ◌++◌, ◌∷◌, ◌^◌, [], nat_eq, length, min, option_copied, OnErr, OnOk, MatchOption, if◌then◌else◌};
 ghost use Rattle.std.specs.Map.{lookup, remove_entry};
 ghost use Rattle.tcap_engine.specs.Ending.{idle_ids};
 ghost use Rattle.tcap_engine.specs.Lapsing.{AreUntimed, IsFirstTimer};
@@ -11,17 +11,23 @@ ghost use Rattle.timed_table.specs.Row.{entries_of, with_time, without};
 
 use ber_core::OutOfMemory;
 use std::alloc::{Allocator, Global};
+use std::fmt;
 use std::marker::Model;
-use tcap_dialogue::Dialogue;
+use tcap_dialogue::{Dialogue, Spare};
 use timed_table::Table;
 
 /// The dialogues by their identifiers, in order of creation; beside each its next timer.
 ///
 /// A contract sees the identifiers and their dialogues, and forgets the timers, which follow from them.
-#[derive(Debug, Drop)]
+#[derive(Drop)]
 pub(crate) struct Dialogues<A: Allocator + Copy = Global> {
     pub(crate) rows: Table<Dialogue<A>, A>,
+    /// What dialogues that are over left, for those that come.
+    pub(crate) spares: Vec<Spare<A>, A>,
 }
+
+/// So many dialogues that are over leave their memory to the next ones; the memory of more is given back.
+const MOST_SPARES: usize = 16;
 
 /// How much room the answer to a moment needs.
 #[derive(Clone, Copy)]
@@ -52,6 +58,7 @@ impl<A: Allocator + Copy> Dialogues<A> {
     {
         Dialogues {
             rows: Table::new(alloc),
+            spares: Vec::new(alloc),
         }
     }
 
@@ -86,10 +93,21 @@ impl<A: Allocator + Copy> Dialogues<A> {
         ensures ok { OnOk result (self.new ≡ self.old ++ (identifier, dialogue) ∷ []) }
         ensures err { OnErr result (self.new ≡ self.old) }
     {
+        make_room(&mut self.spares)?;
         let timer = dialogue.next_timer();
         match self.rows.insert(identifier, dialogue, timer) {
             Ok(()) => Ok(()),
             Err(_) => Err(OutOfMemory),
+        }
+    }
+
+    /// What a dialogue that is over left, or nothing where there is none; takes no memory.
+    pub(crate) fn take_spare(&mut self) -> Spare<A>
+        ensures { self.new ≡ self.old }
+    {
+        match self.spares.pop() {
+            Some(spare) => spare,
+            None => Spare::new(self.allocator()),
         }
     }
 
@@ -122,11 +140,41 @@ impl<A: Allocator + Copy> Dialogues<A> {
     }
 }
 
+// By hand, since the memory that dialogues left says nothing of those that stand.
+impl<A: Allocator + Copy + fmt::Debug> fmt::Debug for Dialogues<A> {
+    fn fmt<W: fmt::Write>(&self, f: &mut fmt::Formatter<W>) -> fmt::Result {
+        f.debug_struct("Dialogues")
+            .field("rows", &self.rows)
+            .finish()
+    }
+}
+
 /// Whether a dialogue has been idle too long at a moment.
 fn is_idle<A: Allocator + Copy>(dialogue: &Dialogue<A>, now: u64) -> bool
     ensures { result ≡ is_idle_at now dialogue.now }
 {
     dialogue.idle_at().is_some_and(|time| time <= now)
+}
+
+/// Makes the room for what dialogues leave, once.
+fn make_room<A: Allocator + Copy>(spares: &mut Vec<Spare<A>, A>) -> Result<(), OutOfMemory> {
+    if spares.capacity() == 0 {
+        spares.reserve(MOST_SPARES)?;
+    }
+    Ok(())
+}
+
+/// Keeps what a dialogue leaves that is over, where there is room for it.
+pub(crate) fn keep_spare<A: Allocator + Copy>(
+    spares: &mut Vec<Spare<A>, A>,
+    dialogue: &mut Dialogue<A>,
+    is_over: bool,
+)
+    ensures { is_over ≡ false → dialogue.new ≡ dialogue.old }
+{
+    if is_over && spares.len() < spares.capacity() {
+        spares.push_reserved(dialogue.take_spare());
+    }
 }
 
 /// After the dialogue of an identifier was written: it is taken out where it is over; else this is its next

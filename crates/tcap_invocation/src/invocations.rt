@@ -35,7 +35,7 @@ type Entries<A> = IndexMap<i8, Invocation, BuildHasherDefault<FoldHasher>, A>;
 /// The invocations of one dialogue (Q.774, Invocation state machine), by rising number.
 ///
 /// - Requests of the TC-user and of the dialogue: `add`, `sent`, `give_up`, `free_wait`, `close_all`, or
-///   one by one `open_count` and `close_one`.
+///   one by one `open_count` and `close_one`; `renew` for the next dialogue.
 /// - Answers that were received: `on_result`, `on_error`, `on_reject`.
 /// - Time: `lapse`, or one by one `due_count`, `first_due`, `lapse_one` and `free_due`; `next_timer` tells
 ///   when it next changes something.
@@ -76,6 +76,16 @@ impl<A: Allocator + Copy> Invocations<A> {
             timers: Timers::new(alloc),
             reject_ms,
         }
+    }
+
+    /// No invocation any more, and a wait of this length, 0 to 2^62, as `new` gives; the room stays.
+    pub fn renew(&mut self, reject_ms: u64)
+        requires { reject_ms ≤ moment_limit }
+        ensures { self.new ≡ record { reject_ms = reject_ms; rows = [] } }
+    {
+        self.timers.clear();
+        self.entries.clear();
+        self.reject_ms = reject_ms;
     }
 
     /// Whether an invocation with the identifier is Sent, so that a result or an error is for it.

@@ -17,6 +17,7 @@ ghost use Rattle.tcap_model.specs.Words.Output as model;
 ghost use Rattle.tcap_model.specs.Words.Output.{DialogueIndication};
 
 use super::Dialogue;
+use super::spare::Spare;
 use crate::components::{count_items, walk, walk_alone};
 use ber_core::OutOfMemory;
 use std::alloc::Allocator;
@@ -86,7 +87,6 @@ impl<A: Allocator + Copy> Dialogue<A> {
     /// which is kept, `otid` the originator, `aarq` the contents octets of the application context name and
     /// the user information of its AARQ, if it has one, and `components` the contents of its component
     /// portion (Q.774, Dialogue begin).
-    #[tactic(auto, using(crate::proofs::PortionNames::named_given))]
     pub fn accept<'m>(
         alloc: A,
         identifier: u32,
@@ -110,8 +110,39 @@ impl<A: Allocator + Copy> Dialogue<A> {
         ensures place { (portion : Option Slice) → GivenIn 0x60 aarq.entry portion
             → IfOk result (λ r. AllInPlace portion components.entry r.1.items) }
     {
+        let spare = Spare::new(alloc);
+        Dialogue::accept_in(
+            spare, identifier, reject_ms, idle_ms, from, otid, aarq, components, clock,
+        )
+    }
+
+    /// `accept`, with the memory that another dialogue left; where memory is refused that is given back.
+    #[tactic(auto, using(crate::proofs::PortionNames::named_given))]
+    pub fn accept_in<'m>(
+        spare: Spare<A>,
+        identifier: u32,
+        reject_ms: u64,
+        idle_ms: u64,
+        from: &Address,
+        otid: &TransId,
+        aarq: Option<(&'m [u8], &'m [u8])>,
+        components: &'m [u8],
+        clock: u64,
+    ) -> Result<(Dialogue<A>, Vec<Output<'m, A>, A>), OutOfMemory>
+        requires reject { reject_ms ≤ moment_limit }
+        requires idle { idle_ms ≤ moment_limit }
+        requires clock { clock ≤ moment_limit }
+        requires named { IfSome aarq (λ a. IsObjectIdentifier a.0.now) }
+        // What is told, and the dialogue.
+        ensures ok { IfOk result (λ r. begun r.1.items r.0
+            ≡ outcome (born (at_clock clock) identifier reject_ms idle_ms from.now otid.now
+            (context_given aarq.entry) (info_given aarq.entry) components.now)) }
+        // The slices that are told are those that were given, and parts of the component portion.
+        ensures place { (portion : Option Slice) → GivenIn 0x60 aarq.entry portion
+            → IfOk result (λ r. AllInPlace portion components.entry r.1.items) }
+    {
         let (context, info) = parts_of(aarq);
-        let mut dialogue = Dialogue::fresh(alloc, identifier, reject_ms, idle_ms);
+        let mut dialogue = Dialogue::fresh_in(spare, identifier, reject_ms, idle_ms);
         let outputs = dialogue.begin_with(from, otid, context, info, components, clock)?;
         Ok((dialogue, outputs))
     }

@@ -10,7 +10,7 @@ ghost use Rattle.tcap_invocation.specs.Invocations.{AllBelow};
 ghost use Rattle.tcap_invocation.specs.Stage.{moment_limit};
 ghost use Rattle.tcap_model.specs.Table.TableMove.{DialogueEvent, table_move};
 
-use crate::dialogues::{Dialogues, settle};
+use crate::dialogues::{Dialogues, keep_spare, settle};
 use std::alloc::Allocator;
 use tcap_dialogue::{Asked, Dialogue, Fault, Request};
 
@@ -73,7 +73,9 @@ pub(super) fn ask_in<'m, A: Allocator + Copy>(
         return Err(Fault::UnknownDialogue);
     };
     let asked = ask_one(dialogue, clock, number, request)?;
+    let is_over = ends_dialogue(&asked);
+    keep_spare(&mut table.spares, dialogue, is_over);
     let timer = dialogue.next_timer();
-    settle(&mut table.rows, identifier, ends_dialogue(&asked), timer);
+    settle(&mut table.rows, identifier, is_over, timer);
     Ok(asked)
 }

@@ -43,9 +43,9 @@ impl<A: Allocator + Copy> Engine<A> {
             return Err(fault);
         }
         let identifier = self.next_dialogue;
-        let alloc = self.table.allocator();
+        let spare = self.table.take_spare();
         let limits = self.limits;
-        self.keep(Dialogue::fresh(alloc, identifier, limits.reject_ms, limits.idle_ms))?;
+        self.keep(Dialogue::fresh_in(spare, identifier, limits.reject_ms, limits.idle_ms))?;
         Ok(identifier)
     }
 
@@ -65,8 +65,9 @@ impl<A: Allocator + Copy> Engine<A> {
             (context_given request.entry) (info_given request.entry) components.now)) (outputs_answer os) self.new) }
         ensures err { OnErr result (self.new ≡ self.old) }
     {
-        let (dialogue, outputs) = Dialogue::accept(
-            self.table.allocator(),
+        let spare = self.table.take_spare();
+        let (dialogue, outputs) = Dialogue::accept_in(
+            spare,
             self.next_dialogue,
             self.limits.reject_ms,
             self.limits.idle_ms,

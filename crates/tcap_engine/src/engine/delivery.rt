@@ -14,7 +14,7 @@ ghost use Rattle.tcap_model.specs.Table.TableMove.{DialogueEvent, table_move};
 ghost use Rattle.tcap_pdu.specs.FrameViews.{message};
 
 use super::Engine;
-use crate::dialogues::{Dialogues, settle};
+use crate::dialogues::{Dialogues, keep_spare, settle};
 use ber_core::OutOfMemory;
 use std::alloc::Allocator;
 use tcap_dialogue::{Abort, Address, Cause, Output, write_abort};
@@ -38,6 +38,7 @@ pub(super) fn take_in<'m, A: Allocator + Copy>(
         return Ok(Vec::new(alloc));
     };
     let step = dialogue.take_frame(from, frame, clock)?;
+    keep_spare(&mut table.spares, dialogue, step.over);
     let timer = dialogue.next_timer();
     settle(&mut table.rows, identifier, step.over, timer);
     Ok(step.outputs)
@@ -60,6 +61,7 @@ pub(super) fn break_in<'m, A: Allocator + Copy>(
         return Ok(Vec::new(alloc));
     };
     let step = dialogue.take_fault(cause.number())?;
+    keep_spare(&mut table.spares, dialogue, step.over);
     let timer = dialogue.next_timer();
     settle(&mut table.rows, identifier, step.over, timer);
     Ok(step.outputs)

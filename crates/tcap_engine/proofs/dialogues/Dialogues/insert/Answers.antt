@@ -8,8 +8,8 @@ use Rattle.tcap_engine.proofs.dialogues.Dialogues.insert.Goals as goal
 pub insert-requires : goal.insert-requires
 insert-requires g c = below-drawn c.args.identifier c.self.inside.rows (rw (← c.self.view_is) at c.requires)
 
-pub invariant_of-self : goal.invariant_of-self
-invariant_of-self g c = elim c.match-insert.branch [
+pub invariant_of-self-2 : goal.invariant_of-self-2
+invariant_of-self-2 g c = elim c.match-insert.branch [
   | in-Ok w ↦ rw w.in-Ok.ensures.ok (timed-push c.args.identifier c.args.dialogue c.next_timer-timer.result c.self.inside.rows c.next_timer-timer.ensures c.self.invariant)
   | in-Err w ↦ rw w.in-Err.ensures.err c.self.invariant
 ]
@@ -18,4 +18,10 @@ pub returns-clause-ok : goal.returns-clause-ok
 returns-clause-ok g c = elim c.match-insert.branch [
   | in-Ok w ↦ rw (w.result-is, ← c.self.view_is) (ap entries_of w.in-Ok.ensures.ok ∙ map-append _ c.self.inside.rows _)
   | in-Err w ↦ rw w.result-is tt
+]
+
+pub returns-clause-err : goal.returns-clause-err
+returns-clause-err g c = elim c.match-insert.branch [
+  | in-Ok w ↦ rw w.result-is tt
+  | in-Err w ↦ rw (w.result-is, ← c.self.view_is) (ap entries_of w.in-Err.ensures.err)
 ]

@@ -5,7 +5,6 @@ use Rattle.tcap_dialogue.specs.StepViews.{Outcome, outcome, at_clock}
 use Rattle.tcap_engine.proofs.BeginLemmas.{kept_born}
 use Rattle.tcap_engine.specs.Table.{IsWithin}
 use Rattle.tcap_model.specs.Table.TableMove.{Moved, born}
-use Rattle.tcap_model.specs.Table.World.{World}
 use Rattle.tcap_engine.proofs.engine.Engine.accept_begin.Goals as goal
 
 pub keep-requires-clause-within : goal.keep-requires-clause-within
@@ -15,7 +14,5 @@ keep-requires-clause-within g c =
     let told : begun c.in_ok-dialogue.outputs.items c.in_ok-dialogue.dialogue ≡ outcome m = search rules in
     let left : Some c.in_ok-dialogue.dialogue ≡ Some m.after = ap (λ (o : Outcome). o.1) told in
     let same : c.in_ok-dialogue.dialogue ≡ m.after = cc in
-    let within : IsWithin inside.limits.reject_ms inside.next_number c.in_ok-dialogue.dialogue =
     subst (IsWithin inside.limits.reject_ms inside.next_number) (sym same)
-    (kept_born (at_clock inside.clock) inside.next_dialogue inside.limits.reject_ms inside.limits.idle_ms inside.next_number c.args.from.now c.args.origin.now (context_given c.args.request) (info_given c.args.request) c.args.components.now).1 in
-    subst (λ (w : World). IsWithin w.reject_ms w.next_number c.in_ok-dialogue.dialogue) c.self.view_is within
+    (kept_born (at_clock inside.clock) inside.next_dialogue inside.limits.reject_ms inside.limits.idle_ms inside.next_number c.args.from.now c.args.origin.now (context_given c.args.request) (info_given c.args.request) c.args.components.now).1

@@ -1,11 +1,12 @@
-use Rattle.std.proofs.Common.{rules, ◌≡◌, ◌∙◌, ◌++◌, ◌∷◌, ap, sym, nat_eq, List, Some, [], append_assoc}
-use Rattle.std.proofs.lemmas.List.{map-append}
+use Rattle.std.proofs.Common.{rules, arith, ◌≡◌, ◌≤◌, ◌+◌, ◌∙◌, ◌++◌, ◌∷◌, ap, sym, nat_eq, length, List, Some, [], append_assoc, vec_len, vec_capacity}
+use Rattle.std.proofs.lemmas.List.{length-map, map-append}
 use Rattle.std.specs.Map.{lookup}
 use Rattle.tcap_primitives.specs.OutputViews.{all_shown, shown}
 use Rattle.tcap_engine.specs.Ending.{over_in, over_told}
 use Rattle.tcap_engine.specs.Table.{TableEntry}
 use Rattle.tcap_engine.proofs.TableLemmas.{found-own}
 use Rattle.tcap_engine.proofs.TimedLemmas.{timed-without}
+use Rattle.tcap_invocation.specs.Closing.{ended_at}
 use Rattle.tcap_model.specs.Table.TableMove.{ended_told}
 use Rattle.tcap_model.specs.Words.Output.{Output, AbortCause, DialogueIndication}
 use Rattle.timed_table.specs.Row.{entries_of}
@@ -16,6 +17,20 @@ invariant_of-table g c = rw c.remove.ensures.rows (timed-without c.args.identifi
 
 pub invariant_of-table-2 : goal.invariant_of-table-2
 invariant_of-table-2 g c = rw c.remove.ensures.rows (timed-without c.args.identifier c.table.inside.rows c.table.invariant)
+
+pub tell_ended-requires : goal.tell_ended-requires
+tell_ended-requires g c =
+    let ps : List TableEntry = entries_of c.table.inside.rows in
+    let d = c.args.identifier in
+    let old = c.in-Some.dialogue in
+    let found : lookup (nat_eq d) ps ≡ Some old = search rules in
+    let counted : length (over_in ps d) ≡ length (over_told (Some old)) = ap (λ o. length (over_told o)) found in
+    let more : length (over_told (Some old)) ≡ length (ended_told old.standing.identifier old.invocations) + 1 = omega arith in
+    let same : length (ended_told old.standing.identifier old.invocations) ≡ length (ended_at old.invocations.rows) = length-map (ended_at old.invocations.rows) _ in
+    let room = rw (← c.table.view_is) at c.requires.room in
+    let len = c.push_reserved.ensures.len in
+    let capacity = c.push_reserved.ensures.capacity in
+    rw (len, capacity) (omega (arith, counted, more, same, room))
 
 pub returns-clause-told : goal.returns-clause-told
 returns-clause-told g c =
