@@ -1,7 +1,7 @@
 -- The first timer of a wait that is over, and what taking its invocation out leaves.
-use Rattle.std.proofs.Common.{◌≡◌, ℕ, suc, zero, ℤ, ◌+◌, Bool, true, false, cond, List, [], ◌∷◌, length, take, filter, Option, Some, None, refl, ap, sym, subst, ◌∙◌, arith, tests, nat_lt, nat_le}
+use Rattle.std.proofs.Common.{◌≡◌, ℕ, ℤ, ◌+◌, Bool, true, false, cond, List, [], ◌∷◌, filter, Option, Some, None, refl, ap, sym, subst, ◌∙◌, arith, tests, nat_lt, nat_le}
 use Rattle.std.specs.Prelude.{filter_map}
-use Rattle.std.specs.List.{AllByRecursion, AllWithin, IsDistinct, cons_option}
+use Rattle.std.specs.List.{AllByRecursion, IsDistinct, cons_option}
 use Rattle.std.specs.Map.{keys_of, lookup}
 use Rattle.std.specs.Ordering.{int_eq}
 use Rattle.tcap_invocation.specs.declared.invocations.Invocation.{Invocation}
@@ -11,9 +11,10 @@ use Rattle.tcap_invocation.specs.declared.stage.Stage.TheVariants.{Queued, Sent,
 use Rattle.tcap_invocation.specs.Order.{first_of}
 use Rattle.tcap_invocation.specs.Invocations.{Row, entry_at, without}
 use Rattle.tcap_invocation.specs.Lapses.{is_held}
-use Rattle.tcap_invocation.specs.TimerList.{is_earlier, timer_with, timer_of, timers_at, is_over}
-use Rattle.tcap_invocation.proofs.InsertionLemmas.{total, total_in_order, all_in_order}
+use Rattle.tcap_invocation.specs.TimerList.{IsInOrder, is_earlier, timer_with, timer_of, timers_at, is_over}
+use Rattle.tcap_invocation.proofs.InsertionLemmas.{Ahead, total, total_in_order, all_in_order}
 use Rattle.tcap_invocation.proofs.RemovalLemmas.{told_of, told-own}
+use Rattle.tcap_invocation.proofs.TimerLemmas.{ordered}
 
 -- ---- the timers whose time has come
 
@@ -25,17 +26,18 @@ module _ (clock : ℕ) where
       go true = refl
       go false = late
 
-  -- what stands behind those whose time has come isn't over
-  pub over-front : (ts : List Timer) (i : ℕ) → AllWithin (λ t. nat_le t.time clock ≡ false) ts i (length ts) → filter (is_over clock) (take i ts) ≡ filter (is_over clock) ts
-  over-front [] zero a = refl
-  over-front [] (suc i) a = refl
-  over-front (t ∷ ts) zero a =
-      let first = not-over t (a 0 t (omega arith) (omega arith)) in
-      let rest = over-front ts zero (λ k d low high. a (suc k) d (omega arith) (omega (arith, high))) in
-      rw first rest
-  over-front (t ∷ ts) (suc i) a =
-      let rest = over-front ts i (λ k d low high. a (suc k) d (omega (arith, low)) (omega (arith, high))) in
-      ap (λ (l : List Timer). cond (is_over clock t) (t ∷ l) l) rest
+  none-ahead : (t : Timer) (ts : List Timer) → nat_lt clock t.time ≡ true → Ahead is_earlier t ts → filter (is_over clock) ts ≡ []
+  none-ahead t [] later a = refl
+  none-ahead t (u ∷ us) later a =
+      let after = a.0 in
+      let late : nat_le u.time clock ≡ false = grind (arith, tests, later, after) in
+      rw (not-over u late) (none-ahead t us later a.1)
+
+  -- where the time of the first hasn't come, none is over
+  pub none-later : (t : Timer) (ts : List Timer) → IsInOrder (t ∷ ts) → nat_lt clock t.time ≡ true → filter (is_over clock) (t ∷ ts) ≡ []
+  none-later t ts o later =
+      let late : nat_le t.time clock ≡ false = grind (arith, tests, later) in
+      rw (not-over t late) (none-ahead t ts later (ordered (t ∷ ts) o).0)
 
   -- the first that is over passes what all pass
   first-over : (P : Timer → Type 0) (ts : List Timer) (t : Timer) → AllByRecursion P ts → first_of (filter (is_over clock) ts) ≡ Some t → P t × (is_over clock t ≡ true)

@@ -1,5 +1,5 @@
 -- The order of timers, and what is due of timers in order.
-use Rattle.std.proofs.Common.{◌≡◌, ℕ, zero, suc, ◌<◌, ◌≤◌, Bool, true, false, cond, List, [], ◌∷◌, length, remove, take, filter, Option, Some, None, refl, ap, sym, subst, arith, tests, nat_le, ◌&&◌}
+use Rattle.std.proofs.Common.{◌≡◌, ℕ, zero, suc, ◌<◌, ◌≤◌, Bool, true, false, cond, List, [], ◌∷◌, ◌++◌, ◌-◌, length, slice_index_or, remove, take, filter, Option, Some, None, refl, ap, sym, subst, arith, tests, nat_lt, nat_le, ◌&&◌}
 use Rattle.std.specs.Prelude.{filter_map}
 use Rattle.std.specs.List.{cons_option}
 use Rattle.std.specs.List.Sorted.{IsPartitionedBy}
@@ -8,7 +8,7 @@ use Rattle.tcap_invocation.specs.declared.invocations.lapse.Lapse.{Lapse}
 use Rattle.tcap_invocation.specs.declared.invocations.timers.Timer.{Timer}
 use Rattle.tcap_invocation.specs.Order.{put_by, first_of}
 use Rattle.tcap_invocation.specs.TimerList.{is_earlier, IsInOrder, IsFilled, told_of_timer, told_first}
-use Rattle.tcap_invocation.proofs.InsertionLemmas.{Ordered, ordered_put, ordered_in_order}
+use Rattle.tcap_invocation.proofs.InsertionLemmas.{Ahead, Ordered, ordered_put, ordered_in_order}
 use Rattle.tcap_invocation.proofs.SortLemmas.{put_ahead, length-put, in_order-fixed, IsPartitionedBy-ordered, IsPartitionedBy-before, ordered_filter, ordered_remove, put_put}
 
 pub earlier_once : (a b : Timer) → is_earlier a b ≡ true → is_earlier b a ≡ false
@@ -122,3 +122,37 @@ length-told clock (t ∷ ts) = go (told_of_timer clock t) (length-told clock ts)
     go : (o : Option Lapse) → length (filter_map (told_of_timer clock) ts) ≤ length ts → length (cons_option o (filter_map (told_of_timer clock) ts)) ≤ suc (length ts)
     go None h = omega (arith, h)
     go (Some l) h = omega (arith, h)
+
+-- ---- where the time of the first hasn't come, that of none has
+
+untold-ahead : (clock : ℕ) (t : Timer) (ts : List Timer) → nat_lt clock t.time ≡ true → Ahead is_earlier t ts → filter_map (told_of_timer clock) ts ≡ []
+untold-ahead clock t [] later a = refl
+untold-ahead clock t (u ∷ us) later a =
+    let after = a.0 in
+    let late : nat_le u.time clock ≡ false = grind (arith, tests, later, after) in
+    rw (untold clock u late) (untold-ahead clock t us later a.1)
+
+pub untold-later : (clock : ℕ) (t : Timer) (ts : List Timer) → IsInOrder (t ∷ ts) → nat_lt clock t.time ≡ true → filter_map (told_of_timer clock) (t ∷ ts) ≡ []
+untold-later clock t ts o later =
+    let late : nat_le t.time clock ≡ false = grind (arith, tests, later) in
+    rw (untold clock t late) (untold-ahead clock t ts later (ordered (t ∷ ts) o).0)
+
+-- what isn't told, or is, of the first
+pub told-dropped : (clock : ℕ) (t : Timer) (ts : List Timer) → told_of_timer clock t ≡ None → filter_map (told_of_timer clock) (t ∷ ts) ≡ filter_map (told_of_timer clock) ts
+told-dropped clock t ts e = rw e refl
+
+pub told-kept : (clock : ℕ) (t : Timer) (l : Lapse) (ts : List Timer) → told_of_timer clock t ≡ Some l → filter_map (told_of_timer clock) (t ∷ ts) ≡ l ∷ filter_map (told_of_timer clock) ts
+told-kept clock t l ts e = rw e refl
+
+-- ---- what comes after all is put at the end
+
+put-behind-all : (t d : Timer) (ts : List Timer) → ((i : ℕ) → i < length ts → is_earlier (slice_index_or ts i d) t ≡ true) → put_by is_earlier t ts ≡ ts ++ t ∷ []
+put-behind-all t d [] all = refl
+put-behind-all t d (y ∷ ys) all =
+    let first : is_earlier y t ≡ true = all 0 (omega arith) in
+    rw first (ap (λ (l : List Timer). y ∷ l) (put-behind-all t d ys (λ i high. all (suc i) (omega (arith, high)))))
+
+pub put-last : (t last : Timer) (ts : List Timer) → IsInOrder ts → last ≡ slice_index_or ts (length ts - 1) last → is_earlier last t ≡ true → put_by is_earlier t ts ≡ ts ++ t ∷ []
+put-last t last ts o is early =
+    let end : is_earlier (slice_index_or ts (length ts - 1) last) t ≡ true = subst (λ (x : Timer). is_earlier x t ≡ true) is early in
+    put-behind-all t last ts (λ i high. IsPartitionedBy-timer ts t o i (length ts - 1) last (omega (arith, high)) (omega (arith, high)) end)

@@ -99,6 +99,7 @@ impl<A: Allocator + Copy> Invocations<A> {
     }
 
     /// Frees identifiers whose wait is over at the clock one by one, a few at most: whether none is left.
+    #[inline(never)]
     fn free_few(&mut self, clock: u64) -> bool
         ensures same { after_free_due self.new clock ≡ after_free_due self.old clock }
         ensures all { IsTrue result → after_free_due self.new clock ≡ self.new }

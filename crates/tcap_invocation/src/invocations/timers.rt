@@ -12,8 +12,9 @@ use super::lapse::Lapse;
 use ber_core::OutOfMemory;
 use sorted::{is_earlier, put, take, take_first};
 use std::alloc::{AllocError, Allocator};
+use std::collections::VecDeque;
 use std::marker::Model;
-use telling::{due, due_count, first_due, first_over, push_due, told_first};
+use telling::{due_count, first_due, first_over, push_due, told_first};
 
 /// When an invocation lapses, or when the wait of its identifier ends.
 #[derive(Clone, Copy, Debug)]
@@ -30,7 +31,7 @@ pub(super) struct Timer {
 
 impl Timer {
     /// Whether its time hasn't come at the clock.
-    fn is_later(&self, clock: u64) -> bool
+    pub(super) fn is_later(&self, clock: u64) -> bool
         ensures { result ≡ is_later clock self.now }
     {
         clock < self.time
@@ -56,17 +57,18 @@ impl Timer {
 #[derive(Debug, Drop)]
 pub(super) struct Timers<A: Allocator + Copy> {
     first: Option<Timer>,
-    rest: Vec<Timer, A>,
+    rest: VecDeque<Timer, A>,
 }
 
 impl<A: Allocator + Copy> Model for Timers<A> {
     ghost use Rattle.std.specs.List.{cons_option};
-    ghost use Rattle.std.specs.Prelude.{◌+◌, vec_capacity};
+    ghost use Rattle.std.specs.Prelude.{◌+◌};
+    ghost use Rattle.std.specs.VecDeque.{deque_capacity};
     ghost use Rattle.tcap_invocation.specs.TimerList.{TimerList, IsInOrder, IsFilled};
 
     ghost Value = { TimerList };
 
-    ghost view = { λ v. record { timers = cons_option v.first v.rest.items; room = vec_capacity v.rest + 1 } };
+    ghost view = { λ v. record { timers = cons_option v.first v.rest.items; room = deque_capacity v.rest + 1 } };
 
     ghost invariant = { λ v. IsInOrder (cons_option v.first v.rest.items) × IsFilled v.first v.rest.items };
 }
@@ -78,7 +80,7 @@ impl<A: Allocator + Copy> Timers<A> {
     {
         Timers {
             first: None,
-            rest: Vec::new(alloc),
+            rest: VecDeque::new(alloc),
         }
     }
 
@@ -107,7 +109,7 @@ impl<A: Allocator + Copy> Timers<A> {
         if first.is_over(clock) {
             Some(first)
         } else {
-            first_over(due(self.rest.as_slice(), clock), clock)
+            first_over(&self.rest, clock)
         }
     }
 
@@ -204,7 +206,7 @@ impl<A: Allocator + Copy> Timers<A> {
     pub(super) fn due_count(&self, clock: u64) -> usize
         ensures { result ≡ length (filter_map (told_of_timer clock) self.now.timers) }
     {
-        let behind = due_count(due(self.rest.as_slice(), clock), clock);
+        let behind = due_count(&self.rest, clock);
         match told_first(self.first, clock) {
             Some(_) => behind + 1,
             None => behind,
@@ -217,7 +219,7 @@ impl<A: Allocator + Copy> Timers<A> {
     {
         match told_first(self.first, clock) {
             Some(lapse) => Some(lapse),
-            None => first_due(due(self.rest.as_slice(), clock), clock),
+            None => first_due(&self.rest, clock),
         }
     }
 
@@ -230,7 +232,7 @@ impl<A: Allocator + Copy> Timers<A> {
         if let Some(lapse) = told_first(self.first, clock) {
             lapses.push_reserved(lapse);
         }
-        push_due(&mut lapses, due(self.rest.as_slice(), clock), clock);
+        push_due(&mut lapses, &self.rest, clock);
         Ok(lapses)
     }
 }

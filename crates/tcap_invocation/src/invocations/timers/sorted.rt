@@ -1,51 +1,79 @@
-//! Vectors of timers in order.
+//! Rings of timers in order.
 
 ghost use Rattle.std.specs.List.{cons_option};
-ghost use Rattle.std.specs.Prelude.{◌≡◌, ◌<◌, ◌≤◌, ◌∷◌, List, length, vec_len, vec_capacity};
+ghost use Rattle.std.specs.Prelude.{◌≡◌, ◌<◌, ◌≤◌, ◌∷◌, ◌++◌, [], IsTrue, List, length};
+ghost use Rattle.std.specs.VecDeque.{deque_len, deque_capacity};
 ghost use Rattle.tcap_invocation.specs.declared.invocations.timers.Timer.{Timer};
 ghost use Rattle.tcap_invocation.specs.Order.{put_by};
 ghost use Rattle.tcap_invocation.specs.TimerList.{IsInOrder, IsFilled, IsPlace, is_earlier};
 
 use super::Timer;
 use std::alloc::Allocator;
+use std::collections::VecDeque;
 
 /// Puts a timer in its place, in room that is there.
-pub(super) fn put<A: Allocator + Copy>(timers: &mut Vec<Timer, A>, timer: Timer)
+pub(super) fn put<A: Allocator + Copy>(timers: &mut VecDeque<Timer, A>, timer: Timer)
     requires order { IsInOrder timers.old.items }
-    requires room { vec_len timers.old < vec_capacity timers.old }
+    requires room { deque_len timers.old < deque_capacity timers.old }
     ensures timers { timers.new.items ≡ put_by is_earlier timer timers.old.items }
-    ensures room { vec_capacity timers.old ≤ vec_capacity timers.new }
+    ensures room { deque_capacity timers.old ≤ deque_capacity timers.new }
 {
-    let at = place_of(timers.as_slice(), timer);
+    if is_last(timers, timer) {
+        timers.push_back_reserved(timer);
+        return;
+    }
+    let at = place_of(timers, timer);
     timers.insert(at, timer).unwrap();
 }
 
+/// Whether a timer comes after all others, as the deadline of what is sent now mostly does.
+fn is_last<A: Allocator + Copy>(timers: &VecDeque<Timer, A>, timer: Timer) -> bool
+    requires { IsInOrder timers.now.items }
+    ensures { IsTrue result → put_by is_earlier timer timers.now.items ≡ timers.now.items ++ timer ∷ [] }
+{
+    match timers.back() {
+        Some(last) => is_earlier(*last, timer),
+        None => true,
+    }
+}
+
 /// Takes a timer out.
-pub(super) fn take<A: Allocator + Copy>(timers: &mut Vec<Timer, A>, timer: Timer)
+#[inline(never)]
+pub(super) fn take<A: Allocator + Copy>(timers: &mut VecDeque<Timer, A>, timer: Timer)
     requires order { IsInOrder timers.old.items }
     ensures timers { (left : List Timer) → timers.old.items ≡ put_by is_earlier timer left
         → timers.new.items ≡ left }
     ensures order { (first : Timer) → IsInOrder (first ∷ timers.old.items)
         → IsInOrder (first ∷ timers.new.items) }
-    ensures room { vec_capacity timers.new ≡ vec_capacity timers.old }
+    ensures room { deque_capacity timers.new ≡ deque_capacity timers.old }
 {
-    let at = place_of(timers.as_slice(), timer);
+    let at = place_of(timers, timer);
     if at < timers.len() {
         timers.remove(at);
     }
 }
 
 /// Takes the first out, if there is one.
-pub(super) fn take_first<A: Allocator + Copy>(timers: &mut Vec<Timer, A>) -> Option<Timer>
+pub(super) fn take_first<A: Allocator + Copy>(timers: &mut VecDeque<Timer, A>) -> Option<Timer>
     ensures timers { timers.old.items ≡ cons_option result timers.new.items }
     ensures filled { IsFilled result timers.new.items }
-    ensures room { vec_capacity timers.new ≡ vec_capacity timers.old }
+    ensures room { deque_capacity timers.new ≡ deque_capacity timers.old }
 {
     if timers.is_empty() {
         None
     } else {
-        Some(timers.remove(0))
+        pop_first(timers)
     }
+}
+
+/// The same, where there are any.
+#[inline(never)]
+fn pop_first<A: Allocator + Copy>(timers: &mut VecDeque<Timer, A>) -> Option<Timer>
+    ensures timers { timers.old.items ≡ cons_option result timers.new.items }
+    ensures filled { IsFilled result timers.new.items }
+    ensures room { deque_capacity timers.new ≡ deque_capacity timers.old }
+{
+    timers.pop_front()
 }
 
 /// Whether a timer stands before another: by time, then number.
@@ -56,10 +84,10 @@ pub(super) fn is_earlier(a: Timer, b: Timer) -> bool
 }
 
 /// The place where a timer stands, or where it is to be put.
-fn place_of(timers: &[Timer], timer: Timer) -> usize
-    requires { IsInOrder timers.now }
-    ensures bound { result ≤ length timers.now }
-    ensures place { IsPlace timer timers.now result }
+fn place_of<A: Allocator + Copy>(timers: &VecDeque<Timer, A>, timer: Timer) -> usize
+    requires { IsInOrder timers.now.items }
+    ensures bound { result ≤ length timers.now.items }
+    ensures place { IsPlace timer timers.now.items result }
 {
     timers.partition_point(
         |other: &Timer| -> bool

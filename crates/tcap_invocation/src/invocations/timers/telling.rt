@@ -1,12 +1,13 @@
 //! What is told of timers in order.
 
-ghost use Rattle.std.specs.Prelude.{◌≡◌, ◌≤◌, ◌+◌, ◌++◌, length, filter, filter_map, nat_le, vec_len, vec_capacity};
+ghost use Rattle.std.specs.Prelude.{◌≡◌, ◌≤◌, ◌+◌, ◌++◌, length, filter, filter_map, vec_len, vec_capacity};
 ghost use Rattle.tcap_invocation.specs.Order.{first_of};
 ghost use Rattle.tcap_invocation.specs.TimerList.{IsInOrder, is_over, told_of_timer, told_first};
 
 use super::Timer;
 use crate::invocations::lapse::Lapse;
 use std::alloc::Allocator;
+use std::collections::VecDeque;
 
 /// What is told of an invocation with this timer, if it lapses by the clock.
 fn told(timer: &Timer, clock: u64) -> Option<Lapse>
@@ -30,25 +31,18 @@ pub(super) fn told_first(first: Option<Timer>, clock: u64) -> Option<Lapse>
     told(&first?, clock)
 }
 
-/// The front of the list: those whose time has come at the clock.
-pub(super) fn due(timers: &[Timer], clock: u64) -> &[Timer]
-    requires { IsInOrder timers.now }
-    ensures told { filter_map (told_of_timer clock) result.now ≡ filter_map (told_of_timer clock) timers.now }
-    ensures over { filter (is_over clock) result.now ≡ filter (is_over clock) timers.now }
-{
-    let count = timers.partition_point(
-        |timer: &Timer| -> bool
-            ensures { result ≡ nat_le timer.now.time clock }
-        { timer.time <= clock },
-    );
-    timers.split_at(count).0
-}
-
 /// The first of those of a wait that is over at the clock.
-pub(super) fn first_over(timers: &[Timer], clock: u64) -> Option<Timer>
-    ensures { result ≡ first_of (filter (is_over clock) timers.now) }
+pub(super) fn first_over<A: Allocator + Copy>(
+    timers: &VecDeque<Timer, A>,
+    clock: u64,
+) -> Option<Timer>
+    requires { IsInOrder timers.now.items }
+    ensures { result ≡ first_of (filter (is_over clock) timers.now.items) }
 {
     for timer in timers.iter() {
+        if timer.is_later(clock) {
+            return None;
+        }
         if timer.is_over(clock) {
             return Some(*timer);
         }
@@ -56,18 +50,47 @@ pub(super) fn first_over(timers: &[Timer], clock: u64) -> Option<Timer>
     None
 }
 
-/// How many of them are of invocations that lapse by the clock.
-pub(super) fn due_count(timers: &[Timer], clock: u64) -> usize
-    ensures { result ≡ length (filter_map (told_of_timer clock) timers.now) }
+/// How many of them are of invocations that lapse by the clock. Mostly there are no timers.
+pub(super) fn due_count<A: Allocator + Copy>(timers: &VecDeque<Timer, A>, clock: u64) -> usize
+    requires { IsInOrder timers.now.items }
+    ensures { result ≡ length (filter_map (told_of_timer clock) timers.now.items) }
 {
-    timers.iter().filter_map(|timer| told(timer, clock)).count()
+    if timers.is_empty() {
+        return 0;
+    }
+    count_due(timers, clock)
+}
+
+/// The same, of timers that there are.
+#[inline(never)]
+fn count_due<A: Allocator + Copy>(timers: &VecDeque<Timer, A>, clock: u64) -> usize
+    requires { IsInOrder timers.now.items }
+    ensures { result ≡ length (filter_map (told_of_timer clock) timers.now.items) }
+{
+    let mut count = 0;
+    for timer in timers.iter() {
+        if timer.is_later(clock) {
+            return count;
+        }
+        if timer.lapses {
+            count += 1;
+        }
+    }
+    count
 }
 
 /// What is told of the first of these.
-pub(super) fn first_due(timers: &[Timer], clock: u64) -> Option<Lapse>
-    ensures { result ≡ first_of (filter_map (told_of_timer clock) timers.now) }
+pub(super) fn first_due<A: Allocator + Copy>(
+    timers: &VecDeque<Timer, A>,
+    clock: u64,
+) -> Option<Lapse>
+    requires { IsInOrder timers.now.items }
+    ensures { result ≡ first_of (filter_map (told_of_timer clock) timers.now.items) }
 {
     for timer in timers.iter() {
+        if timer.is_later(clock) {
+            return None;
+        }
         if let Some(lapse) = told(timer, clock) {
             return Some(lapse);
         }
@@ -78,13 +101,17 @@ pub(super) fn first_due(timers: &[Timer], clock: u64) -> Option<Lapse>
 /// Tells all of these, in room that is there.
 pub(super) fn push_due<A: Allocator + Copy>(
     lapses: &mut Vec<Lapse, A>,
-    timers: &[Timer],
+    timers: &VecDeque<Timer, A>,
     clock: u64,
 )
-    requires { vec_len lapses.old + length (filter_map (told_of_timer clock) timers.now) ≤ vec_capacity lapses.old }
-    ensures { lapses.new.items ≡ lapses.old.items ++ filter_map (told_of_timer clock) timers.now }
+    requires order { IsInOrder timers.now.items }
+    requires room { vec_len lapses.old + length (filter_map (told_of_timer clock) timers.now.items) ≤ vec_capacity lapses.old }
+    ensures { lapses.new.items ≡ lapses.old.items ++ filter_map (told_of_timer clock) timers.now.items }
 {
     for timer in timers.iter() {
+        if timer.is_later(clock) {
+            return;
+        }
         if let Some(lapse) = told(timer, clock) {
             lapses.push_reserved(lapse);
         }

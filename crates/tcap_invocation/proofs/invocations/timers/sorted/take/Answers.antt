@@ -1,6 +1,8 @@
-use Rattle.std.proofs.Common.{rules, arith, suc, ◌∙◌, ◌<◌, ◌∷◌, remove, length, List, subst, sym, ap}
+use Rattle.std.proofs.Common.{rules, tests, arith, suc, ◌≡◌, ◌∙◌, ◌<◌, ◌∷◌, remove, length, List, subst, sym, ap}
 use Rattle.tcap_invocation.specs.declared.invocations.timers.Timer.{Timer}
 use Rattle.tcap_invocation.specs.TimerList.{IsPlace, is_earlier}
+use Rattle.std.specs.Prelude.{IsSome}
+use Rattle.tcap_invocation.proofs.ListLemmas.{OnSome-of}
 use Rattle.tcap_invocation.proofs.SortLemmas.{remove-put}
 use Rattle.tcap_invocation.proofs.TimerLemmas.{earlier_never, IsInOrder-remove}
 use Rattle.tcap_invocation.proofs.invocations.timers.sorted.take.Goals as goal
@@ -9,11 +11,15 @@ pub returns-then-at-len-clause-timers : goal.returns-then-at-len-clause-timers
 returns-then-at-len-clause-timers g c = λ left is.
     let place : IsPlace c.args.timer c.args.timers.now.items c.place_of-at.result = search rules in
     let found = remove-put is_earlier c.args.timer left c.place_of-at.result (earlier_never c.args.timer) (subst (λ (ts : List Timer). IsPlace c.args.timer ts c.place_of-at.result) is place) in
-    c.remove.ensures.items ∙ ap (λ (ts : List Timer). remove ts c.place_of-at.result) is ∙ found.1
+    let some : IsSome c.remove.result = search (rules, tests) in
+    let removed : c.remove.new.self.items ≡ remove c.args.timers.now.items c.place_of-at.result = OnSome-of c.remove.result _ some c.remove.ensures.items in
+    removed ∙ ap (λ (ts : List Timer). remove ts c.place_of-at.result) is ∙ found.1
 
 pub returns-then-at-len-clause-order : goal.returns-then-at-len-clause-order
 returns-then-at-len-clause-order g c = λ first o.
-    rw c.remove.ensures.items (IsInOrder-remove (first ∷ c.args.timers.now.items) (suc c.place_of-at.result) o)
+    let some : IsSome c.remove.result = search (rules, tests) in
+    let removed : c.remove.new.self.items ≡ remove c.args.timers.now.items c.place_of-at.result = OnSome-of c.remove.result _ some c.remove.ensures.items in
+    rw removed (IsInOrder-remove (first ∷ c.args.timers.now.items) (suc c.place_of-at.result) o)
 
 pub returns-else-at-len-clause-timers : goal.returns-else-at-len-clause-timers
 returns-else-at-len-clause-timers g c = λ left is.
