@@ -1,81 +1,70 @@
 -- What the library reads as a number, and what a script writes as one.
-use Rattle.std.proofs.Common.{◌≡◌, ◌&&◌, ◌<◌, ◌≤◌, ◌^◌, ℕ, nat_le, nat_lt, Bool, true, false, List, [], ◌∷◌, Option, Some, None, Result, Ok, Err, refl, sym, ap, ◌∙◌, length, slice_index, MatchResult, arith, zero, suc, ℤ, pos, neg_ℤ, if◌then◌else◌, drop}
+use Rattle.std.proofs.Common.{◌≡◌, ◌&&◌, ◌<◌, ◌≤◌, ◌+◌, ◌-◌, ◌*◌, ℕ, nat_le, Bool, true, false, List, [], ◌∷◌, Option, Some, None, refl, sym, ap, ◌∙◌, length, slice_index, arith, ℤ, pos, neg_ℤ, if◌then◌else◌, drop}
 use Rattle.std.specs.Prelude.{int_le}
-use Rattle.std.specs.Str.{IsUtf8, IsAscii}
-use Rattle.std.proofs.lemmas.Str.{IsUtf8-from_ascii}
-use Rattle.std.specs.Str.Parse.{AllDigits, IsNumeral, ParsesUnsigned, digits_value, without_leading_plus}
+use Rattle.std.proofs.lemmas.List.{drop_all, drop_more}
+use Rattle.std.specs.Char.{digit_value, is_digit}
+use Rattle.std.specs.Str.Parse.{digits_value_after}
 use Rattle.std.specs.Option.{option_and_then}
-use Rattle.std.specs.Result.{result_ok}
-use Rattle.tcap_play.specs.Numbers.{are_digits, is_padded, number, at_most, number_up_to, negative, between, signed_number, number_between}
-
--- digits are digits
-pub all_digits : (word : List ℕ) → are_digits word ≡ true → AllDigits 10 word
-all_digits [] h = tt
-all_digits (octet ∷ rest) h = (grind (arith), all_digits rest (grind (arith)))
-
-pub digits_all : (word : List ℕ) → AllDigits 10 word → are_digits word ≡ true
-digits_all [] h = refl
-digits_all (octet ∷ rest) h = let first = h.0 in let more = digits_all rest h.1 in grind (arith)
-
--- digits are text
-pub digits_ascii : (word : List ℕ) → are_digits word ≡ true → IsAscii word
-digits_ascii [] h i = grind (arith)
-digits_ascii (octet ∷ rest) h zero = grind (arith)
-digits_ascii (octet ∷ rest) h (suc i) = digits_ascii rest (grind (arith)) i
-
--- what isn't text is no number
-pub not_text : (most : ℕ) (word : List ℕ) → (IsUtf8 word → ⊥) → None ≡ number_up_to most word
-not_text most word other = go (are_digits word) refl where
-  go : (b : Bool) → are_digits word ≡ b → None ≡ number_up_to most word
-  go true h = absurd (other (IsUtf8-from_ascii word (digits_ascii word h)))
-  go false h = grind (arith, h)
-
--- a word that isn't padded has no plus sign to take off
-no_plus : (word : List ℕ) → is_padded word ≡ false → without_leading_plus word ≡ word
-no_plus [] h = refl
-no_plus (first ∷ rest) h = grind (arith)
+use Rattle.tcap_play.specs.Numbers.{are_digits, is_padded, number, at_most, next_number, number_up_to, negative, between, signed_number, number_between}
 
 abbrev some_of : ℕ → Option ℕ
 some_of n = Some n
 
--- the digits of a word that isn't padded, as the library has them
-abbrev IsRead : List ℕ → Type 0
-IsRead word = IsNumeral 10 word × (digits_value 10 word < 2 ^ 64)
+-- the number that these digits write behind those of another
+abbrev pub read_on : ℕ → List ℕ → Option ℕ
+read_on n [] = Some n
+read_on n (c ∷ cs) = option_and_then (λ m. read_on m cs) (next_number n c)
 
--- such digits are the number
-number_is : (word : List ℕ) → is_padded word ≡ false → IsRead word → number_up_to 18446744073709551615 word ≡ Some (digits_value 10 word)
-number_is word bare is = let digits = digits_all word is.0.1 in grind (arith, bare, digits, is)
+-- further digits make no number smaller
+grows : (n : ℕ) (digits : List ℕ) → n ≤ digits_value_after 10 n digits
+grows n [] = omega arith
+grows n (c ∷ cs) = let more = grows (n * 10 + digit_value c) cs in omega (arith, more)
 
--- a word without such digits is no number
-number_isnt : (word : List ℕ) → is_padded word ≡ false → (IsRead word → ⊥) → number_up_to 18446744073709551615 word ≡ None
-number_isnt word bare isnt = go (are_digits word) refl (nat_lt 0 (length word)) refl (nat_le (digits_value 10 word) 18446744073709551615) refl where
-  go : (b : Bool) → are_digits word ≡ b → (some : Bool) → nat_lt 0 (length word) ≡ some → (low : Bool) → nat_le (digits_value 10 word) 18446744073709551615 ≡ low
-      → number_up_to 18446744073709551615 word ≡ None
-  go true h true h0 true h1 = absurd (isnt ((grind (arith, h0), all_digits word h), grind (arith, h1)))
-  go true h true h0 false h1 = grind (arith, h, h0, h1, bare)
-  go true h false h0 low h1 = grind (arith, h, h0, h1, bare)
-  go false h some h0 low h1 = grind (arith, h, h0, h1, bare)
+-- the number of the digits, where they are digits and 64 bits hold it
+abbrev told : ℕ → List ℕ → Option ℕ
+told n digits = if are_digits digits then at_most 18446744073709551615 (digits_value_after 10 n digits) else None
 
--- a word that isn't padded writes the number that the library reads
-pub number_read : {E : Type 0} (word : List ℕ) (read : Result ℕ E) → is_padded word ≡ false → ParsesUnsigned 64 10 word read
-    → result_ok read ≡ number_up_to 18446744073709551615 word
-number_read word (Ok n) bare parsed =
-    let same = no_plus word bare in
-    let digits : IsRead word = rw (sym same) parsed.0 in
-    ap some_of (rw (sym same) parsed.1) ∙ sym (number_is word bare digits)
-number_read word (Err e) bare parsed =
-    let same = no_plus word bare in
-    sym (number_isnt word bare (λ digits. parsed (rw same digits)))
+too_large : (n : ℕ) (digits : List ℕ) → 18446744073709551615 < n → told n digits ≡ None
+too_large n digits above = go (are_digits digits) refl where
+  go : (b : Bool) → are_digits digits ≡ b → told n digits ≡ None
+  go true h = let more = grows n digits in grind (arith, h, more, above)
+  go false h = rw h refl
 
--- what isn't read as text isn't text
-pub unread : {T E : Type 0} (P : T → Type 0) (N : Type 0) (X : E → Type 0) (read : Result T E) → MatchResult read P (λ e. N × X e) → result_ok read ≡ None → N
-unread P N X (Ok text) h none = absurd cc
-unread P N X (Err e) h none = h.0
+read_told : (n : ℕ) (digits : List ℕ) → n ≤ 18446744073709551615 → read_on n digits ≡ told n digits
+read_told n [] fits = grind (arith, fits)
+read_told n (c ∷ cs) fits = go (λ m h. read_told m cs h) (nat_le 48 c && nat_le c 57) refl where
+  held : ((k : ℕ) → k ≤ 18446744073709551615 → read_on k cs ≡ told k cs) → (m : ℕ) (b : Bool) → nat_le m 18446744073709551615 ≡ b → option_and_then (λ k. read_on k cs) (if b then Some m else None) ≡ told m cs
+  held next m true h = next m (grind (arith, h))
+  held next m false h = sym (too_large m cs (grind (arith, h)))
 
--- what is read as text is the text
-pub was_read : {T E : Type 0} (P : T → Type 0) (X : E → Type 0) (read : Result T E) (text : T) → MatchResult read P X → result_ok read ≡ Some text → P text
-was_read P X (Ok read) text h is = let same : read ≡ text = cc in rw (sym same) h
-was_read P X (Err e) text h is = absurd cc
+  go : ((k : ℕ) → k ≤ 18446744073709551615 → read_on k cs ≡ told k cs) → (b : Bool) → (nat_le 48 c && nat_le c 57) ≡ b → option_and_then (λ m. read_on m cs) (if b then at_most 18446744073709551615 (n * 10 + (c - 48)) else None) ≡ told n (c ∷ cs)
+  go next true h =
+      let value : digit_value c ≡ c - 48 = grind (arith, h) in
+      let is : is_digit c 10 ≡ true = grind (arith, h) in
+      rw (is, value) (held next (n * 10 + (c - 48)) (nat_le (n * 10 + (c - 48)) 18446744073709551615) refl)
+  go next false h = let isnt : is_digit c 10 ≡ false = grind (arith, h) in rw isnt refl
+
+-- the digits of a word that isn't padded are its number
+pub read_number : (word : List ℕ) → (length word ≡ 0 → ⊥) → is_padded word ≡ false → read_on 0 word ≡ number_up_to 18446744073709551615 word
+read_number word some bare = read_told 0 word (omega arith) ∙ go (are_digits word) refl where
+  go : (b : Bool) → are_digits word ≡ b → told 0 word ≡ number_up_to 18446744073709551615 word
+  go b h = grind (arith, h, some, bare)
+
+-- one digit more was read
+pub digit_read : (word : List ℕ) (i n m : ℕ) (whole : Option ℕ) → i < length word → Some m ≡ next_number n (slice_index word i)
+    → read_on n (drop i word) ≡ whole → read_on m (drop (i + 1) word) ≡ whole
+digit_read word i n m whole within is inv =
+    ap (option_and_then (λ k. read_on k (drop (i + 1) word))) is ∙ (rw (drop_more word i 0 within) at inv)
+
+-- what is no digit, or makes the number too large, makes the word no number
+pub digit_unread : (word : List ℕ) (i n : ℕ) (whole : Option ℕ) → i < length word → None ≡ next_number n (slice_index word i)
+    → read_on n (drop i word) ≡ whole → None ≡ whole
+digit_unread word i n whole within is inv =
+    ap (option_and_then (λ k. read_on k (drop (i + 1) word))) is ∙ (rw (drop_more word i 0 within) at inv)
+
+-- no digit is left
+pub digits_read : (word : List ℕ) (i n : ℕ) (whole : Option ℕ) → length word ≤ i → read_on n (drop i word) ≡ whole → Some n ≡ whole
+digits_read word i n whole past inv = rw (drop_all i word past) at inv
 
 -- the range of 8 bits lies in that of 32
 pub narrower : (word : List ℕ) (n : Option ℤ) → n ≡ number_between (neg_ℤ (pos 2147483648)) (pos 2147483647) word → option_and_then (between (neg_ℤ (pos 128)) (pos 127)) n ≡ number_between (neg_ℤ (pos 128)) (pos 127) word

@@ -1,5 +1,5 @@
 -- Numbers as a script writes them.
-use Rattle.std.specs.Prelude.{◌==◌, ◌&&◌, not, ℕ, ℤ, pos, neg_ℤ, int_le, nat_le, nat_lt, length, ◌||◌, Bool, false, List, [], ◌∷◌, Option, Some, None, if◌then◌else◌}
+use Rattle.std.specs.Prelude.{◌==◌, ◌&&◌, ◌+◌, ◌-◌, ◌*◌, not, ℕ, ℤ, pos, neg_ℤ, int_le, nat_le, nat_lt, length, ◌||◌, Bool, false, List, [], ◌∷◌, Option, Some, None, if◌then◌else◌}
 use Rattle.std.specs.Char.{is_digit}
 use Rattle.std.specs.List.{list_all}
 use Rattle.std.specs.Str.Parse.{digits_value}
@@ -29,6 +29,10 @@ at_most most n = if nat_le n most then Some n else None
 -- The number that a word writes, where it is at most so much (own).
 abbrev pub number_up_to : ℕ → List ℕ → Option ℕ
 number_up_to most word = option_and_then (at_most most) (number word)
+
+-- A number with one digit more behind it, none where the octet is no digit or 64 bits don't hold it (own).
+abbrev pub next_number : ℕ → ℕ → Option ℕ
+next_number n c = if nat_le 48 c && nat_le c 57 then at_most 18446744073709551615 (n * 10 + (c - 48)) else None
 
 -- The number below zero whose digits these are; 0 is none (own).
 abbrev pub negative : ℕ → Option ℤ

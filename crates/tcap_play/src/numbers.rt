@@ -1,9 +1,7 @@
 //! Numbers in a script.
 
 ghost use Rattle.std.specs.Prelude.{◌≡◌, neg_ℤ, pos, option_and_then};
-ghost use Rattle.tcap_play.specs.Numbers.{is_padded, number_up_to, number_between, between, negative};
-
-use std::str;
+ghost use Rattle.tcap_play.specs.Numbers.{is_padded, next_number, number_up_to, number_between, between, negative};
 
 /// Whether a zero or a plus sign stands before the rest of a number.
 fn is_padded(word: &[u8]) -> bool
@@ -12,14 +10,30 @@ fn is_padded(word: &[u8]) -> bool
     matches!(word, [b'+', ..] | [b'0', _, ..])
 }
 
-/// The number that a word writes, up to the largest of 64 bits.
+/// A number with one digit more behind it, None where the octet is no digit or 64 bits don't hold it.
+#[inline(always)]
+fn with_digit(n: u64, octet: u8) -> Option<u64>
+    ensures { result ≡ next_number n octet }
+{
+    if octet < b'0' || octet > b'9' {
+        return None;
+    }
+    n.checked_mul(10)?.checked_add(u64::from(octet - b'0'))
+}
+
+/// The number that a word writes, up to the largest of 64 bits. Its octets are digits as they are read, so
+/// they needn't be text first.
 pub(crate) fn number(word: &[u8]) -> Option<u64>
     ensures { result ≡ number_up_to 18446744073709551615 word.now }
 {
-    if is_padded(word) {
+    if word.is_empty() || is_padded(word) {
         return None;
     }
-    str::from_utf8(word).ok()?.parse().ok()
+    let mut n = 0u64;
+    for octet in word {
+        n = with_digit(n, *octet)?;
+    }
+    Some(n)
 }
 
 /// The number that a word writes, up to the largest of 32 bits.

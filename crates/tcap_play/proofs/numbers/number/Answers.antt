@@ -1,13 +1,22 @@
-use Rattle.std.proofs.Common.{◌≡◌, ◌∙◌, sym, false}
-use Rattle.tcap_play.specs.Numbers.{is_padded}
-use Rattle.tcap_play.proofs.Numerals.{not_text, number_read, unread, was_read}
+use Rattle.std.proofs.Common.{rules, ◌≡◌, ◌∙◌, sym, false, length}
+use Rattle.tcap_play.specs.Numbers.{is_padded, number_up_to}
+use Rattle.tcap_play.proofs.Numerals.{digit_read, digit_unread, digits_read, read_number}
 use Rattle.tcap_play.proofs.numbers.number.Goals as goal
 
-pub returns-in_err-ok : goal.returns-in_err-ok
-returns-in_err-ok c = c.from_residual.ensures ∙ not_text _ c.args.word.now (unread _ _ _ c.from_utf8.result c.from_utf8.ensures.cases (sym c.ok.ensures.value ∙ c.in_err-ok.was))
+pub loop-octet-preserved : goal.loop-octet-preserved
+loop-octet-preserved c =
+    digit_read c.args.word.now c.loop-octet.octet-index c.loop-octet.n c.in_ok-n.n _ (search rules) (search rules) c.loop-octet.invariant
+
+pub returns-in_err-n : goal.returns-in_err-n
+returns-in_err-n c =
+    let word = c.args.word.now in
+    let bare : is_padded word ≡ false = sym c.is_padded.ensures ∙ c.if-is_padded.false in
+    let some : length word ≡ 0 → ⊥ = search rules in
+    c.from_residual.ensures ∙ digit_unread word c.loop-octet.octet-index c.loop-octet.n (number_up_to 18446744073709551615 word) (search rules) (search rules) (c.loop-octet.invariant ∙ read_number word some bare)
 
 pub returns : goal.returns
 returns c =
-    let bare : is_padded c.args.word.now ≡ false = sym c.is_padded.ensures ∙ c.if-is_padded.false in
-    let text : c.in_ok-ok.field-0.now ≡ c.args.word.now = (was_read _ _ c.from_utf8.result c.in_ok-ok.field-0 c.from_utf8.ensures.cases (sym c.ok.ensures.value ∙ c.in_ok-ok.was)).0 in
-    c.ok-2.ensures.value ∙ number_read c.args.word.now c.parse.result bare (rw (sym text) c.parse.ensures.value.0)
+    let word = c.args.word.now in
+    let bare : is_padded word ≡ false = sym c.is_padded.ensures ∙ c.if-is_padded.false in
+    let some : length word ≡ 0 → ⊥ = search rules in
+    digits_read word c.loop-octet.octet-index c.loop-octet.n (number_up_to 18446744073709551615 word) (search rules) (c.loop-octet.invariant ∙ read_number word some bare)
