@@ -1,4 +1,5 @@
 pub mod FirstPieces
+pub mod LineActs
 pub mod MessagePlaces
 pub mod Nets
 pub mod Numerals
@@ -7,4 +8,5 @@ pub mod Openings
 pub mod PlayLines
 pub mod PlayStarts
 pub mod PlaySteps
+pub mod RejectTexts
 pub mod WordCounts

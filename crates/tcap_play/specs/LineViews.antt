@@ -1,7 +1,8 @@
 -- Words, names and lines as a contract sees them.
-use Rattle.std.specs.Prelude.{ℕ, List, Option, map}
+use Rattle.std.specs.Prelude.{ℕ, List, map}
+use Rattle.ber_core.specs.Place.{Slice}
 use Rattle.tcap_engine.specs.EventViews.{event_view}
-use Rattle.tcap_play.specs.ScriptLine.{ScriptLine, line_of_six}
+use Rattle.tcap_play.specs.ScriptLine.{ScriptLine}
 use Rattle.tcap_play.specs.ScriptWords.{MessageName}
 use Rattle.tcap_play.specs.SideView.{side_view}
 use Rattle.tcap_play.specs.declared.script.word.Word.{Word}
@@ -14,16 +15,12 @@ abbrev pub text_of : {A : Type 0} → Word A → List ℕ
 text_of word = word.text.now
 
 -- The characters of words (own).
-abbrev pub texts_of : {A : Type 0} → List (Word A) → List (List ℕ)
-texts_of words = map text_of words
+abbrev pub texts_of : List Slice → List (List ℕ)
+texts_of words = map (λ w. w.now) words
 
 -- The name of a message (own).
 abbrev pub name_view : Name → MessageName
 name_view name = record { engine = side_view name.side; number = name.number }
-
--- What a line of six words asks for, three of which may be octets (own).
-abbrev pub line_of_six_words : {A : Type 0} → List ℕ → List ℕ → List ℕ → Word A → Word A → Word A → Option ScriptLine
-line_of_six_words side name dialogue id word last = line_of_six side name dialogue (text_of id) (text_of word) (text_of last)
 
 -- What a line asks for (own).
 abbrev pub line_view : Line → ScriptLine

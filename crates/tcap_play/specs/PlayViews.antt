@@ -11,7 +11,8 @@ use Rattle.tcap_play.specs.AnswerText.{answer_lines}
 use Rattle.tcap_play.specs.LineViews.{name_view}
 use Rattle.tcap_play.specs.Pieces.{pieces_left}
 use Rattle.tcap_play.specs.Play as play
-use Rattle.tcap_play.specs.Play.{Played, Stepped, behind, carried, followed, handed, has_fate, history_of, lost_from, message_in, message_to, messages_in, messages_of, printed_from, received_from, sent_by, with_fate}
+use Rattle.tcap_play.specs.Play.{Played, Stepped, behind, carried, followed, handed, has_fate, history_of, lost_from, message_in, message_to, messages_in, messages_of, printed_from, received_from, sent_by, step, with_fate}
+use Rattle.tcap_play.specs.ScriptLine.{ScriptLine}
 use Rattle.tcap_play.specs.SideView.{side_view}
 use Rattle.tcap_play.specs.Sides.{Engine, address_of, far}
 use Rattle.tcap_play.specs.declared.message.Message.{Message}
@@ -125,6 +126,11 @@ StepsBy says a b a_now b_now before after = (p : Played) → IsAt p a b → HasS
 -- At each play at which these two sides stand there is this step, or none, and it was told which (own).
 abbrev pub ActsBy : {A : Type 0} → (Played → Option Stepped) → Bool → (a b a_now b_now : Station A) → (before after : List ℕ) → Type 0
 ActsBy says done a b a_now b_now before after = (p : Played) → IsAt p a b → Does (says p) done a_now b_now before after
+
+-- The same of the step that a line asks for, if it is one (own).
+abbrev pub ActsOn : {A : Type 0} → Option ScriptLine → Bool → (a b a_now b_now : Station A) → (before after : List ℕ) → Type 0
+ActsOn line done a b a_now b_now before after =
+    ActsBy (λ p. option_and_then (step p) line) done a b a_now b_now before after
 
 -- At each play at which these two sides stand it goes on behind this line, or ends with it (own).
 abbrev pub GoesOnAt : {A : Type 0} → ℕ → List ℕ → Bool → (a b a_now b_now : Station A) → (before after : List ℕ) → Type 0

@@ -7,7 +7,7 @@ ghost use Rattle.tcap_model.specs.Words.Answer as model;
 ghost use Rattle.tcap_play.specs.AnswerText.{prints_nothing, sends_in, output_lines, answer_lines};
 ghost use Rattle.tcap_play.specs.SideView.{side_view};
 
-use crate::output_text::{add_line, add_output};
+use crate::output_text::add_output;
 use crate::side::Side;
 use ber_core::OutOfMemory;
 use std::alloc::Allocator;
@@ -31,7 +31,6 @@ fn sends<A: Allocator + Copy>(output: &Output<'_, A>) -> u128
 
 /// Adds the lines of the outputs of a side that has sent so many messages before them.
 fn add_outputs<A: Allocator + Copy>(
-    alloc: A,
     text: &mut String<A>,
     side: Side,
     sent: usize,
@@ -44,7 +43,7 @@ fn add_outputs<A: Allocator + Copy>(
     // The number of a message is above a usize where `sent` is the highest.
     let mut count = sent as u128;
     for output in outputs {
-        add_output(alloc, text, side, count + 1, output)?;
+        add_output(text, side, count + 1, output)?;
         count += sends(output);
     }
     Ok(())
@@ -53,7 +52,6 @@ fn add_outputs<A: Allocator + Copy>(
 /// Adds the lines of an answer of a side that has sent so many messages before it: its outputs one by
 /// one, every other answer in one line.
 pub(crate) fn add_answer<A: Allocator + Copy>(
-    alloc: A,
     text: &mut String<A>,
     side: Side,
     sent: usize,
@@ -64,16 +62,17 @@ pub(crate) fn add_answer<A: Allocator + Copy>(
     // Memory is refused only where something is printed.
     ensures err { OnErr result (prints_nothing (answer_view answer.now) ≡ false) }
 {
-    let words = match answer {
-        Answer::NewDialogue(dialogue) => format!(in alloc; "new {dialogue}")?,
-        Answer::Number(number) => format!(in alloc; "number {number}")?,
-        Answer::Done => format!(in alloc; "done")?,
-        Answer::GivenUp(number) => format!(in alloc; "givenup {number}")?,
-        Answer::Outputs(outputs) => return add_outputs(alloc, text, side, sent, outputs),
+    let letter = side.letter();
+    match answer {
+        Answer::NewDialogue(dialogue) => write!(text, "{letter} new {dialogue}\n")?,
+        Answer::Number(number) => write!(text, "{letter} number {number}\n")?,
+        Answer::Done => write!(text, "{letter} done\n")?,
+        Answer::GivenUp(number) => write!(text, "{letter} givenup {number}\n")?,
+        Answer::Outputs(outputs) => add_outputs(text, side, sent, outputs)?,
         Answer::Refused(fault) => {
             let number = fault.number();
-            format!(in alloc; "refused {number}")?
+            write!(text, "{letter} refused {number}\n")?
         }
-    };
-    add_line(text, side, &words)
+    }
+    Ok(())
 }

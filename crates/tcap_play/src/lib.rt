@@ -7,6 +7,7 @@
 
 mod addresses;
 mod answer_text;
+mod by_words;
 pub mod examples;
 pub mod laws;
 mod message;

@@ -9,8 +9,7 @@ ghost use Rattle.tcap_play.specs.Pieces.{left};
 
 use crate::pieces::{first_piece, is_skipped};
 use crate::script::values::{idle_limit, is};
-use crate::script::word::Word;
-use crate::script::words::words_of;
+use crate::script::words::cut_words;
 use ber_core::OutOfMemory;
 use std::alloc::Allocator;
 
@@ -26,12 +25,12 @@ pub(crate) struct Opening<'s> {
 }
 
 /// The idle limit that the words of a line set: `idle MS`; None where they have another form.
-pub(crate) fn limit_in<A: Allocator>(words: &[Word<'_, A>]) -> Option<u64>
+pub(crate) fn limit_in(words: &[&[u8]]) -> Option<u64>
     ensures value { result ≡ limit_in (texts_of words.now) }
     ensures limited { IfSome result (λ limit. limit ≤ moment_limit) }
 {
-    if words.len() == 2 && is(words[0].text, "idle") {
-        idle_limit(words[1].text)
+    if words.len() == 2 && is(words[0], "idle") {
+        idle_limit(words[1])
     } else {
         None
     }
@@ -42,7 +41,8 @@ fn limit_of<A: Allocator + Copy>(alloc: A, line: &[u8]) -> Result<Option<u64>, O
     ensures value { IfOk result (λ limit. limit ≡ limit_of line.now) }
     ensures limited { IfOk result (λ found. IfSome found (λ limit. limit ≤ moment_limit)) }
 {
-    let words = words_of(alloc, line)?;
+    let mut words = Vec::new(alloc);
+    cut_words(&mut words, line)?;
     Ok(limit_in(&words))
 }
 

@@ -4,64 +4,50 @@ mod closings;
 mod components;
 mod dialogues;
 
-ghost use Rattle.std.specs.Prelude.{◌≡◌, ◌++◌, OnOk, IfOk, string_bytes};
+ghost use Rattle.std.specs.Prelude.{◌≡◌, ◌++◌, OnOk, string_bytes};
 ghost use Rattle.tcap_primitives.specs.OutputViews.{drop_view, shown};
-ghost use Rattle.tcap_play.specs.OutputText.{drop_words, send_words, strange_words, output_words, engine_line, output_line};
+ghost use Rattle.tcap_play.specs.OutputText.{drop_words, send_words, strange_words, output_words, output_line};
 ghost use Rattle.tcap_play.specs.SideView.{side_view};
 
-use crate::addresses::Addresses;
 use crate::side::Side;
 use ber_core::OutOfMemory;
-use closings::closing_text;
-use components::component_text;
-use dialogues::dialogue_text;
+use closings::add_closing;
+use components::add_component;
+use dialogues::add_dialogue;
 use std::alloc::Allocator;
 use tcap_engine::{Address, DropWhy, Output};
-use tcap_text::octets_or_dash;
+use tcap_text::{add_hex, add_octets_or_dash};
 
-/// Adds a line of a side.
-pub(crate) fn add_line<A: Allocator + Copy>(
+/// Adds where a message goes that doesn't go to the other side; nothing of one that does.
+fn add_strange<A: Allocator + Copy>(
     text: &mut String<A>,
     side: Side,
-    words: &str,
-) -> Result<(), OutOfMemory>
-    ensures { OnOk result (string_bytes text.new ≡ string_bytes text.old ++ engine_line (side_view side) words.now) }
-{
-    let letter = side.letter();
-    write!(text, "{letter} {words}\n")?;
-    Ok(())
-}
-
-/// Where a message goes that doesn't go to the other side; nothing of one that does.
-fn strange_text<A: Allocator + Copy>(
-    alloc: A,
-    side: Side,
     to: &Address,
-) -> Result<String<A>, OutOfMemory>
-    ensures { IfOk result (λ words. string_bytes words ≡ strange_words (side_view side) to.now) }
+) -> Result<(), OutOfMemory>
+    ensures { OnOk result (string_bytes text.new ≡ string_bytes text.old ++ strange_words (side_view side) to.now) }
 {
-    let addresses = Addresses::new();
-    if to.octets() == addresses.beyond(side).octets() {
-        return Ok(String::new(alloc));
+    if to.octets() == side.beyond().octets() {
+        return Ok(());
     }
-    let to = octets_or_dash(alloc, to.octets())?;
-    Ok(format!(in alloc; " to {to}")?)
+    text.push_str(" to ")?;
+    add_octets_or_dash(text, to.octets())
 }
 
-/// A message that a side sends, of this number among all that it sends.
-fn send_text<A: Allocator + Copy>(
-    alloc: A,
+/// Adds a message that a side sends, of this number among all that it sends.
+fn add_send<A: Allocator + Copy>(
+    text: &mut String<A>,
     side: Side,
     number: u128,
     to: &Address,
     bytes: &[u8],
-) -> Result<String<A>, OutOfMemory>
-    ensures { IfOk result (λ words. string_bytes words ≡ send_words (side_view side) number to.now bytes.now) }
+) -> Result<(), OutOfMemory>
+    ensures { OnOk result (string_bytes text.new ≡ string_bytes text.old
+        ++ send_words (side_view side) number to.now bytes.now) }
 {
     let letter = side.letter();
-    let bytes = hex::encode(alloc, bytes)?;
-    let strange = strange_text(alloc, side, to)?;
-    Ok(format!(in alloc; "send {letter}{number} {bytes}{strange}")?)
+    write!(text, "send {letter}{number} ")?;
+    add_hex(text, bytes)?;
+    add_strange(text, side, to)
 }
 
 /// Why a message is dropped.
@@ -76,36 +62,37 @@ fn drop_text(why: DropWhy) -> &'static str
     }
 }
 
-/// The words of an output of a side; `number` is that of the message, if it sends one.
-fn output_text<A: Allocator + Copy>(
-    alloc: A,
+/// Adds the words of an output of a side; `number` is that of the message, if it sends one.
+fn add_words<A: Allocator + Copy>(
+    text: &mut String<A>,
     side: Side,
     number: u128,
     output: &Output<'_, A>,
-) -> Result<String<A>, OutOfMemory>
-    ensures { IfOk result (λ words. string_bytes words ≡ output_words (side_view side) number (shown output.now)) }
+) -> Result<(), OutOfMemory>
+    ensures { OnOk result (string_bytes text.new ≡ string_bytes text.old
+        ++ output_words (side_view side) number (shown output.now)) }
 {
     match output {
-        Output::Send { to, bytes } => send_text(alloc, side, number, to, bytes),
+        Output::Send { to, bytes } => add_send(text, side, number, to, bytes),
         Output::Uni { .. } | Output::Begin { .. } | Output::Continue { .. } | Output::End { .. } =>
-            { dialogue_text(alloc, output) }
-        Output::UAbort { .. } | Output::PAbort { .. } => dialogue_text(alloc, output),
-        Output::Invoked { .. } | Output::ResultMore { .. } => component_text(alloc, output),
-        Output::LocalReject { .. } | Output::RemoteReject { .. } => component_text(alloc, output),
-        Output::ResultLast { .. } | Output::ErrorBack { .. } => closing_text(alloc, output),
+            { add_dialogue(text, output) }
+        Output::UAbort { .. } | Output::PAbort { .. } => add_dialogue(text, output),
+        Output::Invoked { .. } | Output::ResultMore { .. } => add_component(text, output),
+        Output::LocalReject { .. } | Output::RemoteReject { .. } => add_component(text, output),
+        Output::ResultLast { .. } | Output::ErrorBack { .. } => add_closing(text, output),
         Output::Rejected { .. } | Output::Lapsed { .. } | Output::Ended { .. } => {
-            closing_text(alloc, output)
+            add_closing(text, output)
         }
         Output::Dropped(why) => {
-            let why = drop_text(*why);
-            Ok(format!(in alloc; "dropped {why}")?)
+            text.push_str("dropped ")?;
+            Ok(text.push_str(drop_text(*why))?)
         }
     }
 }
 
-/// Adds the line of an output of a side; `number` is that of the message, if it sends one.
+/// Adds the line of an output of a side; `number` is that of the message, if it sends one. Each part of it
+/// goes behind the text that is there: no block is made of it first.
 pub(crate) fn add_output<A: Allocator + Copy>(
-    alloc: A,
     text: &mut String<A>,
     side: Side,
     number: u128,
@@ -114,6 +101,9 @@ pub(crate) fn add_output<A: Allocator + Copy>(
     ensures { OnOk result (string_bytes text.new ≡ string_bytes text.old
         ++ output_line (side_view side) number (shown output.now)) }
 {
-    let words = output_text(alloc, side, number, output)?;
-    add_line(text, side, &words)
+    text.push_str(side.letter())?;
+    text.push_str(" ")?;
+    add_words(text, side, number, output)?;
+    text.push_str("\n")?;
+    Ok(())
 }

@@ -12,12 +12,13 @@ ghost use Rattle.tcap_play.specs.SideView.{side_view};
 ghost use Rattle.tcap_play.specs.Sides.{Engine as Which};
 
 use crate::addresses::Addresses;
+use crate::by_words::act_on;
 use crate::message::{message_if, set_fate};
 use crate::opening::{Opening, opening_of};
 use crate::pieces::{first_piece, is_skipped};
-use crate::script::line::{Line, line_of};
+use crate::script::line::Line;
 use crate::script::values::Name;
-use crate::script::words::words_of;
+use crate::script::words::cut_words;
 use crate::side::Side;
 use crate::station::{Station, hand};
 use ber_core::OutOfMemory;
@@ -27,26 +28,24 @@ use tcap_text::{Fate, Shown};
 
 /// Hands an event to the engine of a side.
 fn call<A: Allocator + Copy>(
-    alloc: A,
     side: Side,
-    event: Event<'_>,
+    event: &Event<'_>,
     a: &mut Station<A>,
     b: &mut Station<A>,
     text: &mut String<A>,
 ) -> Result<(), OutOfMemory>
-    ensures { OnOk result (StepsBy (handed (side_view side) (event_view event.entry)) a.old b.old a.new b.new
+    ensures { OnOk result (StepsBy (handed (side_view side) (event_view event.now)) a.old b.old a.new b.new
         (string_bytes text.old) (string_bytes text.new)) }
 {
     match side {
-        Side::A => hand(alloc, side, a, event, text),
-        Side::B => hand(alloc, side, b, event, text),
+        Side::A => hand(side, a, event, text),
+        Side::B => hand(side, b, event, text),
     }
 }
 
 /// Hands the message with this number, if it is in this state and goes to this other side, to the engine
 /// there, and tells whether it did.
 fn receive_from<A: Allocator + Copy>(
-    alloc: A,
     addresses: &Addresses,
     from: &mut Station<A>,
     number: u64,
@@ -66,7 +65,7 @@ fn receive_from<A: Allocator + Copy>(
         return Ok(false);
     }
     let event = Event::Bytes(addresses.beyond(side), &message.octets);
-    hand(alloc, side, to, event, text)?;
+    hand(side, to, &event, text)?;
     set_fate(&mut from.sent, number, Fate::Delivered);
     Ok(true)
 }
@@ -74,7 +73,6 @@ fn receive_from<A: Allocator + Copy>(
 /// Hands the message of this name, if it is in this state and goes to the other side, to the engine there,
 /// and tells whether it did.
 fn receive<A: Allocator + Copy>(
-    alloc: A,
     addresses: &Addresses,
     name: Name,
     fate: Fate,
@@ -87,8 +85,8 @@ fn receive<A: Allocator + Copy>(
 {
     let number = name.number;
     match name.side {
-        Side::A => receive_from(alloc, addresses, a, number, fate, Side::B, b, text),
-        Side::B => receive_from(alloc, addresses, b, number, fate, Side::A, a, text),
+        Side::A => receive_from(addresses, a, number, fate, Side::B, b, text),
+        Side::B => receive_from(addresses, b, number, fate, Side::A, a, text),
     }
 }
 
@@ -117,7 +115,6 @@ fn lose<A: Allocator + Copy>(name: Name, a: &mut Station<A>, b: &mut Station<A>)
 
 /// Hands the moment to both engines, to A first.
 fn advance<A: Allocator + Copy>(
-    alloc: A,
     now: u64,
     a: &mut Station<A>,
     b: &mut Station<A>,
@@ -126,13 +123,12 @@ fn advance<A: Allocator + Copy>(
     ensures { OnOk result (StepsBy (advanced_to now) a.old b.old a.new b.new
         (string_bytes text.old) (string_bytes text.new)) }
 {
-    call(alloc, Side::A, Event::Moment(now), a, b, text)?;
-    call(alloc, Side::B, Event::Moment(now), a, b, text)
+    call(Side::A, &Event::Moment(now), a, b, text)?;
+    call(Side::B, &Event::Moment(now), a, b, text)
 }
 
 /// Does what a line asks for, and tells whether it could be done.
-fn act<A: Allocator + Copy>(
-    alloc: A,
+pub(crate) fn act<A: Allocator + Copy>(
     addresses: &Addresses,
     line: Line<'_>,
     a: &mut Station<A>,
@@ -143,32 +139,30 @@ fn act<A: Allocator + Copy>(
         (string_bytes text.old) (string_bytes text.new)) }
 {
     match line {
-        Line::Call(side, event) => call(alloc, side, event, a, b, text)?,
-        Line::Deliver(name) => return receive(alloc, addresses, name, Fate::Waiting, a, b, text),
-        Line::Again(name) => return receive(alloc, addresses, name, Fate::Delivered, a, b, text),
+        Line::Call(side, event) => call(side, &event, a, b, text)?,
+        Line::Deliver(name) => return receive(addresses, name, Fate::Waiting, a, b, text),
+        Line::Again(name) => return receive(addresses, name, Fate::Delivered, a, b, text),
         Line::Lose(name) => return Ok(lose(name, a, b)),
-        Line::Advance(now) => advance(alloc, now, a, b, text)?,
+        Line::Advance(now) => advance(now, a, b, text)?,
     }
     Ok(true)
 }
 
 /// Does what the line of these octets asks for, and tells whether it could be done.
-fn act_by<A: Allocator + Copy>(
+fn act_by<'s, A: Allocator + Copy>(
     alloc: A,
-    line: &[u8],
+    addresses: &Addresses,
+    words: &mut Vec<&'s [u8], A>,
+    line: &'s [u8],
     a: &mut Station<A>,
     b: &mut Station<A>,
     text: &mut String<A>,
 ) -> Result<bool, OutOfMemory>
-    ensures { IfOk result (λ done. ActsBy (λ p. step_by p line.now) done a.old b.old a.new b.new
+    ensures { IfOk result (λ done. ActsBy (λ p. step_by p line.entry.now) done a.old b.old a.new b.new
         (string_bytes text.old) (string_bytes text.new)) }
 {
-    let addresses = Addresses::new();
-    let words = words_of(alloc, line)?;
-    match line_of(&addresses, &words) {
-        Some(line) => act(alloc, &addresses, line, a, b, text),
-        None => Ok(false),
-    }
+    cut_words(words, line)?;
+    act_on(alloc, addresses, words.as_slice(), a, b, text)
 }
 
 /// A side before the first line, with this idle limit.
@@ -190,21 +184,23 @@ fn begun<A: Allocator + Copy>(alloc: A, idle_ms: u64) -> Station<A>
 
 /// Does what a line asks for, whose number this is, and tells whether the play goes on: a bad line is
 /// told of and ends it.
-fn go_on<A: Allocator + Copy>(
+fn go_on<'s, A: Allocator + Copy>(
     alloc: A,
+    addresses: &Addresses,
+    words: &mut Vec<&'s [u8], A>,
     number: u64,
-    line: &[u8],
+    line: &'s [u8],
     a: &mut Station<A>,
     b: &mut Station<A>,
     text: &mut String<A>,
 ) -> Result<bool, OutOfMemory>
-    ensures { IfOk result (λ going. GoesOnAt number line.now going a.old b.old a.new b.new
+    ensures { IfOk result (λ going. GoesOnAt number line.entry.now going a.old b.old a.new b.new
         (string_bytes text.old) (string_bytes text.new)) }
 {
     if is_skipped(line) {
         return Ok(true);
     }
-    if act_by(alloc, line, a, b, text)? {
+    if act_by(alloc, addresses, words, line, a, b, text)? {
         return Ok(true);
     }
     write!(text, "line {number} bad\n")?;
@@ -223,12 +219,15 @@ fn play_lines<A: Allocator + Copy>(
     ensures { IfOk result (λ good. PrintsAll opening.entry good a.old b.old
         (string_bytes text.old) (string_bytes text.new)) }
 {
+    let addresses = Addresses::new();
+    // The words of one line after the other.
+    let mut words = Vec::new(alloc);
     let mut number = opening.passed;
     let mut rest = opening.rest;
     while let Some(lines) = rest {
         let (line, more) = first_piece(lines, b'\n');
         number += 1;
-        if !go_on(alloc, number, line, a, b, text)? {
+        if !go_on(alloc, &addresses, &mut words, number, line, a, b, text)? {
             return Ok(false);
         }
         rest = more;

@@ -13,6 +13,7 @@ impl Side {
     ghost use Rattle.std.specs.Prelude.{◌≡◌};
     ghost use Rattle.tcap_play.specs.OutputText.{engine_words};
     ghost use Rattle.tcap_play.specs.SideView.{side_view};
+    ghost use Rattle.tcap_play.specs.Sides.{address_of, far};
 
     /// Its letter, `A` or `B`.
     pub fn letter(self) -> &'static str
@@ -21,6 +22,26 @@ impl Side {
         match self {
             Side::A => "A",
             Side::B => "B",
+        }
+    }
+
+    /// The other side.
+    pub(crate) fn beyond(self) -> Side
+        ensures { side_view result ≡ far (side_view self) }
+    {
+        match self {
+            Side::A => Side::B,
+            Side::B => Side::A,
+        }
+    }
+
+    /// The octets of its address.
+    pub(crate) fn octets(self) -> &'static [u8]
+        ensures { result.now ≡ address_of (side_view self) }
+    {
+        match self {
+            Side::A => b"\x41",
+            Side::B => b"\x42",
         }
     }
 }

@@ -1,12 +1,8 @@
 //! One side of a play: an engine, and the messages that it sent.
 
-ghost use Rattle.std.specs.Prelude.{◌≡◌, ◌++◌, IfOk, OnOk, string_bytes};
+ghost use Rattle.std.specs.Prelude.{◌≡◌, ◌++◌, OnOk, string_bytes};
 ghost use Rattle.tcap_primitives.specs.OutputViews.{all_shown, shown};
 ghost use Rattle.tcap_engine.specs.EventViews.{answer_view, event_view};
-ghost use Rattle.tcap_model.specs.Histories.History.{History};
-ghost use Rattle.tcap_model.specs.Replies.Reply.{reply};
-ghost use Rattle.tcap_model.specs.Statements.EngineMoves.{with_pair};
-ghost use Rattle.tcap_model.specs.Table.World.{StandsAt};
 ghost use Rattle.tcap_play.specs.Play.{messages_in, messages_of};
 ghost use Rattle.tcap_play.specs.PlayViews.{HandsAt, KeepsOutput, messages_view};
 
@@ -15,7 +11,7 @@ use crate::message::Message;
 use crate::side::Side;
 use ber_core::OutOfMemory;
 use std::alloc::{Allocator, Global};
-use tcap_engine::{Answer, Engine, Event, Output, run};
+use tcap_engine::{Answer, Engine, Event, Output};
 use tcap_text::Fate;
 
 /// One side: an engine, and the messages that it sent, in their order.
@@ -23,22 +19,6 @@ use tcap_text::Fate;
 pub(crate) struct Station<A: Allocator + Copy = Global> {
     pub(crate) engine: Engine<A>,
     pub(crate) sent: Vec<Message<A>, A>,
-}
-
-/// The answer of an engine to an event.
-fn answer_to<'m, A: Allocator + Copy>(
-    alloc: A,
-    engine: &mut Engine<A>,
-    event: Event<'m>,
-) -> Result<Answer<'m, A>, OutOfMemory>
-    ensures answer { IfOk result (λ answer. (h : History) → StandsAt h engine.old
-        → answer_view answer ≡ reply h (event_view event.entry)) }
-    ensures stands { OnOk result ((h : History) → StandsAt h engine.old
-        → StandsAt (with_pair h (event_view event.entry)) engine.new) }
-{
-    let mut answers = Vec::new(alloc);
-    run(engine, &[event], &mut answers)?;
-    Ok(answers.remove(0))
 }
 
 /// Keeps the message that an output sends, if it sends one.
@@ -90,16 +70,15 @@ fn keep<A: Allocator + Copy>(
 
 /// Hands an event to the engine of a side: its answer is printed, and what it sends is kept.
 pub(crate) fn hand<A: Allocator + Copy>(
-    alloc: A,
     side: Side,
     station: &mut Station<A>,
-    event: Event<'_>,
+    event: &Event<'_>,
     text: &mut String<A>,
 ) -> Result<(), OutOfMemory>
-    ensures { OnOk result (HandsAt side (event_view event.entry) station.old station.new
+    ensures { OnOk result (HandsAt side (event_view event.now) station.old station.new
         (string_bytes text.old) (string_bytes text.new)) }
 {
-    let answer = answer_to(alloc, &mut station.engine, event)?;
-    add_answer(alloc, text, side, station.sent.len(), &answer)?;
+    let answer = station.engine.handle(event)?;
+    add_answer(text, side, station.sent.len(), &answer)?;
     keep(&mut station.sent, answer)
 }

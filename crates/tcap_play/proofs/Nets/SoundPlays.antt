@@ -1,10 +1,9 @@
 -- What happens to both engines in a play without a raw line meets Net.
-use Rattle.std.proofs.Common.{◌≡◌, ◌-◌, ◌&&◌, not, nat_le, ◌∙◌, ℕ, zero, suc, Bool, true, false, List, [], ◌∷◌, Option, Some, None, refl, sym, ap, subst, inl, inr, arith, if◌then◌else◌}
+use Rattle.std.proofs.Common.{◌≡◌, ◌-◌, ◌&&◌, not, nat_le, ℕ, zero, suc, Bool, true, false, List, [], ◌∷◌, Option, Some, None, refl, sym, subst, inl, inr, arith, if◌then◌else◌}
 use Rattle.std.specs.Prelude.{bytes_eq, nat_eq}
 use Rattle.std.specs.List.{list_all}
 use Rattle.std.specs.Option.{option_map, option_and_then}
-use Rattle.std.proofs.lemmas.Bool.{and_parts, cases_Bool, or_cases, true≢false}
-use Rattle.std.proofs.lemmas.Slice.Eq.{bytes_eq-Decides}
+use Rattle.std.proofs.lemmas.Bool.{and_parts, cases_Bool, true≢false}
 use Rattle.tcap_invocation.specs.Stage.{moment_limit}
 use Rattle.tcap_laws.proofs.CallerLemmas.{TellsOf, apart-by, two_ends}
 use Rattle.tcap_model.specs.Histories.Pair.{Pair, Past}

@@ -1,34 +1,35 @@
 //! The words of an indication of component handling that closes no invocation.
 
-ghost use Rattle.std.specs.Prelude.{◌≡◌, IfOk, string_bytes};
+ghost use Rattle.std.specs.Prelude.{◌≡◌, ◌++◌, codes, OnOk, string_bytes};
 ghost use Rattle.tcap_component.specs.Views.{problem_parts};
 ghost use Rattle.tcap_primitives.specs.OutputViews.{rejector, shown};
 ghost use Rattle.tcap_model.specs.Words.Output.{ComponentIndication};
 ghost use Rattle.tcap_play.specs.Indications.{invoked_indication, more_indication, reject_indication};
 ghost use Rattle.tcap_play.specs.OutputParts.{component_part};
 ghost use Rattle.tcap_play.specs.OutputText.{place_words, rejector_words, invocation_words, component_words};
+ghost use Rattle.tcap_words.specs.ComponentText.{identifier_words, problem_words};
 
 use ber_core::OutOfMemory;
 use std::alloc::Allocator;
 use tcap_component::{Body, Code, Problem};
 use tcap_engine::{By, Output};
-use tcap_text::{body_text, coded_text, identifier_text, problem_text};
+use tcap_text::{add_body, add_coded, add_identifier, add_problem};
 
-/// A dialogue, `-` where there is none.
-fn place_text<A: Allocator + Copy>(
-    alloc: A,
+/// Adds a dialogue, `-` where there is none.
+fn add_place<A: Allocator + Copy>(
+    text: &mut String<A>,
     dialogue: Option<u32>,
-) -> Result<String<A>, OutOfMemory>
-    ensures { IfOk result (λ words. string_bytes words ≡ place_words dialogue) }
+) -> Result<(), OutOfMemory>
+    ensures { OnOk result (string_bytes text.new ≡ string_bytes text.old ++ place_words dialogue) }
 {
     match dialogue {
-        Some(dialogue) => Ok(format!(in alloc; "{dialogue}")?),
-        None => Ok(format!(in alloc; "-")?),
+        Some(dialogue) => Ok(write!(text, "{dialogue}")?),
+        None => Ok(text.push_str("-")?),
     }
 }
 
 /// Who rejects.
-pub(super) fn rejector_text(by: By) -> &'static str
+fn rejector_text(by: By) -> &'static str
     ensures { result.now ≡ rejector_words (rejector by) }
 {
     match by {
@@ -38,93 +39,125 @@ pub(super) fn rejector_text(by: By) -> &'static str
     }
 }
 
-/// An indication for an invocation, by its name.
-pub(super) fn invocation_text<A: Allocator + Copy>(
-    alloc: A,
+/// Adds an indication for an invocation, by its name.
+pub(super) fn add_invocation<A: Allocator + Copy>(
+    text: &mut String<A>,
     name: &str,
     dialogue: u32,
     number: u64,
     id: i8,
-) -> Result<String<A>, OutOfMemory>
-    ensures { IfOk result (λ words. string_bytes words ≡ invocation_words name.now dialogue number id) }
+) -> Result<(), OutOfMemory>
+    ensures { OnOk result (string_bytes text.new ≡ string_bytes text.old
+        ++ invocation_words name.now dialogue number id) }
 {
-    Ok(format!(in alloc; "{name} {dialogue} id {id} number {number}")?)
+    write!(text, "{name} {dialogue} id {id} number {number}")?;
+    Ok(())
 }
 
-/// An Invoke.
-fn invoked_text<A: Allocator + Copy>(
-    alloc: A,
+/// Adds an Invoke.
+fn add_invoked<A: Allocator + Copy>(
+    text: &mut String<A>,
     dialogue: Option<u32>,
     id: i8,
     linked: Option<i8>,
     code: &Code<'_>,
     parameter: Option<&[u8]>,
-) -> Result<String<A>, OutOfMemory>
-    ensures { IfOk result (λ words. string_bytes words
-        ≡ component_words (invoked_indication dialogue id linked code.now parameter.entry)) }
+) -> Result<(), OutOfMemory>
+    ensures { OnOk result (string_bytes text.new ≡ string_bytes text.old
+        ++ component_words (invoked_indication dialogue id linked code.now parameter.entry)) }
 {
-    let place = place_text(alloc, dialogue)?;
-    let linked = identifier_text(alloc, linked)?;
-    let coded = coded_text(alloc, code, parameter)?;
-    Ok(format!(in alloc; "invoked {place} id {id} linked {linked} op {coded}")?)
+    text.push_str("invoked ")?;
+    add_place(text, dialogue)?;
+    write!(text, " id {id} linked ")?;
+    add_identifier(text, linked)?;
+    text.push_str(" op ")?;
+    add_coded(text, code, parameter)
 }
 
-/// A part of a result.
-fn result_more_text<A: Allocator + Copy>(
-    alloc: A,
+/// Adds a part of a result.
+fn add_result_more<A: Allocator + Copy>(
+    text: &mut String<A>,
     dialogue: u32,
     number: u64,
     id: i8,
     body: &Option<Body<'_>>,
-) -> Result<String<A>, OutOfMemory>
-    ensures { IfOk result (λ words. string_bytes words
-        ≡ component_words (more_indication dialogue number id body.now)) }
+) -> Result<(), OutOfMemory>
+    ensures { OnOk result (string_bytes text.new ≡ string_bytes text.old
+        ++ component_words (more_indication dialogue number id body.now)) }
 {
-    let invocation = invocation_text(alloc, "more", dialogue, number, id)?;
-    let body = body_text(alloc, body)?;
-    Ok(format!(in alloc; "{invocation} op {body}")?)
+    add_invocation(text, "more", dialogue, number, id)?;
+    text.push_str(" op ")?;
+    add_body(text, body)
 }
 
-/// A component that is rejected here.
-fn local_reject_text<A: Allocator + Copy>(
-    alloc: A,
+/// Adds an indication of this name for a component that is known by its identifier at most.
+fn add_unnumbered<A: Allocator + Copy>(
+    text: &mut String<A>,
+    name: &str,
+    dialogue: Option<u32>,
+    id: Option<i8>,
+) -> Result<(), OutOfMemory>
+    ensures { OnOk result (string_bytes text.new ≡ string_bytes text.old ++ (name.now
+        ++ (codes " " ++ (place_words dialogue ++ (codes " id " ++ identifier_words id))))) }
+{
+    text.push_str(name)?;
+    text.push_str(" ")?;
+    add_place(text, dialogue)?;
+    text.push_str(" id ")?;
+    add_identifier(text, id)
+}
+
+/// Adds a problem and who rejects for it.
+pub(super) fn add_rejection<A: Allocator + Copy>(
+    text: &mut String<A>,
+    problem: Problem,
+    by: By,
+) -> Result<(), OutOfMemory>
+    ensures { OnOk result (string_bytes text.new ≡ string_bytes text.old
+        ++ (problem_words (problem_parts problem) ++ (codes " by " ++ rejector_words (rejector by)))) }
+{
+    add_problem(text, problem)?;
+    text.push_str(" by ")?;
+    Ok(text.push_str(rejector_text(by))?)
+}
+
+/// Adds a component that is rejected here.
+fn add_local_reject<A: Allocator + Copy>(
+    text: &mut String<A>,
     dialogue: Option<u32>,
     id: Option<i8>,
     problem: Problem,
-) -> Result<String<A>, OutOfMemory>
-    ensures { IfOk result (λ words. string_bytes words
-        ≡ component_words (ComponentIndication.local_reject dialogue id (problem_parts problem))) }
+) -> Result<(), OutOfMemory>
+    ensures { OnOk result (string_bytes text.new ≡ string_bytes text.old
+        ++ component_words (ComponentIndication.local_reject dialogue id (problem_parts problem))) }
 {
-    let place = place_text(alloc, dialogue)?;
-    let id = identifier_text(alloc, id)?;
-    let problem = problem_text(alloc, problem)?;
-    Ok(format!(in alloc; "localreject {place} id {id} {problem}")?)
+    add_unnumbered(text, "localreject", dialogue, id)?;
+    text.push_str(" ")?;
+    add_problem(text, problem)
 }
 
-/// A Reject that closes no invocation.
-fn remote_reject_text<A: Allocator + Copy>(
-    alloc: A,
+/// Adds a Reject that closes no invocation.
+fn add_remote_reject<A: Allocator + Copy>(
+    text: &mut String<A>,
     dialogue: Option<u32>,
     id: Option<i8>,
     problem: Problem,
     by: By,
-) -> Result<String<A>, OutOfMemory>
-    ensures { IfOk result (λ words. string_bytes words
-        ≡ component_words (reject_indication dialogue id problem by)) }
+) -> Result<(), OutOfMemory>
+    ensures { OnOk result (string_bytes text.new ≡ string_bytes text.old
+        ++ component_words (reject_indication dialogue id problem by)) }
 {
-    let place = place_text(alloc, dialogue)?;
-    let id = identifier_text(alloc, id)?;
-    let problem = problem_text(alloc, problem)?;
-    let by = rejector_text(by);
-    Ok(format!(in alloc; "remotereject {place} id {id} {problem} by {by}")?)
+    add_unnumbered(text, "remotereject", dialogue, id)?;
+    text.push_str(" ")?;
+    add_rejection(text, problem, by)
 }
 
-/// The words of an indication that closes no invocation, none of another output.
-pub(super) fn component_text<A: Allocator + Copy>(
-    alloc: A,
+/// Adds the words of an indication that closes no invocation, nothing of another output.
+pub(super) fn add_component<A: Allocator + Copy>(
+    text: &mut String<A>,
     output: &Output<'_, A>,
-) -> Result<String<A>, OutOfMemory>
-    ensures { IfOk result (λ words. string_bytes words ≡ component_part (shown output.now)) }
+) -> Result<(), OutOfMemory>
+    ensures { OnOk result (string_bytes text.new ≡ string_bytes text.old ++ component_part (shown output.now)) }
 {
     match output {
         Output::Invoked {
@@ -133,34 +166,28 @@ pub(super) fn component_text<A: Allocator + Copy>(
             linked,
             code,
             parameter,
-        } => invoked_text(alloc, *dialogue, *id, *linked, code, *parameter),
+        } => add_invoked(text, *dialogue, *id, *linked, code, *parameter),
         Output::ResultMore {
             dialogue,
             number,
             id,
             body,
-        } => result_more_text(alloc, *dialogue, *number, *id, body),
+        } => add_result_more(text, *dialogue, *number, *id, body),
         Output::LocalReject {
             dialogue,
             id,
             problem,
-        } => local_reject_text(alloc, *dialogue, *id, *problem),
+        } => add_local_reject(text, *dialogue, *id, *problem),
         Output::RemoteReject {
             dialogue,
             id,
             problem,
             by,
-        } => remote_reject_text(alloc, *dialogue, *id, *problem, *by),
-        Output::Send { .. } | Output::Dropped(_) => Ok(String::new(alloc)),
-        Output::Uni { .. } | Output::Begin { .. } | Output::Continue { .. } => {
-            Ok(String::new(alloc))
-        }
-        Output::End { .. } | Output::UAbort { .. } | Output::PAbort { .. } => {
-            Ok(String::new(alloc))
-        }
-        Output::ResultLast { .. } | Output::ErrorBack { .. } => Ok(String::new(alloc)),
-        Output::Rejected { .. } | Output::Lapsed { .. } | Output::Ended { .. } => {
-            Ok(String::new(alloc))
-        }
+        } => add_remote_reject(text, *dialogue, *id, *problem, *by),
+        Output::Send { .. } | Output::Dropped(_) => Ok(()),
+        Output::Uni { .. } | Output::Begin { .. } | Output::Continue { .. } => Ok(()),
+        Output::End { .. } | Output::UAbort { .. } | Output::PAbort { .. } => Ok(()),
+        Output::ResultLast { .. } | Output::ErrorBack { .. } => Ok(()),
+        Output::Rejected { .. } | Output::Lapsed { .. } | Output::Ended { .. } => Ok(()),
     }
 }

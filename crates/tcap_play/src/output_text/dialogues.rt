@@ -1,6 +1,6 @@
 //! The words of an indication of dialogue handling.
 
-ghost use Rattle.std.specs.Prelude.{◌≡◌, IfOk, string_bytes, option_copied, option_map};
+ghost use Rattle.std.specs.Prelude.{◌≡◌, ◌++◌, OnOk, string_bytes, option_copied, option_map};
 ghost use Rattle.tcap_primitives.specs.OutputViews.{cause_view, shown};
 ghost use Rattle.tcap_model.specs.Words.Output.{DialogueIndication};
 ghost use Rattle.tcap_pdu.specs.DialogueViews.{pdu_value};
@@ -11,116 +11,114 @@ use ber_core::OutOfMemory;
 use std::alloc::Allocator;
 use tcap_engine::{Output, Why};
 use tcap_pdu::DialoguePdu;
-use tcap_text::{octets_or_dash, optional_octets_or_dash, pdu_text};
+use tcap_text::{add_octets_or_dash, add_optional_octets, add_pdu};
 
-/// An application context name and user information.
-fn context_text<A: Allocator + Copy>(
-    alloc: A,
+/// Adds an application context name and user information.
+fn add_context<A: Allocator + Copy>(
+    text: &mut String<A>,
     context: Option<&[u8]>,
     info: &[u8],
-) -> Result<String<A>, OutOfMemory>
-    ensures { IfOk result (λ words. string_bytes words ≡ context_words (option_copied context.entry) info.now) }
+) -> Result<(), OutOfMemory>
+    ensures { OnOk result (string_bytes text.new ≡ string_bytes text.old
+        ++ context_words (option_copied context.entry) info.now) }
 {
-    let context = optional_octets_or_dash(alloc, context)?;
-    let info = octets_or_dash(alloc, info)?;
-    Ok(format!(in alloc; "context {context} info {info}")?)
+    text.push_str("context ")?;
+    add_optional_octets(text, context)?;
+    text.push_str(" info ")?;
+    add_octets_or_dash(text, info)
 }
 
-/// The indication of a Unidirectional.
-fn uni_text<A: Allocator + Copy>(
-    alloc: A,
+/// Adds the indication of a Unidirectional.
+fn add_uni<A: Allocator + Copy>(
+    text: &mut String<A>,
     context: Option<&[u8]>,
     info: &[u8],
-) -> Result<String<A>, OutOfMemory>
-    ensures { IfOk result (λ words. string_bytes words
-        ≡ dialogue_words (DialogueIndication.uni (option_copied context.entry) info.now)) }
+) -> Result<(), OutOfMemory>
+    ensures { OnOk result (string_bytes text.new ≡ string_bytes text.old
+        ++ dialogue_words (DialogueIndication.uni (option_copied context.entry) info.now)) }
 {
-    let context = context_text(alloc, context, info)?;
-    Ok(format!(in alloc; "uni {context}")?)
+    text.push_str("uni ")?;
+    add_context(text, context, info)
 }
 
-/// The indication of another message, by its name.
-fn message_text<A: Allocator + Copy>(
-    alloc: A,
+/// Adds the indication of another message, by its name.
+fn add_message<A: Allocator + Copy>(
+    text: &mut String<A>,
     name: &str,
     dialogue: u32,
     context: Option<&[u8]>,
     info: &[u8],
-) -> Result<String<A>, OutOfMemory>
-    ensures { IfOk result (λ words. string_bytes words
-        ≡ message_words name.now dialogue (option_copied context.entry) info.now) }
+) -> Result<(), OutOfMemory>
+    ensures { OnOk result (string_bytes text.new ≡ string_bytes text.old
+        ++ message_words name.now dialogue (option_copied context.entry) info.now) }
 {
-    let context = context_text(alloc, context, info)?;
-    Ok(format!(in alloc; "{name} {dialogue} {context}")?)
+    write!(text, "{name} {dialogue} ")?;
+    add_context(text, context, info)
 }
 
-/// The indication of an Abort by the peer's user.
-fn user_abort_text<A: Allocator + Copy>(
-    alloc: A,
+/// Adds the indication of an Abort by the peer's user.
+fn add_user_abort<A: Allocator + Copy>(
+    text: &mut String<A>,
     dialogue: u32,
     pdu: &Option<DialoguePdu<'_>>,
-) -> Result<String<A>, OutOfMemory>
-    ensures { IfOk result (λ words. string_bytes words
-        ≡ dialogue_words (DialogueIndication.u_abort dialogue (option_map pdu_value pdu.now))) }
+) -> Result<(), OutOfMemory>
+    ensures { OnOk result (string_bytes text.new ≡ string_bytes text.old
+        ++ dialogue_words (DialogueIndication.u_abort dialogue (option_map pdu_value pdu.now))) }
 {
+    write!(text, "uabort {dialogue} ")?;
     match pdu {
-        Some(pdu) => {
-            let pdu = pdu_text(alloc, pdu)?;
-            Ok(format!(in alloc; "uabort {dialogue} {pdu}")?)
-        }
-        None => Ok(format!(in alloc; "uabort {dialogue} -")?),
+        Some(pdu) => add_pdu(text, pdu),
+        None => Ok(text.push_str("-")?),
     }
 }
 
-/// The indication of an abort by the provider.
-fn provider_abort_text<A: Allocator + Copy>(
-    alloc: A,
+/// Adds the indication of an abort by the provider.
+fn add_provider_abort<A: Allocator + Copy>(
+    text: &mut String<A>,
     dialogue: u32,
     why: Why,
-) -> Result<String<A>, OutOfMemory>
-    ensures { IfOk result (λ words. string_bytes words
-        ≡ dialogue_words (DialogueIndication.p_abort dialogue (cause_view why))) }
+) -> Result<(), OutOfMemory>
+    ensures { OnOk result (string_bytes text.new ≡ string_bytes text.old
+        ++ dialogue_words (DialogueIndication.p_abort dialogue (cause_view why))) }
 {
     match why {
-        Why::Cause(number) => Ok(format!(in alloc; "pabort {dialogue} cause {number}")?),
-        Why::Abnormal => Ok(format!(in alloc; "pabort {dialogue} abnormal")?),
-        Why::NoCommon => Ok(format!(in alloc; "pabort {dialogue} nocommon")?),
-        Why::Idle => Ok(format!(in alloc; "pabort {dialogue} idle")?),
+        Why::Cause(number) => Ok(write!(text, "pabort {dialogue} cause {number}")?),
+        Why::Abnormal => Ok(write!(text, "pabort {dialogue} abnormal")?),
+        Why::NoCommon => Ok(write!(text, "pabort {dialogue} nocommon")?),
+        Why::Idle => Ok(write!(text, "pabort {dialogue} idle")?),
     }
 }
 
-/// The words of an indication of dialogue handling, none of another output.
-pub(super) fn dialogue_text<A: Allocator + Copy>(
-    alloc: A,
+/// Adds the words of an indication of dialogue handling, nothing of another output.
+pub(super) fn add_dialogue<A: Allocator + Copy>(
+    text: &mut String<A>,
     output: &Output<'_, A>,
-) -> Result<String<A>, OutOfMemory>
-    ensures { IfOk result (λ words. string_bytes words ≡ dialogue_part (shown output.now)) }
+) -> Result<(), OutOfMemory>
+    ensures { OnOk result (string_bytes text.new ≡ string_bytes text.old ++ dialogue_part (shown output.now)) }
 {
     match output {
-        Output::Uni { context, info } => uni_text(alloc, *context, info),
+        Output::Uni { context, info } => add_uni(text, *context, info),
         Output::Begin {
             dialogue,
             context,
             info,
-        } => message_text(alloc, "begin", *dialogue, *context, info),
+        } => add_message(text, "begin", *dialogue, *context, info),
         Output::Continue {
             dialogue,
             context,
             info,
-        } => message_text(alloc, "continue", *dialogue, *context, info),
+        } => add_message(text, "continue", *dialogue, *context, info),
         Output::End {
             dialogue,
             context,
             info,
-        } => message_text(alloc, "end", *dialogue, *context, info),
-        Output::UAbort { dialogue, pdu } => user_abort_text(alloc, *dialogue, pdu),
-        Output::PAbort { dialogue, why } => provider_abort_text(alloc, *dialogue, *why),
-        Output::Send { .. } | Output::Dropped(_) => Ok(String::new(alloc)),
-        Output::Invoked { .. } | Output::ResultMore { .. } => Ok(String::new(alloc)),
-        Output::LocalReject { .. } | Output::RemoteReject { .. } => Ok(String::new(alloc)),
-        Output::ResultLast { .. } | Output::ErrorBack { .. } => Ok(String::new(alloc)),
-        Output::Rejected { .. } | Output::Lapsed { .. } | Output::Ended { .. } => {
-            Ok(String::new(alloc))
-        }
+        } => add_message(text, "end", *dialogue, *context, info),
+        Output::UAbort { dialogue, pdu } => add_user_abort(text, *dialogue, pdu),
+        Output::PAbort { dialogue, why } => add_provider_abort(text, *dialogue, *why),
+        Output::Send { .. } | Output::Dropped(_) => Ok(()),
+        Output::Invoked { .. } | Output::ResultMore { .. } => Ok(()),
+        Output::LocalReject { .. } | Output::RemoteReject { .. } => Ok(()),
+        Output::ResultLast { .. } | Output::ErrorBack { .. } => Ok(()),
+        Output::Rejected { .. } | Output::Lapsed { .. } | Output::Ended { .. } => Ok(()),
     }
 }

@@ -1,22 +1,23 @@
 //! What a line asks for.
 
-ghost use Rattle.std.specs.Prelude.{◌≡◌, option_map};
+ghost use Rattle.std.specs.Prelude.{◌≡◌, ℕ, List, false, bytes_eq, codes, option_map};
 ghost use Rattle.tcap_primitives.specs.RequestViews.{request_view};
 ghost use Rattle.tcap_engine.specs.EventViews.{event_view};
-ghost use Rattle.tcap_play.specs.LineViews.{line_of_six_words, line_view, text_of, texts_of};
-ghost use Rattle.tcap_play.specs.ScriptLine.{called_on, asked_on, received_from, received_on, line_of_two, line_of_three, line_of_four, line_of_five, line_of_nine, line_of};
+ghost use Rattle.tcap_play.specs.LineViews.{line_view, text_of};
+ghost use Rattle.tcap_play.specs.ScriptLine.{called_on, asked_on, received_from, received_on, line_of_two, line_of_three, line_of_four, line_of_five, line_of_six, line_of_nine};
+ghost use Rattle.tcap_play.specs.ScriptWords.{named_address};
 
 use crate::addresses::Addresses;
 use crate::script::requests::{
-    abort_request, begin_request, cancel_request, error_request, invoke_request, last_request,
-    more_request, portion_request_on, reject_request,
+    abort_request, begin_request, cancel_request, error_request, last_request, more_request,
+    portion_request_on, reject_request,
 };
 use crate::script::values::{Name, dialogue, is, message_name, milliseconds, octets, side};
 use crate::script::word::Word;
 use crate::side::Side;
 use std::alloc::Allocator;
 use tcap_dialogue::{Ending, Request};
-use tcap_engine::Event;
+use tcap_engine::{Address, Event};
 
 /// What a line asks for.
 #[derive(Clone, Copy)]
@@ -48,17 +49,19 @@ fn received_on<'w>(addresses: &'w Addresses, side_word: &[u8], octets: &'w [u8])
     Some(Line::Call(side, Event::Bytes(addresses.beyond(side), octets)))
 }
 
-/// Octets that the engine of a letter receives from another address.
+/// Octets that the engine of a letter receives from the address of a word that names one.
 fn received_from<'w, A: Allocator>(
     side_word: &[u8],
-    from: &'w Word<'_, A>,
+    from: &'w Option<Address>,
     word: &'w Word<'_, A>,
 ) -> Option<Line<'w>>
-    ensures { option_map line_view result
-        ≡ received_from side_word.now (text_of from.entry.now) (text_of word.entry.now) }
+    ensures { (named : List ℕ) → from.entry.now ≡ named_address named → option_map line_view result
+        ≡ received_from side_word.now named (text_of word.entry.now) }
 {
-    let from = from.address()?;
-    called_on(side_word, Event::Bytes(from, octets(word)?))
+    match from {
+        Some(from) => called_on(side_word, Event::Bytes(from, octets(word)?)),
+        None => None,
+    }
 }
 
 /// A request on a dialogue of the engine of a letter.
@@ -71,7 +74,7 @@ fn asked_on<'w>(side_word: &[u8], dialogue_word: &[u8], request: Request<'w>) ->
 }
 
 /// `S new`, `deliver M`, `again M`, `lose M`, `advance MS`.
-fn line_of_two<'w>(first: &[u8], second: &[u8]) -> Option<Line<'w>>
+pub(crate) fn line_of_two<'w>(first: &[u8], second: &[u8]) -> Option<Line<'w>>
     ensures { option_map line_view result ≡ line_of_two first.now second.now }
 {
     if is(first, "deliver") {
@@ -90,7 +93,7 @@ fn line_of_two<'w>(first: &[u8], second: &[u8]) -> Option<Line<'w>>
 }
 
 /// `S raw HEX`, `S prearranged D`.
-fn line_of_three<'w, A: Allocator>(
+pub(crate) fn line_of_three<'w, A: Allocator>(
     addresses: &'w Addresses,
     side: &[u8],
     name: &[u8],
@@ -112,20 +115,22 @@ fn line_of_three<'w, A: Allocator>(
     }
 }
 
-/// `S cancel D ID`, `S rawfrom ADDR HEX`.
-fn line_of_four<'w, A: Allocator>(
+/// `S cancel D ID`, `S rawfrom ADDR HEX`, whose third word may name this address.
+pub(crate) fn line_of_four<'w, A: Allocator>(
     side: &[u8],
     name: &[u8],
-    third: &'w Word<'_, A>,
+    third: &[u8],
+    from: &'w Option<Address>,
     last: &'w Word<'_, A>,
 ) -> Option<Line<'w>>
+    requires { from.now ≡ named_address third.now }
     ensures { option_map line_view result
-        ≡ line_of_four side.now name.now (text_of third.entry.now) (text_of last.entry.now) }
+        ≡ line_of_four side.now name.now third.now (text_of last.entry.now) }
 {
     if is(name, "cancel") {
-        asked_on(side, third.text, cancel_request(last.text)?)
+        asked_on(side, third, cancel_request(last.text)?)
     } else if is(name, "rawfrom") {
-        received_from(side, third, last)
+        received_from(side, from, last)
     } else {
         None
     }
@@ -133,7 +138,7 @@ fn line_of_four<'w, A: Allocator>(
 
 /// `S begin D CONTEXT INFO`, and `uni`, `continue`, `end`; `S abort D user INFO`,
 /// `S abort D unsupported INFO`.
-fn line_of_five<'w, A: Allocator>(
+pub(crate) fn line_of_five<'w, A: Allocator>(
     addresses: &'w Addresses,
     side: &[u8],
     name: &[u8],
@@ -153,36 +158,49 @@ fn line_of_five<'w, A: Allocator>(
 }
 
 /// `S last D ID CODE PARAM`, `S more D ID CODE PARAM`, `S error D ID CODE PARAM`,
-/// `S reject D ID KIND CODE`, `S beginto D ADDR CONTEXT INFO`.
-fn line_of_six<'w, A: Allocator>(
+/// `S reject D ID KIND CODE`. Of these words only the last may stand for octets.
+pub(crate) fn line_of_six<'w, A: Allocator>(
     side: &[u8],
     name: &[u8],
     dialogue: &[u8],
-    id: &'w Word<'_, A>,
-    word: &'w Word<'_, A>,
+    id: &[u8],
+    word: &[u8],
     last: &'w Word<'_, A>,
 ) -> Option<Line<'w>>
+    requires { bytes_eq name.now (codes "beginto") ≡ false }
     ensures { option_map line_view result
-        ≡ line_of_six_words side.now name.now dialogue.now id.entry.now word.entry.now last.entry.now }
+        ≡ line_of_six side.now name.now dialogue.now id.now word.now (text_of last.entry.now) }
 {
     let request = if is(name, "last") {
-        last_request(id.text, word, last)?
+        last_request(id, word, last)?
     } else if is(name, "more") {
-        more_request(id.text, word, last)?
+        more_request(id, word, last)?
     } else if is(name, "error") {
-        error_request(id.text, word.text, last)?
+        error_request(id, word, last)?
     } else if is(name, "reject") {
-        reject_request(id.text, word.text, last.text)?
-    } else if is(name, "beginto") {
-        begin_request(id, word, last)?
+        reject_request(id, word, last.text)?
     } else {
         return None;
     };
     asked_on(side, dialogue, request)
 }
 
+/// `S beginto D ADDR CONTEXT INFO`, whose fourth word may name this address.
+pub(crate) fn line_of_beginto<'w, A: Allocator>(
+    side: &[u8],
+    dialogue: &[u8],
+    to: &'w Option<Address>,
+    context: &'w Word<'_, A>,
+    information: &'w Word<'_, A>,
+) -> Option<Line<'w>>
+    ensures { (word : List ℕ) → to.entry.now ≡ named_address word → option_map line_view result
+        ≡ line_of_six side.now (codes "beginto") dialogue.now word (text_of context.entry.now) (text_of information.entry.now) }
+{
+    asked_on(side, dialogue, begin_request(to, context, information)?)
+}
+
 /// `S invoke D ID CLASS CODE TIMEOUT LINKED PARAM`, whose last six words ask for this request.
-fn line_of_nine<'w>(
+pub(crate) fn line_of_nine<'w>(
     side: &[u8],
     name: &[u8],
     dialogue: &[u8],
@@ -193,41 +211,6 @@ fn line_of_nine<'w>(
 {
     if is(name, "invoke") {
         asked_on(side, dialogue, request?)
-    } else {
-        None
-    }
-}
-
-/// What the words of a line ask for; None where they have no form of a script.
-pub(crate) fn line_of<'w, A: Allocator>(
-    addresses: &'w Addresses,
-    words: &'w [Word<'_, A>],
-) -> Option<Line<'w>>
-    ensures { option_map line_view result ≡ line_of (texts_of words.entry.now) }
-{
-    let count = words.len();
-    if count == 2 {
-        line_of_two(words[0].text, words[1].text)
-    } else if count == 3 {
-        line_of_three(addresses, words[0].text, words[1].text, &words[2])
-    } else if count == 4 {
-        line_of_four(words[0].text, words[1].text, &words[2], &words[3])
-    } else if count == 5 {
-        let (side, name, dialogue) = (words[0].text, words[1].text, words[2].text);
-        line_of_five(addresses, side, name, dialogue, &words[3], &words[4])
-    } else if count == 6 {
-        let (side, name, dialogue) = (words[0].text, words[1].text, words[2].text);
-        line_of_six(side, name, dialogue, &words[3], &words[4], &words[5])
-    } else if count == 9 {
-        let request = invoke_request(
-            words[3].text,
-            words[4].text,
-            words[5].text,
-            words[6].text,
-            words[7].text,
-            &words[8],
-        );
-        line_of_nine(words[0].text, words[1].text, words[2].text, request)
     } else {
         None
     }

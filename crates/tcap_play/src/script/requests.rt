@@ -1,8 +1,9 @@
 //! Requests on a dialogue.
 
-ghost use Rattle.std.specs.Prelude.{◌≡◌, option_map};
+ghost use Rattle.std.specs.Prelude.{◌≡◌, ℕ, List, option_map};
 ghost use Rattle.tcap_primitives.specs.RequestViews.{request_view};
 ghost use Rattle.tcap_play.specs.LineViews.{text_of};
+ghost use Rattle.tcap_play.specs.ScriptWords.{named_address};
 ghost use Rattle.tcap_play.specs.ScriptLine.{begin_request_of, portion_request_of, portion_request_on, abort_request_of, last_request_of, more_request_of, cancel_request_of, error_request_of, reject_request_of, invoke_request_of};
 
 use crate::addresses::Addresses;
@@ -59,16 +60,19 @@ pub(crate) fn portion_request_on<'w, A: Allocator>(
     portion_request(to, name, context, information)
 }
 
-/// A request to begin a dialogue with another address.
+/// A request to begin a dialogue with the address of a word that names one.
 pub(crate) fn begin_request<'w, A: Allocator>(
-    to: &'w Word<'_, A>,
+    to: &'w Option<Address>,
     context: &'w Word<'_, A>,
     information: &'w Word<'_, A>,
 ) -> Option<Request<'w>>
-    ensures { option_map request_view result
-        ≡ begin_request_of (text_of to.entry.now) (text_of context.entry.now) (text_of information.entry.now) }
+    ensures { (word : List ℕ) → to.entry.now ≡ named_address word → option_map request_view result
+        ≡ begin_request_of word (text_of context.entry.now) (text_of information.entry.now) }
 {
-    portion_request(to.address()?, b"begin", context, information)
+    match to {
+        Some(to) => portion_request(to, b"begin", context, information),
+        None => None,
+    }
 }
 
 /// A request to abort, for a reason.
@@ -87,11 +91,10 @@ pub(crate) fn abort_request<'w, A: Allocator>(
 /// The last result, with a body or none.
 pub(crate) fn last_request<'w, A: Allocator>(
     id: &[u8],
-    code: &'w Word<'_, A>,
+    code: &[u8],
     parameter: &'w Word<'_, A>,
 ) -> Option<Request<'w>>
-    ensures { option_map request_view result
-        ≡ last_request_of id.now (text_of code.entry.now) (text_of parameter.entry.now) }
+    ensures { option_map request_view result ≡ last_request_of id.now code.now (text_of parameter.entry.now) }
 {
     let id = identifier(id)?;
     let body = body(code, parameter)?;
@@ -101,11 +104,10 @@ pub(crate) fn last_request<'w, A: Allocator>(
 /// A result that isn't the last, with a body or none.
 pub(crate) fn more_request<'w, A: Allocator>(
     id: &[u8],
-    code: &'w Word<'_, A>,
+    code: &[u8],
     parameter: &'w Word<'_, A>,
 ) -> Option<Request<'w>>
-    ensures { option_map request_view result
-        ≡ more_request_of id.now (text_of code.entry.now) (text_of parameter.entry.now) }
+    ensures { option_map request_view result ≡ more_request_of id.now code.now (text_of parameter.entry.now) }
 {
     let id = identifier(id)?;
     let body = body(code, parameter)?;

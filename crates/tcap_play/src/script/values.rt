@@ -138,26 +138,26 @@ pub(crate) fn optional_octets<'w, A: Allocator>(word: &'w Word<'_, A>) -> Option
 
 /// The body that a code and a parameter make.
 fn body_with<'w, A: Allocator>(
-    code_word: &'w Word<'_, A>,
+    code_word: &[u8],
     parameter: &'w Word<'_, A>,
 ) -> Option<Option<Body<'w>>>
     ensures { option_map (option_map body_parts) result
-        ≡ body_with (text_of code_word.entry.now) (text_of parameter.entry.now) }
+        ≡ body_with code_word.now (text_of parameter.entry.now) }
 {
-    let code = code(code_word.text)?;
+    let code = code(code_word)?;
     let parameter = optional_octets(parameter)?;
     Some(Some(Body { code, parameter }))
 }
 
 /// The body of a result; `-` twice leaves it out.
 pub(crate) fn body<'w, A: Allocator>(
-    code: &'w Word<'_, A>,
+    code: &[u8],
     parameter: &'w Word<'_, A>,
 ) -> Option<Option<Body<'w>>>
     ensures { option_map (option_map body_parts) result
-        ≡ body_of (text_of code.entry.now) (text_of parameter.entry.now) }
+        ≡ body_of code.now (text_of parameter.entry.now) }
 {
-    match (code.text, parameter.text) {
+    match (code, parameter.text) {
         (b"-", b"-") => Some(None),
         (b"-", _) => None,
         _ => body_with(code, parameter),

@@ -7,31 +7,14 @@ ghost use Rattle.tcap_words.specs.Spelling.{spelled_by};
 use ber_core::OutOfMemory;
 use std::alloc::{Allocator, Global};
 use tcap_engine::Address;
-use tcap_text::hex_octets;
+use tcap_text::decode_hex;
 
-/// A word of a line, with the octets that it spells where it is hexadecimal, and the address that it names.
+/// A word of a line that may stand for octets, with those that it spells where it is hexadecimal.
 #[derive(Drop)]
 pub(crate) struct Word<'s, A: Allocator = Global> {
     pub(crate) text: &'s [u8],
     octets: Option<Vec<u8, A>>,
-    address: Option<Address>,
     ghost spelled: { option_map (λ o. o.items) octets ≡ spelled_by text.now },
-    ghost named: { address ≡ named_address text.now },
-}
-
-/// The address that a word names which spells these octets: at most 255 octets, `-` for none.
-fn address_named<A: Allocator>(text: &[u8], octets: &Option<Vec<u8, A>>) -> Option<Address>
-    requires { option_map (λ o. o.items) octets.now ≡ spelled_by text.now }
-    ensures { result ≡ named_address text.now }
-{
-    match text {
-        b"-" => Address::new(&[]),
-        b"" => None,
-        _ => match octets {
-            Some(octets) => Address::new(octets),
-            None => None,
-        },
-    }
 }
 
 impl<'s, A: Allocator> Word<'s, A> {
@@ -39,13 +22,8 @@ impl<'s, A: Allocator> Word<'s, A> {
     pub(crate) fn new(alloc: A, text: &'s [u8]) -> Result<Word<'s, A>, OutOfMemory>
         ensures { IfOk result (λ word. word.text.now ≡ text.entry.now) }
     {
-        let octets = hex_octets(alloc, text)?;
-        let address = address_named(text, &octets);
-        Ok(Word {
-            text,
-            octets,
-            address,
-        })
+        let octets = decode_hex(alloc, text)?;
+        Ok(Word { text, octets })
     }
 
     /// The octets that it spells, None where it isn't hexadecimal, or empty.
@@ -62,12 +40,23 @@ impl<'s, A: Allocator> Word<'s, A> {
     }
 
     /// The address that it names, None where it is neither `-` nor spells 1 to 255 octets.
-    pub(crate) fn address(&self) -> Option<&Address>
-        ensures { option_copied result ≡ named_address self.now.text.now }
+    pub(crate) fn address(&self) -> Option<Address>
+        ensures { result ≡ named_address self.now.text.now }
     {
-        match &self.address {
-            Some(address) => Some(address),
-            None => None,
+        match self.text {
+            b"-" => Address::new(&[]),
+            _ => Address::new(self.octets()?),
         }
     }
+}
+
+/// The address that a word names.
+pub(crate) fn address_named<A: Allocator>(
+    alloc: A,
+    text: &[u8],
+) -> Result<Option<Address>, OutOfMemory>
+    ensures { IfOk result (λ address. address ≡ named_address text.now) }
+{
+    let word = Word::new(alloc, text)?;
+    Ok(word.address())
 }

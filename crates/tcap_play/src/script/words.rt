@@ -1,28 +1,28 @@
 //! The words of a line.
 
-ghost use Rattle.std.specs.Prelude.{◌≡◌, IfOk};
+ghost use Rattle.std.specs.Prelude.{◌≡◌, OnOk};
 ghost use Rattle.tcap_play.specs.LineViews.{texts_of};
 ghost use Rattle.tcap_play.specs.Pieces.{words_of};
 
 use crate::pieces::first_piece;
-use crate::script::word::Word;
 use ber_core::OutOfMemory;
 use std::alloc::Allocator;
 
-/// The words of a line.
-pub(crate) fn words_of<'s, A: Allocator + Copy>(
-    alloc: A,
+/// Cuts a line into its words, in place of those that were there: the vector of one line serves the next.
+/// A word is a part of the line, and what it stands for is read where a form of line asks for it.
+pub(crate) fn cut_words<'s, A: Allocator>(
+    words: &mut Vec<&'s [u8], A>,
     line: &'s [u8],
-) -> Result<Vec<Word<'s, A>, A>, OutOfMemory>
-    ensures { IfOk result (λ words. texts_of words.items ≡ words_of line.entry.now) }
+) -> Result<(), OutOfMemory>
+    ensures { OnOk result (texts_of words.new.items ≡ words_of line.entry.now) }
 {
-    let mut words = Vec::new(alloc);
+    words.clear();
     let mut rest = Some(line);
     while let Some(octets) = rest {
         let (word, more) = first_piece(octets, b' ');
         words.reserve(1)?;
-        words.push_reserved(Word::new(alloc, word)?);
+        words.push_reserved(word);
         rest = more;
     }
-    Ok(words)
+    Ok(())
 }
