@@ -173,7 +173,10 @@ pub(crate) fn keep_spare<A: Allocator + Copy>(
     ensures { is_over ≡ false → dialogue.new ≡ dialogue.old }
 {
     if is_over && spares.len() < spares.capacity() {
-        spares.push_reserved(dialogue.take_spare());
+        let spare = dialogue.take_spare();
+        if spare.is_small() {
+            spares.push_reserved(spare);
+        }
     }
 }
 

@@ -88,6 +88,11 @@ impl<A: Allocator + Copy> Invocations<A> {
         self.reject_ms = reject_ms;
     }
 
+    /// How many invocations it has room for without more memory; a contract forgets that.
+    pub fn capacity(&self) -> usize {
+        self.entries.capacity()
+    }
+
     /// Whether an invocation with the identifier is Sent, so that a result or an error is for it.
     pub fn is_open(&self, id: i8) -> bool
         ensures { result ≡ is_some (sent_at self.now.rows id) }

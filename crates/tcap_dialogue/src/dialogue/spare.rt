@@ -12,6 +12,12 @@ use tcap_invocation::Invocations;
 use tcap_primitives::Queue;
 use tcap_reception::Phase;
 
+/// The greatest queue, in octets, that is small.
+const MOST_OCTETS: usize = 512;
+
+/// As many components, and as many invocations.
+const MOST_PARTS: usize = 16;
+
 /// The memory of a dialogue that is over: that of its queue and of its invocations. The next dialogue takes it in
 /// place of memory of its own, which saves six blocks that are taken and given back. What is in it says nothing: who
 /// takes it clears it first (our own).
@@ -32,6 +38,14 @@ impl<A: Allocator + Copy> Spare<A> {
             },
             invocations: Invocations::new(alloc, 0),
         }
+    }
+
+    /// Whether it has the room that an ordinary dialogue needs and not much more. What is larger isn't worth
+    /// keeping: else each dialogue would come to hold as much as the largest one did.
+    pub fn is_small(&self) -> bool {
+        self.queue.octets.capacity() <= MOST_OCTETS
+            && self.queue.parts.capacity() <= MOST_PARTS
+            && self.invocations.capacity() <= MOST_PARTS
     }
 }
 
