@@ -154,7 +154,8 @@ fn search_queued<A: Allocator + Copy>(entries: &Entries<A>) -> usize
 
 /// Whether the one at this place is Queued.
 fn is_queued<A: Allocator + Copy>(entries: &Entries<A>, place: usize) -> bool
-    ensures { result ≡ false → (r : Row) → slice_get entries.now.entries place ≡ Some r → is_queued r.1.stage ≡ false }
+    ensures { result ≡ false → (r : Row) → slice_get entries.now.entries place ≡ Some r
+        → is_queued r.1.stage ≡ false }
 {
     match entries.get_index(place) {
         Some((_, entry)) => entry.stage.is_queued(),

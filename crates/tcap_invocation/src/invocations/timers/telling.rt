@@ -105,7 +105,8 @@ pub(super) fn push_due<A: Allocator + Copy>(
     clock: u64,
 )
     requires order { IsInOrder timers.now.items }
-    requires room { vec_len lapses.old + length (filter_map (told_of_timer clock) timers.now.items) ≤ vec_capacity lapses.old }
+    requires room { vec_len lapses.old + length (filter_map (told_of_timer clock) timers.now.items)
+        ≤ vec_capacity lapses.old }
     ensures { lapses.new.items ≡ lapses.old.items ++ filter_map (told_of_timer clock) timers.now.items }
 {
     for timer in timers.iter() {
