@@ -13,7 +13,6 @@ use Rattle.tcap_model.specs.Histories.History.{History}
 use Rattle.tcap_model.specs.Histories.Life.{Life, life}
 use Rattle.tcap_model.specs.Replies.Legal.{is_start}
 use Rattle.tcap_model.specs.Table.Dialogue.{Dialogue}
-use Rattle.tcap_model.specs.Table.EngineMove.{dialogue_in}
 use Rattle.tcap_model.specs.Table.World.{World, StandsAt, dialogue_at, dialogue_by, first_world, world_of}
 use Rattle.tcap_model.specs.Words.InRange.{is_short, is_long}
 use Rattle.tcap_reception.specs.StateViews as view

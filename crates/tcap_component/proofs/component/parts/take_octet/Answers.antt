@@ -1,4 +1,4 @@
-use Rattle.std.proofs.Common.{refl, sym, arith, ◌∙◌}
+use Rattle.std.proofs.Common.{refl, arith}
 use Rattle.std.proofs.lemmas.List.{length-drop}
 use Rattle.ber_core.proofs.CallerLemmas.{tagged_one}
 use Rattle.tcap_component.proofs.PlaceSteps.{rest_is, octet-goes}

@@ -1,4 +1,4 @@
-use Rattle.std.proofs.Common.{rules, arith, ◌≡◌, ◌≤◌, ◌+◌, ◌∙◌, ◌++◌, ◌∷◌, ap, sym, nat_eq, length, List, Some, [], append_assoc, vec_len, vec_capacity}
+use Rattle.std.proofs.Common.{rules, arith, ◌≡◌, ◌+◌, ◌∙◌, ◌++◌, ◌∷◌, ap, sym, nat_eq, length, List, Some, [], append_assoc}
 use Rattle.std.proofs.lemmas.List.{length-map, map-append}
 use Rattle.std.specs.Map.{lookup}
 use Rattle.tcap_primitives.specs.OutputViews.{all_shown, shown}
