@@ -113,7 +113,7 @@ fn runs_with_each_growth_refused(rt: HostRuntime) -> Result<(), Fail> {
     let texts = [MESSAGES, OUTCOMES, REQUESTS, IDLE, ADDRESSES];
     let Total { examples, growths } = total_of(alloc, Way::Handed, texts.as_slice())?;
     assert!(rt;
-        examples == 51 && growths > 850,
+        examples == 51 && growths > 900,
         "{examples} examples, {growths} growths"
     );
     Ok(())
