@@ -1,6 +1,7 @@
 -- A dialogue more in the table, under an identifier above all.
 use Rattle.std.proofs.Common.{◌≡◌, ℕ, ◌+◌, ◌<◌, ◌≤◌, Bool, true, false, cond, nat_eq, List, [], ◌∷◌, ◌++◌, Some, None, Option, is_some, length, nat_le, if◌then◌else◌, refl, ap, arith, tests}
 use Rattle.std.proofs.lemmas.Bool.{eqb-true}
+use Rattle.std.proofs.lemmas.List.{length-append, length-map}
 use Rattle.std.specs.Map.{lookup}
 use Rattle.tcap_model.specs.Table.Dialogue.{Dialogue, fresh_dialogue}
 use Rattle.tcap_model.specs.Table.EngineMove.{engine_move, birth_fault_in, asked_in, born_in}
@@ -9,7 +10,8 @@ use Rattle.tcap_model.specs.Words.Answer.{Answer}
 use Rattle.tcap_model.specs.Words.Event.{Event}
 use Rattle.tcap_model.specs.Words.Fault.{Fault}
 use Rattle.tcap_model.specs.Words.Identifiers.{are_dialogues_spent}
-use Rattle.tcap_engine.specs.Table.{TableEntry, AreFrom, AreDrawn, AreWithin, IsWithin, dialogues_of}
+use Rattle.tcap_engine.specs.declared.limits.Limits.{Limits}
+use Rattle.tcap_engine.specs.Table.{TableEntry, AreFrom, AreDrawn, AreWithin, IsSound, IsWithin, dialogues_of}
 
 -- No dialogue stands under an identifier that wasn't drawn.
 pub absent-drawn : (d : ℕ) (ps : List TableEntry) → AreDrawn d ps → lookup (nat_eq d) ps ≡ None
@@ -43,6 +45,18 @@ room-to-be-born w e = go (nat_le w.max_dialogues (length w.dialogues)) refl e
     go : (b : Bool) → nat_le w.max_dialogues (length w.dialogues) ≡ b → (if b then Some Fault.dialogues_full else if are_dialogues_spent w.next_dialogue then Some Fault.dialogue_ids_spent else None) ≡ None → length w.dialogues < w.max_dialogues
     go true full e = absurd cc
     go false free e = grind (arith, tests, free)
+
+-- What an engine keeps holds with one dialogue more, created under the next identifier.
+pub sound-push : (limits : Limits) (d next_number clock : ℕ) (ps : List TableEntry) (x : Dialogue) → IsSound limits d next_number clock ps → x.standing.identifier ≡ d
+    → IsWithin limits.reject_ms next_number x → length (dialogues_of ps) < limits.max_dialogues → IsSound limits (d + 1) next_number clock (ps ++ (d, x) ∷ [])
+sound-push limits d next_number clock ps x h is within free = record {
+  limited = h.limited;
+  time = h.time;
+  from = from-push 0 ps (d, x) (omega arith) is h.drawn h.from;
+  drawn = drawn-push d x ps h.drawn;
+  within = within-push limits.reject_ms next_number ps (d, x) within h.within;
+  room = let sum = length-append ps ((d, x) ∷ []) in let many = length-map ps (λ (p : TableEntry). p.1) in omega (arith, sum, many, free);
+}
 
 -- A dialogue is created where nothing stands in the way.
 pub born_by : (w : World) → birth_fault_in w ≡ None → engine_move w Event.new_dialogue ≡ born_in w (Answer.new_dialogue w.next_dialogue) (fresh_dialogue w.next_dialogue w.reject_ms w.idle_ms)

@@ -111,40 +111,36 @@ impl<A: Allocator + Copy> Dialogue<A> {
             → IfOk result (λ r. AllInPlace portion components.entry r.1.items) }
     {
         let spare = Spare::new(alloc);
-        Dialogue::accept_in(
-            spare, identifier, reject_ms, idle_ms, from, otid, aarq, components, clock,
-        )
+        let mut dialogue = Dialogue::fresh_in(spare, identifier, reject_ms, idle_ms);
+        let outputs = dialogue.hear_begin(from, otid, aarq, components, clock)?;
+        Ok((dialogue, outputs))
     }
 
-    /// `accept`, with the memory that another dialogue left; where memory is refused that is given back.
+    /// The Begin that creates the dialogue, in which nothing has happened: what is told; the arguments are those
+    /// of `accept`. Where memory is refused the dialogue is not to be used any more (Q.774, Dialogue begin).
+    // It stands where it is to stay: a dialogue is 568 octets, with the address 264 of them, and each move on
+    // its way into a table copied and cleared them again.
     #[tactic(auto, using(crate::proofs::PortionNames::named_given))]
-    pub fn accept_in<'m>(
-        spare: Spare<A>,
-        identifier: u32,
-        reject_ms: u64,
-        idle_ms: u64,
+    #[inline(always)]
+    pub fn hear_begin<'m>(
+        &mut self,
         from: &Address,
         otid: &TransId,
         aarq: Option<(&'m [u8], &'m [u8])>,
         components: &'m [u8],
         clock: u64,
-    ) -> Result<(Dialogue<A>, Vec<Output<'m, A>, A>), OutOfMemory>
-        requires reject { reject_ms ≤ moment_limit }
-        requires idle { idle_ms ≤ moment_limit }
+    ) -> Result<Vec<Output<'m, A>, A>, OutOfMemory>
         requires clock { clock ≤ moment_limit }
         requires named { IfSome aarq (λ a. IsObjectIdentifier a.0.now) }
         // What is told, and the dialogue.
-        ensures ok { IfOk result (λ r. begun r.1.items r.0
-            ≡ outcome (born (at_clock clock) identifier reject_ms idle_ms from.now otid.now
-            (context_given aarq.entry) (info_given aarq.entry) components.now)) }
+        ensures ok { IfOk result (λ outputs. begun outputs.items self.new ≡ outcome (begun_from clock self.old
+            from.now otid.now (context_given aarq.entry) (info_given aarq.entry) components.now)) }
         // The slices that are told are those that were given, and parts of the component portion.
         ensures place { (portion : Option Slice) → GivenIn 0x60 aarq.entry portion
-            → IfOk result (λ r. AllInPlace portion components.entry r.1.items) }
+            → IfOk result (λ outputs. AllInPlace portion components.entry outputs.items) }
     {
         let (context, info) = parts_of(aarq);
-        let mut dialogue = Dialogue::fresh_in(spare, identifier, reject_ms, idle_ms);
-        let outputs = dialogue.begin_with(from, otid, context, info, components, clock)?;
-        Ok((dialogue, outputs))
+        self.begin_with(from, otid, context, info, components, clock)
     }
 }
 

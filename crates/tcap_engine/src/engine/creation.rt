@@ -1,19 +1,24 @@
 //! Dialogues that are created.
 
-ghost use Rattle.std.specs.Prelude.{◌≡◌, ◌<◌, ◌+◌, None, OnErr, OnOk, IfOk, IfSome};
+ghost use Rattle.std.specs.Prelude.{◌≡◌, ◌<◌, ◌≤◌, ◌+◌, ◌++◌, ◌∷◌, [], None, Some, nat_eq, OnErr, OnOk, IfOk, IfSome};
+ghost use Rattle.std.specs.Map.{lookup, remove_entry, set_value};
 ghost use Rattle.std.specs.Option.{option_map};
 ghost use Rattle.ber_core.specs.ObjectIdentifier.{IsObjectIdentifier};
 ghost use Rattle.tcap_reception.specs.GivenViews.{context_given, info_given};
 ghost use Rattle.tcap_primitives.specs.FaultViews.{fault_view};
+ghost use Rattle.tcap_dialogue.specs.Beginning.{begun_from};
+ghost use Rattle.tcap_invocation.specs.Stage.{moment_limit};
+ghost use Rattle.tcap_model.specs.Table.Dialogue as model;
 ghost use Rattle.tcap_engine.specs.Answering.{EngineAnswers, Moves, birth_answer, outputs_answer};
 ghost use Rattle.tcap_engine.specs.HistoryForm.{Stands};
-ghost use Rattle.tcap_engine.specs.Table.{IsWithin, with_born};
+ghost use Rattle.tcap_engine.specs.Table.{AreDrawn, IsWithin, with_born};
 ghost use Rattle.tcap_model.specs.Table.EngineMove.{engine_move, begun_in, birth_fault_in, setting_in};
 ghost use Rattle.tcap_model.specs.Table.TableMove.{born};
 ghost use Rattle.tcap_model.specs.Words.Event.{Event};
 ghost use Rattle.tcap_model.specs.Words.Identifiers.{last_dialogue};
 
 use super::Engine;
+use crate::dialogues::{Dialogues, settle};
 use ber_core::OutOfMemory;
 use std::alloc::Allocator;
 use tcap_dialogue::{Address, Dialogue, Fault, Output};
@@ -65,19 +70,14 @@ impl<A: Allocator + Copy> Engine<A> {
             (context_given request.entry) (info_given request.entry) components.now)) (outputs_answer os) self.new) }
         ensures err { OnErr result (self.new ≡ self.old) }
     {
+        let identifier = self.next_dialogue;
+        let following = next_identifier(identifier);
         let spare = self.table.take_spare();
-        let (dialogue, outputs) = Dialogue::accept_in(
-            spare,
-            self.next_dialogue,
-            self.limits.reject_ms,
-            self.limits.idle_ms,
-            from,
-            origin,
-            request,
-            components,
-            self.clock,
-        )?;
-        self.keep(dialogue)?;
+        let limits = self.limits;
+        let fresh = Dialogue::fresh_in(spare, identifier, limits.reject_ms, limits.idle_ms);
+        let (table, clock) = (&mut self.table, self.clock);
+        let outputs = accept_in(table, identifier, fresh, clock, from, origin, request, components)?;
+        self.next_dialogue = following;
         Ok(outputs)
     }
 
@@ -110,6 +110,60 @@ impl<A: Allocator + Copy> Engine<A> {
             None
         }
     }
+}
+
+/// A Begin comes to the dialogue of an identifier, in which nothing has happened; where memory is refused the
+/// dialogue is taken out.
+fn begin_in<'m, A: Allocator + Copy>(
+    table: &mut Dialogues<A>,
+    identifier: u32,
+    clock: u64,
+    from: &Address,
+    origin: &TransId,
+    request: AarqParts<'m>,
+    components: &'m [u8],
+) -> Result<Vec<Output<'m, A>, A>, OutOfMemory>
+    requires clock { clock ≤ moment_limit }
+    requires named { IfSome request (λ r. IsObjectIdentifier r.0.now) }
+    ensures ok { (x : model.Dialogue) → lookup (nat_eq identifier) table.old ≡ Some x
+        → let m = begun_from clock x from.now origin.now (context_given request.entry)
+        (info_given request.entry) components.now in IfOk result (λ os. (outputs_answer os ≡ m.answer)
+        × (table.new ≡ set_value (nat_eq identifier) table.old m.after)) }
+    ensures err { OnErr result (table.new ≡ remove_entry (nat_eq identifier) table.old) }
+{
+    let alloc = table.allocator();
+    let Some(dialogue) = table.rows.get_mut(identifier) else {
+        return Ok(Vec::new(alloc));
+    };
+    let outputs = dialogue.hear_begin(from, origin, request, components, clock);
+    let timer = dialogue.next_timer();
+    settle(&mut table.rows, identifier, outputs.is_err(), timer);
+    outputs
+}
+
+/// Takes in a fresh dialogue under an identifier above all others, and then has the Begin come to it.
+// So it is begun where it stays: moved on its way there, its 568 octets were copied and cleared four times.
+#[inline(always)]
+fn accept_in<'m, A: Allocator + Copy>(
+    table: &mut Dialogues<A>,
+    identifier: u32,
+    fresh: Dialogue<A>,
+    clock: u64,
+    from: &Address,
+    origin: &TransId,
+    request: AarqParts<'m>,
+    components: &'m [u8],
+) -> Result<Vec<Output<'m, A>, A>, OutOfMemory>
+    requires drawn { AreDrawn identifier table.old }
+    requires clock { clock ≤ moment_limit }
+    requires named { IfSome request (λ r. IsObjectIdentifier r.0.now) }
+    ensures ok { let m = begun_from clock fresh from.now origin.now (context_given request.entry)
+        (info_given request.entry) components.now in IfOk result (λ os. (outputs_answer os ≡ m.answer)
+        × (table.new ≡ table.old ++ (identifier, m.after) ∷ [])) }
+    ensures err { OnErr result (table.new ≡ table.old) }
+{
+    table.insert(identifier, fresh)?;
+    begin_in(table, identifier, clock, from, origin, request, components)
 }
 
 /// The identifier that is drawn after this one: no identifier is drawn twice.

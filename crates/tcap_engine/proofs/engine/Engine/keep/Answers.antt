@@ -1,9 +1,8 @@
 use Rattle.std.proofs.Common.{rules, arith, sym, ap, ◌≡◌, ◌∙◌, ◌+◌, ◌++◌, [], ◌∷◌, List, ℕ, length, ◌<◌}
-use Rattle.std.proofs.lemmas.List.{length-append, length-map}
 use Rattle.tcap_model.specs.Table.Dialogue.{Dialogue}
 use Rattle.tcap_model.specs.Table.World.{World}
 use Rattle.tcap_engine.specs.Table.{IsWithin, TableEntry, dialogues_of, with_born}
-use Rattle.tcap_engine.proofs.BirthLemmas.{from-push, drawn-push, within-push, dialogues-push, room-to-be-born}
+use Rattle.tcap_engine.proofs.BirthLemmas.{dialogues-push, room-to-be-born, sound-push}
 use Rattle.tcap_engine.proofs.engine.Engine.keep.Goals as goal
 
 pub invariant_of-self-2 : goal.invariant_of-self-2
@@ -12,17 +11,9 @@ invariant_of-self-2 g c =
     let ps : List TableEntry = c.self.inside.table in
     let new : c.insert.new.self ≡ ps ++ (d, c.args.dialogue) ∷ [] = search rules in
     let free : length (dialogues_of ps) < c.self.inside.limits.max_dialogues = rw (sym c.self.view_is) at (room-to-be-born c.args.self.now c.requires.free) in
-    let many = length-map ps (λ (p : TableEntry). p.1) in
     let next : c.args.dialogue.standing.identifier ≡ d = rw (sym c.self.view_is) at c.requires.next in
     let within : IsWithin c.self.inside.limits.reject_ms c.self.inside.next_number c.args.dialogue = rw (sym c.self.view_is) at c.requires.within in
-    rw (new, c.next_identifier-following.ensures) (record {
-      limited = c.self.invariant.limited;
-      time = c.self.invariant.time;
-      from = from-push 0 ps (d, c.args.dialogue) (omega arith) next c.self.invariant.drawn c.self.invariant.from;
-      drawn = drawn-push d c.args.dialogue ps c.self.invariant.drawn;
-      within = within-push c.self.inside.limits.reject_ms c.self.inside.next_number ps (d, c.args.dialogue) within c.self.invariant.within;
-      room = let sum = length-append ps ((d, c.args.dialogue) ∷ []) in omega (arith, sum, many, free);
-    })
+    rw (new, c.next_identifier-following.ensures) (sound-push c.self.inside.limits d c.self.inside.next_number c.self.inside.clock ps c.args.dialogue c.self.invariant next within free)
 
 pub returns-clause-ok : goal.returns-clause-ok
 returns-clause-ok g c =
