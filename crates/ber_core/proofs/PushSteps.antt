@@ -104,6 +104,14 @@ module _ (stream piece begun : List ℕ) (h : StandsBehind stream (left_by None 
         fault,
       )
 
+  -- the piece lies within the element under way
+  module _ (s : Scanner) (u : IsUnderWay s (begun ++ piece)) where
+    pub gives-within : Completes stream piece [] (left_by None (begun ++ piece))
+    gives-within = gives-open [] (begun ++ piece) (under_way-cut s (begun ++ piece) u)
+
+    pub wants-within : piece ≢ [] → WantsMemory stream piece
+    wants-within some = inr (some, ap (λ (c : Cut). c.fault) (longer ∙ ap (after_messages (cut_of stream).messages) (under_way-cut s (begun ++ piece) u)))
+
 -- ---- what is held
 
 pub none-of : {X : Type 0} (o : Option X) → ((x : X) → o ≡ Some x → ⊥) → o ≡ None

@@ -7,7 +7,7 @@ mod pieces;
 
 use crate::fault::{FeedFault, OutOfMemory};
 use crate::scanner::Scanner;
-use pieces::{End, cut_piece};
+use pieces::{End, cut_piece, within_content};
 use std::alloc::{Allocator, Global};
 use std::marker::Model;
 
@@ -86,7 +86,14 @@ impl<A: Allocator + Copy> Feed<A> {
             return Err(fault);
         }
         let alloc = *self.rest.allocator();
-        let (messages, end) = cut_piece(alloc, self.scanner, self.rest.as_slice(), piece)?;
+        let begun = self.rest.as_slice();
+        // Where a stream comes by the octet, or a message in many pieces, most lie within a content.
+        if let Some(scanner) = within_content(self.scanner, begun, piece) {
+            hold_behind(&mut self.rest, piece)?;
+            self.scanner = scanner;
+            return Ok(Vec::new(alloc));
+        }
+        let (messages, end) = cut_piece(alloc, self.scanner, begun, piece)?;
         match end {
             End::Open(scanner, octets) => {
                 hold(&mut self.rest, messages.is_empty(), octets)?;
@@ -96,6 +103,22 @@ impl<A: Allocator + Copy> Feed<A> {
             End::Fault(fault) => end_with(&mut self.fault, &mut self.rest, messages, fault),
         }
     }
+}
+
+/// Holds the octets behind those that are held, one alone without a call that copies.
+#[inline(always)]
+fn hold_behind<A: Allocator + Copy>(rest: &mut Vec<u8, A>, octets: &[u8]) -> Result<(), OutOfMemory>
+    ensures ok { OnOk result (rest.new.items ≡ rest.old.items ++ octets.now) }
+    ensures err { OnErr result (rest.new.items ≡ rest.old.items) }
+    ensures full { OnErr result (octets.now ≢ []) }
+{
+    if let [octet] = octets {
+        rest.reserve(1)?;
+        rest.push_reserved(*octet);
+        return Ok(());
+    }
+    rest.extend_from_slice(octets)?;
+    Ok(())
 }
 
 /// Holds the octets behind those that are held, or alone.

@@ -1,6 +1,6 @@
 //! What a feed finds in one piece.
 
-ghost use Rattle.std.specs.Prelude.{◌≡◌, ◌≢◌, ◌-◌, ◌≤◌, ◌<◌, ◌++◌, ◌∷◌, [], take, length, map, IfOk, IfErr, OnErr, OnOk};
+ghost use Rattle.std.specs.Prelude.{◌≡◌, ◌≢◌, ◌-◌, ◌≤◌, ◌<◌, ◌++◌, ◌∷◌, [], take, length, map, IfOk, IfErr, IfSome, OnErr, OnOk};
 ghost use Rattle.ber_core.specs.Length.{length_limit};
 ghost use Rattle.ber_core.specs.Stream.{cut_of};
 ghost use Rattle.ber_core.specs.Pieces.{IsUnderWay, SplitsInto, EndsSo};
@@ -37,6 +37,19 @@ fn window<'p>(begun: usize, piece: &'p [u8]) -> &'p [u8]
         return piece;
     }
     &piece[..room]
+}
+
+/// The scanner behind a piece that ends before the content does that is due; `None` for any other piece,
+/// and for one that goes on where no octet more may be taken.
+#[inline(always)]
+pub(crate) fn within_content(scanner: Scanner, begun: &[u8], piece: &[u8]) -> Option<Scanner>
+    requires { IsUnderWay scanner begun.now }
+    ensures { IfSome result (λ s. IsUnderWay s (begun.now ++ piece.now)) }
+{
+    if piece.len() > MAX_LENGTH - begun.len() {
+        return None;
+    }
+    scanner.within_content(piece)
 }
 
 /// Takes a piece up to the end of the element that is under way, of which these octets have come.

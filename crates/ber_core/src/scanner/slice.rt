@@ -51,6 +51,26 @@ impl Scanner {
         }
     }
 
+    /// The scanner behind octets that end before the content does that is due; `None` where they don't,
+    /// or where no content is due.
+    #[inline(always)]
+    pub fn within_content(self, octets: &[u8]) -> Option<Scanner>
+        ensures { IfSome result (λ s. (more : List ℕ) → goes_on s more ≡ goes_on self (octets.now ++ more)) }
+    {
+        let Due::Content(left) = self.due else {
+            return None;
+        };
+        let count = left as usize;
+        if octets.len() < count {
+            let due = Due::Content((count - octets.len()) as u16);
+            return Some(Scanner {
+                due,
+                nested: self.nested,
+            });
+        }
+        None
+    }
+
     /// Takes an octet, and with it what there is of a content behind it; gives what follows.
     #[inline(always)]
     fn advance(self, octet: u8, bytes: &[u8]) -> Result<(Option<Scanner>, &[u8]), BerFault>
