@@ -6,7 +6,7 @@ ghost use Rattle.std.specs.Option.{option_map};
 ghost use Rattle.ber_core.specs.Integer.{integer_octets};
 ghost use Rattle.ber_core.specs.Length.{length_limit};
 ghost use Rattle.ber_core.specs.Sequence.Field.{must, may};
-ghost use Rattle.ber_core.specs.Written.{written, written_head, written_field, written_fields};
+ghost use Rattle.ber_core.specs.Written.{written, written_field, written_fields};
 ghost use Rattle.tcap_component.specs.Problem.{problem_tag};
 ghost use Rattle.tcap_component.specs.Component.{identifier, rejected_field, body_fields};
 ghost use Rattle.tcap_component.specs.Views.{code_parts, body_parts, problem_parts, component_parts};
@@ -18,50 +18,8 @@ use crate::component::write::tag_of_component;
 use crate::component::{Body, Code, Component};
 use crate::problem::Problem;
 use crate::tag;
+use ber_core::{put_head, put_octet, put_octets};
 use std::alloc::Allocator;
-
-/// Appends octets.
-#[inline(always)]
-fn put_octets<A: Allocator + Copy>(out: &mut Vec<u8, A>, octets: &[u8])
-    requires { vec_len out.old + length octets.now ≤ vec_capacity out.old }
-    ensures items { out.new.items ≡ out.old.items ++ octets.now }
-    ensures capacity { vec_capacity out.old ≤ vec_capacity out.new }
-{
-    out.extend_from_slice(octets).unwrap();
-}
-
-/// Appends a tag of one octet and the shortest length.
-#[inline(always)]
-fn put_head<A: Allocator + Copy>(out: &mut Vec<u8, A>, tag: u8, len: usize)
-    requires short { len ≤ length_limit }
-    requires room { vec_len out.old + length (written_head (tag ∷ []) len) ≤ vec_capacity out.old }
-    ensures items { out.new.items ≡ out.old.items ++ written_head (tag ∷ []) len }
-    ensures capacity { vec_capacity out.old ≤ vec_capacity out.new }
-{
-    out.push_reserved(tag);
-    if len < 128 {
-        out.push_reserved(len as u8);
-    } else if len < 256 {
-        out.push_reserved(0x81);
-        out.push_reserved(len as u8);
-    } else {
-        out.push_reserved(0x82);
-        out.push_reserved((len / 256) as u8);
-        out.push_reserved((len % 256) as u8);
-    }
-}
-
-/// Appends an element whose content is one octet.
-#[inline(always)]
-fn put_octet<A: Allocator + Copy>(out: &mut Vec<u8, A>, tag: u8, octet: u8)
-    requires { vec_len out.old + 3 ≤ vec_capacity out.old }
-    ensures items { out.new.items ≡ out.old.items ++ written (tag ∷ []) (octet ∷ []) }
-    ensures capacity { vec_capacity out.old ≤ vec_capacity out.new }
-{
-    out.push_reserved(tag);
-    out.push_reserved(1);
-    out.push_reserved(octet);
-}
 
 /// Appends a local code of two to four octets.
 #[inline(never)]

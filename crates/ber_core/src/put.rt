@@ -1,0 +1,100 @@
+//! Writers of elements that take no memory: the vector has room for what is appended. A caller that
+//! knows how much it will write takes all room once, and no part looks for room again.
+
+ghost use Rattle.std.specs.Prelude.{◌≡◌, ◌+◌, ◌<◌, ◌≤◌, ◌++◌, [], ◌∷◌, length, vec_len, vec_capacity};
+ghost use Rattle.ber_core.specs.Length.{length_limit};
+ghost use Rattle.ber_core.specs.Written.{written, written_head};
+
+use std::alloc::Allocator;
+
+/// Appends octets, for which there is room (X.690, Contents octets).
+#[inline(always)]
+pub fn put_octets<A: Allocator + Copy>(out: &mut Vec<u8, A>, octets: &[u8])
+    requires { vec_len out.old + length octets.now ≤ vec_capacity out.old }
+    ensures items { out.new.items ≡ out.old.items ++ octets.now }
+    ensures capacity { vec_capacity out.old ≤ vec_capacity out.new }
+{
+    out.extend_from_slice(octets).unwrap();
+}
+
+/// Appends a tag of one octet and the shortest definite length, for which there is room. `len` is in
+/// octets, at most 65,535 (X.690, Length octets).
+#[inline(always)]
+pub fn put_head<A: Allocator + Copy>(out: &mut Vec<u8, A>, tag: u8, len: usize)
+    requires short { len ≤ length_limit }
+    requires room { vec_len out.old + length (written_head (tag ∷ []) len) ≤ vec_capacity out.old }
+    ensures items { out.new.items ≡ out.old.items ++ written_head (tag ∷ []) len }
+    ensures capacity { vec_capacity out.old ≤ vec_capacity out.new }
+{
+    out.push_reserved(tag);
+    if len < 128 {
+        out.push_reserved(len as u8);
+    } else if len < 256 {
+        out.push_reserved(0x81);
+        out.push_reserved(len as u8);
+    } else {
+        out.push_reserved(0x82);
+        out.push_reserved((len / 256) as u8);
+        out.push_reserved((len % 256) as u8);
+    }
+}
+
+/// Appends an element whose content is one octet, for which there is room (X.690, Structure of an
+/// encoding).
+#[inline(always)]
+pub fn put_octet<A: Allocator + Copy>(out: &mut Vec<u8, A>, tag: u8, octet: u8)
+    requires { vec_len out.old + 3 ≤ vec_capacity out.old }
+    ensures items { out.new.items ≡ out.old.items ++ written (tag ∷ []) (octet ∷ []) }
+    ensures capacity { vec_capacity out.old ≤ vec_capacity out.new }
+{
+    out.push_reserved(tag);
+    out.push_reserved(1);
+    out.push_reserved(octet);
+}
+
+/// Appends octets one by one, for which there is room. Where their number is known when it is built,
+/// no loop is left of it.
+#[inline(always)]
+fn push_each<A: Allocator + Copy>(out: &mut Vec<u8, A>, octets: &[u8])
+    requires { vec_len out.old + length octets.now ≤ vec_capacity out.old }
+    ensures items { out.new.items ≡ out.old.items ++ octets.now }
+    ensures capacity { vec_capacity out.old ≤ vec_capacity out.new }
+{
+    for octet in octets {
+        out.push_reserved(*octet);
+    }
+}
+
+/// Appends an element whose content is a few octets, for which there is room: its length is one octet,
+/// and the content is appended octet by octet. `content` has at most 127 octets
+/// (X.690, Structure of an encoding).
+#[inline(always)]
+pub fn put_few<A: Allocator + Copy>(out: &mut Vec<u8, A>, tag: u8, content: &[u8])
+    requires few { length content.now < 128 }
+    requires room { vec_len out.old + length (written (tag ∷ []) content.now) ≤ vec_capacity out.old }
+    ensures items { out.new.items ≡ out.old.items ++ written (tag ∷ []) content.now }
+    ensures capacity { vec_capacity out.old ≤ vec_capacity out.new }
+{
+    out.push_reserved(tag);
+    out.push_reserved(content.len() as u8);
+    push_each(out, content);
+}
+
+/// Appends an element in the shortest definite form, for which there is room. `tag` is its one octet,
+/// `content` has at most 65,535 octets (X.690, Structure of an encoding).
+///
+/// ```rust
+/// let mut out = Vec::with_capacity(alloc, 3)?;
+/// ber_core::put_element(&mut out, 0x04, &[0xaa]);
+/// assert_eq!(rt; out.as_slice(), [0x04, 0x01, 0xaa].as_slice());
+/// ```
+#[inline(always)]
+pub fn put_element<A: Allocator + Copy>(out: &mut Vec<u8, A>, tag: u8, content: &[u8])
+    requires short { length content.now ≤ length_limit }
+    requires room { vec_len out.old + length (written (tag ∷ []) content.now) ≤ vec_capacity out.old }
+    ensures items { out.new.items ≡ out.old.items ++ written (tag ∷ []) content.now }
+    ensures capacity { vec_capacity out.old ≤ vec_capacity out.new }
+{
+    put_head(out, tag, content.len());
+    put_octets(out, content);
+}
