@@ -1,6 +1,5 @@
 -- What is appended part by part is the written PDU.
-use Rattle.std.proofs.Common.{◌≡◌, ℕ, ◌+◌, Bool, List, [], ◌∷◌, ◌++◌, length, Ok, Err, Result, refl, sym, ap, ◌∙◌, append_assoc, append-nil}
-use Rattle.std.specs.Prelude.{OnOk}
+use Rattle.std.proofs.Common.{◌≡◌, ℕ, ◌+◌, ◌≤◌, Bool, List, [], ◌∷◌, ◌++◌, length, refl, sym, ap, ◌∙◌, arith, append_assoc, append-nil, length-append}
 use Rattle.ber_core.specs.Sequence.{Field}
 use Rattle.ber_core.specs.Sequence.Field.{must, filled}
 use Rattle.ber_core.specs.Written.{written, written_head, written_field, written_fields}
@@ -10,10 +9,6 @@ use Rattle.tcap_pdu.specs.DialogueSpelling.{Source, abort_source}
 use Rattle.tcap_pdu.specs.DialogueWritten.{opening_fields, request_fields, result_field, diagnostic_field, response_fields, abort_fields, written_external}
 use Rattle.tcap_pdu.specs.DialogueDue.{information_length, opening_length, answer_length, external_front}
 use Rattle.tcap_pdu.proofs.DialogueLength.{length-held, length-request, length-response, length-abort}
-
-pub by_ok : {A E : Type 0} (P Q : Type 0) (r : Result A E) → OnOk r P → (P → Q) → OnOk r Q
-by_ok P Q (Ok x) h f = f h
-by_ok P Q (Err e) h f = h
 
 written_fields-append : (fs gs : List Field) → written_fields (fs ++ gs) ≡ written_fields fs ++ written_fields gs
 written_fields-append [] gs = refl
@@ -63,3 +58,39 @@ pub abort-appended : (old syntax : List ℕ) (tag n : ℕ) (b : Bool) (i : List 
 abort-appended old syntax tag n b i is len =
     two old (external_front syntax tag n) (written (0x80 ∷ []) (abort_source b ∷ [])) (written_fields (filled 0xbe i ∷ []))
     ∙ behind old syntax (written_fields (abort_fields b i)) tag n (abort_fields b i) is (length-abort b i ∙ sym len) refl
+
+-- ---- the room that each part wants
+
+length-three : (a b c whole : List ℕ) → (a ++ b) ++ c ≡ whole → length a + length b + length c ≡ length whole
+length-three a b c whole e =
+    let x = length-append (a ++ b) c in
+    let y = length-append a b in
+    let z = ap length e in
+    omega (arith, x, y, z)
+
+length-five : (a b c d e whole : List ℕ) → (((a ++ b) ++ c) ++ d) ++ e ≡ whole → length a + length b + length c + length d + length e ≡ length whole
+length-five a b c d e whole is =
+    let x = length-append (((a ++ b) ++ c) ++ d) e in
+    let y = length-append ((a ++ b) ++ c) d in
+    let z = length-three a b c ((a ++ b) ++ c) refl in
+    let w = ap length is in
+    omega (arith, x, y, z, w)
+
+-- what is left of the room behind a part
+pub room-behind : (old part new : List ℕ) (rest cap cap' : ℕ) → new ≡ old ++ part → length old + length part + rest ≤ cap → cap ≤ cap' → length new + rest ≤ cap'
+room-behind old part new rest cap cap' is room grows =
+    let x = ap length is in
+    let y = length-append old part in
+    omega (arith, x, y, room, grows)
+
+pub request-length : (syntax : List ℕ) (tag n : ℕ) (v : Bool) (c i : List ℕ) → length syntax ≡ 7 → n ≡ opening_length (length c) + information_length (length i) → length (external_front syntax tag n) + length (written_fields (opening_fields v c [])) + length (written_fields (filled 0xbe i ∷ [])) ≡ length (written_external syntax tag (request_fields v c i))
+request-length syntax tag n v c i is len =
+    length-three (external_front syntax tag n) (written_fields (opening_fields v c [])) (written_fields (filled 0xbe i ∷ [])) (written_external syntax tag (request_fields v c i)) (request-appended [] syntax tag n v c i is len)
+
+pub response-length : (syntax : List ℕ) (tag n : ℕ) (v : Bool) (c : List ℕ) (a : Bool) (d : Source) (i : List ℕ) → length syntax ≡ 7 → n ≡ opening_length (length c) + answer_length + information_length (length i) → length (external_front syntax tag n) + length (written_fields (opening_fields v c [])) + length (written_field (result_field a)) + length (written_field (diagnostic_field d)) + length (written_fields (filled 0xbe i ∷ [])) ≡ length (written_external syntax tag (response_fields v c a d i))
+response-length syntax tag n v c a d i is len =
+    length-five (external_front syntax tag n) (written_fields (opening_fields v c [])) (written_field (result_field a)) (written_field (diagnostic_field d)) (written_fields (filled 0xbe i ∷ [])) (written_external syntax tag (response_fields v c a d i)) (response-appended [] syntax tag n v c a d i is len)
+
+pub abort-length : (syntax : List ℕ) (tag n : ℕ) (b : Bool) (i : List ℕ) → length syntax ≡ 7 → n ≡ element_length 1 + information_length (length i) → length (external_front syntax tag n) + length (written (0x80 ∷ []) (abort_source b ∷ [])) + length (written_fields (filled 0xbe i ∷ [])) ≡ length (written_external syntax tag (abort_fields b i))
+abort-length syntax tag n b i is len =
+    length-three (external_front syntax tag n) (written (0x80 ∷ []) (abort_source b ∷ [])) (written_fields (filled 0xbe i ∷ [])) (written_external syntax tag (abort_fields b i)) (abort-appended [] syntax tag n b i is len)

@@ -1,8 +1,8 @@
 //! Dialogue PDUs: AARQ, AUDT, AARE, ABRT (Q.773, Dialogue portion).
 
-mod append;
 mod len;
 mod parts;
+mod put;
 mod read;
 mod write;
 

@@ -1,6 +1,6 @@
 //! Writing a dialogue portion.
 
-ghost use Rattle.std.specs.Prelude.{◌≡◌, ◌≤◌, ◌++◌, IfOk, IfErr, IfSome, OnOk, length};
+ghost use Rattle.std.specs.Prelude.{◌≡◌, ◌≤◌, IfOk, IfErr, IfSome, length};
 ghost use Rattle.std.specs.Result.{IsErrOf};
 ghost use Rattle.ber_core.specs.ObjectIdentifier.{object_identifier_limit};
 ghost use Rattle.tcap_pdu.specs.DialogueSpelling.{SpellsDialogue};
@@ -9,56 +9,11 @@ ghost use Rattle.tcap_pdu.specs.DialogueWritten.{portion_limit, written_dialogue
 ghost use Rattle.tcap_pdu.specs.DialogueDue.{context_of, due_fault, portion_length};
 
 use crate::dialogue_pdu::DialoguePdu;
-use crate::dialogue_pdu::append::{append_abort, append_request, append_response};
 use crate::dialogue_pdu::len::checked_len;
-use crate::dialogue_tag::{DIALOGUE_REQUEST, STRUCTURED, UNIDIRECTIONAL_DIALOGUE, UNSTRUCTURED};
+use crate::dialogue_pdu::put::put_portion;
 use crate::fault::PduFault;
 use ber_core::OutOfMemory;
 use std::alloc::Allocator;
-
-/// Appends the contents of a dialogue portion.
-#[tactic(auto, unfolding(crate::specs::DialogueWritten::written_dialogue, crate::specs::DialogueDue::portion_length))]
-#[inline(always)]
-fn append_portion<A: Allocator + Copy>(
-    out: &mut Vec<u8, A>,
-    pdu: &DialoguePdu<'_>,
-) -> Result<(), OutOfMemory>
-    requires context { IfSome (context_of (pdu_value pdu.now)) (λ c. length c ≤ object_identifier_limit) }
-    requires short { portion_length (pdu_value pdu.now) ≤ portion_limit }
-    ensures { OnOk result (out.new.items ≡ out.old.items ++ written_dialogue (pdu_value pdu.now)) }
-{
-    match pdu {
-        DialoguePdu::Aarq {
-            version1,
-            context,
-            info,
-        } => append_request(out, &STRUCTURED, DIALOGUE_REQUEST, *version1, context, info),
-        DialoguePdu::Audt {
-            version1,
-            context,
-            info,
-        } => append_request(
-            out,
-            &UNSTRUCTURED,
-            UNIDIRECTIONAL_DIALOGUE,
-            *version1,
-            context,
-            info,
-        ),
-        DialoguePdu::Aare {
-            version1,
-            context,
-            accepted,
-            diagnostic,
-            info,
-        } => append_response(out, *version1, context, *accepted, *diagnostic, info),
-        DialoguePdu::Abrt { by_provider, info } => append_abort(out, *by_provider, info),
-        DialoguePdu::Foreign { external } => {
-            out.extend_from_slice(external)?;
-            Ok(())
-        }
-    }
-}
 
 /// The contents of a dialogue portion, of this length. All room is taken first.
 #[inline(always)]
@@ -69,10 +24,11 @@ fn spell_portion<A: Allocator + Copy>(
 ) -> Result<Vec<u8, A>, OutOfMemory>
     requires context { IfSome (context_of (pdu_value pdu.now)) (λ c. length c ≤ object_identifier_limit) }
     requires short { portion_length (pdu_value pdu.now) ≤ portion_limit }
+    requires len { len ≡ length (written_dialogue (pdu_value pdu.now)) }
     ensures { IfOk result (λ out. out.items ≡ written_dialogue (pdu_value pdu.now)) }
 {
     let mut out = Vec::with_capacity(alloc, len)?;
-    append_portion(&mut out, pdu)?;
+    put_portion(&mut out, pdu);
     Ok(out)
 }
 
