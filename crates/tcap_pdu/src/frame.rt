@@ -3,6 +3,7 @@
 mod front;
 mod length;
 mod portions;
+mod put;
 mod read;
 mod write;
 

@@ -3,19 +3,13 @@ use Rattle.std.proofs.lemmas.Result.{err_from_is_err_and}
 use Rattle.tcap_pdu.specs.FrameViews.{message}
 use Rattle.tcap_pdu.specs.FrameSpelling.{SpellsFrame}
 use Rattle.tcap_pdu.proofs.WrittenFrameGrammar.{written_spelled}
-use Rattle.tcap_pdu.proofs.LengthGrammar.{sizes, own_length, parts-can}
+use Rattle.tcap_pdu.proofs.LengthGrammar.{sizes, own_length}
 use Rattle.tcap_pdu.proofs.frame.write.write_frame.Goals as goal
 
 pub returns-in_default-clause-fault : goal.returns-in_default-clause-fault
 returns-in_default-clause-fault g c =
     let own = own_length (message c.args.frame.now) c.dialogue_len.result c.dialogue_len.ensures in
     omega (arith, own, c.in_default.ensures.none)
-
-pub spell_frame-requires-clause-parts : goal.spell_frame-requires-clause-parts
-spell_frame-requires-clause-parts g c =
-    let s = sizes (message c.args.frame.now) c.dialogue_len.result c.in-Some.content _ c.dialogue_len.ensures c.in-Some.ensures.some.0 refl in
-    let own = own_length (message c.args.frame.now) c.dialogue_len.result c.dialogue_len.ensures in
-    parts-can (message c.args.frame.now) (omega (arith, s.0, s.1, s.2, own, c.in-Some.ensures.some.1))
 
 pub spell_frame-requires-clause-content : goal.spell_frame-requires-clause-content
 spell_frame-requires-clause-content g c =
@@ -24,9 +18,8 @@ spell_frame-requires-clause-content g c =
 
 pub spell_frame-requires-clause-fits : goal.spell_frame-requires-clause-fits
 spell_frame-requires-clause-fits g c =
-    let s = sizes (message c.args.frame.now) c.dialogue_len.result c.in-Some.content _ c.dialogue_len.ensures c.in-Some.ensures.some.0 refl in
     let own = own_length (message c.args.frame.now) c.dialogue_len.result c.dialogue_len.ensures in
-    omega (arith, s.1, s.2, own, c.in-Some.ensures.some.1)
+    omega (arith, own, c.in-Some.ensures.some.1)
 
 pub returns-in_err-spell_frame-clause-too_long : goal.returns-in_err-spell_frame-clause-too_long
 returns-in_err-spell_frame-clause-too_long g c =

@@ -1,0 +1,128 @@
+//! The parts of a message, appended in the canonical form to a vector that has room for them.
+
+ghost use Rattle.std.specs.Prelude.{◌≡◌, ◌+◌, ◌≤◌, ◌++◌, [], ◌∷◌, length, option_copied, vec_len, vec_capacity};
+ghost use Rattle.ber_core.specs.Length.{length_limit};
+ghost use Rattle.ber_core.specs.Sequence.Field.{may, filled};
+ghost use Rattle.ber_core.specs.Written.{written_field, written_fields, written_head};
+ghost use Rattle.tcap_pdu.specs.FrameParts.{cause_fields, closing_fields, identifier_fields};
+ghost use Rattle.tcap_pdu.specs.FrameSpelling.{message_tag};
+ghost use Rattle.tcap_pdu.specs.FrameViews.{message, reason_of};
+ghost use Rattle.tcap_pdu.specs.FrameWritten.{message_limit};
+
+use super::{AbortPart, Frame};
+use crate::tag;
+use ber_core::{put_element, put_few, put_head, put_octet};
+use std::alloc::Allocator;
+
+/// The tag of the message type.
+#[inline(always)]
+fn tag_of(frame: &Frame<'_>) -> u8
+    ensures { result ≡ message_tag (message frame.now) }
+{
+    match frame {
+        Frame::Uni { .. } => tag::UNIDIRECTIONAL,
+        Frame::Begin { .. } => tag::BEGIN,
+        Frame::End { .. } => tag::END,
+        Frame::Continue { .. } => tag::CONTINUE,
+        Frame::Abort { .. } => tag::ABORT,
+    }
+}
+
+/// Appends the transaction identifiers of the message.
+#[inline(always)]
+fn put_identifiers<A: Allocator + Copy>(out: &mut Vec<u8, A>, frame: &Frame<'_>)
+    requires { vec_len out.old + length (written_fields (identifier_fields (message frame.now)))
+        ≤ vec_capacity out.old }
+    ensures items { out.new.items ≡ out.old.items ++ written_fields (identifier_fields (message frame.now)) }
+    ensures capacity { vec_capacity out.old ≤ vec_capacity out.new }
+{
+    match frame {
+        Frame::Uni { .. } => {}
+        Frame::Begin { otid, .. } => put_few(out, tag::ORIGIN, otid.octets()),
+        Frame::End { dtid, .. } | Frame::Abort { dtid, .. } => {
+            put_few(out, tag::DESTINATION, dtid.octets())
+        }
+        Frame::Continue { otid, dtid, .. } => {
+            put_few(out, tag::ORIGIN, otid.octets());
+            put_few(out, tag::DESTINATION, dtid.octets());
+        }
+    }
+}
+
+/// Appends the head of the message, whose contents have this many bytes, and its transaction
+/// identifiers.
+#[inline(always)]
+pub(super) fn put_front<A: Allocator + Copy>(
+    out: &mut Vec<u8, A>,
+    frame: &Frame<'_>,
+    content: usize,
+)
+    requires short { content ≤ length_limit }
+    requires room { vec_len out.old + length (written_head (message_tag (message frame.now) ∷ []) content
+        ++ written_fields (identifier_fields (message frame.now))) ≤ vec_capacity out.old }
+    ensures items { out.new.items ≡ out.old.items ++ (written_head (message_tag (message frame.now) ∷ []) content
+        ++ written_fields (identifier_fields (message frame.now))) }
+    ensures capacity { vec_capacity out.old ≤ vec_capacity out.new }
+{
+    put_head(out, tag_of(frame), content);
+    put_identifiers(out, frame);
+}
+
+/// Appends 6B, if the message has it.
+#[inline(always)]
+pub(super) fn put_dialogue<A: Allocator + Copy>(out: &mut Vec<u8, A>, content: Option<&[u8]>)
+    requires short { length (written_field (may 0x6b (option_copied content))) ≤ message_limit }
+    requires room { vec_len out.old + length (written_field (may 0x6b (option_copied content)))
+        ≤ vec_capacity out.old }
+    ensures items { out.new.items ≡ out.old.items ++ written_field (may 0x6b (option_copied content.entry)) }
+    ensures capacity { vec_capacity out.old ≤ vec_capacity out.new }
+{
+    if let Some(content) = content {
+        put_element(out, tag::DIALOGUE_PORTION, content);
+    }
+}
+
+/// Appends 6C, unless it is empty.
+#[inline(always)]
+fn put_components<A: Allocator + Copy>(out: &mut Vec<u8, A>, components: &[u8])
+    requires short { length components.now ≤ message_limit }
+    requires room { vec_len out.old + length (written_field (filled 0x6c components.now)) ≤ vec_capacity out.old }
+    ensures items { out.new.items ≡ out.old.items ++ written_field (filled 0x6c components.now) }
+    ensures capacity { vec_capacity out.old ≤ vec_capacity out.new }
+{
+    if !components.is_empty() {
+        put_element(out, tag::COMPONENT_PORTION, components);
+    }
+}
+
+/// Appends the P-Abort cause of an Abort, if it has one.
+#[inline(always)]
+fn put_cause<A: Allocator + Copy>(out: &mut Vec<u8, A>, reason: &AbortPart<'_>)
+    requires { vec_len out.old + length (written_fields (cause_fields (reason_of reason.now)))
+        ≤ vec_capacity out.old }
+    ensures items { out.new.items ≡ out.old.items ++ written_fields (cause_fields (reason_of reason.now)) }
+    ensures capacity { vec_capacity out.old ≤ vec_capacity out.new }
+{
+    match reason {
+        AbortPart::Cause(cause) => put_octet(out, tag::P_ABORT_CAUSE, *cause),
+        AbortPart::Nothing | AbortPart::Dialogue(_) => {}
+    }
+}
+
+/// Appends what the message has behind the place of 6B: 6C, or a P-Abort cause.
+#[inline(always)]
+pub(super) fn put_closing<A: Allocator + Copy>(out: &mut Vec<u8, A>, frame: &Frame<'_>)
+    requires short { length (written_fields (closing_fields (message frame.now))) ≤ message_limit }
+    requires room { vec_len out.old + length (written_fields (closing_fields (message frame.now)))
+        ≤ vec_capacity out.old }
+    ensures items { out.new.items ≡ out.old.items ++ written_fields (closing_fields (message frame.now)) }
+    ensures capacity { vec_capacity out.old ≤ vec_capacity out.new }
+{
+    match frame {
+        Frame::Uni { components, .. } => put_element(out, tag::COMPONENT_PORTION, components),
+        Frame::Begin { components, .. }
+        | Frame::End { components, .. }
+        | Frame::Continue { components, .. } => put_components(out, components),
+        Frame::Abort { reason, .. } => put_cause(out, reason),
+    }
+}
