@@ -1,5 +1,5 @@
 -- A message by what stands before its dialogue portion and behind it.
-use Rattle.std.specs.Prelude.{List, [], ◌∷◌}
+use Rattle.std.specs.Prelude.{List, [], ◌∷◌, Bool, true, false}
 use Rattle.ber_core.specs.Sequence.{Field}
 use Rattle.ber_core.specs.Sequence.Field.{must, filled}
 use Rattle.tcap_pdu.specs.FrameSpelling.{Reason, Message}
@@ -29,3 +29,18 @@ closing_fields (begin o d c) = filled 0x6c c ∷ []
 closing_fields (end t d c) = filled 0x6c c ∷ []
 closing_fields (go_on o t d c) = filled 0x6c c ∷ []
 closing_fields (abort t r) = cause_fields r
+
+-- Whether the reason is no P-Abort cause (Q.773, Abort message).
+abbrev pub is_open : Reason → Bool
+is_open nothing = true
+is_open (cause n) = false
+is_open (portion d) = true
+
+-- Whether the message can hold a dialogue portion; an Abort with a P-Abort cause can't
+-- (Q.773, Abort message).
+abbrev pub has_place : Message → Bool
+has_place (unidirectional d c) = true
+has_place (begin o d c) = true
+has_place (end t d c) = true
+has_place (go_on o t d c) = true
+has_place (abort t r) = is_open r

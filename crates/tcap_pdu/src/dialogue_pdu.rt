@@ -1,8 +1,8 @@
 //! Dialogue PDUs: AARQ, AUDT, AARE, ABRT (Q.773, Dialogue portion).
 
-mod len;
+pub(crate) mod len;
 mod parts;
-mod put;
+pub(crate) mod put;
 mod read;
 mod write;
 

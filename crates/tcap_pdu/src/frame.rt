@@ -1,5 +1,6 @@
 //! The five messages of the transaction sublayer (Q.773, Structure of TC messages).
 
+mod carry;
 mod front;
 mod length;
 mod portions;
@@ -8,6 +9,7 @@ mod read;
 mod write;
 
 use crate::trans_id::TransId;
+pub use carry::write_frame_with;
 pub use front::front_ids;
 pub use length::{MAX_MESSAGE, frame_fits};
 pub use read::read_frame;

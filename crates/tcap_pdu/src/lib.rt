@@ -16,5 +16,7 @@ pub use dialogue_pdu::{
     Diagnostic, DialoguePdu, dialogue_len, is_user_information, read_dialogue, write_dialogue,
 };
 pub use fault::{DialogueFault, FrameFault, PduFault};
-pub use frame::{AbortPart, Frame, MAX_MESSAGE, frame_fits, front_ids, read_frame, write_frame};
+pub use frame::{
+    AbortPart, Frame, MAX_MESSAGE, frame_fits, front_ids, read_frame, write_frame, write_frame_with,
+};
 pub use trans_id::TransId;

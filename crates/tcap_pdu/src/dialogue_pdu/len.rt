@@ -109,7 +109,7 @@ fn external_len(contents: usize) -> usize
 /// How many octets the PDU takes, with its EXTERNAL.
 #[tactic(auto, using(crate::proofs::DialogueLength::element_most, crate::proofs::DialogueLength::information_most), unfolding(crate::specs::DialogueDue::portion_length))]
 #[inline(always)]
-fn portion_len(pdu: &DialoguePdu<'_>) -> usize
+pub(crate) fn portion_len(pdu: &DialoguePdu<'_>) -> usize
     requires { IfSome (context_of (pdu_value pdu.now)) (λ c. length c ≤ object_identifier_limit) }
     ensures { result ≡ portion_length (pdu_value pdu.now) }
 {
