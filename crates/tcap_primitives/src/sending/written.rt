@@ -1,8 +1,9 @@
 //! Whether the message of a request fits, and its octets.
 
-ghost use Rattle.std.specs.Prelude.{◌≡◌, option_copied, IfOk, IfSome, None, Some, not};
+ghost use Rattle.std.specs.Prelude.{◌≡◌, ◌⊎◌, option_copied, true, false, IfOk, IfErr, IsErrOf, IfSome, None, Some, not};
 ghost use Rattle.tcap_primitives.specs.SendingViews.{borne, reason_with, sending_view};
 ghost use Rattle.tcap_model.specs.Procedures.Refusals.{passes_message};
+ghost use Rattle.tcap_pdu.specs.declared.fault.PduFault.TheVariants as pdu_fault;
 ghost use Rattle.tcap_pdu.specs.DialogueDue.{content_fault};
 ghost use Rattle.tcap_pdu.specs.DialogueViews.{pdu_value};
 ghost use Rattle.tcap_pdu.specs.DialogueWritten.{HasDiagnostic};
@@ -12,7 +13,10 @@ ghost use Rattle.tcap_pdu.specs.FrameWritten.{written_frame};
 use super::{Bearer, Sending};
 use ber_core::OutOfMemory;
 use std::alloc::Allocator;
-use tcap_pdu::{AbortPart, Frame, TransId, dialogue_len, frame_fits, write_dialogue, write_frame};
+use tcap_pdu::{
+    AbortPart, Frame, PduFault, TransId, dialogue_len, frame_fits, write_dialogue, write_frame,
+    write_frame_with,
+};
 
 /// What an Abort carries.
 fn reason<'a>(portion: Option<&'a [u8]>) -> AbortPart<'a>
@@ -105,6 +109,24 @@ impl<'a> Sending<'a> {
                 Ok(portion) => framed(alloc, &self.bearer, Some(&portion)),
                 Err(_) => Err(OutOfMemory),
             },
+        }
+    }
+
+    /// The octets of the message, where the contents of its PDU are good; it is written at once, with the
+    /// dialogue portion in its place. Faults: TooLong above 65,535 bytes, then OutOfMemory (our own).
+    pub fn spelled<A: Allocator + Copy>(&self, alloc: A) -> Result<Vec<u8, A>, PduFault>
+        requires { IfSome self.now.pdu (λ p. HasDiagnostic (pdu_value p) × (content_fault (pdu_value p) ≡ None)) }
+        ensures written { IfOk result (λ v. v.items ≡ written_frame (sending_view self.now)) }
+        // TooLong exactly where the message is above the limit, and else no fault but OutOfMemory.
+        ensures too_long { passes_message (Some (sending_view self.now)) ≡ true → IsErrOf result pdu_fault.TooLong }
+        ensures fault { IfErr result (λ f.
+            ((f ≡ pdu_fault.TooLong) × (passes_message (Some (sending_view self.now)) ≡ true))
+            ⊎ ((f ≡ pdu_fault.OutOfMemory) × (passes_message (Some (sending_view self.now)) ≡ false))) }
+    {
+        let frame = self.bearer.frame(None);
+        match &self.pdu {
+            None => write_frame(alloc, &frame),
+            Some(pdu) => write_frame_with(alloc, &frame, pdu),
         }
     }
 }
