@@ -1,7 +1,19 @@
 -- The first due fault of a request of dialogue handling, and what it gives.
-use Rattle.std.proofs.Common.{◌≡◌, ◌&&◌, Bool, true, false, not, List, [], ◌∷◌, Some, refl}
+use Rattle.std.proofs.Common.{◌≡◌, ◌&&◌, ◌∙◌, ℕ, Bool, true, false, not, cond, List, [], ◌∷◌, ◌++◌, Option, Some, None, Result, Ok, Err, inl, inr, refl, sym, ap, length, is_some, nat_lt, ◌||◌, IsTrue}
+use Rattle.std.specs.Prelude.{IfOk, IfErr}
+use Rattle.std.specs.declared.vec.Vec.{Vec}
+use Rattle.tcap_dialogue.specs.RequestMessages.{IsRefusal, IsUnspelled, Spells, early_faults}
+use Rattle.tcap_model.specs.Procedures.RequestMessage.{message_of}
+use Rattle.tcap_primitives.specs.declared.fault.Fault.{Fault as RequestFault}
+use Rattle.tcap_primitives.specs.FaultViews.{fault_view}
+use Rattle.tcap_dialogue.specs.FaultViews.{takes_memory}
+use Rattle.tcap_model.specs.Procedures.AbortRules.{sent_if_any}
+use Rattle.tcap_model.specs.Words.Address.{Address}
+use Rattle.tcap_model.specs.Words.Answer.{Answer}
 use Rattle.tcap_model.specs.Words.Fault.{Fault}
-use Rattle.tcap_model.specs.Procedures.Refusals.{Situation, can_name, context_given, due_on, first_that, has_bad_oid, has_bad_parameter, holds, information_given}
+use Rattle.tcap_model.specs.Words.Output.{Output}
+use Rattle.tcap_pdu.specs.FrameSpelling.{Message}
+use Rattle.tcap_model.specs.Procedures.Refusals.{Situation, can_name, context_given, due_on, first_that, has_bad_oid, has_bad_parameter, holds, information_given, passes_message}
 use Rattle.tcap_model.specs.Words.Request.{DialogueRequest, Request}
 use Rattle.tcap_pdu.specs.DialoguePartsReading.{is_information}
 
@@ -16,15 +28,43 @@ control-due s (DialogueRequest.go_on context info) = refl
 control-due s (DialogueRequest.finish ending context info) = refl
 control-due s (DialogueRequest.u_abort why info) = refl
 
--- The faults behind those of what is given.
-abbrev pub later_faults : List Fault
-later_faults = Fault.not_class_four ∷ Fault.too_long ∷ []
+-- What comes first of some faults comes first of more; where nothing does, one more comes if it holds.
+module _ (h : Fault → Bool) (last : Fault) where
+  first-longer : (fs : List Fault) (f : Fault) → first_that h fs ≡ Some f → first_that h (fs ++ last ∷ []) ≡ Some f
+  first-longer [] f e = absurd cc
+  first-longer (g ∷ gs) f e = go (h g) e (first-longer gs f)
+    where
+      go : (b : Bool) → cond b (Some g) (first_that h gs) ≡ Some f → (first_that h gs ≡ Some f → first_that h (gs ++ last ∷ []) ≡ Some f) → cond b (Some g) (first_that h (gs ++ last ∷ [])) ≡ Some f
+      go true e ih = e
+      go false e ih = ih e
 
-pub later : (h : Fault → Bool) → h Fault.wrong_state ≡ false → h Fault.bad_oid ≡ false → h Fault.bad_parameter ≡ false → h Fault.no_context ≡ false → first_that h control_faults ≡ first_that h later_faults
-later h a b c d = rw (a, b, c, d) refl
+  last-first : (fs : List Fault) → first_that h fs ≡ None → first_that h (fs ++ last ∷ []) ≡ cond (h last) (Some last) None
+  last-first [] e = refl
+  last-first (g ∷ gs) e = go (h g) e (last-first gs)
+    where
+      go : (b : Bool) → cond b (Some g) (first_that h gs) ≡ None → (first_that h gs ≡ None → first_that h (gs ++ last ∷ []) ≡ cond (h last) (Some last) None) → cond b (Some g) (first_that h (gs ++ last ∷ [])) ≡ cond (h last) (Some last) None
+      go true e ih = absurd cc
+      go false e ih = ih e
 
-pub later-long : (h : Fault → Bool) → h Fault.not_class_four ≡ false → h Fault.too_long ≡ true → first_that h later_faults ≡ Some Fault.too_long
-later-long h e l = rw (e, l) refl
+-- A fault that is due before the message is looked at is due.
+pub early-due : (s : Situation) (a : DialogueRequest) (f : Fault) → Some f ≡ first_that (holds s (Request.dialogue a)) early_faults → due_on s (Request.dialogue a) ≡ Some f
+early-due s a f e = control-due s a ∙ first-longer (holds s (Request.dialogue a)) Fault.too_long early_faults f (sym e)
+
+-- Where none is, the message alone decides.
+module _ (s : Situation) (a : DialogueRequest) (none : None ≡ first_that (holds s (Request.dialogue a)) early_faults) where
+  late-due : due_on s (Request.dialogue a) ≡ cond (passes_message (message_of s.standing (Request.dialogue a))) (Some Fault.too_long) None
+  late-due = control-due s a ∙ last-first (holds s (Request.dialogue a)) Fault.too_long early_faults (sym none)
+
+  pub spelled-due : {V : Type 0} {A : Type 0} (r : Result (Option (Vec ℕ A)) V) → let m = message_of s.standing (Request.dialogue a) in IfOk r (λ v. Spells v m × (passes_message m ≡ false))
+      → IfOk r (λ v. Spells v m × (due_on s (Request.dialogue a) ≡ None))
+  spelled-due (Ok v) h = (h.0, late-due ∙ ap (λ (b : Bool). cond b (Some Fault.too_long) None) h.1)
+  spelled-due (Err f) h = tt
+
+  pub unspelled-due : {V : Type 0} (r : Result V RequestFault) → let m = message_of s.standing (Request.dialogue a) in IfErr r (λ f. IsUnspelled f m)
+      → IfErr r (λ f. IsRefusal f m (due_on s (Request.dialogue a)))
+  unspelled-due (Ok v) h = tt
+  unspelled-due (Err f) (inl h) = inl (late-due ∙ ap (λ (b : Bool). cond b (Some Fault.too_long) None) h.1 ∙ ap (λ (x : RequestFault). Some (fault_view x)) (sym h.0))
+  unspelled-due (Err f) (inr h) = inr (h.0, late-due ∙ ap (λ (b : Bool). cond b (Some Fault.too_long) None) h.1, h.2)
 
 -- ---- what is given is good where neither of its faults holds
 
@@ -37,3 +77,10 @@ named a e = both (can_name (context_given (Request.dialogue a))) e
 
 pub informed : (a : DialogueRequest) → has_bad_parameter (Request.dialogue a) ≡ false → is_information (information_given (Request.dialogue a)) ≡ true
 informed a e = both (is_information (information_given (Request.dialogue a))) e
+
+-- Where memory is refused, something would have been sent or told: there is a message, or an invocation is left.
+pub memory-told : (to : Address) (m : Option Message) (left : ℕ) (told : List Output) → left ≡ length told → IsTrue (is_some m || nat_lt 0 left)
+    → IsTrue (takes_memory (Answer.outputs (sent_if_any to m ++ told)))
+memory-told to None left [] many h = rw many at h
+memory-told to None left (o ∷ os) many h = refl
+memory-told to (Some m) left told many h = refl

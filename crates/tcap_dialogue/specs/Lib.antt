@@ -4,6 +4,7 @@ pub mod Beginning
 pub mod ComponentRefusals
 pub mod FaultViews
 pub mod HandledViews
+pub mod RequestMessages
 pub mod StepViews
 pub mod Timers
 pub mod Verdicts

@@ -1,8 +1,11 @@
 //! What a request of dialogue handling changes, once no fault is due.
 
-ghost use Rattle.std.specs.Prelude.{◌≡◌, ◌+◌, ◌<◌, ◌≤◌, ◌||◌, ℕ, true, false, is_some, nat_lt, option_copied, IfOk, OnErr, IsTrue, vec_len, vec_capacity};
+ghost use Rattle.std.specs.Prelude.{◌≡◌, ◌+◌, ◌<◌, ◌≤◌, ◌||◌, ◌++◌, ◌∷◌, [], List, ℕ, true, false, is_some, nat_lt, option_copied, IfOk, OnErr, IsTrue, vec_len, vec_capacity};
 ghost use Rattle.tcap_primitives.specs.ControlViews.{control_view};
 ghost use Rattle.tcap_dialogue.specs.FaultViews.{takes_memory};
+ghost use Rattle.tcap_dialogue.specs.RequestMessages.{Spells};
+ghost use Rattle.std.specs.declared.vec.Vec.{Vec};
+ghost use Rattle.tcap_primitives.specs.declared.output.Output.TheVariants as output_variants;
 ghost use Rattle.tcap_primitives.specs.OutputViews.{all_shown};
 ghost use Rattle.tcap_reception.specs.StateViews.{phase_view};
 ghost use Rattle.tcap_dialogue.specs.StepViews.{asked, outcome, stepped};
@@ -10,6 +13,7 @@ ghost use Rattle.tcap_invocation.specs.Stage.{moment_limit};
 ghost use Rattle.tcap_model.specs.Procedures.Refusals.{can_name, context_given};
 ghost use Rattle.tcap_model.specs.Procedures.RequestMessage.{message_of, request_address};
 ghost use Rattle.tcap_model.specs.Table.TableMove.{accepted, gone_out, over_with, sent_for_request};
+ghost use Rattle.tcap_model.specs.Words.Output as model;
 ghost use Rattle.tcap_model.specs.Words.Request.{DialogueRequest, Request};
 ghost use Rattle.tcap_model.specs.Words.State.{activated};
 
@@ -32,6 +36,38 @@ fn activated(phase: &Phase) -> Phase
     }
 }
 
+/// Appends a message to this address; there is room for it.
+// The address is set where it stands: it is 264 octets, and a few of them are in use.
+#[inline(always)]
+fn push_send<'m, A: Allocator + Copy>(
+    outputs: &mut Vec<Output<'m, A>, A>,
+    to: &Address,
+    bytes: Vec<u8, A>,
+)
+    requires { vec_len outputs.old < vec_capacity outputs.old }
+    ensures sent { all_shown outputs.new.items ≡ all_shown outputs.old.items ++ model.Output.send to.now bytes.items ∷ [] }
+    ensures room { vec_capacity outputs.old ≤ vec_capacity outputs.new }
+    ensures len { vec_len outputs.new ≡ vec_len outputs.old + 1 }
+{
+    let place = outputs.len();
+    outputs.push_reserved(Output::Send {
+        to: Address::empty(),
+        bytes,
+    });
+    set_destination(&mut outputs[place], to);
+}
+
+/// A message goes to this address.
+#[inline(always)]
+fn set_destination<A: Allocator + Copy>(output: &mut Output<'_, A>, to: &Address)
+    ensures { (old : List ℕ) (bytes : Vec ℕ A) → output.old ≡ output_variants.Send old bytes
+        → output.new ≡ output_variants.Send to.now bytes }
+{
+    if let Output::Send { to: address, .. } = output {
+        address.set(to);
+    }
+}
+
 impl<A: Allocator + Copy> Dialogue<A> {
     /// Where the message of a request goes: to the destination that is named, or else to the kept address.
     #[inline]
@@ -44,15 +80,17 @@ impl<A: Allocator + Copy> Dialogue<A> {
         }
     }
 
-    /// What a request sends, with room for so many outputs more.
+    /// What a request sends, whose message has these octets, with room for so many outputs more.
     // In each of its callers fewer kinds of request are left: their match folds away, and the outputs are
     // built in place.
     #[inline(always)]
     fn sent_outputs<'m>(
         &self,
         control: &Control<'_>,
+        message: Option<Vec<u8, A>>,
         more: usize,
     ) -> Result<Vec<Output<'m, A>, A>, OutOfMemory>
+        requires { Spells message (message_of self.now.standing (Request.dialogue (control_view control.now))) }
         ensures sent { IfOk result (λ v. all_shown v.items
             ≡ sent_for_request self.now (Request.dialogue (control_view control.now))) }
         ensures room { IfOk result (λ v. vec_len v + more ≤ vec_capacity v) }
@@ -60,13 +98,11 @@ impl<A: Allocator + Copy> Dialogue<A> {
             (is_some (message_of self.now.standing (Request.dialogue (control_view control.now))) || nat_lt 0 more)) }
     {
         let alloc = *self.queue.octets.allocator();
-        match self.sending(control) {
+        match message {
             None => Ok(Vec::with_capacity(alloc, more)?),
-            Some(sending) => {
-                let bytes = sending.written(alloc)?;
+            Some(bytes) => {
                 let mut outputs = Vec::with_capacity(alloc, more.saturating_add(1))?;
-                let to = self.destination(control).copied();
-                outputs.push_reserved(Output::Send { to, bytes });
+                push_send(&mut outputs, self.destination(control), bytes);
                 Ok(outputs)
             }
         }
@@ -87,17 +123,21 @@ impl<A: Allocator + Copy> Dialogue<A> {
         to: &Address,
         context: Option<&[u8]>,
         info: &[u8],
+        message: Option<Vec<u8, A>>,
         clock: u64,
     ) -> Result<Step<'m, A>, OutOfMemory>
         requires clock { clock ≤ moment_limit }
         requires named { can_name (option_copied context) ≡ true }
+        requires message { Spells message (message_of self.old.standing
+            (Request.dialogue (DialogueRequest.begin to.now (option_copied context) info.now))) }
         ensures ok { IfOk result (λ s. stepped s self.new ≡ outcome (accepted (asked clock 0) self.old
             (Request.dialogue (DialogueRequest.begin to.now (option_copied context.entry) info.now)))) }
         ensures err { OnErr result (self.new ≡ self.old) }
         ensures kept { self.new.standing.identifier ≡ self.old.standing.identifier }
     {
         let named = Context::of_any(*self.queue.octets.allocator(), context)?;
-        let outputs = self.sent_outputs(&Control::Begin { to, context, info }, 0)?;
+        let begin = Control::Begin { to, context, info };
+        let outputs = self.sent_outputs(&begin, message, 0)?;
         self.go_out(clock);
         self.phase = Phase::Sent;
         self.context = named;
@@ -114,9 +154,12 @@ impl<A: Allocator + Copy> Dialogue<A> {
         &mut self,
         context: Option<&[u8]>,
         info: &[u8],
+        message: Option<Vec<u8, A>>,
         clock: u64,
     ) -> Result<Step<'m, A>, OutOfMemory>
-        requires { clock ≤ moment_limit }
+        requires clock { clock ≤ moment_limit }
+        requires message { Spells message (message_of self.old.standing
+            (Request.dialogue (DialogueRequest.go_on (option_copied context) info.now))) }
         ensures ok { IfOk result (λ s. stepped s self.new ≡ outcome (accepted (asked clock 0) self.old
             (Request.dialogue (DialogueRequest.go_on (option_copied context.entry) info.now)))) }
         ensures err { OnErr result (self.new ≡ self.old) }
@@ -124,7 +167,8 @@ impl<A: Allocator + Copy> Dialogue<A> {
             (Request.dialogue (DialogueRequest.go_on (option_copied context.entry) info.now))).answer)) }
         ensures kept { self.new.standing.identifier ≡ self.old.standing.identifier }
     {
-        let outputs = self.sent_outputs(&Control::Continue { context, info }, 0)?;
+        let go_on = Control::Continue { context, info };
+        let outputs = self.sent_outputs(&go_on, message, 0)?;
         self.go_out(clock);
         self.phase = activated(&self.phase);
         self.touched = clock;
@@ -135,7 +179,12 @@ impl<A: Allocator + Copy> Dialogue<A> {
     }
 
     /// A request goes through with which the dialogue is over.
-    fn take_last<'m>(&mut self, control: &Control<'_>) -> Result<Step<'m, A>, OutOfMemory>
+    fn take_last<'m>(
+        &mut self,
+        control: &Control<'_>,
+        message: Option<Vec<u8, A>>,
+    ) -> Result<Step<'m, A>, OutOfMemory>
+        requires { Spells message (message_of self.old.standing (Request.dialogue (control_view control.now))) }
         ensures ok { IfOk result (λ s. stepped s self.new ≡ outcome (over_with self.old
             (sent_for_request self.old (Request.dialogue (control_view control.now))) self.old.invocations)) }
         ensures err { OnErr result (self.new ≡ self.old) }
@@ -144,7 +193,7 @@ impl<A: Allocator + Copy> Dialogue<A> {
         ensures kept { self.new.standing.identifier ≡ self.old.standing.identifier }
     {
         let left = self.invocations.open_count();
-        let mut outputs = self.sent_outputs(control, left)?;
+        let mut outputs = self.sent_outputs(control, message, left)?;
         tell_ended(self.identifier, &mut self.invocations, &mut outputs);
         Ok(Step {
             outputs,
@@ -156,10 +205,13 @@ impl<A: Allocator + Copy> Dialogue<A> {
     pub(super) fn take_control<'m>(
         &mut self,
         control: &Control<'_>,
+        message: Option<Vec<u8, A>>,
         clock: u64,
     ) -> Result<Step<'m, A>, OutOfMemory>
         requires clock { clock ≤ moment_limit }
         requires named { can_name (context_given (Request.dialogue (control_view control.now))) ≡ true }
+        requires message { Spells message
+            (message_of self.old.standing (Request.dialogue (control_view control.now))) }
         ensures ok { IfOk result (λ s. stepped s self.new
             ≡ outcome (accepted (asked clock 0) self.old (Request.dialogue (control_view control.now)))) }
         ensures err { OnErr result (self.new ≡ self.old) }
@@ -168,10 +220,10 @@ impl<A: Allocator + Copy> Dialogue<A> {
         ensures kept { self.new.standing.identifier ≡ self.old.standing.identifier }
     {
         match control {
-            Control::Begin { to, context, info } => self.take_begin(to, *context, info, clock),
-            Control::Continue { context, info } => self.take_continue(*context, info, clock),
+            Control::Begin { to, context, info } => self.take_begin(to, *context, info, message, clock),
+            Control::Continue { context, info } => self.take_continue(*context, info, message, clock),
             Control::Uni { .. } | Control::End { .. } | Control::Abort { .. } => {
-                self.take_last(control)
+                self.take_last(control, message)
             }
         }
     }

@@ -1,12 +1,13 @@
 //! The first due fault of a request of dialogue handling.
 
-ghost use Rattle.std.specs.Prelude.{◌≡◌, not, option_copied, true};
+ghost use Rattle.std.specs.Prelude.{◌≡◌, None, IfErr, IfOk, OnOk, option_copied, false, true};
 ghost use Rattle.std.specs.Option.{option_map};
 ghost use Rattle.tcap_primitives.specs.ControlViews.{control_view};
 ghost use Rattle.tcap_primitives.specs.FaultViews.{fault_view};
 ghost use Rattle.tcap_reception.specs.StateViews.{phase_view};
+ghost use Rattle.tcap_dialogue.specs.RequestMessages.{IsRefusal, IsUnspelled, Spells, early_faults};
 ghost use Rattle.tcap_dialogue.specs.StepViews.{asked};
-ghost use Rattle.tcap_model.specs.Procedures.Refusals.{can_name, context_given, due_on, gives_any, has_no_context, information_given, is_filled, is_not_class_four, lacks_context, passes_message};
+ghost use Rattle.tcap_model.specs.Procedures.Refusals.{can_name, context_given, due_on, first_that, gives_any, has_no_context, holds, information_given, is_filled, is_not_class_four, lacks_context, passes_message};
 ghost use Rattle.tcap_model.specs.Procedures.RequestMessage.{message_of};
 ghost use Rattle.tcap_model.specs.Procedures.States.{has_peer, has_request, is_asked, is_fresh};
 ghost use Rattle.tcap_model.specs.Table.TableMove.{situation};
@@ -15,6 +16,7 @@ ghost use Rattle.tcap_pdu.specs.DialoguePartsReading.{is_information};
 
 use super::Dialogue;
 use std::alloc::Allocator;
+use tcap_pdu::PduFault;
 use tcap_primitives::{AbortWhy, Control, Ending, Fault};
 use tcap_reception::Phase;
 
@@ -132,22 +134,11 @@ impl<A: Allocator + Copy> Dialogue<A> {
         }
     }
 
-    /// Whether the message would be above the limit, where what is given is good.
-    fn is_too_long(&self, control: &Control<'_>) -> bool
-        ensures { can_name (context_given (Request.dialogue (control_view control.now))) ≡ true
-            → is_information (information_given (Request.dialogue (control_view control.now))) ≡ true →
-            result ≡ passes_message (message_of self.now.standing (Request.dialogue (control_view control.now))) }
-    {
-        match self.sending(control) {
-            None => false,
-            Some(sending) => !sending.fits(),
-        }
-    }
-
-    /// The fault of a request that is due, `OutOfMemory` apart.
-    pub(super) fn control_fault(&self, control: &Control<'_>) -> Option<Fault>
+    /// The first fault of a request that is due before its message is written: all but `TooLong` and
+    /// `OutOfMemory`.
+    fn early_fault(&self, control: &Control<'_>) -> Option<Fault>
         ensures { let r = Request.dialogue (control_view control.now) in option_map fault_view result
-            ≡ due_on (situation (asked 0 0) self.now r) r }
+            ≡ first_that (holds (situation (asked 0 0) self.now r) r) early_faults }
     {
         if !self.has_control(control) {
             return Some(Fault::WrongState);
@@ -164,9 +155,41 @@ impl<A: Allocator + Copy> Dialogue<A> {
         if self.is_not_class_four(control) {
             return Some(Fault::NotClassFour);
         }
-        if self.is_too_long(control) {
-            return Some(Fault::TooLong);
-        }
         None
+    }
+
+    /// The octets of the message that a request sends, if any. Faults: TooLong, then OutOfMemory.
+    fn spelled_message(&self, control: &Control<'_>) -> Result<Option<Vec<u8, A>>, Fault>
+        requires named { can_name (context_given (Request.dialogue (control_view control.now))) ≡ true }
+        requires informed { is_information (information_given (Request.dialogue (control_view control.now))) ≡ true }
+        ensures ok { let m = message_of self.now.standing (Request.dialogue (control_view control.now)) in
+            IfOk result (λ v. Spells v m × (passes_message m ≡ false)) }
+        ensures err { let m = message_of self.now.standing (Request.dialogue (control_view control.now)) in
+            IfErr result (λ f. IsUnspelled f m) }
+    {
+        let Some(sending) = self.sending(control) else {
+            return Ok(None);
+        };
+        match sending.spelled(*self.queue.octets.allocator()) {
+            Ok(octets) => Ok(Some(octets)),
+            Err(PduFault::TooLong) => Err(Fault::TooLong),
+            Err(_) => Err(Fault::OutOfMemory),
+        }
+    }
+
+    /// The octets of the message that a request sends, if any, or the first due fault of the request.
+    // The message is judged by writing it, before anything changes: it was composed twice, and its dialogue
+    // portion judged three times, as long as one call looked for the fault and another one wrote.
+    pub(super) fn message(&self, control: &Control<'_>) -> Result<Option<Vec<u8, A>>, Fault>
+        ensures ok { let r = Request.dialogue (control_view control.now) in IfOk result (λ v.
+            Spells v (message_of self.now.standing r) × (due_on (situation (asked 0 0) self.now r) r ≡ None)) }
+        ensures named { OnOk result (can_name (context_given (Request.dialogue (control_view control.now))) ≡ true) }
+        ensures err { let r = Request.dialogue (control_view control.now) in IfErr result (λ f.
+            IsRefusal f (message_of self.now.standing r) (due_on (situation (asked 0 0) self.now r) r)) }
+    {
+        match self.early_fault(control) {
+            Some(fault) => Err(fault),
+            None => self.spelled_message(control),
+        }
     }
 }

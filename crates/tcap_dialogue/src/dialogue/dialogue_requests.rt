@@ -30,10 +30,8 @@ impl<A: Allocator + Copy> Dialogue<A> {
             (requested clock number self.old (Request.dialogue (control_view control.now))) self.old self.new }
         ensures kept { self.new.standing.identifier ≡ self.old.standing.identifier }
     {
-        if let Some(fault) = self.control_fault(control) {
-            return Err(fault);
-        }
-        Ok(self.take_control(control, clock)?)
+        let message = self.message(control)?;
+        Ok(self.take_control(control, message, clock)?)
     }
 
     /// TC-UNI request: the queue goes out in a Unidirectional to this address, and the dialogue is over.
