@@ -13,10 +13,13 @@ use tcap_primitives::Queue;
 use tcap_reception::Phase;
 
 /// The greatest queue, in octets, that is small.
-const MOST_OCTETS: usize = 512;
+const MOST_OCTETS: usize = 256;
 
-/// As many components, and as many invocations.
-const MOST_PARTS: usize = 16;
+/// The most components of one: as many as a vector has room for once there is one.
+const MOST_PARTS: usize = 4;
+
+/// The most invocations: no fewer than a map has room for once there is one.
+const MOST_INVOCATIONS: usize = 16;
 
 /// The memory of a dialogue that is over: that of its queue and of its invocations. The next dialogue takes it in
 /// place of memory of its own, which saves six blocks that are taken and given back. What is in it says nothing: who
@@ -40,12 +43,13 @@ impl<A: Allocator + Copy> Spare<A> {
         }
     }
 
-    /// Whether it has the room that an ordinary dialogue needs and not much more. What is larger isn't worth
-    /// keeping: else each dialogue would come to hold as much as the largest one did.
+    /// Whether it has the room that a dialogue takes for its first component, and little more. What is larger
+    /// isn't kept: else each dialogue would come to hold as much as the largest one did, and what is held
+    /// would no longer follow what is alive.
     pub fn is_small(&self) -> bool {
         self.queue.octets.capacity() <= MOST_OCTETS
             && self.queue.parts.capacity() <= MOST_PARTS
-            && self.invocations.capacity() <= MOST_PARTS
+            && self.invocations.capacity() <= MOST_INVOCATIONS
     }
 }
 
