@@ -1,6 +1,6 @@
 //! The elements of a list, one after the other.
 
-ghost use Rattle.std.specs.Prelude.{◌≡◌, ◌≢◌, ◌↔◌, ◌==◌, ◌<◌, bit_and, false, List, IsTrue, IfOk, IfErr, IfSome, is_ok, map, option_map, Ok, Err};
+ghost use Rattle.std.specs.Prelude.{◌≡◌, ◌≢◌, ◌↔◌, ◌==◌, ◌<◌, bit_and, false, length, List, IsTrue, IfOk, IfErr, IfSome, is_ok, map, option_map, Ok, Err};
 ghost use Rattle.ber_core.specs.ElementList.{IsList};
 ghost use Rattle.ber_core.specs.Place.{AtEnd};
 ghost use Rattle.ber_core.specs.Element.{Parts, depth_limit};
@@ -122,4 +122,23 @@ pub fn is_element_list(bytes: &[u8]) -> bool
     ensures exact { result ≡ list_all is_ok (items_of bytes.now) }
 {
     are_elements(bytes)
+}
+
+/// How many elements the bytes begin with, and one more where what follows them is none: as many items as
+/// `Elements` gives (X.690, Contents octets).
+#[tactic(auto, using(crate::proofs::ItemSteps::count_fault, crate::proofs::ItemSteps::count_none))]
+pub fn element_count(bytes: &[u8]) -> usize
+    ensures { result ≡ length (items_of bytes.now) }
+{
+    let mut rest = bytes;
+    let mut count = 0;
+    while !rest.is_empty() {
+        // One that is faulty is the last item, and counts.
+        count += 1;
+        let Ok(after) = skip_first(rest) else {
+            return count;
+        };
+        rest = after;
+    }
+    count
 }
