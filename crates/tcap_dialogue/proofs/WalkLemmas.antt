@@ -51,18 +51,19 @@ told_step dialogue clock t item items =
     ap (λ (os : List Output). let r : WalkTold = record { told = os; list = w.invocations } in r) (append_assoc t.told (h.told ∷ []) w.told)
 
 -- The same by what the code says of its step.
-pub done_next : (dialogue clock : ℕ) (told told_new : List Output) (list list_new : InvocationList) (queue queue_new : List Queued) (h : Handled) (item : Item) (items_new items : List Item) →
-    items ≡ item ∷ items_new → h ≡ handled (Some dialogue) (sent_by_rows dialogue list (subject_of item)) item →
-    told_new ≡ told ++ h.told ∷ [] → list_new ≡ after_item clock list item → queue_new ≡ with_reject queue h.reject →
+pub done_next : (dialogue clock : ℕ) (told told_new : List Output) (list list_new : InvocationList) (queue queue_new : List Queued) (one : Output) (reject : Option ComponentParts) (item : Item) (items_new items : List Item) →
+    items ≡ item ∷ items_new →
+    one ≡ (handled (Some dialogue) (sent_by_rows dialogue list (subject_of item)) item).told → reject ≡ (handled (Some dialogue) (sent_by_rows dialogue list (subject_of item)) item).reject →
+    told_new ≡ told ++ one ∷ [] → list_new ≡ after_item clock list item → queue_new ≡ with_reject queue reject →
     done_from dialogue clock (record { told = told_new; list = list_new; queue = queue_new }) items_new ≡ done_from dialogue clock (record { told = told; list = list; queue = queue }) items
-done_next dialogue clock told told_new list list_new queue queue_new h item items_new items first by more after less =
-    rw (first, more, after, less, by) (done_step dialogue clock (record { told = told; list = list; queue = queue }) item items_new)
+done_next dialogue clock told told_new list list_new queue queue_new one reject item items_new items first by answered more after less =
+    rw (first, more, after, less, by, answered) (done_step dialogue clock (record { told = told; list = list; queue = queue }) item items_new)
 
-pub told_next : (dialogue clock : ℕ) (told told_new : List Output) (list list_new : InvocationList) (h : Handled) (item : Item) (items_new items : List Item) →
-    items ≡ item ∷ items_new → h ≡ handled (Some dialogue) (sent_by_rows dialogue list (subject_of item)) item →
-    told_new ≡ told ++ h.told ∷ [] → list_new ≡ after_item clock list item →
+pub told_next : (dialogue clock : ℕ) (told told_new : List Output) (list list_new : InvocationList) (one : Output) (item : Item) (items_new items : List Item) →
+    items ≡ item ∷ items_new → one ≡ (handled (Some dialogue) (sent_by_rows dialogue list (subject_of item)) item).told →
+    told_new ≡ told ++ one ∷ [] → list_new ≡ after_item clock list item →
     told_from dialogue clock (record { told = told_new; list = list_new }) items_new ≡ told_from dialogue clock (record { told = told; list = list }) items
-told_next dialogue clock told told_new list list_new h item items_new items first by more after =
+told_next dialogue clock told told_new list list_new one item items_new items first by more after =
     rw (first, more, after, by) (told_step dialogue clock (record { told = told; list = list }) item items_new)
 
 module _ {A : Type 0} where

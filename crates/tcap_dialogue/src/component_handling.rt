@@ -1,10 +1,9 @@
 //! What one received component comes to: what is told, and the Reject that answers it.
 
-ghost use Rattle.std.specs.Prelude.{◌≡◌, Some, None};
+ghost use Rattle.std.specs.Prelude.{◌≡◌, ◌<◌, Some, None, vec_len, vec_capacity};
 ghost use Rattle.tcap_component.specs.Views.{problem_parts};
-ghost use Rattle.tcap_dialogue.specs.HandledViews.{handled_view};
+ghost use Rattle.tcap_dialogue.specs.HandledViews.{IsHandled, AreNone};
 ghost use Rattle.tcap_primitives.specs.OutputViews.{rejector};
-ghost use Rattle.tcap_primitives.specs.Slices.{Slices, slices_of};
 ghost use Rattle.tcap_dialogue.specs.Verdicts.{unexpected as unexpected_told};
 ghost use Rattle.tcap_model.specs.Procedures.ComponentHandling.{rejecting as rejecting_told};
 ghost use Rattle.tcap_model.specs.Procedures.Problems.{remote_rejector};
@@ -26,15 +25,6 @@ pub struct Reject {
     pub problem: Problem,
 }
 
-/// What a component tells, and the Reject that answers it, if one does.
-#[derive(Drop)]
-pub struct Handled<'m, A: Allocator> {
-    /// The indication to the user.
-    pub told: Output<'m, A>,
-    /// The Reject that answers the component, if one does.
-    pub reject: Option<Reject>,
-}
-
 /// Who rejects, by the problem.
 fn remote_rejector(problem: Problem) -> By
     ensures { rejector result ≡ remote_rejector (problem_parts problem) }
@@ -53,40 +43,44 @@ fn unexpected<'m, A: Allocator>(
     number: u64,
     id: i8,
     problem: Problem,
-) -> Handled<'m, A>
-    ensures handled { handled_view result ≡ unexpected_told dialogue number id (problem_parts problem) }
-    ensures slices { slices_of result.told ≡ Slices.none }
+    outputs: &mut Vec<Output<'m, A>, A>,
+) -> Option<Reject>
+    requires room { vec_len outputs.old < vec_capacity outputs.old }
+    ensures handled { IsHandled outputs.old outputs.new result AreNone
+        (unexpected_told dialogue number id (problem_parts problem)) }
 {
-    Handled {
-        told: Output::Rejected {
-            dialogue,
-            number,
-            id,
-            problem,
-            by: By::Local,
-        },
-        reject: Some(Reject {
-            id: Some(id),
-            problem,
-        }),
-    }
+    outputs.push_reserved(Output::Rejected {
+        dialogue,
+        number,
+        id,
+        problem,
+        by: By::Local,
+    });
+    Some(Reject {
+        id: Some(id),
+        problem,
+    })
 }
 
 /// A component that is rejected here and closes nothing.
 #[inline(always)]
-fn rejecting<'m, A: Allocator>(dialogue: u32, id: i8, problem: Problem) -> Handled<'m, A>
-    ensures handled { handled_view result ≡ rejecting_told (Some dialogue) (Some id) (problem_parts problem) }
-    ensures slices { slices_of result.told ≡ Slices.none }
+fn rejecting<'m, A: Allocator>(
+    dialogue: u32,
+    id: i8,
+    problem: Problem,
+    outputs: &mut Vec<Output<'m, A>, A>,
+) -> Option<Reject>
+    requires room { vec_len outputs.old < vec_capacity outputs.old }
+    ensures handled { IsHandled outputs.old outputs.new result AreNone
+        (rejecting_told (Some dialogue) (Some id) (problem_parts problem)) }
 {
-    Handled {
-        told: Output::LocalReject {
-            dialogue: Some(dialogue),
-            id: Some(id),
-            problem,
-        },
-        reject: Some(Reject {
-            id: Some(id),
-            problem,
-        }),
-    }
+    outputs.push_reserved(Output::LocalReject {
+        dialogue: Some(dialogue),
+        id: Some(id),
+        problem,
+    });
+    Some(Reject {
+        id: Some(id),
+        problem,
+    })
 }

@@ -66,9 +66,8 @@ pub(crate) fn walk<'m, A: Allocator + Copy>(
         → AllInPlace portion components.entry outputs.new.items }
 {
     for item in Components::new(components) {
-        let handled = take_item(invocations, dialogue, clock, item);
-        outputs.push_reserved(handled.told);
-        queue_reject(queue, handled.reject);
+        let reject = take_item(invocations, dialogue, clock, item, outputs);
+        queue_reject(queue, reject);
     }
 }
 
@@ -92,8 +91,7 @@ pub(crate) fn walk_ending<'m, A: Allocator + Copy>(
         → AllInPlace portion components.entry outputs.new.items }
 {
     for item in Components::new(components) {
-        let handled = take_item(invocations, dialogue, clock, item);
-        outputs.push_reserved(handled.told);
+        let _reject = take_item(invocations, dialogue, clock, item, outputs);
     }
 }
 

@@ -1,14 +1,14 @@
 //! Results, errors and Rejects, by what the class machine says of them.
 
 ghost use Rattle.std.specs.Option.{option_map};
-ghost use Rattle.std.specs.Prelude.{◌≡◌, Some, None, Bool, true, false, option_copied};
+ghost use Rattle.std.specs.Prelude.{◌<◌, Some, None, Bool, true, false, option_copied, vec_len, vec_capacity};
 ghost use Rattle.tcap_component.specs.Views.{problem_parts, body_parts, code_parts};
 ghost use Rattle.tcap_component.specs.declared.component.Component.TheVariants as component;
-ghost use Rattle.tcap_dialogue.specs.HandledViews.{handled_view};
-ghost use Rattle.tcap_primitives.specs.Slices.{Slices, AreOf, slices_of, result_of};
+ghost use Rattle.tcap_dialogue.specs.HandledViews.{IsHandled, AreNone};
+ghost use Rattle.tcap_primitives.specs.Slices.{AreOf, result_of};
 ghost use Rattle.tcap_dialogue.specs.Verdicts.{result_judged, error_judged, reject_judged};
 
-use super::{Handled, rejecting, remote_rejector, unexpected};
+use super::{Reject, rejecting, remote_rejector, unexpected};
 use std::alloc::Allocator;
 use tcap_component::{Body, Code, Problem};
 use tcap_invocation::Verdict;
@@ -22,34 +22,35 @@ pub(crate) fn result_judged<'m, A: Allocator>(
     body: Option<Body<'m>>,
     last: bool,
     verdict: Verdict,
-) -> Handled<'m, A>
-    ensures handled { handled_view result
-        ≡ result_judged dialogue id (option_map body_parts body.entry) last verdict }
-    ensures slices { AreOf (result_of last id body.entry) (slices_of result.told) }
+    outputs: &mut Vec<Output<'m, A>, A>,
+) -> Option<Reject>
+    requires room { vec_len outputs.old < vec_capacity outputs.old }
+    ensures handled { IsHandled outputs.old outputs.new result (AreOf (result_of last id body.entry))
+        (result_judged dialogue id (option_map body_parts body.entry) last verdict) }
 {
     match verdict {
         Verdict::Good(number) => {
-            let told = if last {
-                Output::ResultLast {
+            if last {
+                outputs.push_reserved(Output::ResultLast {
                     dialogue,
                     number,
                     id,
                     body,
-                }
+                });
             } else {
-                Output::ResultMore {
+                outputs.push_reserved(Output::ResultMore {
                     dialogue,
                     number,
                     id,
                     body,
-                }
-            };
-            Handled { told, reject: None }
+                });
+            }
+            None
         }
         Verdict::Unexpected(number) => {
-            unexpected(dialogue, number, id, Problem::unexpected_result())
+            unexpected(dialogue, number, id, Problem::unexpected_result(), outputs)
         }
-        Verdict::Unknown => rejecting(dialogue, id, Problem::unrecognized_result()),
+        Verdict::Unknown => rejecting(dialogue, id, Problem::unrecognized_result(), outputs),
     }
 }
 
@@ -61,29 +62,28 @@ pub(crate) fn error_judged<'m, A: Allocator>(
     code: Code<'m>,
     parameter: Option<&'m [u8]>,
     verdict: Verdict,
-) -> Handled<'m, A>
-    ensures handled { handled_view result
-        ≡ error_judged dialogue id (code_parts code.entry) (option_copied parameter.entry) verdict }
-    ensures slices { AreOf (component.ErrorBack id code.entry parameter.entry) (slices_of result.told) }
+    outputs: &mut Vec<Output<'m, A>, A>,
+) -> Option<Reject>
+    requires room { vec_len outputs.old < vec_capacity outputs.old }
+    ensures handled { IsHandled outputs.old outputs.new result
+        (AreOf (component.ErrorBack id code.entry parameter.entry))
+        (error_judged dialogue id (code_parts code.entry) (option_copied parameter.entry) verdict) }
 {
     match verdict {
-        Verdict::Good(number) => Handled {
-            told: Output::ErrorBack {
+        Verdict::Good(number) => {
+            outputs.push_reserved(Output::ErrorBack {
                 dialogue,
                 number,
                 id,
                 code,
                 parameter,
-            },
-            reject: None,
-        },
-        Verdict::Unexpected(number) => unexpected(
-            dialogue,
-            number,
-            id,
-            Problem::unexpected_error(),
-        ),
-        Verdict::Unknown => rejecting(dialogue, id, Problem::unrecognized_error()),
+            });
+            None
+        }
+        Verdict::Unexpected(number) => {
+            unexpected(dialogue, number, id, Problem::unexpected_error(), outputs)
+        }
+        Verdict::Unknown => rejecting(dialogue, id, Problem::unrecognized_error(), outputs),
     }
 }
 
@@ -95,25 +95,27 @@ pub(crate) fn reject_judged<'m, A: Allocator>(
     id: i8,
     problem: Problem,
     closed: Option<u64>,
-) -> Handled<'m, A>
-    ensures handled { handled_view result ≡ reject_judged dialogue id (problem_parts problem) closed }
-    ensures slices { slices_of result.told ≡ Slices.none }
+    outputs: &mut Vec<Output<'m, A>, A>,
+) -> Option<Reject>
+    requires room { vec_len outputs.old < vec_capacity outputs.old }
+    ensures handled { IsHandled outputs.old outputs.new result AreNone
+        (reject_judged dialogue id (problem_parts problem) closed) }
 {
     let by = remote_rejector(problem);
-    let told = match closed {
-        Some(number) => Output::Rejected {
+    match closed {
+        Some(number) => outputs.push_reserved(Output::Rejected {
             dialogue,
             number,
             id,
             problem,
             by,
-        },
-        None => Output::RemoteReject {
+        }),
+        None => outputs.push_reserved(Output::RemoteReject {
             dialogue: Some(dialogue),
             id: Some(id),
             problem,
             by,
-        },
-    };
-    Handled { told, reject: None }
+        }),
+    }
+    None
 }

@@ -5,22 +5,35 @@ ghost use Rattle.tcap_component.specs.Views.{code_parts, component_parts, item_v
 ghost use Rattle.tcap_component.specs.declared.component.Component.TheVariants as component;
 ghost use Rattle.tcap_primitives.specs.OutputViews.{shown};
 ghost use Rattle.tcap_primitives.specs.Slices.{Slices, AreOf, AreOfItem, slices_of};
-ghost use Rattle.tcap_model.specs.Procedures.ComponentHandling.{handled, invoke_handled, rejecting};
+ghost use Rattle.tcap_model.specs.Procedures.ComponentHandling.{handled, invoke_handled, rejecting, remote};
 
-use super::taken::{take_remote, take_unread};
+use super::remote_rejector;
 use std::alloc::Allocator;
 use tcap_component::{Code, Component, ComponentFault, Problem};
 use tcap_primitives::Output;
 
-/// A component that answers nothing, or is linked to nothing.
-fn rejected<'m, A: Allocator>(id: i8, problem: Problem) -> Output<'m, A>
-    ensures told { shown result ≡ (rejecting None (Some id) (problem_parts problem)).told }
+/// A component that answers nothing, is linked to nothing or can't be read.
+fn rejected<'m, A: Allocator>(id: Option<i8>, problem: Problem) -> Output<'m, A>
+    ensures told { shown result ≡ (rejecting None id (problem_parts problem)).told }
     ensures slices { slices_of result ≡ Slices.none }
 {
     Output::LocalReject {
         dialogue: None,
-        id: Some(id),
+        id,
         problem,
+    }
+}
+
+/// A Reject, which closes nothing.
+fn alone_reject<'m, A: Allocator>(id: Option<i8>, problem: Problem) -> Output<'m, A>
+    ensures told { shown result ≡ (remote None id (problem_parts problem)).told }
+    ensures slices { slices_of result ≡ Slices.none }
+{
+    Output::RemoteReject {
+        dialogue: None,
+        id,
+        problem,
+        by: remote_rejector(problem),
     }
 }
 
@@ -43,7 +56,7 @@ fn alone_invoke<'m, A: Allocator>(
             code,
             parameter,
         },
-        Some(_) => rejected(id, Problem::unrecognized_linked_id()),
+        Some(_) => rejected(Some(id), Problem::unrecognized_linked_id()),
     }
 }
 
@@ -60,10 +73,10 @@ fn alone_component<'m, A: Allocator>(component: Component<'m>) -> Output<'m, A>
             parameter,
         } => alone_invoke(id, linked, code, parameter),
         Component::ResultLast { id, .. } | Component::ResultMore { id, .. } => {
-            rejected(id, Problem::unrecognized_result())
+            rejected(Some(id), Problem::unrecognized_result())
         }
-        Component::ErrorBack { id, .. } => rejected(id, Problem::unrecognized_error()),
-        Component::RejectBack { id, problem } => take_remote(None, id, problem).told,
+        Component::ErrorBack { id, .. } => rejected(Some(id), Problem::unrecognized_error()),
+        Component::RejectBack { id, problem } => alone_reject(id, problem),
     }
 }
 
@@ -76,6 +89,6 @@ pub(crate) fn take_alone<'m, A: Allocator>(
 {
     match item {
         Ok(component) => alone_component(component),
-        Err(fault) => take_unread(None, fault).told,
+        Err(fault) => rejected(fault.id, fault.problem),
     }
 }

@@ -1,9 +1,10 @@
 use Rattle.std.proofs.Common.{rules, ◌≡◌, Some, sym, subst, ◌∙◌}
+use Rattle.std.specs.Option.{option_map}
 use Rattle.ber_core.specs.Place.{Slice}
 use Rattle.tcap_component.specs.Place.{bytes_left, components_steps}
 use Rattle.tcap_component.specs.Views.{components_left, item_view}
-use Rattle.tcap_dialogue.specs.HandledViews.{handled_view}
-use Rattle.tcap_primitives.specs.OutputViews.{all_shown}
+use Rattle.tcap_dialogue.specs.HandledViews.{reject_parts}
+use Rattle.tcap_primitives.specs.OutputViews.{all_shown, shown}
 use Rattle.tcap_primitives.specs.QueueViews.{queue_view}
 use Rattle.tcap_primitives.specs.Slices.{AllInPlace}
 use Rattle.tcap_dialogue.proofs.PlaceLemmas.{left_step, one_more}
@@ -15,10 +16,10 @@ loop-item-preserved g c =
     let steps : components_steps c.loop-item.item-iterator (Some c.in-Some.item) c.next.new.self = c.in-Some.ensures.steps in
     let inv = c.loop-item.invariant in
     let all = bytes_left c.into_iter-item-iterator.result in
-    let h = c.take_item-handled.result in
-    let done = done_next c.args.dialogue c.args.clock (all_shown c.loop-item.outputs.items) (all_shown c.push_reserved.new.self.items) c.loop-item.invocations c.take_item-handled.new.invocations
-    (queue_view c.loop-item.queue) (queue_view c.queue_reject.new.queue) (handled_view h) (item_view c.in-Some.item) (components_left c.next.new.self) (components_left c.loop-item.item-iterator)
-    steps.0 c.take_item-handled.ensures.handled (shown_push c.loop-item.outputs.items c.push_reserved.new.self.items h.told c.push_reserved.ensures.items) c.take_item-handled.ensures.list c.queue_reject.ensures.queue in (
+    let h = c.take_item-reject.ensures.handled in
+    let done = done_next c.args.dialogue c.args.clock (all_shown c.loop-item.outputs.items) (all_shown c.take_item-reject.new.outputs.items) c.loop-item.invocations c.take_item-reject.new.invocations
+    (queue_view c.loop-item.queue) (queue_view c.queue_reject.new.queue) (shown h.output) (option_map reject_parts c.take_item-reject.result) (item_view c.in-Some.item) (components_left c.next.new.self) (components_left c.loop-item.item-iterator)
+    steps.0 h.is_told h.is_answered (shown_push c.loop-item.outputs.items c.take_item-reject.new.outputs.items h.output h.is_last) c.take_item-reject.ensures.list c.queue_reject.ensures.queue in (
       tt,
       tt,
       done ∙ inv.2,
@@ -26,8 +27,8 @@ loop-item-preserved g c =
       search rules,
       search rules,
       left_step all c.loop-item.item-iterator c.next.new.self c.in-Some.item inv.6 steps,
-      λ portion before. subst (AllInPlace portion all) (sym c.push_reserved.ensures.items)
-          (one_more portion all c.loop-item.outputs.items c.take_item-handled.result.told (bytes_left c.loop-item.item-iterator) c.in-Some.item inv.6 steps.1.0 c.take_item-handled.ensures.slices (inv.7 portion before)),
+      λ portion before. subst (AllInPlace portion all) (sym h.is_last)
+          (one_more portion all c.loop-item.outputs.items h.output (bytes_left c.loop-item.item-iterator) c.in-Some.item inv.6 steps.1.0 h.are_parts (inv.7 portion before)),
     )
 
 pub returns-clause-place : goal.returns-clause-place
