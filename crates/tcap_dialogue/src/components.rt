@@ -16,13 +16,33 @@ ghost use Rattle.tcap_invocation.specs.Stage.{moment_limit};
 use crate::component_handling::Reject;
 use crate::component_handling::taken::take_item;
 use crate::component_handling::unidirectional::take_alone;
+use ber_core::element_count;
 use std::alloc::Allocator;
 use tcap_component::Components;
 use tcap_invocation::Invocations;
 use tcap_primitives::{Output, Queue};
 
+/// The most elements for which room is taken, whatever they are.
+const FEW: usize = 8;
+
+/// For how many components there has to be room, with the fault at which they end.
+// Each is an element. A few elements are passed over, not read, at a fifth of the price; room is taken for those
+// behind a fault too. Of more the components are counted, so that a fault among them takes no room for the rest.
+#[tactic(auto, using(crate::proofs::ItemLemmas::components_within))]
+pub(crate) fn room_for(components: &[u8]) -> usize
+    ensures { length (components_of components.now) ≤ result }
+{
+    let elements = element_count(components);
+    if elements <= FEW {
+        elements
+    } else {
+        count_items(components)
+    }
+}
+
 /// How many components there are, with the fault at which they end.
-pub(crate) fn count_items(components: &[u8]) -> usize
+#[inline(never)]
+fn count_items(components: &[u8]) -> usize
     ensures { result ≡ length (components_of components.now) }
 {
     Components::new(components).count()

@@ -18,7 +18,7 @@ ghost use Rattle.tcap_model.specs.Words.Output.{DialogueIndication};
 
 use super::Dialogue;
 use super::spare::Spare;
-use crate::components::{count_items, walk, walk_alone};
+use crate::components::{room_for, walk, walk_alone};
 use ber_core::OutOfMemory;
 use std::alloc::Allocator;
 use tcap_address::Address;
@@ -60,7 +60,7 @@ impl<A: Allocator + Copy> Dialogue<A> {
             → IfOk result (λ outputs. AllInPlace portion components.entry outputs.items) }
     {
         let alloc = *self.queue.octets.allocator();
-        let items = count_items(components);
+        let items = room_for(components);
         let mut outputs = Vec::with_capacity(alloc, items.saturating_add(1))?;
         self.queue.reserve_rejects(items)?;
         self.context = Context::of_any(alloc, context)?;
@@ -159,7 +159,7 @@ pub fn take_uni<'m, A: Allocator + Copy>(
         → IfOk result (λ outputs. AllInPlace portion components.entry outputs.items) }
 {
     let (context, info) = parts_of(audt);
-    let count = count_items(components).saturating_add(1);
+    let count = room_for(components).saturating_add(1);
     let mut outputs = Vec::with_capacity(alloc, count)?;
     outputs.push_reserved(Output::Uni { context, info });
     walk_alone(components, &mut outputs);

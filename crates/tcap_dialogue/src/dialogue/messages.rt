@@ -18,7 +18,7 @@ ghost use Rattle.tcap_pdu.specs.FrameViews.{message};
 
 use super::ending::tell_ended;
 use super::{Dialogue, Step};
-use crate::components::{count_items, walk, walk_ending};
+use crate::components::{room_for, walk, walk_ending};
 use ber_core::OutOfMemory;
 use std::alloc::Allocator;
 use tcap_address::Address;
@@ -68,7 +68,7 @@ impl<A: Allocator + Copy> Dialogue<A> {
         ensures place { (portion : Option Slice) → HeldIn 0x61 context.entry info.entry portion
             → IfOk result (λ s. AllInPlace portion components.entry s.outputs.items) }
     {
-        let items = count_items(components);
+        let items = room_for(components);
         let mut outputs = Vec::with_capacity(
             *self.queue.octets.allocator(),
             items.saturating_add(1),
@@ -113,7 +113,7 @@ impl<A: Allocator + Copy> Dialogue<A> {
         ensures place { (portion : Option Slice) → HeldIn 0x61 context.entry info.entry portion
             → IfOk result (λ s. AllInPlace portion components.entry s.outputs.items) }
     {
-        let items = count_items(components);
+        let items = room_for(components);
         let count = items
             .saturating_add(self.invocations.open_count())
             .saturating_add(1);
