@@ -12,7 +12,9 @@ ghost use Rattle.tcap_words.specs.declared.rewrite.CanonFault.TheVariants as can
 ghost use Rattle.tcap_words.specs.Canonical.{canonical_item, canonical_components, canonical_dialogue, IsCanonFault, IsWritableItem};
 
 use std::alloc::{AllocError, Allocator};
-use tcap_component::{Component, ComponentFault, Components, WriteFault, write_component};
+use tcap_component::{
+    Component, ComponentFault, Components, WriteFault, append_component, judge_component,
+};
 use tcap_pdu::{Frame, PduFault, read_dialogue, write_dialogue, write_frame};
 
 /// Why there is no canonical form.
@@ -66,9 +68,9 @@ pub fn rewrite_portion<A: Allocator + Copy>(
     }
 }
 
-/// Appends a component in the canonical form.
-fn append_component<A: Allocator + Copy>(
-    alloc: A,
+/// Appends a component in the canonical form. It is written straight behind the octets before it, once
+/// there is room.
+fn rewrite_component<A: Allocator + Copy>(
     octets: &mut Vec<u8, A>,
     component: &Component<'_>,
 ) -> Result<(), CanonFault>
@@ -78,17 +80,20 @@ fn append_component<A: Allocator + Copy>(
         ++ written_component (component_parts component.now)) }
     ensures err { IfErr result (λ fault. IsCanonFault (written_component (component_parts component.now)) fault) }
 {
-    match write_component(alloc, component) {
-        Ok(written) => Ok(octets.extend_from_slice(written.as_slice())?),
-        Err(WriteFault::OutOfMemory) => Err(CanonFault::OutOfMemory),
+    match judge_component(component) {
+        Ok(len) => {
+            octets.reserve(len)?;
+            append_component(octets, component);
+            Ok(())
+        }
         Err(WriteFault::TooLong) => Err(CanonFault::TooLong),
-        Err(WriteFault::BadOid | WriteFault::BadParameter) => unreachable!(),
+        Err(WriteFault::OutOfMemory | WriteFault::BadOid | WriteFault::BadParameter) =>
+            unreachable!(),
     }
 }
 
 /// Appends a component in the canonical form; of a fault it appends nothing.
-fn append_item<A: Allocator + Copy>(
-    alloc: A,
+fn rewrite_item<A: Allocator + Copy>(
     octets: &mut Vec<u8, A>,
     item: &Result<Component<'_>, ComponentFault>,
 ) -> Result<(), CanonFault>
@@ -97,7 +102,7 @@ fn append_item<A: Allocator + Copy>(
     ensures err { IfErr result (λ fault. IsCanonFault (canonical_item (item_view item.now)) fault) }
 {
     match item {
-        Ok(component) => append_component(alloc, octets, component),
+        Ok(component) => rewrite_component(octets, component),
         Err(_) => Ok(()),
     }
 }
@@ -113,7 +118,7 @@ pub fn rewrite_components<A: Allocator + Copy>(
     // A component is seldom longer in the canonical form, so the vector seldom grows.
     let mut octets = Vec::with_capacity(alloc, components.len())?;
     for item in Components::new(components) {
-        append_item(alloc, &mut octets, &item)?;
+        rewrite_item(&mut octets, &item)?;
     }
     Ok(octets)
 }
