@@ -55,7 +55,7 @@ pub fn put_octet<A: Allocator + Copy>(out: &mut Vec<u8, A>, tag: u8, octet: u8)
 /// Appends octets one by one, for which there is room. Where their number is known when it is built,
 /// no loop is left of it.
 #[inline(always)]
-fn push_each<A: Allocator + Copy>(out: &mut Vec<u8, A>, octets: &[u8])
+pub(crate) fn push_each<A: Allocator + Copy>(out: &mut Vec<u8, A>, octets: &[u8])
     requires { vec_len out.old + length octets.now ≤ vec_capacity out.old }
     ensures items { out.new.items ≡ out.old.items ++ octets.now }
     ensures capacity { vec_capacity out.old ≤ vec_capacity out.new }

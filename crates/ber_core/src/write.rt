@@ -6,6 +6,7 @@ ghost use Rattle.ber_core.specs.Tag.{IsTag};
 ghost use Rattle.ber_core.specs.Written.{length_octets, written_head, written};
 
 use crate::fault::OutOfMemory;
+use crate::put::push_each;
 use std::alloc::Allocator;
 
 /// Appends all three or none.
@@ -59,17 +60,6 @@ fn append_element<A: Allocator + Copy>(
 /// The most octets that are appended one by one.
 const FEW: usize = 8;
 
-/// Appends octets one by one, for which there is room.
-#[inline(always)]
-fn push_all<A: Allocator + Copy>(out: &mut Vec<u8, A>, octets: &[u8])
-    requires { vec_len out.old + length octets.now ≤ vec_capacity out.old }
-    ensures { out.new.items ≡ out.old.items ++ octets.now }
-{
-    for octet in octets {
-        out.push_reserved(*octet);
-    }
-}
-
 /// Appends octets, for which there is room: a few one by one, more at once.
 #[inline(always)]
 fn append<A: Allocator + Copy>(out: &mut Vec<u8, A>, octets: &[u8]) -> Result<(), OutOfMemory>
@@ -78,7 +68,7 @@ fn append<A: Allocator + Copy>(out: &mut Vec<u8, A>, octets: &[u8]) -> Result<()
     ensures err { IsOk result }
 {
     if octets.len() <= FEW {
-        push_all(out, octets);
+        push_each(out, octets);
     } else {
         out.extend_from_slice(octets)?;
     }
