@@ -45,7 +45,8 @@ fn push_send<'m, A: Allocator + Copy>(
     bytes: Vec<u8, A>,
 )
     requires { vec_len outputs.old < vec_capacity outputs.old }
-    ensures sent { all_shown outputs.new.items ≡ all_shown outputs.old.items ++ model.Output.send to.now bytes.items ∷ [] }
+    ensures sent { all_shown outputs.new.items ≡ all_shown outputs.old.items
+        ++ model.Output.send to.now bytes.items ∷ [] }
     ensures room { vec_capacity outputs.old ≤ vec_capacity outputs.new }
     ensures len { vec_len outputs.new ≡ vec_len outputs.old + 1 }
 {
@@ -220,8 +221,12 @@ impl<A: Allocator + Copy> Dialogue<A> {
         ensures kept { self.new.standing.identifier ≡ self.old.standing.identifier }
     {
         match control {
-            Control::Begin { to, context, info } => self.take_begin(to, *context, info, message, clock),
-            Control::Continue { context, info } => self.take_continue(*context, info, message, clock),
+            Control::Begin { to, context, info } => self.take_begin(
+                to, *context, info, message, clock,
+            ),
+            Control::Continue { context, info } => self.take_continue(
+                *context, info, message, clock,
+            ),
             Control::Uni { .. } | Control::End { .. } | Control::Abort { .. } => {
                 self.take_last(control, message)
             }

@@ -16,7 +16,7 @@ returns-in_err-outputs-clause-memory g c =
     let r : Request = Request.dialogue (control_view c.args.control.now) in
     let m : Option Message = message_of d.standing r in
     let many : c.open_count-left.result ≡ length (ended_told d.standing.identifier d.invocations) =
-        c.open_count-left.ensures ∙ ap (λ (x : Dialogue). length (ended_at x.invocations.rows)) c.self.view_is ∙ sym (length-map (ended_at d.invocations.rows) _) in
+    c.open_count-left.ensures ∙ ap (λ (x : Dialogue). length (ended_at x.invocations.rows)) c.self.view_is ∙ sym (length-map (ended_at d.invocations.rows) _) in
     let wanted : IsTrue (is_some m || nat_lt 0 c.open_count-left.result) = search rules in
     let is = memory-told (request_address d.kept r) m c.open_count-left.result (ended_told d.standing.identifier d.invocations) many wanted in
     search (rules, is)
