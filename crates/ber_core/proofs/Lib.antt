@@ -29,6 +29,7 @@ pub mod ScanSteps
 pub mod ScannerLengths
 pub mod ScannerSteps
 pub mod SequenceGrammar
+pub mod ShortElement
 pub mod SkimSteps
 pub mod WaySteps
 pub mod WrittenGrammar

@@ -9,7 +9,7 @@ use Rattle.ber_core.specs.SequenceReading.{tagged}
 use Rattle.ber_core.proofs.Contents.{after_at-body, body_at-definite}
 
 module _ (first len : ℕ) (body : List ℕ) (nonzero : first ≢ 0) (low : eqb (bit_and first 31) 31 ≡ false) (short : len < 128) (within : len ≤ length body) where
-  head_is : head_at (first ∷ len ∷ body) ≡ Ok (first ∷ [], is_constructor (first ∷ []), Some len, body)
+  pub head_is : head_at (first ∷ len ∷ body) ≡ Ok (first ∷ [], is_constructor (first ∷ []), Some len, body)
   unfolding head_at tag_at length_at
   head_is = rw (ne_eqb first 0 nonzero, low, ne_eqb len 128 (λ e. omega (arith, short, e)), ne_eqb len 255 (λ e. omega (arith, short, e)), lt-ltb len 128 short) refl
 

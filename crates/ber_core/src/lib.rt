@@ -32,6 +32,6 @@ pub use integer::{read_int, write_int};
 pub use object_identifier::is_oid;
 pub use put::{put_element, put_few, put_head, put_octet, put_octets};
 pub use scan::MAX_DEPTH;
-pub use sequence::{read_alone, take_any, take_content, take_only, take_tagged};
+pub use sequence::{read_alone, take_any, take_content, take_only, take_short, take_tagged};
 pub use write::{write_element, write_head};
 pub use written_len::element_len;

@@ -1,12 +1,13 @@
 //! The elements of a sequence, in the order of the standard's table.
 
-ghost use Rattle.std.specs.Prelude.{◌≡◌, ◌==◌, ℕ, [], ◌∷◌, false, option_copied, option_map, IfSome};
+ghost use Rattle.std.specs.Prelude.{◌≡◌, ◌≢◌, ◌↔◌, ◌==◌, ◌+◌, ◌<◌, ◌≤◌, ℕ, [], ◌∷◌, bit_and, false, get_or, is_some, length, option_copied, option_map, IfSome, IsTrue, Some};
 ghost use Rattle.ber_core.specs.SequenceReading.{tagged, content_at, first_whole, only_at, alone_at};
 ghost use Rattle.ber_core.specs.Place.{AtFront, IsAt, AtEnd, head_length};
 ghost use Rattle.ber_core.specs.Views.{parts, InPlace};
 ghost use Rattle.ber_core.specs.Way.{IsInside, GoesOn};
 
 use crate::element::{Element, read_element};
+use crate::head::is_plain;
 
 /// `take_tagged`, where the first octet is the tag.
 #[tactic(auto, unfolding(crate::specs::SequenceReading::tagged))]
@@ -106,6 +107,31 @@ pub fn read_alone<'a>(bytes: &'a [u8]) -> Option<Element<'a>>
 {
     match read_element(bytes) {
         Ok((element, [])) => Some(element),
+        _ => None,
+    }
+}
+
+/// `take_content` of an element whose length is one octet below 128; nothing where the first is another,
+/// though it may have this tag (X.690, Length octets).
+#[inline(always)]
+pub fn take_short<'a>(bytes: &'a [u8], tag: u8) -> Option<(&'a [u8], &'a [u8])>
+    // The tag is of one octet.
+    requires { (tag ≢ 0x00) × (bit_and tag 0x1f == 0x1f ≡ false) }
+    // Exactly where the tag and such a length stand first, and the content is whole.
+    ensures found { IsTrue (is_some result) ↔ ((get_or bytes.now 0 0 ≡ tag)
+        × (get_or bytes.now 1 0 < 0x80) × (2 + get_or bytes.now 1 0 ≤ length bytes.now)) }
+    ensures value { IfSome result (λ r. content_at tag bytes.now ≡ Some (r.0.now, r.1.now)) }
+    // Both lie where `take_content` finds them.
+    ensures inside { IfSome result (λ r. IsInside tag r.0 bytes.entry) }
+    ensures goes_on { (other : ℕ) → (tag == other) ≡ false
+        → IfSome result (λ r. GoesOn other r.1 bytes.entry) }
+{
+    match bytes {
+        [first, length, body @ ..]
+            if *first == tag && is_plain(tag, *length) && *length as usize <= body.len() => {
+            let length = *length as usize;
+            Some((&body[..length], &body[length..]))
+        }
         _ => None,
     }
 }
