@@ -12,6 +12,7 @@ pub mod FrontGrammar
 pub mod LengthGrammar
 pub mod MessageGrammar
 pub mod PartsWithin
+pub mod PlainDialogue
 pub mod PlaceSteps
 pub mod PortionGrammar
 pub mod SpelledWritable

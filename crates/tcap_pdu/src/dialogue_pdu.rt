@@ -2,6 +2,7 @@
 
 pub(crate) mod len;
 mod parts;
+mod plain;
 pub(crate) mod put;
 mod read;
 mod write;

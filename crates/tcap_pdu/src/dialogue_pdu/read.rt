@@ -14,6 +14,7 @@ use crate::dialogue_pdu::DialoguePdu;
 use crate::dialogue_pdu::parts::{
     only_octet, read_diagnostic, read_information, read_number, read_opening, take_one,
 };
+use crate::dialogue_pdu::plain::read_plain;
 use crate::dialogue_tag::{
     ABORT_BY_PROVIDER, ABORT_BY_USER, ABORT_SOURCE, ACCEPTED, DIALOGUE_ABORT, DIALOGUE_REQUEST,
     DIALOGUE_RESPONSE, EXTERNAL, OBJECT_IDENTIFIER, REJECT_PERMANENT, RESULT,
@@ -166,15 +167,27 @@ fn read_by_syntax<'a>(bytes: &'a [u8], syntax: &'a [u8], rest: &'a [u8]) -> Opti
     }
 }
 
-/// The PDU that the bytes spell, if any.
+/// `read_pdu`, of any form.
 #[tactic(auto, unfolding(crate::specs::DialogueReading::pdu_at))]
-pub(crate) fn read_pdu<'a>(bytes: &'a [u8]) -> Option<DialoguePdu<'a>>
+#[inline(never)]
+fn read_general<'a>(bytes: &'a [u8]) -> Option<DialoguePdu<'a>>
     ensures value { option_map pdu_value result ≡ pdu_at bytes.now }
     ensures place { IfSome result (λ pdu. PduOnWay (0x28 ∷ 0xa0 ∷ []) pdu bytes.entry bytes.entry) }
 {
     let external = take_only(bytes, EXTERNAL)?;
     let (syntax, rest) = take_content(external, OBJECT_IDENTIFIER)?;
     read_by_syntax(bytes, syntax, rest)
+}
+
+/// The PDU that the bytes spell, if any. Those of nearly every dialogue are read in one pass.
+pub(crate) fn read_pdu<'a>(bytes: &'a [u8]) -> Option<DialoguePdu<'a>>
+    ensures value { option_map pdu_value result ≡ pdu_at bytes.now }
+    ensures place { IfSome result (λ pdu. PduOnWay (0x28 ∷ 0xa0 ∷ []) pdu bytes.entry bytes.entry) }
+{
+    if let Some(pdu) = read_plain(bytes) {
+        return Some(pdu);
+    }
+    read_general(bytes)
 }
 
 /// The PDU that the bytes spell, or why there is none.

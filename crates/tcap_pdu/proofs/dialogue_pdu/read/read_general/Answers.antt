@@ -1,6 +1,6 @@
 use Rattle.std.proofs.Common.{refl}
 use Rattle.tcap_pdu.proofs.DialoguePlaceSteps.{pdu-placed}
-use Rattle.tcap_pdu.proofs.dialogue_pdu.read.read_pdu.Goals as goal
+use Rattle.tcap_pdu.proofs.dialogue_pdu.read.read_general.Goals as goal
 
 pub returns-clause-place : goal.returns-clause-place
 returns-clause-place c =
