@@ -1,5 +1,5 @@
 -- The octets of the message that a request sends, and why there are none.
-use Rattle.std.specs.Prelude.{◌≡◌, ◌⊎◌, ℕ, Bool, true, false, List, [], ◌∷◌, Option, Some, None, IsTrue, is_some}
+use Rattle.std.specs.Prelude.{◌≡◌, ◌⊎◌, ℕ, true, false, List, [], ◌∷◌, Option, Some, None, IsTrue, is_some}
 use Rattle.std.specs.declared.vec.Vec.{Vec}
 use Rattle.tcap_model.specs.Procedures.Refusals.{passes_message}
 use Rattle.tcap_model.specs.Words.Fault as model

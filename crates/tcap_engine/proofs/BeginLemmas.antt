@@ -1,11 +1,11 @@
 -- A dialogue that a Begin creates is one that an engine may keep.
-use Rattle.std.proofs.Common.{arith, tests, ◌≡◌, ℕ, ◌+◌, ◌<◌, ◌∙◌, Bool, true, false, cond, nat_eq, List, [], ◌∷◌, ◌++◌, Option, Some, None, Result, Ok, Err, refl, ap, if◌then◌else◌}
+use Rattle.std.proofs.Common.{arith, tests, ◌≡◌, ℕ, ◌∙◌, true, false, nat_eq, List, [], ◌∷◌, ◌++◌, Option, Some, Result, Ok, Err, refl, ap, if◌then◌else◌}
 use Rattle.std.specs.Prelude.{IfOk, OnErr, is_err}
 use Rattle.std.specs.Map.{lookup, set_value, remove_entry}
 use Rattle.ber_core.specs.declared.fault.OutOfMemory.{OutOfMemory}
 use Rattle.tcap_component.specs.ComponentReading.{components_of}
 use Rattle.tcap_model.specs.Table.Dialogue.{Dialogue, fresh_dialogue}
-use Rattle.tcap_model.specs.Table.TableMove.{Moved, Setting, born}
+use Rattle.tcap_model.specs.Table.TableMove.{Setting, born}
 use Rattle.tcap_model.specs.Words.Address.{Address}
 use Rattle.tcap_model.specs.Words.Answer.{Answer}
 use Rattle.tcap_dialogue.specs.StepViews.{Outcome}

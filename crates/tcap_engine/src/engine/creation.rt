@@ -76,7 +76,9 @@ impl<A: Allocator + Copy> Engine<A> {
         let limits = self.limits;
         let fresh = Dialogue::fresh_in(spare, identifier, limits.reject_ms, limits.idle_ms);
         let (table, clock) = (&mut self.table, self.clock);
-        let outputs = accept_in(table, identifier, fresh, clock, from, origin, request, components)?;
+        let outputs = accept_in(
+            table, identifier, fresh, clock, from, origin, request, components,
+        )?;
         self.next_dialogue = following;
         Ok(outputs)
     }

@@ -1,4 +1,4 @@
-use Rattle.std.proofs.Common.{rules, ◌≡◌, ◌∙◌, ◌||◌, ℕ, Option, is_some, nat_lt, length, sym, ap, IsTrue}
+use Rattle.std.proofs.Common.{rules, ◌≡◌, ◌∙◌, ◌||◌, Option, is_some, nat_lt, length, sym, ap, IsTrue}
 use Rattle.std.proofs.lemmas.List.{length-map}
 use Rattle.tcap_invocation.specs.Closing.{ended_at}
 use Rattle.tcap_model.specs.Table.Dialogue.{Dialogue}

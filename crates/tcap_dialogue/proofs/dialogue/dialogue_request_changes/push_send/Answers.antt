@@ -1,8 +1,7 @@
-use Rattle.std.proofs.Common.{rules, ◌≡◌, ◌∙◌, ◌++◌, ◌∷◌, [], List, ap, length, get_or, set}
+use Rattle.std.proofs.Common.{rules, ◌≡◌, ◌++◌, ◌∷◌, [], length}
 use Rattle.std.proofs.lemmas.List.{map-append, places, set_at}
-use Rattle.tcap_primitives.specs.declared.output.Output.{Output}
 use Rattle.tcap_primitives.specs.declared.output.Output.TheVariants.{Send}
-use Rattle.tcap_primitives.specs.OutputViews.{all_shown, shown}
+use Rattle.tcap_primitives.specs.OutputViews.{shown}
 use Rattle.tcap_dialogue.proofs.dialogue.dialogue_request_changes.push_send.Goals as goal
 
 pub returns-clause-sent : goal.returns-clause-sent

@@ -1,9 +1,9 @@
-use Rattle.std.proofs.Common.{rules, ◌≡◌, ◌∙◌, ◌<◌, ◌++◌, ◌∷◌, [], List, length, subst, sym}
+use Rattle.std.proofs.Common.{rules, ◌≡◌, ◌<◌, ◌++◌, ◌∷◌, [], List, length, sym}
 use Rattle.tcap_reception.specs.GivenViews.{context_given, info_given}
 use Rattle.tcap_dialogue.specs.StepViews.{at_clock}
 use Rattle.tcap_engine.proofs.BeginLemmas.{kept_born}
 use Rattle.tcap_engine.proofs.BirthLemmas.{room-to-be-born, sound-push}
-use Rattle.tcap_engine.specs.Table.{IsSound, TableEntry, dialogues_of}
+use Rattle.tcap_engine.specs.Table.{TableEntry, dialogues_of}
 use Rattle.tcap_model.specs.Table.TableMove.{Moved, born}
 use Rattle.tcap_engine.proofs.engine.Engine.accept_begin.Goals as goal
 

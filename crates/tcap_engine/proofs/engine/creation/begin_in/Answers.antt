@@ -1,5 +1,5 @@
-use Rattle.std.proofs.Common.{rules, ◌≡◌, ◌∙◌, ap, sym, nat_eq, List, Some}
-use Rattle.std.specs.Map.{lookup, set_value}
+use Rattle.std.proofs.Common.{rules, ◌≡◌, sym, nat_eq, List, Some}
+use Rattle.std.specs.Map.{lookup}
 use Rattle.tcap_dialogue.specs.Beginning.{begun_from}
 use Rattle.tcap_engine.specs.Answering.{outputs_answer}
 use Rattle.tcap_engine.specs.Table.{TableEntry}
