@@ -2,12 +2,11 @@
 
 ghost use Rattle.std.specs.Prelude.{◌≡◌, ◌<◌, ◌≤◌, ◌++◌, [], ◌∷◌, IsSome, None, nat_eq, length, OnOk, OnErr, IfOk, IfErr};
 ghost use Rattle.std.specs.Map.{lookup};
-ghost use Rattle.indexmap.specs.IndexMap.{spare};
 ghost use Rattle.slab.specs.Slab.{get, HasRoomFor};
 ghost use Rattle.timed_table.specs.Row.{AllBelow, entries_of, without, with_time};
 ghost use Rattle.timed_table.specs.Tied.{IsSound, IsExtended, all_rows, timer_named};
 
-use crate::table::Keys;
+use crate::keys::Keys;
 use slab::Slab;
 use std::alloc::{AllocError, AllocFailed, Allocator};
 use timer_queue::{Timer, TimerQueue};
@@ -34,23 +33,19 @@ fn cover<A: Allocator + Copy>(timers: &mut TimerQueue<A>, key: usize) -> Result<
     Ok(())
 }
 
-/// Makes room for one row more, and answers the key that it will have.
+/// Makes room for one value more, and answers the key that it will have.
 fn make_room<T: Drop, A: Allocator + Copy>(
     values: &mut Slab<T, A>,
-    keys: &mut Keys<A>,
     timers: &mut TimerQueue<A>,
 ) -> Result<usize, AllocError>
     ensures values { values.new ≡ record values.old { capacity = values.new.capacity } }
-    ensures keys { keys.new.entries ≡ keys.old.entries }
     ensures extended { IsExtended timers.old timers.new }
     ensures room { OnOk result (HasRoomFor values.new 1) }
-    ensures spare { OnOk result (0 < spare keys.new) }
     ensures covered { IfOk result (λ key. key < length timers.new) }
     ensures key { IfOk result (λ key. key ≡ values.new.vacant_key) }
     ensures vacant { IfOk result (λ key. get values.new key ≡ None) }
 {
     values.reserve(1)?;
-    keys.reserve(1)?;
     let key = values.vacant_key();
     cover(timers, key)?;
     Ok(key)
@@ -66,20 +61,22 @@ pub(crate) fn insert_row<T: Drop, A: Allocator + Copy>(
     value: T,
     time: Option<u64>,
 ) -> Result<(), AllocFailed<T>>
-    requires sound { IsSound keys.old.entries values.old timers.old }
-    requires below { AllBelow id (all_rows keys.old.entries values.old timers.old) }
-    ensures sound { IsSound keys.new.entries values.new timers.new }
-    ensures ok { OnOk result (all_rows keys.new.entries values.new timers.new
-        ≡ all_rows keys.old.entries values.old timers.old
+    requires sound { IsSound keys.old values.old timers.old }
+    requires below { AllBelow id (all_rows keys.old values.old timers.old) }
+    ensures sound { IsSound keys.new values.new timers.new }
+    ensures ok { OnOk result (all_rows keys.new values.new timers.new
+        ≡ all_rows keys.old values.old timers.old
         ++ record { identifier = id; value = value; time = time } ∷ []) }
-    ensures err { OnErr result (all_rows keys.new.entries values.new timers.new
-        ≡ all_rows keys.old.entries values.old timers.old) }
+    ensures err { OnErr result (all_rows keys.new values.new timers.new
+        ≡ all_rows keys.old values.old timers.old) }
     ensures value_returned { IfErr result (λ failed. failed.value ≡ value) }
 {
-    let Ok(key) = make_room(values, keys, timers) else {
+    let Ok(key) = make_room(values, timers) else {
         return Err(AllocFailed { value });
     };
-    keys.insert(id, key).unwrap();
+    if keys.insert(id, key).is_err() {
+        return Err(AllocFailed { value });
+    }
     values.insert_reserved(value);
     timers.set(key, timer_named(id, time));
     Ok(())
@@ -93,13 +90,13 @@ pub(crate) fn remove_row<T: Drop, A: Allocator + Copy>(
     timers: &mut TimerQueue<A>,
     id: u32,
 ) -> Option<T>
-    requires { IsSound keys.old.entries values.old timers.old }
-    ensures sound { IsSound keys.new.entries values.new timers.new }
-    ensures value { result ≡ lookup (nat_eq id) (entries_of (all_rows keys.old.entries values.old timers.old)) }
-    ensures rows { all_rows keys.new.entries values.new timers.new
-        ≡ without id (all_rows keys.old.entries values.old timers.old) }
+    requires { IsSound keys.old values.old timers.old }
+    ensures sound { IsSound keys.new values.new timers.new }
+    ensures value { result ≡ lookup (nat_eq id) (entries_of (all_rows keys.old values.old timers.old)) }
+    ensures rows { all_rows keys.new values.new timers.new
+        ≡ without id (all_rows keys.old values.old timers.old) }
 {
-    let key = keys.swap_remove(&id)?;
+    let key = keys.remove(id)?;
     timers.set(key, None);
     values.try_remove(key)
 }
@@ -108,17 +105,17 @@ pub(crate) fn remove_row<T: Drop, A: Allocator + Copy>(
 #[inline(always)]
 pub(crate) fn time_row<T: Drop, A: Allocator + Copy>(
     values: &Slab<T, A>,
-    keys: &Keys<A>,
+    keys: &mut Keys<A>,
     timers: &mut TimerQueue<A>,
     id: u32,
     time: Option<u64>,
 )
-    requires { IsSound keys.now.entries values.now timers.old }
-    ensures sound { IsSound keys.now.entries values.now timers.new }
-    ensures rows { all_rows keys.now.entries values.now timers.new
-        ≡ with_time id time (all_rows keys.now.entries values.now timers.old) }
+    requires { IsSound keys.old values.now timers.old }
+    ensures sound { IsSound keys.new values.now timers.new }
+    ensures rows { all_rows keys.new values.now timers.new
+        ≡ with_time id time (all_rows keys.old values.now timers.old) }
 {
-    if let Some(key) = keys.get(&id) {
-        timers.set(*key, timer_named(id, time));
+    if let Some(key) = keys.find(id) {
+        timers.set(key, timer_named(id, time));
     }
 }

@@ -6,6 +6,7 @@
 
 mod changes;
 mod due;
+mod keys;
 mod table;
 
 pub use due::DueRows;

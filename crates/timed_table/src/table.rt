@@ -6,16 +6,12 @@ ghost use Rattle.timed_table.specs.Row.{AllBelow, IsRising, HasNoTime, IsFirst, 
 
 use crate::changes::{insert_row, remove_row, time_row};
 use crate::due::DueRows;
-use indexmap::IndexMap;
+use crate::keys::Keys;
 use slab::Slab;
 use std::alloc::{AllocFailed, Allocator, Global};
 use std::fmt;
-use std::hash::{BuildHasherDefault, FoldHasher};
 use std::marker::Model;
 use timer_queue::TimerQueue;
-
-/// The keys of the values by identifier, in no order.
-pub(crate) type Keys<A> = IndexMap<u32, usize, BuildHasherDefault<FoldHasher>, A>;
 
 /// Values under identifiers, which rise as they are inserted; beside each value a time, if it has one.
 #[derive(Drop)]
@@ -37,9 +33,9 @@ impl<T: Drop, A: Allocator + Copy> Model for Table<T, A> {
 
     ghost use Rattle.timed_table.specs.Tied.{IsSound, all_rows};
 
-    ghost view = { λ t. all_rows t.keys.entries t.values t.timers };
+    ghost view = { λ t. all_rows t.keys t.values t.timers };
 
-    ghost invariant = { λ t. IsSound t.keys.entries t.values t.timers };
+    ghost invariant = { λ t. IsSound t.keys t.values t.timers };
 }
 
 impl<T: Drop, A: Allocator + Copy> Table<T, A> {
@@ -56,7 +52,7 @@ impl<T: Drop, A: Allocator + Copy> Table<T, A> {
     {
         Table {
             values: Slab::new(alloc),
-            keys: IndexMap::new(alloc),
+            keys: Keys::new(alloc),
             timers: TimerQueue::new(alloc),
         }
     }
@@ -79,7 +75,7 @@ impl<T: Drop, A: Allocator + Copy> Table<T, A> {
     pub fn get(&self, id: u32) -> Option<&T>
         ensures { option_copied result ≡ lookup (nat_eq id) (entries_of self.now) }
     {
-        let key = *self.keys.get(&id)?;
+        let key = self.keys.get(id)?;
         self.values.get(key)
     }
 
@@ -89,7 +85,7 @@ impl<T: Drop, A: Allocator + Copy> Table<T, A> {
             (λ new w. IsWritten id w self.old new) (λ new. new ≡ self.old)) }
         ensures value { option_copied_mut result ≡ lookup (nat_eq id) (entries_of self.old) }
     {
-        let key = *self.keys.get(&id)?;
+        let key = self.keys.find(id)?;
         self.values.get_mut(key)
     }
 
@@ -97,7 +93,7 @@ impl<T: Drop, A: Allocator + Copy> Table<T, A> {
     pub fn time_of(&self, id: u32) -> Option<u64>
         ensures { result ≡ time_in (row_of id self.now) }
     {
-        let key = *self.keys.get(&id)?;
+        let key = self.keys.get(id)?;
         let timer = self.timers.get(key)?;
         Some(timer.time)
     }
@@ -138,7 +134,7 @@ impl<T: Drop, A: Allocator + Copy> Table<T, A> {
         ensures rows { self.new ≡ with_time id time self.old }
         ensures entries { entries_of self.new ≡ entries_of self.old }
     {
-        time_row(&self.values, &self.keys, &mut self.timers, id, time);
+        time_row(&self.values, &mut self.keys, &mut self.timers, id, time);
     }
 
     /// The least time, and of those who share it the least identifier.

@@ -6,4 +6,4 @@ use Rattle.timed_table.proofs.table.Table.due.Goals as goal
 
 pub returns : goal.returns
 returns g c =
-    λ weight. rw (← c.self.view_is) (ap (sum_by weight) c.new.ensures ∙ due-sum weight c.args.moment c.self.inside.keys.entries c.self.inside.values c.self.inside.timers c.self.invariant.tied (due_left c.due.result) c.due.ensures)
+    λ weight. rw (← c.self.view_is) (ap (sum_by weight) c.new.ensures ∙ due-sum weight c.args.moment c.self.inside.keys c.self.inside.values c.self.inside.timers c.self.invariant.tied (due_left c.due.result) c.due.ensures)

@@ -1,13 +1,8 @@
-use Rattle.std.proofs.Common.{rules, ◌≡◌, []}
 use Rattle.timed_table.proofs.SoundLemmas.{sound-empty, rows-empty}
 use Rattle.timed_table.proofs.table.Table.new.Goals as goal
 
 pub invariant_of-result : goal.invariant_of-result
-invariant_of-result g c =
-    let keys : c.new-2.result.entries ≡ [] = search rules in
-    rw (keys, c.new-3.ensures) (sound-empty c.new.result)
+invariant_of-result g c = rw (c.new-2.ensures, c.new-3.ensures) (sound-empty c.new.result)
 
 pub returns : goal.returns
-returns g c =
-    let keys : c.new-2.result.entries ≡ [] = search rules in
-    rw (keys, c.new-3.ensures) (rows-empty c.new.result)
+returns g c = rw (c.new-2.ensures, c.new-3.ensures) (rows-empty c.new.result)
