@@ -24,7 +24,8 @@ pub use show::{check_text, show_text};
 pub use status::verdict_status;
 pub use stream::run_stream;
 pub use tcap_words::{
-    Shown, WriteFailed, add_body, add_coded, add_hex, add_identifier, add_octets_or_dash,
-    add_optional_octets, add_pdu, add_problem, body_text, coded_text, decode_hex, hex_octets,
-    identifier_text, octets_or_dash, optional_octets_or_dash, pdu_text, problem_text, write_text,
+    Shown, WriteFailed, add_body, add_coded, add_decimal, add_hex, add_identifier,
+    add_octets_or_dash, add_optional_octets, add_pdu, add_problem, add_signed, body_text,
+    coded_text, decode_hex, hex_octets, identifier_text, octets_or_dash, optional_octets_or_dash,
+    pdu_text, problem_text, write_text,
 };

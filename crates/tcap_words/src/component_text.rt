@@ -7,7 +7,7 @@ ghost use Rattle.tcap_component.specs.Component.CodeParts.{global};
 ghost use Rattle.tcap_component.specs.Component.ComponentParts.{invoke, error_back, reject_back};
 ghost use Rattle.tcap_words.specs.ComponentText.{identifier_words, code_words, coded_words, body_words, kind_words, problem_words, component_words, fault_words};
 
-use crate::text::{add_hex, add_optional_octets};
+use crate::text::{add_decimal, add_hex, add_optional_octets, add_signed};
 use ber_core::OutOfMemory;
 use std::alloc::Allocator;
 use tcap_component::{Body, Code, Component, ComponentFault, Kind, Problem};
@@ -20,7 +20,7 @@ pub fn add_identifier<A: Allocator + Copy>(
     ensures { OnOk result (string_bytes text.new ≡ string_bytes text.old ++ identifier_words id) }
 {
     match id {
-        Some(id) => Ok(write!(text, "{id}")?),
+        Some(id) => add_signed(text, i64::from(id)),
         None => Ok(text.push_str("-")?),
     }
 }
@@ -51,7 +51,10 @@ fn add_code<A: Allocator + Copy>(text: &mut String<A>, code: &Code<'_>) -> Resul
     ensures { OnOk result (string_bytes text.new ≡ string_bytes text.old ++ code_words (code_parts code.now)) }
 {
     match code {
-        Code::Local(number) => Ok(write!(text, "local {number}")?),
+        Code::Local(number) => {
+            text.push_str("local ")?;
+            add_signed(text, i64::from(*number))
+        }
         Code::Global(octets) => add_global(text, *octets),
     }
 }
@@ -129,10 +132,9 @@ pub fn add_problem<A: Allocator + Copy>(
 ) -> Result<(), OutOfMemory>
     ensures { OnOk result (string_bytes text.new ≡ string_bytes text.old ++ problem_words (problem_parts problem)) }
 {
-    let kind = kind_text(problem.kind());
-    let code = problem.code();
-    write!(text, "{kind} {code}")?;
-    Ok(())
+    text.push_str(kind_text(problem.kind()))?;
+    text.push_str(" ")?;
+    add_decimal(text, u64::from(problem.code()))
 }
 
 /// The words of a problem: its kind and its code.
@@ -158,7 +160,9 @@ fn add_invoke<A: Allocator + Copy>(
     ensures { OnOk result (string_bytes text.new ≡ string_bytes text.old
         ++ component_words (invoke id linked (code_parts code.now) (option_copied parameter.entry))) }
 {
-    write!(text, "invoke {id} linked ")?;
+    text.push_str("invoke ")?;
+    add_signed(text, i64::from(id))?;
+    text.push_str(" linked ")?;
     add_identifier(text, linked)?;
     text.push_str(" op ")?;
     add_coded(text, code, parameter)
@@ -174,7 +178,10 @@ fn add_result<A: Allocator + Copy>(
     ensures { OnOk result (string_bytes text.new ≡ string_bytes text.old ++ (name.now
         ++ (codes " " ++ (signed_decimal id ++ (codes " op " ++ body_words (option_map body_parts body.now)))))) }
 {
-    write!(text, "{name} {id} op ")?;
+    text.push_str(name)?;
+    text.push_str(" ")?;
+    add_signed(text, i64::from(id))?;
+    text.push_str(" op ")?;
     add_body(text, body)
 }
 
@@ -188,7 +195,9 @@ fn add_error<A: Allocator + Copy>(
     ensures { OnOk result (string_bytes text.new ≡ string_bytes text.old
         ++ component_words (error_back id (code_parts code.now) (option_copied parameter.entry))) }
 {
-    write!(text, "error {id} code ")?;
+    text.push_str("error ")?;
+    add_signed(text, i64::from(id))?;
+    text.push_str(" code ")?;
     add_coded(text, code, parameter)
 }
 

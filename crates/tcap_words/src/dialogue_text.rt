@@ -9,7 +9,7 @@ ghost use Rattle.hex.specs.Hex.{encode_lower};
 ghost use Rattle.tcap_words.specs.Text.{answer_words, inner_line, octets_words};
 ghost use Rattle.tcap_words.specs.DialogueText.{request_words, diagnostic_words, source_words, pdu_words, portion_words};
 
-use crate::text::{add_hex, add_octets_or_dash, yes_or_no};
+use crate::text::{add_decimal, add_hex, add_octets_or_dash, yes_or_no};
 use ber_core::OutOfMemory;
 use std::alloc::Allocator;
 use tcap_pdu::{Diagnostic, DialoguePdu, read_dialogue};
@@ -55,8 +55,14 @@ fn add_diagnostic<A: Allocator + Copy>(
     ensures { OnOk result (string_bytes text.new ≡ string_bytes text.old ++ diagnostic_words (source diagnostic)) }
 {
     match diagnostic {
-        Diagnostic::User(number) => Ok(write!(text, "user {number}")?),
-        Diagnostic::Provider(number) => Ok(write!(text, "provider {number}")?),
+        Diagnostic::User(number) => {
+            text.push_str("user ")?;
+            add_decimal(text, u64::from(number))
+        }
+        Diagnostic::Provider(number) => {
+            text.push_str("provider ")?;
+            add_decimal(text, u64::from(number))
+        }
     }
 }
 
@@ -78,8 +84,9 @@ fn add_answer<A: Allocator + Copy>(
         ++ (decimal (result_number accepted) ++ (codes " "
         ++ (diagnostic_words (source diagnostic) ++ (codes " info " ++ octets_words info.now)))))) }
 {
-    let answer = result_number(accepted);
-    write!(text, " result {answer} ")?;
+    text.push_str(" result ")?;
+    add_decimal(text, u64::from(result_number(accepted)))?;
+    text.push_str(" ")?;
     add_diagnostic(text, diagnostic)?;
     text.push_str(" info ")?;
     add_octets_or_dash(text, info)

@@ -1,7 +1,7 @@
 //! The words of which the command's texts are made: of the parts of a message, of its verdict, and of its
 //! canonical form; octets read from hexadecimal and text written.
 //!
-//! Stands on `ber_core`, `tcap_pdu`, `tcap_component` and `hex`. Begin at `verdict_on`.
+//! Stands on `ber_core`, `tcap_pdu`, `tcap_component`, `hex` and `itoa`. Begin at `verdict_on`.
 #![tactic(auto)]
 
 mod component_text;
@@ -30,8 +30,8 @@ pub use rewrite::{CanonFault, assemble, rewrite_components, rewrite_portion, spe
 pub use shown::Shown;
 pub use spelling::{decode_hex, hex_octets};
 pub use text::{
-    add_hex, add_line, add_number, add_octets_or_dash, add_optional_octets, octets_or_dash,
-    optional_octets_or_dash,
+    add_decimal, add_hex, add_line, add_number, add_octets_or_dash, add_optional_octets,
+    add_signed, octets_or_dash, optional_octets_or_dash,
 };
 pub use verdict::Verdict;
 pub use writing::{WriteFailed, write_text};
