@@ -1,26 +1,36 @@
--- Octets that are added in hexadecimal, one after the other.
-use Rattle.std.proofs.Common.{◌≡◌, ℕ, ◌+◌, ◌/◌, ◌%◌, ◌<◌, ◌≤◌, List, [], ◌∷◌, ◌++◌, length, drop, slice_index, refl}
-use Rattle.std.proofs.lemmas.List.{append_assoc, append-nil, drop_all, drop_more}
+-- Octets that are added in hexadecimal, sixteen after sixteen.
+use Rattle.std.proofs.Common.{◌≡◌, ℕ, ◌*◌, ◌/◌, ◌%◌, List, [], ◌∷◌, ◌++◌, length, take, drop, slice_index, Result, OnOk, refl, ap, ◌∙◌, arith}
+use Rattle.std.proofs.lemmas.List.{append_assoc, append-nil, take_at, take-append-drop}
+use Rattle.std.proofs.lemmas.Result.{on_ok_weaker}
 use Rattle.hex.specs.Hex.{encode_with, encode_lower, lower_digits}
+use Rattle.hex.proofs.HexLemmas.{length-encode_with}
 
--- the digits of what is left, from one octet on
-digits_left : (bytes : List ℕ) (i : ℕ) → i < length bytes
-    → encode_lower (drop i bytes)
-    ≡ slice_index lower_digits (slice_index bytes i / 16) ∷ slice_index lower_digits (slice_index bytes i % 16) ∷ encode_lower (drop (i + 1) bytes)
+-- the digits of two lists of octets, one after the other
+encode_append : (t xs ys : List ℕ) → encode_with t (xs ++ ys) ≡ encode_with t xs ++ encode_with t ys
 unfolding encode_with
-digits_left bytes i h = rw (drop_more bytes i 0 h) refl
+encode_append t [] ys = refl
+encode_append t (x ∷ xs) ys = ap (λ (ds : List ℕ). slice_index t (x / 16) ∷ slice_index t (x % 16) ∷ ds) (encode_append t xs ys)
 
--- both digits of one octet more are added
-pub octet_added : (bytes text first second high low whole : List ℕ) (i : ℕ) → i < length bytes
-    → first ≡ text ++ high → high ≡ slice_index lower_digits (slice_index bytes i / 16) ∷ []
-    → second ≡ first ++ low → low ≡ slice_index lower_digits (slice_index bytes i % 16) ∷ []
-    → text ++ encode_lower (drop i bytes) ≡ whole
-    → second ++ encode_lower (drop (i + 1) bytes) ≡ whole
-octet_added bytes text first second high low whole i h e1 e2 e3 e4 inv =
-    rw (e3, e4, e1, e2, append_assoc, append_assoc) (rw (digits_left bytes i h) at inv)
+-- the first digits, two for each octet
+take_digits : (t xs ys : List ℕ) → take (2 * length xs) (encode_with t (xs ++ ys)) ≡ encode_with t xs
+take_digits t xs ys = rw (encode_append t xs ys) (take_at (encode_with t xs) (encode_with t ys) (2 * length xs) (length-encode_with t xs))
 
--- all octets were added
-pub octets_added : (bytes text whole : List ℕ) (i : ℕ) → length bytes ≤ i
-    → text ++ encode_lower (drop i bytes) ≡ whole → text ≡ whole
+-- the digits of sixteen octets more are added
+pub sixteen_added : (text digits new rest sixteen more whole : List ℕ) → digits ≡ encode_lower sixteen → new ≡ text ++ digits → sixteen ≡ take 16 rest → more ≡ drop 16 rest
+    → text ++ encode_lower rest ≡ whole → new ++ encode_lower more ≡ whole
+sixteen_added text digits new rest sixteen more whole d n s m inv = rw (n, d, s, m, append_assoc, ← encode_append lower_digits (take 16 rest) (drop 16 rest), take-append-drop 16 rest) inv
+
+-- no octets are left
+pub nothing_left : (text rest whole : List ℕ) → length rest ≡ 0 → text ++ encode_lower rest ≡ whole → text ≡ whole
 unfolding encode_with
-octets_added bytes text whole i h inv = rw (drop_all i bytes h, append-nil) at inv
+nothing_left text [] whole e inv = rw append-nil at inv
+nothing_left text (x ∷ rest) whole e inv = absurd (omega arith)
+
+module _ {T E : Type 0} (r : Result T E) where
+  -- the first digits of what zeros fill up
+  pub last_added : (text new digits octets put zeros : List ℕ) → put ≡ octets → digits ≡ encode_lower (put ++ zeros) → OnOk r (new ≡ text ++ take (2 * length octets) digits) → OnOk r (new ≡ text ++ encode_lower octets)
+  last_added text new digits octets put zeros p d h = on_ok_weaker r (λ e. rw e (rw (d, p, take_digits lower_digits octets zeros) refl)) h
+
+  -- what is left is added
+  pub last_of : (text new left whole : List ℕ) → OnOk r (new ≡ text ++ left) → text ++ left ≡ whole → OnOk r (new ≡ whole)
+  last_of text new left whole h inv = on_ok_weaker r (λ e. e ∙ inv) h

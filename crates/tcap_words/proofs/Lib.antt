@@ -4,6 +4,7 @@ pub mod CanonicalFaults
 pub mod CanonicalFrame
 pub mod CanonicalTwice
 pub mod GoodItems
+pub mod HexLanes
 pub mod HexSteps
 pub mod ItemLines
 pub mod MessageSteps

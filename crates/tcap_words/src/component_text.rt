@@ -7,7 +7,8 @@ ghost use Rattle.tcap_component.specs.Component.CodeParts.{global};
 ghost use Rattle.tcap_component.specs.Component.ComponentParts.{invoke, error_back, reject_back};
 ghost use Rattle.tcap_words.specs.ComponentText.{identifier_words, code_words, coded_words, body_words, kind_words, problem_words, component_words, fault_words};
 
-use crate::text::{add_decimal, add_hex, add_optional_octets, add_signed};
+use crate::hexadecimal::add_hex;
+use crate::text::{add_decimal, add_optional_octets, add_signed};
 use ber_core::OutOfMemory;
 use std::alloc::Allocator;
 use tcap_component::{Body, Code, Component, ComponentFault, Kind, Problem};

@@ -9,7 +9,8 @@ ghost use Rattle.hex.specs.Hex.{encode_lower};
 ghost use Rattle.tcap_words.specs.Text.{answer_words, inner_line, octets_words};
 ghost use Rattle.tcap_words.specs.DialogueText.{request_words, diagnostic_words, source_words, pdu_words, portion_words};
 
-use crate::text::{add_decimal, add_hex, add_octets_or_dash, yes_or_no};
+use crate::hexadecimal::add_hex;
+use crate::text::{add_decimal, add_octets_or_dash, yes_or_no};
 use ber_core::OutOfMemory;
 use std::alloc::Allocator;
 use tcap_pdu::{Diagnostic, DialoguePdu, read_dialogue};

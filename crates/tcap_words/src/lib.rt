@@ -6,6 +6,7 @@
 
 mod component_text;
 mod dialogue_text;
+mod hexadecimal;
 mod judge;
 pub mod laws;
 mod portions;
@@ -21,6 +22,7 @@ pub use component_text::{
     problem_text,
 };
 pub use dialogue_text::{add_pdu, pdu_text};
+pub use hexadecimal::add_hex;
 pub use judge::{
     add_verdict, has_good_reason, judge_message, read_message, verdict_line, verdict_on,
     verdict_text,
@@ -30,8 +32,8 @@ pub use rewrite::{CanonFault, assemble, rewrite_components, rewrite_portion, spe
 pub use shown::Shown;
 pub use spelling::{decode_hex, hex_octets};
 pub use text::{
-    add_decimal, add_hex, add_line, add_number, add_octets_or_dash, add_optional_octets,
-    add_signed, octets_or_dash, optional_octets_or_dash,
+    add_decimal, add_line, add_number, add_octets_or_dash, add_optional_octets, add_signed,
+    octets_or_dash, optional_octets_or_dash,
 };
 pub use verdict::Verdict;
 pub use writing::{WriteFailed, write_text};

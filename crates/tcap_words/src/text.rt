@@ -1,10 +1,11 @@
 //! Lines of a text.
 
-ghost use Rattle.std.specs.Prelude.{◌≡◌, ◌++◌, ◌∷◌, [], ◌<◌, slice_index, OnOk, IfOk, string_bytes, option_copied};
+ghost use Rattle.std.specs.Prelude.{◌≡◌, ◌++◌, OnOk, IfOk, string_bytes, option_copied};
 ghost use Rattle.std.specs.Fmt.{decimal, signed_decimal};
-ghost use Rattle.hex.specs.Hex.{encode_lower, lower_digits};
+ghost use Rattle.hex.specs.Hex.{encode_lower};
 ghost use Rattle.tcap_words.specs.Text.{line, octets_line, number_line, octets_words, optional_octets_words, answer_words};
 
+use crate::hexadecimal::add_hex;
 use ber_core::OutOfMemory;
 use itoa::Buffer;
 use std::alloc::Allocator;
@@ -33,58 +34,6 @@ pub fn add_signed<A: Allocator + Copy>(text: &mut String<A>, number: i64) -> Res
     ensures { OnOk result (string_bytes text.new ≡ string_bytes text.old ++ signed_decimal number) }
 {
     Ok(text.push_str(Buffer::new().format(number))?)
-}
-
-/// A hexadecimal digit, in lower case, by its value.
-fn digit(value: u8) -> &'static str
-    requires { value < 16 }
-    ensures { result.now ≡ slice_index lower_digits value ∷ [] }
-{
-    match value {
-        0 => "0",
-        1 => "1",
-        2 => "2",
-        3 => "3",
-        4 => "4",
-        5 => "5",
-        6 => "6",
-        7 => "7",
-        8 => "8",
-        9 => "9",
-        10 => "a",
-        11 => "b",
-        12 => "c",
-        13 => "d",
-        14 => "e",
-        _ => "f",
-    }
-}
-
-/// Adds octets in hexadecimal, digit by digit.
-fn add_digits<A: Allocator + Copy>(text: &mut String<A>, octets: &[u8]) -> Result<(), OutOfMemory>
-    ensures { OnOk result (string_bytes text.new ≡ string_bytes text.old ++ encode_lower octets.now) }
-{
-    for octet in octets {
-        text.push_str(digit(*octet / 16))?;
-        text.push_str(digit(*octet % 16))?;
-    }
-    Ok(())
-}
-
-/// Up to so many octets a block of memory costs more than it saves.
-const FEW: usize = 12;
-
-/// Adds octets in hexadecimal, lower case, two digits an octet. A few go digit by digit where they are to
-/// stand, at 28 instructions an octet; more of them are made in a block of their own, at 10 an octet and
-/// some 200 for the block.
-pub fn add_hex<A: Allocator + Copy>(text: &mut String<A>, octets: &[u8]) -> Result<(), OutOfMemory>
-    ensures { OnOk result (string_bytes text.new ≡ string_bytes text.old ++ encode_lower octets.now) }
-{
-    if octets.len() <= FEW {
-        return add_digits(text, octets);
-    }
-    let hex = hex::encode(*text.allocator(), octets)?;
-    Ok(text.push_str(hex.as_str())?)
 }
 
 /// Adds a line of a name and octets in hexadecimal.
