@@ -13,7 +13,7 @@ use ber_core::OutOfMemory;
 use std::alloc::Allocator;
 use tcap_pdu::Frame;
 use tcap_words::{
-    CanonFault, Shown, Verdict, assemble, judge_message, read_message, rewrite_components,
+    CanonFault, Shown, Verdict, add_hex, assemble, judge_message, read_message, rewrite_components,
     rewrite_portion, spell_frame, verdict_text,
 };
 
@@ -43,8 +43,10 @@ fn octets_text<A: Allocator + Copy>(alloc: A, octets: &[u8]) -> Result<Shown<A>,
     ensures good { IfOk result (λ shown. shown.good ≡ true) }
     ensures hex { IfOk result (λ shown. IsHexLine shown.text.items octets.now) }
 {
-    let mut text = hex::encode(alloc, octets)?;
-    text.push('\n')?;
+    // Room for the digits and the end of the line, which then needs no other block.
+    let mut text = String::with_capacity(alloc, 2 * octets.len() + 1)?;
+    add_hex(&mut text, octets)?;
+    text.push_str("\n")?;
     Ok(Shown::of(text, Verdict::Good))
 }
 
