@@ -1,10 +1,12 @@
 //! The lines of an answer.
 
-ghost use Rattle.std.specs.Prelude.{◌≡◌, ◌≤◌, false, ◌++◌, [], ◌∷◌, OnOk, OnErr, string_bytes};
+ghost use Rattle.std.specs.Prelude.{◌≡◌, ◌≤◌, false, ◌++◌, [], ◌∷◌, codes, OnOk, OnErr, string_bytes};
+ghost use Rattle.std.specs.Fmt.{decimal};
 ghost use Rattle.tcap_primitives.specs.OutputViews.{shown, all_shown};
 ghost use Rattle.tcap_engine.specs.EventViews.{answer_view};
 ghost use Rattle.tcap_model.specs.Words.Answer as model;
 ghost use Rattle.tcap_play.specs.AnswerText.{prints_nothing, sends_in, output_lines, answer_lines};
+ghost use Rattle.tcap_play.specs.OutputText.{engine_words};
 ghost use Rattle.tcap_play.specs.SideView.{side_view};
 
 use crate::output_text::add_output;
@@ -12,6 +14,7 @@ use crate::side::Side;
 use ber_core::OutOfMemory;
 use std::alloc::Allocator;
 use tcap_engine::{Answer, Output};
+use tcap_text::add_decimal;
 
 /// How many messages an output sends, one or none.
 fn sends<A: Allocator + Copy>(output: &Output<'_, A>) -> u128
@@ -49,6 +52,23 @@ fn add_outputs<A: Allocator + Copy>(
     Ok(())
 }
 
+/// Adds the line of an answer that has a number, by its name, which has a space on each side.
+fn add_numbered<A: Allocator + Copy>(
+    text: &mut String<A>,
+    side: Side,
+    name: &str,
+    number: u64,
+) -> Result<(), OutOfMemory>
+    ensures { OnOk result (string_bytes text.new ≡ string_bytes text.old
+        ++ (engine_words (side_view side) ++ (name.now ++ (decimal number ++ codes "\n")))) }
+{
+    text.push_str(side.letter())?;
+    text.push_str(name)?;
+    add_decimal(text, number)?;
+    text.push_str("\n")?;
+    Ok(())
+}
+
 /// Adds the lines of an answer of a side that has sent so many messages before it: its outputs one by
 /// one, every other answer in one line.
 pub(crate) fn add_answer<A: Allocator + Copy>(
@@ -62,17 +82,17 @@ pub(crate) fn add_answer<A: Allocator + Copy>(
     // Memory is refused only where something is printed.
     ensures err { OnErr result (prints_nothing (answer_view answer.now) ≡ false) }
 {
-    let letter = side.letter();
     match answer {
-        Answer::NewDialogue(dialogue) => write!(text, "{letter} new {dialogue}\n")?,
-        Answer::Number(number) => write!(text, "{letter} number {number}\n")?,
-        Answer::Done => write!(text, "{letter} done\n")?,
-        Answer::GivenUp(number) => write!(text, "{letter} givenup {number}\n")?,
-        Answer::Outputs(outputs) => add_outputs(text, side, sent, outputs)?,
+        Answer::NewDialogue(dialogue) => add_numbered(text, side, " new ", u64::from(*dialogue)),
+        Answer::Number(number) => add_numbered(text, side, " number ", *number),
+        Answer::Done => {
+            text.push_str(side.letter())?;
+            Ok(text.push_str(" done\n")?)
+        }
+        Answer::GivenUp(number) => add_numbered(text, side, " givenup ", *number),
+        Answer::Outputs(outputs) => add_outputs(text, side, sent, outputs),
         Answer::Refused(fault) => {
-            let number = fault.number();
-            write!(text, "{letter} refused {number}\n")?
+            add_numbered(text, side, " refused ", u64::from(fault.number()))
         }
     }
-    Ok(())
 }

@@ -2,7 +2,7 @@
 //! handed on.
 //!
 //! Stands on `tcap_engine` and all below it, on `tcap_words` and `tcap_text` for the words of its texts, and
-//! on `hex`. Begin at `play_text`.
+//! on `hex` and `itoa`. Begin at `play_text`.
 #![tactic(auto)]
 
 mod addresses;

@@ -14,6 +14,7 @@ use ber_core::OutOfMemory;
 use closings::add_closing;
 use components::add_component;
 use dialogues::add_dialogue;
+use itoa::Buffer;
 use std::alloc::Allocator;
 use tcap_engine::{Address, DropWhy, Output};
 use tcap_text::{add_hex, add_octets_or_dash};
@@ -44,8 +45,10 @@ fn add_send<A: Allocator + Copy>(
     ensures { OnOk result (string_bytes text.new ≡ string_bytes text.old
         ++ send_words (side_view side) number to.now bytes.now) }
 {
-    let letter = side.letter();
-    write!(text, "send {letter}{number} ")?;
+    text.push_str("send ")?;
+    text.push_str(side.letter())?;
+    text.push_str(Buffer::new().format(number))?;
+    text.push_str(" ")?;
     add_hex(text, bytes)?;
     add_strange(text, side, to)
 }

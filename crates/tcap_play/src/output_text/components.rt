@@ -1,6 +1,7 @@
 //! The words of an indication of component handling that closes no invocation.
 
 ghost use Rattle.std.specs.Prelude.{◌≡◌, ◌++◌, codes, OnOk, string_bytes};
+ghost use Rattle.std.specs.Fmt.{decimal, signed_decimal};
 ghost use Rattle.tcap_component.specs.Views.{problem_parts};
 ghost use Rattle.tcap_primitives.specs.OutputViews.{rejector, shown};
 ghost use Rattle.tcap_model.specs.Words.Output.{ComponentIndication};
@@ -13,7 +14,7 @@ use ber_core::OutOfMemory;
 use std::alloc::Allocator;
 use tcap_component::{Body, Code, Problem};
 use tcap_engine::{By, Output};
-use tcap_text::{add_body, add_coded, add_identifier, add_problem};
+use tcap_text::{add_body, add_coded, add_decimal, add_identifier, add_problem, add_signed};
 
 /// Adds a dialogue, `-` where there is none.
 fn add_place<A: Allocator + Copy>(
@@ -23,7 +24,7 @@ fn add_place<A: Allocator + Copy>(
     ensures { OnOk result (string_bytes text.new ≡ string_bytes text.old ++ place_words dialogue) }
 {
     match dialogue {
-        Some(dialogue) => Ok(write!(text, "{dialogue}")?),
+        Some(dialogue) => add_decimal(text, u64::from(dialogue)),
         None => Ok(text.push_str("-")?),
     }
 }
@@ -39,6 +40,20 @@ fn rejector_text(by: By) -> &'static str
     }
 }
 
+/// Adds the name of an indication and its dialogue.
+fn add_named<A: Allocator + Copy>(
+    text: &mut String<A>,
+    name: &str,
+    dialogue: u32,
+) -> Result<(), OutOfMemory>
+    ensures { OnOk result (string_bytes text.new ≡ string_bytes text.old
+        ++ (name.now ++ (codes " " ++ decimal dialogue))) }
+{
+    text.push_str(name)?;
+    text.push_str(" ")?;
+    add_decimal(text, u64::from(dialogue))
+}
+
 /// Adds an indication for an invocation, by its name.
 pub(super) fn add_invocation<A: Allocator + Copy>(
     text: &mut String<A>,
@@ -50,8 +65,26 @@ pub(super) fn add_invocation<A: Allocator + Copy>(
     ensures { OnOk result (string_bytes text.new ≡ string_bytes text.old
         ++ invocation_words name.now dialogue number id) }
 {
-    write!(text, "{name} {dialogue} id {id} number {number}")?;
-    Ok(())
+    add_named(text, name, dialogue)?;
+    text.push_str(" id ")?;
+    add_signed(text, i64::from(id))?;
+    text.push_str(" number ")?;
+    add_decimal(text, number)
+}
+
+/// Adds an invoke identifier and the one that it is linked to.
+fn add_linked<A: Allocator + Copy>(
+    text: &mut String<A>,
+    id: i8,
+    linked: Option<i8>,
+) -> Result<(), OutOfMemory>
+    ensures { OnOk result (string_bytes text.new ≡ string_bytes text.old
+        ++ (codes " id " ++ (signed_decimal id ++ (codes " linked " ++ identifier_words linked)))) }
+{
+    text.push_str(" id ")?;
+    add_signed(text, i64::from(id))?;
+    text.push_str(" linked ")?;
+    add_identifier(text, linked)
 }
 
 /// Adds an Invoke.
@@ -68,8 +101,7 @@ fn add_invoked<A: Allocator + Copy>(
 {
     text.push_str("invoked ")?;
     add_place(text, dialogue)?;
-    write!(text, " id {id} linked ")?;
-    add_identifier(text, linked)?;
+    add_linked(text, id, linked)?;
     text.push_str(" op ")?;
     add_coded(text, code, parameter)
 }

@@ -11,7 +11,7 @@ use ber_core::OutOfMemory;
 use std::alloc::Allocator;
 use tcap_engine::{Output, Why};
 use tcap_pdu::DialoguePdu;
-use tcap_text::{add_octets_or_dash, add_optional_octets, add_pdu};
+use tcap_text::{add_decimal, add_octets_or_dash, add_optional_octets, add_pdu};
 
 /// Adds an application context name and user information.
 fn add_context<A: Allocator + Copy>(
@@ -52,7 +52,10 @@ fn add_message<A: Allocator + Copy>(
     ensures { OnOk result (string_bytes text.new ≡ string_bytes text.old
         ++ message_words name.now dialogue (option_copied context.entry) info.now) }
 {
-    write!(text, "{name} {dialogue} ")?;
+    text.push_str(name)?;
+    text.push_str(" ")?;
+    add_decimal(text, u64::from(dialogue))?;
+    text.push_str(" ")?;
     add_context(text, context, info)
 }
 
@@ -65,7 +68,9 @@ fn add_user_abort<A: Allocator + Copy>(
     ensures { OnOk result (string_bytes text.new ≡ string_bytes text.old
         ++ dialogue_words (DialogueIndication.u_abort dialogue (option_map pdu_value pdu.now))) }
 {
-    write!(text, "uabort {dialogue} ")?;
+    text.push_str("uabort ")?;
+    add_decimal(text, u64::from(dialogue))?;
+    text.push_str(" ")?;
     match pdu {
         Some(pdu) => add_pdu(text, pdu),
         None => Ok(text.push_str("-")?),
@@ -81,11 +86,16 @@ fn add_provider_abort<A: Allocator + Copy>(
     ensures { OnOk result (string_bytes text.new ≡ string_bytes text.old
         ++ dialogue_words (DialogueIndication.p_abort dialogue (cause_view why))) }
 {
+    text.push_str("pabort ")?;
+    add_decimal(text, u64::from(dialogue))?;
     match why {
-        Why::Cause(number) => Ok(write!(text, "pabort {dialogue} cause {number}")?),
-        Why::Abnormal => Ok(write!(text, "pabort {dialogue} abnormal")?),
-        Why::NoCommon => Ok(write!(text, "pabort {dialogue} nocommon")?),
-        Why::Idle => Ok(write!(text, "pabort {dialogue} idle")?),
+        Why::Cause(number) => {
+            text.push_str(" cause ")?;
+            add_decimal(text, u64::from(number))
+        }
+        Why::Abnormal => Ok(text.push_str(" abnormal")?),
+        Why::NoCommon => Ok(text.push_str(" nocommon")?),
+        Why::Idle => Ok(text.push_str(" idle")?),
     }
 }
 
