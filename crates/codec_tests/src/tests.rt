@@ -11,3 +11,4 @@ mod invocations;
 mod messages;
 mod plain;
 mod portions;
+mod written;

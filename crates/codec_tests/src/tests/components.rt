@@ -1,11 +1,11 @@
 //! Components, read and written.
 
 use super::elements::long_element;
+use super::written::{is_written, refusal};
 use std::alloc::Global;
 use std::test::Fail;
 use tcap_component::{
-    Body, Code, Component, ComponentFault, Components, Kind, Problem, WriteFault, append_component,
-    component_fault, component_len, judge_component, read_component, write_component,
+    Body, Code, Component, ComponentFault, Components, Kind, Problem, WriteFault, read_component,
 };
 
 /// The general fault with this code, of octets that begin as a Reject or not.
@@ -23,45 +23,6 @@ fn fault_of(octets: &[u8]) -> Option<ComponentFault> {
     match read_component(octets) {
         Ok(_) => None,
         Err(fault) => Some(fault),
-    }
-}
-
-/// Whether these octets are appended for the component to what a vector holds.
-fn is_appended(alloc: Global, component: &Component<'_>, octets: &[u8]) -> bool {
-    let Ok(len) = judge_component(component) else {
-        return false;
-    };
-    let mut out = Vec::new(alloc);
-    if out.push(0xff).is_err() || out.reserve(len).is_err() {
-        return false;
-    }
-    append_component(&mut out, component);
-    out.as_slice().split_first() == Some((&0xff, octets))
-}
-
-/// Whether these octets, and their number, are what is written for the component.
-fn is_written(alloc: Global, component: &Component<'_>, octets: &[u8]) -> bool {
-    match write_component(alloc, component) {
-        Ok(written) => {
-            written.as_slice() == octets
-                && component_len(component) == Some(octets.len())
-                && judge_component(component) == Ok(octets.len())
-                && is_appended(alloc, component, octets)
-        }
-        Err(_) => false,
-    }
-}
-
-/// The fault of writing a component, which is known without writing it, and then it has no length.
-fn refusal(alloc: Global, component: &Component<'_>) -> Option<WriteFault> {
-    let fault = write_component(alloc, component).err();
-    if component_fault(component) == fault
-        && component_len(component).is_none()
-        && judge_component(component).err() == fault
-    {
-        fault
-    } else {
-        None
     }
 }
 
