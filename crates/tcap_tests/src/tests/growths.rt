@@ -96,7 +96,7 @@ fn texts_with_each_growth_refused(rt: HostRuntime) -> Result<(), Fail> {
     let checked = growths_of_text(&heap, Text::Checked, bytes.as_slice(), b"good\n");
     assert!(rt; is_at_least(checked, 1));
     let rewritten = growths_of_text(&heap, Text::Rewritten, bytes.as_slice(), REWRITTEN);
-    assert!(rt; is_at_least(rewritten, 5));
+    assert!(rt; is_at_least(rewritten, 4));
     Ok(())
 }
 
@@ -169,7 +169,7 @@ fn command_with_each_growth_refused(rt: HostRuntime) -> Result<(), Fail> {
         // refused, and the least number of growths.
         (&["show", BEGIN], b"", (0, SHOWN), &LINES[..1], 2),
         (&["check", BEGIN], b"", (0, b"good\n"), &LINES[..1], 2),
-        (&["canon", BEGIN], b"", (0, REWRITTEN), &LINES[..1], 6),
+        (&["canon", BEGIN], b"", (0, REWRITTEN), &LINES[..1], 5),
         (&["stream"], STREAM, (1, LINES[3]), &LINES[..3], 4),
         (&["stream"], ENDING, (1, b"good\nrest 3\n"), &LINES[..2], 2),
         (
