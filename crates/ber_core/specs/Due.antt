@@ -16,7 +16,7 @@ IsDue (due.Length constructed) nested = ⊤
 IsDue (due.LongLength left value) nested = (0 < left) × (value ≤ length_limit + 1)
 IsDue (due.Content left) nested = 0 < left
 
--- The same, and no more indefinite elements are open than may be (own).
+-- This can be due, and no more indefinite elements are open than may be (own).
 abbrev pub CanBeDue : Due → ℕ → Type 0
 CanBeDue due nested = IsDue due nested × (nested ≤ depth_limit)
 

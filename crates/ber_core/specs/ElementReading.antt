@@ -50,7 +50,7 @@ after_at (suc depth) = after_by (λ bytes. contents_by (after_at depth) (length 
 abbrev pub contents_at : ℕ → List ℕ → Result (List ℕ) BerFault
 contents_at depth bytes = contents_by (after_at depth) (length bytes) bytes
 
--- The same where `depth` may be open with this one (own).
+-- What follows the content of an indefinite element and its end, where `depth` may be open with this one (own).
 abbrev pub inner_at : ℕ → List ℕ → Result (List ℕ) BerFault
 inner_at zero bytes = Err TooDeep
 inner_at (suc depth) bytes = contents_at depth bytes

@@ -17,6 +17,6 @@ indefinite_octets =
 abbrev pub cuts_of_fronts : ℕ → List ℕ → List Cut
 cuts_of_fronts n stream = map (λ k. cut_of (take k stream)) (range_with_len 0 n)
 
--- The same where no front has a message or a fault (own).
+-- The cuts of the first octets of a stream, where none of them has a message or a fault (own).
 abbrev pub fronts_alone : ℕ → List ℕ → List Cut
 fronts_alone n stream = map (λ k. cut_into [] (take k stream) None) (range_with_len 0 n)

@@ -9,12 +9,13 @@ pub record Left : Type 0 where
   pub rest : List ℕ
   pub fault : Option FeedFault
 
--- The same of a stream with this rest and fault: once a fault stands, no octets are held (own).
+-- What a feed holds behind a stream with this rest and fault: once a fault stands, no octets are held
+-- (own).
 abbrev pub left_by : Option FeedFault → List ℕ → Left
 left_by None rest = record { rest = rest; fault = None }
 left_by (Some fault) rest = record { rest = []; fault = Some fault }
 
--- The same of a stream that was cut (own).
+-- What a feed holds behind a stream that was cut so (own).
 abbrev pub left_of : Cut → Left
 left_of cut = left_by cut.fault cut.rest
 

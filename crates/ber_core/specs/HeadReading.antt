@@ -12,7 +12,7 @@ further_at zero bytes = Err BadTag
 further_at (suc n) [] = Err Short
 further_at (suc n) (b ∷ bytes) = if nat_lt b 0x80 then Ok 1 else (further_at n bytes >>= (λ k. Ok (1 + k)))
 
--- The same for all of them: the first isn't 80 (X.690, Identifier octets).
+-- How many further octets a tag has: the first of them isn't 80 (X.690, Identifier octets).
 abbrev pub all_further_at : List ℕ → Result ℕ BerFault
 all_further_at bytes = if slice_index bytes 0 == 0x80 then Err BadTag else further_at 4 bytes
 

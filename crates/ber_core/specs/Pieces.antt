@@ -16,7 +16,8 @@ use Rattle.ber_core.specs.Stream.{cut_into, with_message, cut_of}
 abbrev pub IsBehind : Scanner → List ℕ → Type 0
 IsBehind s octets = (more : List ℕ) → goes_on s more ≡ after_at depth_limit (octets ++ more)
 
--- The same, and they are no more than a message may have (own).
+-- The scanner has taken these octets from the first of an element on, and they are no more than a message may
+-- have (own).
 abbrev pub IsUnderWay : Scanner → List ℕ → Type 0
 IsUnderWay s octets = IsBehind s octets × (length octets ≤ length_limit)
 

@@ -19,31 +19,31 @@ unfoldable pub outer_at : ℕ → List ℕ → Result (List ℕ) BerFault
 outer_at zero rest = Ok rest
 outer_at (suc nested) rest = contents_at (depth_limit - suc nested) rest >>= outer_at nested
 
--- The same where an element is due, or the end of the innermost's contents
+-- What follows the outermost element, where an element is due or the end of the innermost's contents
 -- (X.690, End-of-contents octets).
 abbrev pub at_tag : ℕ → List ℕ → Result (List ℕ) BerFault
 at_tag zero rest = after_at depth_limit rest
 at_tag (suc nested) rest = outer_at (suc nested) rest
 
--- The same where an element is due and no end (X.690, Contents octets).
+-- What follows the outermost element, where an element is due and no end (X.690, Contents octets).
 abbrev pub at_element : ℕ → List ℕ → Result (List ℕ) BerFault
 at_element nested rest = after_at (depth_limit - nested) rest >>= outer_at nested
 
--- The same behind the first octet 00 of an end (X.690, End-of-contents octets).
+-- What follows the outermost element, behind the first octet 00 of an end (X.690, End-of-contents octets).
 abbrev pub at_end : ℕ → List ℕ → Result (List ℕ) BerFault
 at_end nested [] = Err Short
 at_end nested (b ∷ rest) = if b == 0x00 then outer_at (nested - 1) rest else Err BadTag
 
--- The same behind a head with this length (X.690, Contents octets).
+-- What follows the outermost element, behind a head with this length (X.690, Contents octets).
 abbrev pub at_body : ℕ → Option ℕ × List ℕ → Result (List ℕ) BerFault
 at_body nested l = body_at (depth_limit - nested) l.0 l.1 >>= outer_at nested
 
--- The same where the length is due, behind a tag that is constructed or not
+-- What follows the outermost element, where the length is due, behind a tag that is constructed or not
 -- (X.690, Length octets).
 abbrev pub at_length : Bool → ℕ → List ℕ → Result (List ℕ) BerFault
 at_length constructed nested rest = length_at constructed rest >>= at_body nested
 
--- The same behind so many further octets of a tag (X.690, Identifier octets).
+-- What follows the outermost element, behind so many further octets of a tag (X.690, Identifier octets).
 abbrev pub behind_further : Bool → ℕ → List ℕ → Result ℕ BerFault → Result (List ℕ) BerFault
 behind_further constructed nested rest count = count >>= (λ k. at_length constructed nested (drop k rest))
 
@@ -74,7 +74,8 @@ at_due (due.Content left) nested rest = skip_at rest left >>= outer_at nested
 abbrev pub goes_on : Scanner → List ℕ → Result (List ℕ) BerFault
 goes_on s rest = at_due s.due s.nested rest
 
--- The same, or all that follows where the element is whole (own).
+-- What follows the outermost element where a scanner goes on, or all that follows where the element is
+-- whole (own).
 abbrev pub goes_on_or : Option Scanner → List ℕ → Result (List ℕ) BerFault
 goes_on_or None rest = Ok rest
 goes_on_or (Some s) rest = goes_on s rest

@@ -18,7 +18,8 @@ inside_items tag (Err f ∷ items) = (0, [])
 inside_items tag (Ok e ∷ items) =
     if is_tag tag e.tag then (head_length e.whole, e.content) else further (length e.whole) (inside_items tag items)
 
--- The same in a list of elements (X.690, Contents octets).
+-- The content of the first element with this tag in a list of elements, and where it begins (X.690,
+-- Contents octets).
 abbrev pub inside : ℕ → List ℕ → ℕ × List ℕ
 inside tag bytes = inside_items tag (items_of bytes)
 
@@ -43,7 +44,7 @@ GoesOn tag rest bytes = AtEnd rest bytes
 abbrev pub IsOnWay : List ℕ → Slice → Slice → Type 0
 IsOnWay tags part bytes = IsAt (way_to tags bytes.now) part bytes
 
--- The same, or the slice is empty: a part that is left out may lie anywhere (own).
+-- The slice lies where the tags lead, or is empty: a part that is left out may lie anywhere (own).
 abbrev pub IsOnWayIfAny : List ℕ → Slice → Slice → Type 0
 IsOnWayIfAny tags part bytes = (part.now ≡ []) ⊎ IsOnWay tags part bytes
 

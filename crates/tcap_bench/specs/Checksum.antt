@@ -73,12 +73,12 @@ pdu_numbers (aare version1 context accepted diagnostic info) = flag version1 ∷
 pdu_numbers (abrt by_provider info) = flag by_provider ∷ length info ∷ []
 pdu_numbers (foreign external) = length external ∷ []
 
--- The same of what was read; of a fault nothing (own).
+-- The numbers of a dialogue PDU that was read; of a fault none (own).
 abbrev pub dialogue_numbers : Result PduValue DialogueFault → List ℕ
 dialogue_numbers (Ok pdu) = pdu_numbers pdu
 dialogue_numbers (Err f) = []
 
--- The same of the contents of a dialogue portion that may be there (own).
+-- The numbers of the contents of a dialogue portion that may be there (own).
 abbrev pub portion_numbers : Option (List ℕ) → List ℕ
 portion_numbers None = []
 portion_numbers (Some content) = dialogue_numbers (dialogue_at content)
@@ -118,12 +118,12 @@ component_numbers (error_back id code parameter) = id_number id ∷ code_number 
 component_numbers (reject_back id problem) = problem.code ∷ id_numbers id
 component_numbers (result_more id body) = id_number id ∷ body_numbers body
 
--- The same of what was read; of a fault nothing (own).
+-- The numbers of a component that was read; of a fault none (own).
 abbrev pub item_numbers : Result ComponentParts FaultParts → List ℕ
 item_numbers (Ok c) = component_numbers c
 item_numbers (Err f) = []
 
--- The same of each component of a component portion (own).
+-- The numbers of each component of a component portion (own).
 abbrev pub components_numbers : List ℕ → List ℕ
 components_numbers content = flat_map item_numbers (components_of content)
 
@@ -151,7 +151,7 @@ message_numbers (end t d c) = identifier_number t ∷ portions_numbers d c
 message_numbers (go_on o t d c) = identifier_number o ∷ identifier_number t ∷ portions_numbers d c
 message_numbers (abort t r) = identifier_number t ∷ reason_numbers r
 
--- The same of what was read; of a fault nothing (own).
+-- The numbers of a message that was read; of a fault none (own).
 abbrev pub frame_numbers : Result Message FrameFault → List ℕ
 frame_numbers (Ok m) = message_numbers m
 frame_numbers (Err f) = []

@@ -43,7 +43,7 @@ rewritten_dialogue content = rewritten_pdu (dialogue_at content)
 abbrev pub rewritten_message : Message → List ℕ
 rewritten_message m = written_frame (with_portions (option_map rewritten_dialogue (dialogue_of m)) (rewritten_components (components_in m)) m)
 
--- The same of what was read; of a fault nothing (own).
+-- What is written again of a message that was read; of a fault nothing (own).
 abbrev pub rewritten_by : Result Message FrameFault → List ℕ
 rewritten_by (Ok m) = rewritten_message m
 rewritten_by (Err f) = []

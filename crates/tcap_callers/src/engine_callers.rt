@@ -1,7 +1,7 @@
 //! Two callers of an engine: one that names no history, and one that hands its history on.
 
 ghost use Rattle.std.specs.Prelude.{◌≡◌, ◌≤◌, IfOk};
-ghost use Rattle.tcap_engine.specs.Answering.{outputs_answer};
+ghost use Rattle.tcap_engine.specs.StepForm.{outputs_answer};
 ghost use Rattle.tcap_engine.specs.HistoryForm.{StandsOn};
 ghost use Rattle.tcap_model.specs.Histories.History.{History};
 ghost use Rattle.tcap_model.specs.Statements.EngineMoves.{with_pair};

@@ -207,7 +207,7 @@ abbrev pub judged : List ℕ → Parts × List ℕ → Result ComponentParts ℕ
 judged bytes r (Ok c) = Ok (with_rest c r.1)
 judged bytes r (Err code) = Err (fault code (front_identifier r.0) bytes)
 
--- The same, from the element that was read (own).
+-- The component that bytes begin with, or its fault, from the element that was read (own).
 abbrev pub component_from : List ℕ → Result (Parts × List ℕ) BerFault → Result (ComponentParts × List ℕ) FaultParts
 component_from bytes (Err f) = Err (fault 2 None bytes)
 component_from bytes (Ok r) = judged bytes r (verdict_by (form_at r.0.tag) r.0.content)

@@ -35,7 +35,8 @@ CodeOnWay tags (code.Global octets) bytes = IsOnWay (tags ++ 0x06 ∷ []) octets
 abbrev pub CodedOnWay : List ℕ → Code → Option Slice → Slice → Type 0
 CodedOnWay tags c parameter bytes = CodeOnWay tags c bytes × IfSome parameter (λ octets. EndsOnWay tags octets bytes)
 
--- The same of a result's body, if it is there (Q.773, Return Result component).
+-- The code and the parameter of a result's body lie where the tags lead, if it is there (Q.773, Return
+-- Result component).
 abbrev pub BodyOnWay : List ℕ → Option Body → Slice → Type 0
 BodyOnWay tags None bytes = Unit {0}
 BodyOnWay tags (Some body) bytes = CodedOnWay tags body.code body.parameter bytes
@@ -54,7 +55,7 @@ FieldsOnWay tags (component.RejectBack id problem) bytes = Unit {0}
 abbrev pub ComponentInPlace : Component → Slice → Type 0
 ComponentInPlace c bytes = FieldsOnWay (component_tag (component_parts c) ∷ []) c bytes
 
--- The same of an item (own).
+-- The slices of an item are parts of the bytes at whose front it stands; a fault has none (own).
 abbrev pub ItemInPlace : Result Component ComponentFault → Slice → Type 0
 ItemInPlace (Ok c) bytes = ComponentInPlace c bytes
 ItemInPlace (Err f) bytes = Unit {0}

@@ -20,7 +20,7 @@ use Rattle.tcap_model.specs.Words.Identifiers.{are_numbers_spent}
 use Rattle.tcap_model.specs.Words.Request.{Request, ComponentRequest}
 use Rattle.tcap_dialogue.specs.ComponentRefusals.{answer_fault, answered_by, answered}
 use Rattle.tcap_primitives.specs.QueueRefusals.{spelling_fault, queue_fault}
-use Rattle.tcap_dialogue.specs.FaultViews.{RefusedBy}
+use Rattle.tcap_dialogue.specs.RequestForm.{RefusedBy}
 use Rattle.tcap_dialogue.specs.StepViews.{outcome, asked, requested}
 use Rattle.tcap_dialogue.proofs.RefusalLemmas.{refused}
 

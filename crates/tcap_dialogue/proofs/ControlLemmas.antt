@@ -6,7 +6,7 @@ use Rattle.tcap_dialogue.specs.RequestMessages.{IsRefusal, IsUnspelled, Spells, 
 use Rattle.tcap_model.specs.Procedures.RequestMessage.{message_of}
 use Rattle.tcap_primitives.specs.declared.fault.Fault.{Fault as RequestFault}
 use Rattle.tcap_primitives.specs.FaultViews.{fault_view}
-use Rattle.tcap_dialogue.specs.FaultViews.{takes_memory}
+use Rattle.tcap_dialogue.specs.RequestForm.{takes_memory}
 use Rattle.tcap_model.specs.Procedures.AbortRules.{sent_if_any}
 use Rattle.tcap_model.specs.Words.Address.{Address}
 use Rattle.tcap_model.specs.Words.Answer.{Answer}

@@ -9,7 +9,7 @@ use Rattle.tcap_component.specs.Place.{ItemInPlace, bytes_left, components_steps
 use Rattle.tcap_component.specs.Views.{item_view}
 use Rattle.tcap_model.specs.Procedures.ComponentHandling.{Item}
 use Rattle.tcap_primitives.specs.declared.output.Output.{Output}
-use Rattle.tcap_primitives.specs.Slices.{Slices, IsLeftOf, StandsIn, AreOfItem, LieIn, AllInPlace, slices_of}
+use Rattle.tcap_primitives.specs.Slices.{Slices, IsLeftOf, ComponentLiesIn, AreOfItem, LieIn, AllInPlace, slices_of}
 
 -- All is left of a component portion of which nothing was read.
 pub left_self : (portion : Slice) → IsLeftOf portion portion
@@ -33,7 +33,7 @@ component-lies portion dialogue bytes (Ok c) Slices.none left place are = tt
 component-lies portion dialogue bytes (Ok c) (Slices.held tag context info) left place are = absurd are
 component-lies portion dialogue bytes (Ok c) (Slices.of_pdu pdu) left place are = absurd are
 component-lies portion dialogue bytes (Ok c) (Slices.of_component told) left place are =
-    subst (λ x. StandsIn x portion) (sym are) (record { bytes = bytes; is_left = left; in_place = place })
+    subst (λ x. ComponentLiesIn x portion) (sym are) (record { bytes = bytes; is_left = left; in_place = place })
 component-lies portion dialogue bytes (Err f) slices left place are = subst (LieIn dialogue portion) (sym are) tt
 
 module _ {A : Type 0} where

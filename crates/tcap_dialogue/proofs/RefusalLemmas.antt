@@ -7,7 +7,7 @@ use Rattle.tcap_model.specs.Words.Fault.Fault.{out_of_memory, unknown_dialogue, 
 use Rattle.tcap_model.specs.Procedures.Refusals.{first_that, holds, faults_of, due_on}
 use Rattle.tcap_model.specs.Words.Request.{Request}
 use Rattle.tcap_model.specs.Table.TableMove.{Setting, requested_by, situation}
-use Rattle.tcap_dialogue.specs.FaultViews.{RefusedBy}
+use Rattle.tcap_dialogue.specs.RequestForm.{RefusedBy}
 use Rattle.tcap_dialogue.specs.StepViews.{outcome}
 
 -- `OutOfMemory` is never due.

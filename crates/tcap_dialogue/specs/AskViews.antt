@@ -7,7 +7,7 @@ use Rattle.tcap_model.specs.Words.Request.{Request, ComponentRequest}
 use Rattle.tcap_dialogue.specs.declared.dialogue.ask.Asked.{Asked}
 use Rattle.tcap_dialogue.specs.declared.dialogue.ask.Asked.TheVariants as asked
 use Rattle.tcap_primitives.specs.declared.fault.Fault.{Fault}
-use Rattle.tcap_dialogue.specs.FaultViews.{RefusedBy}
+use Rattle.tcap_dialogue.specs.RequestForm.{RefusedBy}
 use Rattle.tcap_primitives.specs.FaultViews.{fault_view}
 use Rattle.tcap_dialogue.specs.StepViews.{Outcome, stepped}
 

@@ -26,7 +26,8 @@ begun_by d from origin context info w = record {
   is_over = false;
 }
 
--- The same, from the contents of its component portion (Q.774, Dialogue begin).
+-- The dialogue of a Begin and what it indicates, from the contents of its component portion (Q.774,
+-- Dialogue begin).
 abbrev pub begun_from : ℕ → model.Dialogue → Address → List ℕ → Option (List ℕ) → List ℕ → List ℕ → Moved
 begun_from clock d from origin context info components =
     begun_by d from origin context info (walked_in clock d components)

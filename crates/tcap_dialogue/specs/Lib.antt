@@ -2,8 +2,8 @@ pub mod Aborting
 pub mod AskViews
 pub mod Beginning
 pub mod ComponentRefusals
-pub mod FaultViews
 pub mod HandledViews
+pub mod RequestForm
 pub mod RequestMessages
 pub mod StepViews
 pub mod Timers

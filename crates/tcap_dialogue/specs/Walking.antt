@@ -16,7 +16,8 @@ pub record WalkTold : Type 0 where
 abbrev pub told_by : List Output → Walked → WalkTold
 told_by told w = record { told = told ++ w.told; list = w.invocations }
 
--- The same, from what was told and the components that follow (Q.774, Component handling).
+-- What is indicated in the end, and the invocations, from what was indicated and the components that follow
+-- (Q.774, Component handling).
 abbrev pub told_from : ℕ → ℕ → WalkTold → List Item → WalkTold
 told_from dialogue clock t items = told_by t.told (walked dialogue clock t.list items)
 
@@ -30,7 +31,8 @@ pub record Done : Type 0 where
 abbrev pub done_by : List Output → List Queued → Walked → Done
 done_by told queue w = record { told = told ++ w.told; list = w.invocations; queue = queue_each queue_limit queue w.rejects }
 
--- The same, from what is done and the components that follow (Q.774, Component handling).
+-- What is indicated in the end, the invocations and the queue, from those before and the components that
+-- follow (Q.774, Component handling).
 abbrev pub done_from : ℕ → ℕ → Done → List Item → Done
 done_from dialogue clock done items = done_by done.told done.queue (walked dialogue clock done.list items)
 

@@ -8,8 +8,9 @@ ghost use Rattle.tcap_dialogue.specs.Verdicts.{unexpected as unexpected_told};
 ghost use Rattle.tcap_model.specs.Procedures.ComponentHandling.{rejecting as rejecting_told};
 ghost use Rattle.tcap_model.specs.Procedures.Problems.{remote_rejector};
 
-pub mod judged;
-pub mod taken;
+pub mod answers;
+pub mod in_dialogue;
+pub mod message;
 pub mod unidirectional;
 
 use std::alloc::Allocator;

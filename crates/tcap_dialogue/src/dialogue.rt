@@ -11,9 +11,14 @@ pub(crate) mod dialogue_requests;
 pub(crate) mod ending;
 pub(crate) mod getters;
 pub(crate) mod messages;
-pub(crate) mod outgoing;
+pub(crate) mod request_message;
 pub(crate) mod spare;
 pub(crate) mod timers;
+pub(crate) mod unidirectional;
+
+ghost use Rattle.std.specs.Prelude.{◌≡◌, ◌≤◌};
+ghost use Rattle.tcap_invocation.specs.Stage.{moment_limit};
+ghost use Rattle.tcap_model.specs.Table.Dialogue.{fresh_dialogue};
 
 use std::alloc::{Allocator, Global};
 use std::marker::Model;
@@ -41,7 +46,7 @@ pub struct Step<'m, A: Allocator = Global> {
 /// - Getters: `identifier`, `state`, `peer`, `kept`, `check_invoke`, `next_timer`, `idle_at`.
 ///
 /// Moments are in milliseconds by the caller's clock, at most 2^62. A contract sees the identifier,
-/// state, context, queue, invocations, idle limit, when it was touched and the kept address, and forgets
+/// state, context, queue, invocations, idle limit, last activity and the peer's address, and forgets
 /// how much room there is.
 #[derive(Debug, Drop)]
 pub struct Dialogue<A: Allocator + Copy = Global> {
@@ -52,7 +57,7 @@ pub struct Dialogue<A: Allocator + Copy = Global> {
     invocations: Invocations<A>,
     /// Its idle limit in milliseconds, 0 for none, at most 2^62.
     idle_ms: u64,
-    /// The clock when it was touched last, 0 if it never was.
+    /// The clock at its last activity, 0 if there was none.
     touched: u64,
     /// The address to which its messages go, empty before there is one.
     kept: Address,
@@ -77,4 +82,30 @@ impl<A: Allocator + Copy> Model for Dialogue<A> {
     } };
 
     ghost invariant = { λ d. (d.idle_ms ≤ moment_limit) × (d.touched ≤ moment_limit) };
+}
+
+impl<A: Allocator + Copy> Dialogue<A> {
+    /// A new dialogue with this identifier, in which nothing has happened. `reject_ms` is how long an
+    /// invoke identifier waits for a Reject of its result or error, and `idle_ms` how long the dialogue
+    /// may stay idle, 0 for no limit: 0 to 2^62 milliseconds (Q.774, Transaction state machine; the
+    /// idle limit is our own).
+    pub fn fresh(alloc: A, identifier: u32, reject_ms: u64, idle_ms: u64) -> Dialogue<A>
+        requires reject { reject_ms ≤ moment_limit }
+        requires idle { idle_ms ≤ moment_limit }
+        ensures { result ≡ fresh_dialogue identifier reject_ms idle_ms }
+    {
+        Dialogue {
+            identifier,
+            phase: Phase::Fresh,
+            context: None,
+            queue: Queue {
+                octets: Vec::new(alloc),
+                parts: Vec::new(alloc),
+            },
+            invocations: Invocations::new(alloc, reject_ms),
+            idle_ms,
+            touched: 0,
+            kept: Address::empty(),
+        }
+    }
 }

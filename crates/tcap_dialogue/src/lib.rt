@@ -7,12 +7,11 @@
 #![tactic(auto)]
 
 mod component_handling;
-mod components;
 mod dialogue;
 
 pub use dialogue::ask::Asked;
-pub use dialogue::beginning::take_uni;
 pub use dialogue::spare::Spare;
+pub use dialogue::unidirectional::take_uni;
 pub use dialogue::{Dialogue, Step};
 pub use tcap_address::Address;
 pub use tcap_primitives::{

@@ -1,7 +1,7 @@
 -- What a dialogue sees of the answers of one call, and of a run.
 use Rattle.std.proofs.Common.{◌≡◌, refl, sym, ap, subst, ◌∙◌, ℕ, List, [], ◌∷◌, length, drop}
 use Rattle.std.proofs.Math.Seq.{drop-append_seam}
-use Rattle.tcap_engine.specs.Alone.{IsAnsweredAlone, AreAnsweredAlone, EachAnswerIsAlone, EachRunIsAlone}
+use Rattle.tcap_engine.specs.IsolationForm.{IsAnsweredAlone, AreAnsweredAlone, EachAnswerIsAlone, EachRunIsAlone}
 use Rattle.tcap_engine.specs.Running.{StandsThrough, after_events, replies, new_answers}
 use Rattle.tcap_laws.proofs.CallerLemmas.{each-alone}
 use Rattle.tcap_model.specs.Histories.History.{History}

@@ -5,10 +5,10 @@ use Rattle.std.specs.Map.{lookup, set_value, remove_entry}
 use Rattle.tcap_dialogue.specs.declared.dialogue.ask.Asked.{Asked}
 use Rattle.tcap_dialogue.specs.declared.dialogue.ask.Asked.TheVariants as asked
 use Rattle.tcap_dialogue.specs.AskViews.{asked_view}
-use Rattle.tcap_dialogue.specs.FaultViews.{RefusedBy}
+use Rattle.tcap_dialogue.specs.RequestForm.{RefusedBy}
 use Rattle.tcap_dialogue.specs.StepViews.{Outcome}
-use Rattle.tcap_engine.specs.Asking.{asked_answer, ends_dialogue, PlacesMove, PlacesRefuse}
-use Rattle.tcap_engine.specs.Table.{TableEntry, places_with}
+use Rattle.tcap_engine.specs.RequestInTable.{asked_answer, ends_dialogue, EntriesMove, EntriesRefuse}
+use Rattle.tcap_engine.specs.DialogueEntries.{TableEntry, entries_with}
 use Rattle.tcap_engine.proofs.TableLemmas.{removed-set}
 use Rattle.tcap_model.specs.Table.Dialogue.{Dialogue}
 use Rattle.tcap_model.specs.Words.Answer.{Answer}
@@ -16,10 +16,10 @@ use Rattle.tcap_model.specs.Words.Fault as model
 
 -- A refusal, where the dialogue was written back.
 module _ (o : Outcome) (old new : Dialogue) (d : ℕ) (ps : List TableEntry) (found : lookup (nat_eq d) ps ≡ Some old) where
-  moved : (answer : Answer) → o ≡ (answer, Some new) → PlacesMove o d answer ps (set_value (nat_eq d) ps new)
-  moved answer e = (sym (ap (λ (x : Outcome). x.0) e), ap (λ (x : Outcome). places_with d x.1 ps) (sym e))
+  moved : (answer : Answer) → o ≡ (answer, Some new) → EntriesMove o d answer ps (set_value (nat_eq d) ps new)
+  moved answer e = (sym (ap (λ (x : Outcome). x.0) e), ap (λ (x : Outcome). entries_with d x.1 ps) (sym e))
 
-  pub refused-placed : (f : model.Fault) → RefusedBy f o old new → PlacesRefuse f o d ps (set_value (nat_eq d) ps new)
+  pub refused-placed : (f : model.Fault) → RefusedBy f o old new → EntriesRefuse f o d ps (set_value (nat_eq d) ps new)
   refused-placed model.Fault.out_of_memory r = (ap (set_value (nat_eq d) ps) r.0 ∙ set_value_same (nat_eq d) ps old found, r.1)
   refused-placed model.Fault.unknown_dialogue r = moved _ r
   refused-placed model.Fault.wrong_state r = moved _ r
@@ -50,27 +50,27 @@ module _ {A : Type 0} (new : Dialogue) (d : ℕ) (ps : List TableEntry) where
   standing (asked.GivenUp number) = refl
   standing (asked.Step step) = refl
 
-  pub kept-placed : (a : Asked A) (o : Outcome) → asked_view a new ≡ o → ends_dialogue a ≡ false → PlacesMove o d (asked_answer a) ps (set_value (nat_eq d) ps new)
+  pub kept-placed : (a : Asked A) (o : Outcome) → asked_view a new ≡ o → ends_dialogue a ≡ false → EntriesMove o d (asked_answer a) ps (set_value (nat_eq d) ps new)
   kept-placed a o e is =
       let left : o.1 ≡ Some new = sym (ap (λ (x : Outcome). x.1) e) ∙ standing a ∙ rw is refl in
-      (sym (answered a) ∙ ap (λ (x : Outcome). x.0) e, ap (λ (x : Option Dialogue). places_with d x ps) (sym left))
+      (sym (answered a) ∙ ap (λ (x : Outcome). x.0) e, ap (λ (x : Option Dialogue). entries_with d x ps) (sym left))
 
-  pub gone-placed : (a : Asked A) (o : Outcome) → asked_view a new ≡ o → ends_dialogue a ≡ true → PlacesMove o d (asked_answer a) ps (remove_entry (nat_eq d) (set_value (nat_eq d) ps new))
+  pub gone-placed : (a : Asked A) (o : Outcome) → asked_view a new ≡ o → ends_dialogue a ≡ true → EntriesMove o d (asked_answer a) ps (remove_entry (nat_eq d) (set_value (nat_eq d) ps new))
   gone-placed a o e is =
       let left : o.1 ≡ None = sym (ap (λ (x : Outcome). x.1) e) ∙ standing a ∙ rw is refl in
-      (sym (answered a) ∙ ap (λ (x : Outcome). x.0) e, removed-set d new ps ∙ ap (λ (x : Option Dialogue). places_with d x ps) (sym left))
+      (sym (answered a) ∙ ap (λ (x : Outcome). x.0) e, removed-set d new ps ∙ ap (λ (x : Option Dialogue). entries_with d x ps) (sym left))
 
   -- The dialogue was settled: it stands where it isn't over.
   pub settled-placed : (is_over : Bool) (a : Asked A) (o : Outcome) (qs : List TableEntry) → asked_view a new ≡ o → is_over ≡ ends_dialogue a
-      → qs ≡ (if is_over then remove_entry (nat_eq d) (set_value (nat_eq d) ps new) else set_value (nat_eq d) ps new) → PlacesMove o d (asked_answer a) ps qs
+      → qs ≡ (if is_over then remove_entry (nat_eq d) (set_value (nat_eq d) ps new) else set_value (nat_eq d) ps new) → EntriesMove o d (asked_answer a) ps qs
   settled-placed true a o qs e is q = rw q (gone-placed a o e (sym is))
   settled-placed false a o qs e is q = rw q (kept-placed a o e (sym is))
 
   -- The same, where one that is over became anything before it was taken out.
   pub settled-spared : (is_over : Bool) (after : Dialogue) → (is_over ≡ false → after ≡ new) → (a : Asked A) (o : Outcome) (qs : List TableEntry) → asked_view a new ≡ o → is_over ≡ ends_dialogue a
-      → qs ≡ (if is_over then remove_entry (nat_eq d) (set_value (nat_eq d) ps after) else set_value (nat_eq d) ps after) → PlacesMove o d (asked_answer a) ps qs
+      → qs ≡ (if is_over then remove_entry (nat_eq d) (set_value (nat_eq d) ps after) else set_value (nat_eq d) ps after) → EntriesMove o d (asked_answer a) ps qs
   settled-spared true after same a o qs e is q =
       let ends : ends_dialogue a ≡ true = sym is in
       let left : o.1 ≡ None = sym (ap (λ (x : Outcome). x.1) e) ∙ standing a ∙ rw ends refl in
-      rw q (sym (answered a) ∙ ap (λ (x : Outcome). x.0) e, removed-set d after ps ∙ ap (λ (x : Option Dialogue). places_with d x ps) (sym left))
+      rw q (sym (answered a) ∙ ap (λ (x : Outcome). x.0) e, removed-set d after ps ∙ ap (λ (x : Option Dialogue). entries_with d x ps) (sym left))
   settled-spared false after same a o qs e is q = rw (q, same refl) (kept-placed a o e (sym is))

@@ -5,12 +5,12 @@ use Rattle.std.specs.Map.{lookup}
 use Rattle.tcap_dialogue.specs.declared.dialogue.ask.Asked.{Asked}
 use Rattle.tcap_primitives.specs.declared.fault.Fault.{Fault}
 use Rattle.tcap_primitives.specs.declared.fault.Fault.TheVariants as fault
-use Rattle.tcap_dialogue.specs.FaultViews.{takes_memory}
+use Rattle.tcap_dialogue.specs.RequestForm.{takes_memory}
 use Rattle.tcap_primitives.specs.FaultViews.{fault_view}
 use Rattle.tcap_dialogue.specs.StepViews.{Outcome, asked, outcome}
-use Rattle.tcap_engine.specs.Answering.{Moves, EngineRefuses}
-use Rattle.tcap_engine.specs.Asking.{IsLeft, asked_answer, AsksIn, PlacesMove, PlacesRefuse}
-use Rattle.tcap_engine.specs.Table.{TableEntry, AreWithin, IsSound, dialogues_of, places_with}
+use Rattle.tcap_engine.specs.StepForm.{Moves, EngineRefuses}
+use Rattle.tcap_engine.specs.RequestInTable.{IsLeft, asked_answer, AnswersInTable, EntriesMove, EntriesRefuse}
+use Rattle.tcap_engine.specs.DialogueEntries.{TableEntry, AreWithin, IsSound, dialogues_of, entries_with}
 use Rattle.tcap_engine.specs.declared.limits.Limits.{Limits}
 use Rattle.tcap_engine.proofs.KeptLemmas.{IsKept, kept-requested}
 use Rattle.tcap_engine.proofs.PlaceLemmas.{AreKept, dialogues-with, sound-with, found-within}
@@ -66,7 +66,7 @@ module _ (limits : Limits) (next_dialogue number clock d : ℕ) (ps : List Table
   abbrev before : World
   before = engine_with number ps
 
-  moved-engine : (x : Dialogue) (answer : Answer) (qs : List TableEntry) → lookup (nat_eq d) ps ≡ Some x → PlacesMove (says x) d answer ps qs → Moves (engine_move before (Event.on_dialogue d r)) answer (engine_with (number_after answer number) qs)
+  moved-engine : (x : Dialogue) (answer : Answer) (qs : List TableEntry) → lookup (nat_eq d) ps ≡ Some x → EntriesMove (says x) d answer ps qs → Moves (engine_move before (Event.on_dialogue d r)) answer (engine_with (number_after answer number) qs)
   moved-engine x answer qs found p =
       let m : Moved = table_move (asked clock number) x (DialogueEvent.request r) in
       let there : dialogue_in d (dialogues_of ps) ≡ Some x = found-in d 0 ps sound.from ∙ found in
@@ -77,17 +77,17 @@ module _ (limits : Limits) (next_dialogue number clock d : ℕ) (ps : List Table
         ap (λ n. whole n (dialogues_of qs)) (ap (λ (a : Answer). number_after a number) p.0) ∙ ap (whole (number_after m.answer number)) table ∙ sym (ap (λ (v : EngineMoved). v.after) is),
       )
 
-  moved-sound : (x : Dialogue) (answer : Answer) (qs : List TableEntry) → lookup (nat_eq d) ps ≡ Some x → PlacesMove (says x) d answer ps qs → IsSound limits next_dialogue (number_after answer number) clock qs
+  moved-sound : (x : Dialogue) (answer : Answer) (qs : List TableEntry) → lookup (nat_eq d) ps ≡ Some x → EntriesMove (says x) d answer ps qs → IsSound limits next_dialogue (number_after answer number) clock qs
   moved-sound x answer qs found p =
       let m : Moved = table_move (asked clock number) x (DialogueEvent.request r) in
       let within = found-within d limits.reject_ms number x ps found sound.within in
       let own : x.standing.identifier ≡ d = found-own d 0 x ps sound.from found in
       let kept : IsKept d limits.reject_ms (number_after m.answer number) m.after = subst (λ i. IsKept i limits.reject_ms (number_after m.answer number) m.after) own (kept-moved limits.reject_ms clock number x r within.1 within.0) in
-      let all : IsSound limits next_dialogue (number_after m.answer number) clock (places_with d (left_standing m) ps) =
+      let all : IsSound limits next_dialogue (number_after m.answer number) clock (entries_with d (left_standing m) ps) =
       sound-with limits next_dialogue number (number_after m.answer number) clock d (left_standing m) ps (counted m.answer number) (kept-left d limits.reject_ms (number_after m.answer number) m kept) sound in
-      subst (λ (qs : List TableEntry). IsSound limits next_dialogue (number_after answer number) clock qs) (sym p.1) (subst (λ (a : Answer). IsSound limits next_dialogue (number_after a number) clock (places_with d (left_standing m) ps)) (sym p.0) all)
+      subst (λ (qs : List TableEntry). IsSound limits next_dialogue (number_after answer number) clock qs) (sym p.1) (subst (λ (a : Answer). IsSound limits next_dialogue (number_after a number) clock (entries_with d (left_standing m) ps)) (sym p.0) all)
 
-  refused-engine : (f : model.Fault) (x : Dialogue) (qs : List TableEntry) → lookup (nat_eq d) ps ≡ Some x → PlacesRefuse f (says x) d ps qs → EngineRefuses f (engine_move before (Event.on_dialogue d r)) before (engine_with number qs)
+  refused-engine : (f : model.Fault) (x : Dialogue) (qs : List TableEntry) → lookup (nat_eq d) ps ≡ Some x → EntriesRefuse f (says x) d ps qs → EngineRefuses f (engine_move before (Event.on_dialogue d r)) before (engine_with number qs)
   refused-engine model.Fault.out_of_memory x qs found p =
       let there : dialogue_in d (dialogues_of ps) ≡ Some x = found-in d 0 ps sound.from ∙ found in
       let is = move-of before d r (Some x) there in
@@ -107,7 +107,7 @@ module _ (limits : Limits) (next_dialogue number clock d : ℕ) (ps : List Table
   refused-engine model.Fault.moment_too_late x qs found p = moved-engine x _ qs found p
   refused-engine model.Fault.no_context x qs found p = moved-engine x _ qs found p
 
-  refused-sound : (f : model.Fault) (x : Dialogue) (qs : List TableEntry) → lookup (nat_eq d) ps ≡ Some x → PlacesRefuse f (says x) d ps qs → IsSound limits next_dialogue number clock qs
+  refused-sound : (f : model.Fault) (x : Dialogue) (qs : List TableEntry) → lookup (nat_eq d) ps ≡ Some x → EntriesRefuse f (says x) d ps qs → IsSound limits next_dialogue number clock qs
   refused-sound model.Fault.out_of_memory x qs found p = subst (λ (l : List TableEntry). IsSound limits next_dialogue number clock l) (sym p.0) sound
   refused-sound model.Fault.unknown_dialogue x qs found p = moved-sound x (Answer.refused model.Fault.unknown_dialogue) qs found p
   refused-sound model.Fault.wrong_state x qs found p = moved-sound x (Answer.refused model.Fault.wrong_state) qs found p
@@ -126,17 +126,17 @@ module _ (limits : Limits) (next_dialogue number clock d : ℕ) (ps : List Table
 
   -- ---- an answer, and a refusal
 
-  pub asked-ok : {A : Type 0} (a : Asked A) (qs : List TableEntry) → AsksIn (Ok a) says d (lookup (nat_eq d) ps) ps qs → Moves (engine_move before (Event.on_dialogue d r)) (asked_answer a) (engine_with (number_after (asked_answer a) number) qs)
+  pub asked-ok : {A : Type 0} (a : Asked A) (qs : List TableEntry) → AnswersInTable (Ok a) says d (lookup (nat_eq d) ps) ps qs → Moves (engine_move before (Event.on_dialogue d r)) (asked_answer a) (engine_with (number_after (asked_answer a) number) qs)
   asked-ok {A} a qs h = go (lookup (nat_eq d) ps) refl h
     where
-      go : (o : Option Dialogue) → lookup (nat_eq d) ps ≡ o → AsksIn (Ok a) says d o ps qs → Moves (engine_move before (Event.on_dialogue d r)) (asked_answer a) (engine_with (number_after (asked_answer a) number) qs)
+      go : (o : Option Dialogue) → lookup (nat_eq d) ps ≡ o → AnswersInTable (Ok a) says d o ps qs → Moves (engine_move before (Event.on_dialogue d r)) (asked_answer a) (engine_with (number_after (asked_answer a) number) qs)
       go None e p = let no = p.0 in absurd cc
       go (Some x) e p = moved-engine x (asked_answer a) qs e p
 
-  pub sound-ok : {A : Type 0} (a : Asked A) (qs : List TableEntry) → AsksIn (Ok a) says d (lookup (nat_eq d) ps) ps qs → IsSound limits next_dialogue (number_after (asked_answer a) number) clock qs
+  pub sound-ok : {A : Type 0} (a : Asked A) (qs : List TableEntry) → AnswersInTable (Ok a) says d (lookup (nat_eq d) ps) ps qs → IsSound limits next_dialogue (number_after (asked_answer a) number) clock qs
   sound-ok {A} a qs h = go (lookup (nat_eq d) ps) refl h
     where
-      go : (o : Option Dialogue) → lookup (nat_eq d) ps ≡ o → AsksIn (Ok a) says d o ps qs → IsSound limits next_dialogue (number_after (asked_answer a) number) clock qs
+      go : (o : Option Dialogue) → lookup (nat_eq d) ps ≡ o → AnswersInTable (Ok a) says d o ps qs → IsSound limits next_dialogue (number_after (asked_answer a) number) clock qs
       go None e p = let no = p.0 in absurd cc
       go (Some x) e p = moved-sound x (asked_answer a) qs e p
 
@@ -147,24 +147,24 @@ module _ (limits : Limits) (next_dialogue number clock d : ℕ) (ps : List Table
       subst (λ (v : Fault). EngineRefuses (fault_view v) (engine_move before (Event.on_dialogue d r)) before (engine_with number qs)) (sym is)
       (sym (ap (λ (v : EngineMoved). v.answer) move), ap (engine_with number) same ∙ sym (ap (λ (v : EngineMoved). v.after) move))
 
-  pub asked-err : (A : Type 0) (f : Fault) (qs : List TableEntry) → AsksIn {A = A} (Err f) says d (lookup (nat_eq d) ps) ps qs → EngineRefuses (fault_view f) (engine_move before (Event.on_dialogue d r)) before (engine_with number qs)
+  pub asked-err : (A : Type 0) (f : Fault) (qs : List TableEntry) → AnswersInTable {A = A} (Err f) says d (lookup (nat_eq d) ps) ps qs → EngineRefuses (fault_view f) (engine_move before (Event.on_dialogue d r)) before (engine_with number qs)
   asked-err A f qs h = go (lookup (nat_eq d) ps) refl h
     where
-      go : (o : Option Dialogue) → lookup (nat_eq d) ps ≡ o → AsksIn {A = A} (Err f) says d o ps qs → EngineRefuses (fault_view f) (engine_move before (Event.on_dialogue d r)) before (engine_with number qs)
+      go : (o : Option Dialogue) → lookup (nat_eq d) ps ≡ o → AnswersInTable {A = A} (Err f) says d o ps qs → EngineRefuses (fault_view f) (engine_move before (Event.on_dialogue d r)) before (engine_with number qs)
       go None e p = let first = p.0 in let is : f ≡ fault.UnknownDialogue = cc in unknown f qs e is p.1
       go (Some x) e p = refused-engine (fault_view f) x qs e p
 
-  pub sound-err : (A : Type 0) (f : Fault) (qs : List TableEntry) → AsksIn {A = A} (Err f) says d (lookup (nat_eq d) ps) ps qs → IsSound limits next_dialogue number clock qs
+  pub sound-err : (A : Type 0) (f : Fault) (qs : List TableEntry) → AnswersInTable {A = A} (Err f) says d (lookup (nat_eq d) ps) ps qs → IsSound limits next_dialogue number clock qs
   sound-err A f qs h = go (lookup (nat_eq d) ps) refl h
     where
-      go : (o : Option Dialogue) → lookup (nat_eq d) ps ≡ o → AsksIn {A = A} (Err f) says d o ps qs → IsSound limits next_dialogue number clock qs
+      go : (o : Option Dialogue) → lookup (nat_eq d) ps ≡ o → AnswersInTable {A = A} (Err f) says d o ps qs → IsSound limits next_dialogue number clock qs
       go None e p = subst (λ (l : List TableEntry). IsSound limits next_dialogue number clock l) (sym p.1) sound
       go (Some x) e p = refused-sound (fault_view f) x qs e p
 
   -- the number that is answered was left
-  pub left-ok : {A : Type 0} (a : Asked A) (qs : List TableEntry) → number ≤ last_number → AsksIn (Ok a) says d (lookup (nat_eq d) ps) ps qs → IsLeft (asked_answer a) number
+  pub left-ok : {A : Type 0} (a : Asked A) (qs : List TableEntry) → number ≤ last_number → AnswersInTable (Ok a) says d (lookup (nat_eq d) ps) ps qs → IsLeft (asked_answer a) number
   left-ok {A} a qs le h = go (lookup (nat_eq d) ps) h
     where
-      go : (o : Option Dialogue) → AsksIn (Ok a) says d o ps qs → IsLeft (asked_answer a) number
+      go : (o : Option Dialogue) → AnswersInTable (Ok a) says d o ps qs → IsLeft (asked_answer a) number
       go None p = let no = p.0 in absurd cc
       go (Some x) p = subst (λ v. IsLeft v number) (sym p.0) (number-left (asked clock number) x r le)

@@ -9,7 +9,7 @@ use Rattle.tcap_model.specs.Table.TableMove.{Setting, born}
 use Rattle.tcap_model.specs.Words.Address.{Address}
 use Rattle.tcap_model.specs.Words.Answer.{Answer}
 use Rattle.tcap_dialogue.specs.StepViews.{Outcome}
-use Rattle.tcap_engine.specs.Table.{TableEntry, AreDrawn}
+use Rattle.tcap_engine.specs.DialogueEntries.{TableEntry, AreDrawn}
 use Rattle.tcap_engine.proofs.KeptLemmas.{IsKept, fit-walked}
 use Rattle.tcap_engine.proofs.TableLemmas.{removed-set}
 

@@ -11,7 +11,7 @@ use Rattle.tcap_model.specs.Words.Event.{Event}
 use Rattle.tcap_model.specs.Words.Fault.{Fault}
 use Rattle.tcap_model.specs.Words.Identifiers.{are_dialogues_spent}
 use Rattle.tcap_engine.specs.declared.limits.Limits.{Limits}
-use Rattle.tcap_engine.specs.Table.{TableEntry, AreFrom, AreDrawn, AreWithin, IsSound, IsWithin, dialogues_of}
+use Rattle.tcap_engine.specs.DialogueEntries.{TableEntry, AreFrom, AreDrawn, AreWithin, IsSound, IsWithin, dialogues_of}
 
 -- No dialogue stands under an identifier that wasn't drawn.
 pub absent-drawn : (d : ℕ) (ps : List TableEntry) → AreDrawn d ps → lookup (nat_eq d) ps ≡ None

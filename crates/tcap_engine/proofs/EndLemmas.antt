@@ -4,8 +4,8 @@ use Rattle.std.proofs.lemmas.Bool.{eqb-true}
 use Rattle.std.proofs.lemmas.List.Concat.{flat_map-cons}
 use Rattle.std.specs.List.{AllByRecursion, flat_map, cons_option}
 use Rattle.std.specs.Map.{lookup, set_value}
-use Rattle.tcap_engine.specs.Ending.{ends_in, idle_ids, is_among, left_by, place_at, told_if}
-use Rattle.tcap_engine.specs.Table.{TableEntry, AreFrom, dialogues_of}
+use Rattle.tcap_engine.specs.IdleDialogues.{ends_in, idle_ids, is_among, left_by, entry_at, idle_indications}
+use Rattle.tcap_engine.specs.DialogueEntries.{TableEntry, AreFrom, dialogues_of}
 use Rattle.tcap_engine.proofs.IdleLemmas.{among-below, among-in_order, idle_in, ids_of, is_older, stood}
 use Rattle.tcap_invocation.proofs.CallerLemmas.{all_in_order}
 use Rattle.tcap_model.specs.Table.Dialogue.{Dialogue, is_idle_at}
@@ -22,11 +22,11 @@ ends-set now d old new (p ∷ ps) found same id = go (nat_eq d p.0) found (λ f.
     others : List TableEntry
     others = set_value (nat_eq d) ps new
 
-    here : (b : Bool) → table_idle_told now new ≡ table_idle_told now p.1 → told_if now (cond b (Some new) (lookup (nat_eq id) ps)) ≡ told_if now (cond b (Some p.1) (lookup (nat_eq id) ps))
+    here : (b : Bool) → table_idle_told now new ≡ table_idle_told now p.1 → idle_indications now (cond b (Some new) (lookup (nat_eq id) ps)) ≡ idle_indications now (cond b (Some p.1) (lookup (nat_eq id) ps))
     here true e = e
     here false e = refl
 
-    there : (b : Bool) → told_if now (lookup (nat_eq id) others) ≡ told_if now (lookup (nat_eq id) ps) → told_if now (cond b (Some p.1) (lookup (nat_eq id) others)) ≡ told_if now (cond b (Some p.1) (lookup (nat_eq id) ps))
+    there : (b : Bool) → idle_indications now (lookup (nat_eq id) others) ≡ idle_indications now (lookup (nat_eq id) ps) → idle_indications now (cond b (Some p.1) (lookup (nat_eq id) others)) ≡ idle_indications now (cond b (Some p.1) (lookup (nat_eq id) ps))
     there true e = refl
     there false e = e
 
@@ -56,7 +56,7 @@ left-set now d old new ids ps from found same = any ps found
         go true e f ih =
             let is : p.1 ≡ old = cc in
             here (is_among ids p.0) refl (λ out. same (ap (is_among ids) (eqb-true d p.0 e) ∙ out) ∙ ap (at_moment now) (sym is))
-        go false e f ih = ap (kept (is_among ids p.0) (place_at now p)) (ih f)
+        go false e f ih = ap (kept (is_among ids p.0) (entry_at now p)) (ih f)
 
 -- ---- all that is told
 
@@ -91,7 +91,7 @@ ends-each : (now : ℕ) (ps : List TableEntry) (ds : List Dialogue) → AllByRec
 ends-each now ps [] h = refl
 ends-each now ps (d ∷ ds) h =
     flat_map-cons (ends_in now ps) d.standing.identifier (ids_of ds)
-    ∙ ap (λ (l : List Output). l ++ flat_map (ends_in now ps) (ids_of ds)) (ap (told_if now) h.0.1)
+    ∙ ap (λ (l : List Output). l ++ flat_map (ends_in now ps) (ids_of ds)) (ap (idle_indications now) h.0.1)
     ∙ ap (λ (l : List Output). table_idle_told now d ++ l) (ends-each now ps ds h.1)
     ∙ sym (flat_map-cons (table_idle_told now) d ds)
 
@@ -140,7 +140,7 @@ left-each now ids [] h = refl
 left-each now ids (p ∷ ps) h = ap one h.0 ∙ go (is_idle_at now p.1) (left-each now ids ps h.1)
   where
     one : Bool → List Dialogue
-    one b = dialogues_of (cond (not b) (place_at now p ∷ left_by now ids ps) (left_by now ids ps))
+    one b = dialogues_of (cond (not b) (entry_at now p ∷ left_by now ids ps) (left_by now ids ps))
 
     go : (b : Bool) → dialogues_of (left_by now ids ps) ≡ filter_map (left_at now) (dialogues_of ps) → one b ≡ cons_option (cond b None (Some (at_moment now p.1))) (filter_map (left_at now) (dialogues_of ps))
     go true ih = ih

@@ -7,7 +7,7 @@ use Rattle.std.specs.Option.{option_map}
 use Rattle.tcap_engine.specs.Lapsing.{AreBehind, IsFirstTimer, due_from, rows_timer, timer_of}
 use Rattle.tcap_dialogue.specs.Timers.{earliest}
 use Rattle.tcap_engine.specs.NextTimer.{times_in, timers_in}
-use Rattle.tcap_engine.specs.Table.{TableEntry, AreFrom, dialogues_of}
+use Rattle.tcap_engine.specs.DialogueEntries.{TableEntry, AreFrom, dialogues_of}
 use Rattle.tcap_engine.proofs.DueLemmas.{is_sooner, first_in, first-cons, named, order}
 use Rattle.tcap_engine.proofs.OrderLemmas.{in_order-append, front_of, put_all-in_order, first-put_all}
 use Rattle.tcap_engine.proofs.TableLemmas.{apart, found-own}

@@ -4,8 +4,8 @@ use Rattle.std.proofs.lemmas.Bool.{cases_Bool}
 use Rattle.std.specs.List.{AllByRecursion}
 use Rattle.std.specs.Prelude.{IfSome}
 use Rattle.std.specs.Map.{lookup, set_value}
-use Rattle.tcap_engine.specs.Ending.{AreDistinct, idle_ids, is_among}
-use Rattle.tcap_engine.specs.Table.{TableEntry, AreFrom, dialogues_of}
+use Rattle.tcap_engine.specs.IdleDialogues.{AreDistinct, idle_ids, is_among}
+use Rattle.tcap_engine.specs.DialogueEntries.{TableEntry, AreFrom, dialogues_of}
 use Rattle.tcap_engine.proofs.OrderLemmas.{put-put}
 use Rattle.tcap_engine.proofs.TableLemmas.{apart, found-own}
 use Rattle.tcap_invocation.specs.Order.{put_by, in_order_by}
@@ -65,7 +65,7 @@ stood-idle now p ps e = ap (λ b. in_order_by is_older (cond b (p.1 ∷ idle_in 
 stood-still : (now : ℕ) (p : TableEntry) (ps : List TableEntry) → is_idle_at now p.1 ≡ false → stood now (p ∷ ps) ≡ stood now ps
 stood-still now p ps e = ap (λ b. in_order_by is_older (cond b (p.1 ∷ idle_in now ps) (idle_in now ps))) e
 
--- Where a dialogue is touched, it is put among the others.
+-- Where an idle timer starts anew, the dialogue is put among the others.
 idle-put : (now low d : ℕ) (old new : Dialogue) (ps : List TableEntry) → AreFrom low ps → lookup (nat_eq d) ps ≡ Some old → old.standing.identifier ≡ d → is_idle_at now old ≡ true → is_idle_at now new ≡ false
     → stood now ps ≡ put_by is_older old (stood now (set_value (nat_eq d) ps new))
 idle-put now low d old new [] from found own idle still = absurd cc
@@ -118,7 +118,7 @@ idle-ends now w idle = go (is_live w.standing.state) (nat_lt 0 w.idle_ms) idle
     go true false e = absurd cc
     go false b e = absurd cc
 
--- One that is touched then doesn't stay idle.
+-- One whose idle timer starts anew then doesn't stay idle.
 touched-still : (now : ℕ) (w : Dialogue) → is_idle_at now (touched_at w now) ≡ false
 touched-still now w = go (is_live w.standing.state) (cases_Bool (nat_lt 0 w.idle_ms))
   where

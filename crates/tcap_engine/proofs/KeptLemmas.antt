@@ -21,7 +21,7 @@ use Rattle.tcap_model.specs.Words.Fault.{Fault}
 use Rattle.tcap_model.specs.Words.Output.{Output}
 use Rattle.tcap_model.specs.Words.Request.{Request, ComponentRequest, DialogueRequest}
 use Rattle.tcap_pdu.specs.FrameSpelling.{Message}
-use Rattle.tcap_engine.specs.Table.{IsWithin}
+use Rattle.tcap_engine.specs.DialogueEntries.{IsWithin}
 
 -- A dialogue of this identifier that an engine may keep.
 abbrev pub IsKept : ℕ → ℕ → ℕ → Dialogue → Type 0

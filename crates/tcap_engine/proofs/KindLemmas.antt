@@ -2,9 +2,9 @@
 use Rattle.std.proofs.Common.{ℕ, ℤ, Option, Some, None, Result, Ok, Err, IfOk, refl, sym, subst}
 use Rattle.tcap_dialogue.specs.declared.dialogue.ask.Asked.{Asked}
 use Rattle.tcap_primitives.specs.declared.fault.Fault.{Fault}
-use Rattle.tcap_engine.specs.Answering.{EngineAnswers}
-use Rattle.tcap_engine.specs.AskedKinds.{AnswerKind, kind_of, MayAnswer}
-use Rattle.tcap_engine.specs.Asking.{asked_answer}
+use Rattle.tcap_engine.specs.StepForm.{EngineAnswers}
+use Rattle.tcap_engine.specs.AnswerKinds.{AnswerKind, kind_of, MayAnswer}
+use Rattle.tcap_engine.specs.RequestInTable.{asked_answer}
 use Rattle.tcap_model.specs.Procedures.Refusals.{due_on}
 use Rattle.tcap_model.specs.Table.Dialogue.{Dialogue}
 use Rattle.tcap_model.specs.Table.EngineMove.{engine_move, dialogue_in, requested_in, setting_in}

@@ -12,11 +12,11 @@ use Rattle.tcap_invocation.proofs.CallerLemmas.{length-in_order}
 use Rattle.tcap_model.specs.Table.Dialogue.{Dialogue, idle_end, with_invocations}
 use Rattle.tcap_model.specs.Table.DueLapses.{DueLapse, all_due, all_told, at_moment, due_told, table_idle_told}
 use Rattle.tcap_dialogue.specs.Timers.{earliest}
-use Rattle.tcap_engine.specs.Ending.{idle_ids}
-use Rattle.tcap_engine.specs.Lapsing.{AreBehind, IsFirstTimer, IsPassed, IsPassedIn, IsPutOff, IsRunOut, due_from, idle_of, row_count, rows_timer, timer_of, told_of}
-use Rattle.tcap_engine.specs.declared.engine.moment.Passed.{Passed}
-use Rattle.tcap_engine.specs.declared.engine.moment.Passed.TheVariants as passed
-use Rattle.tcap_engine.specs.Table.{TableEntry, AreFrom, dialogues_of}
+use Rattle.tcap_engine.specs.IdleDialogues.{idle_ids}
+use Rattle.tcap_engine.specs.Lapsing.{AreBehind, IsFirstTimer, IsExpired, IsExpiredIn, IsPutOff, IsRunOut, due_from, idle_of, row_count, rows_timer, timer_of, told_of}
+use Rattle.tcap_engine.specs.declared.engine.moment.Expiry.{Expiry}
+use Rattle.tcap_engine.specs.declared.engine.moment.Expiry.TheVariants as passed
+use Rattle.tcap_engine.specs.DialogueEntries.{TableEntry, AreFrom, dialogues_of}
 use Rattle.tcap_engine.proofs.OrderLemmas.{put_all, put-put, put-first}
 use Rattle.tcap_engine.proofs.DueLemmas.{is_sooner, sooner-never, sooner-once, sooner-behind, sooner-through, named, told_in, order, order-cons}
 use Rattle.tcap_engine.proofs.FirstLemmas.{first-told}
@@ -153,7 +153,7 @@ module _ (now t d : ℕ) (ps : List TableEntry) (old new : Dialogue) (from : Are
   named-so = found-own d 0 old ps from found
 
   -- what it leaves is the same: only what is told of lapses is to be said
-  run-out : (what : Passed) (lapse : Option Lapse) → told_of d what ≡ option_to_list (option_map (λ l. due_told (due_from d l)) lapse) → idle_of d what ≡ [] → IsRunOut now t lapse old new → IsPassed now d what ps after
+  run-out : (what : Expiry) (lapse : Option Lapse) → told_of d what ≡ option_to_list (option_map (λ l. due_told (due_from d l)) lapse) → idle_of d what ≡ [] → IsRunOut now t lapse old new → IsExpired now d what ps after
   run-out what lapse tells none h = record {
     told = run-out-told now t d lapse ps old new from timer found h own ∙ ap (λ os. os ++ all_told now (dialogues_of after)) (sym tells);
     idle = sym same ∙ ap (λ ids. ids ++ idle_ids now after) (sym none);
@@ -174,7 +174,7 @@ module _ (now t d : ℕ) (ps : List TableEntry) (old new : Dialogue) (from : Are
           ap (λ (w : Dialogue). Output.dialogue (DialogueIndication.p_abort w.standing.identifier AbortCause.idle) ∷ ended_told w.standing.identifier w.invocations) rest
 
   -- its end is postponed
-  put-off : IsPutOff now t old new → t ≤ now → IsPassed now d passed.Idle ps after
+  put-off : IsPutOff now t old new → t ≤ now → IsExpired now d passed.Idle ps after
   put-off h reached = record {
     told = ap (map due_told) (sym (order-same now d old new ps found (ap (told_in now) h.is_touched)));
     idle = idle-first now t d old ps from found h.ends reached (idle-behind (t, d) ps timer.least) ∙ ap (λ (w : Dialogue). d ∷ idle_ids now (set_value (nat_eq d) ps w)) (sym h.is_touched);
@@ -189,7 +189,7 @@ module _ (now t d : ℕ) (ps : List TableEntry) (old new : Dialogue) (from : Are
   }
 
 -- The first timer of all has run out, in the dialogue that was written.
-pub passed-set : (now t d : ℕ) (what : Passed) (ps : List TableEntry) (old new : Dialogue) → AreFrom 0 ps → IsFirstTimer ps (t, d) → t ≤ now → lookup (nat_eq d) ps ≡ Some old → IsPassedIn now t what old new → IsPassed now d what ps (set_value (nat_eq d) ps new)
+pub passed-set : (now t d : ℕ) (what : Expiry) (ps : List TableEntry) (old new : Dialogue) → AreFrom 0 ps → IsFirstTimer ps (t, d) → t ≤ now → lookup (nat_eq d) ps ≡ Some old → IsExpiredIn now t what old new → IsExpired now d what ps (set_value (nat_eq d) ps new)
 passed-set now t d (passed.Lapsed lapse) ps old new from timer le found h = run-out now t d ps old new from timer found (passed.Lapsed lapse) (Some lapse) refl refl h
 passed-set now t d passed.Freed ps old new from timer le found h = run-out now t d ps old new from timer found passed.Freed None refl refl h
 passed-set now t d passed.Idle ps old new from timer le found h = put-off now t d ps old new from timer found h le

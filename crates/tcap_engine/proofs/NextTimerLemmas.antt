@@ -2,10 +2,10 @@
 use Rattle.std.proofs.Common.{◌≡◌, ◌≢◌, inl, inr, ℕ, ◌<◌, ◌≤◌, Bool, true, false, cond, not, nat_eq, nat_lt, nat_le, List, [], ◌∷◌, ◌++◌, length, map, filter, filter_map, Option, Some, None, if◌then◌else◌, refl, ap, sym, ◌∙◌, arith, tests}
 use Rattle.std.proofs.lemmas.List.Filters.{length-filter_both}
 use Rattle.std.specs.Map.{lookup}
-use Rattle.tcap_engine.specs.Ending.{idle_ids}
+use Rattle.tcap_engine.specs.IdleDialogues.{idle_ids}
 use Rattle.tcap_engine.specs.Lapsing.{AreUntimed, IsFirstTimer, IsQuiet, rows_timer, timer_of}
 use Rattle.tcap_engine.specs.NextTimer.{IsAccepted, IsChanged, IsStill, if_within, next_timer_in, times_in, timers_in}
-use Rattle.tcap_engine.specs.Table.{TableEntry, AreFrom, dialogues_of}
+use Rattle.tcap_engine.specs.DialogueEntries.{TableEntry, AreFrom, dialogues_of}
 use Rattle.tcap_engine.proofs.FirstLemmas.{least-timer, least-times}
 use Rattle.tcap_engine.proofs.MomentLemmas.{dialogues-at}
 use Rattle.tcap_engine.proofs.QuietLemmas.{AreLate, idle-due, late-quiet}

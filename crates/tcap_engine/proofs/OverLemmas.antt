@@ -5,10 +5,10 @@ use Rattle.std.proofs.lemmas.List.{drop_more}
 use Rattle.std.proofs.lemmas.List.Concat.{flat_map-cons}
 use Rattle.std.specs.List.{flat_map}
 use Rattle.std.specs.Map.{lookup, remove_entry}
-use Rattle.tcap_dialogue.specs.FaultViews.{takes_memory}
+use Rattle.tcap_dialogue.specs.RequestForm.{takes_memory}
 use Rattle.tcap_engine.proofs.TableLemmas.{from-lower, from-removed}
-use Rattle.tcap_engine.specs.Ending.{AreDistinct, ends_in, idle_ids, is_among, over_in, over_told, place_at, told_if, without_all}
-use Rattle.tcap_engine.specs.Table.{TableEntry, AreFrom, AreDrawn, AreWithin, IsSound, dialogues_of}
+use Rattle.tcap_engine.specs.IdleDialogues.{AreDistinct, ends_in, idle_ids, is_among, idle_end_in, idle_end, entry_at, idle_indications, without_all}
+use Rattle.tcap_engine.specs.DialogueEntries.{TableEntry, AreFrom, AreDrawn, AreWithin, IsSound, dialogues_of}
 use Rattle.tcap_engine.specs.declared.limits.Limits.{Limits}
 use Rattle.tcap_model.specs.Table.Dialogue.{Dialogue}
 use Rattle.tcap_model.specs.Table.DueLapses.{all_idle_told, at_moment, idle_at_moment, table_idle_told}
@@ -28,14 +28,14 @@ lookup-other d e (p ∷ ps) other = go (nat_eq d p.0) refl (lookup-other d e ps 
     go false q ih = ap (cond (nat_eq e p.0) (Some p.1)) ih
 
 -- What is told of the others stays the same.
-pub over-rest : (d : ℕ) (ids : List ℕ) (ps : List TableEntry) → is_among ids d ≡ false → flat_map (over_in (remove_entry (nat_eq d) ps)) ids ≡ flat_map (over_in ps) ids
+pub over-rest : (d : ℕ) (ids : List ℕ) (ps : List TableEntry) → is_among ids d ≡ false → flat_map (idle_end_in (remove_entry (nat_eq d) ps)) ids ≡ flat_map (idle_end_in ps) ids
 over-rest d [] ps none = refl
 over-rest d (e ∷ ids) ps none =
     let parts = or_parts (nat_eq d e) (is_among ids d) none in
-    flat_map-cons (over_in (remove_entry (nat_eq d) ps)) e ids
-    ∙ ap (λ o. over_told o ++ flat_map (over_in (remove_entry (nat_eq d) ps)) ids) (lookup-other d e ps parts.0)
-    ∙ ap (λ os. over_in ps e ++ os) (over-rest d ids ps parts.1)
-    ∙ sym (flat_map-cons (over_in ps) e ids)
+    flat_map-cons (idle_end_in (remove_entry (nat_eq d) ps)) e ids
+    ∙ ap (λ o. idle_end o ++ flat_map (idle_end_in (remove_entry (nat_eq d) ps)) ids) (lookup-other d e ps parts.0)
+    ∙ ap (λ os. idle_end_in ps e ++ os) (over-rest d ids ps parts.1)
+    ∙ sym (flat_map-cons (idle_end_in ps) e ids)
 
 -- One that doesn't stand needn't be left out.
 without-absent : (d low : ℕ) (ids : List ℕ) (ps : List TableEntry) → d < low → AreFrom low ps → without_all (d ∷ ids) ps ≡ without_all ids ps
@@ -65,14 +65,14 @@ without-step d low ids (p ∷ ps) from = go (nat_eq d p.0) refl (without-step d 
 
 -- What one step does.
 pub record OverStep (ids rest : List ℕ) (d : ℕ) (ps : List TableEntry) : Type 0 where
-  pub told : flat_map (over_in ps) ids ≡ over_in ps d ++ flat_map (over_in (remove_entry (nat_eq d) ps)) rest
+  pub told : flat_map (idle_end_in ps) ids ≡ idle_end_in ps d ++ flat_map (idle_end_in (remove_entry (nat_eq d) ps)) rest
   pub left : without_all rest (remove_entry (nat_eq d) ps) ≡ without_all ids ps
   pub from : AreFrom 0 (remove_entry (nat_eq d) ps)
   pub apart : AreDistinct rest
 
 over-first : (d : ℕ) (rest : List ℕ) (ps : List TableEntry) → AreFrom 0 ps → AreDistinct (d ∷ rest) → OverStep (d ∷ rest) rest d ps
 over-first d rest ps from apart = record {
-  told = flat_map-cons (over_in ps) d rest ∙ ap (λ os. over_in ps d ++ os) (sym (over-rest d rest ps apart.0));
+  told = flat_map-cons (idle_end_in ps) d rest ∙ ap (λ os. idle_end_in ps d ++ os) (sym (over-rest d rest ps apart.0));
   left = without-step d 0 rest ps from;
   from = from-removed d 0 ps from;
   apart = apart.1;
@@ -91,25 +91,25 @@ none-without (p ∷ ps) = ap (λ (l : List TableEntry). p ∷ l) (none-without p
 -- ---- after a quiet moment
 
 -- What is told of a dialogue is what is told when the moment has done its work.
-pub over-ends : (now : ℕ) (ps : List TableEntry) → map (place_at now) ps ≡ ps → (d : ℕ) → over_in ps d ≡ ends_in now ps d
+pub over-ends : (now : ℕ) (ps : List TableEntry) → map (entry_at now) ps ≡ ps → (d : ℕ) → idle_end_in ps d ≡ ends_in now ps d
 over-ends now [] same d = refl
 over-ends now (p ∷ ps) same d = go (nat_eq d p.0) (over-ends now ps tail d)
   where
-    tail : map (place_at now) ps ≡ ps
+    tail : map (entry_at now) ps ≡ ps
     tail = cc
 
     head : at_moment now p.1 ≡ p.1
     head = cc
 
-    go : (b : Bool) → over_in ps d ≡ ends_in now ps d → over_told (cond b (Some p.1) (lookup (nat_eq d) ps)) ≡ told_if now (cond b (Some p.1) (lookup (nat_eq d) ps))
-    go true ih = ap (λ (w : Dialogue). over_told (Some w)) (sym head)
+    go : (b : Bool) → idle_end_in ps d ≡ ends_in now ps d → idle_end (cond b (Some p.1) (lookup (nat_eq d) ps)) ≡ idle_indications now (cond b (Some p.1) (lookup (nat_eq d) ps))
+    go true ih = ap (λ (w : Dialogue). idle_end (Some w)) (sym head)
     go false ih = ih
 
-pub over-all : (now : ℕ) (ids : List ℕ) (ps qs : List TableEntry) → map (place_at now) ps ≡ ps → ((d : ℕ) → ends_in now ps d ≡ ends_in now qs d) → flat_map (over_in ps) ids ≡ flat_map (ends_in now qs) ids
+pub over-all : (now : ℕ) (ids : List ℕ) (ps qs : List TableEntry) → map (entry_at now) ps ≡ ps → ((d : ℕ) → ends_in now ps d ≡ ends_in now qs d) → flat_map (idle_end_in ps) ids ≡ flat_map (ends_in now qs) ids
 over-all now [] ps qs same ends = refl
 over-all now (d ∷ ids) ps qs same ends =
-    flat_map-cons (over_in ps) d ids
-    ∙ ap (λ os. os ++ flat_map (over_in ps) ids) (over-ends now ps same d ∙ ends d)
+    flat_map-cons (idle_end_in ps) d ids
+    ∙ ap (λ os. os ++ flat_map (idle_end_in ps) ids) (over-ends now ps same d ∙ ends d)
     ∙ ap (λ os. ends_in now qs d ++ os) (over-all now ids ps qs same ends)
     ∙ sym (flat_map-cons (ends_in now qs) d ids)
 

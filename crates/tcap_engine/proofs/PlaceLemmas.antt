@@ -1,7 +1,7 @@
 -- The table and the engine after the dialogue of an identifier moved.
 use Rattle.std.proofs.Common.{◌≡◌, ℕ, ◌≤◌, Bool, true, false, cond, nat_eq, List, [], ◌∷◌, length, Option, Some, None, refl, subst, arith}
 use Rattle.std.specs.Map.{lookup, set_value, remove_entry}
-use Rattle.tcap_engine.specs.Table.{TableEntry, AreFrom, AreDrawn, AreWithin, IsWithin, IsSound, dialogues_of, places_with}
+use Rattle.tcap_engine.specs.DialogueEntries.{TableEntry, AreFrom, AreDrawn, AreWithin, IsWithin, IsSound, dialogues_of, entries_with}
 use Rattle.tcap_engine.specs.declared.limits.Limits.{Limits}
 use Rattle.tcap_engine.proofs.KeptLemmas.{IsKept}
 use Rattle.tcap_engine.proofs.TableLemmas.{set-in, removed-in, from-set, from-removed}
@@ -10,7 +10,7 @@ use Rattle.tcap_model.specs.Table.Dialogue.{Dialogue}
 use Rattle.tcap_model.specs.Table.EngineMove.{with_dialogue}
 
 -- The dialogues are those of the model.
-pub dialogues-with : (d : ℕ) (o : Option Dialogue) (ps : List TableEntry) → AreFrom 0 ps → dialogues_of (places_with d o ps) ≡ with_dialogue d o (dialogues_of ps)
+pub dialogues-with : (d : ℕ) (o : Option Dialogue) (ps : List TableEntry) → AreFrom 0 ps → dialogues_of (entries_with d o ps) ≡ with_dialogue d o (dialogues_of ps)
 dialogues-with d None ps h = removed-in d 0 ps h
 dialogues-with d (Some new) ps h = set-in d 0 new ps h
 
@@ -73,7 +73,7 @@ abbrev pub AreKept : ℕ → ℕ → ℕ → Option Dialogue → Type 0
 AreKept identifier reject_ms next None = Unit {0}
 AreKept identifier reject_ms next (Some new) = IsKept identifier reject_ms next new
 
-pub sound-with : (limits : Limits) (next_dialogue next more clock d : ℕ) (o : Option Dialogue) (ps : List TableEntry) → next ≤ more → AreKept d limits.reject_ms more o → IsSound limits next_dialogue next clock ps → IsSound limits next_dialogue more clock (places_with d o ps)
+pub sound-with : (limits : Limits) (next_dialogue next more clock d : ℕ) (o : Option Dialogue) (ps : List TableEntry) → next ≤ more → AreKept d limits.reject_ms more o → IsSound limits next_dialogue next clock ps → IsSound limits next_dialogue more clock (entries_with d o ps)
 sound-with limits next_dialogue next more clock d None ps le k h = record {
   limited = h.limited;
   time = h.time;

@@ -2,9 +2,9 @@
 use Rattle.std.proofs.Common.{◌≡◌, ℕ, ◌+◌, ◌<◌, Bool, true, false, cond, ◌&&◌, if◌then◌else◌, nat_lt, nat_le, List, [], ◌∷◌, ◌++◌, map, filter, Option, Some, None, refl, ap, sym, ◌∙◌, arith, tests}
 use Rattle.std.specs.Prelude.{IfSome}
 use Rattle.tcap_dialogue.specs.Timers.{earliest}
-use Rattle.tcap_engine.specs.Ending.{place_at}
+use Rattle.tcap_engine.specs.IdleDialogues.{entry_at}
 use Rattle.tcap_engine.specs.Lapsing.{AreBehind, AreUntimed, IsQuiet, rows_timer, timer_of}
-use Rattle.tcap_engine.specs.Table.{TableEntry, dialogues_of}
+use Rattle.tcap_engine.specs.DialogueEntries.{TableEntry, dialogues_of}
 use Rattle.tcap_engine.proofs.TimerLemmas.{quiet-rows}
 use Rattle.tcap_invocation.specs.Invocations.{with_rows}
 use Rattle.tcap_model.specs.Table.Dialogue.{Dialogue, idle_end, is_idle_at, with_invocations}
@@ -65,12 +65,12 @@ none-due : (now : ℕ) (ps : List TableEntry) → AreLate now ps → all_due now
 none-due now [] h = refl
 none-due now (p ∷ ps) h = ap (λ (l : List DueLapse). l ++ all_due now (dialogues_of ps)) (none-due-in now p.1 h.0) ∙ none-due now ps h.1
 
-same-place : (now : ℕ) (p : TableEntry) → is_due now (timer_of p.1) ≡ false → place_at now p ≡ p
+same-place : (now : ℕ) (p : TableEntry) → is_due now (timer_of p.1) ≡ false → entry_at now p ≡ p
 same-place now p h = ap (λ rows. (p.0, with_invocations p.1 (with_rows p.1.invocations rows))) (quiet-rows now p.1.invocations.rows (rows-late now p.1 h)).1
 
-same-places : (now : ℕ) (ps : List TableEntry) → AreLate now ps → map (place_at now) ps ≡ ps
+same-places : (now : ℕ) (ps : List TableEntry) → AreLate now ps → map (entry_at now) ps ≡ ps
 same-places now [] h = refl
-same-places now (p ∷ ps) h = ap (λ (q : TableEntry). q ∷ map (place_at now) ps) (same-place now p h.0) ∙ ap (λ (l : List TableEntry). p ∷ l) (same-places now ps h.1)
+same-places now (p ∷ ps) h = ap (λ (q : TableEntry). q ∷ map (entry_at now) ps) (same-place now p h.0) ∙ ap (λ (l : List TableEntry). p ∷ l) (same-places now ps h.1)
 
 pub late-quiet : (now : ℕ) (ps : List TableEntry) → AreLate now ps → IsQuiet now ps
 late-quiet now ps h = record {

@@ -4,9 +4,9 @@ use Rattle.std.specs.Prelude.{[], IfOk, IsSome, Result}
 use Rattle.std.specs.Map.{lookup}
 use Rattle.ber_core.specs.declared.fault.OutOfMemory.{OutOfMemory}
 use Rattle.tcap_dialogue.specs.StepViews.{asked, at_clock, outcome}
-use Rattle.tcap_engine.specs.Answering.{Moves}
-use Rattle.tcap_engine.specs.Asking.{PlacesMove, ReachesIn}
-use Rattle.tcap_engine.specs.Table.{TableEntry, AreFrom, IsSound, IsWithin, dialogues_of, places_with}
+use Rattle.tcap_engine.specs.StepForm.{Moves}
+use Rattle.tcap_engine.specs.RequestInTable.{EntriesMove, DeliversInTable}
+use Rattle.tcap_engine.specs.DialogueEntries.{TableEntry, AreFrom, IsSound, IsWithin, dialogues_of, entries_with}
 use Rattle.tcap_engine.specs.declared.limits.Limits.{Limits}
 use Rattle.tcap_engine.proofs.AskedEngine.{kept-left}
 use Rattle.tcap_engine.proofs.KeptLemmas.{IsKept, kept-framed}
@@ -65,7 +65,7 @@ module _ (limits : Limits) (next_dialogue number clock d : ℕ) (ps : List Table
   engine_of qs = record { max_dialogues = limits.max_dialogues; reject_ms = limits.reject_ms; idle_ms = limits.idle_ms; next_dialogue = next_dialogue; next_number = number; clock = clock; dialogues = dialogues_of qs }
 
   reached-engine : (x : Dialogue) (sent : List Output) (told : List Output) (qs : List TableEntry) → lookup (nat_eq d) ps ≡ Some x
-      → PlacesMove (outcome (move x)) d (Answer.outputs told) ps qs
+      → EntriesMove (outcome (move x)) d (Answer.outputs told) ps qs
       → Moves (moved_in (engine_of ps) d (sending_first sent (move x))) (Answer.outputs (sent ++ told)) (engine_of qs)
   reached-engine x sent told qs found p =
       let m : Moved = move x in
@@ -76,12 +76,12 @@ module _ (limits : Limits) (next_dialogue number clock d : ℕ) (ps : List Table
       subst (λ (a : Answer). Moves (moves a) (Answer.outputs (sent ++ told)) (engine_of qs)) (sym is) (refl, ap whole table)
 
   pub reached-sound : (x : Dialogue) (told : List Output) (qs : List TableEntry) → lookup (nat_eq d) ps ≡ Some x
-      → PlacesMove (outcome (move x)) d (Answer.outputs told) ps qs → IsSound limits next_dialogue number clock qs
+      → EntriesMove (outcome (move x)) d (Answer.outputs told) ps qs → IsSound limits next_dialogue number clock qs
   reached-sound x told qs found p =
       let m : Moved = move x in
       let own : x.standing.identifier ≡ d = found-own d 0 x ps sound.from found in
       let kept : IsKept d limits.reject_ms number m.after = subst (λ i. IsKept i limits.reject_ms number m.after) own (keeps x (found-within d limits.reject_ms number x ps found sound.within)) in
-      let all : IsSound limits next_dialogue number clock (places_with d (left_standing m) ps) =
+      let all : IsSound limits next_dialogue number clock (entries_with d (left_standing m) ps) =
       sound-with limits next_dialogue number number clock d (left_standing m) ps (omega arith) (kept-left d limits.reject_ms number m kept) sound in
       subst (λ (qs : List TableEntry). IsSound limits next_dialogue number clock qs) (sym p.1) all
 
@@ -93,18 +93,18 @@ module _ (limits : Limits) (next_dialogue number clock d : ℕ) (ps : List Table
 
   -- What the engine tells and is then, where the dialogue stands.
   pub reached-some : (x : Dialogue) (sent : List Output) (told : List Output) (qs : List TableEntry) → lookup (nat_eq d) ps ≡ Some x
-      → PlacesMove (outcome (move x)) d (Answer.outputs told) ps qs
+      → EntriesMove (outcome (move x)) d (Answer.outputs told) ps qs
       → Moves (reached_in (engine_of ps) d sent event (dialogue_in d (dialogues_of ps))) (Answer.outputs (sent ++ told)) (engine_of qs)
   reached-some x sent told qs found p =
       subst (λ (v : EngineMoved). Moves v (Answer.outputs (sent ++ told)) (engine_of qs)) (sym (move-of sent x found)) (reached-engine x sent told qs found p)
 
   -- The same, whether it stands or not.
   pub reached-ok : {T : Type 0} (view : T → List Output) (outputs : T) (qs : List TableEntry)
-      → ReachesIn (λ (t : T). Answer.outputs (view t)) (Ok outputs) (λ x. outcome (move x)) d (lookup (nat_eq d) ps) ps qs
+      → DeliversInTable (λ (t : T). Answer.outputs (view t)) (Ok outputs) (λ x. outcome (move x)) d (lookup (nat_eq d) ps) ps qs
       → Moves (reached_in (engine_of ps) d [] event (dialogue_in d (dialogues_of ps))) (Answer.outputs (view outputs)) (engine_of qs)
   reached-ok {T} view outputs qs h = go (lookup (nat_eq d) ps) refl h
     where
-      go : (o : Option Dialogue) → lookup (nat_eq d) ps ≡ o → ReachesIn (λ (t : T). Answer.outputs (view t)) (Ok outputs) (λ x. outcome (move x)) d o ps qs
+      go : (o : Option Dialogue) → lookup (nat_eq d) ps ≡ o → DeliversInTable (λ (t : T). Answer.outputs (view t)) (Ok outputs) (λ x. outcome (move x)) d o ps qs
           → Moves (reached_in (engine_of ps) d [] event (dialogue_in d (dialogues_of ps))) (Answer.outputs (view outputs)) (engine_of qs)
       go None e p =
           let absent : dialogue_in d (dialogues_of ps) ≡ None = found-in d 0 ps sound.from ∙ e in
@@ -112,17 +112,17 @@ module _ (limits : Limits) (next_dialogue number clock d : ℕ) (ps : List Table
       go (Some x) e p = reached-some x [] (view outputs) qs e p
 
   pub sound-reached : {T : Type 0} (view : T → List Output) (result : Result T OutOfMemory) (qs : List TableEntry)
-      → ReachesIn (λ (t : T). Answer.outputs (view t)) result (λ x. outcome (move x)) d (lookup (nat_eq d) ps) ps qs → IsSound limits next_dialogue number clock qs
+      → DeliversInTable (λ (t : T). Answer.outputs (view t)) result (λ x. outcome (move x)) d (lookup (nat_eq d) ps) ps qs → IsSound limits next_dialogue number clock qs
   sound-reached {T} view (Err f) qs h = subst (λ (qs : List TableEntry). IsSound limits next_dialogue number clock qs) (sym h) sound
   sound-reached {T} view (Ok outputs) qs h = go (lookup (nat_eq d) ps) refl h
     where
-      go : (o : Option Dialogue) → lookup (nat_eq d) ps ≡ o → ReachesIn (λ (t : T). Answer.outputs (view t)) (Ok outputs) (λ x. outcome (move x)) d o ps qs → IsSound limits next_dialogue number clock qs
+      go : (o : Option Dialogue) → lookup (nat_eq d) ps ≡ o → DeliversInTable (λ (t : T). Answer.outputs (view t)) (Ok outputs) (λ x. outcome (move x)) d o ps qs → IsSound limits next_dialogue number clock qs
       go None e p = subst (λ (qs : List TableEntry). IsSound limits next_dialogue number clock qs) (sym p.1) sound
       go (Some x) e p = reached-sound x (view outputs) qs e p
 
   -- What was told, if memory wasn't refused.
   pub reached-if : {T : Type 0} (view : T → List Output) (result : Result T OutOfMemory) (qs : List TableEntry)
-      → ReachesIn (λ (t : T). Answer.outputs (view t)) result (λ x. outcome (move x)) d (lookup (nat_eq d) ps) ps qs
+      → DeliversInTable (λ (t : T). Answer.outputs (view t)) result (λ x. outcome (move x)) d (lookup (nat_eq d) ps) ps qs
       → IfOk result (λ t. Moves (reached_in (engine_of ps) d [] event (dialogue_in d (dialogues_of ps))) (Answer.outputs (view t)) (engine_of qs))
   reached-if {T} view (Ok t) qs h = reached-ok view t qs h
   reached-if {T} view (Err f) qs h = tt
@@ -130,12 +130,12 @@ module _ (limits : Limits) (next_dialogue number clock d : ℕ) (ps : List Table
   -- The same of a dialogue that stands, where something is sent first.
   pub reached-sending : {T : Type 0} (view : T → List Output) (sent : List Output) (result : Result T OutOfMemory) (qs : List TableEntry)
       → IsSome (lookup (nat_eq d) ps)
-      → ReachesIn (λ (t : T). Answer.outputs (view t)) result (λ x. outcome (move x)) d (lookup (nat_eq d) ps) ps qs
+      → DeliversInTable (λ (t : T). Answer.outputs (view t)) result (λ x. outcome (move x)) d (lookup (nat_eq d) ps) ps qs
       → IfOk result (λ t. Moves (reached_in (engine_of ps) d sent event (dialogue_in d (dialogues_of ps))) (Answer.outputs (sent ++ view t)) (engine_of qs))
   reached-sending {T} view sent (Err f) qs there h = tt
   reached-sending {T} view sent (Ok t) qs there h = go (lookup (nat_eq d) ps) refl there h
     where
-      go : (o : Option Dialogue) → lookup (nat_eq d) ps ≡ o → IsSome o → ReachesIn (λ (t : T). Answer.outputs (view t)) (Ok t) (λ x. outcome (move x)) d o ps qs
+      go : (o : Option Dialogue) → lookup (nat_eq d) ps ≡ o → IsSome o → DeliversInTable (λ (t : T). Answer.outputs (view t)) (Ok t) (λ x. outcome (move x)) d o ps qs
           → Moves (reached_in (engine_of ps) d sent event (dialogue_in d (dialogues_of ps))) (Answer.outputs (sent ++ view t)) (engine_of qs)
       go None e missing p = absurd cc
       go (Some x) e there p = reached-some x sent (view t) qs e p

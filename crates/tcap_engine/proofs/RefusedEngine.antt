@@ -3,11 +3,11 @@ use Rattle.std.proofs.Common.{◌≡◌, ℕ, ℤ, nat_eq, List, Option, Some, N
 use Rattle.std.proofs.lemmas.Map.Steps.{set_value_same}
 use Rattle.std.specs.Map.{lookup}
 use Rattle.tcap_primitives.specs.declared.fault.Fault.{Fault}
-use Rattle.tcap_dialogue.specs.FaultViews.{RefusedBy}
+use Rattle.tcap_dialogue.specs.RequestForm.{RefusedBy}
 use Rattle.tcap_primitives.specs.FaultViews.{fault_view}
 use Rattle.tcap_dialogue.specs.StepViews.{Outcome, outcome}
-use Rattle.tcap_engine.specs.Asking.{AsksIn, PlacesMove, PlacesRefuse}
-use Rattle.tcap_engine.specs.Table.{TableEntry, places_with}
+use Rattle.tcap_engine.specs.RequestInTable.{AnswersInTable, EntriesMove, EntriesRefuse}
+use Rattle.tcap_engine.specs.DialogueEntries.{TableEntry, entries_with}
 use Rattle.tcap_invocation.specs.Closing.{given_up_at}
 use Rattle.tcap_model.specs.Procedures.Refusals.{due_on}
 use Rattle.tcap_model.specs.Table.Dialogue.{Dialogue}
@@ -87,12 +87,12 @@ module _ (s : Setting) (r : Request) (d : ℕ) (ps qs : List TableEntry) where
   says x = outcome (table_move s x (DialogueEvent.request r))
 
   -- the dialogue was written back as it was
-  same : (f : model.Fault) (x : Dialogue) → lookup (nat_eq d) ps ≡ Some x → PlacesMove (says x) d (Answer.refused f) ps qs → qs ≡ ps
+  same : (f : model.Fault) (x : Dialogue) → lookup (nat_eq d) ps ≡ Some x → EntriesMove (says x) d (Answer.refused f) ps qs → qs ≡ ps
   same f x found p =
       let stands : (says x).1 ≡ Some x = subst (StandsIfRefused x (says x).1) (sym p.0) (moved-still s x r) in
-      p.1 ∙ ap (λ (after : Option Dialogue). places_with d after ps) stands ∙ set_value_same (nat_eq d) ps x found
+      p.1 ∙ ap (λ (after : Option Dialogue). entries_with d after ps) stands ∙ set_value_same (nat_eq d) ps x found
 
-  refused : (f : model.Fault) (x : Dialogue) → lookup (nat_eq d) ps ≡ Some x → PlacesRefuse f (says x) d ps qs → qs ≡ ps
+  refused : (f : model.Fault) (x : Dialogue) → lookup (nat_eq d) ps ≡ Some x → EntriesRefuse f (says x) d ps qs → qs ≡ ps
   refused model.Fault.out_of_memory x found p = p.0
   refused model.Fault.unknown_dialogue x found p = same _ x found p
   refused model.Fault.wrong_state x found p = same _ x found p
@@ -110,9 +110,9 @@ module _ (s : Setting) (r : Request) (d : ℕ) (ps qs : List TableEntry) where
   refused model.Fault.no_context x found p = same _ x found p
 
   -- After a refusal the table is as it was.
-  pub table-still : (A : Type 0) (f : Fault) → AsksIn {A = A} (Err f) says d (lookup (nat_eq d) ps) ps qs → qs ≡ ps
+  pub table-still : (A : Type 0) (f : Fault) → AnswersInTable {A = A} (Err f) says d (lookup (nat_eq d) ps) ps qs → qs ≡ ps
   table-still A f h = go (lookup (nat_eq d) ps) refl h
     where
-      go : (o : Option Dialogue) → lookup (nat_eq d) ps ≡ o → AsksIn {A = A} (Err f) says d o ps qs → qs ≡ ps
+      go : (o : Option Dialogue) → lookup (nat_eq d) ps ≡ o → AnswersInTable {A = A} (Err f) says d o ps qs → qs ≡ ps
       go None e p = p.1
       go (Some x) e p = refused (fault_view f) x e p

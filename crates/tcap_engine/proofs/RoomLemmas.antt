@@ -6,9 +6,9 @@ use Rattle.std.proofs.lemmas.List.Concat.{flat_map-cons}
 use Rattle.std.proofs.lemmas.List.Sums.{sum_by-cons}
 use Rattle.std.specs.List.{cons_option, flat_map, sum_by}
 use Rattle.tcap_dialogue.specs.Timers.{earliest}
-use Rattle.tcap_engine.specs.Ending.{idle_ids}
+use Rattle.tcap_engine.specs.IdleDialogues.{idle_ids}
 use Rattle.tcap_engine.specs.Lapsing.{rows_timer, timer_of}
-use Rattle.tcap_engine.specs.Table.{dialogues_of}
+use Rattle.tcap_engine.specs.DialogueEntries.{dialogues_of}
 use Rattle.tcap_engine.specs.Timed.{AreTimed}
 use Rattle.tcap_engine.proofs.TimerLemmas.{quiet-rows}
 use Rattle.tcap_invocation.specs.Closing.{ended_at}

@@ -5,10 +5,10 @@ use Rattle.std.specs.Option.{option_map}
 use Rattle.tcap_component.specs.Component.{CodeParts}
 use Rattle.tcap_primitives.specs.declared.fault.Fault.{Fault}
 use Rattle.tcap_primitives.specs.declared.fault.Fault.TheVariants as fault
-use Rattle.tcap_dialogue.specs.FaultViews.{RefusedBy}
+use Rattle.tcap_dialogue.specs.RequestForm.{RefusedBy}
 use Rattle.tcap_primitives.specs.FaultViews.{fault_view}
 use Rattle.tcap_dialogue.specs.StepViews.{asked, outcome}
-use Rattle.tcap_engine.specs.Asking.{IsLeft}
+use Rattle.tcap_engine.specs.RequestInTable.{IsLeft}
 use Rattle.tcap_invocation.specs.Closing.{given_up_at}
 use Rattle.tcap_invocation.specs.declared.class.Class.{Class}
 use Rattle.tcap_model.specs.Procedures.Refusals.{due_on, invoke_fault, holds}

@@ -13,8 +13,8 @@ use Rattle.tcap_model.specs.Words.Answer.{Answer}
 use Rattle.tcap_model.specs.Words.Event.{Event}
 use Rattle.tcap_model.specs.Words.Fault as model
 use Rattle.tcap_model.specs.Words.InRange.{InRange}
-use Rattle.tcap_engine.specs.Answering.{Moves, EngineRefuses, EngineAnswers, EngineHears}
-use Rattle.tcap_engine.specs.HistoryForm.{Headline, StandsOn, StandsRefused, Stands, StandsHeard}
+use Rattle.tcap_engine.specs.StepForm.{Moves, EngineRefuses, EngineAnswers, EngineReceives}
+use Rattle.tcap_engine.specs.HistoryForm.{Headline, StandsOn, StandsRefused, Stands, StandsReceived}
 
 -- The headline holds at every legal history.
 pub headline : (h : History) → IsLegal h → Headline h
@@ -63,6 +63,6 @@ stands_after view (Err f) event old new within answers = λ h at. refused (fault
 
 -- The same of bytes.
 pub stands_heard : {T : Type 0} → (view : T → Answer) (result : Result T OutOfMemory) (event : Event) (old new : World) → InRange event
-    → EngineHears view result (engine_move old event) old new → StandsHeard view result event old new
+    → EngineReceives view result (engine_move old event) old new → StandsReceived view result event old new
 stands_heard view (Ok x) event old new within hears = λ h at. moved h event old new (view x) within at hears
 stands_heard view (Err refused) event old new within hears = λ h at. subst (StandsAt h) (sym hears) at

@@ -3,7 +3,7 @@ use Rattle.std.proofs.Common.{◌≡◌, ℕ, ◌+◌, ◌<◌, ◌≤◌, Bool,
 use Rattle.std.specs.Prelude.{IfSome, MatchOption}
 use Rattle.std.specs.Map.{lookup}
 use Rattle.tcap_engine.specs.Lapsing.{AreBehind, AreUntimed, IsFirstTimer, timer_of}
-use Rattle.tcap_engine.specs.Table.{AreDrawn}
+use Rattle.tcap_engine.specs.DialogueEntries.{AreDrawn}
 use Rattle.tcap_engine.specs.Timed.{AreTimed}
 use Rattle.tcap_model.specs.Table.Dialogue.{Dialogue}
 use Rattle.timed_table.specs.Row.{Row, AllBelow, HasNoTime, IsFirst, IsRising, entries_of, is_before, row_of, time_in, with_time, with_value, without}

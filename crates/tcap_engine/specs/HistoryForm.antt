@@ -30,13 +30,13 @@ pub record StandsOn (h : History) (event : Event) (answer : Answer) (engine : Wo
   pub stands : StandsAt (with_pair h event) engine
   pub headline : Headline (with_pair h event)
 
--- The same of a refusal; where memory was refused nothing happened, and the engine stands at the
--- history still (own).
+-- A request was refused: the refusal is the reply, and the engine stands at the history with it. Where
+-- memory was refused nothing happened, and it stands at the history still (own).
 abbrev pub StandsRefused : model.Fault → History → Event → World → Type 0
 StandsRefused model.Fault.out_of_memory h event engine = StandsAt h engine
 StandsRefused f h event engine = StandsOn h event (Answer.refused f) engine
 
--- The same of an answer or a refusal (own).
+-- An answer, or a refusal, is the reply to the event, and the engine stands at the history with it (own).
 abbrev pub StandsAfter : {T : Type 0} → (T → Answer) → Result T Fault → History → Event → World → Type 0
 StandsAfter view (Ok x) h event engine = StandsOn h event (view x) engine
 StandsAfter view (Err f) h event engine = StandsRefused (fault_view f) h event engine
@@ -45,12 +45,12 @@ StandsAfter view (Err f) h event engine = StandsRefused (fault_view f) h event e
 abbrev pub Stands : {T : Type 0} → (T → Answer) → Result T Fault → Event → World → World → Type 0
 Stands view result event old new = (h : History) → StandsAt h old → StandsAfter view result h event new
 
--- The same of bytes, which are never refused; where memory was, the engine stands at the history still
--- (own).
-abbrev pub HeardOn : {T : Type 0} → (T → Answer) → Result T OutOfMemory → History → Event → World → Type 0
-HeardOn view (Ok x) h event engine = StandsOn h event (view x) engine
-HeardOn view (Err refused) h event engine = StandsAt h engine
+-- The answer to received bytes is the reply, and the engine stands at the history with it. Bytes are never
+-- refused; where memory was, the engine stands at the history still (own).
+abbrev pub ReceivedOn : {T : Type 0} → (T → Answer) → Result T OutOfMemory → History → Event → World → Type 0
+ReceivedOn view (Ok x) h event engine = StandsOn h event (view x) engine
+ReceivedOn view (Err refused) h event engine = StandsAt h engine
 
 -- Whatever history an engine stood at, it stands so after bytes were received (own).
-abbrev pub StandsHeard : {T : Type 0} → (T → Answer) → Result T OutOfMemory → Event → World → World → Type 0
-StandsHeard view result event old new = (h : History) → StandsAt h old → HeardOn view result h event new
+abbrev pub StandsReceived : {T : Type 0} → (T → Answer) → Result T OutOfMemory → Event → World → World → Type 0
+StandsReceived view result event old new = (h : History) → StandsAt h old → ReceivedOn view result h event new

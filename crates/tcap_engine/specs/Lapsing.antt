@@ -1,14 +1,14 @@
 -- What lapses at a moment, what a moment leaves, and which timer runs out first.
 use Rattle.std.specs.Prelude.{◌≡◌, ℕ, ◌+◌, ◌<◌, true, false, nat_eq, List, [], ◌∷◌, ◌++◌, map, length, option_to_list, Option, Some, None, IfSome}
 use Rattle.std.specs.Map.{lookup}
-use Rattle.tcap_engine.specs.Ending.{ends_in, idle_ids, is_among, left_by, place_at}
-use Rattle.tcap_engine.specs.Table.{TableEntry, AreFrom, dialogues_of}
+use Rattle.tcap_engine.specs.IdleDialogues.{ends_in, idle_ids, is_among, left_by, entry_at}
+use Rattle.tcap_engine.specs.DialogueEntries.{TableEntry, AreFrom, dialogues_of}
 use Rattle.tcap_invocation.specs.declared.invocations.lapse.Lapse.{Lapse}
 use Rattle.tcap_invocation.specs.Lapses.{told_at}
 use Rattle.tcap_invocation.specs.Timers.{next_timer_at}
 use Rattle.tcap_dialogue.specs.Timers.{earliest}
-use Rattle.tcap_engine.specs.declared.engine.moment.Passed.{Passed}
-use Rattle.tcap_engine.specs.declared.engine.moment.Passed.TheVariants as passed
+use Rattle.tcap_engine.specs.declared.engine.moment.Expiry.{Expiry}
+use Rattle.tcap_engine.specs.declared.engine.moment.Expiry.TheVariants as passed
 use Rattle.tcap_model.specs.Table.Dialogue.{Dialogue, idle_end, touched_at, with_invocations}
 use Rattle.tcap_model.specs.Words.Output.{Output}
 use Rattle.tcap_model.specs.Table.DueLapses.{DueLapse, due_told, all_told, at_moment}
@@ -46,7 +46,7 @@ pub record IsFirstTimer (ps : List TableEntry) (first : ℕ × ℕ) : Type 0 whe
 pub record IsQuiet (now : ℕ) (ps : List TableEntry) : Type 0 where
   pub told : all_told now (dialogues_of ps) ≡ []
   pub idle : idle_ids now ps ≡ []
-  pub rest : map (place_at now) ps ≡ ps
+  pub rest : map (entry_at now) ps ≡ ps
 
 -- A timer of the invocations of a dialogue, which a moment has reached, ran out: an invocation lapsed then, the
 -- first that is told at the moment, or identifiers are free that have waited. What the moment leaves is the
@@ -58,17 +58,17 @@ pub record IsRunOut (now time : ℕ) (lapse : Option Lapse) (old new : Dialogue)
   pub alike : new ≡ with_invocations old new.invocations
   pub fewer : length new.invocations.rows < length old.invocations.rows
 
--- A dialogue has been idle too long: its end is postponed, as if it were touched now, until all lapses are told
--- (own).
+-- A dialogue has been idle too long: its end is postponed, as if its idle timer started anew, until all
+-- lapses are told (own).
 pub record IsPutOff (now time : ℕ) (old new : Dialogue) : Type 0 where
   pub ends : idle_end old ≡ Some time
   pub is_touched : new ≡ touched_at old now
 
 -- The first timer of a dialogue, which a moment has reached, ran out (own).
-abbrev pub IsPassedIn : ℕ → ℕ → Passed → Dialogue → Dialogue → Type 0
-IsPassedIn now time (passed.Lapsed lapse) old new = IsRunOut now time (Some lapse) old new
-IsPassedIn now time passed.Freed old new = IsRunOut now time None old new
-IsPassedIn now time passed.Idle old new = IsPutOff now time old new
+abbrev pub IsExpiredIn : ℕ → ℕ → Expiry → Dialogue → Dialogue → Type 0
+IsExpiredIn now time (passed.Lapsed lapse) old new = IsRunOut now time (Some lapse) old new
+IsExpiredIn now time passed.Freed old new = IsRunOut now time None old new
+IsExpiredIn now time passed.Idle old new = IsPutOff now time old new
 
 -- How many invocations stand in all dialogues (own).
 abbrev pub row_count : List TableEntry → ℕ
@@ -81,13 +81,13 @@ due_from dialogue lapse = record { dialogue = dialogue; lapse = lapse }
 
 -- What is told of a dialogue when its first timer runs out: the lapse, if it was one
 -- (Q.774, Invocation timer).
-abbrev pub told_of : ℕ → Passed → List Output
+abbrev pub told_of : ℕ → Expiry → List Output
 told_of d (passed.Lapsed lapse) = due_told (due_from d lapse) ∷ []
 told_of d passed.Freed = []
 told_of d passed.Idle = []
 
 -- The dialogue, where its end is postponed (own).
-abbrev pub idle_of : ℕ → Passed → List ℕ
+abbrev pub idle_of : ℕ → Expiry → List ℕ
 idle_of d (passed.Lapsed lapse) = []
 idle_of d passed.Freed = []
 idle_of d passed.Idle = d ∷ []
@@ -97,12 +97,12 @@ idle_of d passed.Idle = d ∷ []
 abbrev pub step_count : ℕ → List TableEntry → ℕ
 step_count now ps = row_count ps + length (idle_ids now ps)
 
--- The first timer of all, which a moment has reached, ran out: what is told at the moment is the lapse, if it was
--- one, and then the rest; of the dialogues that have been idle too long it is the first, if its end is postponed,
--- and then the rest, and what is told of each is the same. What the moment leaves, but for some dialogues that
--- are over and that one among them, is the same; the identifiers rise as before
--- (Q.774, Invocation timer; Q.774, Reject timer).
-pub record IsPassed (now d : ℕ) (what : Passed) (old new : List TableEntry) : Type 0 where
+-- The first timer of all, which a moment has reached, ran out: what is told at the moment is the lapse, if
+-- it was one, and then the rest; of the dialogues that have been idle too long it is the first, if its end
+-- is postponed, and then the rest, and what is told of each is the same. What the moment leaves, but for
+-- some dialogues that are over and that one among them, is the same; the identifiers rise as before (Q.774,
+-- Invocation timer; Q.774, Reject timer).
+pub record IsExpired (now d : ℕ) (what : Expiry) (old new : List TableEntry) : Type 0 where
   pub told : all_told now (dialogues_of old) ≡ told_of d what ++ all_told now (dialogues_of new)
   pub idle : idle_ids now old ≡ idle_of d what ++ idle_ids now new
   pub ends : (id : ℕ) → ends_in now new id ≡ ends_in now old id

@@ -1,6 +1,6 @@
 -- What an engine answers to events, one after the other.
 use Rattle.std.specs.Prelude.{◌≡◌, ◌-◌, List, [], ◌∷◌, ◌++◌, length, take, drop, IsTrue}
-use Rattle.tcap_dialogue.specs.FaultViews.{takes_memory}
+use Rattle.tcap_dialogue.specs.RequestForm.{takes_memory}
 use Rattle.tcap_engine.specs.HistoryForm.{Headline}
 use Rattle.tcap_model.specs.Histories.History.{History}
 use Rattle.tcap_model.specs.Replies.Reply.{reply}

@@ -27,7 +27,8 @@ happened idle_ms engine (event ∷ events) [] trace = trace
 happened idle_ms engine (event ∷ events) (answer ∷ answers) trace =
     happened idle_ms engine events answers (marked_pair idle_ms engine event answer ∷ trace)
 
--- The same, with what the engines started with and where they are (own).
+-- The net after these events and answers of an engine: what the engines started with and where they are
+-- stays (own).
 abbrev pub net_after : Engine → List Event → List Answer → Net → Net
 net_after engine events answers net = record net {
   trace = happened (net.start engine).idle_ms engine events answers net.trace;
@@ -71,7 +72,8 @@ EachCallIsHeard =
     StandsOn (history_in net engine net.trace) event answer (new engine) → OthersStay engine old new →
     HearOneAnother (net_after engine (event ∷ []) (answer ∷ []) net) new
 
--- The same of a run over events, of which so many were done (own).
+-- Engines that receive from one another alone still do after a run over events, of which so many were done
+-- (own).
 abbrev pub EachRunIsHeard : Type 0
 EachRunIsHeard =
     (net : Net) (old new : Engine → World) (engine : Engine) (events : List Event) (count : ℕ)

@@ -2,9 +2,9 @@
 
 ghost use Rattle.std.specs.Prelude.{◌≡◌, false, ◌≢◌, ◌≤◌, ◌⊎◌, ◌+◌, ◌-◌, ◌++◌, ◌∷◌, ◌^◌, [], nat_eq, length, min, option_copied, OnErr, OnOk, MatchOption, if◌then◌else◌};
 ghost use Rattle.std.specs.Map.{lookup, remove_entry};
-ghost use Rattle.tcap_engine.specs.Ending.{idle_ids};
+ghost use Rattle.tcap_engine.specs.IdleDialogues.{idle_ids};
 ghost use Rattle.tcap_engine.specs.Lapsing.{AreUntimed, IsFirstTimer};
-ghost use Rattle.tcap_engine.specs.Table.{AreDrawn, dialogues_of};
+ghost use Rattle.tcap_engine.specs.DialogueEntries.{AreDrawn, dialogues_of};
 ghost use Rattle.tcap_model.specs.Table.Dialogue.{is_idle_at};
 ghost use Rattle.tcap_model.specs.Table.DueLapses.{all_told, all_idle_told};
 ghost use Rattle.timed_table.specs.Row.{entries_of, with_time, without};
@@ -31,7 +31,7 @@ const MOST_SPARES: usize = 16;
 
 /// How much room the answer to a moment needs.
 #[derive(Clone, Copy)]
-pub(crate) struct Room {
+pub(crate) struct Capacity {
     /// For what is told.
     pub(crate) told: usize,
     /// For the identifiers of the dialogues that have been idle too long.
@@ -40,7 +40,7 @@ pub(crate) struct Room {
 
 impl<A: Allocator + Copy> Model for Dialogues<A> {
     ghost use Rattle.std.specs.Prelude.{List};
-    ghost use Rattle.tcap_engine.specs.Table.{TableEntry};
+    ghost use Rattle.tcap_engine.specs.DialogueEntries.{TableEntry};
     ghost use Rattle.tcap_engine.specs.Timed.{AreTimed};
     ghost use Rattle.timed_table.specs.Row.{entries_of};
 
@@ -120,7 +120,7 @@ impl<A: Allocator + Copy> Dialogues<A> {
 
     /// How much room the answer to a moment needs, as far as a `usize` can tell: none for outputs where
     /// nothing is told.
-    pub(crate) fn room_at(&self, now: u64) -> Room
+    pub(crate) fn capacity_at(&self, now: u64) -> Capacity
         ensures enough { length (all_told now (dialogues_of self.now)) + length
             (all_idle_told now (dialogues_of self.now)) ≤ result.told ⊎ (result.told ≡ 2 ^ 64 - 1) }
         ensures some { result.told ≢ 0 → all_told now (dialogues_of self.now)
@@ -136,7 +136,7 @@ impl<A: Allocator + Copy> Dialogues<A> {
                 idle = idle.saturating_add(1);
             }
         }
-        Room { told, idle }
+        Capacity { told, idle }
     }
 }
 
@@ -185,7 +185,7 @@ pub(crate) fn keep_spare<A: Allocator + Copy>(
 // One copy serves all calls: a copy in each would fill the cache of instructions, which costs more than the
 // call. That took a tenth to a quarter off its misses.
 #[inline(never)]
-pub(crate) fn settle<A: Allocator + Copy>(
+pub(crate) fn store_or_remove<A: Allocator + Copy>(
     rows: &mut Table<Dialogue<A>, A>,
     identifier: u32,
     is_over: bool,

@@ -1,7 +1,6 @@
 //! The engine and what it keeps.
 
 pub(crate) mod advance;
-pub(crate) mod asking;
 pub(crate) mod component_requests;
 pub(crate) mod creation;
 pub(crate) mod delivery;
@@ -9,15 +8,21 @@ pub(crate) mod dialogue_requests;
 pub(crate) mod events;
 pub(crate) mod getters;
 pub(crate) mod idle;
-pub(crate) mod messages;
 pub(crate) mod moment;
+pub(crate) mod received_bytes;
 pub(crate) mod request_answers;
+pub(crate) mod request_in_table;
 pub(crate) mod requests;
+
+ghost use Rattle.std.specs.Prelude.{◌≡◌};
+ghost use Rattle.tcap_engine.specs.Limits.{AreLimits, empty_history};
+ghost use Rattle.tcap_model.specs.Table.World.{StandsAt, first_world};
 
 use crate::dialogues::Dialogues;
 use crate::limits::Limits;
 use std::alloc::{Allocator, Global};
 use std::marker::Model;
+use tcap_primitives::ranges;
 
 /// The engine (Q.774, Transaction sublayer procedures; Q.774, Component handling).
 ///
@@ -41,7 +46,7 @@ pub struct Engine<A: Allocator + Copy = Global> {
 
 impl<A: Allocator + Copy> Model for Engine<A> {
     ghost use Rattle.tcap_model.specs.Table.World.{World};
-    ghost use Rattle.tcap_engine.specs.Table.{IsSound, dialogues_of};
+    ghost use Rattle.tcap_engine.specs.DialogueEntries.{IsSound, dialogues_of};
 
     ghost Value = { World };
 
@@ -56,4 +61,34 @@ impl<A: Allocator + Copy> Model for Engine<A> {
     } };
 
     ghost invariant = { λ e. IsSound e.limits e.next_dialogue e.next_number e.clock e.table };
+}
+
+impl<A: Allocator + Copy> Engine<A> {
+    /// An engine with clock 0 and no dialogues, whose first dialogue and first invocation are 1.
+    pub fn new(alloc: A, limits: Limits) -> Engine<A>
+        requires { AreLimits limits }
+        ensures value { result ≡ first_world (empty_history limits 1 1).start }
+        // Nothing has happened.
+        ensures stands { StandsAt (empty_history limits 1 1) result }
+    {
+        Engine::resume(alloc, limits, 1, 1)
+    }
+
+    /// An engine with clock 0 and no dialogues that goes on with these counters: the identifier of its
+    /// first dialogue and the number of its first invocation.
+    pub fn resume(alloc: A, limits: Limits, next_dialogue: u32, next_number: u64) -> Engine<A>
+        requires { AreLimits limits }
+        ensures value { result ≡ first_world (empty_history limits next_dialogue next_number).start }
+        ensures stands { StandsAt (empty_history limits next_dialogue next_number) result }
+    {
+        ranges::short(next_dialogue);
+        ranges::long(next_number);
+        Engine {
+            limits,
+            next_dialogue,
+            next_number,
+            clock: 0,
+            table: Dialogues::new(alloc),
+        }
+    }
 }

@@ -2,7 +2,7 @@
 //! gives on, isolation and where components come from; and what holds of engines that hear one
 //! another.
 
-ghost use Rattle.tcap_engine.specs.Alone.{EachAnswerIsAlone, EachRunIsAlone};
+ghost use Rattle.tcap_engine.specs.IsolationForm.{EachAnswerIsAlone, EachRunIsAlone};
 ghost use Rattle.tcap_engine.specs.TwoEnds.{EachAnswerIsGiven, EachCallIsHeard, EachMayRely, EachRunIsHeard, EachSendIsSent, EachSendStays, NewOnesHear};
 ghost use Rattle.tcap_model.specs.Statements.Headline.{EachHasOutcome, EachIsBounded, EachIsCounted, EachIsDecided, EachIsPlainlyDecided};
 ghost use Rattle.tcap_model.specs.Statements.Isolation.{EachIsAlone};

@@ -48,7 +48,7 @@ abbrev pub lapse_for : ℕ → ℤ → Option Invocation → Option Lapse
 lapse_for clock id None = None
 lapse_for clock id (Some entry) = lapse_of clock (id, entry)
 
--- The same, by the rows (Q.774, Invocation timer).
+-- The lapse of an identifier at the clock, if it is due, by the rows (Q.774, Invocation timer).
 abbrev pub lapse_at : ℕ → List Row → ℤ → Option Lapse
 lapse_at clock rows id = lapse_for clock id (entry_at rows id)
 

@@ -55,7 +55,7 @@ abbrev pub told_of_timer : ℕ → Timer → Option Lapse
 told_of_timer clock t =
     if t.lapses && nat_le t.time clock then Some (record { deadline = t.time; number = t.number; id = t.id }) else None
 
--- The same of the first timer, if there is one (own).
+-- What the first timer tells at the clock, if there is one (own).
 abbrev pub told_first : ℕ → Option Timer → Option Lapse
 told_first clock None = None
 told_first clock (Some t) = told_of_timer clock t

@@ -29,7 +29,7 @@ ghost use Rattle.tcap_model.specs.Replies.Reply.{ended_in, reply, lapses};
 ghost use Rattle.tcap_model.specs.Words.Request.{Request};
 ghost use Rattle.tcap_model.specs.Invocations.Span.{span};
 
-/// What a dialogue sees of a history tells the clock, its creation, its life and the address that it keeps; a
+/// What a dialogue sees of a history tells the clock, its creation, its life and the address of its peer; a
 /// pair that it doesn't see means nothing for its identifiers, and one that it sees the same as in the
 /// history (our own).
 pub fn only_tells_life()

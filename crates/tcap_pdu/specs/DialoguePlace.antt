@@ -18,7 +18,7 @@ pdu_tag (pdu.Foreign e) = 0
 abbrev pub HeldOnWay : List ℕ → Slice → Slice → Slice → Type 0
 HeldOnWay way context info bytes = IsOnWay (way ++ (0xa1 ∷ 0x06 ∷ [])) context bytes × IsOnWayIfAny (way ++ (0xbe ∷ [])) info bytes
 
--- The same of a dialogue PDU; an ABRT holds no context (Q.773, Dialogue portion).
+-- The slices of a dialogue PDU lie where the tags lead; an ABRT holds no context (Q.773, Dialogue portion).
 abbrev pub PartsOnWay : List ℕ → DialoguePdu → Slice → Type 0
 PartsOnWay way (pdu.Aarq v c i) bytes = HeldOnWay way c i bytes
 PartsOnWay way (pdu.Audt v c i) bytes = HeldOnWay way c i bytes

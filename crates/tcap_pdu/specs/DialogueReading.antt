@@ -97,6 +97,7 @@ pdu_at bytes = do
   s ← content_at 0x06 external
   pdu_by bytes s.0 s.1
 
--- The same, with the fault where no PDU is spelled (Q.773, Dialogue portion; the fault is own).
+-- The dialogue PDU that contents spell, or the fault where they spell none (Q.773, Dialogue portion; the
+-- fault is own).
 unfoldable pub dialogue_at : List ℕ → Result PduValue DialogueFault
 dialogue_at bytes = ok_or (pdu_at bytes) Faulty

@@ -17,7 +17,7 @@ PortionsIn dialogue components content = IfSome dialogue (λ d. IsInside 0x6b d 
 abbrev pub ReasonIn : AbortPart → Slice → Type 0
 ReasonIn reason content = IfSome (reason_slice reason) (λ d. IsInside 0x6b d content)
 
--- The same of a message (Q.773, Structure of TC messages).
+-- The slices of a message lie in its content (Q.773, Structure of TC messages).
 abbrev pub FrameIn : Frame → Slice → Type 0
 FrameIn f content = IfSome (dialogue_slice f) (λ d. IsInside 0x6b d content) × IfSome (components_slice f) (λ c. IsInsideIfAny 0x6c c content)
 

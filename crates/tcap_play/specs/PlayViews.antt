@@ -127,7 +127,8 @@ StepsBy says a b a_now b_now before after = (p : Played) → IsAt p a b → HasS
 abbrev pub ActsBy : {A : Type 0} → (Played → Option Stepped) → Bool → (a b a_now b_now : Station A) → (before after : List ℕ) → Type 0
 ActsBy says done a b a_now b_now before after = (p : Played) → IsAt p a b → Does (says p) done a_now b_now before after
 
--- The same of the step that a line asks for, if it is one (own).
+-- At each play at which these two sides stand there is the step that a line asks for, if it is one, or
+-- none, and it was told which (own).
 abbrev pub ActsOn : {A : Type 0} → Option ScriptLine → Bool → (a b a_now b_now : Station A) → (before after : List ℕ) → Type 0
 ActsOn line done a b a_now b_now before after =
     ActsBy (λ p. option_and_then (step p) line) done a b a_now b_now before after

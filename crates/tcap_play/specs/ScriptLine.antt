@@ -63,7 +63,8 @@ portion_request_of to name context information = do
   request ← portion_request_named to name context information
   Some (Request.dialogue request)
 
--- The same, made on the engine of a letter, whose messages go to the other engine (own).
+-- A request of dialogue handling made on the engine of a letter, whose messages go to the other engine
+-- (own).
 abbrev pub portion_request_on : List ℕ → List ℕ → List ℕ → List ℕ → Option Request
 portion_request_on side name context information = do
   engine ← engine_of side

@@ -8,8 +8,8 @@ use Rattle.tcap_pdu.specs.DialogueWritten.{HasDiagnostic, written_dialogue}
 use Rattle.tcap_pdu.specs.FrameSpelling.{Message, Reason}
 use Rattle.tcap_model.specs.Procedures.Refusals.{can_name}
 use Rattle.tcap_model.specs.Words.LocalId.{local_id}
-use Rattle.tcap_primitives.specs.declared.sending.Bearer.{Bearer}
-use Rattle.tcap_primitives.specs.declared.sending.Bearer.TheVariants as bearer
+use Rattle.tcap_primitives.specs.declared.sending.MessageParts.{MessageParts}
+use Rattle.tcap_primitives.specs.declared.sending.MessageParts.TheVariants as bearer
 use Rattle.tcap_primitives.specs.declared.sending.Sending.{Sending}
 
 -- The contents of a dialogue portion with a PDU, if there is one (own).
@@ -23,17 +23,17 @@ reason_with None = Reason.nothing
 reason_with (Some portion) = Reason.portion portion
 
 -- A message with this dialogue portion, if there is one (own).
-abbrev pub borne : Bearer → Option (List ℕ) → Message
-borne (bearer.Uni components) portion = Message.unidirectional portion components.now
-borne (bearer.Begin origin components) portion = Message.begin (local_id origin) portion components.now
-borne (bearer.Continue origin peer components) portion =
+abbrev pub carried_by : MessageParts → Option (List ℕ) → Message
+carried_by (bearer.Uni components) portion = Message.unidirectional portion components.now
+carried_by (bearer.Begin origin components) portion = Message.begin (local_id origin) portion components.now
+carried_by (bearer.Continue origin peer components) portion =
     Message.go_on (local_id origin) peer.now portion components.now
-borne (bearer.End peer components) portion = Message.end peer.now portion components.now
-borne (bearer.Abort peer) portion = Message.abort peer.now (reason_with portion)
+carried_by (bearer.End peer components) portion = Message.end peer.now portion components.now
+carried_by (bearer.Abort peer) portion = Message.abort peer.now (reason_with portion)
 
 -- The message of a request (own).
 abbrev pub sending_view : Sending → Message
-sending_view s = borne s.bearer (portion_view s.pdu)
+sending_view s = carried_by s.bearer (portion_view s.pdu)
 
 -- A PDU, if there is one, can be written but for its length, where the application context and the user
 -- information given are good (own).
@@ -43,7 +43,7 @@ CanCarry context info (Some pdu) =
     HasDiagnostic (pdu_value pdu)
     × (can_name context ≡ true → is_information info ≡ true → content_fault (pdu_value pdu) ≡ None)
 
--- So can that of a message, if one is sent (own).
-abbrev pub CanBear : Option (List ℕ) → List ℕ → Option Sending → Type 0
-CanBear context info None = Unit {0}
-CanBear context info (Some s) = CanCarry context info s.pdu
+-- The PDU of the message of a request, if one is sent, can be written so (own).
+abbrev pub CanSend : Option (List ℕ) → List ℕ → Option Sending → Type 0
+CanSend context info None = Unit {0}
+CanSend context info (Some s) = CanCarry context info s.pdu

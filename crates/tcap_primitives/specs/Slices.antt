@@ -22,17 +22,17 @@ pub record IsLeftOf (bytes portion : Slice) : Type 0 where
   pub follows : components_of portion.now ≡ before ++ components_of bytes.now
 
 -- A component whose slices lie in place at the beginning of what is left of the component portion (own).
-pub record StandsIn (c : Component) (portion : Slice) : Type 0 where
+pub record ComponentLiesIn (c : Component) (portion : Slice) : Type 0 where
   pub bytes : Slice
   pub is_left : IsLeftOf bytes portion
   pub in_place : ComponentInPlace c bytes
 
 -- The context and the information of a dialogue PDU with this tag lie in place in the contents of the
 -- dialogue portion; without context there is no information (Q.773, Dialogue portion).
-abbrev pub HeldIn : ℕ → Option Slice → Slice → Option Slice → Type 0
-HeldIn tag None info portion = info.now ≡ []
-HeldIn tag (Some context) info None = ⊥
-HeldIn tag (Some context) info (Some portion) = HeldOnWay (0x28 ∷ 0xa0 ∷ tag ∷ []) context info portion
+abbrev pub PartsLieIn : ℕ → Option Slice → Slice → Option Slice → Type 0
+PartsLieIn tag None info portion = info.now ≡ []
+PartsLieIn tag (Some context) info None = ⊥
+PartsLieIn tag (Some context) info (Some portion) = HeldOnWay (0x28 ∷ 0xa0 ∷ tag ∷ []) context info portion
 
 -- The dialogue PDU of an Abort lies in place in the contents of the dialogue portion
 -- (Q.773, Dialogue portion).
@@ -83,7 +83,7 @@ AreOf c (Slices.held tag context info) = ⊥
 AreOf c (Slices.of_pdu pdu) = ⊥
 AreOf c (Slices.of_component told) = told ≡ c
 
--- The same of an item; a fault has no slices (own).
+-- These are the slices of an item; a fault has none (own).
 abbrev pub AreOfItem : Result Component ComponentFault → Slices → Type 0
 AreOfItem (Ok c) slices = AreOf c slices
 AreOfItem (Err f) slices = slices ≡ Slices.none
@@ -91,9 +91,9 @@ AreOfItem (Err f) slices = slices ≡ Slices.none
 -- The slices lie in place in the contents of the dialogue portion and of the component portion (own).
 abbrev pub LieIn : Option Slice → Slice → Slices → Type 0
 LieIn dialogue components Slices.none = Unit {0}
-LieIn dialogue components (Slices.held tag context info) = HeldIn tag context info dialogue
+LieIn dialogue components (Slices.held tag context info) = PartsLieIn tag context info dialogue
 LieIn dialogue components (Slices.of_pdu pdu) = PduIn pdu dialogue
-LieIn dialogue components (Slices.of_component c) = StandsIn c components
+LieIn dialogue components (Slices.of_component c) = ComponentLiesIn c components
 
 -- The slices of each output are the parts of the dialogue portion and of the component portion that it
 -- tells, and no equal octets elsewhere (own).

@@ -23,4 +23,4 @@ pub use provider_abort::{Abort, Cause, write_abort};
 pub use queue::{Invoking, MAX_QUEUE, Part, Queue};
 pub use request::{AbortWhy, Ending, Request};
 pub use sending::portions::{abort_pdu, answering_pdu, begin_pdu, refusing_pdu, uni_pdu};
-pub use sending::{Bearer, Sending};
+pub use sending::{MessageParts, Sending};

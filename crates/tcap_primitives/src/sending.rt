@@ -7,7 +7,7 @@ use tcap_pdu::{DialoguePdu, TransId};
 
 /// A message without its dialogue portion: the identifiers, and the octets of the components.
 #[derive(Drop)]
-pub enum Bearer<'a> {
+pub enum MessageParts<'a> {
     /// Unidirectional.
     Uni {
         components: &'a [u8],
@@ -38,7 +38,7 @@ pub enum Bearer<'a> {
 #[derive(Drop)]
 pub struct Sending<'a> {
     /// The message but for its dialogue portion.
-    pub bearer: Bearer<'a>,
+    pub bearer: MessageParts<'a>,
     /// The PDU of its dialogue portion, if it has one.
     pub pdu: Option<DialoguePdu<'a>>,
 }

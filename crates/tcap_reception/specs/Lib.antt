@@ -1,4 +1,4 @@
-pub mod GivenViews
+pub mod PortionParts
 pub mod PortionViews
 pub mod ReceptionViews
 pub mod StateViews

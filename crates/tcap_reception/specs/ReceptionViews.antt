@@ -1,7 +1,7 @@
 -- What becomes of received bytes, as a contract sees it.
 use Rattle.std.specs.Prelude.{◌≡◌, ℕ, Bool, false, Option, Some, None, IfSome}
 use Rattle.ber_core.specs.ObjectIdentifier.{IsObjectIdentifier}
-use Rattle.tcap_reception.specs.GivenViews.{context_given, info_given}
+use Rattle.tcap_reception.specs.PortionParts.{context_of_portion, info_of_portion}
 use Rattle.tcap_primitives.specs.AbortViews.{CanWriteAbort, abort_sent}
 use Rattle.tcap_primitives.specs.OutputViews.{drop_view}
 use Rattle.tcap_model.specs.Procedures.AbortRules.{fault_cause}
@@ -17,9 +17,9 @@ abbrev pub reception_view : Reception → model.Reception
 reception_view (reception.Dropped why) = model.Reception.dropped (drop_view why)
 reception_view (reception.Aborted abort) = model.Reception.aborted (abort_sent abort)
 reception_view (reception.Unidirectional request components) =
-    model.Reception.unidirectional (context_given request) (info_given request) components.now
+    model.Reception.unidirectional (context_of_portion request) (info_of_portion request) components.now
 reception_view (reception.Begun origin request components) =
-    model.Reception.begun origin (context_given request) (info_given request) components.now
+    model.Reception.begun origin (context_of_portion request) (info_of_portion request) components.now
 reception_view (reception.Taken dialogue frame) = model.Reception.taken dialogue (message frame)
 reception_view (reception.Broken dialogue origin fault) =
     model.Reception.broken dialogue (fault_abort fault origin) (fault_cause fault)
@@ -52,13 +52,13 @@ IsOf named (reception.Taken dialogue frame) = named ≡ Some dialogue
 IsOf named (reception.Broken dialogue origin fault) = named ≡ Some dialogue
 
 -- No dialogue is created where none can be (own).
-abbrev pub CanBear : Bool → Reception → Type 0
-CanBear is_full (reception.Dropped why) = Unit {0}
-CanBear is_full (reception.Aborted abort) = Unit {0}
-CanBear is_full (reception.Unidirectional request components) = Unit {0}
-CanBear is_full (reception.Begun origin request components) = is_full ≡ false
-CanBear is_full (reception.Taken dialogue frame) = Unit {0}
-CanBear is_full (reception.Broken dialogue origin fault) = Unit {0}
+abbrev pub MayCreate : Bool → Reception → Type 0
+MayCreate is_full (reception.Dropped why) = Unit {0}
+MayCreate is_full (reception.Aborted abort) = Unit {0}
+MayCreate is_full (reception.Unidirectional request components) = Unit {0}
+MayCreate is_full (reception.Begun origin request components) = is_full ≡ false
+MayCreate is_full (reception.Taken dialogue frame) = Unit {0}
+MayCreate is_full (reception.Broken dialogue origin fault) = Unit {0}
 
 -- The dialogue that a message reaches, if it reaches one (own).
 abbrev pub reached : Reception → Option ℕ

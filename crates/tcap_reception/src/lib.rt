@@ -10,5 +10,5 @@ mod reception;
 mod state;
 
 pub use portion::{BeginVerdict, PortionVerdict, judge_begin, judge_portion, judge_uni};
-pub use reception::{AarqParts, Reception, hear_fault, hear_message};
+pub use reception::{AarqParts, Reception, reception_of_fault, reception_of_message};
 pub use state::{Phase, State};

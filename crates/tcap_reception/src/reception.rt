@@ -1,7 +1,7 @@
 //! What becomes of received bytes, before anything is done.
 
 ghost use Rattle.std.specs.Prelude.{◌≡◌, Bool, ℕ, Option, Some, option_copied};
-ghost use Rattle.tcap_reception.specs.ReceptionViews.{CanBear, CanRun, IsAddressed, IsOf, reception_view};
+ghost use Rattle.tcap_reception.specs.ReceptionViews.{MayCreate, CanRun, IsAddressed, IsOf, reception_view};
 ghost use Rattle.tcap_primitives.specs.AbortViews.{cause_number};
 ghost use Rattle.tcap_model.specs.Procedures.AbortRules.{abort_with};
 ghost use Rattle.tcap_model.specs.Procedures.Destination.{destination};
@@ -54,7 +54,10 @@ pub enum Reception<'m> {
 // ---- messages that can be read
 
 /// A Unidirectional is told or dropped, by its dialogue portion (Q.774, Unstructured dialogue).
-fn hear_uni<'m>(dialogue: Option<&'m [u8]>, components: &'m [u8]) -> Reception<'m>
+fn reception_of_unidirectional<'m>(
+    dialogue: Option<&'m [u8]>,
+    components: &'m [u8],
+) -> Reception<'m>
     ensures value { reception_view result ≡ uni_by (uni_verdict (option_copied dialogue.entry)) components.now }
     ensures can { CanRun result }
     ensures of { (named : Option ℕ) → IsOf named result }
@@ -76,7 +79,7 @@ fn hear_uni<'m>(dialogue: Option<&'m [u8]>, components: &'m [u8]) -> Reception<'
 }
 
 /// A Begin is accepted or aborted, by its dialogue portion (Q.774, Dialogue begin).
-fn hear_begin<'m>(
+fn reception_of_begin<'m>(
     origin: TransId,
     dialogue: Option<&'m [u8]>,
     components: &'m [u8],
@@ -110,14 +113,14 @@ fn aborted_by<'m>(peer: TransId, cause: Cause) -> Reception<'m>
     ensures value { reception_view result ≡ model.Reception.aborted (abort_with (cause_number cause) peer) }
     ensures can { CanRun result }
     ensures of { (named : Option ℕ) → IsOf named result }
-    ensures born { (is_full : Bool) → CanBear is_full result }
+    ensures born { (is_full : Bool) → MayCreate is_full result }
 {
     Reception::Aborted(Abort::Cause { peer, cause })
 }
 
 /// An End or an Abort is taken by the live dialogue that it names, or dropped
 /// (Q.774, Abnormal procedures).
-fn hear_last<'m>(frame: Frame<'m>, named: Option<u32>) -> Reception<'m>
+fn reception_of_end_or_abort<'m>(frame: Frame<'m>, named: Option<u32>) -> Reception<'m>
     requires { IsAddressed (message frame) }
     ensures value { reception_view result ≡ final_message_by named (message frame.entry) }
     ensures can { CanRun result }
@@ -131,27 +134,31 @@ fn hear_last<'m>(frame: Frame<'m>, named: Option<u32>) -> Reception<'m>
 
 /// A message is taken by the live dialogue that its destination names, if it names one; a Begin is
 /// aborted where no dialogue can be created (Q.774, Transaction sublayer procedures).
-pub fn hear_message<'m>(frame: Frame<'m>, named: Option<u32>, is_full: bool) -> Reception<'m>
+pub fn reception_of_message<'m>(
+    frame: Frame<'m>,
+    named: Option<u32>,
+    is_full: bool,
+) -> Reception<'m>
     ensures value { (is_live : ℕ → Bool) → named ≡ addressed_if_any is_live (destination
         (message frame.entry)) → reception_view result ≡ message_by is_live is_full (message frame.entry) }
     ensures can { CanRun result }
     ensures of { IsOf named result }
-    ensures born { CanBear is_full result }
+    ensures born { MayCreate is_full result }
 {
     match frame {
         Frame::Uni {
             dialogue,
             components,
-        } => hear_uni(dialogue, components),
+        } => reception_of_unidirectional(dialogue, components),
         Frame::Begin { otid, .. } if is_full => aborted_by(otid, Cause::ResourceLimitation),
         Frame::Begin {
             otid,
             dialogue,
             components,
-        } => hear_begin(otid, dialogue, components),
+        } => reception_of_begin(otid, dialogue, components),
         Frame::Continue { otid, .. } if named.is_none() => aborted_by(otid, Cause::UnrecognizedId),
         frame @ (Frame::Continue { .. } | Frame::End { .. } | Frame::Abort { .. }) => {
-            hear_last(frame, named)
+            reception_of_end_or_abort(frame, named)
         }
     }
 }
@@ -160,11 +167,11 @@ pub fn hear_message<'m>(frame: Frame<'m>, named: Option<u32>, is_full: bool) -> 
 
 /// An Abort with the fault's cause goes to the originator, or the message is dropped where that isn't
 /// known (Q.774, Abnormal procedures).
-fn refuse<'m>(origin: Option<TransId>, fault: FrameFault) -> Reception<'m>
+fn abort_or_drop<'m>(origin: Option<TransId>, fault: FrameFault) -> Reception<'m>
     ensures value { reception_view result ≡ aborted_or_dropped (fault_abort fault origin) }
     ensures can { CanRun result }
     ensures of { (named : Option ℕ) → IsOf named result }
-    ensures born { (is_full : Bool) → CanBear is_full result }
+    ensures born { (is_full : Bool) → MayCreate is_full result }
 {
     match origin {
         Some(peer) => aborted_by(peer, Cause::Faulty(fault)),
@@ -173,7 +180,7 @@ fn refuse<'m>(origin: Option<TransId>, fault: FrameFault) -> Reception<'m>
 }
 
 /// A faulty Continue ends the live dialogue that it names, and is aborted (our own).
-fn break_continue<'m>(
+fn faulty_continue<'m>(
     named: Option<u32>,
     origin: Option<TransId>,
     fault: FrameFault,
@@ -181,7 +188,7 @@ fn break_continue<'m>(
     ensures value { reception_view result ≡ faulty_continue named (fault_abort fault origin) fault }
     ensures can { CanRun result }
     ensures of { IsOf named result }
-    ensures born { (is_full : Bool) → CanBear is_full result }
+    ensures born { (is_full : Bool) → MayCreate is_full result }
 {
     match named {
         Some(dialogue) => Reception::Broken {
@@ -189,17 +196,17 @@ fn break_continue<'m>(
             origin,
             fault,
         },
-        None => refuse(origin, fault),
+        None => abort_or_drop(origin, fault),
     }
 }
 
 /// A faulty End or Abort ends the live dialogue that it names, and is never answered
 /// (Q.774, Abnormal procedures).
-fn break_last<'m>(named: Option<u32>, fault: FrameFault) -> Reception<'m>
+fn faulty_end_or_abort<'m>(named: Option<u32>, fault: FrameFault) -> Reception<'m>
     ensures value { reception_view result ≡ faulty_last named fault }
     ensures can { CanRun result }
     ensures of { IsOf named result }
-    ensures born { (is_full : Bool) → CanBear is_full result }
+    ensures born { (is_full : Bool) → MayCreate is_full result }
 {
     match named {
         Some(dialogue) => Reception::Broken {
@@ -213,7 +220,7 @@ fn break_last<'m>(named: Option<u32>, fault: FrameFault) -> Reception<'m>
 
 /// A faulty message, by its first octet alone (Q.774, Abnormal procedures; the choice by the first octet
 /// is our own).
-fn hear_fault_by<'m>(
+fn reception_of_fault_by<'m>(
     first: u8,
     named: Option<u32>,
     origin: Option<TransId>,
@@ -222,19 +229,19 @@ fn hear_fault_by<'m>(
     ensures value { reception_view result ≡ fault_by first named (fault_abort fault origin) fault }
     ensures can { CanRun result }
     ensures of { IsOf named result }
-    ensures born { (is_full : Bool) → CanBear is_full result }
+    ensures born { (is_full : Bool) → MayCreate is_full result }
 {
     match first {
         UNIDIRECTIONAL => Reception::Dropped(DropWhy::BadMessage),
-        END | ABORT => break_last(named, fault),
-        CONTINUE => break_continue(named, origin, fault),
-        _ => refuse(origin, fault),
+        END | ABORT => faulty_end_or_abort(named, fault),
+        CONTINUE => faulty_continue(named, origin, fault),
+        _ => abort_or_drop(origin, fault),
     }
 }
 
 /// A faulty message: `named` is the live dialogue that the identifier at its front names, `origin` the
 /// originator there.
-pub fn hear_fault<'m>(
+pub fn reception_of_fault<'m>(
     bytes: &[u8],
     named: Option<u32>,
     origin: Option<TransId>,
@@ -244,10 +251,10 @@ pub fn hear_fault<'m>(
         → origin ≡ (front_at bytes.now).0 → reception_view result ≡ faulty is_live bytes.now fault }
     ensures can { CanRun result }
     ensures of { IsOf named result }
-    ensures born { (is_full : Bool) → CanBear is_full result }
+    ensures born { (is_full : Bool) → MayCreate is_full result }
 {
     match bytes {
         [] => Reception::Dropped(DropWhy::BadMessage),
-        [first, ..] => hear_fault_by(*first, named, origin, fault),
+        [first, ..] => reception_of_fault_by(*first, named, origin, fault),
     }
 }

@@ -1,7 +1,8 @@
 //! The states of a dialogue (Q.774, Transaction state machine).
 
 ghost use Rattle.std.specs.Prelude.{◌≡◌};
-ghost use Rattle.tcap_model.specs.Words.State.{is_live, peer_of};
+ghost use Rattle.tcap_model.specs.Procedures.States.{has_peer, is_fresh};
+ghost use Rattle.tcap_model.specs.Words.State.{State as Standing, activated, is_live, peer_by, peer_of};
 ghost use Rattle.tcap_reception.specs.StateViews.{phase_view, state_of};
 
 use tcap_pdu::TransId;
@@ -9,15 +10,18 @@ use tcap_pdu::TransId;
 /// How far a dialogue is (Q.774, Transaction state machine). One that is over has no state.
 ///
 /// ```text
-///         begin           Continue
-/// Fresh ---------> Sent -----------+
-///   |                |             v
-///   | uni            |  End,    Active <--+ go_on, Continue
-///   v                |  Abort   |  ^   ---+
-///  over <------------+----------+  |
-///   ^                              | go_on
-///   +------------------------- Received <--- Begin
-///      finish, u_abort, in every state
+///          begin              Continue
+///  Fresh ---------> Sent -----------------> Active --+
+///                                            ^  ^    | go_on, Continue
+///          Begin               go_on         |  +----+
+/// (none) ---------> Received ----------------+
+///
+/// It is over from
+/// Fresh            by uni
+/// Received         by a basic finish; by u_abort since the context is not supported, if the Begin had an AARQ
+/// Active           by a basic finish
+/// Sent and Active  by an End, an Abort, a faulty message, an abnormal dialogue portion, the idle limit
+/// each             by a prearranged finish, by u_abort of the user
 /// ```
 #[derive(Clone, Copy, Debug, PartialEq, Eq)]
 pub enum State {
@@ -75,5 +79,53 @@ impl Phase {
             Phase::Fresh | Phase::Sent => None,
             Phase::Received(peer) | Phase::Active(peer) => Some(peer.copied()),
         }
+    }
+
+    /// Whether no message was sent or received.
+    pub fn is_fresh(&self) -> bool
+        ensures { result ≡ is_fresh (phase_view self.now) }
+    {
+        match self {
+            Phase::Fresh => true,
+            Phase::Sent | Phase::Received(_) | Phase::Active(_) => false,
+        }
+    }
+
+    /// Whether a message of the peer was received, so that there is something to answer.
+    pub fn has_peer(&self) -> bool
+        ensures { result ≡ has_peer (phase_view self.now) }
+    {
+        match self {
+            Phase::Fresh | Phase::Sent => false,
+            Phase::Received(_) | Phase::Active(_) => true,
+        }
+    }
+
+    /// The peer of a Continue: the one known, or else its originator (Q.774, Transaction state machine).
+    pub fn peer_or<'a>(&'a self, origin: &'a TransId) -> &'a TransId
+        ensures { result.now ≡ peer_by (phase_view self.now) origin.now }
+    {
+        match self {
+            Phase::Fresh | Phase::Sent => origin,
+            Phase::Received(peer) | Phase::Active(peer) => peer,
+        }
+    }
+
+    /// The state after an accepted `go_on`: the first answer makes the dialogue Active.
+    pub fn activated(&self) -> Phase
+        ensures { phase_view result ≡ activated (phase_view self.now) }
+    {
+        match self {
+            Phase::Fresh => Phase::Fresh,
+            Phase::Sent => Phase::Sent,
+            Phase::Received(peer) | Phase::Active(peer) => Phase::Active(peer.copied()),
+        }
+    }
+
+    /// The state after a Continue: the peer that is known stays (Q.774, Transaction state machine).
+    pub fn continued(&self, origin: &TransId) -> Phase
+        ensures { phase_view result ≡ Standing.active (peer_by (phase_view self.now) origin.now) }
+    {
+        Phase::Active(self.peer_or(origin).copied())
     }
 }

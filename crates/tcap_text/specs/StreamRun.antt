@@ -39,7 +39,7 @@ pub record IsHalted (had left old new : Option (List ℕ)) : Type 0 where
   pub no_fault : (cut_of stream).fault ≡ None
   pub written : Appends old new (verdict_lines (cut_of stream).messages)
 
--- The same, of a stream of at least an octet for each read that a run may make (own).
+-- A run was halted in a stream of at least an octet for each read that a run may make (own).
 pub record IsEndless (had left old new : Option (List ℕ)) : Type 0 where
   pub halted : IsHalted had left old new
   pub many : most_reads ≤ length halted.stream

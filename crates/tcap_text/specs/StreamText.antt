@@ -32,7 +32,7 @@ abbrev pub last_line_by : Option FeedFault → ℕ → List ℕ
 last_line_by (Some fault) left = fault_line fault
 last_line_by None left = if left == 0 then [] else number_line (codes "rest") left
 
--- The same of a stream that was cut (own).
+-- The last line of a stream that was cut so, if it has one (own).
 abbrev pub last_line : Cut → List ℕ
 last_line cut = last_line_by cut.fault (length cut.rest)
 

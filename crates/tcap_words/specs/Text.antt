@@ -23,7 +23,7 @@ inner_line words = codes "    " ++ (words ++ codes "\n")
 abbrev pub octets_words : List ℕ → List ℕ
 octets_words octets = if length octets == 0 then codes "-" else encode_lower octets
 
--- The same, where they may be absent (own).
+-- Octets in hexadecimal, `-` where they are empty or absent (own).
 abbrev pub optional_octets_words : Option (List ℕ) → List ℕ
 optional_octets_words None = codes "-"
 optional_octets_words (Some octets) = octets_words octets

@@ -31,7 +31,7 @@ upwards passes len zero place = []
 upwards passes len (suc height) place =
     cond (nat_eq place 0) [] (cond (nat_eq (place % 2) 1) (downwards passes len (place + 1)) [] ++ upwards passes len height ((place - 1) / 2))
 
--- The same, as far up as there is (own).
+-- What follows a place and those below it, as far up as there is (own).
 abbrev pub after_place : (ℕ → Bool) → ℕ → ℕ → List ℕ
 after_place passes len place = upwards passes len (suc place) place
 

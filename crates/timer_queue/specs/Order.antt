@@ -6,7 +6,7 @@ use Rattle.timer_queue.specs.declared.timer.Timer.{Timer}
 abbrev pub is_before : Timer → Timer → Bool
 is_before a b = nat_lt a.time b.time || ((a.time == b.time) && nat_lt a.name b.name)
 
--- The same where there may be none, which comes after each (own).
+-- Whether a timer comes before another, where there may be none, which comes after each (own).
 abbrev pub comes_before : Option Timer → Option Timer → Bool
 comes_before None b = false
 comes_before (Some a) None = true

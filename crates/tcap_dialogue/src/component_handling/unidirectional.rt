@@ -25,7 +25,7 @@ fn rejected<'m, A: Allocator>(id: Option<i8>, problem: Problem) -> Output<'m, A>
 }
 
 /// A Reject, which closes nothing.
-fn alone_reject<'m, A: Allocator>(id: Option<i8>, problem: Problem) -> Output<'m, A>
+fn unidirectional_reject<'m, A: Allocator>(id: Option<i8>, problem: Problem) -> Output<'m, A>
     ensures told { shown result ≡ (remote None id (problem_parts problem)).told }
     ensures slices { slices_of result ≡ Slices.none }
 {
@@ -38,7 +38,7 @@ fn alone_reject<'m, A: Allocator>(id: Option<i8>, problem: Problem) -> Output<'m
 }
 
 /// An Invoke.
-fn alone_invoke<'m, A: Allocator>(
+fn unidirectional_invoke<'m, A: Allocator>(
     id: i8,
     linked: Option<i8>,
     code: Code<'m>,
@@ -61,7 +61,7 @@ fn alone_invoke<'m, A: Allocator>(
 }
 
 /// A component that was read.
-fn alone_component<'m, A: Allocator>(component: Component<'m>) -> Output<'m, A>
+fn unidirectional_component<'m, A: Allocator>(component: Component<'m>) -> Output<'m, A>
     ensures told { shown result ≡ (handled None None (Ok (component_parts component.entry))).told }
     ensures slices { AreOf component.entry (slices_of result) }
 {
@@ -71,24 +71,24 @@ fn alone_component<'m, A: Allocator>(component: Component<'m>) -> Output<'m, A>
             linked,
             code,
             parameter,
-        } => alone_invoke(id, linked, code, parameter),
+        } => unidirectional_invoke(id, linked, code, parameter),
         Component::ResultLast { id, .. } | Component::ResultMore { id, .. } => {
             rejected(Some(id), Problem::unrecognized_result())
         }
         Component::ErrorBack { id, .. } => rejected(Some(id), Problem::unrecognized_error()),
-        Component::RejectBack { id, problem } => alone_reject(id, problem),
+        Component::RejectBack { id, problem } => unidirectional_reject(id, problem),
     }
 }
 
 /// One component of a Unidirectional (Q.774, Unstructured dialogue).
-pub(crate) fn take_alone<'m, A: Allocator>(
+pub(crate) fn take_in_unidirectional<'m, A: Allocator>(
     item: Result<Component<'m>, ComponentFault>,
 ) -> Output<'m, A>
     ensures told { shown result ≡ (handled None None (item_view item.entry)).told }
     ensures slices { AreOfItem item.entry (slices_of result) }
 {
     match item {
-        Ok(component) => alone_component(component),
+        Ok(component) => unidirectional_component(component),
         Err(fault) => rejected(fault.id, fault.problem),
     }
 }

@@ -11,7 +11,7 @@ ghost use Rattle.tcap_dialogue.specs.StepViews.{outcome, stepped};
 ghost use Rattle.tcap_model.specs.Table.TableMove.{over_with};
 ghost use Rattle.tcap_model.specs.Words.Output as model;
 ghost use Rattle.tcap_model.specs.Words.Output.{DialogueIndication};
-ghost use Rattle.tcap_model.specs.Words.State.{address_by, peer_by};
+ghost use Rattle.tcap_model.specs.Words.State.{address_by};
 ghost use Rattle.tcap_pdu.specs.DialoguePlace.{PduInPlace};
 ghost use Rattle.tcap_pdu.specs.DialogueReading.{dialogue_at};
 ghost use Rattle.tcap_pdu.specs.DialogueViews.{pdu_value, source};
@@ -120,16 +120,6 @@ fn is_no_common(diagnostic: Diagnostic) -> bool
     }
 }
 
-/// The peer of a Continue: the one known, or else its originator (Q.774, Transaction state machine).
-fn peer_by<'a>(phase: &'a Phase, origin: &'a TransId) -> &'a TransId
-    ensures { result.now ≡ peer_by (phase_view phase.now) origin.now }
-{
-    match phase {
-        Phase::Fresh | Phase::Sent => origin,
-        Phase::Received(peer) | Phase::Active(peer) => peer,
-    }
-}
-
 /// The address of the peer of a Continue: the one that is kept, or in Sent that of its sender (our own).
 #[inline]
 fn address_by<'a>(phase: &Phase, kept: &'a Address, from: &'a Address) -> &'a Address
@@ -205,7 +195,7 @@ impl<A: Allocator + Copy> Dialogue<A> {
             → IfOk result (λ s. AllInPlace portion components s.outputs.items) }
     {
         let alloc = *self.queue.octets.allocator();
-        let peer = peer_by(&self.phase, origin).copied();
+        let peer = self.phase.peer_or(origin).copied();
         let bytes = write_abort(alloc, &Abort::Abnormal { peer })?;
         let count = self.invocations.open_count().saturating_add(2);
         let mut outputs = Vec::with_capacity(alloc, count)?;

@@ -2,7 +2,7 @@
 
 ghost use Rattle.std.specs.Prelude.{◌≡◌, ◌≤◌};
 ghost use Rattle.tcap_dialogue.specs.AskViews.{IsNumbered, Asks};
-ghost use Rattle.tcap_dialogue.specs.FaultViews.{Answers, Steps, numbered, queued_done, gave_up};
+ghost use Rattle.tcap_dialogue.specs.RequestForm.{Answers, Steps, numbered, queued_done, gave_up};
 ghost use Rattle.tcap_primitives.specs.RequestViews.{request_view};
 ghost use Rattle.tcap_dialogue.specs.StepViews.{Outcome, outcome, asked};
 ghost use Rattle.tcap_invocation.specs.Stage.{moment_limit};

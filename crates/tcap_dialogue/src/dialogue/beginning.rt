@@ -1,24 +1,19 @@
-//! What creates a dialogue, or has none: a Begin and a Unidirectional.
+//! What creates a dialogue: a Begin.
 
-ghost use Rattle.std.specs.Prelude.{◌≡◌, ℕ, ◌∷◌, ◌≤◌, Option, true, option_copied, IfOk, IfSome};
+ghost use Rattle.std.specs.Prelude.{◌≡◌, ℕ, ◌≤◌, Option, true, option_copied, IfOk, IfSome};
 ghost use Rattle.ber_core.specs.ObjectIdentifier.{IsObjectIdentifier};
 ghost use Rattle.ber_core.specs.Place.{Slice};
-ghost use Rattle.tcap_component.specs.ComponentReading.{components_of};
 ghost use Rattle.tcap_dialogue.specs.Beginning.{begun, begun_from};
-ghost use Rattle.tcap_reception.specs.GivenViews.{Given, GivenIn, context_given, info_given, context_slice};
-ghost use Rattle.tcap_primitives.specs.OutputViews.{all_shown};
-ghost use Rattle.tcap_primitives.specs.Slices.{AllInPlace, HeldIn};
+ghost use Rattle.tcap_reception.specs.PortionParts.{Given, GivenIn, context_of_portion, info_of_portion, context_slice};
+ghost use Rattle.tcap_primitives.specs.Slices.{AllInPlace, PartsLieIn};
 ghost use Rattle.tcap_dialogue.specs.StepViews.{at_clock, outcome};
 ghost use Rattle.tcap_invocation.specs.Stage.{moment_limit};
-ghost use Rattle.tcap_model.specs.Procedures.ComponentHandling.{uni_told};
 ghost use Rattle.tcap_model.specs.Procedures.Refusals.{can_name};
 ghost use Rattle.tcap_model.specs.Table.TableMove.{born};
-ghost use Rattle.tcap_model.specs.Words.Output as model;
-ghost use Rattle.tcap_model.specs.Words.Output.{DialogueIndication};
 
 use super::Dialogue;
 use super::spare::Spare;
-use crate::components::{room_for, walk, walk_alone};
+use crate::component_handling::message::{handle_components, room_for};
 use ber_core::OutOfMemory;
 use std::alloc::Allocator;
 use tcap_address::Address;
@@ -27,12 +22,12 @@ use tcap_primitives::{Context, Output};
 use tcap_reception::Phase;
 
 /// The context and the information of an AARQ or an AUDT, empty where there is none.
-fn parts_of<'m>(pdu: Option<(&'m [u8], &'m [u8])>) -> (Option<&'m [u8]>, &'m [u8])
+pub(super) fn parts_of<'m>(pdu: Option<(&'m [u8], &'m [u8])>) -> (Option<&'m [u8]>, &'m [u8])
     ensures context { result.0 ≡ context_slice pdu.entry }
-    ensures given { option_copied result.0 ≡ context_given pdu.entry }
-    ensures info { result.1.now ≡ info_given pdu.entry }
+    ensures given { option_copied result.0 ≡ context_of_portion pdu.entry }
+    ensures info { result.1.now ≡ info_of_portion pdu.entry }
     ensures place { (tag : ℕ) (portion : Option Slice) → GivenIn tag pdu.entry portion
-        → HeldIn tag result.0 result.1 portion }
+        → PartsLieIn tag result.0 result.1 portion }
 {
     match pdu {
         None => (None, &[]),
@@ -56,7 +51,7 @@ impl<A: Allocator + Copy> Dialogue<A> {
         requires named { can_name (option_copied context) ≡ true }
         ensures ok { IfOk result (λ outputs. begun outputs.items self.new ≡ outcome
             (begun_from clock self.old from.now otid.now (option_copied context.entry) info.now components.now)) }
-        ensures place { (portion : Option Slice) → HeldIn 0x60 context.entry info.entry portion
+        ensures place { (portion : Option Slice) → PartsLieIn 0x60 context.entry info.entry portion
             → IfOk result (λ outputs. AllInPlace portion components.entry outputs.items) }
     {
         let alloc = *self.queue.octets.allocator();
@@ -69,7 +64,7 @@ impl<A: Allocator + Copy> Dialogue<A> {
             context,
             info,
         });
-        walk(
+        handle_components(
             self.identifier,
             clock,
             components,
@@ -105,7 +100,7 @@ impl<A: Allocator + Copy> Dialogue<A> {
         // What is told, and the dialogue.
         ensures ok { IfOk result (λ r. begun r.1.items r.0
             ≡ outcome (born (at_clock clock) identifier reject_ms idle_ms from.now otid.now
-            (context_given aarq.entry) (info_given aarq.entry) components.now)) }
+            (context_of_portion aarq.entry) (info_of_portion aarq.entry) components.now)) }
         // The slices that are told are those that were given, and parts of the component portion.
         ensures place { (portion : Option Slice) → GivenIn 0x60 aarq.entry portion
             → IfOk result (λ r. AllInPlace portion components.entry r.1.items) }
@@ -134,7 +129,7 @@ impl<A: Allocator + Copy> Dialogue<A> {
         requires named { IfSome aarq (λ a. IsObjectIdentifier a.0.now) }
         // What is told, and the dialogue.
         ensures ok { IfOk result (λ outputs. begun outputs.items self.new ≡ outcome (begun_from clock self.old
-            from.now otid.now (context_given aarq.entry) (info_given aarq.entry) components.now)) }
+            from.now otid.now (context_of_portion aarq.entry) (info_of_portion aarq.entry) components.now)) }
         // The slices that are told are those that were given, and parts of the component portion.
         ensures place { (portion : Option Slice) → GivenIn 0x60 aarq.entry portion
             → IfOk result (λ outputs. AllInPlace portion components.entry outputs.items) }
@@ -142,26 +137,4 @@ impl<A: Allocator + Copy> Dialogue<A> {
         let (context, info) = parts_of(aarq);
         self.begin_with(from, otid, context, info, components, clock)
     }
-}
-
-/// What a Unidirectional tells: TC-UNI, and its components, of which none is answered. `audt` is the
-/// contents octets of the application context name and the user information of its AUDT, if it has one,
-/// and `components` the contents of its component portion (Q.774, Unstructured dialogue).
-pub fn take_uni<'m, A: Allocator + Copy>(
-    alloc: A,
-    audt: Option<(&'m [u8], &'m [u8])>,
-    components: &'m [u8],
-) -> Result<Vec<Output<'m, A>, A>, OutOfMemory>
-    ensures ok { IfOk result (λ outputs. all_shown outputs.items ≡ model.Output.dialogue (DialogueIndication.uni
-        (context_given audt.entry) (info_given audt.entry)) ∷ uni_told (components_of components.now)) }
-    // The slices that are told are those that were given, and parts of the component portion.
-    ensures place { (portion : Option Slice) → GivenIn 0x60 audt.entry portion
-        → IfOk result (λ outputs. AllInPlace portion components.entry outputs.items) }
-{
-    let (context, info) = parts_of(audt);
-    let count = room_for(components).saturating_add(1);
-    let mut outputs = Vec::with_capacity(alloc, count)?;
-    outputs.push_reserved(Output::Uni { context, info });
-    walk_alone(components, &mut outputs);
-    Ok(outputs)
 }

@@ -8,12 +8,11 @@ ghost use Rattle.tcap_primitives.specs.QueueRefusals.{spelling_fault};
 ghost use Rattle.tcap_primitives.specs.FaultViews.{fault_view};
 ghost use Rattle.tcap_reception.specs.StateViews.{phase_view};
 ghost use Rattle.tcap_dialogue.specs.StepViews.{asked, requested};
-ghost use Rattle.tcap_dialogue.specs.FaultViews.{RefusedBy};
+ghost use Rattle.tcap_dialogue.specs.RequestForm.{RefusedBy};
 ghost use Rattle.tcap_component.specs.Written.{CanWriteComponent, written_component};
 ghost use Rattle.tcap_invocation.specs.declared.class.Class.{Class};
 ghost use Rattle.tcap_invocation.specs.Stage.{moment_limit};
 ghost use Rattle.tcap_model.specs.Procedures.Refusals.{due_on, invoke_fault};
-ghost use Rattle.tcap_model.specs.Procedures.States.{has_peer};
 ghost use Rattle.tcap_model.specs.Table.TableMove.{situation};
 ghost use Rattle.tcap_model.specs.Words.Request.{Request, ComponentRequest};
 ghost use Rattle.tcap_model.specs.Words.Request.ComponentRequest.{invoke};
@@ -23,17 +22,6 @@ use std::alloc::Allocator;
 use tcap_component::{Code, Component, WriteFault, component_fault};
 use tcap_invocation::{Class, MAX_MOMENT};
 use tcap_primitives::Fault;
-use tcap_reception::Phase;
-
-/// Whether the peer was heard, so that there is something to answer.
-fn has_peer(phase: &Phase) -> bool
-    ensures { result ≡ has_peer (phase_view phase.now) }
-{
-    match phase {
-        Phase::Fresh | Phase::Sent => false,
-        Phase::Received(_) | Phase::Active(_) => true,
-    }
-}
 
 /// Whether a timeout is neither 0 nor above the limit.
 pub(super) fn is_timeout(timeout_ms: u64) -> bool
@@ -145,7 +133,7 @@ impl<A: Allocator + Copy> Dialogue<A> {
         ensures err { IfErr result (λ f. answer_fault self.now (component_parts component.now)
             ≡ Some (fault_view f)) }
     {
-        if !has_peer(&self.phase) {
+        if !self.phase.has_peer() {
             return Err(Fault::WrongState);
         }
         self.queue.judge(component)

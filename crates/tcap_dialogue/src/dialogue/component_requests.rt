@@ -6,7 +6,7 @@ ghost use Rattle.tcap_primitives.specs.QueueViews.{queue_view};
 ghost use Rattle.std.specs.Option.{option_map};
 ghost use Rattle.tcap_component.specs.Views.{code_parts, body_parts, problem_parts, component_parts};
 ghost use Rattle.tcap_dialogue.specs.ComponentRefusals.{answered, InvokeTried};
-ghost use Rattle.tcap_dialogue.specs.FaultViews.{Answers, numbered, queued_done, gave_up};
+ghost use Rattle.tcap_dialogue.specs.RequestForm.{Answers, numbered, queued_done, gave_up};
 ghost use Rattle.tcap_dialogue.specs.StepViews.{requested};
 ghost use Rattle.tcap_invocation.specs.Invocations.{AllBelow};
 ghost use Rattle.tcap_model.specs.Table.Dialogue.{with_invocations};

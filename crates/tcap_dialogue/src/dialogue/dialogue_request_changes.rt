@@ -2,7 +2,7 @@
 
 ghost use Rattle.std.specs.Prelude.{◌≡◌, ◌+◌, ◌<◌, ◌≤◌, ◌||◌, ◌++◌, ◌∷◌, [], List, ℕ, true, false, is_some, nat_lt, option_copied, IfOk, OnErr, IsTrue, vec_len, vec_capacity};
 ghost use Rattle.tcap_primitives.specs.ControlViews.{control_view};
-ghost use Rattle.tcap_dialogue.specs.FaultViews.{takes_memory};
+ghost use Rattle.tcap_dialogue.specs.RequestForm.{takes_memory};
 ghost use Rattle.tcap_dialogue.specs.RequestMessages.{Spells};
 ghost use Rattle.std.specs.declared.vec.Vec.{Vec};
 ghost use Rattle.tcap_primitives.specs.declared.output.Output.TheVariants as output_variants;
@@ -15,7 +15,6 @@ ghost use Rattle.tcap_model.specs.Procedures.RequestMessage.{message_of, request
 ghost use Rattle.tcap_model.specs.Table.TableMove.{accepted, gone_out, over_with, sent_for_request};
 ghost use Rattle.tcap_model.specs.Words.Output as model;
 ghost use Rattle.tcap_model.specs.Words.Request.{DialogueRequest, Request};
-ghost use Rattle.tcap_model.specs.Words.State.{activated};
 
 use super::ending::tell_ended;
 use super::{Dialogue, Step};
@@ -24,17 +23,6 @@ use std::alloc::Allocator;
 use tcap_address::Address;
 use tcap_primitives::{Context, Control, Output};
 use tcap_reception::Phase;
-
-/// The state after the answer to a Begin.
-fn activated(phase: &Phase) -> Phase
-    ensures { phase_view result ≡ activated (phase_view phase.now) }
-{
-    match phase {
-        Phase::Fresh => Phase::Fresh,
-        Phase::Sent => Phase::Sent,
-        Phase::Received(peer) | Phase::Active(peer) => Phase::Active(peer.copied()),
-    }
-}
 
 /// Appends a message to this address; there is room for it.
 // The address is set where it stands: it is 264 octets, and a few of them are in use.
@@ -70,7 +58,7 @@ fn set_destination<A: Allocator + Copy>(output: &mut Output<'_, A>, to: &Address
 }
 
 impl<A: Allocator + Copy> Dialogue<A> {
-    /// Where the message of a request goes: to the destination that is named, or else to the kept address.
+    /// Where the message of a request goes: to the destination that is named, or else to the peer's address.
     #[inline]
     fn destination<'a>(&'a self, control: &Control<'a>) -> &'a Address
         ensures { result.now ≡ request_address self.now.kept (Request.dialogue (control_view control.now)) }
@@ -110,7 +98,7 @@ impl<A: Allocator + Copy> Dialogue<A> {
     }
 
     /// A message with the queue goes out at this moment.
-    fn go_out(&mut self, clock: u64)
+    fn send_queue(&mut self, clock: u64)
         requires { clock ≤ moment_limit }
         ensures { self.new ≡ gone_out (asked clock 0) self.old }
     {
@@ -139,7 +127,7 @@ impl<A: Allocator + Copy> Dialogue<A> {
         let named = Context::of_any(*self.queue.octets.allocator(), context)?;
         let begin = Control::Begin { to, context, info };
         let outputs = self.sent_outputs(&begin, message, 0)?;
-        self.go_out(clock);
+        self.send_queue(clock);
         self.phase = Phase::Sent;
         self.context = named;
         self.touched = clock;
@@ -170,8 +158,8 @@ impl<A: Allocator + Copy> Dialogue<A> {
     {
         let go_on = Control::Continue { context, info };
         let outputs = self.sent_outputs(&go_on, message, 0)?;
-        self.go_out(clock);
-        self.phase = activated(&self.phase);
+        self.send_queue(clock);
+        self.phase = self.phase.activated();
         self.touched = clock;
         Ok(Step {
             outputs,
@@ -180,7 +168,7 @@ impl<A: Allocator + Copy> Dialogue<A> {
     }
 
     /// A request goes through with which the dialogue is over.
-    fn take_last<'m>(
+    fn end_by_request<'m>(
         &mut self,
         control: &Control<'_>,
         message: Option<Vec<u8, A>>,
@@ -228,7 +216,7 @@ impl<A: Allocator + Copy> Dialogue<A> {
                 *context, info, message, clock,
             ),
             Control::Uni { .. } | Control::End { .. } | Control::Abort { .. } => {
-                self.take_last(control, message)
+                self.end_by_request(control, message)
             }
         }
     }

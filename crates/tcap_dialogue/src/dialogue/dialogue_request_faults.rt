@@ -9,7 +9,7 @@ ghost use Rattle.tcap_dialogue.specs.RequestMessages.{IsRefusal, IsUnspelled, Sp
 ghost use Rattle.tcap_dialogue.specs.StepViews.{asked};
 ghost use Rattle.tcap_model.specs.Procedures.Refusals.{can_name, context_given, due_on, first_that, gives_any, has_no_context, holds, information_given, is_filled, is_not_class_four, lacks_context, passes_message};
 ghost use Rattle.tcap_model.specs.Procedures.RequestMessage.{message_of};
-ghost use Rattle.tcap_model.specs.Procedures.States.{has_peer, has_request, is_asked, is_fresh};
+ghost use Rattle.tcap_model.specs.Procedures.States.{has_request, is_asked};
 ghost use Rattle.tcap_model.specs.Table.TableMove.{situation};
 ghost use Rattle.tcap_model.specs.Words.Request.{Request};
 ghost use Rattle.tcap_pdu.specs.DialoguePartsReading.{is_information};
@@ -19,26 +19,6 @@ use std::alloc::Allocator;
 use tcap_pdu::PduFault;
 use tcap_primitives::{AbortWhy, Control, Ending, Fault};
 use tcap_reception::Phase;
-
-/// Whether no message was sent or received.
-fn is_fresh(phase: &Phase) -> bool
-    ensures { result ≡ is_fresh (phase_view phase.now) }
-{
-    match phase {
-        Phase::Fresh => true,
-        Phase::Sent | Phase::Received(_) | Phase::Active(_) => false,
-    }
-}
-
-/// Whether the peer was heard.
-fn has_peer(phase: &Phase) -> bool
-    ensures { result ≡ has_peer (phase_view phase.now) }
-{
-    match phase {
-        Phase::Fresh | Phase::Sent => false,
-        Phase::Received(_) | Phase::Active(_) => true,
-    }
-}
 
 /// Whether there is something.
 fn is_filled(bytes: &[u8]) -> bool
@@ -81,10 +61,10 @@ impl<A: Allocator + Copy> Dialogue<A> {
             (Request.dialogue (control_view control.now)) }
     {
         match control {
-            Control::Uni { .. } | Control::Begin { .. } => is_fresh(&self.phase),
-            Control::Continue { .. } => has_peer(&self.phase),
+            Control::Uni { .. } | Control::Begin { .. } => self.phase.is_fresh(),
+            Control::Continue { .. } => self.phase.has_peer(),
             Control::End { ending, .. } => match ending {
-                Ending::Basic => has_peer(&self.phase),
+                Ending::Basic => self.phase.has_peer(),
                 Ending::Prearranged => true,
             },
             Control::Abort { why, .. } => match why {
@@ -114,7 +94,7 @@ impl<A: Allocator + Copy> Dialogue<A> {
             },
             Control::Abort { why, info } => match why {
                 AbortWhy::User => {
-                    !(has_peer(&self.phase) && self.context.is_some()) && is_filled(info)
+                    !(self.phase.has_peer() && self.context.is_some()) && is_filled(info)
                 }
                 AbortWhy::NotSupported => false,
             },

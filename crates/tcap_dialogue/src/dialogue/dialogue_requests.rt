@@ -2,7 +2,7 @@
 
 ghost use Rattle.std.specs.Prelude.{◌≡◌, ◌≤◌, ℕ, option_copied};
 ghost use Rattle.tcap_primitives.specs.ControlViews.{control_view};
-ghost use Rattle.tcap_dialogue.specs.FaultViews.{Steps};
+ghost use Rattle.tcap_dialogue.specs.RequestForm.{Steps};
 ghost use Rattle.tcap_primitives.specs.RequestViews.{ending_view, reason_view};
 ghost use Rattle.tcap_dialogue.specs.StepViews.{requested};
 ghost use Rattle.tcap_invocation.specs.Stage.{moment_limit};
@@ -71,7 +71,7 @@ impl<A: Allocator + Copy> Dialogue<A> {
         self.control(&Control::Begin { to, context, info }, clock)
     }
 
-    /// TC-CONTINUE request: the queue goes out in a Continue to the kept address, and the dialogue is
+    /// TC-CONTINUE request: the queue goes out in a Continue to the peer's address, and the dialogue is
     /// Active. In Received an AARQ is answered, with the context given or else its own. Faults:
     /// WrongState unless Received or Active, BadOid, BadParameter, NoContext for a context or information
     /// where no AARQ is answered, TooLong, OutOfMemory (Q.774, Dialogue continuation).
@@ -90,9 +90,9 @@ impl<A: Allocator + Copy> Dialogue<A> {
         self.control(&Control::Continue { context, info }, clock)
     }
 
-    /// TC-END request: a basic end sends the queue in an End to the kept address, a prearranged one nothing;
-    /// the dialogue is over. Faults: WrongState for a basic end unless Received or Active, BadOid, BadParameter,
-    /// NoContext for a context or information where no AARQ is answered, TooLong, OutOfMemory
+    /// TC-END request: a basic end sends the queue in an End to the peer's address, a prearranged one nothing;
+    /// the dialogue is over. Faults: WrongState for a basic end unless Received or Active, BadOid,
+    /// BadParameter, NoContext for a context or information where no AARQ is answered, TooLong, OutOfMemory
     /// (Q.774, Dialogue end).
     #[inline(always)]
     pub fn finish<'m>(
@@ -115,10 +115,10 @@ impl<A: Allocator + Copy> Dialogue<A> {
         )
     }
 
-    /// TC-U-ABORT request: in Received and Active an Abort goes to the kept address, and the dialogue is
+    /// TC-U-ABORT request: in Received and Active an Abort goes to the peer's address, and the dialogue is
     /// over. By the user it carries an ABRT where the dialogue has a context; NotSupported refuses the
-    /// context of an AARQ with an AARE. Faults: WrongState where NotSupported answers no AARQ, BadParameter, NoContext
-    /// for information that no ABRT carries, TooLong, OutOfMemory (Q.774, Abort by the user).
+    /// context of an AARQ with an AARE. Faults: WrongState where NotSupported answers no AARQ, BadParameter,
+    /// NoContext for information that no ABRT carries, TooLong, OutOfMemory (Q.774, Abort by the user).
     #[inline(always)]
     pub fn u_abort<'m>(&mut self, why: AbortWhy, info: &[u8]) -> Result<Step<'m, A>, Fault>
         ensures step { Steps result (requested 0 0 self.old

@@ -5,7 +5,7 @@ ghost use Rattle.ber_core.specs.Place.{Slice};
 ghost use Rattle.tcap_primitives.specs.OutputViews.{cause_view};
 ghost use Rattle.tcap_reception.specs.PortionViews.{portion_view, PortionIn};
 ghost use Rattle.tcap_primitives.specs.QueueViews.{queue_view};
-ghost use Rattle.tcap_primitives.specs.Slices.{AllInPlace, HeldIn};
+ghost use Rattle.tcap_primitives.specs.Slices.{AllInPlace, PartsLieIn};
 ghost use Rattle.tcap_reception.specs.StateViews.{phase_view};
 ghost use Rattle.tcap_dialogue.specs.StepViews.{at_clock, outcome, stepped};
 ghost use Rattle.tcap_invocation.specs.Stage.{moment_limit};
@@ -18,23 +18,13 @@ ghost use Rattle.tcap_pdu.specs.FrameViews.{message};
 
 use super::ending::tell_ended;
 use super::{Dialogue, Step};
-use crate::components::{room_for, walk, walk_ending};
+use crate::component_handling::message::{handle_components, handle_in_end, room_for};
 use ber_core::OutOfMemory;
 use std::alloc::Allocator;
 use tcap_address::Address;
 use tcap_pdu::{Frame, TransId};
 use tcap_primitives::{Output, Why};
 use tcap_reception::{Phase, PortionVerdict, judge_portion};
-
-/// The state after a Continue: the peer that is known stays (Q.774, Transaction state machine).
-fn continued(phase: &Phase, origin: &TransId) -> Phase
-    ensures { phase_view result ≡ State.active (peer_by (phase_view phase.now) origin.now) }
-{
-    match phase {
-        Phase::Fresh | Phase::Sent => Phase::Active(origin.copied()),
-        Phase::Received(peer) | Phase::Active(peer) => Phase::Active(peer.copied()),
-    }
-}
 
 /// The sender of a Continue to a dialogue in Sent is kept; later ones are not (our own).
 #[inline]
@@ -65,7 +55,7 @@ impl<A: Allocator + Copy> Dialogue<A> {
             (normal (option_copied context.entry) info.now) (walked_in clock self.old components.now))) }
         ensures err { OnErr result (self.new ≡ self.old) }
         ensures kept { self.new.standing.identifier ≡ self.old.standing.identifier }
-        ensures place { (portion : Option Slice) → HeldIn 0x61 context.entry info.entry portion
+        ensures place { (portion : Option Slice) → PartsLieIn 0x61 context.entry info.entry portion
             → IfOk result (λ s. AllInPlace portion components.entry s.outputs.items) }
     {
         let items = room_for(components);
@@ -79,7 +69,7 @@ impl<A: Allocator + Copy> Dialogue<A> {
             context,
             info,
         });
-        walk(
+        handle_components(
             self.identifier,
             clock,
             components,
@@ -88,7 +78,7 @@ impl<A: Allocator + Copy> Dialogue<A> {
             &mut outputs,
         );
         keep_sender(&self.phase, &mut self.kept, from);
-        self.phase = continued(&self.phase, origin);
+        self.phase = self.phase.continued(origin);
         self.touched = clock;
         Ok(Step {
             outputs,
@@ -110,7 +100,7 @@ impl<A: Allocator + Copy> Dialogue<A> {
             (normal (option_copied context.entry) info.now) (walked_in clock self.old components.now))) }
         ensures err { OnErr result (self.new ≡ self.old) }
         ensures kept { self.new.standing.identifier ≡ self.old.standing.identifier }
-        ensures place { (portion : Option Slice) → HeldIn 0x61 context.entry info.entry portion
+        ensures place { (portion : Option Slice) → PartsLieIn 0x61 context.entry info.entry portion
             → IfOk result (λ s. AllInPlace portion components.entry s.outputs.items) }
     {
         let items = room_for(components);
@@ -123,7 +113,7 @@ impl<A: Allocator + Copy> Dialogue<A> {
             context,
             info,
         });
-        walk_ending(
+        handle_in_end(
             self.identifier,
             clock,
             components,

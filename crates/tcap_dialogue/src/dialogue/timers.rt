@@ -46,7 +46,7 @@ impl<A: Allocator + Copy> Dialogue<A> {
         earliest(self.invocations.next_timer(), self.idle_at())
     }
 
-    /// The moment at which the dialogue has been idle too long: its idle limit after it was touched last,
+    /// The moment at which the dialogue has been idle too long: its idle limit after its last activity,
     /// in milliseconds, at most 2^63. Nothing unless it is Sent or Active and has an idle limit. It takes
     /// no memory (own).
     pub fn idle_at(&self) -> Option<u64>
@@ -59,7 +59,7 @@ impl<A: Allocator + Copy> Dialogue<A> {
         }
     }
 
-    /// The dialogue counts as touched at this moment of the clock, at most 2^62: for a caller that puts its
+    /// The idle timer starts anew at this moment of the clock, at most 2^62: for a caller that puts its
     /// end off until all lapses of the moment are told. It takes no memory (own).
     pub fn touch(&mut self, clock: u64)
         requires { clock ≤ moment_limit }

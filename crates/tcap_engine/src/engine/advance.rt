@@ -1,7 +1,7 @@
 //! `Engine::advance`: the clock goes to a moment, and what is due lapses or ends (own).
 
 ghost use Rattle.std.specs.Prelude.{◌≡◌, ◌≤◌, OnErr, false};
-ghost use Rattle.tcap_engine.specs.Answering.{EngineAnswers, outputs_answer};
+ghost use Rattle.tcap_engine.specs.StepForm.{EngineAnswers, outputs_answer};
 ghost use Rattle.tcap_engine.specs.HistoryForm.{Stands};
 ghost use Rattle.tcap_engine.specs.NextTimer.{IsAccepted, IsStill};
 ghost use Rattle.tcap_invocation.specs.Stage.{moment_limit};
@@ -32,12 +32,12 @@ impl<A: Allocator + Copy> Engine<A> {
         ensures stands { Stands outputs_answer result (Event.moment now) self.old self.new }
     {
         ranges::long(now);
-        self.go_to(now)
+        self.move_clock(now)
     }
 
     /// `advance`, by the engine's move.
     #[tactic(auto, unfolding(tcap_model::specs::Table::EngineMove::engine_move))]
-    fn go_to<'m>(&mut self, now: u64) -> Result<Vec<Output<'m, A>, A>, Fault>
+    fn move_clock<'m>(&mut self, now: u64) -> Result<Vec<Output<'m, A>, A>, Fault>
         ensures moves { EngineAnswers outputs_answer result
             (engine_move self.old (Event.moment now)) self.old self.new }
         ensures err { OnErr result (self.new ≡ self.old) }
@@ -52,7 +52,7 @@ impl<A: Allocator + Copy> Engine<A> {
             self.clock = now;
             return Ok(Vec::new(self.table.allocator()));
         }
-        self.pass(now)
+        self.expire(now)
     }
 
     /// Whether a moment has reached the first timer of all.
@@ -63,14 +63,14 @@ impl<A: Allocator + Copy> Engine<A> {
     }
 
     /// The clock moves on to this moment.
-    fn pass<'m>(&mut self, now: u64) -> Result<Vec<Output<'m, A>, A>, Fault>
+    fn expire<'m>(&mut self, now: u64) -> Result<Vec<Output<'m, A>, A>, Fault>
         requires late { now ≤ moment_limit }
         requires up { self.old.clock ≤ now }
         ensures moves { EngineAnswers outputs_answer result (advanced self.old now) self.old self.new }
         ensures err { OnErr result (self.new ≡ self.old) }
     {
         let alloc = self.table.allocator();
-        let room = self.table.room_at(now);
+        let room = self.table.capacity_at(now);
         let mut outputs = Vec::with_capacity(alloc, room.told)?;
         let mut idle = Vec::with_capacity(alloc, room.idle)?;
         tell_due(&mut self.table, now, &mut outputs, &mut idle);

@@ -3,8 +3,8 @@
 ghost use Rattle.std.specs.Prelude.{◌≡◌, option_copied, OnErr};
 ghost use Rattle.std.specs.Option.{option_map};
 ghost use Rattle.tcap_component.specs.Views.{body_parts, code_parts, problem_parts};
-ghost use Rattle.tcap_dialogue.specs.FaultViews.{gave_up, numbered, queued_done};
-ghost use Rattle.tcap_engine.specs.Answering.{EngineAnswers};
+ghost use Rattle.tcap_dialogue.specs.RequestForm.{gave_up, numbered, queued_done};
+ghost use Rattle.tcap_engine.specs.StepForm.{EngineAnswers};
 ghost use Rattle.tcap_engine.specs.HistoryForm.{Stands};
 ghost use Rattle.tcap_model.specs.Table.EngineMove.{engine_move};
 ghost use Rattle.tcap_model.specs.Words.Event.{Event};

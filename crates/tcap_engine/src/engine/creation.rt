@@ -4,21 +4,21 @@ ghost use Rattle.std.specs.Prelude.{◌≡◌, ◌<◌, ◌≤◌, ◌+◌, ◌+
 ghost use Rattle.std.specs.Map.{lookup, remove_entry, set_value};
 ghost use Rattle.std.specs.Option.{option_map};
 ghost use Rattle.ber_core.specs.ObjectIdentifier.{IsObjectIdentifier};
-ghost use Rattle.tcap_reception.specs.GivenViews.{context_given, info_given};
+ghost use Rattle.tcap_reception.specs.PortionParts.{context_of_portion, info_of_portion};
 ghost use Rattle.tcap_primitives.specs.FaultViews.{fault_view};
 ghost use Rattle.tcap_dialogue.specs.Beginning.{begun_from};
 ghost use Rattle.tcap_invocation.specs.Stage.{moment_limit};
 ghost use Rattle.tcap_model.specs.Table.Dialogue as model;
-ghost use Rattle.tcap_engine.specs.Answering.{EngineAnswers, Moves, birth_answer, outputs_answer};
+ghost use Rattle.tcap_engine.specs.StepForm.{EngineAnswers, Moves, birth_answer, outputs_answer};
 ghost use Rattle.tcap_engine.specs.HistoryForm.{Stands};
-ghost use Rattle.tcap_engine.specs.Table.{AreDrawn, IsWithin, with_born};
+ghost use Rattle.tcap_engine.specs.DialogueEntries.{AreDrawn, IsWithin, with_created};
 ghost use Rattle.tcap_model.specs.Table.EngineMove.{engine_move, begun_in, birth_fault_in, setting_in};
 ghost use Rattle.tcap_model.specs.Table.TableMove.{born};
 ghost use Rattle.tcap_model.specs.Words.Event.{Event};
 ghost use Rattle.tcap_model.specs.Words.Identifiers.{last_dialogue};
 
 use super::Engine;
-use crate::dialogues::{Dialogues, settle};
+use crate::dialogues::{Dialogues, store_or_remove};
 use ber_core::OutOfMemory;
 use std::alloc::Allocator;
 use tcap_dialogue::{Address, Dialogue, Fault, Output};
@@ -67,7 +67,8 @@ impl<A: Allocator + Copy> Engine<A> {
         requires named { IfSome request (λ r. IsObjectIdentifier r.0.now) }
         ensures ok { IfOk result (λ os. Moves (begun_in self.old
             (born (setting_in self.old) self.old.next_dialogue self.old.reject_ms self.old.idle_ms from.now origin.now
-            (context_given request.entry) (info_given request.entry) components.now)) (outputs_answer os) self.new) }
+            (context_of_portion request.entry) (info_of_portion request.entry) components.now))
+            (outputs_answer os) self.new) }
         ensures err { OnErr result (self.new ≡ self.old) }
     {
         let identifier = self.next_dialogue;
@@ -90,7 +91,7 @@ impl<A: Allocator + Copy> Engine<A> {
         requires free { birth_fault_in self.old ≡ None }
         requires next { dialogue.standing.identifier ≡ self.old.next_dialogue }
         requires within { IsWithin self.old.reject_ms self.old.next_number dialogue }
-        ensures ok { OnOk result (self.new ≡ with_born self.old dialogue) }
+        ensures ok { OnOk result (self.new ≡ with_created self.old dialogue) }
         ensures err { OnErr result (self.new ≡ self.old) }
     {
         let identifier = self.next_dialogue;
@@ -128,8 +129,8 @@ fn begin_in<'m, A: Allocator + Copy>(
     requires clock { clock ≤ moment_limit }
     requires named { IfSome request (λ r. IsObjectIdentifier r.0.now) }
     ensures ok { (x : model.Dialogue) → lookup (nat_eq identifier) table.old ≡ Some x
-        → let m = begun_from clock x from.now origin.now (context_given request.entry)
-        (info_given request.entry) components.now in IfOk result (λ os. (outputs_answer os ≡ m.answer)
+        → let m = begun_from clock x from.now origin.now (context_of_portion request.entry)
+        (info_of_portion request.entry) components.now in IfOk result (λ os. (outputs_answer os ≡ m.answer)
         × (table.new ≡ set_value (nat_eq identifier) table.old m.after)) }
     ensures err { OnErr result (table.new ≡ remove_entry (nat_eq identifier) table.old) }
 {
@@ -139,7 +140,7 @@ fn begin_in<'m, A: Allocator + Copy>(
     };
     let outputs = dialogue.hear_begin(from, origin, request, components, clock);
     let timer = dialogue.next_timer();
-    settle(&mut table.rows, identifier, outputs.is_err(), timer);
+    store_or_remove(&mut table.rows, identifier, outputs.is_err(), timer);
     outputs
 }
 
@@ -159,8 +160,8 @@ fn accept_in<'m, A: Allocator + Copy>(
     requires drawn { AreDrawn identifier table.old }
     requires clock { clock ≤ moment_limit }
     requires named { IfSome request (λ r. IsObjectIdentifier r.0.now) }
-    ensures ok { let m = begun_from clock fresh from.now origin.now (context_given request.entry)
-        (info_given request.entry) components.now in IfOk result (λ os. (outputs_answer os ≡ m.answer)
+    ensures ok { let m = begun_from clock fresh from.now origin.now (context_of_portion request.entry)
+        (info_of_portion request.entry) components.now in IfOk result (λ os. (outputs_answer os ≡ m.answer)
         × (table.new ≡ table.old ++ (identifier, m.after) ∷ [])) }
     ensures err { OnErr result (table.new ≡ table.old) }
 {

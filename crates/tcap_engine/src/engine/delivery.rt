@@ -4,8 +4,8 @@ ghost use Rattle.std.specs.Prelude.{◌≡◌, ◌≤◌, ◌<◌, nat_eq, true,
 ghost use Rattle.std.specs.Map.{lookup};
 ghost use Rattle.tcap_primitives.specs.AbortViews.{cause_number};
 ghost use Rattle.tcap_dialogue.specs.StepViews.{at_clock, outcome};
-ghost use Rattle.tcap_engine.specs.Answering.{Moves, outputs_answer};
-ghost use Rattle.tcap_engine.specs.Asking.{ReachesIn};
+ghost use Rattle.tcap_engine.specs.StepForm.{Moves, outputs_answer};
+ghost use Rattle.tcap_engine.specs.RequestInTable.{DeliversInTable};
 ghost use Rattle.tcap_invocation.specs.Stage.{moment_limit};
 ghost use Rattle.tcap_model.specs.Procedures.AbortRules.{fault_cause, sent_if_any};
 ghost use Rattle.tcap_model.specs.Procedures.Reception.{fault_abort};
@@ -14,14 +14,14 @@ ghost use Rattle.tcap_model.specs.Table.TableMove.{DialogueEvent, table_move};
 ghost use Rattle.tcap_pdu.specs.FrameViews.{message};
 
 use super::Engine;
-use crate::dialogues::{Dialogues, keep_spare, settle};
+use crate::dialogues::{Dialogues, keep_spare, store_or_remove};
 use ber_core::OutOfMemory;
 use std::alloc::Allocator;
 use tcap_dialogue::{Abort, Address, Cause, Output, write_abort};
 use tcap_pdu::{Frame, FrameFault, TransId};
 
 /// A message to the dialogue of an identifier, which is taken out where it is over.
-pub(super) fn take_in<'m, A: Allocator + Copy>(
+pub(super) fn deliver_in<'m, A: Allocator + Copy>(
     table: &mut Dialogues<A>,
     identifier: u32,
     clock: u64,
@@ -29,7 +29,7 @@ pub(super) fn take_in<'m, A: Allocator + Copy>(
     frame: &Frame<'m>,
 ) -> Result<Vec<Output<'m, A>, A>, OutOfMemory>
     requires { clock ≤ moment_limit }
-    ensures { ReachesIn outputs_answer result (λ x. outcome
+    ensures { DeliversInTable outputs_answer result (λ x. outcome
         (table_move (at_clock clock) x (DialogueEvent.frame from.now (message frame.now)))) identifier
         (lookup (nat_eq identifier) table.old) table.old table.new }
 {
@@ -40,19 +40,20 @@ pub(super) fn take_in<'m, A: Allocator + Copy>(
     let step = dialogue.take_frame(from, frame, clock)?;
     keep_spare(&mut table.spares, dialogue, step.over);
     let timer = dialogue.next_timer();
-    settle(&mut table.rows, identifier, step.over, timer);
+    store_or_remove(&mut table.rows, identifier, step.over, timer);
     Ok(step.outputs)
 }
 
 /// A faulty message names the dialogue of an identifier, which is over then; there is room for one output
 /// more.
-pub(super) fn break_in<'m, A: Allocator + Copy>(
+pub(super) fn abort_in<'m, A: Allocator + Copy>(
     table: &mut Dialogues<A>,
     identifier: u32,
     cause: Cause,
 ) -> Result<Vec<Output<'m, A>, A>, OutOfMemory>
     requires { IsSome (lookup (nat_eq identifier) table.old) }
-    ensures reached { ReachesIn outputs_answer result (λ x. outcome (table_move (at_clock 0) x (DialogueEvent.fault
+    ensures reached { DeliversInTable outputs_answer result
+        (λ x. outcome (table_move (at_clock 0) x (DialogueEvent.fault
         (cause_number cause)))) identifier (lookup (nat_eq identifier) table.old) table.old table.new }
     ensures room { IfOk result (λ os. vec_len os < vec_capacity os) }
 {
@@ -63,13 +64,13 @@ pub(super) fn break_in<'m, A: Allocator + Copy>(
     let step = dialogue.take_fault(cause.number())?;
     keep_spare(&mut table.spares, dialogue, step.over);
     let timer = dialogue.next_timer();
-    settle(&mut table.rows, identifier, step.over, timer);
+    store_or_remove(&mut table.rows, identifier, step.over, timer);
     Ok(step.outputs)
 }
 
 impl<A: Allocator + Copy> Engine<A> {
     /// A live dialogue takes a Continue, an End or an Abort (Q.774, Transaction sublayer procedures).
-    pub(super) fn reach<'m>(
+    pub(super) fn deliver<'m>(
         &mut self,
         identifier: u32,
         from: &Address,
@@ -79,12 +80,12 @@ impl<A: Allocator + Copy> Engine<A> {
             (message frame.now)) (dialogue_in identifier self.old.dialogues)) (outputs_answer os) self.new) }
         ensures err { OnErr result (self.new ≡ self.old) }
     {
-        take_in(&mut self.table, identifier, self.clock, from, frame)
+        deliver_in(&mut self.table, identifier, self.clock, from, frame)
     }
 
     /// A faulty message ends a live dialogue; an Abort with the fault's cause goes first to the address that it
     /// came from, if the originator is known (our own, after Q.774, Abnormal procedures).
-    pub(super) fn break_off<'m>(
+    pub(super) fn abort_by_fault<'m>(
         &mut self,
         identifier: u32,
         from: &Address,
@@ -98,13 +99,13 @@ impl<A: Allocator + Copy> Engine<A> {
         ensures err { OnErr result (self.new ≡ self.old) }
     {
         match origin {
-            None => break_in(&mut self.table, identifier, Cause::Faulty(fault)),
-            Some(peer) => self.break_aborting(identifier, from, peer, fault),
+            None => abort_in(&mut self.table, identifier, Cause::Faulty(fault)),
+            Some(peer) => self.answer_and_abort(identifier, from, peer, fault),
         }
     }
 
-    /// `break_off`, where the originator is known.
-    fn break_aborting<'m>(
+    /// `abort_by_fault`, where the originator is known.
+    fn answer_and_abort<'m>(
         &mut self,
         identifier: u32,
         from: &Address,
@@ -119,7 +120,7 @@ impl<A: Allocator + Copy> Engine<A> {
     {
         let cause = Cause::Faulty(fault);
         let bytes = write_abort(self.table.allocator(), &Abort::Cause { peer, cause })?;
-        let mut outputs = break_in(&mut self.table, identifier, cause)?;
+        let mut outputs = abort_in(&mut self.table, identifier, cause)?;
         let to = from.copied();
         outputs.insert(0, Output::Send { to, bytes }).unwrap();
         Ok(outputs)

@@ -2,7 +2,7 @@
 
 ghost use Rattle.std.specs.Prelude.{◌≡◌, option_copied, OnErr};
 ghost use Rattle.tcap_primitives.specs.RequestViews.{ending_view, reason_view};
-ghost use Rattle.tcap_engine.specs.Answering.{EngineAnswers, outputs_answer};
+ghost use Rattle.tcap_engine.specs.StepForm.{EngineAnswers, outputs_answer};
 ghost use Rattle.tcap_engine.specs.HistoryForm.{Stands};
 ghost use Rattle.tcap_model.specs.Table.EngineMove.{engine_move};
 ghost use Rattle.tcap_model.specs.Words.Event.{Event};
@@ -59,7 +59,7 @@ impl<A: Allocator + Copy> Engine<A> {
         outputs_of(self.request(dialogue, &Request::Begin { to, context, info }))
     }
 
-    /// TC-CONTINUE request: the queue goes out in a Continue to the kept address. In Received an AARQ is
+    /// TC-CONTINUE request: the queue goes out in a Continue to the peer's address. In Received an AARQ is
     /// answered, with the context given or else its own. Faults: `UnknownDialogue`, `WrongState` unless
     /// Received or Active, `BadOid`, `BadParameter`, `NoContext` for a context or information where no AARQ
     /// is answered, `TooLong`, `OutOfMemory` (Q.774, Dialogue continuation).
@@ -79,7 +79,7 @@ impl<A: Allocator + Copy> Engine<A> {
         outputs_of(self.request(dialogue, &Request::Continue { context, info }))
     }
 
-    /// TC-END request: a basic end sends the queue in an End to the kept address, a prearranged one nothing;
+    /// TC-END request: a basic end sends the queue in an End to the peer's address, a prearranged one nothing;
     /// the dialogue is over, and each invocation that is left is told as ended. Faults: `UnknownDialogue`,
     /// `WrongState`, `BadOid`, `BadParameter`, `NoContext`, `TooLong`, `OutOfMemory` (Q.774, Dialogue end).
     pub fn finish<'m>(
@@ -104,9 +104,9 @@ impl<A: Allocator + Copy> Engine<A> {
         outputs_of(self.request(dialogue, &request))
     }
 
-    /// TC-U-ABORT request: an Abort goes out to the kept address, if the peer knows the dialogue; this is over,
-    /// and each invocation that is left is told as ended. Faults: `UnknownDialogue`, `WrongState`, `BadParameter`,
-    /// `NoContext`, `TooLong`, `OutOfMemory` (Q.774, Dialogue abort).
+    /// TC-U-ABORT request: an Abort goes out to the peer's address, if the peer knows the dialogue; this is
+    /// over, and each invocation that is left is told as ended. Faults: `UnknownDialogue`, `WrongState`,
+    /// `BadParameter`, `NoContext`, `TooLong`, `OutOfMemory` (Q.774, Dialogue abort).
     pub fn u_abort<'m>(
         &mut self,
         dialogue: u32,

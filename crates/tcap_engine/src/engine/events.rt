@@ -1,12 +1,12 @@
 //! `Engine::handle`: an event as a value, answered by the call of its name (own).
 
 ghost use Rattle.std.specs.Prelude.{◌≡◌, IsTrue, OnErr};
-ghost use Rattle.tcap_dialogue.specs.FaultViews.{takes_memory};
+ghost use Rattle.tcap_dialogue.specs.RequestForm.{takes_memory};
 ghost use Rattle.tcap_primitives.specs.FaultViews.{fault_view};
-ghost use Rattle.tcap_engine.specs.Answering.{EngineAnswers, EngineHears, EngineRefuses, birth_answer, outputs_answer};
-ghost use Rattle.tcap_engine.specs.Asking.{asked_answer};
+ghost use Rattle.tcap_engine.specs.StepForm.{EngineAnswers, EngineReceives, EngineRefuses, birth_answer, outputs_answer};
+ghost use Rattle.tcap_engine.specs.RequestInTable.{asked_answer};
 ghost use Rattle.tcap_engine.specs.EventViews.{answer_view, event_view};
-ghost use Rattle.tcap_engine.specs.HistoryForm.{HeardOn, StandsAfter, StandsHeard, StandsRefused};
+ghost use Rattle.tcap_engine.specs.HistoryForm.{ReceivedOn, StandsAfter, StandsReceived, StandsRefused};
 ghost use Rattle.tcap_engine.specs.Running.{MayWant};
 ghost use Rattle.tcap_model.specs.Histories.History.{History};
 ghost use Rattle.tcap_model.specs.Table.EngineMove.{EngineMoved, engine_move};
@@ -22,11 +22,11 @@ use tcap_dialogue::{Asked, Fault, Output};
 /// A refusal is an answer, but for `OutOfMemory`.
 fn refused<'m, A: Allocator + Copy>(fault: Fault) -> Result<Answer<'m, A>, OutOfMemory>
     ensures moves { (m : EngineMoved) (old new : World) → EngineRefuses (fault_view fault) m old new
-        → EngineHears answer_view result m old new }
+        → EngineReceives answer_view result m old new }
     ensures memory { (m : EngineMoved) (old new : World) → EngineRefuses (fault_view fault) m old new
         → OnErr result (IsTrue (takes_memory m.answer)) }
     ensures stands { (h : History) (event : model.Event) (new : World)
-        → StandsRefused (fault_view fault) h event new → HeardOn answer_view result h event new }
+        → StandsRefused (fault_view fault) h event new → ReceivedOn answer_view result h event new }
 {
     if fault == Fault::OutOfMemory {
         Err(OutOfMemory)
@@ -40,11 +40,11 @@ fn created<'m, A: Allocator + Copy>(
     identifier: Result<u32, Fault>,
 ) -> Result<Answer<'m, A>, OutOfMemory>
     ensures moves { (m : EngineMoved) (old new : World) → EngineAnswers birth_answer identifier m old new
-        → EngineHears answer_view result m old new }
+        → EngineReceives answer_view result m old new }
     ensures memory { (m : EngineMoved) (old new : World) → EngineAnswers birth_answer identifier m old new
         → OnErr result (IsTrue (takes_memory m.answer)) }
     ensures stands { (h : History) (event : model.Event) (new : World)
-        → StandsAfter birth_answer identifier h event new → HeardOn answer_view result h event new }
+        → StandsAfter birth_answer identifier h event new → ReceivedOn answer_view result h event new }
 {
     match identifier {
         Ok(identifier) => Ok(Answer::NewDialogue(identifier)),
@@ -69,11 +69,11 @@ fn asked<'m, A: Allocator + Copy>(
     asked: Result<Asked<'m, A>, Fault>,
 ) -> Result<Answer<'m, A>, OutOfMemory>
     ensures moves { (m : EngineMoved) (old new : World) → EngineAnswers asked_answer asked.entry m old new
-        → EngineHears answer_view result m old new }
+        → EngineReceives answer_view result m old new }
     ensures memory { (m : EngineMoved) (old new : World) → EngineAnswers asked_answer asked.entry m old new
         → OnErr result (IsTrue (takes_memory m.answer)) }
     ensures stands { (h : History) (event : model.Event) (new : World)
-        → StandsAfter asked_answer asked.entry h event new → HeardOn answer_view result h event new }
+        → StandsAfter asked_answer asked.entry h event new → ReceivedOn answer_view result h event new }
 {
     match asked {
         Ok(asked) => Ok(accepted(asked)),
@@ -86,11 +86,11 @@ fn told<'m, A: Allocator + Copy>(
     outputs: Result<Vec<Output<'m, A>, A>, Fault>,
 ) -> Result<Answer<'m, A>, OutOfMemory>
     ensures moves { (m : EngineMoved) (old new : World) → EngineAnswers outputs_answer outputs.entry m old new
-        → EngineHears answer_view result m old new }
+        → EngineReceives answer_view result m old new }
     ensures memory { (m : EngineMoved) (old new : World) → EngineAnswers outputs_answer outputs.entry m old new
         → OnErr result (IsTrue (takes_memory m.answer)) }
     ensures stands { (h : History) (event : model.Event) (new : World)
-        → StandsAfter outputs_answer outputs.entry h event new → HeardOn answer_view result h event new }
+        → StandsAfter outputs_answer outputs.entry h event new → ReceivedOn answer_view result h event new }
 {
     match outputs {
         Ok(outputs) => Ok(Answer::Outputs(outputs)),
@@ -102,12 +102,13 @@ impl<A: Allocator + Copy> Engine<A> {
     /// Any event; the calls of their own names are the same. A refusal is an answer too; the only error is
     /// that memory was refused, and then nothing has changed.
     pub fn handle<'m>(&mut self, event: &Event<'m>) -> Result<Answer<'m, A>, OutOfMemory>
-        ensures moves { EngineHears answer_view result (engine_move self.old (event_view event.now)) self.old self.new }
+        ensures moves { EngineReceives answer_view result
+            (engine_move self.old (event_view event.now)) self.old self.new }
         // Where memory may be refused: not at a refusal, and not where nothing is kept or told.
         ensures memory { OnErr result (MayWant (event_view event.now)
             (engine_move self.old (event_view event.now)).answer) }
         // Whatever legal history the engine stood at: the reply, and the history that it stands at then.
-        ensures stands { StandsHeard answer_view result (event_view event.now) self.old self.new }
+        ensures stands { StandsReceived answer_view result (event_view event.now) self.old self.new }
     {
         match event {
             Event::NewDialogue => created(self.new_dialogue()),

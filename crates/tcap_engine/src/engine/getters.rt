@@ -1,53 +1,21 @@
-//! A new engine, and what is seen of one.
+//! What is seen of an engine.
 
 ghost use Rattle.std.specs.Prelude.{◌≡◌, ℕ, [], true, false, option_copied};
-ghost use Rattle.tcap_engine.specs.Limits.{AreLimits, empty_history};
 ghost use Rattle.tcap_engine.specs.StateOf.{state_in, state_in_life};
 ghost use Rattle.tcap_engine.specs.NextTimer.{IsAccepted, IsChanged, IsStill, next_timer_in};
 ghost use Rattle.tcap_model.specs.Histories.Clock.{clock};
 ghost use Rattle.tcap_model.specs.Histories.History.{History};
 ghost use Rattle.tcap_model.specs.Histories.Life.{life};
 ghost use Rattle.tcap_model.specs.Table.EngineMove.{dialogue_in};
-ghost use Rattle.tcap_model.specs.Table.World.{StandsAt, first_world};
+ghost use Rattle.tcap_model.specs.Table.World.{StandsAt};
 ghost use Rattle.timed_table.specs.Row.{is_due};
 
 use super::Engine;
-use crate::dialogues::Dialogues;
-use crate::limits::Limits;
 use std::alloc::Allocator;
 use tcap_dialogue::{Dialogue, State};
 use tcap_invocation::MAX_MOMENT;
-use tcap_primitives::ranges;
 
 impl<A: Allocator + Copy> Engine<A> {
-    /// An engine with clock 0 and no dialogues, whose first dialogue and first invocation are 1.
-    pub fn new(alloc: A, limits: Limits) -> Engine<A>
-        requires { AreLimits limits }
-        ensures value { result ≡ first_world (empty_history limits 1 1).start }
-        // Nothing has happened.
-        ensures stands { StandsAt (empty_history limits 1 1) result }
-    {
-        Engine::resume(alloc, limits, 1, 1)
-    }
-
-    /// An engine with clock 0 and no dialogues that goes on with these counters: the identifier of its
-    /// first dialogue and the number of its first invocation.
-    pub fn resume(alloc: A, limits: Limits, next_dialogue: u32, next_number: u64) -> Engine<A>
-        requires { AreLimits limits }
-        ensures value { result ≡ first_world (empty_history limits next_dialogue next_number).start }
-        ensures stands { StandsAt (empty_history limits next_dialogue next_number) result }
-    {
-        ranges::short(next_dialogue);
-        ranges::long(next_number);
-        Engine {
-            limits,
-            next_dialogue,
-            next_number,
-            clock: 0,
-            table: Dialogues::new(alloc),
-        }
-    }
-
     /// The clock: the last moment that was accepted, in milliseconds, 0 to 2^62.
     pub fn now(&self) -> u64
         ensures value { result ≡ self.now.clock }

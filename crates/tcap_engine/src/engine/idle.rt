@@ -4,8 +4,8 @@ ghost use Rattle.std.specs.Prelude.{◌≡◌, ◌≤◌, ◌+◌, ◌++◌, nat
 ghost use Rattle.std.specs.List.{flat_map};
 ghost use Rattle.std.specs.Map.{remove_entry};
 ghost use Rattle.tcap_primitives.specs.OutputViews.{all_shown};
-ghost use Rattle.tcap_engine.specs.Ending.{AreDistinct, over_in, without_all};
-ghost use Rattle.tcap_engine.specs.Table.{AreFrom};
+ghost use Rattle.tcap_engine.specs.IdleDialogues.{AreDistinct, idle_end_in, without_all};
+ghost use Rattle.tcap_engine.specs.DialogueEntries.{AreFrom};
 ghost use Rattle.tcap_invocation.specs.Closing.{ended_at};
 ghost use Rattle.tcap_model.specs.Table.TableMove.{ended_told};
 
@@ -40,8 +40,8 @@ fn end_one<'m, A: Allocator + Copy>(
     outputs: &mut Vec<Output<'m, A>, A>,
 )
     requires from { AreFrom 0 table.old }
-    requires room { vec_len outputs.old + length (over_in table.old identifier) ≤ vec_capacity outputs.old }
-    ensures told { all_shown outputs.new.items ≡ all_shown outputs.old.items ++ over_in table.old identifier }
+    requires room { vec_len outputs.old + length (idle_end_in table.old identifier) ≤ vec_capacity outputs.old }
+    ensures told { all_shown outputs.new.items ≡ all_shown outputs.old.items ++ idle_end_in table.old identifier }
     ensures room { vec_capacity outputs.new ≡ vec_capacity outputs.old }
     ensures table { table.new ≡ remove_entry (nat_eq identifier) table.old }
 {
@@ -63,8 +63,10 @@ pub(super) fn end_all<'m, A: Allocator + Copy>(
 )
     requires from { AreFrom 0 table.old }
     requires apart { AreDistinct ids.now }
-    requires room { vec_len outputs.old + length (flat_map (over_in table.old) ids.now) ≤ vec_capacity outputs.old }
-    ensures told { all_shown outputs.new.items ≡ all_shown outputs.old.items ++ flat_map (over_in table.old) ids.now }
+    requires room { vec_len outputs.old + length (flat_map (idle_end_in table.old) ids.now)
+        ≤ vec_capacity outputs.old }
+    ensures told { all_shown outputs.new.items ≡ all_shown outputs.old.items
+        ++ flat_map (idle_end_in table.old) ids.now }
     ensures table { table.new ≡ without_all ids.now table.old }
 {
     for identifier in ids {

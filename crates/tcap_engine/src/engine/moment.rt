@@ -2,9 +2,9 @@
 
 ghost use Rattle.std.specs.Prelude.{◌≡◌, ◌≢◌, ◌≤◌, ◌+◌, ◌++◌, [], length, vec_len, vec_capacity, ℕ, IfSome, IfNone, Some, MatchOption};
 ghost use Rattle.tcap_primitives.specs.OutputViews.{all_shown};
-ghost use Rattle.tcap_engine.specs.Ending.{ends_in, idle_ids, left_by};
-ghost use Rattle.tcap_engine.specs.Lapsing.{IsFirstTimer, IsPassed, IsPassedIn, IsQuiet, timer_of};
-ghost use Rattle.tcap_engine.specs.Table.{AreFrom, dialogues_of};
+ghost use Rattle.tcap_engine.specs.IdleDialogues.{ends_in, idle_ids, left_by};
+ghost use Rattle.tcap_engine.specs.Lapsing.{IsFirstTimer, IsExpired, IsExpiredIn, IsQuiet, timer_of};
+ghost use Rattle.tcap_engine.specs.DialogueEntries.{AreFrom, dialogues_of};
 ghost use Rattle.tcap_invocation.specs.Stage.{moment_limit};
 ghost use Rattle.tcap_model.specs.Table.DueLapses.{all_told};
 
@@ -14,7 +14,7 @@ use tcap_dialogue::{Dialogue, Output};
 use tcap_invocation::Lapse;
 
 /// What became of a dialogue whose first timer ran out.
-pub(crate) enum Passed {
+pub(crate) enum Expiry {
     /// This invocation lapsed.
     Lapsed(Lapse),
     /// Identifiers are free that have waited.
@@ -24,7 +24,7 @@ pub(crate) enum Passed {
 }
 
 /// The first timer of all that runs out by a moment, and its dialogue.
-fn first_by<A: Allocator + Copy>(table: &Dialogues<A>, now: u64) -> Option<(u64, u32)>
+fn first_timer_by<A: Allocator + Copy>(table: &Dialogues<A>, now: u64) -> Option<(u64, u32)>
     ensures first { MatchOption result (IsQuiet now table.now) (IsFirstTimer table.now) }
     ensures reached { IfSome result (λ first. first.0 ≤ now) }
 {
@@ -46,41 +46,41 @@ fn lapse_at(first: Option<Lapse>, time: u64) -> Option<Lapse>
 }
 
 /// The first timer of a dialogue runs out.
-fn pass_in<A: Allocator + Copy>(dialogue: &mut Dialogue<A>, now: u64, time: u64) -> Passed
+fn expire_in<A: Allocator + Copy>(dialogue: &mut Dialogue<A>, now: u64, time: u64) -> Expiry
     requires timer { timer_of dialogue.old ≡ Some time }
     requires reached { time ≤ now }
     requires late { now ≤ moment_limit }
-    ensures { IsPassedIn now time result dialogue.old dialogue.new }
+    ensures { IsExpiredIn now time result dialogue.old dialogue.new }
 {
     if let Some(lapse) = lapse_at(dialogue.first_due(now), time) {
         dialogue.lapse_one(lapse.id, now);
-        Passed::Lapsed(lapse)
+        Expiry::Lapsed(lapse)
     } else if dialogue.idle_at() == Some(time) {
         dialogue.touch(now);
-        Passed::Idle
+        Expiry::Idle
     } else {
         dialogue.free_due(now);
-        Passed::Freed
+        Expiry::Freed
     }
 }
 
-/// `pass_in`, of the first timer of all, whose dialogue has this identifier.
-fn pass_first<A: Allocator + Copy>(
+/// `expire_in`, of the first timer of all, whose dialogue has this identifier.
+fn expire_first<A: Allocator + Copy>(
     table: &mut Dialogues<A>,
     now: u64,
     time: u64,
     identifier: u32,
-) -> Passed
+) -> Expiry
     requires from { AreFrom 0 table.old }
     requires first { IsFirstTimer table.old (time, identifier) }
     requires reached { time ≤ now }
     requires late { now ≤ moment_limit }
-    ensures { IsPassed now identifier result table.old table.new }
+    ensures { IsExpired now identifier result table.old table.new }
 {
     let Some(dialogue) = table.rows.get_mut(identifier) else {
-        return Passed::Freed;
+        return Expiry::Freed;
     };
-    let passed = pass_in(dialogue, now, time);
+    let passed = expire_in(dialogue, now, time);
     let timer = dialogue.next_timer();
     table.rows.set_time(identifier, timer);
     passed
@@ -108,15 +108,15 @@ pub(super) fn tell_due<'m, A: Allocator + Copy>(
     ensures quiet { IsQuiet now table.new }
     ensures from { AreFrom 0 table.new }
 {
-    while let Some((time, identifier)) = first_by(table, now) {
-        match pass_first(table, now, time, identifier) {
-            Passed::Lapsed(lapse) => outputs.push_reserved(Output::Lapsed {
+    while let Some((time, identifier)) = first_timer_by(table, now) {
+        match expire_first(table, now, time, identifier) {
+            Expiry::Lapsed(lapse) => outputs.push_reserved(Output::Lapsed {
                 dialogue: identifier,
                 number: lapse.number,
                 id: lapse.id,
             }),
-            Passed::Idle => idle.push_reserved(identifier),
-            Passed::Freed => {}
+            Expiry::Idle => idle.push_reserved(identifier),
+            Expiry::Freed => {}
         }
     }
 }

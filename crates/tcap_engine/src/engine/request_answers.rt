@@ -1,10 +1,10 @@
 //! The answer of a request, by its kind.
 
 ghost use Rattle.std.specs.Prelude.{◌≡◌, IfOk, OnErr};
-ghost use Rattle.tcap_dialogue.specs.FaultViews.{numbered, queued_done, gave_up};
-ghost use Rattle.tcap_engine.specs.Answering.{EngineAnswers, outputs_answer};
-ghost use Rattle.tcap_engine.specs.AskedKinds.{AnswerKind, MayAnswer};
-ghost use Rattle.tcap_engine.specs.Asking.{asked_answer};
+ghost use Rattle.tcap_dialogue.specs.RequestForm.{numbered, queued_done, gave_up};
+ghost use Rattle.tcap_engine.specs.StepForm.{EngineAnswers, outputs_answer};
+ghost use Rattle.tcap_engine.specs.AnswerKinds.{AnswerKind, MayAnswer};
+ghost use Rattle.tcap_engine.specs.RequestInTable.{asked_answer};
 ghost use Rattle.tcap_engine.specs.HistoryForm.{StandsAfter};
 ghost use Rattle.tcap_model.specs.Histories.History.{History};
 ghost use Rattle.tcap_model.specs.Table.EngineMove.{EngineMoved};

@@ -2,15 +2,15 @@
 
 ghost use Rattle.std.specs.Prelude.{◌≡◌, IfOk, OnErr};
 ghost use Rattle.tcap_primitives.specs.RequestViews.{request_view};
-ghost use Rattle.tcap_engine.specs.Answering.{EngineAnswers};
-ghost use Rattle.tcap_engine.specs.AskedKinds.{MayAnswer, kind_of};
-ghost use Rattle.tcap_engine.specs.Asking.{IsLeft, asked_answer};
+ghost use Rattle.tcap_engine.specs.StepForm.{EngineAnswers};
+ghost use Rattle.tcap_engine.specs.AnswerKinds.{MayAnswer, kind_of};
+ghost use Rattle.tcap_engine.specs.RequestInTable.{IsLeft, asked_answer};
 ghost use Rattle.tcap_engine.specs.HistoryForm.{Stands};
 ghost use Rattle.tcap_model.specs.Table.EngineMove.{engine_move, number_after};
 ghost use Rattle.tcap_model.specs.Words.Event.{Event};
 
 use super::Engine;
-use super::asking::ask_in;
+use super::request_in_table::ask_in;
 use std::alloc::Allocator;
 use tcap_dialogue::{Asked, Fault, Request};
 use tcap_primitives::ranges;

@@ -82,7 +82,7 @@ answered_to_the_sender = worked usual_start (
     ∷ [])
     []
 
--- A second acceptance ends the dialogue; the Abort goes to the address that it keeps (own).
+-- A second acceptance ends the dialogue; the Abort goes to the address of its peer (own).
 abbrev pub repeated_aare_from_elsewhere : Worked
 repeated_aare_from_elsewhere = worked usual_start (
     dialogue_born 1

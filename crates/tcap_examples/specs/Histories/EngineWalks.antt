@@ -23,7 +23,7 @@ use Rattle.tcap_examples.specs.Values.Peer.{sent}
 
 -- ---- two dialogues
 
--- Dialogue 2 in this state, with its queue and its invocations, touched at clock 0 if at all (own).
+-- Dialogue 2 in this state, with its queue and its invocations, last active at clock 0 if at all (own).
 abbrev pub dialogue_2 : State → List Waits → List Row → Dialogue
 dialogue_2 state queue rows = record {
   standing = record { identifier = 2; state = state; context = None; queue = queue };
@@ -65,7 +65,7 @@ none_left = engine_of_two 20 3 (dialogue_1 State.sent None [] [] ∷ dialogue_2 
 abbrev pub first_begun : List ℕ
 first_begun = hex 18 0x6210_480400000001_6C08_A10602010102010A
 
--- The same Begin of dialogue 2 (own).
+-- The Begin of dialogue 2, with its Invoke (own).
 abbrev pub second_begun : List ℕ
 second_begun = hex 18 0x6210_480400000002_6C08_A10602010102010A
 
@@ -73,7 +73,7 @@ second_begun = hex 18 0x6210_480400000002_6C08_A10602010102010A
 abbrev pub first_fresh : Dialogue
 first_fresh = dialogue_1 State.fresh None [] []
 
--- The same with its Invoke in the queue (own).
+-- Dialogue 1 with its Invoke in the queue (own).
 abbrev pub first_queued : Dialogue
 first_queued = dialogue_1 State.fresh None (invoke_queued invoke_1 1 ∷ []) (class_one_row (pos 1) 1 (Queued 20) ∷ [])
 
@@ -81,7 +81,7 @@ first_queued = dialogue_1 State.fresh None (invoke_queued invoke_1 1 ∷ []) (cl
 abbrev pub second_fresh : Dialogue
 second_fresh = dialogue_2 State.fresh [] []
 
--- The same with its Invoke in the queue (own).
+-- Dialogue 2 with its Invoke in the queue (own).
 abbrev pub second_queued : Dialogue
 second_queued = dialogue_2 State.fresh (invoke_queued invoke_1 2 ∷ []) (class_one_row (pos 1) 2 (Queued 10) ∷ [])
 

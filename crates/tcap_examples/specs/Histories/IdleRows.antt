@@ -15,7 +15,7 @@ use Rattle.tcap_examples.specs.Values.HistoryWords.{moment_pair, moment_refused}
 
 -- ---- lives
 
--- A dialogue, what happened so far, and its life and the clock when it was touched last, as they are
+-- A dialogue, what happened so far, and its life and the clock at its last activity, as they are
 -- stated (own).
 pub record Lived : Type 0 where
   pub dialogue : ℕ

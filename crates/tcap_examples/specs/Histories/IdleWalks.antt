@@ -28,7 +28,7 @@ use Rattle.tcap_examples.specs.Values.Peer.{sent}
 abbrev pub limited_engine : World → World
 limited_engine w = record w { idle_ms = 500 }
 
--- A dialogue of such an engine, touched last at this clock (own).
+-- A dialogue of such an engine, last active at this clock (own).
 abbrev pub touched_then : ℕ → Dialogue → Dialogue
 touched_then clock d = record d { idle_ms = 500; touched = clock }
 
@@ -49,12 +49,12 @@ idle_engine clock next_number dialogues = limited_engine (engine_with clock next
 abbrev pub idle_engine_of_two : ℕ → List Dialogue → World
 idle_engine_of_two clock dialogues = record (idle_engine clock 1 dialogues) { next_dialogue = 3 }
 
--- Dialogue 1 in this state, without application context, touched last at this clock, with its queue and
+-- Dialogue 1 in this state, without application context, last active at this clock, with its queue and
 -- its invocations (own).
 abbrev pub first_in : State → ℕ → List Waits → List Row → Dialogue
 first_in state clock queue rows = touched_then clock (dialogue_1 state None queue rows)
 
--- Dialogue 2 in this state, touched last at this clock, with no component and no invocation (own).
+-- Dialogue 2 in this state, last active at this clock, with no component and no invocation (own).
 abbrev pub second_in : State → ℕ → Dialogue
 second_in state clock = touched_then clock (dialogue_2 state [] [])
 
@@ -119,7 +119,7 @@ lapse_before_the_idle_end_steps = idle_walk (
     ∷ moment_step 500 lapsed_and_idle (idle_engine 500 3 [])
     ∷ [])
 
--- Dialogue 1 in Active, touched by a Continue at 400 (own).
+-- Dialogue 1 in Active, whose last activity is a Continue at 400 (own).
 abbrev pub one_renewed : Dialogue
 one_renewed = first_in (State.active peer) 400 [] (class_one_row (pos 1) 1 (Sent 1000) ∷ [])
 
@@ -140,7 +140,7 @@ a_continue_renews_the_limit_steps = idle_walk (opened_by_steps (
 abbrev pub sent_long_ago : World
 sent_long_ago = idle_engine 400 2 (one_sent ∷ [])
 
--- The engine where an Invoke of identifier 2 waits besides: the dialogue isn't touched by it (own).
+-- The engine where an Invoke of identifier 2 waits besides: it doesn't restart the idle timer (own).
 abbrev pub another_waits : World
 another_waits = idle_engine 400 3 (first_in State.sent 0 (invoke_queued another_invoke 2 ∷ [])
     (class_one_row (pos 1) 1 (Sent 1000) ∷ class_one_row (pos 2) 2 (Queued 1000) ∷ []) ∷ [])
@@ -183,7 +183,7 @@ first_begun = hex 8 0x6206_480400000001
 abbrev pub second_begun : List ℕ
 second_begun = hex 8 0x6206_480400000002
 
--- The engine where dialogue 2 was touched at 0 and dialogue 1 at 100 (own).
+-- The engine where dialogue 2 was last active at 0 and dialogue 1 at 100 (own).
 abbrev pub two_touched : World
 two_touched = idle_engine_of_two 100 (first_in State.sent 100 [] [] ∷ second_in State.sent 0 ∷ [])
 

@@ -17,7 +17,7 @@ lapsing deadline dialogue number =
 abbrev pub unordered : List Lapsing
 unordered = lapsing 20 2 1 ∷ lapsing 20 1 4 ∷ lapsing 20 1 3 ∷ lapsing 10 3 9 ∷ lapsing 20 2 0 ∷ []
 
--- The same by deadline, then by dialogue, then by number (own).
+-- These lapses by deadline, then by dialogue, then by number (own).
 abbrev pub ordered : List Lapsing
 ordered = lapsing 10 3 9 ∷ lapsing 20 1 3 ∷ lapsing 20 1 4 ∷ lapsing 20 2 0 ∷ lapsing 20 2 1 ∷ []
 
@@ -27,7 +27,7 @@ pub record Compared : Type 0 where
   pub other : List ℕ
   pub is_before : Bool
 
--- The same in one line (own).
+-- Two keys and whether the one comes before the other, in one line (own).
 abbrev pub compared : List ℕ → List ℕ → Bool → Compared
 compared one other is_before = record { one = one; other = other; is_before = is_before }
 

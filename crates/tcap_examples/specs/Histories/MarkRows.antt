@@ -21,7 +21,7 @@ pub record Meaning : Type 0 where
   pub pair : Pair
   pub made : List Mark
 
--- The same in one line (own).
+-- What a pair means after these pairs, in one line (own).
 abbrev pub meaning : Past → Pair → List Mark → Meaning
 meaning before pair made = record { before = before; pair = pair; made = made }
 

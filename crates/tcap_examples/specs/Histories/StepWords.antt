@@ -68,7 +68,7 @@ kept_in State.sent = peer_address
 kept_in (State.received peer) = peer_address
 kept_in (State.active peer) = peer_address
 
--- Dialogue 1 in this state, with its application context, its queue and its invocations, touched at clock
+-- Dialogue 1 in this state, with its application context, its queue and its invocations, last active at clock
 -- 0 if at all (own).
 abbrev pub dialogue_1 : State → Option (List ℕ) → List Queued → List Row → Dialogue
 dialogue_1 state context queue rows = record {

@@ -112,7 +112,7 @@ identifier_freed_steps = walk (
 abbrev pub reject_sent : List ℕ
 reject_sent = hex 24 0x6516_480400000001_490400000005_6C08_A406020101820100
 
--- Dialogue 1 in Active with this queue, touched at clock 1000 (own).
+-- Dialogue 1 in Active with this queue, last active at clock 1000 (own).
 abbrev pub answered_late : List Waits → Dialogue
 answered_late queue = record (dialogue_1 (State.active peer) None queue []) { touched = 1000 }
 

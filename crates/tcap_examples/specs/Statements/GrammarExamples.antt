@@ -49,7 +49,7 @@ result_message = Message.go_on peer first_octets None (hex 5 0xA203020101)
 abbrev pub faulty_continue : List ℕ
 faulty_continue = hex 15 0x650D_480400000005_490400000001_6C
 
--- The same without an origin (own).
+-- That Continue without an originating identifier (own).
 abbrev pub without_origin : List ℕ
 without_origin = hex 9 0x6507_490400000001_6C
 

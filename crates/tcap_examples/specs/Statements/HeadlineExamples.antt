@@ -18,7 +18,7 @@ repeated_aare_history = closing.repeated_aare.history
 abbrev pub late_result_history : History
 late_result_history = closing.lapse_and_late_result.history
 
--- The same, up to the late result: the Reject of it is queued (own).
+-- That history up to the late result: the Reject of it is queued (own).
 abbrev pub late_result : History
 late_result = record { start = late_result_history.start; pairs = drop 2 late_result_history.pairs }
 

@@ -46,7 +46,7 @@ abbrev pub invoke_within : ℕ → ℤ → Class → ℕ → DialogueEvent
 invoke_within timeout id class operation =
     DialogueEvent.request (asks.invoke id class (code operation) None None timeout)
 
--- The same with a timeout of 1000 milliseconds (own).
+-- An Invoke with a timeout of 1000 milliseconds (own).
 abbrev pub invoke : ℤ → Class → ℕ → DialogueEvent
 invoke id class operation = invoke_within 1000 id class operation
 
@@ -67,7 +67,7 @@ abbrev pub one_invoke_told : List Answer
 one_invoke_told = Answer.number 1 ∷ Answer.outputs
     (sent (hex 18 0x6210_480400000001_6C08_A106020101_02010A) ∷ []) ∷ []
 
--- The same Invoke with a timeout of 10000 milliseconds (own).
+-- An Invoke with a timeout of 10000 milliseconds, and the Begin with it (own).
 abbrev pub one_long_invoke : List DialogueEvent
 one_long_invoke = invoke_within 10000 (pos 1) One 10 ∷ plain_begin ∷ []
 

@@ -91,6 +91,6 @@ opened_for timeout pairs =
     (sent (hex 18 0x6210_480400000001_6C08_A106_020101_02010A) ∷ []))
     ∷ pairs
 
--- The same, with a timeout of a second (own).
+-- These pairs behind a Begin with an Invoke, whose timeout is a second (own).
 abbrev pub opened_with_invoke : List Pair → List Pair
 opened_with_invoke pairs = opened_for 1000 pairs

@@ -89,17 +89,17 @@ ending_past_the_limit = ending_by (λ now d. is_live d.standing.state && nat_lt 
 
 -- ---- what renews the limit
 
--- The dialogue of this identifier is touched (own).
+-- The idle timer of the dialogue of this identifier starts anew (own).
 abbrev pub touched_if : ℕ → ℕ → Dialogue → Dialogue
 touched_if clock identifier d = if d.standing.identifier == identifier then touched_at d clock else d
 
--- The engine after a move, with that dialogue touched (own).
+-- The engine after a move, with that idle timer started anew (own).
 abbrev pub with_touched : ℕ → EngineMoved → EngineMoved
 with_touched identifier m = record m {
   after = record m.after { dialogues = map (touched_if m.after.clock identifier) m.after.dialogues };
 }
 
--- Each request touches its dialogue (own).
+-- Each request restarts the idle timer of its dialogue (own).
 abbrev pub renewing_by_requests : Move
 renewing_by_requests w Event.new_dialogue = engine_move w Event.new_dialogue
 renewing_by_requests w (Event.on_dialogue identifier request) =
@@ -142,7 +142,7 @@ abbrev pub PastTheLimitShows : Type 0
 PastTheLimitShows = Shows ending_past_the_limit renewed_engine (Event.moment 900)
     (tells (idle_abort 1 ∷ ended_in_1 1 ∷ []) (idle_engine 900 2 []))
 
--- The dialogue isn't touched by an Invoke (own).
+-- An Invoke doesn't restart the idle timer (own).
 abbrev pub RenewingShows : Type 0
 RenewingShows = Shows renewing_by_requests sent_long_ago (Event.on_dialogue 1 (invoke_request (pos 2) 10 1000))
     (record { answer = Answer.number 2; after = another_waits })

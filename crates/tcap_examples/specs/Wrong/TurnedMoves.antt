@@ -85,7 +85,7 @@ has_peer State.sent = true
 has_peer (State.received peer) = true
 has_peer (State.active peer) = true
 
--- The same, if it stands (own).
+-- Whether a dialogue has a peer that may write to it, if it stands (own).
 abbrev pub has_peer_if_any : Option Dialogue → Bool
 has_peer_if_any None = false
 has_peer_if_any (Some d) = has_peer d.standing.state

@@ -13,7 +13,7 @@ pub record Wrong : Type 0 where
   pub before : Past
   pub last : Pair
 
--- The same, written in order of time (own).
+-- A wrong history, its pairs written in order of time (own).
 abbrev pub wrong : Start → List Pair → Pair → Wrong
 wrong start pairs last = record { start = start; before = reverse pairs; last = last }
 

@@ -81,7 +81,7 @@ fn learns_once(
     Some(begins & learns & keeps & strays)
 }
 
-/// Whether that dialogue ends with a message to the kept address, or else to the sender of the faulty message
+/// Whether that dialogue ends with a message to the peer's address, or else to the sender of the faulty message
 /// that ends it.
 fn ends(
     alloc: Global,
@@ -105,8 +105,8 @@ fn is_told(engine: &mut Engine, to: &Address) -> Option<bool> {
     is_to(engine.uni(3, to, None, &[]), to)
 }
 
-/// Whether a dialogue that the peer begins sends to the sender of the Begin, and a Unidirectional goes to its own
-/// destination.
+/// Whether a dialogue that the peer begins sends to the sender of the Begin, and a Unidirectional goes to
+/// its own destination.
 fn is_born(alloc: Global, engine: &mut Engine, from: &Address, to: &Address) -> Option<bool> {
     let hears = !answers(alloc, engine, from, BEGIN)?;
     let goes_on = is_to(engine.go_on(2, None, &[]), from)?;
@@ -189,8 +189,8 @@ fn turn(octets: &mut [u8], place: usize, number: u8) -> Option<()> {
     Some(())
 }
 
-/// Whether an address is the same as another of the same octets, and as none that lacks octets from this place on
-/// or has another one there; nothing where memory runs out.
+/// Whether an address is the same as another of the same octets, and as none that lacks octets from this
+/// place on or has another one there; nothing where memory runs out.
 fn is_told_apart(alloc: Global, address: &Address, place: usize) -> Option<bool> {
     let front = Address::new(address.octets().get(..place)?)?;
     let mut octets = address.octets().to_vec(alloc).ok()?;

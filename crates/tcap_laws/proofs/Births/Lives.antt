@@ -122,9 +122,9 @@ pub born-stays : (dialogue : ℕ) (later past : Past) → life dialogue past ≢
 born-stays dialogue later past born =
     isnt_unborn (life dialogue (later ++ past)) (born-later dialogue later past (is_born (life dialogue past) born))
 
--- ---- touched
+-- ---- activity
 
--- before its birth it was never touched
+-- before it is created it had no activity
 pub unborn-untouched : (dialogue : ℕ) (past : Past) → life dialogue past ≡ Life.unborn → touched dialogue past ≡ 0
 unborn-untouched dialogue [] unborn = refl
 unborn-untouched dialogue (pair ∷ past) unborn =

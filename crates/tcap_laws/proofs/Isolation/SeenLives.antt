@@ -229,7 +229,7 @@ module _ (dialogue : ℕ) where
           (born_within pair.event pair.answer pair.idle_ms) ∙ ap (λ b. is_birth_of dialogue pair || b) same
       go false e same = same ∙ ap (λ b. b || was_born dialogue past) (sym (unseen pair past e).no_birth)
 
-  -- the life and the last touch together
+  -- the life and the last activity together
   abbrev AreSame : Past → Past → Type 0
   AreSame some all = (life dialogue some ≡ life dialogue all) × (touched dialogue some ≡ touched dialogue all)
 

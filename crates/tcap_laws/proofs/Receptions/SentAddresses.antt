@@ -135,7 +135,7 @@ request-goes_to h dialogue request to bytes tells =
 
 -- ---- received bytes
 
--- bytes reach a dialogue that is Active, and this is the address that it keeps
+-- bytes reach a dialogue that is Active, and this is the address of its peer
 abbrev IsOfActive : History → List ℕ → Address → Type 0
 IsOfActive h bytes to =
     (dialogue : ℕ) × (peer : List ℕ) × (context : Option (List ℕ)) × (names_in bytes dialogue ≡ true)

@@ -114,7 +114,7 @@ module _ (h : History) (legal : IsLegal h) where
   pub next_unborn : life next h.pairs ≡ Life.unborn
   next_unborn = unborn-life next h.pairs (beyond-unborn h.start h.pairs legal.1 next (omega arith))
 
-  -- one that is created was never touched
+  -- one that is created had no activity yet
   pub next_untouched : (event : Event) → touched next (due_pair h event ∷ h.pairs) ≡ 0
   next_untouched event =
       ap (λ l. cond (touches next l (due_pair h event)) (clock h.pairs) (touched next h.pairs)) next_unborn

@@ -56,7 +56,7 @@ within-limit idle_ms last now e some = go (nat_lt 0 idle_ms) (nat_le (last + idl
 abbrev Stays : State → Life → Type 0
 Stays before after = (s : State) (c : Option (List ℕ)) → after ≡ Life.standing s c → before ≡ s
 
--- a dialogue in this state was touched at this clock
+-- a dialogue in this state was last active at this clock
 abbrev Timely : ℕ → State → ℕ → ℕ → Type 0
 Timely idle_ms s last now = is_live s ≡ true → Within idle_ms last now
 

@@ -155,13 +155,13 @@ module _ (h : History) (dialogue : ℕ) (legal : IsLegal h) (state : State) (con
         rows_kept h.start.reject_ms h.start (due_pair h event) h.pairs legal.1 (invoked_as ∙ none) dialogue
         (λ k. marks_by k ∙ ap (noted_at_clock (clock h.pairs)) (no_marks k)) (λ k u. ends_by k u ∙ ends k)
 
-    -- the clock when the dialogue was touched last, by whether the request touches it
+    -- the clock at the last activity of the dialogue, by whether the request is one
     pub touched_by : touched dialogue (due_pair h event ∷ h.pairs)
         ≡ cond (is_accepted a && touches_as_request request) (clock h.pairs) (touched dialogue h.pairs)
     touched_by = touched_named h dialogue legal state context stands event own
         (is_accepted a && touches_as_request request) (ap (λ a. is_accepted a && touches_as_request request) is)
 
-    -- the address that it keeps, by the request
+    -- the address of its peer, by the request
     pub kept_by : kept_address dialogue (due_pair h event ∷ h.pairs)
         ≡ cond (is_accepted a) (kept_by_request (kept_address dialogue h.pairs) request) (kept_address dialogue h.pairs)
     kept_by = kept_named h dialogue legal state context stands event own

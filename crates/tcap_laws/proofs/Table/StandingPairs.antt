@@ -42,7 +42,7 @@ module _ (h : History) (dialogue : ℕ) (legal : IsLegal h) (state : State) (con
           let never : Life.unborn ≡ Life.standing state context = sym unborn ∙ stands in
           absurd cc
 
-  -- the clock when it was touched last
+  -- the clock at its last activity
   abbrev pub last : ℕ
   last = touched dialogue h.pairs
 

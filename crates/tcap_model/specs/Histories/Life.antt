@@ -1,4 +1,4 @@
--- The life of a dialogue: whether it was created, its state and application context, when it was touched
+-- The life of a dialogue: whether it was created, its state and application context, when it was active
 -- last, and its end.
 use Rattle.std.specs.Prelude.{ℕ, ◌&&◌, Bool, true, false, List, [], ◌∷◌, Option, Some, None, Result, Ok, Err, filter, if◌then◌else◌}
 use Rattle.tcap_pdu.specs.declared.fault.FrameFault.{FrameFault}
@@ -137,7 +137,7 @@ life_by_moment true state context = if is_live state then Life.over else Life.st
 -- ---- the whole life
 
 -- What an event that names a dialogue that stands makes of it, by its idle limit, by the clock when it
--- was touched last, and by whether the event was accepted (own).
+-- was last active, and by whether the event was accepted (own).
 abbrev pub life_by_event : ℕ → ℕ → State → Option (List ℕ) → Event → Bool → Life
 life_by_event idle_ms touched state context Event.new_dialogue accepted = Life.standing state context
 life_by_event idle_ms touched state context (Event.on_dialogue dialogue request) accepted =
@@ -153,16 +153,16 @@ life_if_named false touched state context pair = Life.standing state context
 life_if_named true touched state context pair =
     life_by_event pair.idle_ms touched state context pair.event (is_accepted pair.answer)
 
--- What a pair makes of a dialogue that was touched last at this clock; one that is over stays so (own).
+-- What a pair makes of a dialogue that was last active at this clock; one that is over stays so (own).
 abbrev pub life_after : ℕ → ℕ → Life → Pair → Life
 life_after dialogue touched Life.unborn pair = life_at_birth (is_birth_of dialogue pair) pair.event
 life_after dialogue touched (Life.standing state context) pair =
     life_if_named (names pair.event dialogue) touched state context pair
 life_after dialogue touched Life.over pair = Life.over
 
--- ---- what touches a dialogue
+-- ---- what restarts the idle timer of a dialogue
 
--- TC-BEGIN and TC-CONTINUE touch their dialogue; no other request does (own).
+-- TC-BEGIN and TC-CONTINUE restart the idle timer of their dialogue; no other request does (own).
 abbrev pub touches_as_request : Request → Bool
 touches_as_request (Request.component asked) = false
 touches_as_request (Request.dialogue (DialogueRequest.uni to asked info)) = false
@@ -176,8 +176,8 @@ abbrev pub is_normal : PortionVerdict → Bool
 is_normal (PortionVerdict.normal context info) = true
 is_normal PortionVerdict.abnormal = false
 
--- A Continue whose dialogue portion is as it should be touches the live dialogue that it is to; no other
--- message does, and no faulty one (own).
+-- A Continue whose dialogue portion is as it should be restarts the idle timer of the live dialogue that it
+-- is to; no other message does, and no faulty one (own).
 abbrev pub touches_as_message : State → Option (List ℕ) → Result Message FrameFault → Bool
 touches_as_message state context (Ok (Message.go_on origin to portion components)) =
     is_normal (portion_verdict state context portion)
@@ -187,7 +187,7 @@ touches_as_message state context (Ok (Message.unidirectional portion components)
 touches_as_message state context (Ok (Message.begin origin portion components)) = false
 touches_as_message state context (Err fault) = false
 
--- Whether an event that names a dialogue that stands touches it, by whether it was accepted (own).
+-- Whether an event that names a dialogue that stands restarts its idle timer, by whether it was accepted (own).
 abbrev pub touches_as_event : State → Option (List ℕ) → Event → Bool → Bool
 touches_as_event state context Event.new_dialogue accepted = false
 touches_as_event state context (Event.on_dialogue dialogue request) accepted = accepted && touches_as_request request
@@ -195,8 +195,8 @@ touches_as_event state context (Event.received from bytes) accepted =
     is_live state && touches_as_message state context (frame_at bytes)
 touches_as_event state context (Event.moment now) accepted = false
 
--- Whether a pair touches a dialogue, by its life before: only one that stands and that the event names
--- (own).
+-- Whether a pair restarts the idle timer of a dialogue, by its life before: only one that stands and that
+-- the event names (own).
 abbrev pub touches : ℕ → Life → Pair → Bool
 touches dialogue Life.unborn pair = false
 touches dialogue (Life.standing state context) pair =
@@ -205,7 +205,7 @@ touches dialogue Life.over pair = false
 
 -- ---- the course
 
--- A dialogue's life, and the clock when it was touched last, 0 if it never was (own).
+-- A dialogue's life, and the clock at its last activity, 0 if it never was (own).
 pub record Course : Type 0 where
   pub life : Life
   pub touched : ℕ
@@ -226,7 +226,7 @@ course dialogue (pair ∷ past) = course_after dialogue (clock past) (course dia
 abbrev pub life : ℕ → Past → Life
 life dialogue past = (course dialogue past).life
 
--- The clock when a dialogue was touched last: at the last accepted TC-BEGIN or TC-CONTINUE of its user,
+-- The clock at the last activity of a dialogue: at the last accepted TC-BEGIN or TC-CONTINUE of its user,
 -- or at the last Continue to it whose dialogue portion was as it should be (own).
 abbrev pub touched : ℕ → Past → ℕ
 touched dialogue past = (course dialogue past).touched

@@ -42,7 +42,7 @@ given_up_by n place dialogue (Request.component (ComponentRequest.error_back id 
 given_up_by n place dialogue (Request.component (ComponentRequest.u_reject id problem)) number = []
 given_up_by n place dialogue (Request.dialogue asked) number = []
 
--- The same, with the dialogue of the request (Q.771, User cancel).
+-- That the invocation of this number was given up, by a request on its dialogue (Q.771, User cancel).
 abbrev pub given_up_at : ℕ → Past → Event → ℕ → List Told
 given_up_at n place Event.new_dialogue number = []
 given_up_at n place (Event.on_dialogue dialogue request) number = given_up_by n place dialogue request number

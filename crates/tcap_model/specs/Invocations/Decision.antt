@@ -13,7 +13,7 @@ told_outcome place i None = None
 told_outcome place i (Some closing) =
     Some (record { place = place; dialogue = i.dialogue; id = i.id; closing = closing })
 
--- The same, where there is such an invocation (own).
+-- Where an invocation was decided, and how, if there is such an invocation (own).
 abbrev pub decided_of : Past → Option Invocation → Option Told
 decided_of place None = None
 decided_of place (Some i) = told_outcome place i (outcome_of (Some i) place)

@@ -110,7 +110,7 @@ abbrev pub marks_if_live : Bool → ℤ → State → Option (List ℕ) → List
 marks_if_live false id state context bytes = None
 marks_if_live true id state context bytes = marks_of_message id state context (frame_at bytes)
 
--- The same, by the life before them (own).
+-- What bytes mean for an identifier, by the life of the dialogue before them (own).
 abbrev pub marks_of_bytes : ℤ → Life → List ℕ → Option (List Mark)
 marks_of_bytes id Life.unborn bytes = None
 marks_of_bytes id (Life.standing state context) bytes = marks_if_live (is_live state) id state context bytes

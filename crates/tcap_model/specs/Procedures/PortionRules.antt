@@ -85,7 +85,8 @@ uni_verdict_by (Ok (abrt by_provider info)) = PortionVerdict.abnormal
 uni_verdict_by (Ok (foreign external)) = PortionVerdict.abnormal
 uni_verdict_by (Err f) = PortionVerdict.abnormal
 
--- The same, where there may be none (Q.774, Unstructured dialogue).
+-- What the dialogue portion of a Unidirectional comes to, where there may be none (Q.774, Unstructured
+-- dialogue).
 abbrev pub uni_verdict : Option (List ℕ) → PortionVerdict
 uni_verdict None = PortionVerdict.normal None []
 uni_verdict (Some portion) = uni_verdict_by (dialogue_at portion)

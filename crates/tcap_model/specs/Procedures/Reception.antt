@@ -34,7 +34,7 @@ live_named is_live (Some d) = if is_live d then Some d else None
 abbrev pub addressed : (ℕ → Bool) → List ℕ → Option ℕ
 addressed is_live octets = live_named is_live (dialogue_named octets)
 
--- The same, where there may be no destination (own).
+-- The live dialogue that a destination names, where there may be none (own).
 abbrev pub addressed_if_any : (ℕ → Bool) → Option (List ℕ) → Option ℕ
 addressed_if_any is_live None = None
 addressed_if_any is_live (Some octets) = addressed is_live octets
@@ -115,7 +115,7 @@ fault_by first named abort f =
     else if first == 0x67 then faulty_last named f
     else aborted_or_dropped abort
 
--- The same, from the bytes; no octet at all is a faulty Begin without an originator (own).
+-- What becomes of faulty bytes; no octet at all is a faulty Begin without an originator (own).
 abbrev pub faulty : (ℕ → Bool) → List ℕ → FrameFault → Reception
 faulty is_live [] f = Reception.dropped DropCause.bad_message
 faulty is_live (first ∷ bytes) f =

@@ -44,7 +44,7 @@ ends_wait until dialogue id (Event.on_dialogue named request) = (named == dialog
 ends_wait until dialogue id (Event.received from bytes) = false
 ends_wait until dialogue id (Event.moment now) = nat_le until now
 
--- The same of a pair: what is refused ends no wait (own).
+-- Whether a pair ends the wait of an identifier: what is refused ends none (own).
 abbrev pub pair_ends_wait : ℕ → ℕ → ℤ → Pair → Bool
 pair_ends_wait until dialogue id pair = is_accepted pair.answer && ends_wait until dialogue id pair.event
 
@@ -65,7 +65,7 @@ abbrev pub holds_identifier : ℕ → ℕ → ℤ → Past → Option Told → B
 holds_identifier reject_ms dialogue id past None = true
 holds_identifier reject_ms dialogue id past (Some told) = is_waiting reject_ms dialogue id past told
 
--- The same of the latest invocation with the identifier, if there is one (own).
+-- Whether the latest invocation with the identifier, if there is one, still holds it (own).
 abbrev pub held_by : ℕ → ℕ → ℤ → Past → Option Invocation → Bool
 held_by reject_ms dialogue id past None = false
 held_by reject_ms dialogue id past (Some i) = holds_identifier reject_ms dialogue id past (decision i.number past)

@@ -127,7 +127,7 @@ message_outputs dialogue past state context from (Message.abort to reason) =
 message_outputs dialogue past state context from (Message.unidirectional portion components) = []
 message_outputs dialogue past state context from (Message.begin origin portion components) = []
 
--- The same, by the dialogue's life; only one that stands takes a message (own).
+-- What a dialogue indicates of a message, by its life: only one that stands takes a message (own).
 abbrev pub taken_outputs : ℕ → Past → Life → Address → Message → List Output
 taken_outputs dialogue past Life.unborn from message = []
 taken_outputs dialogue past (Life.standing state context) from message =
@@ -167,7 +167,7 @@ lapsing_by now sent i None = None
 lapsing_by now sent i (Some deadline) =
     if sent && nat_le deadline now then Some (record { deadline = deadline; invocation = i }) else None
 
--- The same, by the marks of the invocation (Q.774, Invocation timer).
+-- An invocation's lapse at a moment, if it is due, by its marks (Q.774, Invocation timer).
 abbrev pub lapsing_at : Past → ℕ → Invocation → Option Lapsing
 lapsing_at past now i = lapsing_by now (is_sent_in i.class i.timeout (span i past)) i (deadline i past)
 

@@ -30,7 +30,8 @@ EachMovesAlike =
     (h : History) (engine : World) (event : Event) → StandsAt h engine → InRange event
     → MovesAlike h event (engine_move engine event)
 
--- The same as one equation, at the engine that a legal history gives (own).
+-- What an engine does to each event is what the history says, as one equation, at the engine that a legal
+-- history gives (own).
 abbrev pub EachMoveIsSaid : Type 0
 EachMoveIsSaid =
     (h : History) (event : Event) → IsLegal h → InRange event → engine_move (world_of h) event ≡ moved_at h event

@@ -41,7 +41,7 @@ pub record IsToldOnce (n : ℕ) (closing : Closing) (past : Past) : Type 0 where
   pub stands : StandsIn pair before past
   pub is_decided : IsDecidedBy n closing pair before
 
--- The same in the plain form: the closing indications of a number are none where its invocation has no
+-- Decided, in the plain form: the closing indications of a number are none where its invocation has no
 -- outcome; where it has one, they are one alone, in the answer to the event whose mark decided (own).
 pub record PlainlyDecided (h : History) (n : ℕ) : Type 0 where
   pub none : outcome n h.pairs ≡ None → closings n h.pairs ≡ []
@@ -101,7 +101,7 @@ pub record Bounded (h : History) : Type 0 where
 abbrev pub EachIsDecided : Type 0
 EachIsDecided = (h : History) (n : ℕ) → IsLegal h → Decided h n
 
--- The same in the plain form (own).
+-- Each number of each legal history is decided, in the plain form (own).
 abbrev pub EachIsPlainlyDecided : Type 0
 EachIsPlainlyDecided = (h : History) (n : ℕ) → IsLegal h → PlainlyDecided h n
 

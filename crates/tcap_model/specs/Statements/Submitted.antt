@@ -60,7 +60,7 @@ given_up_in (Answer.given_up number) = number ∷ []
 given_up_in (Answer.outputs outputs) = []
 given_up_in (Answer.refused fault) = []
 
--- The same, for a request on the dialogue (own).
+-- The number of the invocation that a request on the dialogue gave up, if it did (own).
 abbrev pub given_up_on : ℕ → Event → Answer → List ℕ
 given_up_on dialogue Event.new_dialogue answer = []
 given_up_on dialogue (Event.on_dialogue named request) answer = if named == dialogue then given_up_in answer else []

@@ -11,7 +11,7 @@ use Rattle.tcap_model.specs.Procedures.ComponentHandling.{SentInvocation}
 
 -- A dialogue: its identifier, state, application context and queue; its invocations by rising number,
 -- with how long an identifier waits for a Reject; its idle limit, 0 for none, and the clock when it was
--- touched last; the address that it keeps, empty before there is one (own).
+-- last activity; the address of its peer, empty before there is one (own).
 pub record Dialogue : Type 0 where
   pub standing : Standing
   pub invocations : InvocationList
@@ -46,7 +46,7 @@ in_state d state = record d { standing = record d.standing { state = state } }
 abbrev pub in_context : Dialogue → Option (List ℕ) → Dialogue
 in_context d context = record d { standing = record d.standing { context = context } }
 
--- The dialogue, touched when the clock stands at a moment (own).
+-- The dialogue, active when the clock stands at a moment (own).
 abbrev pub touched_at : Dialogue → ℕ → Dialogue
 touched_at d now = record d { touched = now }
 

@@ -259,7 +259,7 @@ begun_with s identifier reject_ms idle_ms from origin context info w = record {
   is_over = false;
 }
 
--- The same, from the contents of the Begin's component portion (Q.774, Dialogue begin).
+-- The dialogue that a Begin creates, from the contents of its component portion (Q.774, Dialogue begin).
 abbrev pub born : Setting → ℕ → ℕ → ℕ → Address → List ℕ → Option (List ℕ) → List ℕ → List ℕ → Moved
 born s identifier reject_ms idle_ms from origin context info components =
     begun_with s identifier reject_ms idle_ms from origin context info
@@ -277,7 +277,7 @@ abbrev pub lapsed : Dialogue → ℕ → Moved
 lapsed d now = answering (with_invocations d (after_lapse d.invocations now))
     (Answer.outputs (map (row_lapse_told d.standing.identifier) (told_at now d.invocations.rows)))
 
--- The same at which the dialogue has been idle too long: what lapses is told, and then the dialogue is
+-- A moment at which the dialogue has been idle too long: what lapses is indicated, and then the dialogue is
 -- over, and no message goes out (own).
 abbrev pub idled : Dialogue → ℕ → Moved
 idled d now = over_with d (map (row_lapse_told d.standing.identifier) (told_at now d.invocations.rows)

@@ -84,8 +84,8 @@ rows_of reject_ms dialogue past = filter_map (row_of reject_ms dialogue past) (i
 
 -- ---- the dialogues
 
--- A dialogue, if it stands: with all that its life says, its queue, its invocations, when it was touched
--- last, and the address that it keeps (own).
+-- A dialogue, if it stands: with all that its life says, its queue, its invocations, when it was active
+-- last, and the address of its peer (own).
 abbrev pub dialogue_by : ℕ → ℕ → ℕ → Past → Life → Option Dialogue
 dialogue_by reject_ms idle_ms dialogue past Life.unborn = None
 dialogue_by reject_ms idle_ms dialogue past (Life.standing state context) = Some (record {

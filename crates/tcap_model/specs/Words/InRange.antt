@@ -27,7 +27,7 @@ is_address address = nat_le (length address) 255 && are_octets address
 abbrev pub is_identifier : ℤ → Bool
 is_identifier id = int_le (negsuc 127) id && int_le id (pos 127)
 
--- The same, where there is one (Q.773, Invoke ID).
+-- Whether an identifier is one octet, where there is one (Q.773, Invoke ID).
 abbrev pub is_identifier_if_any : Option ℤ → Bool
 is_identifier_if_any None = true
 is_identifier_if_any (Some id) = is_identifier id
@@ -80,6 +80,6 @@ is_in_range (on_dialogue dialogue r) = is_short dialogue && is_request r
 is_in_range (received from bytes) = is_address from && are_octets bytes
 is_in_range (moment now) = is_long now
 
--- The same, as a statement (own).
+-- As a statement: the numbers of an event are those that its types hold (own).
 abbrev pub InRange : Event → Type 0
 InRange event = IsTrue (is_in_range event)

@@ -1,7 +1,7 @@
 //! Whether the message of a request fits, and its octets.
 
 ghost use Rattle.std.specs.Prelude.{◌≡◌, ◌⊎◌, option_copied, true, false, IfOk, IfErr, IsErrOf, IfSome, None, Some, not};
-ghost use Rattle.tcap_primitives.specs.SendingViews.{borne, reason_with, sending_view};
+ghost use Rattle.tcap_primitives.specs.SendingViews.{carried_by, reason_with, sending_view};
 ghost use Rattle.tcap_model.specs.Procedures.Refusals.{passes_message};
 ghost use Rattle.tcap_pdu.specs.declared.fault.PduFault.TheVariants as pdu_fault;
 ghost use Rattle.tcap_pdu.specs.DialogueDue.{content_fault};
@@ -10,7 +10,7 @@ ghost use Rattle.tcap_pdu.specs.DialogueWritten.{HasDiagnostic};
 ghost use Rattle.tcap_pdu.specs.FrameViews.{message, reason_of};
 ghost use Rattle.tcap_pdu.specs.FrameWritten.{written_frame};
 
-use super::{Bearer, Sending};
+use super::{MessageParts, Sending};
 use ber_core::OutOfMemory;
 use std::alloc::Allocator;
 use tcap_pdu::{
@@ -28,22 +28,22 @@ fn reason<'a>(portion: Option<&'a [u8]>) -> AbortPart<'a>
     }
 }
 
-impl<'a> Bearer<'a> {
+impl<'a> MessageParts<'a> {
     /// The message with this dialogue portion, if there is one.
     fn frame<'b>(&'b self, dialogue: Option<&'b [u8]>) -> Frame<'b>
-        ensures { message result ≡ borne self.now (option_copied dialogue.entry) }
+        ensures { message result ≡ carried_by self.now (option_copied dialogue.entry) }
     {
         match self {
-            Bearer::Uni { components } => Frame::Uni {
+            MessageParts::Uni { components } => Frame::Uni {
                 dialogue,
                 components,
             },
-            Bearer::Begin { origin, components } => Frame::Begin {
+            MessageParts::Begin { origin, components } => Frame::Begin {
                 otid: TransId::of(*origin),
                 dialogue,
                 components,
             },
-            Bearer::Continue {
+            MessageParts::Continue {
                 origin,
                 peer,
                 components,
@@ -53,12 +53,12 @@ impl<'a> Bearer<'a> {
                 dialogue,
                 components,
             },
-            Bearer::End { peer, components } => Frame::End {
+            MessageParts::End { peer, components } => Frame::End {
                 dtid: peer.copied(),
                 dialogue,
                 components,
             },
-            Bearer::Abort { peer } => Frame::Abort {
+            MessageParts::Abort { peer } => Frame::Abort {
                 dtid: peer.copied(),
                 reason: reason(dialogue),
             },
@@ -70,10 +70,10 @@ impl<'a> Bearer<'a> {
 #[tactic(auto, using(crate::proofs::SendingLemmas::bearer_cause))]
 fn framed<A: Allocator + Copy>(
     alloc: A,
-    bearer: &Bearer<'_>,
+    bearer: &MessageParts<'_>,
     dialogue: Option<&[u8]>,
 ) -> Result<Vec<u8, A>, OutOfMemory>
-    ensures { IfOk result (λ v. v.items ≡ written_frame (borne bearer.now (option_copied dialogue.entry))) }
+    ensures { IfOk result (λ v. v.items ≡ written_frame (carried_by bearer.now (option_copied dialogue.entry))) }
 {
     let frame = bearer.frame(dialogue);
     match write_frame(alloc, &frame) {

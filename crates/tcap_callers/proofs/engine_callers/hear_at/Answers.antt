@@ -1,4 +1,4 @@
-use Rattle.tcap_engine.specs.Answering.{outputs_answer}
+use Rattle.tcap_engine.specs.StepForm.{outputs_answer}
 use Rattle.tcap_model.specs.Words.Event.{Event}
 use Rattle.tcap_callers.proofs.TwoCalls.{stands_on_both}
 use Rattle.tcap_callers.proofs.engine_callers.hear_at.Goals as goal

@@ -1,7 +1,7 @@
 use Rattle.std.proofs.Common.{rules, sym, ap, ◌≡◌, ◌∙◌, ◌+◌, ◌++◌, [], ◌∷◌, List, ℕ, length, ◌<◌}
 use Rattle.tcap_model.specs.Table.Dialogue.{Dialogue}
 use Rattle.tcap_model.specs.Table.World.{World}
-use Rattle.tcap_engine.specs.Table.{IsWithin, TableEntry, dialogues_of, with_born}
+use Rattle.tcap_engine.specs.DialogueEntries.{IsWithin, TableEntry, dialogues_of, with_created}
 use Rattle.tcap_engine.proofs.BirthLemmas.{dialogues-push, room-to-be-born, sound-push}
 use Rattle.tcap_engine.proofs.engine.Engine.keep.Goals as goal
 
@@ -22,4 +22,4 @@ returns-clause-ok g c =
     let put : c.insert.new.self ≡ ps ++ (d, c.args.dialogue) ∷ [] = search rules in
     let new : dialogues_of c.insert.new.self ≡ dialogues_of ps ++ c.args.dialogue ∷ [] = ap dialogues_of put ∙ dialogues-push ps (d, c.args.dialogue) in
     let whole : ℕ → List Dialogue → World = λ n ds. record { max_dialogues = c.self.inside.limits.max_dialogues; reject_ms = c.self.inside.limits.reject_ms; idle_ms = c.self.inside.limits.idle_ms; next_dialogue = n; next_number = c.self.inside.next_number; clock = c.self.inside.clock; dialogues = ds } in
-    ap (λ n. whole n (dialogues_of c.insert.new.self)) c.next_identifier-following.ensures ∙ ap (whole (d + 1)) new ∙ ap (λ (w : World). with_born w c.args.dialogue) c.self.view_is
+    ap (λ n. whole n (dialogues_of c.insert.new.self)) c.next_identifier-following.ensures ∙ ap (whole (d + 1)) new ∙ ap (λ (w : World). with_created w c.args.dialogue) c.self.view_is

@@ -1,6 +1,6 @@
 use Rattle.std.proofs.Common.{rules, arith, tests, sym, ap, ◌∙◌, ◌<◌, ◌≤◌, List}
 use Rattle.tcap_engine.specs.Lapsing.{AreUntimed, IsFirstTimer}
-use Rattle.tcap_engine.specs.Table.{TableEntry}
+use Rattle.tcap_engine.specs.DialogueEntries.{TableEntry}
 use Rattle.tcap_engine.proofs.NextTimerLemmas.{late-still, reached-changed, next-none, next-first, is-within, is-beyond}
 use Rattle.tcap_engine.proofs.QuietLemmas.{idle-late, behind-late}
 use Rattle.tcap_invocation.specs.Stage.{moment_limit}

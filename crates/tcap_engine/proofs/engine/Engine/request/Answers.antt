@@ -1,6 +1,6 @@
 use Rattle.std.proofs.Common.{rules}
 use Rattle.tcap_primitives.specs.RequestViews.{request_view}
-use Rattle.tcap_engine.specs.Asking.{asked_answer}
+use Rattle.tcap_engine.specs.RequestInTable.{asked_answer}
 use Rattle.tcap_engine.proofs.KindLemmas.{of-kind}
 use Rattle.tcap_engine.proofs.StandingLemmas.{stands_after}
 use Rattle.tcap_model.specs.Words.Event.{Event}

@@ -4,7 +4,7 @@ use Rattle.std.proofs.Math.ListN.{drop_of_length-le}
 use Rattle.std.specs.List.{flat_map}
 use Rattle.std.specs.Map.{remove_entry}
 use Rattle.tcap_primitives.specs.OutputViews.{all_shown, shown}
-use Rattle.tcap_engine.specs.Ending.{over_in, without_all}
+use Rattle.tcap_engine.specs.IdleDialogues.{idle_end_in, without_all}
 use Rattle.tcap_engine.proofs.OverLemmas.{OverStep, over-step, none-without}
 use Rattle.tcap_engine.proofs.engine.idle.end_all.Goals as goal
 
@@ -19,14 +19,14 @@ loop-identifier-preserved g c =
     let d = get_or ids i 0 in
     let step : OverStep (drop i ids) (drop (i + 1) ids) d ps = over-step i ids ps c.loop-identifier-test.true inv.from inv.apart in
     let gone : new ≡ remove_entry (nat_eq d) ps = c.end_one.ensures.table in
-    let rest = flat_map (over_in new) (drop (i + 1) ids) in
-    let told : all_shown c.end_one.new.outputs.items ≡ before ++ over_in ps d = c.end_one.ensures.told in
-    let all : flat_map (over_in ps) (drop i ids) ≡ over_in ps d ++ rest = step.told ∙ ap (λ qs. over_in ps d ++ flat_map (over_in qs) (drop (i + 1) ids)) (sym gone) in
+    let rest = flat_map (idle_end_in new) (drop (i + 1) ids) in
+    let told : all_shown c.end_one.new.outputs.items ≡ before ++ idle_end_in ps d = c.end_one.ensures.told in
+    let all : flat_map (idle_end_in ps) (drop i ids) ≡ idle_end_in ps d ++ rest = step.told ∙ ap (λ qs. idle_end_in ps d ++ flat_map (idle_end_in qs) (drop (i + 1) ids)) (sym gone) in
     let long = ap length all in
-    let parts = length-append (over_in ps d) rest in
-    let shown_length : length (all_shown c.end_one.new.outputs.items) ≡ length before + length (over_in ps d) = ap length told ∙ length-append before (over_in ps d) in
+    let parts = length-append (idle_end_in ps d) rest in
+    let shown_length : length (all_shown c.end_one.new.outputs.items) ≡ length before + length (idle_end_in ps d) = ap length told ∙ length-append before (idle_end_in ps d) in
     record {
-      told = ap (λ os. os ++ rest) told ∙ append_assoc before (over_in ps d) rest ∙ ap (λ os. before ++ os) (sym all) ∙ inv.told;
+      told = ap (λ os. os ++ rest) told ∙ append_assoc before (idle_end_in ps d) rest ∙ ap (λ os. before ++ os) (sym all) ∙ inv.told;
       room =
           let inside = inv.room in
           let whole = c.end_one.ensures.room in

@@ -2,8 +2,8 @@ use Rattle.std.proofs.Common.{rules, arith, ◌≡◌, ◌+◌, ◌∙◌, ◌++
 use Rattle.std.proofs.lemmas.List.{length-map, map-append}
 use Rattle.std.specs.Map.{lookup}
 use Rattle.tcap_primitives.specs.OutputViews.{all_shown, shown}
-use Rattle.tcap_engine.specs.Ending.{over_in, over_told}
-use Rattle.tcap_engine.specs.Table.{TableEntry}
+use Rattle.tcap_engine.specs.IdleDialogues.{idle_end_in, idle_end}
+use Rattle.tcap_engine.specs.DialogueEntries.{TableEntry}
 use Rattle.tcap_engine.proofs.TableLemmas.{found-own}
 use Rattle.tcap_engine.proofs.TimedLemmas.{timed-without}
 use Rattle.tcap_invocation.specs.Closing.{ended_at}
@@ -24,8 +24,8 @@ tell_ended-requires g c =
     let d = c.args.identifier in
     let old = c.in-Some.dialogue in
     let found : lookup (nat_eq d) ps ≡ Some old = search rules in
-    let counted : length (over_in ps d) ≡ length (over_told (Some old)) = ap (λ o. length (over_told o)) found in
-    let more : length (over_told (Some old)) ≡ length (ended_told old.standing.identifier old.invocations) + 1 = omega arith in
+    let counted : length (idle_end_in ps d) ≡ length (idle_end (Some old)) = ap (λ o. length (idle_end o)) found in
+    let more : length (idle_end (Some old)) ≡ length (ended_told old.standing.identifier old.invocations) + 1 = omega arith in
     let same : length (ended_told old.standing.identifier old.invocations) ≡ length (ended_at old.invocations.rows) = length-map (ended_at old.invocations.rows) _ in
     let room = rw (← c.table.view_is) at c.requires.room in
     let len = c.push_reserved.ensures.len in
@@ -43,8 +43,8 @@ returns-clause-told g c =
     let found : lookup (nat_eq d) ps ≡ Some old = search rules in
     let from = rw (← c.table.view_is) at c.requires.from in
     let own = found-own d 0 old ps from found in
-    let over : over_in ps d ≡ aborted ∷ ended =
-    ap over_told found ∙ ap (λ i. Output.dialogue (DialogueIndication.p_abort i AbortCause.idle) ∷ ended_told i old.invocations) own in
+    let over : idle_end_in ps d ≡ aborted ∷ ended =
+    ap idle_end found ∙ ap (λ i. Output.dialogue (DialogueIndication.p_abort i AbortCause.idle) ∷ ended_told i old.invocations) own in
     let pushed : all_shown c.push_reserved.new.self.items ≡ before ++ aborted ∷ [] = ap all_shown c.push_reserved.ensures.items ∙ map-append shown c.args.outputs.now.items _ in
     rw (← c.table.view_is)
     (c.tell_ended.ensures.told ∙ ap (λ os. os ++ ended) pushed ∙ append_assoc before (aborted ∷ []) ended ∙ ap (λ os. before ++ os) (sym over))

@@ -1,9 +1,9 @@
 use Rattle.std.proofs.Common.{◌≡◌, ◌++◌, ◌+◌, ◌≤◌, ℕ, length, vec_len, vec_capacity}
 use Rattle.tcap_primitives.specs.OutputViews.{all_shown}
 use Rattle.tcap_model.specs.Table.DueLapses.{all_told}
-use Rattle.tcap_engine.specs.Ending.{ends_in, idle_ids, left_by}
+use Rattle.tcap_engine.specs.IdleDialogues.{ends_in, idle_ids, left_by}
 use Rattle.tcap_engine.specs.Lapsing.{step_count}
-use Rattle.tcap_engine.specs.Table.{AreFrom, dialogues_of}
+use Rattle.tcap_engine.specs.DialogueEntries.{AreFrom, dialogues_of}
 use Rattle.tcap_engine.proofs.engine.moment.tell_due.Given as goal
 
 abbrev pub invariant-loop-time : goal.invariant-loop-time

@@ -1,7 +1,0 @@
-use Rattle.tcap_dialogue.proofs.PlaceLemmas.{all_first}
-use Rattle.tcap_dialogue.proofs.dialogue.beginning.take_uni.Goals as goal
-
-pub returns-clause-place : goal.returns-clause-place
-returns-clause-place g c portion given =
-    c.walk_alone.ensures.place portion
-    (all_first portion c.args.components c.in_ok-outputs.outputs.items c.push_reserved.new.self.items _ c.in_ok-outputs.ensures.items c.push_reserved.ensures.items (c.parts_of.ensures.place 0x60 portion given))

@@ -1,0 +1,248 @@
+//! One component of a message to a dialogue.
+
+ghost use Rattle.std.specs.Option.{option_map};
+ghost use Rattle.std.specs.Prelude.{◌≡◌, ◌<◌, ◌≤◌, Some, None, Bool, true, false, Ok, Err, option_copied, vec_len, vec_capacity};
+ghost use Rattle.tcap_component.specs.Component.ComponentParts.{reject_back};
+ghost use Rattle.tcap_component.specs.Views.{item_view, problem_parts, body_parts, code_parts, component_parts, fault_parts};
+ghost use Rattle.tcap_component.specs.declared.component.Component.TheVariants as component;
+ghost use Rattle.tcap_dialogue.specs.HandledViews.{IsHandled, AreNone};
+ghost use Rattle.tcap_primitives.specs.Slices.{AreOf, AreOfItem, result_of};
+ghost use Rattle.tcap_dialogue.specs.Verdicts.{result_handled};
+ghost use Rattle.tcap_invocation.specs.Answers.{after_received, after_reject};
+ghost use Rattle.tcap_invocation.specs.Class.{return_result};
+ghost use Rattle.tcap_invocation.specs.Class.Received.{return_error};
+ghost use Rattle.tcap_invocation.specs.Stage.{moment_limit};
+ghost use Rattle.tcap_model.specs.Procedures.ComponentHandling.{handled, subject_of, invoke_handled, error_handled, reject_handled, remote};
+ghost use Rattle.tcap_model.specs.Table.Dialogue.{sent_by_rows};
+ghost use Rattle.tcap_model.specs.Table.TableMove.{after_item};
+
+use super::answers::{error_judged, reject_judged, result_judged};
+use super::{Reject, rejecting, remote_rejector};
+use std::alloc::Allocator;
+use tcap_component::{Body, Code, Component, ComponentFault, Problem};
+use tcap_invocation::Invocations;
+use tcap_primitives::Output;
+
+/// An Invoke.
+#[inline(always)]
+fn take_invoke<'m, A: Allocator + Copy>(
+    invocations: &Invocations<A>,
+    dialogue: u32,
+    id: i8,
+    linked: Option<i8>,
+    code: Code<'m>,
+    parameter: Option<&'m [u8]>,
+    outputs: &mut Vec<Output<'m, A>, A>,
+) -> Option<Reject>
+    requires room { vec_len outputs.old < vec_capacity outputs.old }
+    ensures handled { IsHandled outputs.old outputs.new result
+        (AreOf (component.Invoke id linked code.entry parameter.entry))
+        (invoke_handled (Some dialogue) (sent_by_rows dialogue invocations.now linked) id linked
+        (code_parts code.entry) (option_copied parameter.entry)) }
+{
+    if let Some(linked) = linked {
+        if !invocations.is_open(linked) {
+            return rejecting(dialogue, id, Problem::unrecognized_linked_id(), outputs);
+        }
+    }
+    outputs.push_reserved(Output::Invoked {
+        dialogue: Some(dialogue),
+        id,
+        linked,
+        code,
+        parameter,
+    });
+    None
+}
+
+/// A Return Result, Last or not.
+#[inline(always)]
+fn take_result<'m, A: Allocator + Copy>(
+    invocations: &mut Invocations<A>,
+    dialogue: u32,
+    clock: u64,
+    id: i8,
+    body: Option<Body<'m>>,
+    last: bool,
+    outputs: &mut Vec<Output<'m, A>, A>,
+) -> Option<Reject>
+    requires clock { clock ≤ moment_limit }
+    requires room { vec_len outputs.old < vec_capacity outputs.old }
+    ensures handled { IsHandled outputs.old outputs.new result (AreOf (result_of last id body.entry))
+        (result_handled (Some dialogue) (sent_by_rows dialogue invocations.old (Some id)) id
+        (option_map body_parts body.entry) last) }
+    ensures list { invocations.new ≡ after_received invocations.old id (return_result last) clock }
+{
+    let verdict = invocations.on_result(id, last, clock);
+    result_judged(dialogue, id, body, last, verdict, outputs)
+}
+
+/// A Return Error.
+#[inline(always)]
+fn take_error<'m, A: Allocator + Copy>(
+    invocations: &mut Invocations<A>,
+    dialogue: u32,
+    clock: u64,
+    id: i8,
+    code: Code<'m>,
+    parameter: Option<&'m [u8]>,
+    outputs: &mut Vec<Output<'m, A>, A>,
+) -> Option<Reject>
+    requires clock { clock ≤ moment_limit }
+    requires room { vec_len outputs.old < vec_capacity outputs.old }
+    ensures handled { IsHandled outputs.old outputs.new result
+        (AreOf (component.ErrorBack id code.entry parameter.entry))
+        (error_handled (Some dialogue) (sent_by_rows dialogue invocations.old (Some id)) id
+        (code_parts code.entry) (option_copied parameter.entry)) }
+    ensures list { invocations.new ≡ after_received invocations.old id return_error clock }
+{
+    let verdict = invocations.on_error(id, clock);
+    error_judged(dialogue, id, code, parameter, verdict, outputs)
+}
+
+/// A Reject with an identifier.
+#[inline(always)]
+fn take_reject<'m, A: Allocator + Copy>(
+    invocations: &mut Invocations<A>,
+    dialogue: u32,
+    id: i8,
+    problem: Problem,
+    outputs: &mut Vec<Output<'m, A>, A>,
+) -> Option<Reject>
+    requires room { vec_len outputs.old < vec_capacity outputs.old }
+    ensures handled { IsHandled outputs.old outputs.new result AreNone (reject_handled (Some dialogue)
+        (sent_by_rows dialogue invocations.old (Some id)) (Some id) (problem_parts problem)) }
+    ensures list { invocations.new ≡ after_reject invocations.old id (problem_parts problem).kind }
+{
+    let closed = invocations.on_reject(id, problem.kind());
+    reject_judged(dialogue, id, problem, closed, outputs)
+}
+
+/// A Reject without identifier.
+#[inline(always)]
+fn take_unmatched_reject<'m, A: Allocator>(
+    dialogue: u32,
+    problem: Problem,
+    outputs: &mut Vec<Output<'m, A>, A>,
+) -> Option<Reject>
+    requires room { vec_len outputs.old < vec_capacity outputs.old }
+    ensures handled { IsHandled outputs.old outputs.new result AreNone
+        (remote (Some dialogue) None (problem_parts problem)) }
+{
+    outputs.push_reserved(Output::RemoteReject {
+        dialogue: Some(dialogue),
+        id: None,
+        problem,
+        by: remote_rejector(problem),
+    });
+    None
+}
+
+/// A component that can't be read.
+#[inline(always)]
+fn take_unreadable<'m, A: Allocator>(
+    dialogue: u32,
+    fault: ComponentFault,
+    outputs: &mut Vec<Output<'m, A>, A>,
+) -> Option<Reject>
+    requires room { vec_len outputs.old < vec_capacity outputs.old }
+    ensures handled { IsHandled outputs.old outputs.new result AreNone
+        (handled (Some dialogue) None (Err (fault_parts fault))) }
+{
+    outputs.push_reserved(Output::LocalReject {
+        dialogue: Some(dialogue),
+        id: fault.id,
+        problem: fault.problem,
+    });
+    if fault.was_reject {
+        None
+    } else {
+        Some(Reject {
+            id: fault.id,
+            problem: fault.problem,
+        })
+    }
+}
+
+/// A Reject, which may be without identifier.
+#[inline(always)]
+fn take_reject_back<'m, A: Allocator + Copy>(
+    invocations: &mut Invocations<A>,
+    dialogue: u32,
+    id: Option<i8>,
+    problem: Problem,
+    outputs: &mut Vec<Output<'m, A>, A>,
+) -> Option<Reject>
+    requires room { vec_len outputs.old < vec_capacity outputs.old }
+    ensures handled { IsHandled outputs.old outputs.new result AreNone (handled (Some dialogue)
+        (sent_by_rows dialogue invocations.old id) (Ok (reject_back id (problem_parts problem)))) }
+    ensures list { invocations.new ≡ after_item 0 invocations.old (Ok (reject_back id (problem_parts problem))) }
+{
+    match id {
+        Some(id) => take_reject(invocations, dialogue, id, problem, outputs),
+        None => take_unmatched_reject(dialogue, problem, outputs),
+    }
+}
+
+/// A component that was read.
+#[inline(always)]
+fn take_component<'m, A: Allocator + Copy>(
+    invocations: &mut Invocations<A>,
+    dialogue: u32,
+    clock: u64,
+    component: Component<'m>,
+    outputs: &mut Vec<Output<'m, A>, A>,
+) -> Option<Reject>
+    requires clock { clock ≤ moment_limit }
+    requires room { vec_len outputs.old < vec_capacity outputs.old }
+    ensures handled { IsHandled outputs.old outputs.new result (AreOf component.entry) (handled (Some dialogue)
+        (sent_by_rows dialogue invocations.old (subject_of (Ok (component_parts component.entry))))
+        (Ok (component_parts component.entry))) }
+    ensures list { invocations.new ≡ after_item clock invocations.old (Ok (component_parts component.entry)) }
+{
+    match component {
+        Component::Invoke {
+            id,
+            linked,
+            code,
+            parameter,
+        } => take_invoke(invocations, dialogue, id, linked, code, parameter, outputs),
+        Component::ResultLast { id, body } => {
+            take_result(invocations, dialogue, clock, id, body, true, outputs)
+        }
+        Component::ResultMore { id, body } => {
+            take_result(invocations, dialogue, clock, id, body, false, outputs)
+        }
+        Component::ErrorBack {
+            id,
+            code,
+            parameter,
+        } => take_error(invocations, dialogue, clock, id, code, parameter, outputs),
+        Component::RejectBack { id, problem } => {
+            take_reject_back(invocations, dialogue, id, problem, outputs)
+        }
+    }
+}
+
+/// One component of a message to a dialogue (Q.774, Component handling).
+// Each handler pushes what it tells, so that an `Output`, which is 296 octets, is built in the vector and
+// not moved there.
+#[inline(always)]
+pub(crate) fn take_item<'m, A: Allocator + Copy>(
+    invocations: &mut Invocations<A>,
+    dialogue: u32,
+    clock: u64,
+    item: Result<Component<'m>, ComponentFault>,
+    outputs: &mut Vec<Output<'m, A>, A>,
+) -> Option<Reject>
+    requires clock { clock ≤ moment_limit }
+    requires room { vec_len outputs.old < vec_capacity outputs.old }
+    ensures handled { IsHandled outputs.old outputs.new result (AreOfItem item.entry) (handled (Some dialogue)
+        (sent_by_rows dialogue invocations.old (subject_of (item_view item.entry))) (item_view item.entry)) }
+    ensures list { invocations.new ≡ after_item clock invocations.old (item_view item.entry) }
+{
+    match item {
+        Ok(component) => take_component(invocations, dialogue, clock, component, outputs),
+        Err(fault) => take_unreadable(dialogue, fault, outputs),
+    }
+}

@@ -1,0 +1,39 @@
+//! What has no dialogue: a Unidirectional.
+
+ghost use Rattle.std.specs.Prelude.{◌≡◌, ◌∷◌, Option, IfOk};
+ghost use Rattle.ber_core.specs.Place.{Slice};
+ghost use Rattle.tcap_component.specs.ComponentReading.{components_of};
+ghost use Rattle.tcap_reception.specs.PortionParts.{GivenIn, context_of_portion, info_of_portion};
+ghost use Rattle.tcap_primitives.specs.OutputViews.{all_shown};
+ghost use Rattle.tcap_primitives.specs.Slices.{AllInPlace};
+ghost use Rattle.tcap_model.specs.Procedures.ComponentHandling.{uni_told};
+ghost use Rattle.tcap_model.specs.Words.Output as model;
+ghost use Rattle.tcap_model.specs.Words.Output.{DialogueIndication};
+
+use super::beginning::parts_of;
+use crate::component_handling::message::{handle_in_unidirectional, room_for};
+use ber_core::OutOfMemory;
+use std::alloc::Allocator;
+use tcap_primitives::Output;
+
+/// What a Unidirectional tells: TC-UNI, and its components, of which none is answered. `audt` is the
+/// contents octets of the application context name and the user information of its AUDT, if it has one,
+/// and `components` the contents of its component portion (Q.774, Unstructured dialogue).
+pub fn take_uni<'m, A: Allocator + Copy>(
+    alloc: A,
+    audt: Option<(&'m [u8], &'m [u8])>,
+    components: &'m [u8],
+) -> Result<Vec<Output<'m, A>, A>, OutOfMemory>
+    ensures ok { IfOk result (λ outputs. all_shown outputs.items ≡ model.Output.dialogue (DialogueIndication.uni
+        (context_of_portion audt.entry) (info_of_portion audt.entry)) ∷ uni_told (components_of components.now)) }
+    // The slices that are told are those that were given, and parts of the component portion.
+    ensures place { (portion : Option Slice) → GivenIn 0x60 audt.entry portion
+        → IfOk result (λ outputs. AllInPlace portion components.entry outputs.items) }
+{
+    let (context, info) = parts_of(audt);
+    let count = room_for(components).saturating_add(1);
+    let mut outputs = Vec::with_capacity(alloc, count)?;
+    outputs.push_reserved(Output::Uni { context, info });
+    handle_in_unidirectional(components, &mut outputs);
+    Ok(outputs)
+}

@@ -1,0 +1,94 @@
+use Rattle.std.proofs.Common.{rules, arith, sym, ap, refl, subst, ◌≡◌, ◌∙◌, ◌<◌, List, [], ◌++◌, ℕ, length, map, filter_map, inl, inr}
+use Rattle.std.proofs.lemmas.List.{length-map}
+use Rattle.std.proofs.lemmas.Result.{err_from_is_err_and}
+use Rattle.std.specs.List.{flat_map}
+use Rattle.std.specs.Prelude.{IsTrue}
+use Rattle.tcap_dialogue.specs.RequestForm.{takes_memory}
+use Rattle.tcap_primitives.specs.OutputViews.{all_shown, shown}
+use Rattle.tcap_engine.specs.IdleDialogues.{AreDistinct, idle_ids, left_by, idle_end_in, entry_at, without_all}
+use Rattle.tcap_engine.specs.DialogueEntries.{TableEntry, dialogues_of}
+use Rattle.tcap_engine.proofs.EndLemmas.{ends-all, left-all}
+use Rattle.tcap_engine.proofs.IdleLemmas.{idle-distinct}
+use Rattle.tcap_engine.proofs.MomentLemmas.{sound-at, not-zero}
+use Rattle.tcap_engine.proofs.OverLemmas.{ends-some, over-all, sound-without, takes-some}
+use Rattle.tcap_engine.proofs.RoomLemmas.{is-long}
+use Rattle.tcap_model.specs.Table.Dialogue.{Dialogue}
+use Rattle.tcap_model.specs.Table.DueLapses.{all_told, all_idle_told, left_at}
+use Rattle.tcap_model.specs.Table.EngineMove.{advanced}
+use Rattle.tcap_model.specs.Table.World.{World}
+use Rattle.tcap_model.specs.Words.Answer.{Answer}
+use Rattle.tcap_model.specs.Words.Output.{Output}
+use Rattle.tcap_engine.proofs.engine.Engine.expire.Goals as goal
+
+pub returns-in_err-idle-clause-moves : goal.returns-in_err-idle-clause-moves
+returns-in_err-idle-clause-moves g c =
+    let now = c.args.now in
+    let ps : List TableEntry = c.self.inside.table in
+    let refused = c.in_err-idle.ensures.succeeds in
+    let some : 0 < c.capacity_at-room.result.idle = not-zero c.capacity_at-room.result.idle (λ z. let no = refused z in absurd cc) in
+    let count = c.capacity_at-room.ensures.idle in
+    let idle : 0 < length (idle_ids now ps) = omega (arith, some, count) in
+    let ends = ends-some now ps idle in
+    let told : IsTrue (takes_memory (advanced c.args.self.now now).answer) =
+    rw (sym c.self.view_is) (takes-some (all_told now (dialogues_of ps) ++ all_idle_told now (dialogues_of ps))
+    (is-long (all_told now (dialogues_of ps)) (all_idle_told now (dialogues_of ps)) (omega (arith, ends)))) in
+    let p = err_from_is_err_and c.from_residual-in_err-idle.result c.from_residual-in_err-idle.ensures.1 in
+    rw (p.1, p.2) (refl, told)
+
+pub end_all-requires-clause-apart : goal.end_all-requires-clause-apart
+end_all-requires-clause-apart g c =
+    let ps : List TableEntry = c.self.inside.table in
+    subst AreDistinct (sym (c.deref.ensures.value ∙ c.tell_due.ensures.idle)) (idle-distinct c.args.now ps c.self.invariant.from)
+
+pub end_all-requires-clause-room : goal.end_all-requires-clause-room
+end_all-requires-clause-room g c =
+    let now = c.args.now in
+    let ps : List TableEntry = c.self.inside.table in
+    let after : List TableEntry = c.tell_due.new.table in
+    let ids : List ℕ = c.deref.result.now in
+    let are : ids ≡ idle_ids now ps = c.deref.ensures.value ∙ c.tell_due.ensures.idle in
+    let over : flat_map (idle_end_in after) ids ≡ all_idle_told now (dialogues_of ps) =
+    ap (flat_map (idle_end_in after)) are ∙ over-all now (idle_ids now ps) after ps c.tell_due.ensures.quiet.rest c.tell_due.ensures.ends ∙ ends-all now ps c.self.invariant.from in
+    let ends = ap (λ (os : List Output). length os) over in
+    let empty : c.in_ok-outputs.outputs.items ≡ [] = search rules in
+    let told : all_shown c.tell_due.new.outputs.items ≡ all_told now (dialogues_of ps) = c.tell_due.ensures.told ∙ ap (λ xs. all_shown xs ++ all_told now (dialogues_of ps)) empty in
+    let lapses = ap (λ (os : List Output). length os) told in
+    let counted = length-map c.tell_due.new.outputs.items shown in
+    let small = c.in_ok-outputs.outputs.small in
+    let exact = c.in_ok-outputs.ensures.exact in
+    let same = c.tell_due.ensures.room in
+    elim c.capacity_at-room.ensures.enough [
+      | inl enough ↦ omega (arith, enough, ends, lapses, counted, exact, same)
+      | inr most ↦ absurd (omega (arith, most, small, exact))
+    ]
+
+pub invariant_of-self : goal.invariant_of-self
+invariant_of-self g c =
+    let now = c.args.now in
+    let ps : List TableEntry = c.self.inside.table in
+    let after : List TableEntry = c.tell_due.new.table in
+    let are : c.deref.result.now ≡ idle_ids now ps = c.deref.ensures.value ∙ c.tell_due.ensures.idle in
+    let left : c.end_all.new.table ≡ left_by now (idle_ids now ps) ps =
+    c.end_all.ensures.table ∙ ap (λ l. without_all l after) are ∙ ap (without_all (idle_ids now ps)) (sym c.tell_due.ensures.quiet.rest) ∙ c.tell_due.ensures.left in
+    rw left (sound-without (idle_ids now ps) c.self.inside.limits c.self.inside.next_dialogue c.self.inside.next_number now (map (entry_at now) ps)
+    (sound-at now c.self.inside.limits c.self.inside.next_dialogue c.self.inside.next_number c.self.inside.clock ps c.requires.late c.self.invariant))
+
+pub returns-clause-moves : goal.returns-clause-moves
+returns-clause-moves g c =
+    let now = c.args.now in
+    let ps : List TableEntry = c.self.inside.table in
+    let after : List TableEntry = c.tell_due.new.table in
+    let are : c.deref.result.now ≡ idle_ids now ps = c.deref.ensures.value ∙ c.tell_due.ensures.idle in
+    let over : flat_map (idle_end_in after) c.deref.result.now ≡ all_idle_told now (dialogues_of ps) =
+    ap (flat_map (idle_end_in after)) are ∙ over-all now (idle_ids now ps) after ps c.tell_due.ensures.quiet.rest c.tell_due.ensures.ends ∙ ends-all now ps c.self.invariant.from in
+    let empty : c.in_ok-outputs.outputs.items ≡ [] = search rules in
+    let lapses : all_shown c.tell_due.new.outputs.items ≡ all_told now (dialogues_of ps) = c.tell_due.ensures.told ∙ ap (λ xs. all_shown xs ++ all_told now (dialogues_of ps)) empty in
+    let told : all_shown c.end_all.new.outputs.items ≡ all_told now (dialogues_of ps) ++ all_idle_told now (dialogues_of ps) =
+    c.end_all.ensures.told ∙ ap (λ os. os ++ flat_map (idle_end_in after) c.deref.result.now) lapses ∙ ap (λ os. all_told now (dialogues_of ps) ++ os) over in
+    let left : c.end_all.new.table ≡ left_by now (idle_ids now ps) ps =
+    c.end_all.ensures.table ∙ ap (λ l. without_all l after) are ∙ ap (without_all (idle_ids now ps)) (sym c.tell_due.ensures.quiet.rest) ∙ c.tell_due.ensures.left in
+    let table : dialogues_of c.end_all.new.table ≡ filter_map (left_at now) (dialogues_of ps) = ap dialogues_of left ∙ left-all now ps c.self.invariant.from in
+    let whole : List Dialogue → World = λ ds. record { max_dialogues = c.self.inside.limits.max_dialogues; reject_ms = c.self.inside.limits.reject_ms; idle_ms = c.self.inside.limits.idle_ms; next_dialogue = c.self.inside.next_dialogue; next_number = c.self.inside.next_number; clock = now; dialogues = ds } in (
+      ap Answer.outputs told ∙ ap (λ (w : World). (advanced w now).answer) c.self.view_is,
+      ap whole table ∙ ap (λ (w : World). (advanced w now).after) c.self.view_is,
+    )

@@ -1,0 +1,47 @@
+use Rattle.std.proofs.Common.{rules, ◌≡◌, nat_eq, List, Some, Err}
+use Rattle.std.specs.Map.{lookup}
+use Rattle.tcap_primitives.specs.RequestViews.{request_view}
+use Rattle.tcap_dialogue.specs.StepViews.{Outcome, asked, outcome}
+use Rattle.tcap_model.specs.Table.TableMove.{DialogueEvent, table_move}
+use Rattle.tcap_primitives.specs.FaultViews.{fault_view}
+use Rattle.tcap_engine.specs.DialogueEntries.{TableEntry}
+use Rattle.tcap_engine.proofs.AskLemmas.{refused-placed, settled-spared}
+use Rattle.tcap_engine.proofs.RefusedEngine.{refused-same}
+use Rattle.tcap_engine.proofs.TimedLemmas.{timed-still, timed-settled}
+use Rattle.timed_table.specs.Row.{entries_of}
+use Rattle.tcap_engine.proofs.engine.request_in_table.ask_in.Goals as goal
+
+pub invariant_of-table-in_err-asked : goal.invariant_of-table-in_err-asked
+invariant_of-table-in_err-asked g c =
+    let old = c.in-Some.dialogue.now in
+    let new = c.ask_one.new.dialogue in
+    let found : lookup (nat_eq c.args.identifier) (entries_of c.table.inside.rows) ≡ Some old = search rules in
+    let same = refused-same (asked c.args.clock c.args.number) (request_view c.args.request.now) old new (fault_view c.in_err-asked.field-0.0) c.in_err-asked.ensures.answer in
+    rw (c.get_mut.follows.holds new).rows (timed-still c.args.identifier old new c.table.inside.rows found same c.table.invariant)
+
+pub returns-in_err-asked : goal.returns-in_err-asked
+returns-in_err-asked g c =
+    let ps : List TableEntry = entries_of c.table.inside.rows in
+    let old = c.in-Some.dialogue.now in
+    let new = c.ask_one.new.dialogue in
+    let found : lookup (nat_eq c.args.identifier) ps ≡ Some old = search rules in
+    let o : Outcome = outcome (table_move (asked c.args.clock c.args.number) old (DialogueEvent.request (request_view c.args.request.now))) in
+    let is : c.from_residual.result ≡ Err c.in_err-asked.field-0.0 = search rules in
+    rw (← c.table.view_is, is, found, (c.get_mut.follows.holds new).entries) (refused-placed o old new c.args.identifier ps found (fault_view c.in_err-asked.field-0.0) c.in_err-asked.ensures.answer)
+
+pub invariant_of-table-2 : goal.invariant_of-table-2
+invariant_of-table-2 g c =
+    let new = c.keep_spare.new.dialogue in
+    rw (c.store_or_remove.ensures.rows, (c.get_mut.follows.holds new).rows, c.next_timer-timer.ensures) (timed-settled c.ends_dialogue-is_over.result c.args.identifier new c.table.inside.rows c.table.invariant)
+
+pub returns : goal.returns
+returns g c =
+    let ps : List TableEntry = entries_of c.table.inside.rows in
+    let old = c.in-Some.dialogue.now in
+    let new = c.ask_one.new.dialogue in
+    let after = c.keep_spare.new.dialogue in
+    let found : lookup (nat_eq c.args.identifier) ps ≡ Some old = search rules in
+    let o : Outcome = outcome (table_move (asked c.args.clock c.args.number) old (DialogueEvent.request (request_view c.args.request.now))) in
+    rw (← c.table.view_is, found)
+    (settled-spared new c.args.identifier ps c.ends_dialogue-is_over.result after c.keep_spare.ensures c.in_ok-asked.asked o (entries_of c.store_or_remove.new.rows) c.in_ok-asked.ensures.answer c.ends_dialogue-is_over.ensures
+    (rw (c.get_mut.follows.holds after).entries at c.store_or_remove.ensures.entries))

@@ -1,0 +1,69 @@
+-- What a table answers to a request on one of its dialogues, beside what the model's table says.
+use Rattle.std.specs.Prelude.{[], ◌≡◌, ℕ, ◌<◌, Bool, false, List, Option, Some, None, Result, Ok, Err, IsTrue}
+use Rattle.ber_core.specs.declared.fault.OutOfMemory.{OutOfMemory}
+use Rattle.tcap_dialogue.specs.declared.dialogue.ask.Asked.{Asked}
+use Rattle.tcap_dialogue.specs.declared.dialogue.ask.Asked.TheVariants as asked
+use Rattle.tcap_primitives.specs.declared.fault.Fault.{Fault}
+use Rattle.tcap_primitives.specs.declared.fault.Fault.TheVariants as fault
+use Rattle.tcap_dialogue.specs.RequestForm.{takes_memory}
+use Rattle.tcap_primitives.specs.FaultViews.{fault_view}
+use Rattle.tcap_primitives.specs.OutputViews.{all_shown}
+use Rattle.tcap_dialogue.specs.StepViews.{Outcome}
+use Rattle.tcap_model.specs.Table.Dialogue.{Dialogue}
+use Rattle.tcap_model.specs.Words.Answer.{Answer}
+use Rattle.tcap_model.specs.Words.Fault as model
+use Rattle.tcap_model.specs.Words.Identifiers.{last_number}
+use Rattle.tcap_engine.specs.DialogueEntries.{TableEntry, entries_with}
+
+-- What was answered (own).
+abbrev pub asked_answer : {A : Type 0} → Asked A → Answer
+asked_answer (asked.Number number) = Answer.number number
+asked_answer asked.Done = Answer.done
+asked_answer (asked.GivenUp number) = Answer.given_up number
+asked_answer (asked.Step step) = Answer.outputs (all_shown step.outputs.items)
+
+-- An answer that carries a number carries one that may be drawn: the greatest never is (own).
+abbrev pub IsLeft : Answer → ℕ → Type 0
+IsLeft (Answer.new_dialogue dialogue) next = Unit {0}
+IsLeft (Answer.number number) next = next < last_number
+IsLeft Answer.done next = Unit {0}
+IsLeft (Answer.given_up number) next = Unit {0}
+IsLeft (Answer.outputs outputs) next = Unit {0}
+IsLeft (Answer.refused f) next = Unit {0}
+
+-- Whether the dialogue is over then (own).
+abbrev pub ends_dialogue : {A : Type 0} → Asked A → Bool
+ends_dialogue (asked.Number number) = false
+ends_dialogue asked.Done = false
+ends_dialogue (asked.GivenUp number) = false
+ends_dialogue (asked.Step step) = step.over
+
+-- The answer is that of the outcome, and its dialogue is the outcome's in the table then, or is gone
+-- (own).
+abbrev pub EntriesMove : Outcome → ℕ → Answer → List TableEntry → List TableEntry → Type 0
+EntriesMove o d answer old new = (answer ≡ o.0) × (new ≡ entries_with d o.1 old)
+
+-- The refusal is that of the outcome, and its dialogue stands in the table then. `OutOfMemory` comes only
+-- where the outcome takes memory, and leaves the table as it was (own).
+abbrev pub EntriesRefuse : model.Fault → Outcome → ℕ → List TableEntry → List TableEntry → Type 0
+EntriesRefuse model.Fault.out_of_memory o d old new = (new ≡ old) × IsTrue (takes_memory o.0)
+EntriesRefuse f o d old new = EntriesMove o d (Answer.refused f) old new
+
+-- An answer, or a refusal, is that of the outcome, and its dialogue stands in the table then, or is gone
+-- (own).
+abbrev pub EntriesAnswer : {A : Type 0} → Result (Asked A) Fault → Outcome → ℕ → List TableEntry → List TableEntry → Type 0
+EntriesAnswer (Ok a) o d old new = EntriesMove o d (asked_answer a) old new
+EntriesAnswer (Err f) o d old new = EntriesRefuse (fault_view f) o d old new
+
+-- What a table answers to a request on the dialogue of an identifier, which is this one if it stands; else
+-- it is unknown, and nothing changes (own).
+abbrev pub AnswersInTable : {A : Type 0} → Result (Asked A) Fault → (Dialogue → Outcome) → ℕ → Option Dialogue → List TableEntry → List TableEntry → Type 0
+AnswersInTable result says d None old new = (result ≡ Err fault.UnknownDialogue) × (new ≡ old)
+AnswersInTable result says d (Some dialogue) old new = EntriesAnswer result (says dialogue) d old new
+
+-- What a table gives where a message reaches one of its dialogues, if that stands; where none stands
+-- nothing is told and nothing changes; where memory was refused nothing changes either (own).
+abbrev pub DeliversInTable : {T : Type 0} → (T → Answer) → Result T OutOfMemory → (Dialogue → Outcome) → ℕ → Option Dialogue → List TableEntry → List TableEntry → Type 0
+DeliversInTable view (Err refused) says d dialogue old new = new ≡ old
+DeliversInTable view (Ok outputs) says d None old new = (view outputs ≡ Answer.outputs []) × (new ≡ old)
+DeliversInTable view (Ok outputs) says d (Some dialogue) old new = EntriesMove (says dialogue) d (view outputs) old new

@@ -1,0 +1,41 @@
+-- What a call of the engine answers, beside what the engine's move says.
+use Rattle.std.specs.Prelude.{◌≡◌, ℕ, Result, Ok, Err, IsTrue}
+use Rattle.ber_core.specs.declared.fault.OutOfMemory.{OutOfMemory}
+use Rattle.tcap_primitives.specs.declared.fault.Fault.{Fault}
+use Rattle.tcap_dialogue.specs.RequestForm.{takes_memory}
+use Rattle.tcap_primitives.specs.FaultViews.{fault_view}
+use Rattle.tcap_primitives.specs.declared.output.Output.{Output}
+use Rattle.tcap_primitives.specs.OutputViews.{all_shown}
+use Rattle.std.specs.declared.vec.Vec.{Vec}
+use Rattle.tcap_model.specs.Table.EngineMove.{EngineMoved}
+use Rattle.tcap_model.specs.Table.World.{World}
+use Rattle.tcap_model.specs.Words.Answer.{Answer}
+use Rattle.tcap_model.specs.Words.Fault as model
+
+-- The answer and the engine are those of the move (own).
+abbrev pub Moves : EngineMoved → Answer → World → Type 0
+Moves m answer new = (answer ≡ m.answer) × (new ≡ m.after)
+
+-- A refusal is the one that the move gives; `OutOfMemory` comes only where the move's answer takes
+-- memory, and leaves the engine as it was (own).
+abbrev pub EngineRefuses : model.Fault → EngineMoved → World → World → Type 0
+EngineRefuses model.Fault.out_of_memory m old new = (new ≡ old) × IsTrue (takes_memory m.answer)
+EngineRefuses f m old new = Moves m (Answer.refused f) new
+
+-- An answer and the engine after it are those of the move, or the refusal is (own).
+abbrev pub EngineAnswers : {T : Type 0} → (T → Answer) → Result T Fault → EngineMoved → World → World → Type 0
+EngineAnswers view (Ok x) m old new = Moves m (view x) new
+EngineAnswers view (Err f) m old new = EngineRefuses (fault_view f) m old new
+
+-- A dialogue is created (own).
+abbrev pub birth_answer : ℕ → Answer
+birth_answer dialogue = Answer.new_dialogue dialogue
+
+-- Outputs are told (own).
+abbrev pub outputs_answer : {A : Type 0} → Vec (Output A) A → Answer
+outputs_answer told = Answer.outputs (all_shown told.items)
+
+-- What bytes are answered is what the move says; where memory was refused the engine is as it was (own).
+abbrev pub EngineReceives : {T : Type 0} → (T → Answer) → Result T OutOfMemory → EngineMoved → World → World → Type 0
+EngineReceives view (Ok x) m old new = Moves m (view x) new
+EngineReceives view (Err refused) m old new = new ≡ old

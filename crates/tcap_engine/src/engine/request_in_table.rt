@@ -1,0 +1,81 @@
+//! Requests on the dialogue of an identifier.
+
+ghost use Rattle.std.specs.Prelude.{◌≡◌, ◌≤◌, nat_eq, IfSome};
+ghost use Rattle.std.specs.Map.{lookup};
+ghost use Rattle.tcap_dialogue.specs.AskViews.{Asks};
+ghost use Rattle.tcap_primitives.specs.RequestViews.{request_view};
+ghost use Rattle.tcap_dialogue.specs.StepViews.{asked, outcome};
+ghost use Rattle.tcap_engine.specs.RequestInTable.{AnswersInTable, ends_dialogue};
+ghost use Rattle.tcap_invocation.specs.Invocations.{AllBelow};
+ghost use Rattle.tcap_invocation.specs.Stage.{moment_limit};
+ghost use Rattle.tcap_model.specs.Table.TableMove.{DialogueEvent, table_move};
+
+use crate::dialogues::{Dialogues, keep_spare, store_or_remove};
+use std::alloc::Allocator;
+use tcap_dialogue::{Asked, Dialogue, Fault, Request};
+
+/// Whether the dialogue is over.
+#[inline(always)]
+fn ends_dialogue<A: Allocator + Copy>(asked: &Asked<'_, A>) -> bool
+    ensures { result ≡ ends_dialogue asked.now }
+{
+    match asked {
+        Asked::Number(_) | Asked::Done | Asked::GivenUp(_) => false,
+        Asked::Step(step) => step.over,
+    }
+}
+
+/// Any request on a dialogue, where `number` is what an Invoke gets; the greatest one is never drawn.
+#[inline(always)]
+fn ask_one<'m, A: Allocator + Copy>(
+    dialogue: &mut Dialogue<A>,
+    clock: u64,
+    number: u64,
+    request: &Request<'_>,
+) -> Result<Asked<'m, A>, Fault>
+    requires clock { clock ≤ moment_limit }
+    requires number { AllBelow number dialogue.old.invocations.rows }
+    ensures answer { Asks result (outcome (table_move (asked clock number) dialogue.old
+        (DialogueEvent.request (request_view request.now)))) dialogue.old dialogue.new }
+    ensures kept { dialogue.new.standing.identifier ≡ dialogue.old.standing.identifier }
+{
+    if number == u64::MAX {
+        if let Request::Invoke {
+            id,
+            code,
+            parameter,
+            timeout_ms,
+            ..
+        } = *request
+        {
+            let fault = dialogue.check_invoke(id, code, parameter, timeout_ms);
+            return Err(fault.unwrap_or(Fault::NumbersSpent));
+        }
+    }
+    dialogue.ask(clock, number, request)
+}
+
+/// A request on the dialogue of an identifier, which is taken out where it is over.
+#[inline(always)]
+pub(super) fn ask_in<'m, A: Allocator + Copy>(
+    table: &mut Dialogues<A>,
+    identifier: u32,
+    clock: u64,
+    number: u64,
+    request: &Request<'_>,
+) -> Result<Asked<'m, A>, Fault>
+    requires clock { clock ≤ moment_limit }
+    requires number { IfSome (lookup (nat_eq identifier) table.old) (λ x. AllBelow number x.invocations.rows) }
+    ensures { AnswersInTable result (λ x. outcome (table_move (asked clock number) x (DialogueEvent.request
+        (request_view request.now)))) identifier (lookup (nat_eq identifier) table.old) table.old table.new }
+{
+    let Some(dialogue) = table.rows.get_mut(identifier) else {
+        return Err(Fault::UnknownDialogue);
+    };
+    let asked = ask_one(dialogue, clock, number, request)?;
+    let is_over = ends_dialogue(&asked);
+    keep_spare(&mut table.spares, dialogue, is_over);
+    let timer = dialogue.next_timer();
+    store_or_remove(&mut table.rows, identifier, is_over, timer);
+    Ok(asked)
+}
