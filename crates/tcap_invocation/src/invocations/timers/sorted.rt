@@ -66,7 +66,7 @@ pub(super) fn take_first<A: Allocator + Copy>(timers: &mut VecDeque<Timer, A>) -
     }
 }
 
-/// The same, where there are any.
+/// Takes the first out, where there are timers; kept apart, so that the caller's look costs no call.
 #[inline(never)]
 fn pop_first<A: Allocator + Copy>(timers: &mut VecDeque<Timer, A>) -> Option<Timer>
     ensures timers { timers.old.items ≡ cons_option result timers.new.items }

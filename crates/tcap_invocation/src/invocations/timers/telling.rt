@@ -61,7 +61,7 @@ pub(super) fn due_count<A: Allocator + Copy>(timers: &VecDeque<Timer, A>, clock:
     count_due(timers, clock)
 }
 
-/// The same, of timers that there are.
+/// How many are of invocations that lapse by the clock, where there are timers; kept apart like `pop_first`.
 #[inline(never)]
 fn count_due<A: Allocator + Copy>(timers: &VecDeque<Timer, A>, clock: u64) -> usize
     requires { IsInOrder timers.now.items }
