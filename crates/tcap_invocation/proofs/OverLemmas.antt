@@ -1,5 +1,5 @@
 -- The first timer of a wait that is over, and what taking its invocation out leaves.
-use Rattle.std.proofs.Common.{◌≡◌, ℕ, ℤ, ◌+◌, Bool, true, false, cond, List, [], ◌∷◌, filter, Option, Some, None, refl, ap, sym, subst, ◌∙◌, arith, tests, nat_lt, nat_le}
+use Rattle.std.proofs.Common.{◌≡◌, ℕ, suc, ℤ, ◌+◌, ◌≤◌, Bool, true, false, cond, List, [], ◌∷◌, length, filter, Option, Some, None, refl, ap, sym, subst, ◌∙◌, arith, tests, nat_lt, nat_le}
 use Rattle.std.specs.Prelude.{filter_map}
 use Rattle.std.specs.List.{AllByRecursion, IsDistinct, cons_option}
 use Rattle.std.specs.Map.{keys_of, lookup}
@@ -38,6 +38,15 @@ module _ (clock : ℕ) where
   none-later t ts o later =
       let late : nat_le t.time clock ≡ false = grind (arith, tests, later) in
       rw (not-over t late) (none-ahead t ts later (ordered (t ∷ ts) o).0)
+
+  -- those that are over are no more than all
+  pub length-over : (ts : List Timer) → length (filter (is_over clock) ts) ≤ length ts
+  length-over [] = omega arith
+  length-over (t ∷ ts) = go (is_over clock t) (length-over ts)
+    where
+      go : (b : Bool) → length (filter (is_over clock) ts) ≤ length ts → length (cond b (t ∷ filter (is_over clock) ts) (filter (is_over clock) ts)) ≤ suc (length ts)
+      go true h = omega (arith, h)
+      go false h = omega (arith, h)
 
   -- the first that is over passes what all pass
   first-over : (P : Timer → Type 0) (ts : List Timer) (t : Timer) → AllByRecursion P ts → first_of (filter (is_over clock) ts) ≡ Some t → P t × (is_over clock t ≡ true)

@@ -9,7 +9,7 @@ use Rattle.tcap_invocation.specs.declared.invocations.timers.Timer.{Timer}
 use Rattle.tcap_invocation.specs.Order.{put_by, first_of}
 use Rattle.tcap_invocation.specs.TimerList.{is_earlier, IsInOrder, IsFilled, told_of_timer, told_first}
 use Rattle.tcap_invocation.proofs.InsertionLemmas.{Ahead, Ordered, ordered_put, ordered_in_order}
-use Rattle.tcap_invocation.proofs.SortLemmas.{put_ahead, length-put, in_order-fixed, IsPartitionedBy-ordered, IsPartitionedBy-before, ordered_filter, ordered_remove, put_put}
+use Rattle.tcap_invocation.proofs.SortLemmas.{put_ahead, length-put, in_order-fixed, IsPartitionedBy-before, ordered_filter, ordered_remove, put_put}
 
 pub earlier_once : (a b : Timer) → is_earlier a b ≡ true → is_earlier b a ≡ false
 earlier_once a b h = grind (arith, tests, h)
@@ -47,9 +47,6 @@ IsInOrder-tail t ts o = in_order-fixed is_earlier ts (ordered (t ∷ ts) o).1
 
 pub IsPartitionedBy-timer : (ts : List Timer) (t : Timer) → IsInOrder ts → IsPartitionedBy (λ y. is_earlier y t) ts
 IsPartitionedBy-timer ts t o = IsPartitionedBy-before is_earlier earlier_once not_earlier ts t (ordered ts o)
-
-pub IsPartitionedBy-clock : (ts : List Timer) (clock : ℕ) → IsInOrder ts → IsPartitionedBy (λ y. nat_le y.time clock) ts
-IsPartitionedBy-clock ts clock o = IsPartitionedBy-ordered is_earlier (λ y. nat_le y.time clock) (λ x y e p. grind (arith, tests, e, p)) ts (ordered ts o)
 
 -- ---- what is due
 

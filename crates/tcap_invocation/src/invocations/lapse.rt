@@ -20,9 +20,9 @@ pub struct Lapse {
     pub id: i8,
 }
 
-/// So many identifiers are freed one by one, since mostly one wait ends at a moment and a walk through all
-/// costs more. Where more are due, or the list is no longer, the walk costs less.
-const FEW: usize = 5;
+/// Where so many waits end at a moment, or the list is shorter than that, one walk through all frees them.
+/// Fewer are freed one by one, which costs less: mostly one wait ends at a moment.
+const MANY: usize = 6;
 
 impl<A: Allocator + Copy> Invocations<A> {
     /// The clock is at this moment: takes out each Sent invocation whose deadline is at most the clock,
@@ -92,19 +92,21 @@ impl<A: Allocator + Copy> Invocations<A> {
         if !self.timers.is_due(clock) {
             return;
         }
-        if self.entries.len() > FEW && self.free_few(clock) {
+        let are_few = self.entries.len() >= MANY && self.timers.over_count(clock) < MANY;
+        if are_few && self.free_few(clock) {
             return;
         }
         self.free_all(clock);
     }
 
-    /// Frees identifiers whose wait is over at the clock one by one, a few at most: whether none is left.
+    /// Frees identifiers whose wait is over at the clock one by one, as long as these are few: whether none
+    /// is left.
     #[inline(never)]
     fn free_few(&mut self, clock: u64) -> bool
         ensures same { after_free_due self.new clock ≡ after_free_due self.old clock }
         ensures all { IsTrue result → after_free_due self.new clock ≡ self.new }
     {
-        for _ in 0..FEW {
+        for _ in 0..MANY {
             if !self.free_first(clock) {
                 return true;
             }

@@ -14,7 +14,7 @@ use sorted::{is_earlier, put, take, take_first};
 use std::alloc::{AllocError, Allocator};
 use std::collections::VecDeque;
 use std::marker::Model;
-use telling::{due_count, first_due, first_over, push_due, told_first};
+use telling::{due_count, first_due, first_over, over_count, push_due, told_first};
 
 /// When an invocation lapses, or when the wait of its identifier ends.
 #[derive(Clone, Copy, Debug)]
@@ -111,6 +111,22 @@ impl<A: Allocator + Copy> Timers<A> {
         } else {
             first_over(&self.rest, clock)
         }
+    }
+
+    /// How many are of waits that are over at the clock.
+    pub(super) fn over_count(&self, clock: u64) -> usize
+        ensures { result ≡ length (filter (is_over clock) self.now.timers) }
+    {
+        let behind = over_count(&self.rest, clock);
+        match self.first {
+            Some(first) if first.is_over(clock) => behind + 1,
+            _ => behind,
+        }
+    }
+
+    /// For how many there is room behind the first; a contract forgets that.
+    pub(super) fn capacity(&self) -> usize {
+        self.rest.capacity()
     }
 
     /// Makes room for so many in all.
