@@ -1,5 +1,5 @@
 -- The items of a list of elements.
-use Rattle.std.proofs.Common.{◌≡◌, ℕ, zero, suc, ◌+◌, ◌<◌, ◌≤◌, List, [], ◌∷◌, ◌++◌, length, Ok, Err, Result, refl, sym, ap, ◌∙◌, arith, eqb, inl, inr}
+use Rattle.std.proofs.Common.{◌≡◌, ℕ, zero, suc, ◌<◌, ◌≤◌, List, [], ◌∷◌, ◌++◌, length, Ok, Err, Result, refl, sym, ap, ◌∙◌, arith, eqb, inl, inr}
 use Rattle.std.specs.Prelude.{Bool, true, false, is_ok, map, option_map, MatchOption, Option, Some, None}
 use Rattle.std.specs.Iterator.{YieldsFirstBy, MakesProgress, item_count}
 use Rattle.std.proofs.lemmas.Bool.{eqb-true, eqb-false}
@@ -101,39 +101,3 @@ all_fault bytes f lt is = rw (items_of-fault bytes f lt is) refl
 
 pub all_none : (bytes : List ℕ) → length bytes ≡ 0 → all bytes ≡ true
 all_none bytes e = rw (items_of-none bytes e) refl
-
--- ---- how many items there are
-
-from-length : (n : ℕ) (others : List ℕ → List (Result Parts BerFault)) → ((bytes : List ℕ) → length (others bytes) ≤ n) → (r : Result (Parts × List ℕ) BerFault) → length (items_from others r) ≤ suc n
-from-length n others h (Ok r) = let p = h r.1 in omega arith
-from-length n others h (Err f) = omega arith
-
-by-length : (n : ℕ) (bytes : List ℕ) → length (items_by n bytes) ≤ n
-unfolding items_by
-by-length zero [] = omega arith
-by-length zero (b ∷ bytes) = omega arith
-by-length (suc n) [] = omega arith
-by-length (suc n) (b ∷ bytes) = from-length n (items_by n) (by-length n) (element_at 32 (b ∷ bytes))
-
--- an item has at least one octet
-pub count_within : (bytes : List ℕ) → length (items_of bytes) ≤ length bytes
-count_within bytes = by-length (length bytes) bytes
-
-pub count_next : (bytes rest : List ℕ) (e : Parts) → element_at 32 bytes ≡ Ok (e, rest) → length (items_of bytes) ≡ 1 + length (items_of rest)
-count_next bytes rest e is = rw (items_of-next bytes rest e is) (omega arith)
-
-pub count_fault : (bytes : List ℕ) (f : BerFault) → 0 < length bytes → element_at 32 bytes ≡ Err f → length (items_of bytes) ≡ 1
-count_fault bytes f lt is = rw (items_of-fault bytes f lt is) refl
-
-pub count_none : (bytes : List ℕ) → length bytes ≡ 0 → length (items_of bytes) ≡ 0
-count_none bytes e = rw (items_of-none bytes e) refl
-
-some-from : (others : List ℕ → List (Result Parts BerFault)) (r : Result (Parts × List ℕ) BerFault) → 0 < length (items_from others r)
-some-from others (Ok r) = omega arith
-some-from others (Err f) = omega arith
-
--- what is left has an item
-pub count_some : (bytes : List ℕ) → 0 < length bytes → 0 < length (items_of bytes)
-unfolding items_by
-count_some [] lt = absurd (omega arith)
-count_some (b ∷ bytes) lt = some-from (items_by (length bytes)) (element_at 32 (b ∷ bytes))

@@ -123,22 +123,3 @@ pub fn is_element_list(bytes: &[u8]) -> bool
 {
     are_elements(bytes)
 }
-
-/// How many elements the bytes begin with, and one more where what follows them is none: as many items as
-/// `Elements` gives (X.690, Contents octets).
-#[tactic(auto, using(crate::proofs::ItemSteps::count_fault, crate::proofs::ItemSteps::count_none))]
-pub fn element_count(bytes: &[u8]) -> usize
-    ensures { result ≡ length (items_of bytes.now) }
-{
-    let mut rest = bytes;
-    let mut count = 0;
-    while !rest.is_empty() {
-        // One that is faulty is the last item, and counts.
-        count += 1;
-        let Ok(after) = skip_first(rest) else {
-            return count;
-        };
-        rest = after;
-    }
-    count
-}

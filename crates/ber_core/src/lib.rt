@@ -24,7 +24,7 @@ mod write;
 mod written_len;
 
 pub use element::{Element, read_element};
-pub use elements::{Elements, element_count, is_element_list};
+pub use elements::{Elements, is_element_list};
 pub use fault::{BerFault, FeedFault, OutOfMemory};
 pub use feed::Feed;
 pub use head::{Head, MAX_LENGTH, read_head};

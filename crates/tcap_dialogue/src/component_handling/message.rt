@@ -1,7 +1,8 @@
 //! The components of a message, one by one.
 
 ghost use Rattle.std.specs.Option.{option_map};
-ghost use Rattle.std.specs.Prelude.{◌≡◌, ◌+◌, ◌*◌, ◌≤◌, ◌++◌, Option, length, vec_len, vec_capacity};
+ghost use Rattle.std.specs.Prelude.{◌≡◌, ◌+◌, ◌*◌, ◌≤◌, ◌++◌, Option, IfSome, length, vec_len, vec_capacity};
+ghost use Rattle.ber_core.specs.ListReading.{items_of};
 ghost use Rattle.ber_core.specs.Place.{Slice};
 ghost use Rattle.tcap_component.specs.ComponentReading.{components_of};
 ghost use Rattle.tcap_dialogue.specs.HandledViews.{reject_parts};
@@ -16,7 +17,7 @@ ghost use Rattle.tcap_invocation.specs.Stage.{moment_limit};
 use crate::component_handling::Reject;
 use crate::component_handling::in_dialogue::take_item;
 use crate::component_handling::unidirectional::take_in_unidirectional;
-use ber_core::element_count;
+use ber_core::take_short;
 use std::alloc::Allocator;
 use tcap_component::Components;
 use tcap_invocation::Invocations;
@@ -26,18 +27,34 @@ use tcap_primitives::{Output, Queue};
 const FEW: usize = 8;
 
 /// For how many components there has to be room, with the fault at which they end.
-// Each is an element. A few elements are passed over, not read, at a fifth of the price; room is taken for those
-// behind a fault too. Of more the components are counted, so that a fault among them takes no room for the rest.
+// Each is an element. A few short elements are passed over by their heads, at a fifth of what reading takes; room is
+// taken for those behind a fault too. Else the components are counted: then neither room nor work goes beyond the
+// first fault.
 #[tactic(auto, using(crate::proofs::ItemLemmas::components_within))]
 pub(crate) fn room_for(components: &[u8]) -> usize
     ensures { length (components_of components.now) ≤ result }
 {
-    let elements = element_count(components);
-    if elements <= FEW {
-        elements
-    } else {
-        count_items(components)
+    match short_count(components) {
+        Some(count) => count,
+        None => count_items(components),
     }
+}
+
+/// How many elements there are, where they are few, and each has a tag and a length of one octet.
+fn short_count(components: &[u8]) -> Option<usize>
+    ensures { IfSome result (λ count. count ≡ length (items_of components.now)) }
+{
+    let mut rest = components;
+    let mut count = 0;
+    while let [tag, ..] = rest {
+        if count == FEW || *tag == 0 || *tag & 0x1f == 0x1f {
+            return None;
+        }
+        let (_, behind) = take_short(rest, *tag)?;
+        count += 1;
+        rest = behind;
+    }
+    Some(count)
 }
 
 /// How many components there are, with the fault at which they end.
