@@ -21,14 +21,13 @@ use tcap_component::{Body, Code, Component, Kind, Problem};
 use tcap_invocation::{Class, Invocations};
 use tcap_primitives::{Fault, Invoking, Queue};
 
-/// Makes room for an Invoke of this many octets. Where memory has to be taken, the faults that `add` would
-/// find are looked for before it, so that an Invoke that is refused takes none.
+/// Makes room for an Invoke of this many octets. Where memory has to be taken, it is looked before whether
+/// the identifier is in use, so that an Invoke that is refused takes none.
 #[inline(always)]
 fn make_invoke_room<A: Allocator + Copy>(
     queue: &mut Queue<A>,
     invocations: &Invocations<A>,
     id: i8,
-    timeout_ms: u64,
     len: usize,
 ) -> bool
     ensures same { queue_view queue.new ≡ queue_view queue.old }
@@ -38,7 +37,7 @@ fn make_invoke_room<A: Allocator + Copy>(
     if queue.has_room(len) {
         return true;
     }
-    if !is_timeout(timeout_ms) || invocations.in_use(id) {
+    if invocations.in_use(id) {
         return false;
     }
     queue.reserve(len).is_ok()
@@ -154,8 +153,8 @@ impl<A: Allocator + Copy> Dialogue<A> {
         Ok(())
     }
 
-    /// Queues an Invoke and takes its invocation in, or leaves all as it was. Each fault shows in one of the
-    /// steps, so none is looked for beforehand; which one is due is asked where a step fails.
+    /// Queues an Invoke and takes its invocation in, or leaves all as it was. Each fault but that of the timeout
+    /// shows in one of the steps, so none is looked for beforehand; which one is due is asked where a step fails.
     #[inline(always)]
     fn queue_invoke(
         &mut self,
@@ -173,6 +172,9 @@ impl<A: Allocator + Copy> Dialogue<A> {
             (code_parts code.entry) (option_copied parameter.entry) linked timeout_ms))) self.old self.new }
         ensures kept { self.new.standing.identifier ≡ self.old.standing.identifier }
     {
+        if !is_timeout(timeout_ms) {
+            return false;
+        }
         let component = Component::Invoke {
             id,
             linked,
@@ -182,7 +184,7 @@ impl<A: Allocator + Copy> Dialogue<A> {
         let Ok(len) = self.queue.judge(&component) else {
             return false;
         };
-        if !make_invoke_room(&mut self.queue, &self.invocations, id, timeout_ms, len) {
+        if !make_invoke_room(&mut self.queue, &self.invocations, id, len) {
             return false;
         }
         if self.invocations.add(id, number, class, timeout_ms).is_err() {
