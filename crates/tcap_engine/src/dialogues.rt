@@ -101,10 +101,14 @@ impl<A: Allocator + Copy> Dialogues<A> {
         }
     }
 
-    /// What a dialogue that is over left, or nothing where there is none; takes no memory.
-    pub(crate) fn take_spare(&mut self) -> Spare<A>
+    /// What a dialogue that is over left, or nothing where there is none or it isn't wanted: a dialogue that hears
+    /// no component may never come to hold any. It takes no memory.
+    pub(crate) fn take_spare(&mut self, is_wanted: bool) -> Spare<A>
         ensures { self.new ≡ self.old }
     {
+        if !is_wanted {
+            return Spare::new(self.allocator());
+        }
         match self.spares.pop() {
             Some(spare) => spare,
             None => Spare::new(self.allocator()),

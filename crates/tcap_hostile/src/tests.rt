@@ -11,6 +11,7 @@ mod growths;
 mod invocations;
 mod played;
 mod runs;
+mod spares;
 mod subject;
 mod vectors;
 mod words;

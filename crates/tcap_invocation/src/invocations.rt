@@ -88,9 +88,10 @@ impl<A: Allocator + Copy> Invocations<A> {
         self.reject_ms = reject_ms;
     }
 
-    /// How many invocations it has room for without more memory; a contract forgets that.
+    /// How many invocations the list or its timers have room for; a contract forgets that. The map may show
+    /// less room than it has once many were taken out; the timers have had room for each.
     pub fn capacity(&self) -> usize {
-        self.entries.capacity()
+        self.entries.capacity().max(self.timers.capacity())
     }
 
     /// Whether an invocation with the identifier is Sent, so that a result or an error is for it.

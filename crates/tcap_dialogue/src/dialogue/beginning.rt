@@ -113,7 +113,7 @@ impl<A: Allocator + Copy> Dialogue<A> {
 
     /// The Begin that creates the dialogue, in which nothing has happened: what is told; the arguments are those
     /// of `accept`. Where memory is refused the dialogue is not to be used any more (Q.774, Dialogue begin).
-    // It stands where it is to stay: a dialogue is 568 octets, with the address 264 of them, and each move on
+    // It stands where it is to stay: a dialogue is 584 octets, with the address 264 of them, and each move on
     // its way into a table copied and cleared them again.
     #[tactic(auto, using(crate::proofs::PortionNames::named_given))]
     #[inline(always)]

@@ -48,7 +48,7 @@ impl<A: Allocator + Copy> Engine<A> {
             return Err(fault);
         }
         let identifier = self.next_dialogue;
-        let spare = self.table.take_spare();
+        let spare = self.table.take_spare(true);
         let limits = self.limits;
         self.keep(Dialogue::fresh_in(spare, identifier, limits.reject_ms, limits.idle_ms))?;
         Ok(identifier)
@@ -73,7 +73,7 @@ impl<A: Allocator + Copy> Engine<A> {
     {
         let identifier = self.next_dialogue;
         let following = next_identifier(identifier);
-        let spare = self.table.take_spare();
+        let spare = self.table.take_spare(!components.is_empty());
         let limits = self.limits;
         let fresh = Dialogue::fresh_in(spare, identifier, limits.reject_ms, limits.idle_ms);
         let (table, clock) = (&mut self.table, self.clock);
@@ -85,7 +85,7 @@ impl<A: Allocator + Copy> Engine<A> {
     }
 
     /// Takes in a dialogue that is created under the next identifier, which is drawn then.
-    // A dialogue is 568 octets: built in place, it isn't moved from call to call on its way into the table.
+    // A dialogue is 584 octets: built in place, it isn't moved from call to call on its way into the table.
     #[inline(always)]
     fn keep(&mut self, dialogue: Dialogue<A>) -> Result<(), OutOfMemory>
         requires free { birth_fault_in self.old ≡ None }
@@ -145,7 +145,7 @@ fn begin_in<'m, A: Allocator + Copy>(
 }
 
 /// Takes in a fresh dialogue under an identifier above all others, and then has the Begin come to it.
-// So it is begun where it stays: moved on its way there, its 568 octets were copied and cleared four times.
+// So it is begun where it stays: moved on its way there, its octets, 568 then, were copied and cleared four times.
 #[inline(always)]
 fn accept_in<'m, A: Allocator + Copy>(
     table: &mut Dialogues<A>,
