@@ -66,6 +66,10 @@ fn add_last<A: Allocator + Copy>(text: &mut String<A>, octets: &[u8]) -> Result<
 pub fn add_hex<A: Allocator + Copy>(text: &mut String<A>, octets: &[u8]) -> Result<(), OutOfMemory>
     ensures { OnOk result (string_bytes text.new ≡ string_bytes text.old ++ encode_lower octets.now) }
 {
+    // Room for all of them at once: else a long text would grow in steps.
+    if octets.len() > STEP {
+        text.reserve(2 * octets.len())?;
+    }
     let mut rest = octets;
     while let Some((sixteen, more)) = rest.split_first_chunk::<STEP>() {
         add_digits(text, digits(sixteen).as_slice())?;

@@ -59,7 +59,6 @@ pub fn add_dialogue<A: Allocator + Copy>(
 
 /// Adds the line of a component or of a fault.
 fn add_item<A: Allocator + Copy>(
-    alloc: A,
     text: &mut String<A>,
     item: &Result<Component<'_>, ComponentFault>,
 ) -> Result<(), OutOfMemory>
@@ -79,7 +78,6 @@ fn add_item<A: Allocator + Copy>(
 /// was no fault, so that the components needn't be read again for the verdict.
 #[tactic(auto, unfolding(crate::proofs::GoodItems::good_after))]
 fn add_items<A: Allocator + Copy>(
-    alloc: A,
     text: &mut String<A>,
     components: &[u8],
 ) -> Result<bool, OutOfMemory>
@@ -89,7 +87,7 @@ fn add_items<A: Allocator + Copy>(
 {
     let mut good = true;
     for item in Components::new(components) {
-        add_item(alloc, text, &item)?;
+        add_item(text, &item)?;
         if item.is_err() {
             good = false;
         }
@@ -99,7 +97,6 @@ fn add_items<A: Allocator + Copy>(
 
 /// Adds the lines of a component portion, where it has contents, and tells whether it has no fault.
 fn add_components<A: Allocator + Copy>(
-    alloc: A,
     text: &mut String<A>,
     components: &[u8],
 ) -> Result<bool, OutOfMemory>
@@ -110,7 +107,7 @@ fn add_components<A: Allocator + Copy>(
         return Ok(true);
     }
     add_number(text, "  components", components.len())?;
-    add_items(alloc, text, components)
+    add_items(text, components)
 }
 
 /// Adds the lines of both portions, and tells whether both are good.
@@ -126,6 +123,6 @@ pub fn add_portions<A: Allocator + Copy>(
         ≡ is_good (portions_verdict (option_copied dialogue.entry) components.now)) }
 {
     add_dialogue(alloc, text, dialogue)?;
-    let good = add_components(alloc, text, components)?;
+    let good = add_components(text, components)?;
     Ok(good && has_good_portion(&dialogue))
 }

@@ -17,6 +17,9 @@ use tcap_component::{
 };
 use tcap_pdu::{Frame, PduFault, read_dialogue, write_dialogue, write_frame};
 
+/// Room that is taken at once for a component portion, in octets at most: what is taken follows what is written.
+const ROOM: usize = 1_024;
+
 /// Why there is no canonical form.
 #[derive(Clone, Copy)]
 pub enum CanonFault {
@@ -69,10 +72,11 @@ pub fn rewrite_portion<A: Allocator + Copy>(
 }
 
 /// Appends a component in the canonical form. It is written straight behind the octets before it, once
-/// there is room.
+/// there is room: the first makes so much room at once.
 fn rewrite_component<A: Allocator + Copy>(
     octets: &mut Vec<u8, A>,
     component: &Component<'_>,
+    room: usize,
 ) -> Result<(), CanonFault>
     requires code { HasCode (coded_part (component_parts component.now)) }
     requires parameter { HasParameter (coded_part (component_parts component.now)) }
@@ -82,6 +86,9 @@ fn rewrite_component<A: Allocator + Copy>(
 {
     match judge_component(component) {
         Ok(len) => {
+            if octets.is_empty() {
+                octets.reserve(room)?;
+            }
             octets.reserve(len)?;
             append_component(octets, component);
             Ok(())
@@ -96,13 +103,14 @@ fn rewrite_component<A: Allocator + Copy>(
 fn rewrite_item<A: Allocator + Copy>(
     octets: &mut Vec<u8, A>,
     item: &Result<Component<'_>, ComponentFault>,
+    room: usize,
 ) -> Result<(), CanonFault>
     requires { IsWritableItem (item_view item.now) }
     ensures ok { OnOk result (octets.new.items ≡ octets.old.items ++ canonical_item (item_view item.now)) }
     ensures err { IfErr result (λ fault. IsCanonFault (canonical_item (item_view item.now)) fault) }
 {
     match item {
-        Ok(component) => rewrite_component(octets, component),
+        Ok(component) => rewrite_component(octets, component, room),
         Err(_) => Ok(()),
     }
 }
@@ -116,9 +124,10 @@ pub fn rewrite_components<A: Allocator + Copy>(
     ensures err { IfErr result (λ fault. IsCanonFault (canonical_components components.now) fault) }
 {
     // A component is seldom longer in the canonical form, so the vector seldom grows.
-    let mut octets = Vec::with_capacity(alloc, components.len())?;
+    let room = components.len().min(ROOM);
+    let mut octets = Vec::new(alloc);
     for item in Components::new(components) {
-        rewrite_item(&mut octets, &item)?;
+        rewrite_item(&mut octets, &item, room)?;
     }
     Ok(octets)
 }

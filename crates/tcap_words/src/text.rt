@@ -2,7 +2,6 @@
 
 ghost use Rattle.std.specs.Prelude.{◌≡◌, ◌++◌, OnOk, IfOk, string_bytes, option_copied};
 ghost use Rattle.std.specs.Fmt.{decimal, signed_decimal};
-ghost use Rattle.hex.specs.Hex.{encode_lower};
 ghost use Rattle.tcap_words.specs.Text.{line, octets_line, number_line, octets_words, optional_octets_words, answer_words};
 
 use crate::hexadecimal::add_hex;
