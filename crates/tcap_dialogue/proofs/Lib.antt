@@ -1,4 +1,3 @@
-pub mod AskedLemmas
 pub mod ComponentRequestLemmas
 pub mod ControlLemmas
 pub mod FaultLemmas

@@ -8,10 +8,8 @@ use crate::pieces::first_piece;
 use ber_core::OutOfMemory;
 use std::alloc::Allocator;
 
-/// So many words the longest form of a line has, with some to spare.
-const FEW: usize = 16;
-
-/// Cuts a line into its words, in place of those that were there: the vector of one line serves the next.
+/// Cuts a line into its words, in place of those that were there: the vector of one line serves the next. A line
+/// of more words than a form has is the last, so that no room is kept for more.
 /// A word is a part of the line, and what it stands for is read where a form of line asks for it.
 pub(crate) fn cut_words<'s, A: Allocator + Copy>(
     words: &mut Vec<&'s [u8], A>,
@@ -19,10 +17,6 @@ pub(crate) fn cut_words<'s, A: Allocator + Copy>(
 ) -> Result<(), OutOfMemory>
     ensures { OnOk result (texts_of words.new.items ≡ words_of line.entry.now) }
 {
-    // A line of many words, which has no form, leaves no room for as many to those that follow.
-    if words.capacity() > FEW {
-        *words = Vec::new(*words.allocator());
-    }
     words.clear();
     let mut rest = Some(line);
     while let Some(octets) = rest {
