@@ -21,7 +21,7 @@ use crate::tag;
 use ber_core::{put_head, put_octet, put_octets};
 use std::alloc::Allocator;
 
-/// Appends a local code of two to four octets.
+/// Appends a local code of any length; a short one is appended by `put_local`.
 #[inline(never)]
 fn put_long<A: Allocator + Copy>(out: &mut Vec<u8, A>, number: i32)
     requires { vec_len out.old + length (written (0x02 ∷ []) (integer_octets number)) ≤ vec_capacity out.old }
