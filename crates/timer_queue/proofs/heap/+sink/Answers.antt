@@ -1,8 +1,8 @@
-use Rattle.std.proofs.Common.{arith, ◌≢◌, ◌≡◌, ◌<◌, ℕ, List, false, length, set, subst, sym, ◌∙◌}
+use Rattle.std.proofs.Common.{arith, ◌≢◌, ◌≡◌, ◌<◌, ℕ, List, false, length, set, subst, sym}
 use Rattle.std.proofs.lemmas.List.{get_or-set_other, length-set}
 use Rattle.timer_queue.specs.Heap.{IsChild, item_at, key_at, heap_with}
 use Rattle.timer_queue.specs.Order.{comes_before}
-use Rattle.timer_queue.proofs.HoleLemmas.{as-many, all-within, key-elsewhere, heap-moved, places-moved}
+use Rattle.timer_queue.proofs.HoleLemmas.{all-within, key-elsewhere, heap-moved, places-moved}
 use Rattle.timer_queue.proofs.SiftLemmas.{child_past, but-down}
 use Rattle.timer_queue.proofs.TieLemmas.{keys-swapped, tied-swapped}
 use Rattle.timer_queue.proofs.heap.+sink.Goals as goal
