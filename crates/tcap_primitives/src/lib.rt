@@ -24,3 +24,5 @@ pub use queue::{Invoking, MAX_QUEUE, Part, Queue};
 pub use request::{AbortWhy, Ending, Request};
 pub use sending::portions::{abort_pdu, answering_pdu, begin_pdu, refusing_pdu, uni_pdu};
 pub use sending::{MessageParts, Sending};
+// The name that it had before: who names it so has nothing to change.
+pub use sending::MessageParts as Bearer;

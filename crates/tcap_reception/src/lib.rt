@@ -11,4 +11,6 @@ mod state;
 
 pub use portion::{BeginVerdict, PortionVerdict, judge_begin, judge_portion, judge_uni};
 pub use reception::{AarqParts, Reception, reception_of_fault, reception_of_message};
+// The names that both had before: who calls them so has nothing to change.
+pub use reception::{reception_of_fault as hear_fault, reception_of_message as hear_message};
 pub use state::{Phase, State};
