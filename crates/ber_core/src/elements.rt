@@ -1,6 +1,6 @@
 //! The elements of a list, one after the other.
 
-ghost use Rattle.std.specs.Prelude.{◌≡◌, ◌≢◌, ◌↔◌, ◌==◌, ◌<◌, bit_and, false, length, List, IsTrue, IfOk, IfErr, IfSome, is_ok, map, option_map, Ok, Err};
+ghost use Rattle.std.specs.Prelude.{◌≡◌, ◌≢◌, ◌↔◌, ◌==◌, ◌<◌, bit_and, false, List, IsTrue, IfOk, IfErr, IfSome, is_ok, option_map, Ok, Err};
 ghost use Rattle.ber_core.specs.ElementList.{IsList};
 ghost use Rattle.ber_core.specs.Place.{AtEnd};
 ghost use Rattle.ber_core.specs.Element.{Parts, depth_limit};

@@ -1,13 +1,13 @@
 //! Integers, read and written (X.690, Encoding of an integer value).
 
-ghost use Rattle.std.specs.Prelude.{◌≡◌, ◌+◌, ◌<◌, ◌++◌, [], ◌∷◌, ℤ, Some, IfSome, OnOk, OnErr, length, vec_len, vec_capacity};
+ghost use Rattle.std.specs.Prelude.{◌≡◌, ◌+◌, ◌<◌, ◌≤◌, ◌++◌, [], ◌∷◌, ℤ, Some, IfSome, OnOk, OnErr, length, vec_len, vec_capacity};
 ghost use Rattle.std.specs.Int.{w32, cast_signed};
 ghost use Rattle.ber_core.specs.Tag.{IsTag};
 ghost use Rattle.ber_core.specs.Integer.{IsInteger, is_padded, sign_octet, word_of, integer_at, integer_octets};
 ghost use Rattle.ber_core.specs.Written.{written};
 
 use crate::fault::OutOfMemory;
-use crate::write::write_element;
+use crate::put::{put_element, put_octet};
 use std::alloc::Allocator;
 
 /// Whether the first octet and bit 8 of the second are nine equal bits, so that one octet less would do.
@@ -72,18 +72,28 @@ pub fn read_int(content: &[u8]) -> Option<i32>
     integer(content)
 }
 
-/// `write_int`, for an integer of any length.
+/// How many contents octets an integer has, 1 to 4 (X.690, Encoding of an integer value).
+#[inline(always)]
+pub fn int_len(value: i32) -> usize
+    ensures { result ≡ length (integer_octets value) }
+{
+    if -0x80 <= value && value < 0x80 {
+        1
+    } else if -0x8000 <= value && value < 0x8000 {
+        2
+    } else if -0x80_0000 <= value && value < 0x80_0000 {
+        3
+    } else {
+        4
+    }
+}
+
+/// `put_int`, for an integer of more than one octet: rare, so that it isn't built into each caller.
 #[inline(never)]
-fn append_int<A: Allocator + Copy>(
-    out: &mut Vec<u8, A>,
-    tag: u8,
-    value: i32,
-) -> Result<(), OutOfMemory>
-    requires { IsTag (tag ∷ []) }
-    ensures ok { OnOk result (out.new.items ≡ out.old.items ++ written (tag ∷ []) (integer_octets value)) }
-    ensures err { OnErr result (out.new.items ≡ out.old.items) }
-    ensures full { OnErr result (vec_capacity out.old < vec_len out.old + length
-        (written (tag ∷ []) (integer_octets value))) }
+fn put_long<A: Allocator + Copy>(out: &mut Vec<u8, A>, tag: u8, value: i32)
+    requires { vec_len out.old + length (written (tag ∷ []) (integer_octets value)) ≤ vec_capacity out.old }
+    ensures items { out.new.items ≡ out.old.items ++ written (tag ∷ []) (integer_octets value) }
+    ensures capacity { vec_capacity out.old ≤ vec_capacity out.new }
 {
     let word = value.cast_unsigned();
     let a = (word / 0x100_0000) as u8;
@@ -91,13 +101,34 @@ fn append_int<A: Allocator + Copy>(
     let c = (word / 0x100 % 0x100) as u8;
     let d = (word % 0x100) as u8;
     if -0x80 <= value && value < 0x80 {
-        write_element(out, &[tag], &[d])
+        put_element(out, tag, &[d]);
     } else if -0x8000 <= value && value < 0x8000 {
-        write_element(out, &[tag], &[c, d])
+        put_element(out, tag, &[c, d]);
     } else if -0x80_0000 <= value && value < 0x80_0000 {
-        write_element(out, &[tag], &[b, c, d])
+        put_element(out, tag, &[b, c, d]);
     } else {
-        write_element(out, &[tag], &[a, b, c, d])
+        put_element(out, tag, &[a, b, c, d]);
+    }
+}
+
+/// Appends an integer in the shortest definite form, for which there is room. `tag` is its one octet
+/// (X.690, Encoding of an integer value).
+///
+/// ```rust
+/// let mut out = Vec::with_capacity(alloc, 2 + ber_core::int_len(128))?;
+/// ber_core::put_int(&mut out, 0x02, 128);
+/// assert_eq!(rt; out.as_slice(), [0x02, 0x02, 0x00, 0x80].as_slice());
+/// ```
+#[inline(always)]
+pub fn put_int<A: Allocator + Copy>(out: &mut Vec<u8, A>, tag: u8, value: i32)
+    requires { vec_len out.old + length (written (tag ∷ []) (integer_octets value)) ≤ vec_capacity out.old }
+    ensures items { out.new.items ≡ out.old.items ++ written (tag ∷ []) (integer_octets value) }
+    ensures capacity { vec_capacity out.old ≤ vec_capacity out.new }
+{
+    if -0x80 <= value && value < 0x80 {
+        put_octet(out, tag, (value.cast_unsigned() % 0x100) as u8);
+    } else {
+        put_long(out, tag, value);
     }
 }
 
@@ -117,10 +148,7 @@ pub fn write_int<A: Allocator + Copy>(
     // What is written is the number.
     ensures spelled { IsInteger value (integer_octets value) }
 {
-    if -0x80 <= value && value < 0x80 {
-        let octet = (value.cast_unsigned() % 0x100) as u8;
-        write_element(out, &[tag], &[octet])
-    } else {
-        append_int(out, tag, value)
-    }
+    out.reserve(2 + int_len(value))?;
+    put_int(out, tag, value);
+    Ok(())
 }

@@ -11,4 +11,5 @@ mod invocations;
 mod messages;
 mod plain;
 mod portions;
+mod writers;
 mod written;
