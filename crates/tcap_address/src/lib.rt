@@ -1,6 +1,6 @@
 //! Where messages come from and go to.
 //!
-//! Stands on `arrayvec`. Begin at `Address`.
+//! Stands on no other crate. Begin at `Address`.
 #![tactic(auto)]
 
 mod address;

@@ -1,7 +1,6 @@
 //! Messages of the transaction sublayer and the dialogue portion (Q.773): read and written.
 //!
-//! Stands on `ber_core` for elements and on `arrayvec` for transaction identifiers. Begin at
-//! `read_frame`.
+//! Stands on `ber_core` for elements. Begin at `read_frame`.
 #![tactic(auto)]
 
 mod dialogue_pdu;

@@ -1,11 +1,13 @@
 //! Transaction identifiers (Q.773, Transaction ID).
 
-ghost use Rattle.std.specs.Prelude.{◌≡◌, ◌↔◌, ◌<◌, ◌≤◌, IsSome, IfSome, length};
+ghost use Rattle.std.specs.Prelude.{◌≡◌, ◌↔◌, ◌<◌, ◌≤◌, IsSome, IfSome, length, nat_eq};
 ghost use Rattle.std.specs.Int.{w32, to_be_bytes, from_be_bytes};
+ghost use Rattle.std.specs.Cmp.{partial_equiv_from_equiv};
+ghost use Rattle.std.specs.Cmp.Lexicographic.{pointwise, nat_list_eq_equiv};
 ghost use Rattle.tcap_pdu.specs.TransId.{IsTransId, id_of};
 
-use arrayvec::ArrayVec;
 use std::alloc::AllocError;
+use std::fmt;
 use std::marker::Model;
 
 /// The greatest number of octets of a transaction identifier (Q.773, Transaction ID).
@@ -13,22 +15,22 @@ const MAX_OCTETS: usize = 4;
 
 /// A transaction identifier: 1 to 4 octets. Two are equal where their octets are
 /// (Q.773, Transaction ID).
-#[derive(Drop, Debug, PartialEq, Eq)]
+#[derive(Drop)]
 pub struct TransId {
-    octets: ArrayVec<u8, MAX_OCTETS>,
+    // The first `len` are the identifier, those behind mean nothing.
+    octets: [u8; MAX_OCTETS],
+    len: u8,
 }
 
 impl Model for TransId {
-    ghost use Rattle.std.specs.Prelude.{List, ℕ};
-    ghost use Rattle.tcap_pdu.specs.TransId.{IsTransId};
+    ghost use Rattle.std.specs.Prelude.{List, ℕ, ◌≤◌, take};
+    ghost use Rattle.tcap_pdu.specs.TransId.{IsTransId, id_limit};
 
     ghost Value = { List ℕ };
 
-    ghost view = { λ t. t.octets.items };
+    ghost view = { λ t. take t.len t.octets };
 
-    ghost invariant = { λ t. IsTransId t.octets.items };
-
-    ghost inverse = { λ xs. record { octets = record { items = xs } } };
+    ghost invariant = { λ t. (t.len ≤ id_limit) × IsTransId (take t.len t.octets) };
 }
 
 /// A copy takes no memory.
@@ -41,8 +43,31 @@ impl Clone for TransId {
 
     fn clone(&self) -> Result<TransId, AllocError> {
         Ok(TransId {
-            octets: self.octets.clone()?,
+            octets: self.octets,
+            len: self.len,
         })
+    }
+}
+
+impl PartialEq for TransId {
+    ghost eq = { pointwise nat_eq };
+
+    ghost laws = { partial_equiv_from_equiv nat_list_eq_equiv };
+
+    fn eq(&self, other: &TransId) -> bool {
+        self.octets() == other.octets()
+    }
+}
+
+impl Eq for TransId {
+    ghost laws = { nat_list_eq_equiv };
+}
+
+impl fmt::Debug for TransId {
+    fn fmt<W: fmt::Write>(&self, f: &mut fmt::Formatter<W>) -> fmt::Result {
+        f.debug_struct("TransId")
+            .field("octets", &self.octets())
+            .finish()
     }
 }
 
@@ -55,16 +80,25 @@ impl TransId {
         // The same, computed.
         ensures exact { result ≡ id_of octets.now }
     {
-        if let [a, b, c, d] = octets {
-            return Some(TransId {
-                octets: ArrayVec::from([*a, *b, *c, *d]),
-            });
+        match octets {
+            [a, b, c, d] => Some(TransId {
+                octets: [*a, *b, *c, *d],
+                len: 4,
+            }),
+            [a, b, c] => Some(TransId {
+                octets: [*a, *b, *c, 0],
+                len: 3,
+            }),
+            [a, b] => Some(TransId {
+                octets: [*a, *b, 0, 0],
+                len: 2,
+            }),
+            [a] => Some(TransId {
+                octets: [*a, 0, 0, 0],
+                len: 1,
+            }),
+            _ => None,
         }
-        let held = ArrayVec::try_from(octets).ok()?;
-        if held.is_empty() {
-            return None;
-        }
-        Some(TransId { octets: held })
     }
 
     /// The identifier with the four octets of a number, the most significant first (our own).
@@ -72,7 +106,8 @@ impl TransId {
         ensures { result ≡ to_be_bytes w32 number }
     {
         TransId {
-            octets: ArrayVec::from(number.to_be_bytes()),
+            octets: number.to_be_bytes(),
+            len: 4,
         }
     }
 
@@ -91,7 +126,7 @@ impl TransId {
         ensures value { result.now ≡ self.now }
         ensures within { IsTransId result.now }
     {
-        self.octets.as_slice()
+        &self.octets[..usize::from(self.len)]
     }
 
     /// A second identifier of the same octets; it takes no memory (our own).

@@ -20,7 +20,7 @@ use crate::dialogue_tag::{
     REJECT_PERMANENT, RESULT, RESULT_SOURCE_DIAGNOSTIC, SINGLE_ASN1_TYPE, STRUCTURED,
     UNIDIRECTIONAL_DIALOGUE, UNSTRUCTURED, USER_INFORMATION, VERSION_1,
 };
-use ber_core::{element_len, put_element, put_few, put_head, put_octet, put_octets};
+use ber_core::{element_len, put_element, put_few, put_head, put_octet};
 use std::alloc::Allocator;
 
 /// Appends what begins an EXTERNAL, up to the contents of the PDU, which have this length.
@@ -231,6 +231,6 @@ pub(crate) fn put_portion<A: Allocator + Copy>(out: &mut Vec<u8, A>, pdu: &Dialo
             info,
         } => put_response(out, *version1, context, *accepted, *diagnostic, info),
         DialoguePdu::Abrt { by_provider, info } => put_abort(out, *by_provider, info),
-        DialoguePdu::Foreign { external } => put_octets(out, external),
+        DialoguePdu::Foreign { external } => out.extend_from_slice(external).unwrap(),
     }
 }
