@@ -3,7 +3,6 @@
 
 ghost use Rattle.std.specs.Prelude.{◌≡◌, ◌+◌, ◌≤◌, ◌++◌, [], ◌∷◌, length, vec_len, vec_capacity};
 ghost use Rattle.std.specs.Option.{option_map};
-ghost use Rattle.ber_core.specs.Integer.{integer_octets};
 ghost use Rattle.ber_core.specs.Length.{length_limit};
 ghost use Rattle.ber_core.specs.Sequence.Field.{must, may};
 ghost use Rattle.ber_core.specs.Written.{written, written_field, written_fields};
@@ -18,45 +17,8 @@ use crate::component::write::tag_of_component;
 use crate::component::{Body, Code, Component};
 use crate::problem::Problem;
 use crate::tag;
-use ber_core::{put_head, put_octet, put_octets};
+use ber_core::{put_element, put_head, put_int, put_octet};
 use std::alloc::Allocator;
-
-/// Appends a local code of any length; a short one is appended by `put_local`.
-#[inline(never)]
-fn put_long<A: Allocator + Copy>(out: &mut Vec<u8, A>, number: i32)
-    requires { vec_len out.old + length (written (0x02 ∷ []) (integer_octets number)) ≤ vec_capacity out.old }
-    ensures items { out.new.items ≡ out.old.items ++ written (0x02 ∷ []) (integer_octets number) }
-    ensures capacity { vec_capacity out.old ≤ vec_capacity out.new }
-{
-    let word = number.cast_unsigned();
-    let a = (word / 0x100_0000) as u8;
-    let b = (word / 0x1_0000 % 0x100) as u8;
-    let c = (word / 0x100 % 0x100) as u8;
-    let d = (word % 0x100) as u8;
-    if -0x80 <= number && number < 0x80 {
-        put_octets(out, &[tag::INTEGER, 1, d]);
-    } else if -0x8000 <= number && number < 0x8000 {
-        put_octets(out, &[tag::INTEGER, 2, c, d]);
-    } else if -0x80_0000 <= number && number < 0x80_0000 {
-        put_octets(out, &[tag::INTEGER, 3, b, c, d]);
-    } else {
-        put_octets(out, &[tag::INTEGER, 4, a, b, c, d]);
-    }
-}
-
-/// Appends a local code.
-#[inline(always)]
-fn put_local<A: Allocator + Copy>(out: &mut Vec<u8, A>, number: i32)
-    requires { vec_len out.old + length (written (0x02 ∷ []) (integer_octets number)) ≤ vec_capacity out.old }
-    ensures items { out.new.items ≡ out.old.items ++ written (0x02 ∷ []) (integer_octets number) }
-    ensures capacity { vec_capacity out.old ≤ vec_capacity out.new }
-{
-    if -0x80 <= number && number < 0x80 {
-        put_octet(out, tag::INTEGER, (number.cast_unsigned() % 0x100) as u8);
-    } else {
-        put_long(out, number);
-    }
-}
 
 /// Appends a global code.
 #[inline(never)]
@@ -66,8 +28,7 @@ fn put_global<A: Allocator + Copy>(out: &mut Vec<u8, A>, octets: &[u8])
     ensures items { out.new.items ≡ out.old.items ++ written (0x06 ∷ []) octets.now }
     ensures capacity { vec_capacity out.old ≤ vec_capacity out.new }
 {
-    put_head(out, tag::OBJECT_IDENTIFIER, octets.len());
-    put_octets(out, octets);
+    put_element(out, tag::OBJECT_IDENTIFIER, octets);
 }
 
 /// Appends code, [parameter].
@@ -80,11 +41,11 @@ fn put_body<A: Allocator + Copy>(out: &mut Vec<u8, A>, body: &Body<'_>)
     ensures capacity { vec_capacity out.old ≤ vec_capacity out.new }
 {
     match body.code {
-        Code::Local(number) => put_local(out, number),
+        Code::Local(number) => put_int(out, tag::INTEGER, number),
         Code::Global(octets) => put_global(out, octets),
     }
     if let Some(octets) = body.parameter {
-        put_octets(out, octets);
+        out.extend_from_slice(octets).unwrap();
     }
 }
 
@@ -117,7 +78,7 @@ fn put_reject<A: Allocator + Copy>(out: &mut Vec<u8, A>, id: Option<i8>, problem
 {
     match id {
         Some(id) => put_octet(out, tag::INTEGER, id.cast_unsigned()),
-        None => put_octets(out, &[tag::NULL, 0]),
+        None => put_head(out, tag::NULL, 0),
     }
     put_octet(out, tag_of(problem.kind()), problem.code());
 }

@@ -3,7 +3,6 @@
 ghost use Rattle.std.specs.Prelude.{◌≡◌, ℕ, ◌+◌, ◌<◌, ◌≤◌, ◌^◌, length, ◌↔◌, option_copied, None, Some, IsNone, IfSome, IfNone, IfOk, OnOk, IfErr};
 ghost use Rattle.ber_core.specs.Length.{length_limit};
 ghost use Rattle.std.specs.Option.{option_map};
-ghost use Rattle.ber_core.specs.Integer.{integer_octets};
 ghost use Rattle.ber_core.specs.Sequence.Field.{may, any};
 ghost use Rattle.ber_core.specs.Written.{written_field, written_fields};
 ghost use Rattle.tcap_component.specs.Component.{code_field, body_fields};
@@ -13,7 +12,7 @@ ghost use Rattle.tcap_component.specs.declared.fault.WriteFault.{WriteFault};
 
 use crate::component::{Body, Code, Component};
 use crate::fault::WriteFault;
-use ber_core::{MAX_LENGTH, element_len, is_oid, read_alone};
+use ber_core::{MAX_LENGTH, element_len, int_len, is_oid, read_alone};
 
 /// The code and the parameter of a component; a Reject and a result without a body have none.
 #[inline(always)]
@@ -61,22 +60,6 @@ fn is_parameter(parameter: Option<&[u8]>) -> bool
 
 // ---- lengths
 
-/// How many octets an integer has, 1 to 4.
-#[inline(always)]
-fn integer_len(value: i32) -> usize
-    ensures { result ≡ length (integer_octets value) }
-{
-    if -0x80 <= value && value < 0x80 {
-        1
-    } else if -0x8000 <= value && value < 0x8000 {
-        2
-    } else if -0x80_0000 <= value && value < 0x80_0000 {
-        3
-    } else {
-        4
-    }
-}
-
 /// The length of a written code, in octets.
 #[inline(always)]
 fn code_len(code: &Code<'_>) -> usize
@@ -85,7 +68,7 @@ fn code_len(code: &Code<'_>) -> usize
     ensures within { result < 512 }
 {
     match code {
-        Code::Local(number) => 2 + integer_len(*number),
+        Code::Local(number) => 2 + int_len(*number),
         Code::Global(octets) => element_len(octets.len()),
     }
 }
