@@ -26,6 +26,6 @@ pub use stream::run_stream;
 pub use tcap_words::{
     Shown, WriteFailed, add_body, add_coded, add_decimal, add_hex, add_identifier,
     add_octets_or_dash, add_optional_octets, add_pdu, add_problem, add_signed, body_text,
-    coded_text, decode_hex, hex_octets, identifier_text, octets_or_dash, optional_octets_or_dash,
-    pdu_text, problem_text, write_text,
+    coded_text, decode_hex, hex_octets, identifier_text, is_hex, octets_or_dash,
+    optional_octets_or_dash, pdu_text, problem_text, write_text,
 };

@@ -1,7 +1,6 @@
 -- Octets that are added in hexadecimal, sixteen after sixteen.
-use Rattle.std.proofs.Common.{◌≡◌, ℕ, ◌*◌, ◌/◌, ◌%◌, List, [], ◌∷◌, ◌++◌, length, take, drop, slice_index, Result, OnOk, refl, ap, ◌∙◌, arith}
+use Rattle.std.proofs.Common.{◌≡◌, ℕ, ◌*◌, ◌/◌, ◌%◌, List, [], ◌∷◌, ◌++◌, length, take, drop, slice_index, refl, ap, arith}
 use Rattle.std.proofs.lemmas.List.{append_assoc, append-nil, take_at, take-append-drop}
-use Rattle.std.proofs.lemmas.Result.{on_ok_weaker}
 use Rattle.hex.specs.Hex.{encode_with, encode_lower, lower_digits}
 use Rattle.hex.proofs.HexLemmas.{length-encode_with}
 
@@ -26,11 +25,6 @@ unfolding encode_with
 nothing_left text [] whole e inv = rw append-nil at inv
 nothing_left text (x ∷ rest) whole e inv = absurd (omega arith)
 
-module _ {T E : Type 0} (r : Result T E) where
-  -- the first digits of what zeros fill up
-  pub last_added : (text new digits octets put zeros : List ℕ) → put ≡ octets → digits ≡ encode_lower (put ++ zeros) → OnOk r (new ≡ text ++ take (2 * length octets) digits) → OnOk r (new ≡ text ++ encode_lower octets)
-  last_added text new digits octets put zeros p d h = on_ok_weaker r (λ e. rw e (rw (d, p, take_digits lower_digits octets zeros) refl)) h
-
-  -- what is left is added
-  pub last_of : (text new left whole : List ℕ) → OnOk r (new ≡ text ++ left) → text ++ left ≡ whole → OnOk r (new ≡ whole)
-  last_of text new left whole h inv = on_ok_weaker r (λ e. e ∙ inv) h
+-- the first digits of what zeros fill up
+pub last_added : (text new digits octets put zeros : List ℕ) → put ≡ octets → digits ≡ encode_lower (put ++ zeros) → new ≡ text ++ take (2 * length octets) digits → new ≡ text ++ encode_lower octets
+last_added text new digits octets put zeros p d h = rw h (rw (d, p, take_digits lower_digits octets zeros) refl)

@@ -1,6 +1,27 @@
 -- Texts added one after the other.
-use Rattle.std.proofs.Common.{◌≡◌, ℕ, List, ◌++◌, Result, Ok, OnOk, ap, ◌∙◌, append_assoc}
+use Rattle.std.proofs.Common.{◌≡◌, ℕ, List, ◌++◌, length, take, Result, Ok, Err, OnOk, OnErr, refl, sym, ap, ◌∙◌, append_assoc, arith}
+use Rattle.std.proofs.lemmas.List.{take-take, take_at, length-take}
 use Rattle.std.proofs.lemmas.Result.{on_ok_weaker}
+use Rattle.tcap_words.specs.Text.{BeginsWith}
+
+-- a text begins with what it was before more was added
+pub begins_before : (old new more : List ℕ) → new ≡ old ++ more → BeginsWith old new
+begins_before old new more e = ap (λ (w : List ℕ). take (length old) w) e ∙ take_at old more (length old) refl
+
+-- what begins with a text begins with what that begins with
+pub begins_trans : (old first new : List ℕ) → BeginsWith old first → BeginsWith first new → BeginsWith old new
+begins_trans old first new a b =
+    sym (take-take (length old) (length first) new (omega (arith, length-take (length old) first, ap length a)))
+    ∙ (ap (λ (w : List ℕ). take (length old) w) b ∙ a)
+
+-- the same, where a call that adds more was refused memory
+pub begins_on_err : {T E : Type 0} (r : Result T E) (old first new : List ℕ) → BeginsWith old first → OnErr r (BeginsWith first new) → OnErr r (BeginsWith old new)
+begins_on_err (Ok v) old first new a b = tt
+begins_on_err (Err e) old first new a b = begins_trans old first new a b
+
+pub begins_still : {T E : Type 0} (r : Result T E) (old first new : List ℕ) → BeginsWith old first → BeginsWith first new → OnErr r (BeginsWith old new)
+begins_still (Ok v) old first new a b = tt
+begins_still (Err e) old first new a b = begins_trans old first new a b
 
 module _ {T E : Type 0} (r : Result T E) where
   pub after_one : (old first new a b : List ℕ) → first ≡ old ++ a → OnOk r (new ≡ first ++ b) → OnOk r (new ≡ old ++ (a ++ b))

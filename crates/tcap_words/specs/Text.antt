@@ -1,7 +1,11 @@
 -- The lines of the texts.
-use Rattle.std.specs.Prelude.{ℕ, Bool, true, false, List, ◌++◌, codes, length, Option, Some, None, ◌==◌, if◌then◌else◌}
+use Rattle.std.specs.Prelude.{◌≡◌, ℕ, Bool, true, false, List, take, ◌++◌, codes, length, Option, Some, None, ◌==◌, if◌then◌else◌}
 use Rattle.std.specs.Fmt.{decimal}
 use Rattle.hex.specs.Hex.{encode_lower}
+
+-- A text that begins with what it was before (own).
+abbrev pub BeginsWith : List ℕ → List ℕ → Type 0
+BeginsWith old new = take (length old) new ≡ old
 
 -- A line: its words and a line feed (own).
 abbrev pub line : List ℕ → List ℕ

@@ -101,6 +101,16 @@ is_good Dialogue = false
 is_good (Component number) = false
 is_good Good = true
 
+-- Whether a verdict's line has a number (own).
+abbrev pub is_numbered : Verdict → Bool
+is_numbered TooLong = false
+is_numbered UnknownType = false
+is_numbered BadlyFormatted = false
+is_numbered Incorrect = false
+is_numbered Dialogue = false
+is_numbered (Component number) = true
+is_numbered Good = false
+
 -- The words of a verdict's line (own).
 abbrev pub verdict_words : Verdict → List ℕ
 verdict_words TooLong = codes "fault too long"

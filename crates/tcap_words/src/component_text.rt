@@ -1,24 +1,30 @@
 //! The words of a component.
+//!
+//! A private function that is refused memory leaves some of its words behind the text that was there, and the
+//! public one that calls it cuts them off.
 
-ghost use Rattle.std.specs.Prelude.{◌≡◌, ◌++◌, codes, OnOk, IfOk, string_bytes, option_copied, option_map};
+ghost use Rattle.std.specs.Prelude.{◌≡◌, ◌++◌, codes, OnOk, OnErr, IfOk, string_bytes, option_copied, option_map};
 ghost use Rattle.std.specs.Fmt.{signed_decimal};
 ghost use Rattle.tcap_component.specs.Views.{code_parts, body_parts, problem_parts, fault_parts, component_parts};
 ghost use Rattle.tcap_component.specs.Component.CodeParts.{global};
 ghost use Rattle.tcap_component.specs.Component.ComponentParts.{invoke, error_back, reject_back};
+ghost use Rattle.tcap_words.specs.Text.{BeginsWith};
 ghost use Rattle.tcap_words.specs.ComponentText.{identifier_words, code_words, coded_words, body_words, kind_words, problem_words, component_words, fault_words};
 
 use crate::hexadecimal::add_hex;
-use crate::text::{add_decimal, add_optional_octets, add_signed};
+use crate::text::{add_optional_octets, add_signed, cut_back};
 use ber_core::OutOfMemory;
+use itoa::Buffer;
 use std::alloc::Allocator;
 use tcap_component::{Body, Code, Component, ComponentFault, Kind, Problem};
 
-/// Adds an identifier, or `-` where there is none.
+/// Adds an identifier, or `-` where there is none. Where memory is refused, the text is as before.
 pub fn add_identifier<A: Allocator + Copy>(
     text: &mut String<A>,
     id: Option<i8>,
 ) -> Result<(), OutOfMemory>
-    ensures { OnOk result (string_bytes text.new ≡ string_bytes text.old ++ identifier_words id) }
+    ensures ok { OnOk result (string_bytes text.new ≡ string_bytes text.old ++ identifier_words id) }
+    ensures err { OnErr result (string_bytes text.new ≡ string_bytes text.old) }
 {
     match id {
         Some(id) => add_signed(text, i64::from(id)),
@@ -41,7 +47,8 @@ pub fn identifier_text<A: Allocator + Copy>(
 
 /// Adds the words of a global code.
 fn add_global<A: Allocator + Copy>(text: &mut String<A>, octets: &[u8]) -> Result<(), OutOfMemory>
-    ensures { OnOk result (string_bytes text.new ≡ string_bytes text.old ++ code_words (global octets.now)) }
+    ensures ok { OnOk result (string_bytes text.new ≡ string_bytes text.old ++ code_words (global octets.now)) }
+    ensures kept { OnErr result (BeginsWith (string_bytes text.old) (string_bytes text.new)) }
 {
     text.push_str("global ")?;
     add_hex(text, octets)
@@ -49,7 +56,8 @@ fn add_global<A: Allocator + Copy>(text: &mut String<A>, octets: &[u8]) -> Resul
 
 /// Adds the words of a code.
 fn add_code<A: Allocator + Copy>(text: &mut String<A>, code: &Code<'_>) -> Result<(), OutOfMemory>
-    ensures { OnOk result (string_bytes text.new ≡ string_bytes text.old ++ code_words (code_parts code.now)) }
+    ensures ok { OnOk result (string_bytes text.new ≡ string_bytes text.old ++ code_words (code_parts code.now)) }
+    ensures kept { OnErr result (BeginsWith (string_bytes text.old) (string_bytes text.new)) }
 {
     match code {
         Code::Local(number) => {
@@ -60,18 +68,38 @@ fn add_code<A: Allocator + Copy>(text: &mut String<A>, code: &Code<'_>) -> Resul
     }
 }
 
-/// Adds the words of a code and a parameter, behind the name of the code.
+/// Adds the words of a code and a parameter, behind the name of the code, piece by piece.
+fn add_code_and_parameter<A: Allocator + Copy>(
+    text: &mut String<A>,
+    code: &Code<'_>,
+    parameter: Option<&[u8]>,
+) -> Result<(), OutOfMemory>
+    ensures ok { OnOk result (string_bytes text.new ≡ string_bytes text.old
+        ++ coded_words (code_parts code.now) (option_copied parameter.entry)) }
+    ensures kept { OnErr result (BeginsWith (string_bytes text.old) (string_bytes text.new)) }
+{
+    add_code(text, code)?;
+    text.push_str(" param ")?;
+    add_optional_octets(text, parameter)
+}
+
+/// Adds the words of a code and a parameter, behind the name of the code. Where memory is refused, the text is
+/// as before.
 pub fn add_coded<A: Allocator + Copy>(
     text: &mut String<A>,
     code: &Code<'_>,
     parameter: Option<&[u8]>,
 ) -> Result<(), OutOfMemory>
-    ensures { OnOk result (string_bytes text.new ≡ string_bytes text.old
+    ensures ok { OnOk result (string_bytes text.new ≡ string_bytes text.old
         ++ coded_words (code_parts code.now) (option_copied parameter.entry)) }
+    ensures err { OnErr result (string_bytes text.new ≡ string_bytes text.old) }
 {
-    add_code(text, code)?;
-    text.push_str(" param ")?;
-    add_optional_octets(text, parameter)
+    let len = text.len();
+    let added = add_code_and_parameter(text, code, parameter);
+    if added.is_err() {
+        cut_back(text, len);
+    }
+    added
 }
 
 /// The words of a code and a parameter, behind the name of the code.
@@ -88,13 +116,14 @@ pub fn coded_text<A: Allocator + Copy>(
     Ok(words)
 }
 
-/// Adds the words of a result's body, `-` twice where there is none.
+/// Adds the words of a result's body, `-` twice where there is none. Where memory is refused, the text is as before.
 pub fn add_body<A: Allocator + Copy>(
     text: &mut String<A>,
     body: &Option<Body<'_>>,
 ) -> Result<(), OutOfMemory>
-    ensures { OnOk result (string_bytes text.new ≡ string_bytes text.old
+    ensures ok { OnOk result (string_bytes text.new ≡ string_bytes text.old
         ++ body_words (option_map body_parts body.now)) }
+    ensures err { OnErr result (string_bytes text.new ≡ string_bytes text.old) }
 {
     match body {
         Some(body) => add_coded(text, &body.code, body.parameter),
@@ -126,16 +155,23 @@ fn kind_text(kind: Kind) -> &'static str
     }
 }
 
-/// Adds the words of a problem: its kind and its code.
+/// Adds the words of a problem: its kind and its code. Where memory is refused, the text is as before.
 pub fn add_problem<A: Allocator + Copy>(
     text: &mut String<A>,
     problem: Problem,
 ) -> Result<(), OutOfMemory>
-    ensures { OnOk result (string_bytes text.new ≡ string_bytes text.old ++ problem_words (problem_parts problem)) }
+    ensures ok { OnOk result (string_bytes text.new ≡ string_bytes text.old
+        ++ problem_words (problem_parts problem)) }
+    ensures err { OnErr result (string_bytes text.new ≡ string_bytes text.old) }
 {
-    text.push_str(kind_text(problem.kind()))?;
-    text.push_str(" ")?;
-    add_decimal(text, u64::from(problem.code()))
+    let kind = kind_text(problem.kind());
+    let mut buffer = Buffer::new();
+    let code = buffer.format(problem.code());
+    text.reserve(kind.len() + code.len() + 1)?;
+    text.push_str(kind).unwrap();
+    text.push_str(" ").unwrap();
+    text.push_str(code).unwrap();
+    Ok(())
 }
 
 /// The words of a problem: its kind and its code.
@@ -158,15 +194,16 @@ fn add_invoke<A: Allocator + Copy>(
     code: &Code<'_>,
     parameter: Option<&[u8]>,
 ) -> Result<(), OutOfMemory>
-    ensures { OnOk result (string_bytes text.new ≡ string_bytes text.old
+    ensures ok { OnOk result (string_bytes text.new ≡ string_bytes text.old
         ++ component_words (invoke id linked (code_parts code.now) (option_copied parameter.entry))) }
+    ensures kept { OnErr result (BeginsWith (string_bytes text.old) (string_bytes text.new)) }
 {
     text.push_str("invoke ")?;
     add_signed(text, i64::from(id))?;
     text.push_str(" linked ")?;
     add_identifier(text, linked)?;
     text.push_str(" op ")?;
-    add_coded(text, code, parameter)
+    add_code_and_parameter(text, code, parameter)
 }
 
 /// Adds the words of a result, by its name.
@@ -176,8 +213,9 @@ fn add_result<A: Allocator + Copy>(
     id: i8,
     body: &Option<Body<'_>>,
 ) -> Result<(), OutOfMemory>
-    ensures { OnOk result (string_bytes text.new ≡ string_bytes text.old ++ (name.now
+    ensures ok { OnOk result (string_bytes text.new ≡ string_bytes text.old ++ (name.now
         ++ (codes " " ++ (signed_decimal id ++ (codes " op " ++ body_words (option_map body_parts body.now)))))) }
+    ensures kept { OnErr result (BeginsWith (string_bytes text.old) (string_bytes text.new)) }
 {
     text.push_str(name)?;
     text.push_str(" ")?;
@@ -193,13 +231,14 @@ fn add_error<A: Allocator + Copy>(
     code: &Code<'_>,
     parameter: Option<&[u8]>,
 ) -> Result<(), OutOfMemory>
-    ensures { OnOk result (string_bytes text.new ≡ string_bytes text.old
+    ensures ok { OnOk result (string_bytes text.new ≡ string_bytes text.old
         ++ component_words (error_back id (code_parts code.now) (option_copied parameter.entry))) }
+    ensures kept { OnErr result (BeginsWith (string_bytes text.old) (string_bytes text.new)) }
 {
     text.push_str("error ")?;
     add_signed(text, i64::from(id))?;
     text.push_str(" code ")?;
-    add_coded(text, code, parameter)
+    add_code_and_parameter(text, code, parameter)
 }
 
 /// Adds the words of a Reject.
@@ -208,8 +247,9 @@ fn add_reject<A: Allocator + Copy>(
     id: Option<i8>,
     problem: Problem,
 ) -> Result<(), OutOfMemory>
-    ensures { OnOk result (string_bytes text.new ≡ string_bytes text.old
+    ensures ok { OnOk result (string_bytes text.new ≡ string_bytes text.old
         ++ component_words (reject_back id (problem_parts problem))) }
+    ensures kept { OnErr result (BeginsWith (string_bytes text.old) (string_bytes text.new)) }
 {
     text.push_str("reject ")?;
     add_identifier(text, id)?;
@@ -222,8 +262,9 @@ pub(crate) fn add_component<A: Allocator + Copy>(
     text: &mut String<A>,
     component: &Component<'_>,
 ) -> Result<(), OutOfMemory>
-    ensures { OnOk result (string_bytes text.new ≡ string_bytes text.old
+    ensures ok { OnOk result (string_bytes text.new ≡ string_bytes text.old
         ++ component_words (component_parts component.now)) }
+    ensures kept { OnErr result (BeginsWith (string_bytes text.old) (string_bytes text.new)) }
 {
     match component {
         Component::Invoke {
@@ -248,7 +289,8 @@ pub(crate) fn add_fault<A: Allocator + Copy>(
     text: &mut String<A>,
     fault: ComponentFault,
 ) -> Result<(), OutOfMemory>
-    ensures { OnOk result (string_bytes text.new ≡ string_bytes text.old ++ fault_words (fault_parts fault)) }
+    ensures ok { OnOk result (string_bytes text.new ≡ string_bytes text.old ++ fault_words (fault_parts fault)) }
+    ensures kept { OnErr result (BeginsWith (string_bytes text.old) (string_bytes text.new)) }
 {
     text.push_str("faulty ")?;
     add_identifier(text, fault.id)?;

@@ -1,16 +1,19 @@
 //! The words of a dialogue portion.
+//!
+//! A private function that is refused memory leaves some of its words behind the text that was there, and the
+//! public one that calls it cuts them off.
 
-ghost use Rattle.std.specs.Prelude.{◌≡◌, ◌++◌, codes, OnOk, IfOk, string_bytes};
+ghost use Rattle.std.specs.Prelude.{◌≡◌, ◌++◌, codes, OnOk, OnErr, IfOk, string_bytes};
 ghost use Rattle.std.specs.Fmt.{decimal};
 ghost use Rattle.tcap_pdu.specs.DialogueSpelling.{result_number};
 ghost use Rattle.tcap_pdu.specs.DialogueSpelling.PduValue.{aare, abrt, foreign};
 ghost use Rattle.tcap_pdu.specs.DialogueViews.{pdu_value, source};
 ghost use Rattle.hex.specs.Hex.{encode_lower};
-ghost use Rattle.tcap_words.specs.Text.{answer_words, inner_line, octets_words};
+ghost use Rattle.tcap_words.specs.Text.{BeginsWith, answer_words, inner_line, octets_words};
 ghost use Rattle.tcap_words.specs.DialogueText.{request_words, diagnostic_words, source_words, pdu_words, portion_words};
 
 use crate::hexadecimal::add_hex;
-use crate::text::{add_decimal, add_octets_or_dash, yes_or_no};
+use crate::text::{add_decimal, add_octets_or_dash, cut_back, yes_or_no};
 use ber_core::OutOfMemory;
 use std::alloc::Allocator;
 use tcap_pdu::{Diagnostic, DialoguePdu, read_dialogue};
@@ -22,8 +25,9 @@ fn add_opening<A: Allocator + Copy>(
     version1: bool,
     context: &[u8],
 ) -> Result<(), OutOfMemory>
-    ensures { OnOk result (string_bytes text.new ≡ string_bytes text.old ++ (name.now ++ (codes " version "
+    ensures ok { OnOk result (string_bytes text.new ≡ string_bytes text.old ++ (name.now ++ (codes " version "
         ++ (answer_words version1 ++ (codes " context " ++ encode_lower context.now))))) }
+    ensures kept { OnErr result (BeginsWith (string_bytes text.old) (string_bytes text.new)) }
 {
     text.push_str(name)?;
     text.push_str(" version ")?;
@@ -40,8 +44,9 @@ fn add_request<A: Allocator + Copy>(
     context: &[u8],
     info: &[u8],
 ) -> Result<(), OutOfMemory>
-    ensures { OnOk result (string_bytes text.new ≡ string_bytes text.old
+    ensures ok { OnOk result (string_bytes text.new ≡ string_bytes text.old
         ++ (name.now ++ request_words version1 context.now info.now)) }
+    ensures kept { OnErr result (BeginsWith (string_bytes text.old) (string_bytes text.new)) }
 {
     add_opening(text, name, version1, context)?;
     text.push_str(" info ")?;
@@ -53,7 +58,8 @@ fn add_diagnostic<A: Allocator + Copy>(
     text: &mut String<A>,
     diagnostic: Diagnostic,
 ) -> Result<(), OutOfMemory>
-    ensures { OnOk result (string_bytes text.new ≡ string_bytes text.old ++ diagnostic_words (source diagnostic)) }
+    ensures ok { OnOk result (string_bytes text.new ≡ string_bytes text.old ++ diagnostic_words (source diagnostic)) }
+    ensures kept { OnErr result (BeginsWith (string_bytes text.old) (string_bytes text.new)) }
 {
     match diagnostic {
         Diagnostic::User(number) => {
@@ -81,9 +87,10 @@ fn add_answer<A: Allocator + Copy>(
     diagnostic: Diagnostic,
     info: &[u8],
 ) -> Result<(), OutOfMemory>
-    ensures { OnOk result (string_bytes text.new ≡ string_bytes text.old ++ (codes " result "
+    ensures ok { OnOk result (string_bytes text.new ≡ string_bytes text.old ++ (codes " result "
         ++ (decimal (result_number accepted) ++ (codes " "
         ++ (diagnostic_words (source diagnostic) ++ (codes " info " ++ octets_words info.now)))))) }
+    ensures kept { OnErr result (BeginsWith (string_bytes text.old) (string_bytes text.new)) }
 {
     text.push_str(" result ")?;
     add_decimal(text, u64::from(result_number(accepted)))?;
@@ -102,8 +109,9 @@ fn add_response<A: Allocator + Copy>(
     diagnostic: Diagnostic,
     info: &[u8],
 ) -> Result<(), OutOfMemory>
-    ensures { OnOk result (string_bytes text.new ≡ string_bytes text.old
+    ensures ok { OnOk result (string_bytes text.new ≡ string_bytes text.old
         ++ pdu_words (aare version1 context.now accepted (source diagnostic) info.now)) }
+    ensures kept { OnErr result (BeginsWith (string_bytes text.old) (string_bytes text.new)) }
 {
     add_opening(text, "aare", version1, context)?;
     add_answer(text, accepted, diagnostic, info)
@@ -122,7 +130,9 @@ fn add_abort<A: Allocator + Copy>(
     by_provider: bool,
     info: &[u8],
 ) -> Result<(), OutOfMemory>
-    ensures { OnOk result (string_bytes text.new ≡ string_bytes text.old ++ pdu_words (abrt by_provider info.now)) }
+    ensures ok { OnOk result (string_bytes text.new ≡ string_bytes text.old
+        ++ pdu_words (abrt by_provider info.now)) }
+    ensures kept { OnErr result (BeginsWith (string_bytes text.old) (string_bytes text.new)) }
 {
     text.push_str("abrt ")?;
     text.push_str(source_name(by_provider))?;
@@ -135,18 +145,20 @@ fn add_foreign<A: Allocator + Copy>(
     text: &mut String<A>,
     external: &[u8],
 ) -> Result<(), OutOfMemory>
-    ensures { OnOk result (string_bytes text.new ≡ string_bytes text.old ++ pdu_words (foreign external.now)) }
+    ensures ok { OnOk result (string_bytes text.new ≡ string_bytes text.old ++ pdu_words (foreign external.now)) }
+    ensures kept { OnErr result (BeginsWith (string_bytes text.old) (string_bytes text.new)) }
 {
     text.push_str("foreign ")?;
     add_hex(text, external)
 }
 
-/// Adds the words of a dialogue PDU.
-pub fn add_pdu<A: Allocator + Copy>(
+/// Adds the words of a dialogue PDU, piece by piece.
+fn add_pdu_words<A: Allocator + Copy>(
     text: &mut String<A>,
     pdu: &DialoguePdu<'_>,
 ) -> Result<(), OutOfMemory>
-    ensures { OnOk result (string_bytes text.new ≡ string_bytes text.old ++ pdu_words (pdu_value pdu.now)) }
+    ensures ok { OnOk result (string_bytes text.new ≡ string_bytes text.old ++ pdu_words (pdu_value pdu.now)) }
+    ensures kept { OnErr result (BeginsWith (string_bytes text.old) (string_bytes text.new)) }
 {
     match pdu {
         DialoguePdu::Aarq {
@@ -171,6 +183,22 @@ pub fn add_pdu<A: Allocator + Copy>(
     }
 }
 
+/// Adds the words of a dialogue PDU. Where memory is refused, the text is as before.
+pub fn add_pdu<A: Allocator + Copy>(
+    text: &mut String<A>,
+    pdu: &DialoguePdu<'_>,
+) -> Result<(), OutOfMemory>
+    ensures ok { OnOk result (string_bytes text.new ≡ string_bytes text.old ++ pdu_words (pdu_value pdu.now)) }
+    ensures err { OnErr result (string_bytes text.new ≡ string_bytes text.old) }
+{
+    let len = text.len();
+    let added = add_pdu_words(text, pdu);
+    if added.is_err() {
+        cut_back(text, len);
+    }
+    added
+}
+
 /// The words of a dialogue PDU.
 pub fn pdu_text<A: Allocator + Copy>(
     alloc: A,
@@ -188,11 +216,13 @@ pub(crate) fn add_portion<A: Allocator + Copy>(
     text: &mut String<A>,
     content: &[u8],
 ) -> Result<(), OutOfMemory>
-    ensures { OnOk result (string_bytes text.new ≡ string_bytes text.old ++ inner_line (portion_words content.now)) }
+    ensures ok { OnOk result (string_bytes text.new ≡ string_bytes text.old
+        ++ inner_line (portion_words content.now)) }
+    ensures kept { OnErr result (BeginsWith (string_bytes text.old) (string_bytes text.new)) }
 {
     text.push_str("    ")?;
     match read_dialogue(content) {
-        Ok(pdu) => add_pdu(text, &pdu)?,
+        Ok(pdu) => add_pdu_words(text, &pdu)?,
         Err(_) => text.push_str("faulty")?,
     }
     text.push_str("\n")?;

@@ -1,6 +1,6 @@
 //! Octets in hexadecimal.
 
-ghost use Rattle.std.specs.Prelude.{◌≡◌, ◌<◌, ◌++◌, length, map, slice_index, IsAscii, OnOk, string_bytes};
+ghost use Rattle.std.specs.Prelude.{◌≡◌, ◌<◌, ◌≤◌, ◌+◌, ◌*◌, ◌++◌, length, map, slice_index, IsAscii, OnOk, OnErr, string_bytes, string_capacity, string_len};
 ghost use Rattle.std.specs.Simd.Lanes.{Each1};
 ghost use Rattle.hex.specs.Hex.{encode_lower, lower_digits};
 
@@ -40,43 +40,61 @@ fn digits(octets: &[u8; STEP]) -> [u8; 32]
     digits
 }
 
-/// Adds digits, which are ASCII and so a text.
+/// Adds digits, which are ASCII and so a text, where there is room.
 #[inline(always)]
-fn add_digits<A: Allocator + Copy>(text: &mut String<A>, digits: &[u8]) -> Result<(), OutOfMemory>
-    requires { IsAscii digits.now }
-    ensures { OnOk result (string_bytes text.new ≡ string_bytes text.old ++ digits.now) }
+fn push_digits<A: Allocator + Copy>(text: &mut String<A>, digits: &[u8])
+    requires ascii { IsAscii digits.now }
+    requires room { string_len text.old + length digits.now ≤ string_capacity text.old }
+    ensures bytes { string_bytes text.new ≡ string_bytes text.old ++ digits.now }
+    ensures len { string_len text.new ≡ string_len text.old + length digits.now }
+    ensures capacity { string_capacity text.old ≤ string_capacity text.new }
 {
-    Ok(text.push_str(unsafe { std::str::from_utf8_unchecked(digits) })?)
+    text.push_str(unsafe { std::str::from_utf8_unchecked(digits) })
+        .unwrap();
 }
 
-/// Adds fewer than 16 octets in hexadecimal. Zeros fill them up to 16, and the digits of these are left out.
+/// Adds fewer than 16 octets in hexadecimal, where there is room. Zeros fill them up to 16, and the digits of
+/// these are left out.
 #[inline(always)]
-fn add_last<A: Allocator + Copy>(text: &mut String<A>, octets: &[u8]) -> Result<(), OutOfMemory>
-    requires { length octets.now < 16 }
-    ensures { OnOk result (string_bytes text.new ≡ string_bytes text.old ++ encode_lower octets.now) }
+fn push_last<A: Allocator + Copy>(text: &mut String<A>, octets: &[u8])
+    requires few { length octets.now < 16 }
+    requires room { string_len text.old + 2 * length octets.now ≤ string_capacity text.old }
+    ensures bytes { string_bytes text.new ≡ string_bytes text.old ++ encode_lower octets.now }
+    ensures len { string_len text.new ≡ string_len text.old + 2 * length octets.now }
+    ensures capacity { string_capacity text.old ≤ string_capacity text.new }
 {
     let mut filled = [0; STEP];
     filled[..octets.len()].copy_from_slice(octets);
-    add_digits(text, &digits(&filled)[..2 * octets.len()])
+    push_digits(text, &digits(&filled)[..2 * octets.len()]);
+}
+
+/// Adds octets in hexadecimal, where there is room.
+#[inline(always)]
+pub(crate) fn push_hex<A: Allocator + Copy>(text: &mut String<A>, octets: &[u8])
+    requires { string_len text.old + 2 * length octets.now ≤ string_capacity text.old }
+    ensures bytes { string_bytes text.new ≡ string_bytes text.old ++ encode_lower octets.now }
+    ensures len { string_len text.new ≡ string_len text.old + 2 * length octets.now }
+    ensures capacity { string_capacity text.old ≤ string_capacity text.new }
+{
+    let mut rest = octets;
+    while let Some((sixteen, more)) = rest.split_first_chunk::<STEP>() {
+        push_digits(text, digits(sixteen).as_slice());
+        rest = more;
+    }
+    if !rest.is_empty() {
+        push_last(text, rest);
+    }
 }
 
 /// Adds octets in hexadecimal, lower case, two digits an octet. The digits of 16 octets are computed at once
 /// and on the stack, at some three instructions an octet. Digit by digit it took 28 an octet, and in a block
-/// of memory of their own 10 an octet and some 200 for the block.
+/// of memory of their own 10 an octet and some 200 for the block. Where memory is refused, the text is as
+/// before.
 pub fn add_hex<A: Allocator + Copy>(text: &mut String<A>, octets: &[u8]) -> Result<(), OutOfMemory>
-    ensures { OnOk result (string_bytes text.new ≡ string_bytes text.old ++ encode_lower octets.now) }
+    ensures ok { OnOk result (string_bytes text.new ≡ string_bytes text.old ++ encode_lower octets.now) }
+    ensures err { OnErr result (string_bytes text.new ≡ string_bytes text.old) }
 {
-    // Room for all of them at once: else a long text would grow in steps.
-    if octets.len() > STEP {
-        text.reserve(2 * octets.len())?;
-    }
-    let mut rest = octets;
-    while let Some((sixteen, more)) = rest.split_first_chunk::<STEP>() {
-        add_digits(text, digits(sixteen).as_slice())?;
-        rest = more;
-    }
-    if rest.is_empty() {
-        return Ok(());
-    }
-    add_last(text, rest)
+    text.reserve(2 * octets.len())?;
+    push_hex(text, octets);
+    Ok(())
 }

@@ -1,16 +1,16 @@
 //! What the verdict on bytes is.
 
-ghost use Rattle.std.specs.Prelude.{◌≡◌, ◌<◌, ◌++◌, length, is_err, IfSome, IfOk, OnOk, Ok, string_bytes, option_copied};
+ghost use Rattle.std.specs.Prelude.{◌≡◌, ◌<◌, ◌++◌, length, not, is_err, is_some, IfSome, IfOk, OnOk, OnErr, Ok, string_bytes, option_copied};
 ghost use Rattle.std.specs.List.{position_from};
 ghost use Rattle.ber_core.specs.Results.{Gives};
 ghost use Rattle.tcap_pdu.specs.FrameViews.{message, reason_of};
 ghost use Rattle.tcap_pdu.specs.DialogueReading.{dialogue_at};
 ghost use Rattle.tcap_component.specs.ComponentReading.{components_of};
 ghost use Rattle.tcap_words.specs.Text.{line};
-ghost use Rattle.tcap_words.specs.Verdict.{verdict_of_fault, message_of, is_known, is_read, is_good_portion, is_good_reason, components_verdict, portions_verdict, message_verdict, verdict_of, is_good, verdict_words};
+ghost use Rattle.tcap_words.specs.Verdict.{verdict_of_fault, message_of, is_known, is_read, is_good_portion, is_good_reason, components_verdict, portions_verdict, message_verdict, verdict_of, is_good, is_numbered, verdict_words};
 
 use crate::shown::Shown;
-use crate::text::{add_line, add_number};
+use crate::text::add_number;
 use crate::verdict::Verdict;
 use ber_core::OutOfMemory;
 use std::alloc::Allocator;
@@ -159,7 +159,8 @@ pub fn verdict_on(bytes: &[u8]) -> Verdict
 
 /// The line of a verdict, None where it has a number: a line that is known beforehand takes no memory.
 pub fn verdict_line(verdict: Verdict) -> Option<&'static str>
-    ensures { IfSome result (λ words. words.now ≡ line (verdict_words verdict)) }
+    ensures words { IfSome result (λ words. words.now ≡ line (verdict_words verdict)) }
+    ensures known { is_some result ≡ not (is_numbered verdict) }
 {
     match verdict {
         Verdict::TooLong => Some("fault too long\n"),
@@ -172,22 +173,19 @@ pub fn verdict_line(verdict: Verdict) -> Option<&'static str>
     }
 }
 
-/// Adds the line of a verdict.
+/// Adds the line of a verdict. Where memory is refused, the text is as before.
 pub fn add_verdict<A: Allocator + Copy>(
     text: &mut String<A>,
     verdict: Verdict,
 ) -> Result<(), OutOfMemory>
-    ensures { OnOk result (string_bytes text.new ≡ string_bytes text.old ++ line (verdict_words verdict)) }
+    ensures ok { OnOk result (string_bytes text.new ≡ string_bytes text.old ++ line (verdict_words verdict)) }
+    ensures err { OnErr result (string_bytes text.new ≡ string_bytes text.old) }
 {
-    match verdict {
-        Verdict::TooLong => add_line(text, "fault too long"),
-        Verdict::UnknownType => add_line(text, "fault unknown type"),
-        Verdict::BadlyFormatted => add_line(text, "fault badly formatted"),
-        Verdict::Incorrect => add_line(text, "fault incorrect"),
-        Verdict::Dialogue => add_line(text, "fault dialogue"),
-        Verdict::Component(number) => add_number(text, "fault component", number),
-        Verdict::Good => add_line(text, "good"),
+    if let Verdict::Component(number) = verdict {
+        return add_number(text, "fault component", number);
     }
+    // Each of the others has a line that is known beforehand.
+    Ok(text.push_str(verdict_line(verdict).unwrap())?)
 }
 
 /// The line of a verdict alone.
@@ -199,9 +197,6 @@ pub fn verdict_text<A: Allocator + Copy>(
     ensures good { IfOk result (λ shown. shown.good ≡ is_good verdict) }
 {
     let mut text = String::new(alloc);
-    match verdict_line(verdict) {
-        Some(words) => text.push_str(words)?,
-        None => add_verdict(&mut text, verdict)?,
-    }
+    add_verdict(&mut text, verdict)?;
     Ok(Shown::of(text, verdict))
 }

@@ -30,7 +30,7 @@ pub use judge::{
 pub use portions::{add_destination, add_dialogue, add_origin, add_portions};
 pub use rewrite::{CanonFault, assemble, rewrite_components, rewrite_portion, spell_frame};
 pub use shown::Shown;
-pub use spelling::{decode_hex, hex_octets};
+pub use spelling::{decode_hex, hex_octets, is_hex};
 pub use text::{
     add_decimal, add_line, add_number, add_octets_or_dash, add_optional_octets, add_signed,
     octets_or_dash, optional_octets_or_dash,

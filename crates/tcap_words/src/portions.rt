@@ -1,9 +1,12 @@
 //! The lines of a message's identifiers and portions.
+//!
+//! A private function that is refused memory leaves some of its lines behind the text that was there, and the
+//! public one that calls it cuts them off.
 
-ghost use Rattle.std.specs.Prelude.{◌≡◌, ◌++◌, OnOk, IfOk, string_bytes, option_copied};
+ghost use Rattle.std.specs.Prelude.{◌≡◌, ◌++◌, OnOk, OnErr, IfOk, string_bytes, option_copied};
 ghost use Rattle.tcap_component.specs.ComponentReading.{components_of};
 ghost use Rattle.tcap_component.specs.Views.{item_view};
-ghost use Rattle.tcap_words.specs.Text.{inner_line};
+ghost use Rattle.tcap_words.specs.Text.{BeginsWith, inner_line};
 ghost use Rattle.tcap_words.specs.ComponentText.{item_words};
 ghost use Rattle.tcap_words.specs.Verdict.{is_good, components_verdict, portions_verdict};
 ghost use Rattle.tcap_words.specs.Show.{origin_line, destination_line, dialogue_lines, item_lines, component_lines, portion_lines};
@@ -11,42 +14,42 @@ ghost use Rattle.tcap_words.specs.Show.{origin_line, destination_line, dialogue_
 use crate::component_text::{add_component, add_fault};
 use crate::dialogue_text::add_portion;
 use crate::judge::has_good_portion;
-use crate::text::{add_number, add_octets};
+use crate::text::{add_number, add_octets, cut_back};
 use ber_core::OutOfMemory;
 use std::alloc::Allocator;
 use tcap_component::{Component, ComponentFault, Components};
 use tcap_pdu::TransId;
 
-/// Adds the line of an originating transaction identifier.
+/// Adds the line of an originating transaction identifier. Where memory is refused, the text is as before.
 pub fn add_origin<A: Allocator + Copy>(
-    alloc: A,
     text: &mut String<A>,
     id: &TransId,
 ) -> Result<(), OutOfMemory>
-    ensures { OnOk result (string_bytes text.new ≡ string_bytes text.old ++ origin_line id.now) }
+    ensures ok { OnOk result (string_bytes text.new ≡ string_bytes text.old ++ origin_line id.now) }
+    ensures err { OnErr result (string_bytes text.new ≡ string_bytes text.old) }
 {
     add_octets(text, "  otid", id.octets())
 }
 
-/// Adds the line of a destination transaction identifier.
+/// Adds the line of a destination transaction identifier. Where memory is refused, the text is as before.
 pub fn add_destination<A: Allocator + Copy>(
-    alloc: A,
     text: &mut String<A>,
     id: &TransId,
 ) -> Result<(), OutOfMemory>
-    ensures { OnOk result (string_bytes text.new ≡ string_bytes text.old ++ destination_line id.now) }
+    ensures ok { OnOk result (string_bytes text.new ≡ string_bytes text.old ++ destination_line id.now) }
+    ensures err { OnErr result (string_bytes text.new ≡ string_bytes text.old) }
 {
     add_octets(text, "  dtid", id.octets())
 }
 
-/// Adds the lines of a dialogue portion, where there is one.
-pub fn add_dialogue<A: Allocator + Copy>(
-    alloc: A,
+/// Adds the lines of a dialogue portion, where there is one, one by one.
+fn add_dialogue_lines<A: Allocator + Copy>(
     text: &mut String<A>,
     dialogue: Option<&[u8]>,
 ) -> Result<(), OutOfMemory>
-    ensures { OnOk result (string_bytes text.new ≡ string_bytes text.old
+    ensures ok { OnOk result (string_bytes text.new ≡ string_bytes text.old
         ++ dialogue_lines (option_copied dialogue.entry)) }
+    ensures kept { OnErr result (BeginsWith (string_bytes text.old) (string_bytes text.new)) }
 {
     match dialogue {
         Some(content) => {
@@ -57,13 +60,31 @@ pub fn add_dialogue<A: Allocator + Copy>(
     }
 }
 
+/// Adds the lines of a dialogue portion, where there is one. Where memory is refused, the text is as before.
+pub fn add_dialogue<A: Allocator + Copy>(
+    text: &mut String<A>,
+    dialogue: Option<&[u8]>,
+) -> Result<(), OutOfMemory>
+    ensures ok { OnOk result (string_bytes text.new ≡ string_bytes text.old
+        ++ dialogue_lines (option_copied dialogue.entry)) }
+    ensures err { OnErr result (string_bytes text.new ≡ string_bytes text.old) }
+{
+    let len = text.len();
+    let added = add_dialogue_lines(text, dialogue);
+    if added.is_err() {
+        cut_back(text, len);
+    }
+    added
+}
+
 /// Adds the line of a component or of a fault.
 fn add_item<A: Allocator + Copy>(
     text: &mut String<A>,
     item: &Result<Component<'_>, ComponentFault>,
 ) -> Result<(), OutOfMemory>
-    ensures { OnOk result (string_bytes text.new ≡ string_bytes text.old
+    ensures ok { OnOk result (string_bytes text.new ≡ string_bytes text.old
         ++ inner_line (item_words (item_view item.now))) }
+    ensures kept { OnErr result (BeginsWith (string_bytes text.old) (string_bytes text.new)) }
 {
     text.push_str("    ")?;
     match item {
@@ -84,6 +105,7 @@ fn add_items<A: Allocator + Copy>(
     ensures text { OnOk result (string_bytes text.new ≡ string_bytes text.old
         ++ item_lines (components_of components.now)) }
     ensures good { IfOk result (λ good. good ≡ is_good (components_verdict components.now)) }
+    ensures kept { OnErr result (BeginsWith (string_bytes text.old) (string_bytes text.new)) }
 {
     let mut good = true;
     for item in Components::new(components) {
@@ -102,6 +124,7 @@ fn add_components<A: Allocator + Copy>(
 ) -> Result<bool, OutOfMemory>
     ensures text { OnOk result (string_bytes text.new ≡ string_bytes text.old ++ component_lines components.now) }
     ensures good { IfOk result (λ good. good ≡ is_good (components_verdict components.now)) }
+    ensures kept { OnErr result (BeginsWith (string_bytes text.old) (string_bytes text.new)) }
 {
     if components.is_empty() {
         return Ok(true);
@@ -110,9 +133,24 @@ fn add_components<A: Allocator + Copy>(
     add_items(text, components)
 }
 
-/// Adds the lines of both portions, and tells whether both are good.
+/// Adds the lines of both portions, one by one, and tells whether the components are good.
+fn add_portion_lines<A: Allocator + Copy>(
+    text: &mut String<A>,
+    dialogue: Option<&[u8]>,
+    components: &[u8],
+) -> Result<bool, OutOfMemory>
+    ensures text { OnOk result (string_bytes text.new ≡ string_bytes text.old
+        ++ portion_lines (option_copied dialogue.entry) components.now) }
+    ensures good { IfOk result (λ good. good ≡ is_good (components_verdict components.now)) }
+    ensures kept { OnErr result (BeginsWith (string_bytes text.old) (string_bytes text.new)) }
+{
+    add_dialogue_lines(text, dialogue)?;
+    add_components(text, components)
+}
+
+/// Adds the lines of both portions, and tells whether both are good. Where memory is refused, the text is as
+/// before.
 pub fn add_portions<A: Allocator + Copy>(
-    alloc: A,
     text: &mut String<A>,
     dialogue: Option<&[u8]>,
     components: &[u8],
@@ -121,8 +159,14 @@ pub fn add_portions<A: Allocator + Copy>(
         ++ portion_lines (option_copied dialogue.entry) components.now) }
     ensures good { IfOk result (λ good. good
         ≡ is_good (portions_verdict (option_copied dialogue.entry) components.now)) }
+    ensures err { OnErr result (string_bytes text.new ≡ string_bytes text.old) }
 {
-    add_dialogue(alloc, text, dialogue)?;
-    let good = add_components(text, components)?;
-    Ok(good && has_good_portion(&dialogue))
+    let len = text.len();
+    match add_portion_lines(text, dialogue, components) {
+        Ok(good) => Ok(good && has_good_portion(&dialogue)),
+        Err(refused) => {
+            cut_back(text, len);
+            Err(refused)
+        }
+    }
 }

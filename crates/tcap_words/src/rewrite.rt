@@ -99,7 +99,8 @@ fn rewrite_component<A: Allocator + Copy>(
     }
 }
 
-/// Appends a component in the canonical form; of a fault it appends nothing.
+/// Appends a component in the canonical form; of a fault it appends nothing. Behind a fault nothing is
+/// appended: the octets are copied to memory of their own size, so that no room is kept for what doesn't come.
 fn rewrite_item<A: Allocator + Copy>(
     octets: &mut Vec<u8, A>,
     item: &Result<Component<'_>, ComponentFault>,
@@ -111,7 +112,10 @@ fn rewrite_item<A: Allocator + Copy>(
 {
     match item {
         Ok(component) => rewrite_component(octets, component, room),
-        Err(_) => Ok(()),
+        Err(_) => {
+            *octets = octets.as_slice().to_vec(*octets.allocator())?;
+            Ok(())
+        }
     }
 }
 

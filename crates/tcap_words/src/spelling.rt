@@ -15,7 +15,7 @@ fn is_digit(octet: u8) -> bool
 }
 
 /// Whether the word spells octets: an even number of hexadecimal digits. It takes no memory.
-fn is_hex(hex: &[u8]) -> bool
+pub fn is_hex(hex: &[u8]) -> bool
     ensures { IsTrue result ↔ IsHex hex.now }
 {
     hex.len() % 2 == 0 && hex.iter().copied().all(is_digit)
@@ -37,12 +37,15 @@ pub fn hex_octets<A: Allocator>(alloc: A, hex: &[u8]) -> Result<Option<Vec<u8, A
     }
 }
 
-/// The octets of a word that most likely spells some: it is decoded first, and its digits are looked
-/// through only where it can't be.
+/// The octets of a word that most likely spells some: where its first character is a digit it is decoded, and
+/// its digits are looked through only where it can't be.
 pub fn decode_hex<A: Allocator>(alloc: A, hex: &[u8]) -> Result<Option<Vec<u8, A>>, OutOfMemory>
     ensures value { IfOk result (λ octets. option_map (λ o. o.items) octets ≡ spelled_by hex.now) }
     ensures err { OnErr result (is_some (spelled_by hex.now) ≡ true) }
 {
+    if !hex.is_empty() && !is_digit(hex[0]) {
+        return Ok(None);
+    }
     match hex::decode(alloc, hex) {
         Ok(octets) => Ok(Some(octets)),
         Err(_) if is_hex(hex) => Err(OutOfMemory),
