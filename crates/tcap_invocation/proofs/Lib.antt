@@ -1,4 +1,5 @@
 pub mod CallerLemmas
+mod DueLemmas
 pub mod InsertionLemmas
 pub mod KeptLemmas
 pub mod LapseLemmas

@@ -1,5 +1,5 @@
 -- The first timer of a wait that is over, and what taking its invocation out leaves.
-use Rattle.std.proofs.Common.{◌≡◌, ℕ, suc, ℤ, ◌+◌, ◌≤◌, Bool, true, false, cond, List, [], ◌∷◌, length, filter, Option, Some, None, refl, ap, sym, subst, ◌∙◌, arith, tests, nat_lt, nat_le}
+use Rattle.std.proofs.Common.{◌≡◌, ℕ, suc, ℤ, ◌+◌, ◌<◌, Bool, true, false, cond, List, [], ◌∷◌, length, filter, Option, Some, None, refl, ap, sym, subst, ◌∙◌, arith, tests, nat_lt, nat_le}
 use Rattle.std.specs.Prelude.{filter_map}
 use Rattle.std.specs.List.{AllByRecursion, IsDistinct, cons_option}
 use Rattle.std.specs.Map.{keys_of, lookup}
@@ -38,15 +38,6 @@ module _ (clock : ℕ) where
   none-later t ts o later =
       let late : nat_le t.time clock ≡ false = grind (arith, tests, later) in
       rw (not-over t late) (none-ahead t ts later (ordered (t ∷ ts) o).0)
-
-  -- those that are over are no more than all
-  pub length-over : (ts : List Timer) → length (filter (is_over clock) ts) ≤ length ts
-  length-over [] = omega arith
-  length-over (t ∷ ts) = go (is_over clock t) (length-over ts)
-    where
-      go : (b : Bool) → length (filter (is_over clock) ts) ≤ length ts → length (cond b (t ∷ filter (is_over clock) ts) (filter (is_over clock) ts)) ≤ suc (length ts)
-      go true h = omega (arith, h)
-      go false h = omega (arith, h)
 
   -- the first that is over passes what all pass
   first-over : (P : Timer → Type 0) (ts : List Timer) (t : Timer) → AllByRecursion P ts → first_of (filter (is_over clock) ts) ≡ Some t → P t × (is_over clock t ≡ true)
@@ -102,6 +93,14 @@ module _ (clock : ℕ) where
           → filter (λ r. is_held clock r.1.stage) (cond b rs (r ∷ without rs id)) ≡ filter (λ r. is_held clock r.1.stage) (r ∷ rs)
       go true q rest = let same : e ≡ r.1 = cc in let own : is_held clock r.1.stage ≡ false = subst (λ (e : Invocation). is_held clock e.stage ≡ false) same over in rw own refl
       go false q rest = ap (λ (rs : List Row). cond (is_held clock r.1.stage) (r ∷ rs) rs) (rest q)
+
+  pub length-without : (id : ℤ) (e : Invocation) (rows : List Row) → entry_at rows id ≡ Some e → length (without rows id) < length rows
+  length-without id e [] found = absurd cc
+  length-without id e (r ∷ rs) found = go (int_eq id r.0) found (length-without id e rs)
+    where
+      go : (b : Bool) → cond b (Some r.1) (lookup (int_eq id) rs) ≡ Some e → (lookup (int_eq id) rs ≡ Some e → length (without rs id) < length rs) → length (cond b rs (r ∷ without rs id)) < suc (length rs)
+      go true q rest = omega arith
+      go false q rest = let less = rest q in omega (arith, less)
 
   -- ---- none is over
 

@@ -72,6 +72,11 @@ is_kept clock t = t.lapses || nat_lt clock t.time
 abbrev pub is_over : ℕ → Timer → Bool
 is_over clock t = if t.lapses then false else nat_le t.time clock
 
+-- There is a timer, and it is that of a wait which is over at the clock (own).
+abbrev pub is_first_over : ℕ → Option Timer → Bool
+is_first_over clock None = false
+is_first_over clock (Some timer) = is_over clock timer
+
 -- The time of a timer, if there is one, has come at the clock (own).
 abbrev pub has_come : ℕ → Option Timer → Bool
 has_come clock None = false

@@ -1,6 +1,6 @@
 //! The invocations of one dialogue (Q.774, Invocation state machine).
 
-ghost use Rattle.std.specs.Prelude.{◌≡◌, ◌↔◌, ◌≤◌, [], is_some, IsSome, IfSome, IfNone, OnOk, OnErr, IsErrOf, IsOkUnless, IsTrue, true, Err};
+ghost use Rattle.std.specs.Prelude.{◌≡◌, ◌↔◌, ◌≤◌, min, length, [], is_some, IsSome, IfSome, IfNone, OnOk, OnErr, IsErrOf, IsOkUnless, IsTrue, true, Err};
 ghost use Rattle.tcap_invocation.specs.Invocations.{InvocationList, AllBelow, IsSound, entry_at, passing, sent_at, add_fault, added, after_sent};
 ghost use Rattle.tcap_invocation.specs.Stage.{moment_limit, IsTimeout};
 ghost use Rattle.tcap_invocation.specs.Timers.{next_timer_at};
@@ -29,6 +29,9 @@ struct Invocation {
     stage: Stage,
 }
 
+/// How many identifiers there are (Q.773, Invoke ID: one octet).
+const IDENTIFIERS: usize = 256;
+
 /// The invocations by their identifiers, in order of number.
 type Entries<A> = IndexMap<i8, Invocation, BuildHasherDefault<FoldHasher>, A>;
 
@@ -39,7 +42,7 @@ type Entries<A> = IndexMap<i8, Invocation, BuildHasherDefault<FoldHasher>, A>;
 /// - Answers that were received: `on_result`, `on_error`, `on_reject`.
 /// - Time: `lapse`, or one by one `due_count`, `first_due`, `lapse_one` and `free_due`; `next_timer` tells
 ///   when it next changes something.
-/// - Getters: `is_open`, `in_use`, `is_above_all`.
+/// - Getters: `is_open`, `in_use`, `is_above_all`, `capacity`.
 ///
 /// Moments and lengths of time are in milliseconds by the caller's clock. A contract sees the length of
 /// the wait and the rows, and forgets the timers, which are those of the rows, and how much room there is.
@@ -88,10 +91,17 @@ impl<A: Allocator + Copy> Invocations<A> {
         self.reject_ms = reject_ms;
     }
 
-    /// How many invocations the list or its timers have room for; a contract forgets that. The map may show
-    /// less room than it has once many were taken out; the timers have had room for each.
-    pub fn capacity(&self) -> usize {
-        self.entries.capacity().max(self.timers.capacity())
+    /// For how many invocations there is memory: the greater of what the map and the timers have room for, at most
+    /// 256, the number of identifiers. The map may show less than it has once many were taken out; after `renew` it
+    /// shows all, and 0 where there is none. A contract sees the rows alone.
+    pub fn capacity(&self) -> usize
+        ensures least { min (length self.now.rows) 256 ≤ result }
+        ensures most { result ≤ 256 }
+    {
+        self.entries
+            .capacity()
+            .max(self.timers.capacity())
+            .min(IDENTIFIERS)
     }
 
     /// Whether an invocation with the identifier is Sent, so that a result or an error is for it.

@@ -1,6 +1,6 @@
 //! Invocations whose deadline has come (TC-L-CANCEL indication).
 
-ghost use Rattle.std.specs.Prelude.{◌≡◌, ◌≢◌, [], ◌∷◌, length, false, IsTrue, OnOk, OnErr, IfOk, IfSome};
+ghost use Rattle.std.specs.Prelude.{◌≡◌, ◌≢◌, ◌<◌, [], ◌∷◌, length, false, IsTrue, OnOk, OnErr, IfOk, IfSome};
 ghost use Rattle.tcap_invocation.specs.Invocations.{IsSound};
 ghost use Rattle.tcap_invocation.specs.Lapses.{due_at, told_at, first_due_at, lapse_of, lapse_at, after_lapse, after_lapse_one, after_free_due, is_held, stays};
 
@@ -20,9 +20,12 @@ pub struct Lapse {
     pub id: i8,
 }
 
-/// Where so many waits end at a moment, or the list is shorter than that, one walk through all frees them.
-/// Fewer are freed one by one, which costs less: mostly one wait ends at a moment.
-const MANY: usize = 6;
+/// Where the time of so many has come, one walk through all frees each identifier whose wait is over. Fewer are freed
+/// one by one, which costs less: mostly one wait ends at a moment.
+const MANY: usize = 3;
+
+/// Where the list is shorter than this, a walk through it costs less, however few are freed.
+const SHORT: usize = 6;
 
 impl<A: Allocator + Copy> Invocations<A> {
     /// The clock is at this moment: takes out each Sent invocation whose deadline is at most the clock,
@@ -33,6 +36,9 @@ impl<A: Allocator + Copy> Invocations<A> {
         ensures err { OnErr result (self.new ≡ self.old) }
         ensures memory { OnErr result (told_at clock self.old.rows ≢ []) }
     {
+        if !self.timers.is_due(clock) {
+            return Ok(Vec::new(*self.entries.allocator()));
+        }
         let told = self.timers.due_lapses(clock)?;
         self.timers.expire(clock);
         self.entries.retain(
@@ -92,32 +98,26 @@ impl<A: Allocator + Copy> Invocations<A> {
         if !self.timers.is_due(clock) {
             return;
         }
-        let are_few = self.entries.len() >= MANY && self.timers.over_count(clock) < MANY;
-        if are_few && self.free_few(clock) {
-            return;
+        if self.entries.len() < SHORT || self.timers.is_due_behind(MANY - 2, clock) {
+            self.free_all(clock);
+        } else {
+            self.free_each(clock);
         }
-        self.free_all(clock);
     }
 
-    /// Frees identifiers whose wait is over at the clock one by one, as long as these are few: whether none
-    /// is left.
+    /// `free_due`, one by one.
     #[inline(never)]
-    fn free_few(&mut self, clock: u64) -> bool
-        ensures same { after_free_due self.new clock ≡ after_free_due self.old clock }
-        ensures all { IsTrue result → after_free_due self.new clock ≡ self.new }
+    fn free_each(&mut self, clock: u64)
+        ensures { self.new ≡ after_free_due self.old clock }
     {
-        for _ in 0..MANY {
-            if !self.free_first(clock) {
-                return true;
-            }
-        }
-        false
+        while self.free_first(clock) {}
     }
 
     /// Frees the first identifier whose wait is over at the clock: whether there was one.
     fn free_first(&mut self, clock: u64) -> bool
         ensures same { after_free_due self.new clock ≡ after_free_due self.old clock }
         ensures none { result ≡ false → after_free_due self.new clock ≡ self.new }
+        ensures fewer { IsTrue result → length self.new.rows < length self.old.rows }
     {
         if !self.timers.is_due(clock) {
             return false;

@@ -1,20 +1,22 @@
 //! The timers of invocations: deadlines, and ends of the wait for a Reject.
 
-ghost use Rattle.std.specs.Prelude.{◌≡◌, ◌<◌, ◌≤◌, [], List, length, filter, filter_map, option_copied, IfOk, OnOk, OnErr};
+ghost use Rattle.std.specs.Prelude.{◌≡◌, ◌+◌, ◌<◌, ◌≤◌, true, [], List, length, filter, filter_map, slice_get, option_copied, IfOk, OnOk, OnErr};
 ghost use Rattle.tcap_invocation.specs.declared.invocations.timers.Timer.{Timer};
 ghost use Rattle.tcap_invocation.specs.Order.{put_by, first_of};
 ghost use Rattle.tcap_invocation.specs.TimerList.{is_earlier, told_of_timer, is_later, is_kept, is_over, has_come};
 
+mod due;
 mod sorted;
 mod telling;
 
 use super::lapse::Lapse;
 use ber_core::OutOfMemory;
+use due::{take_due, take_over};
 use sorted::{is_earlier, put, take, take_first};
 use std::alloc::{AllocError, Allocator};
 use std::collections::VecDeque;
 use std::marker::Model;
-use telling::{due_count, first_due, first_over, over_count, push_due, told_first};
+use telling::{due_count, first_due, first_over, push_due, told_first};
 
 /// When an invocation lapses, or when the wait of its identifier ends.
 #[derive(Clone, Copy, Debug)]
@@ -45,7 +47,7 @@ impl Timer {
     }
 
     /// Whether it isn't that of a wait which is over at the clock.
-    fn is_kept(&self, clock: u64) -> bool
+    pub(super) fn is_kept(&self, clock: u64) -> bool
         ensures { result ≡ is_kept clock self.now }
     {
         self.lapses || clock < self.time
@@ -101,6 +103,16 @@ impl<A: Allocator + Copy> Timers<A> {
         }
     }
 
+    /// Whether the time of the one at this place behind the first has come at the clock.
+    pub(super) fn is_due_behind(&self, place: usize, clock: u64) -> bool
+        ensures { result ≡ has_come clock (slice_get self.now.timers (place + 1)) }
+    {
+        match self.rest.get(place) {
+            Some(timer) => timer.time <= clock,
+            None => false,
+        }
+    }
+
     /// The first of those of a wait that is over at the clock.
     pub(super) fn first_over(&self, clock: u64) -> Option<Timer>
         ensures { result ≡ first_of (filter (is_over clock) self.now.timers) }
@@ -113,30 +125,27 @@ impl<A: Allocator + Copy> Timers<A> {
         }
     }
 
-    /// How many are of waits that are over at the clock.
-    pub(super) fn over_count(&self, clock: u64) -> usize
-        ensures { result ≡ length (filter (is_over clock) self.now.timers) }
+    /// For how many there is room behind the first.
+    pub(super) fn capacity(&self) -> usize
+        ensures { result + 1 ≡ self.now.room }
     {
-        let behind = over_count(&self.rest, clock);
-        match self.first {
-            Some(first) if first.is_over(clock) => behind + 1,
-            _ => behind,
-        }
-    }
-
-    /// For how many there is room behind the first; a contract forgets that.
-    pub(super) fn capacity(&self) -> usize {
         self.rest.capacity()
     }
 
-    /// Makes room for so many in all.
+    /// Makes room for so many in all. Where that takes memory, the room doubles: the ring by itself grows by its
+    /// length, and few of the invocations have a timer while many are Queued.
     pub(super) fn reserve(&mut self, count: usize) -> Result<(), AllocError>
         ensures room { OnOk result (count ≤ self.new.room) }
         ensures more { self.old.room ≤ self.new.room }
         ensures kept { self.new.timers ≡ self.old.timers }
     {
         let behind = count.saturating_sub(1);
-        self.rest.reserve(behind.saturating_sub(self.rest.len()))
+        let room = self.rest.capacity();
+        if behind <= room {
+            return Ok(());
+        }
+        let wanted = behind.max(room.saturating_mul(2));
+        self.rest.reserve(wanted.saturating_sub(self.rest.len()))
     }
 
     /// Puts a timer in its place, in room that is there.
@@ -182,22 +191,14 @@ impl<A: Allocator + Copy> Timers<A> {
         self.rest.clear();
     }
 
-    /// Takes out each timer whose time has come at the clock.
+    /// Takes out each timer whose time has come at the clock, where that of the first has.
     pub(super) fn expire(&mut self, clock: u64)
+        requires { has_come clock (first_of self.old.timers) ≡ true }
         ensures timers { self.new.timers ≡ filter (is_later clock) self.old.timers }
         ensures room { self.new.room ≡ self.old.room }
     {
-        let Some(first) = self.first else {
-            return;
-        };
-        self.rest.retain(
-            |timer: &Timer| -> bool
-                ensures { result ≡ is_later clock timer.now }
-            { timer.is_later(clock) },
-        );
-        if !first.is_later(clock) {
-            self.first = take_first(&mut self.rest);
-        }
+        take_due(&mut self.rest, clock);
+        self.first = take_first(&mut self.rest);
     }
 
     /// Takes out each timer of a wait that is over at the clock.
@@ -208,11 +209,7 @@ impl<A: Allocator + Copy> Timers<A> {
         let Some(first) = self.first else {
             return;
         };
-        self.rest.retain(
-            |timer: &Timer| -> bool
-                ensures { result ≡ is_kept clock timer.now }
-            { timer.is_kept(clock) },
-        );
+        take_over(&mut self.rest, clock);
         if !first.is_kept(clock) {
             self.first = take_first(&mut self.rest);
         }

@@ -50,24 +50,6 @@ pub(super) fn first_over<A: Allocator + Copy>(
     None
 }
 
-/// How many of them are of waits that are over at the clock.
-#[inline(never)]
-pub(super) fn over_count<A: Allocator + Copy>(timers: &VecDeque<Timer, A>, clock: u64) -> usize
-    requires { IsInOrder timers.now.items }
-    ensures { result ≡ length (filter (is_over clock) timers.now.items) }
-{
-    let mut count = 0;
-    for timer in timers.iter() {
-        if timer.is_later(clock) {
-            return count;
-        }
-        if !timer.lapses {
-            count += 1;
-        }
-    }
-    count
-}
-
 /// How many of them are of invocations that lapse by the clock. Mostly there are no timers.
 pub(super) fn due_count<A: Allocator + Copy>(timers: &VecDeque<Timer, A>, clock: u64) -> usize
     requires { IsInOrder timers.now.items }

@@ -2,7 +2,7 @@ use Rattle.std.proofs.Common.{◌≡◌, ap, subst, rules, tests, filter, false,
 use Rattle.tcap_invocation.specs.Invocations.{Row, entry_at}
 use Rattle.tcap_invocation.specs.Order.{first_of}
 use Rattle.tcap_invocation.specs.TimerList.{has_come, is_over}
-use Rattle.tcap_invocation.proofs.OverLemmas.{over-entry, held-without, held-none}
+use Rattle.tcap_invocation.proofs.OverLemmas.{over-entry, held-without, length-without, held-none}
 use Rattle.tcap_invocation.proofs.TimelyLemmas.{held-all}
 use Rattle.tcap_invocation.proofs.invocations.Invocations.free_first.Goals as goal
 
@@ -32,3 +32,9 @@ returns-clause-same g c =
     let entry = over-entry c.args.clock c.self.inside.entries.entries c.in-Some.timer c.self.invariant.0.distinct (subst (λ ts. first_of (filter (is_over c.args.clock) ts) ≡ Some c.in-Some.timer) c.self.invariant.1.timers first) in
     let left = held-without c.args.clock c.in-Some.timer.id entry.0 c.self.inside.entries.entries entry.1 entry.2 in
     rw (c.take_out.ensures.rows, ← c.self.view_is) (ap (λ (rows : List Row). record { reject_ms = c.self.inside.reject_ms; rows = rows }) left)
+
+pub returns-clause-fewer : goal.returns-clause-fewer
+returns-clause-fewer g c = λ yes.
+    let first : first_of (filter (is_over c.args.clock) c.self.inside.timers.timers) ≡ Some c.in-Some.timer = search rules in
+    let entry = over-entry c.args.clock c.self.inside.entries.entries c.in-Some.timer c.self.invariant.0.distinct (subst (λ ts. first_of (filter (is_over c.args.clock) ts) ≡ Some c.in-Some.timer) c.self.invariant.1.timers first) in
+    rw (c.take_out.ensures.rows, ← c.self.view_is) (length-without c.args.clock c.in-Some.timer.id entry.0 c.self.inside.entries.entries entry.1)

@@ -1,9 +1,11 @@
-use Rattle.std.proofs.Common.{refl, rules, filter, ap, arith, subst, ◌≡◌, ◌≢◌, ◌∙◌, ◌<◌, List, [], length}
+use Rattle.std.proofs.Common.{refl, rules, tests, false, filter, ap, sym, arith, subst, ◌≡◌, ◌≢◌, ◌∙◌, ◌<◌, List, [], length}
 use Rattle.std.specs.Prelude.{filter_map}
 use Rattle.std.proofs.lemmas.Map.Made.{filter_same_pairs}
 use Rattle.tcap_invocation.specs.declared.invocations.timers.Timer.{Timer}
 use Rattle.tcap_invocation.specs.Lapses.{stays, told_at}
-use Rattle.tcap_invocation.specs.TimerList.{told_of_timer}
+use Rattle.tcap_invocation.specs.Order.{first_of}
+use Rattle.tcap_invocation.specs.TimerList.{told_of_timer, has_come}
+use Rattle.tcap_invocation.proofs.DueLemmas.{told_at-later, after_lapse-later}
 use Rattle.tcap_invocation.proofs.OrderLemmas.{AreInOrder-filter}
 use Rattle.tcap_invocation.proofs.TimelyLemmas.{told_at-timers, told_at-some}
 use Rattle.tcap_invocation.proofs.QueuedLemmas.{AreQueuedLast-filter}
@@ -37,3 +39,14 @@ pub returns-in_err-told-clause-memory : goal.returns-in_err-told-clause-memory
 returns-in_err-told-clause-memory g c =
     let some = subst (λ (ts : List Timer). 0 < length (filter_map (told_of_timer c.args.clock) ts)) c.self.invariant.1.timers c.in_err-told.ensures.memory in
     OnErr-of c.from_residual.result (told_at c.args.clock c.args.self.now.rows ≢ []) (rw (← c.self.view_is) (told_at-some c.args.clock c.self.inside.entries.entries some))
+
+pub returns-then-not-is_due-clause-told : goal.returns-then-not-is_due-clause-told
+returns-then-not-is_due-clause-told g c =
+    let late : has_come c.args.clock (first_of c.self.inside.timers.timers) ≡ false = search (rules, tests) in
+    rw (← c.self.view_is) (c.new.ensures.items ∙ sym (told_at-later c.args.clock c.self.inside.entries.entries (subst (λ ts. has_come c.args.clock (first_of ts) ≡ false) c.self.invariant.1.timers late)))
+
+pub returns-then-not-is_due-clause-list : goal.returns-then-not-is_due-clause-list
+returns-then-not-is_due-clause-list g c =
+    let late : has_come c.args.clock (first_of c.self.inside.timers.timers) ≡ false = search (rules, tests) in
+    let same = subst (λ (ts : List Timer). has_come c.args.clock (first_of ts) ≡ false) c.self.invariant.1.timers late in
+    rw (← c.self.view_is) (sym (after_lapse-later c.args.clock (record { reject_ms = c.self.inside.reject_ms; rows = c.self.inside.entries.entries }) same))
