@@ -1,3 +1,4 @@
+pub mod CallerLemmas
 pub mod ComponentRequestLemmas
 pub mod ControlLemmas
 pub mod FaultLemmas
@@ -5,4 +6,5 @@ pub mod ItemLemmas
 pub mod PlaceLemmas
 pub mod PortionNames
 pub mod RefusalLemmas
+pub mod SpareLemmas
 pub mod WalkLemmas

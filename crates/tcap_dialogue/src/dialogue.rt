@@ -10,9 +10,10 @@ pub(crate) mod dialogue_request_faults;
 pub(crate) mod dialogue_requests;
 pub(crate) mod ending;
 pub(crate) mod getters;
+pub(crate) mod lending;
 pub(crate) mod messages;
 pub(crate) mod request_message;
-pub(crate) mod spare;
+pub(crate) mod spares;
 pub(crate) mod timers;
 pub(crate) mod unidirectional;
 
@@ -89,6 +90,7 @@ impl<A: Allocator + Copy> Dialogue<A> {
     /// invoke identifier waits for a Reject of its result or error, and `idle_ms` how long the dialogue
     /// may stay idle, 0 for no limit: 0 to 2^62 milliseconds (Q.774, Transaction state machine; the
     /// idle limit is our own).
+    #[inline(always)]
     pub fn fresh(alloc: A, identifier: u32, reject_ms: u64, idle_ms: u64) -> Dialogue<A>
         requires reject { reject_ms ≤ moment_limit }
         requires idle { idle_ms ≤ moment_limit }

@@ -10,7 +10,7 @@ mod component_handling;
 mod dialogue;
 
 pub use dialogue::ask::Asked;
-pub use dialogue::spare::Spare;
+pub use dialogue::spares::Spares;
 pub use dialogue::unidirectional::take_uni;
 pub use dialogue::{Dialogue, Step};
 pub use tcap_address::Address;

@@ -1,7 +1,7 @@
 //! The components of a message, one by one.
 
 ghost use Rattle.std.specs.Option.{option_map};
-ghost use Rattle.std.specs.Prelude.{◌≡◌, ◌+◌, ◌*◌, ◌≤◌, ◌++◌, Option, IfSome, length, vec_len, vec_capacity};
+ghost use Rattle.std.specs.Prelude.{◌≡◌, ◌+◌, ◌*◌, ◌≤◌, ◌++◌, ◌⊎◌, Option, IfSome, OnOk, length, vec_len, vec_capacity};
 ghost use Rattle.ber_core.specs.ListReading.{items_of};
 ghost use Rattle.ber_core.specs.Place.{Slice};
 ghost use Rattle.tcap_component.specs.ComponentReading.{components_of};
@@ -18,8 +18,8 @@ use crate::component_handling::Reject;
 use crate::component_handling::in_dialogue::take_item;
 use crate::component_handling::unidirectional::take_in_unidirectional;
 use ber_core::take_short;
-use std::alloc::Allocator;
-use tcap_component::Components;
+use std::alloc::{AllocError, Allocator};
+use tcap_component::{Components, MAX_REJECT};
 use tcap_invocation::Invocations;
 use tcap_primitives::{Output, Queue};
 
@@ -32,7 +32,10 @@ const FEW: usize = 8;
 // first fault.
 #[tactic(auto, using(crate::proofs::ItemLemmas::components_within))]
 pub(crate) fn room_for(components: &[u8]) -> usize
-    ensures { length (components_of components.now) ≤ result }
+    ensures enough { length (components_of components.now) ≤ result }
+    // No more than the components up to the first fault, or than the elements, where these are at most eight.
+    ensures most { (result ≡ length (components_of components.now))
+        ⊎ ((result ≡ length (items_of components.now)) × (result ≤ 8)) }
 {
     match short_count(components) {
         Some(count) => count,
@@ -42,7 +45,7 @@ pub(crate) fn room_for(components: &[u8]) -> usize
 
 /// How many elements there are, where they are few, and each has a tag and a length of one octet.
 fn short_count(components: &[u8]) -> Option<usize>
-    ensures { IfSome result (λ count. count ≡ length (items_of components.now)) }
+    ensures { IfSome result (λ count. (count ≡ length (items_of components.now)) × (count ≤ 8)) }
 {
     let mut rest = components;
     let mut count = 0;
@@ -63,6 +66,39 @@ fn count_items(components: &[u8]) -> usize
     ensures { result ≡ length (components_of components.now) }
 {
     Components::new(components).count()
+}
+
+/// Makes room for the Rejects that answer the components of a message, for which `room_for` gave `items`.
+// There is mostly room for all elements, or for none. Where there is some, the components up to the first fault may
+// need no more: to tell that, a few are read once more.
+pub(crate) fn reserve_rejects<A: Allocator + Copy>(
+    queue: &mut Queue<A>,
+    components: &[u8],
+    items: usize,
+) -> Result<(), AllocError>
+    requires { length (components_of components.now) ≤ items }
+    ensures same { queue_view queue.new ≡ queue_view queue.old }
+    ensures octets { OnOk result (vec_len queue.new.octets + 8 * length (components_of components.now)
+        ≤ vec_capacity queue.new.octets) }
+    ensures parts { OnOk result (vec_len queue.new.parts + length (components_of components.now)
+        ≤ vec_capacity queue.new.parts) }
+{
+    if items > FEW || has_reject_room(queue, items) || is_full(queue) {
+        return queue.reserve_rejects(items);
+    }
+    queue.reserve_rejects(count_items(components))
+}
+
+/// Whether the queue has room for no Reject: neither for its octets nor for its place.
+fn is_full<A: Allocator + Copy>(queue: &Queue<A>) -> bool {
+    queue.octets.capacity() - queue.octets.len() < MAX_REJECT
+        && queue.parts.len() == queue.parts.capacity()
+}
+
+/// Whether the queue has room for so many Rejects.
+fn has_reject_room<A: Allocator + Copy>(queue: &Queue<A>, count: usize) -> bool {
+    queue.has_room(count.saturating_mul(MAX_REJECT))
+        && count <= queue.parts.capacity() - queue.parts.len()
 }
 
 /// Queues a Reject, if there is one and it fits; there is room for it.

@@ -1,6 +1,6 @@
 //! What creates a dialogue: a Begin.
 
-ghost use Rattle.std.specs.Prelude.{◌≡◌, ℕ, ◌≤◌, Option, true, option_copied, IfOk, IfSome};
+ghost use Rattle.std.specs.Prelude.{◌≡◌, ℕ, ◌≤◌, Option, true, option_copied, IfOk, IfSome, OnErr};
 ghost use Rattle.ber_core.specs.ObjectIdentifier.{IsObjectIdentifier};
 ghost use Rattle.ber_core.specs.Place.{Slice};
 ghost use Rattle.tcap_dialogue.specs.Beginning.{begun, begun_from};
@@ -12,11 +12,12 @@ ghost use Rattle.tcap_model.specs.Procedures.Refusals.{can_name};
 ghost use Rattle.tcap_model.specs.Table.TableMove.{born};
 
 use super::Dialogue;
-use super::spare::Spare;
-use crate::component_handling::message::{handle_components, room_for};
+use super::spares::Spares;
+use crate::component_handling::message::{handle_components, reserve_rejects, room_for};
 use ber_core::OutOfMemory;
 use std::alloc::Allocator;
 use tcap_address::Address;
+use tcap_component::MAX_REJECT;
 use tcap_pdu::TransId;
 use tcap_primitives::{Context, Output};
 use tcap_reception::Phase;
@@ -37,9 +38,11 @@ pub(super) fn parts_of<'m>(pdu: Option<(&'m [u8], &'m [u8])>) -> (Option<&'m [u8
 
 impl<A: Allocator + Copy> Dialogue<A> {
     /// The Begin to the dialogue, in which nothing has happened: it is told with its components, the
-    /// Rejects that answer them are queued, and the sender's address is kept. All room is found first.
+    /// Rejects that answer them are queued, and the sender's address is kept. All room is found first; that
+    /// for Rejects is left to other dialogues where there is none.
     fn begin_with<'m>(
         &mut self,
+        spares: &mut Spares<A>,
         from: &Address,
         otid: &TransId,
         context: Option<&'m [u8]>,
@@ -51,13 +54,15 @@ impl<A: Allocator + Copy> Dialogue<A> {
         requires named { can_name (option_copied context) ≡ true }
         ensures ok { IfOk result (λ outputs. begun outputs.items self.new ≡ outcome
             (begun_from clock self.old from.now otid.now (option_copied context.entry) info.now components.now)) }
+        ensures err { OnErr result (self.new ≡ self.old) }
         ensures place { (portion : Option Slice) → PartsLieIn 0x60 context.entry info.entry portion
             → IfOk result (λ outputs. AllInPlace portion components.entry outputs.items) }
     {
         let alloc = *self.queue.octets.allocator();
         let items = room_for(components);
         let mut outputs = Vec::with_capacity(alloc, items.saturating_add(1))?;
-        self.queue.reserve_rejects(items)?;
+        spares.lend_queue(&mut self.queue, items.saturating_mul(MAX_REJECT));
+        reserve_rejects(&mut self.queue, components, items)?;
         self.context = Context::of_any(alloc, context)?;
         outputs.push_reserved(Output::Begin {
             dialogue: self.identifier,
@@ -74,6 +79,9 @@ impl<A: Allocator + Copy> Dialogue<A> {
         );
         self.phase = Phase::Received(otid.copied());
         self.kept.set(from);
+        if self.queue.parts.is_empty() {
+            spares.keep_queue(&mut self.queue);
+        }
         Ok(outputs)
     }
 
@@ -105,20 +113,21 @@ impl<A: Allocator + Copy> Dialogue<A> {
         ensures place { (portion : Option Slice) → GivenIn 0x60 aarq.entry portion
             → IfOk result (λ r. AllInPlace portion components.entry r.1.items) }
     {
-        let spare = Spare::new(alloc);
-        let mut dialogue = Dialogue::fresh_in(spare, identifier, reject_ms, idle_ms);
-        let outputs = dialogue.hear_begin(from, otid, aarq, components, clock)?;
+        let mut spares = Spares::new(alloc);
+        let mut dialogue = Dialogue::fresh(alloc, identifier, reject_ms, idle_ms);
+        let outputs = dialogue.hear_begin(&mut spares, from, otid, aarq, components, clock)?;
         Ok((dialogue, outputs))
     }
 
     /// The Begin that creates the dialogue, in which nothing has happened: what is told; the arguments are those
-    /// of `accept`. Where memory is refused the dialogue is not to be used any more (Q.774, Dialogue begin).
-    // It stands where it is to stay: a dialogue is 584 octets, with the address 264 of them, and each move on
+    /// of `accept`. The Rejects that answer its components may take memory of `spares` (Q.774, Dialogue begin).
+    // It stands where it is to stay: a dialogue is 560 octets, with the address 256 of them, and each move on
     // its way into a table copied and cleared them again.
     #[tactic(auto, using(crate::proofs::PortionNames::named_given))]
     #[inline(always)]
     pub fn hear_begin<'m>(
         &mut self,
+        spares: &mut Spares<A>,
         from: &Address,
         otid: &TransId,
         aarq: Option<(&'m [u8], &'m [u8])>,
@@ -130,11 +139,12 @@ impl<A: Allocator + Copy> Dialogue<A> {
         // What is told, and the dialogue.
         ensures ok { IfOk result (λ outputs. begun outputs.items self.new ≡ outcome (begun_from clock self.old
             from.now otid.now (context_of_portion aarq.entry) (info_of_portion aarq.entry) components.now)) }
+        ensures err { OnErr result (self.new ≡ self.old) }
         // The slices that are told are those that were given, and parts of the component portion.
         ensures place { (portion : Option Slice) → GivenIn 0x60 aarq.entry portion
             → IfOk result (λ outputs. AllInPlace portion components.entry outputs.items) }
     {
         let (context, info) = parts_of(aarq);
-        self.begin_with(from, otid, context, info, components, clock)
+        self.begin_with(spares, from, otid, context, info, components, clock)
     }
 }

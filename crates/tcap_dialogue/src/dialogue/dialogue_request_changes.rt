@@ -25,7 +25,7 @@ use tcap_primitives::{Context, Control, Output};
 use tcap_reception::Phase;
 
 /// Appends a message to this address; there is room for it.
-// The address is set where it stands: it is 264 octets, and a few of them are in use.
+// The address is set where it stands: it is 256 octets, and a few of them are in use.
 #[inline(always)]
 fn push_send<'m, A: Allocator + Copy>(
     outputs: &mut Vec<Output<'m, A>, A>,

@@ -34,9 +34,10 @@ impl<A: Allocator + Copy> Dialogue<A> {
         Ok(self.take_control(control, message, clock)?)
     }
 
-    /// TC-UNI request: the queue goes out in a Unidirectional to this address, and the dialogue is over.
-    /// Faults: WrongState unless Fresh, BadOid, BadParameter, NoContext for information without a context,
-    /// NotClassFour, TooLong, OutOfMemory (Q.774, Unstructured dialogue).
+    /// TC-UNI request: the queue goes out in a Unidirectional to this address, and the dialogue is over. `context`
+    /// is the contents octets of its object identifier, not its dotted text. Faults: WrongState unless Fresh,
+    /// BadOid, BadParameter, NoContext for information without a context, NotClassFour, TooLong, OutOfMemory
+    /// (Q.774, Unstructured dialogue).
     #[inline(always)]
     pub fn uni<'m>(
         &mut self,
@@ -52,7 +53,8 @@ impl<A: Allocator + Copy> Dialogue<A> {
     }
 
     /// TC-BEGIN request: the queue goes out in a Begin to this address, which is kept, with an AARQ where
-    /// there is a context, and the dialogue is Sent. Faults: WrongState unless Fresh, BadOid,
+    /// there is a context, and the dialogue is Sent. `context` is the contents octets of its object identifier,
+    /// not its dotted text. Faults: WrongState unless Fresh, BadOid,
     /// BadParameter, NoContext for information without a context, TooLong, OutOfMemory
     /// (Q.774, Dialogue begin).
     #[inline(always)]
@@ -72,7 +74,8 @@ impl<A: Allocator + Copy> Dialogue<A> {
     }
 
     /// TC-CONTINUE request: the queue goes out in a Continue to the peer's address, and the dialogue is
-    /// Active. In Received an AARQ is answered, with the context given or else its own. Faults:
+    /// Active. In Received an AARQ is answered, with the context given or else its own; `context` is the contents
+    /// octets of its object identifier, not its dotted text. Faults:
     /// WrongState unless Received or Active, BadOid, BadParameter, NoContext for a context or information
     /// where no AARQ is answered, TooLong, OutOfMemory (Q.774, Dialogue continuation).
     #[inline(always)]
@@ -91,7 +94,8 @@ impl<A: Allocator + Copy> Dialogue<A> {
     }
 
     /// TC-END request: a basic end sends the queue in an End to the peer's address, a prearranged one nothing;
-    /// the dialogue is over. Faults: WrongState for a basic end unless Received or Active, BadOid,
+    /// the dialogue is over. `context` is the contents octets of its object identifier, not its dotted text.
+    /// Faults: WrongState for a basic end unless Received or Active, BadOid,
     /// BadParameter, NoContext for a context or information where no AARQ is answered, TooLong, OutOfMemory
     /// (Q.774, Dialogue end).
     #[inline(always)]

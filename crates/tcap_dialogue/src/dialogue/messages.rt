@@ -18,7 +18,9 @@ ghost use Rattle.tcap_pdu.specs.FrameViews.{message};
 
 use super::ending::tell_ended;
 use super::{Dialogue, Step};
-use crate::component_handling::message::{handle_components, handle_in_end, room_for};
+use crate::component_handling::message::{
+    handle_components, handle_in_end, reserve_rejects, room_for,
+};
 use ber_core::OutOfMemory;
 use std::alloc::Allocator;
 use tcap_address::Address;
@@ -63,7 +65,7 @@ impl<A: Allocator + Copy> Dialogue<A> {
             *self.queue.octets.allocator(),
             items.saturating_add(1),
         )?;
-        self.queue.reserve_rejects(items)?;
+        reserve_rejects(&mut self.queue, components, items)?;
         outputs.push_reserved(Output::Continue {
             dialogue: self.identifier,
             context,

@@ -10,8 +10,8 @@ use Rattle.tcap_model.specs.Procedures.Standing.{Standing}
 use Rattle.tcap_model.specs.Procedures.ComponentHandling.{SentInvocation}
 
 -- A dialogue: its identifier, state, application context and queue; its invocations by rising number,
--- with how long an identifier waits for a Reject; its idle limit, 0 for none, and the clock when it was
--- last activity; the address of its peer, empty before there is one (own).
+-- with how long an identifier waits for a Reject; its idle limit, 0 for none, and the clock at
+-- its last activity; the address of its peer, empty before there is one (own).
 pub record Dialogue : Type 0 where
   pub standing : Standing
   pub invocations : InvocationList
