@@ -10,7 +10,7 @@ use Rattle.tcap_primitives.specs.FaultViews.{fault_view}
 use Rattle.tcap_dialogue.specs.StepViews.{Outcome, asked, outcome}
 use Rattle.tcap_engine.specs.StepForm.{Moves, EngineRefuses}
 use Rattle.tcap_engine.specs.RequestInTable.{IsLeft, asked_answer, AnswersInTable, EntriesMove, EntriesRefuse}
-use Rattle.tcap_engine.specs.DialogueEntries.{TableEntry, AreWithin, IsSound, dialogues_of, entries_with}
+use Rattle.tcap_engine.specs.DialogueEntries.{TableEntry, AreWithin, IsSound, dialogues_of, entries_with, IsWithin}
 use Rattle.tcap_engine.specs.declared.limits.Limits.{Limits}
 use Rattle.tcap_engine.proofs.KeptLemmas.{IsKept, kept-requested}
 use Rattle.tcap_engine.proofs.PlaceLemmas.{AreKept, dialogues-with, sound-with, found-within}
@@ -44,12 +44,12 @@ kept-moved : (reject_ms clock number : ℕ) (x : Dialogue) (r : Request) → All
 unfolding table_move
 kept-moved reject_ms clock number x r below wait = kept-requested reject_ms (asked clock number) x r (due_on (situation (asked clock number) x r) r) (wait, below)
 
-pub found-below : (d reject_ms next : ℕ) (ps : List TableEntry) → AreWithin reject_ms next ps → IfSome (lookup (nat_eq d) ps) (λ x. AllBelow next x.invocations.rows)
-found-below d reject_ms next ps h = go (lookup (nat_eq d) ps) refl
+pub found-fit : (d reject_ms next : ℕ) (ps : List TableEntry) → AreWithin reject_ms next ps → IfSome (lookup (nat_eq d) ps) (λ x. IsWithin reject_ms next x)
+found-fit d reject_ms next ps h = go (lookup (nat_eq d) ps) refl
   where
-    go : (o : Option Dialogue) → lookup (nat_eq d) ps ≡ o → IfSome o (λ x. AllBelow next x.invocations.rows)
+    go : (o : Option Dialogue) → lookup (nat_eq d) ps ≡ o → IfSome o (λ x. IsWithin reject_ms next x)
     go None e = tt
-    go (Some x) e = (found-within d reject_ms next x ps e h).1
+    go (Some x) e = found-within d reject_ms next x ps e h
 
 move-of : (w : World) (d : ℕ) (r : Request) (o : Option Dialogue) → dialogue_in d w.dialogues ≡ o → engine_move w (Event.on_dialogue d r) ≡ requested_in w d r o
 unfolding engine_move

@@ -13,7 +13,7 @@ use ber_core::OutOfMemory;
 use std::alloc::{Allocator, Global};
 use std::fmt;
 use std::marker::Model;
-use tcap_dialogue::{Dialogue, Spare};
+use tcap_dialogue::{Dialogue, Spares};
 use timed_table::Table;
 
 /// The dialogues by their identifiers, in order of creation; beside each its next timer.
@@ -23,11 +23,8 @@ use timed_table::Table;
 pub(crate) struct Dialogues<A: Allocator + Copy = Global> {
     pub(crate) rows: Table<Dialogue<A>, A>,
     /// What dialogues that are over left, for those that come.
-    pub(crate) spares: Vec<Spare<A>, A>,
+    pub(crate) spares: Spares<A>,
 }
-
-/// So many dialogues that are over leave their memory to the next ones; the memory of more is given back.
-const MOST_SPARES: usize = 16;
 
 /// How much room the answer to a moment needs.
 #[derive(Clone, Copy)]
@@ -58,7 +55,7 @@ impl<A: Allocator + Copy> Dialogues<A> {
     {
         Dialogues {
             rows: Table::new(alloc),
-            spares: Vec::new(alloc),
+            spares: Spares::new(alloc),
         }
     }
 
@@ -93,25 +90,10 @@ impl<A: Allocator + Copy> Dialogues<A> {
         ensures ok { OnOk result (self.new ≡ self.old ++ (identifier, dialogue) ∷ []) }
         ensures err { OnErr result (self.new ≡ self.old) }
     {
-        make_room(&mut self.spares)?;
         let timer = dialogue.next_timer();
         match self.rows.insert(identifier, dialogue, timer) {
             Ok(()) => Ok(()),
             Err(_) => Err(OutOfMemory),
-        }
-    }
-
-    /// What a dialogue that is over left, or nothing where there is none or it isn't wanted: a dialogue that hears
-    /// no component may never come to hold any. It takes no memory.
-    pub(crate) fn take_spare(&mut self, is_wanted: bool) -> Spare<A>
-        ensures { self.new ≡ self.old }
-    {
-        if !is_wanted {
-            return Spare::new(self.allocator());
-        }
-        match self.spares.pop() {
-            Some(spare) => spare,
-            None => Spare::new(self.allocator()),
         }
     }
 
@@ -160,27 +142,16 @@ fn is_idle<A: Allocator + Copy>(dialogue: &Dialogue<A>, now: u64) -> bool
     dialogue.idle_at().is_some_and(|time| time <= now)
 }
 
-/// Makes the room for what dialogues leave, once.
-fn make_room<A: Allocator + Copy>(spares: &mut Vec<Spare<A>, A>) -> Result<(), OutOfMemory> {
-    if spares.capacity() == 0 {
-        spares.reserve(MOST_SPARES)?;
-    }
-    Ok(())
-}
-
-/// Keeps what a dialogue leaves that is over, where there is room for it.
+/// Keeps what a dialogue leaves that is over.
 pub(crate) fn keep_spare<A: Allocator + Copy>(
-    spares: &mut Vec<Spare<A>, A>,
+    spares: &mut Spares<A>,
     dialogue: &mut Dialogue<A>,
     is_over: bool,
 )
     ensures { is_over ≡ false → dialogue.new ≡ dialogue.old }
 {
-    if is_over && spares.len() < spares.capacity() {
-        let spare = dialogue.take_spare();
-        if spare.is_small() {
-            spares.push_reserved(spare);
-        }
+    if is_over {
+        dialogue.leave_memory(spares);
     }
 }
 

@@ -48,9 +48,8 @@ impl<A: Allocator + Copy> Engine<A> {
             return Err(fault);
         }
         let identifier = self.next_dialogue;
-        let spare = self.table.take_spare(true);
-        let limits = self.limits;
-        self.keep(Dialogue::fresh_in(spare, identifier, limits.reject_ms, limits.idle_ms))?;
+        let (alloc, limits) = (self.table.allocator(), self.limits);
+        self.keep(Dialogue::fresh(alloc, identifier, limits.reject_ms, limits.idle_ms))?;
         Ok(identifier)
     }
 
@@ -73,9 +72,8 @@ impl<A: Allocator + Copy> Engine<A> {
     {
         let identifier = self.next_dialogue;
         let following = next_identifier(identifier);
-        let spare = self.table.take_spare(!components.is_empty());
-        let limits = self.limits;
-        let fresh = Dialogue::fresh_in(spare, identifier, limits.reject_ms, limits.idle_ms);
+        let (alloc, limits) = (self.table.allocator(), self.limits);
+        let fresh = Dialogue::fresh(alloc, identifier, limits.reject_ms, limits.idle_ms);
         let (table, clock) = (&mut self.table, self.clock);
         let outputs = accept_in(
             table, identifier, fresh, clock, from, origin, request, components,
@@ -85,7 +83,7 @@ impl<A: Allocator + Copy> Engine<A> {
     }
 
     /// Takes in a dialogue that is created under the next identifier, which is drawn then.
-    // A dialogue is 584 octets: built in place, it isn't moved from call to call on its way into the table.
+    // A dialogue is 560 octets: built in place, it isn't moved from call to call on its way into the table.
     #[inline(always)]
     fn keep(&mut self, dialogue: Dialogue<A>) -> Result<(), OutOfMemory>
         requires free { birth_fault_in self.old ≡ None }
@@ -138,7 +136,8 @@ fn begin_in<'m, A: Allocator + Copy>(
     let Some(dialogue) = table.rows.get_mut(identifier) else {
         return Ok(Vec::new(alloc));
     };
-    let outputs = dialogue.hear_begin(from, origin, request, components, clock);
+    let spares = &mut table.spares;
+    let outputs = dialogue.hear_begin(spares, from, origin, request, components, clock);
     let timer = dialogue.next_timer();
     store_or_remove(&mut table.rows, identifier, outputs.is_err(), timer);
     outputs

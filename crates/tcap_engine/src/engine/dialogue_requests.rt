@@ -18,6 +18,7 @@ use tcap_dialogue::{AbortWhy, Address, Ending, Fault, Output, Request};
 /// information: EXTERNALs one after the other, empty where there is none.
 impl<A: Allocator + Copy> Engine<A> {
     /// TC-UNI request: the queue goes out in a Unidirectional to this address, and the dialogue is over.
+    /// `context` is the contents octets of its object identifier, not its dotted text.
     /// Faults: `UnknownDialogue`, `WrongState` unless Fresh, `BadOid`, `BadParameter`, `NoContext` for
     /// information without a context, `NotClassFour`, `TooLong`, `OutOfMemory`
     /// (Q.774, Unstructured dialogue).
@@ -39,7 +40,8 @@ impl<A: Allocator + Copy> Engine<A> {
     }
 
     /// TC-BEGIN request: the queue goes out in a Begin to this address, which the dialogue keeps, with an
-    /// AARQ where there is a context, and the dialogue is Sent. Faults: `UnknownDialogue`, `WrongState`
+    /// AARQ where there is a context, and the dialogue is Sent. `context` is the contents octets of its object
+    /// identifier, not its dotted text. Faults: `UnknownDialogue`, `WrongState`
     /// unless Fresh, `BadOid`, `BadParameter`, `NoContext` for information without a context, `TooLong`,
     /// `OutOfMemory` (Q.774, Dialogue begin).
     pub fn begin<'m>(
@@ -60,7 +62,8 @@ impl<A: Allocator + Copy> Engine<A> {
     }
 
     /// TC-CONTINUE request: the queue goes out in a Continue to the peer's address. In Received an AARQ is
-    /// answered, with the context given or else its own. Faults: `UnknownDialogue`, `WrongState` unless
+    /// answered, with the context given or else its own; `context` is the contents octets of its object identifier,
+    /// not its dotted text. Faults: `UnknownDialogue`, `WrongState` unless
     /// Received or Active, `BadOid`, `BadParameter`, `NoContext` for a context or information where no AARQ
     /// is answered, `TooLong`, `OutOfMemory` (Q.774, Dialogue continuation).
     pub fn go_on<'m>(
@@ -80,7 +83,8 @@ impl<A: Allocator + Copy> Engine<A> {
     }
 
     /// TC-END request: a basic end sends the queue in an End to the peer's address, a prearranged one nothing;
-    /// the dialogue is over, and each invocation that is left is told as ended. Faults: `UnknownDialogue`,
+    /// the dialogue is over, and each invocation that is left is told as ended. `context` is the contents octets
+    /// of its object identifier, not its dotted text. Faults: `UnknownDialogue`,
     /// `WrongState`, `BadOid`, `BadParameter`, `NoContext`, `TooLong`, `OutOfMemory` (Q.774, Dialogue end).
     pub fn finish<'m>(
         &mut self,

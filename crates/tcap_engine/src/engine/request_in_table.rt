@@ -5,6 +5,7 @@ ghost use Rattle.std.specs.Map.{lookup};
 ghost use Rattle.tcap_dialogue.specs.AskViews.{Asks};
 ghost use Rattle.tcap_primitives.specs.RequestViews.{request_view};
 ghost use Rattle.tcap_dialogue.specs.StepViews.{asked, outcome};
+ghost use Rattle.tcap_engine.specs.DialogueEntries.{IsWithin};
 ghost use Rattle.tcap_engine.specs.RequestInTable.{AnswersInTable, ends_dialogue};
 ghost use Rattle.tcap_invocation.specs.Invocations.{AllBelow};
 ghost use Rattle.tcap_invocation.specs.Stage.{moment_limit};
@@ -12,7 +13,7 @@ ghost use Rattle.tcap_model.specs.Table.TableMove.{DialogueEvent, table_move};
 
 use crate::dialogues::{Dialogues, keep_spare, store_or_remove};
 use std::alloc::Allocator;
-use tcap_dialogue::{Asked, Dialogue, Fault, Request};
+use tcap_dialogue::{Asked, Dialogue, Fault, Request, Spares};
 
 /// Whether the dialogue is over.
 #[inline(always)]
@@ -29,10 +30,14 @@ fn ends_dialogue<A: Allocator + Copy>(asked: &Asked<'_, A>) -> bool
 #[inline(always)]
 fn ask_one<'m, A: Allocator + Copy>(
     dialogue: &mut Dialogue<A>,
+    spares: &mut Spares<A>,
+    reject_ms: u64,
     clock: u64,
     number: u64,
     request: &Request<'_>,
 ) -> Result<Asked<'m, A>, Fault>
+    requires wait { dialogue.old.invocations.reject_ms ≡ reject_ms }
+    requires limited { reject_ms ≤ moment_limit }
     requires clock { clock ≤ moment_limit }
     requires number { AllBelow number dialogue.old.invocations.rows }
     ensures answer { Asks result (outcome (table_move (asked clock number) dialogue.old
@@ -52,7 +57,7 @@ fn ask_one<'m, A: Allocator + Copy>(
             return Err(fault.unwrap_or(Fault::NumbersSpent));
         }
     }
-    dialogue.ask(clock, number, request)
+    dialogue.ask_with(spares, reject_ms, clock, number, request)
 }
 
 /// A request on the dialogue of an identifier, which is taken out where it is over.
@@ -60,19 +65,22 @@ fn ask_one<'m, A: Allocator + Copy>(
 pub(super) fn ask_in<'m, A: Allocator + Copy>(
     table: &mut Dialogues<A>,
     identifier: u32,
+    reject_ms: u64,
     clock: u64,
     number: u64,
     request: &Request<'_>,
 ) -> Result<Asked<'m, A>, Fault>
+    requires limited { reject_ms ≤ moment_limit }
     requires clock { clock ≤ moment_limit }
-    requires number { IfSome (lookup (nat_eq identifier) table.old) (λ x. AllBelow number x.invocations.rows) }
+    requires within { IfSome (lookup (nat_eq identifier) table.old) (IsWithin reject_ms number) }
     ensures { AnswersInTable result (λ x. outcome (table_move (asked clock number) x (DialogueEvent.request
         (request_view request.now)))) identifier (lookup (nat_eq identifier) table.old) table.old table.new }
 {
     let Some(dialogue) = table.rows.get_mut(identifier) else {
         return Err(Fault::UnknownDialogue);
     };
-    let asked = ask_one(dialogue, clock, number, request)?;
+    let spares = &mut table.spares;
+    let asked = ask_one(dialogue, spares, reject_ms, clock, number, request)?;
     let is_over = ends_dialogue(&asked);
     keep_spare(&mut table.spares, dialogue, is_over);
     let timer = dialogue.next_timer();

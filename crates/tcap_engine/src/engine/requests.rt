@@ -67,6 +67,7 @@ impl<A: Allocator + Copy> Engine<A> {
         let asked = ask_in(
             &mut self.table,
             dialogue,
+            self.limits.reject_ms,
             self.clock,
             self.next_number,
             request,

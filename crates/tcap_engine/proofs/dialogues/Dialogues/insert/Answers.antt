@@ -8,8 +8,8 @@ use Rattle.tcap_engine.proofs.dialogues.Dialogues.insert.Goals as goal
 pub insert-requires : goal.insert-requires
 insert-requires g c = below-drawn c.args.identifier c.self.inside.rows (rw (← c.self.view_is) at c.requires)
 
-pub invariant_of-self-2 : goal.invariant_of-self-2
-invariant_of-self-2 g c = elim c.match-insert.branch [
+pub invariant_of-self : goal.invariant_of-self
+invariant_of-self g c = elim c.match-insert.branch [
   | in-Ok w ↦ rw w.in-Ok.ensures.ok (timed-push c.args.identifier c.args.dialogue c.next_timer-timer.result c.self.inside.rows c.next_timer-timer.ensures c.self.invariant)
   | in-Err w ↦ rw w.in-Err.ensures.err c.self.invariant
 ]

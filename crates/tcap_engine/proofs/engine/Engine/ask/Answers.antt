@@ -2,12 +2,12 @@ use Rattle.std.proofs.Common.{rules, arith, Fits, w64, ◌≡◌, Err, ◌≤◌
 use Rattle.tcap_primitives.specs.RequestViews.{request_view}
 use Rattle.tcap_dialogue.specs.StepViews.{asked}
 use Rattle.tcap_model.specs.Words.Identifiers.{last_number}
-use Rattle.tcap_engine.proofs.AskedEngine.{found-below, asked-ok, asked-err, sound-ok, sound-err, left-ok}
+use Rattle.tcap_engine.proofs.AskedEngine.{found-fit, asked-ok, asked-err, sound-ok, sound-err, left-ok}
 use Rattle.tcap_engine.proofs.RefusedEngine.{table-still}
 use Rattle.tcap_engine.proofs.engine.Engine.ask.Goals as goal
 
-pub ask_in-requires-clause-number : goal.ask_in-requires-clause-number
-ask_in-requires-clause-number g c = found-below c.args.dialogue c.self.inside.limits.reject_ms c.self.inside.next_number c.self.inside.table c.self.invariant.within
+pub ask_in-requires-clause-within : goal.ask_in-requires-clause-within
+ask_in-requires-clause-within g c = found-fit c.args.dialogue c.self.inside.limits.reject_ms c.self.inside.next_number c.self.inside.table c.self.invariant.within
 
 pub invariant_of-self : goal.invariant_of-self
 invariant_of-self g c =

@@ -6,7 +6,7 @@ use Rattle.tcap_model.specs.Table.TableMove.{DialogueEvent, table_move}
 use Rattle.tcap_primitives.specs.FaultViews.{fault_view}
 use Rattle.tcap_engine.specs.DialogueEntries.{TableEntry}
 use Rattle.tcap_engine.proofs.AskLemmas.{refused-placed, settled-spared}
-use Rattle.tcap_engine.proofs.RefusedEngine.{refused-same}
+use Rattle.tcap_dialogue.proofs.CallerLemmas.{refused-same}
 use Rattle.tcap_engine.proofs.TimedLemmas.{timed-still, timed-settled}
 use Rattle.timed_table.specs.Row.{entries_of}
 use Rattle.tcap_engine.proofs.engine.request_in_table.ask_in.Goals as goal
