@@ -1,6 +1,6 @@
 //! The addresses of the two engines of a play.
 
-ghost use Rattle.std.specs.Prelude.{◌≡◌, [], ◌∷◌};
+ghost use Rattle.std.specs.Prelude.{◌≡◌};
 ghost use Rattle.tcap_play.specs.Sides.{Engine as Which, address_of, far};
 ghost use Rattle.tcap_play.specs.SideView.{side_view};
 
@@ -16,22 +16,22 @@ pub(crate) struct Addresses {
     ghost of_b: { b ≡ address_of Which.b },
 }
 
-/// The address of this octet alone.
-fn address_of_octet(octet: u8) -> Address
-    ensures { result ≡ octet ∷ [] }
+/// The address of a side.
+fn address_of(side: Side) -> Address
+    ensures { result ≡ address_of (side_view side) }
 {
-    match Address::new(&[octet]) {
+    match Address::new(side.octets()) {
         Some(address) => address,
         None => unreachable!(),
     }
 }
 
 impl Addresses {
-    /// The addresses of both: the octet 41 of A, 42 of B.
+    /// The addresses of both.
     pub(crate) fn new() -> Addresses {
         Addresses {
-            a: address_of_octet(0x41),
-            b: address_of_octet(0x42),
+            a: address_of(Side::A),
+            b: address_of(Side::B),
         }
     }
 

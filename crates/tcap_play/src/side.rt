@@ -10,7 +10,7 @@ pub enum Side {
 }
 
 impl Side {
-    ghost use Rattle.std.specs.Prelude.{◌≡◌};
+    ghost use Rattle.std.specs.Prelude.{◌≡◌, length};
     ghost use Rattle.tcap_play.specs.OutputText.{engine_words};
     ghost use Rattle.tcap_play.specs.SideView.{side_view};
     ghost use Rattle.tcap_play.specs.Sides.{address_of, far};
@@ -35,9 +35,10 @@ impl Side {
         }
     }
 
-    /// The octets of its address.
+    /// The octets of its address: one, 41 of A and 42 of B.
     pub(crate) fn octets(self) -> &'static [u8]
-        ensures { result.now ≡ address_of (side_view self) }
+        ensures value { result.now ≡ address_of (side_view self) }
+        ensures len { length result.now ≡ 1 }
     {
         match self {
             Side::A => b"\x41",

@@ -7,7 +7,20 @@ ghost use Rattle.tcap_words.specs.Spelling.{spelled_by};
 use ber_core::OutOfMemory;
 use std::alloc::{Allocator, Global};
 use tcap_engine::Address;
-use tcap_text::decode_hex;
+use tcap_text::{decode_hex, is_hex};
+
+/// The longest word that is decoded at once, in characters.
+const SHORT: usize = 256;
+
+/// The octets that a word spells. A long one is looked through before memory is taken for them.
+fn octets_spelled<A: Allocator>(alloc: A, text: &[u8]) -> Result<Option<Vec<u8, A>>, OutOfMemory>
+    ensures { IfOk result (λ octets. option_map (λ o. o.items) octets ≡ spelled_by text.now) }
+{
+    if text.len() > SHORT && !is_hex(text) {
+        return Ok(None);
+    }
+    decode_hex(alloc, text)
+}
 
 /// A word of a line that may stand for octets, with those that it spells where it is hexadecimal.
 #[derive(Drop)]
@@ -22,7 +35,7 @@ impl<'s, A: Allocator> Word<'s, A> {
     pub(crate) fn new(alloc: A, text: &'s [u8]) -> Result<Word<'s, A>, OutOfMemory>
         ensures { IfOk result (λ word. word.text.now ≡ text.entry.now) }
     {
-        let octets = decode_hex(alloc, text)?;
+        let octets = octets_spelled(alloc, text)?;
         Ok(Word { text, octets })
     }
 

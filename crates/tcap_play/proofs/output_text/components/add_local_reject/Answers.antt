@@ -9,4 +9,4 @@ pub returns : goal.returns
 returns g c =
     after_five c.add_problem.result (string_bytes c.args.text.now) (string_bytes c.add_unnumbered.new.text) (string_bytes c.push_str.new.self) (string_bytes c.add_problem.new.text)
     (codes "localreject") (codes " ") (place_words c.args.dialogue) (codes " id ") (identifier_words c.args.id) (codes " ") (problem_words (problem_parts c.args.problem))
-    c.in_ok-add_unnumbered.ensures c.in_ok-push_str.ensures.bytes c.add_problem.ensures
+    c.in_ok-add_unnumbered.ensures c.in_ok-push_str.ensures.bytes c.add_problem.ensures.ok
