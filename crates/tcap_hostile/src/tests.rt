@@ -1,6 +1,7 @@
 //! What memory and input do that are no friends.
 
 mod addresses;
+mod alternatives;
 mod answers;
 mod codec;
 mod damage;
@@ -10,6 +11,7 @@ mod examples;
 mod growths;
 mod invocations;
 mod played;
+mod room;
 mod runs;
 mod spares;
 mod subject;

@@ -11,7 +11,7 @@ use tcap_pdu::{DialoguePdu, PduFault, read_frame, write_dialogue, write_frame};
 use tcap_text::{Shown, canon_text, check_text, show_text};
 
 /// Adds octets: in hexadecimal, or how many they are where they are more than 200.
-fn add_octets(alloc: Global, told: &mut String, octets: &[u8]) -> Option<Told> {
+pub(super) fn add_octets(alloc: Global, told: &mut String, octets: &[u8]) -> Option<Told> {
     let length = octets.len();
     if length > 200 {
         write!(told, "  {length} octets\n").ok()?;
@@ -194,7 +194,7 @@ fn write<A: Allocator + Copy>(
 }
 
 /// What is appended: `head` the head of an element 6C of 200 octets, `element` an element 04 of the octet AA,
-/// `int N` an integer 02.
+/// `longhead` and `longelement` those of the tags 7F22 and 5F22, the head of 300 octets, `int N` an integer 02.
 fn append<A: Allocator + Copy>(
     alloc: Global,
     heap: A,
@@ -205,6 +205,8 @@ fn append<A: Allocator + Copy>(
     let written = match text(words, 0) {
         "head" => write_head(&mut out, &[0x6c], 200),
         "element" => write_element(&mut out, &[0x04], &[0xaa]),
+        "longhead" => write_head(&mut out, &[0x7f, 0x22], 300),
+        "longelement" => write_element(&mut out, &[0x5f, 0x22], &[0xaa]),
         "int" => write_int(&mut out, 0x02, number(words, 1)?),
         _ => return None,
     };
@@ -223,7 +225,7 @@ pub(super) fn tell<A: Allocator + Copy>(
         "show" => add_text(told, show_text(heap, bytes)),
         "check" => add_text(told, check_text(heap, bytes)),
         "canon" => add_text(told, canon_text(heap, bytes)),
-        "head" | "element" | "int" => append(alloc, heap, words, told),
+        "head" | "element" | "longhead" | "longelement" | "int" => append(alloc, heap, words, told),
         _ => write(alloc, heap, words, told),
     }
 }

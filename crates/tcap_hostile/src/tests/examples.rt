@@ -6,6 +6,7 @@
 //! `unito` names another as `beginto` does.
 
 mod addresses;
+mod alternatives;
 mod codec;
 mod dialogues;
 mod idle;
@@ -14,6 +15,7 @@ mod outcomes;
 mod requests;
 
 pub(super) use addresses::ADDRESSES;
+pub(super) use alternatives::ALTERNATIVES;
 pub(super) use codec::{CODEC, FEEDS};
 pub(super) use dialogues::{DIALOGUES, INVOCATIONS};
 pub(super) use idle::IDLE;

@@ -2,7 +2,8 @@
 //! refused; those of an engine by `run` too.
 
 use super::examples::{
-    ADDRESSES, CALLS, CODEC, DIALOGUES, FEEDS, IDLE, INVOCATIONS, MESSAGES, OUTCOMES, REQUESTS,
+    ADDRESSES, ALTERNATIVES, CALLS, CODEC, DIALOGUES, FEEDS, IDLE, INVOCATIONS, MESSAGES, OUTCOMES,
+    REQUESTS,
 };
 use super::played::{Player, Refusal, growths, play};
 use super::runs::run_growths;
@@ -98,10 +99,11 @@ fn examples_with_each_growth_refused(rt: HostRuntime) -> Result<(), Fail> {
         INVOCATIONS,
         FEEDS,
         CODEC,
+        ALTERNATIVES,
     ];
     let Total { examples, growths } = total_of(alloc, Way::Told, texts.as_slice())?;
     assert!(rt;
-        examples == 90 && growths > 1_100,
+        examples == 94 && growths > 1_100,
         "{examples} examples, {growths} growths"
     );
     Ok(())

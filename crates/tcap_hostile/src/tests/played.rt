@@ -2,7 +2,7 @@
 //! it, two spaces in. What comes out is the example again, if the subject answers as it says.
 
 use super::subject::{Heap, Subject, Told};
-use super::words::{Word, words_of};
+use super::words::{Word, text, words_of};
 use std::alloc::Global;
 
 /// Which growths are refused.
@@ -50,10 +50,51 @@ fn is_printed(alloc: Global, subject: &Subject<'_>, before: &str) -> Option<bool
     Some(after.as_str() == before)
 }
 
+/// The growths of an example that are refused with no answer, by their numbers.
+#[derive(Clone, Copy, Default)]
+pub(super) struct Unanswered {
+    first: u64,
+    count: u64,
+}
+
+impl Unanswered {
+    /// One more, of this number; nothing where it doesn't follow the one before.
+    pub(super) fn add(&mut self, number: u64) -> Option<()> {
+        if self.count == 0 {
+            self.first = number;
+        }
+        let follows = number == self.first.saturating_add(self.count);
+        self.count = self.count.saturating_add(1);
+        follows.then_some(())
+    }
+
+    /// Whether they are none or two: of the places in which an engine keeps queues and lists of invocations that
+    /// are left.
+    pub(super) fn are_places(self) -> bool {
+        matches!(self.count, 0 | 2)
+    }
+}
+
+/// Whether a growth may be refused here with no answer: an engine makes places for the memory that a dialogue leaves
+/// which this call ends. The first growth of a call is of its outputs or its message, but in a prearranged end.
+fn may_leave_memory(player: Player<'_>, subject: &Subject<'_>, words: &[Word<'_>]) -> bool {
+    if !matches!(subject, Subject::Engine(_)) {
+        return false;
+    }
+    let word = text(words, 0);
+    match player.refusal {
+        Refusal::AsTold => matches!(
+            word,
+            "raw" | "rawfrom" | "uni" | "unito" | "end" | "prearranged" | "abort"
+        ),
+        Refusal::FirstOfEachCall => word == "prearranged",
+    }
+}
+
 /// Tells a line to a subject that printed this before, and again where memory was refused, and counts how often
 /// that was: once at most. `OutOfMemory` is answered where a growth was refused in this call, and only there, it
 /// leaves the subject as it was, and it comes in place of an answer that may take memory. So where the first growth
-/// of each call is refused, an answer that is no `OutOfMemory` took none.
+/// of each call is refused, an answer that is no `OutOfMemory` took none, but for places of what is left.
 fn tell_again<'h>(
     player: Player<'h>,
     subject: &mut Subject<'h>,
@@ -63,7 +104,7 @@ fn tell_again<'h>(
 ) -> Option<u64> {
     let (taken, was_refused) = tell_once(player, subject, words, told)?;
     if !matches!(taken, Told::NoMemory) {
-        return (!was_refused).then_some(0);
+        return (!was_refused || may_leave_memory(player, subject, words)).then_some(0);
     }
     let is_same = is_printed(player.alloc, subject, before)?;
     let again = subject.tell(player.alloc, player.heap, words, told)?;
@@ -144,23 +185,26 @@ pub(super) fn play(player: Player<'_>, example: &str) -> Option<u64> {
     }
 }
 
-/// How many growths an example has, where each of them that is refused in turn is answered by want of
-/// memory, once, and leaves all other answers those of the example.
+/// How many growths an example has, where each of them that is refused in turn is answered by want of memory, once,
+/// but for those of places, and leaves all other answers those of the example.
 pub(super) fn growths(alloc: Global, heap: Heap<'_>, example: &str) -> Option<u64> {
     let player = Player {
         alloc,
         heap,
         refusal: Refusal::AsTold,
     };
+    let mut unanswered = Unanswered::default();
     for number in 1..1_000u64 {
         heap.refuse(number);
         let refusals = play(player, example)?;
         if heap.is_armed() {
             heap.refuse(0);
-            return (refusals == 0).then_some(number - 1);
+            return (refusals == 0 && unanswered.are_places()).then_some(number - 1);
         }
-        if refusals != 1 {
-            return None;
+        match refusals {
+            0 => unanswered.add(number)?,
+            1 => {}
+            _ => return None,
         }
     }
     None

@@ -2,6 +2,7 @@
 
 use super::answers::{add_line, add_numbered, add_outputs};
 use super::engine::new_engine;
+use super::played::Unanswered;
 use super::subject::Heap;
 use super::words::{Word, event_of, peer, words_of};
 use std::alloc::Global;
@@ -159,8 +160,8 @@ fn run_new(
     run_answered(alloc, heap, &mut engine, events, wanted)
 }
 
-/// How many growths the run of these events has, where each of them that is refused in turn ends the first run, and
-/// all answers are those that are wanted.
+/// How many growths the run of these events has, where each of them that is refused in turn ends the first run, but
+/// for those of places, and all answers are those that are wanted.
 fn growths_of(
     alloc: Global,
     heap: Heap<'_>,
@@ -168,15 +169,18 @@ fn growths_of(
     events: &[Event<'_>],
     wanted: &str,
 ) -> Option<u64> {
+    let mut unanswered = Unanswered::default();
     for number in 1..1_000u64 {
         heap.refuse(number);
         let refusals = run_new(alloc, heap, kind, events, wanted)?;
         if heap.is_armed() {
             heap.refuse(0);
-            return (refusals == 0).then_some(number - 1);
+            return (refusals == 0 && unanswered.are_places()).then_some(number - 1);
         }
-        if refusals != 1 {
-            return None;
+        match refusals {
+            0 => unanswered.add(number)?,
+            1 => {}
+            _ => return None,
         }
     }
     None

@@ -1,18 +1,20 @@
-//! What a dialogue that is over leaves to the next one: its memory where it was small, and else none.
+//! What dialogues that are over leave to those that come: their memory where it was small, to the first component
+//! that it fits.
 
 use super::subject::Heap;
 use refusing::Refusing;
 use std::test::Fail;
 use tcap_component::Code;
-use tcap_engine::{Ending, Engine, Limits};
+use tcap_engine::{Address, Ending, Engine, Limits};
 use tcap_invocation::Class;
 
-/// So many Invokes, and how many octets the parameter of each has behind its head.
+/// So many Invokes, and how many octets the parameter of each has behind its head of three octets: an Invoke has 8
+/// more, and one of 128 or more 9.
 #[derive(Clone, Copy)]
 struct Load(i8, u8);
 
-/// Creates a dialogue and queues this load in it: its identifier, nothing where a request is refused.
-fn queued(engine: &mut Engine<Heap<'_>>, load: Load) -> Option<u32> {
+/// Queues this load in a dialogue, with identifiers from this one on.
+fn queue_from(engine: &mut Engine<Heap<'_>>, dialogue: u32, first: i8, load: Load) -> Option<()> {
     let Load(invokes, octets) = load;
     let mut parameter = [0; 258];
     parameter[0] = 0x04;
@@ -20,61 +22,252 @@ fn queued(engine: &mut Engine<Heap<'_>>, load: Load) -> Option<u32> {
     parameter[2] = octets;
     let parameter = &parameter[..3 + octets as usize];
     let code = Code::Local(1);
-    let dialogue = engine.new_dialogue().ok()?;
-    for id in 0..invokes {
+    for place in 0..invokes {
+        let id = first.saturating_add(place);
         engine
             .invoke(dialogue, id, Class::One, code, Some(parameter), None, 1000)
             .ok()?;
     }
+    Some(())
+}
+
+/// Creates a dialogue and queues this load in it: its identifier, nothing where a request is refused.
+fn queued(engine: &mut Engine<Heap<'_>>, load: Load) -> Option<u32> {
+    let dialogue = engine.new_dialogue().ok()?;
+    queue_from(engine, dialogue, 0, load)?;
     Some(dialogue)
 }
 
-/// How many growths a dialogue with one small Invoke has, where one with this load was over before it.
-fn growths_after(heap: Heap<'_>, before: Load) -> Option<u64> {
+/// Ends a dialogue as both sides arranged before.
+fn end(engine: &mut Engine<Heap<'_>>, dialogue: u32) -> Option<()> {
+    engine
+        .finish(dialogue, Ending::Prearranged, None, &[])
+        .ok()?;
+    Some(())
+}
+
+/// What was before the growths that are counted, and what they are counted in.
+#[derive(Clone, Copy)]
+enum Scene {
+    /// A dialogue of this load was over; one of that load comes.
+    After(Load, Load),
+    /// One sent four Invokes five times, and was over; one of this load comes.
+    AfterMany(Load),
+    /// As `After`, and a dialogue stands in which nothing was asked.
+    BesideOne(Load, Load),
+    /// As `After`, and an Invoke was refused.
+    AfterRefusal(Load, Load),
+    /// As `After`, and a Begin came whose component is rejected.
+    AfterReject(Load, Load),
+    /// Twenty of this load were over; twenty more come.
+    Twenty(Load),
+    /// One of this load was over, and a Begin of one Invoke came; another comes.
+    Begin(Load),
+    /// A dialogue sent the first load and queued the second; a Continue comes with eight components, the first
+    /// faulty.
+    Faulty(Load, Load),
+}
+
+/// A Begin without components.
+const BEGIN: [u8; 8] = [0x62, 0x06, 0x48, 0x04, 0, 0, 0, 1];
+
+/// A Begin with an Invoke of the operation 2.
+const INVOKING: [u8; 18] = [
+    0x62, 0x10, 0x48, 0x04, 0, 0, 0, 1, 0x6c, 0x08, 0xa1, 0x06, 0x02, 0x01, 1, 0x02, 0x01, 2,
+];
+
+/// A Begin with an Invoke that has no code.
+const FAULTY: [u8; 15] = [
+    0x62, 0x0d, 0x48, 0x04, 0, 0, 0, 1, 0x6c, 0x05, 0xa1, 0x03, 0x02, 0x01, 1,
+];
+
+/// A Continue with eight components, of which none has an identifier.
+const FAULTY_FIRST: [u8; 32] = [
+    0x65, 0x1e, 0x48, 0x04, 0, 0, 0, 1, 0x49, 0x04, 0, 0, 0, 1, 0x6c, 0x10, 0xa1, 0, 0xa1, 0, 0xa1,
+    0, 0xa1, 0, 0xa1, 0, 0xa1, 0, 0xa1, 0, 0xa1, 0,
+];
+
+/// Receives a message.
+fn hear(engine: &mut Engine<Heap<'_>>, message: &[u8]) -> Option<()> {
+    let from = Address::empty();
+    engine.receive(&from, message).ok()?;
+    Some(())
+}
+
+/// A dialogue sends four Invokes five times, and is over.
+fn send_many(engine: &mut Engine<Heap<'_>>) -> Option<()> {
+    hear(engine, &BEGIN)?;
+    for round in 0..5i8 {
+        for place in 0..4i8 {
+            let id = round.saturating_mul(4).saturating_add(place);
+            engine
+                .invoke(1, id, Class::One, Code::Local(1), None, None, 1000)
+                .ok()?;
+        }
+        engine.go_on(1, None, &[]).ok()?;
+    }
+    end(engine, 1)
+}
+
+/// So many dialogues of a load stand, one beside the other, and are over.
+fn many_over(engine: &mut Engine<Heap<'_>>, count: u32, load: Load) -> Option<()> {
+    for _ in 0..count {
+        queued(engine, load)?;
+    }
+    for dialogue in 1..count.saturating_add(1) {
+        end(engine, dialogue)?;
+    }
+    Some(())
+}
+
+/// Two dialogues stand, the first of them with a load, and are over.
+fn two_over(engine: &mut Engine<Heap<'_>>, load: Load) -> Option<()> {
+    queued(engine, load)?;
+    queued(engine, Load(0, 0))?;
+    end(engine, 1)?;
+    end(engine, 2)
+}
+
+/// What was before.
+fn prepare(engine: &mut Engine<Heap<'_>>, scene: Scene) -> Option<()> {
+    match scene {
+        Scene::After(load, _) => two_over(engine, load),
+        Scene::AfterMany(_) => send_many(engine),
+        Scene::BesideOne(load, _) => {
+            two_over(engine, load)?;
+            queued(engine, Load(0, 0))?;
+            Some(())
+        }
+        Scene::AfterRefusal(load, _) => {
+            two_over(engine, load)?;
+            let dialogue = engine.new_dialogue().ok()?;
+            let code = Code::Local(1);
+            let refused = engine.invoke(dialogue, 1, Class::One, code, None, None, 0);
+            refused.is_err().then_some(())
+        }
+        Scene::AfterReject(load, _) => {
+            two_over(engine, load)?;
+            hear(engine, &FAULTY)
+        }
+        Scene::Twenty(load) => many_over(engine, 20, load),
+        Scene::Begin(load) => {
+            two_over(engine, load)?;
+            hear(engine, &INVOKING)
+        }
+        Scene::Faulty(sent, queued) => {
+            hear(engine, &BEGIN)?;
+            queue_from(engine, 1, 0, sent)?;
+            engine.go_on(1, None, &[]).ok()?;
+            queue_from(engine, 1, 100, queued)
+        }
+    }
+}
+
+/// What comes.
+fn come(engine: &mut Engine<Heap<'_>>, scene: Scene) -> Option<()> {
+    match scene {
+        Scene::After(_, load)
+        | Scene::AfterMany(load)
+        | Scene::BesideOne(_, load)
+        | Scene::AfterRefusal(_, load)
+        | Scene::AfterReject(_, load) => {
+            queued(engine, load)?;
+            Some(())
+        }
+        Scene::Twenty(load) => {
+            for _ in 0..20 {
+                queued(engine, load)?;
+            }
+            Some(())
+        }
+        Scene::Begin(_) => hear(engine, &INVOKING),
+        Scene::Faulty(..) => hear(engine, &FAULTY_FIRST),
+    }
+}
+
+/// How many growths there are in what comes.
+fn growths_in(heap: Heap<'_>, scene: Scene) -> Option<u64> {
     let limits = Limits {
-        max_dialogues: 4,
+        max_dialogues: 32,
         reject_ms: 1000,
         idle_ms: 0,
     };
-    for number in 1..100u64 {
+    for number in 1..200u64 {
         heap.refuse(0);
         let mut engine = Engine::new(heap, limits);
-        let dialogue = queued(&mut engine, before)?;
-        engine
-            .finish(dialogue, Ending::Prearranged, None, &[])
-            .ok()?;
+        prepare(&mut engine, scene)?;
         heap.refuse(number);
-        let next = queued(&mut engine, Load(1, 2));
+        let done = come(&mut engine, scene);
         if heap.is_armed() {
-            return next.map(|_| number - 1);
+            heap.refuse(0);
+            return done.map(|_| number - 1);
         }
     }
     None
 }
 
-/// Loads whose memory the next dialogue takes: a queue of at most 256 octets and four components, and few
-/// invocations.
-const SMALL: [Load; 4] = [Load(1, 2), Load(4, 2), Load(1, 200), Load(1, 240)];
+/// What is taken of what was left.
+#[derive(Clone, Copy)]
+enum Taken {
+    Both,
+    /// The list of invocations: a queue of its own takes two blocks.
+    List,
+    Nothing,
+}
 
-/// Loads of which the next dialogue takes nothing.
-const LARGE: [Load; 5] = [
-    Load(0, 0),
-    Load(5, 2),
-    Load(1, 255),
-    Load(2, 200),
-    Load(100, 2),
+/// How many growths a dialogue has with one Invoke, where this is taken, of so many with nothing taken.
+fn growths_left(own: u64, taken: Taken) -> u64 {
+    match taken {
+        Taken::Both => 0,
+        Taken::List => 2,
+        Taken::Nothing => own,
+    }
+}
+
+/// A small Invoke, of 13 octets.
+const SMALL: Load = Load(1, 2);
+
+const SCENES: [(Scene, Taken); 13] = [
+    (Scene::After(SMALL, SMALL), Taken::Both),
+    (Scene::After(Load(1, 240), Load(1, 240)), Taken::Both),
+    (Scene::After(Load(1, 200), Load(1, 100)), Taken::Both),
+    (Scene::After(Load(1, 240), SMALL), Taken::List),
+    (Scene::After(SMALL, Load(1, 240)), Taken::List),
+    (Scene::After(Load(1, 255), Load(1, 255)), Taken::List),
+    (Scene::After(Load(5, 2), Load(1, 60)), Taken::List),
+    (Scene::After(Load(10, 2), SMALL), Taken::Nothing),
+    (Scene::After(Load(0, 0), SMALL), Taken::Nothing),
+    (Scene::AfterMany(SMALL), Taken::Nothing),
+    (Scene::BesideOne(SMALL, SMALL), Taken::Both),
+    (Scene::AfterRefusal(SMALL, SMALL), Taken::Both),
+    (Scene::AfterReject(Load(1, 240), Load(1, 240)), Taken::Both),
 ];
 
 #[test]
-fn memory_of_a_small_dialogue_is_left_to_the_next(rt: HostRuntime) -> Result<(), Fail> {
+fn memory_is_left_to_a_component_that_it_fits(rt: HostRuntime) -> Result<(), Fail> {
     let heap = Refusing::new(rt.alloc());
-    let own = growths_after(&heap, Load(0, 0)).ok_or("refused")?;
-    assert!(rt; own > 0);
-    for load in SMALL {
-        assert_eq!(rt; growths_after(&heap, load), Some(0));
+    let own = growths_in(&heap, Scene::After(Load(0, 0), SMALL)).ok_or("refused")?;
+    assert!(rt; own > 2);
+    for (place, (scene, taken)) in SCENES.iter().enumerate() {
+        let found = growths_in(&heap, *scene);
+        assert!(rt;
+            found == Some(growths_left(own, *taken)),
+            "{place}: {found:?} of {own}"
+        );
     }
-    for load in LARGE {
-        assert_eq!(rt; growths_after(&heap, load), Some(own));
+    // Of twenty, sixteen leave theirs.
+    assert_eq!(rt;
+        growths_in(&heap, Scene::Twenty(SMALL)),
+        Some(own.saturating_mul(4))
+    );
+    // The outputs of a Begin take one.
+    assert_eq!(rt; growths_in(&heap, Scene::Begin(SMALL)), Some(1));
+    // Beside the outputs, room for one Reject: its octets where the queue is full, its place where four stand in it.
+    for scene in [
+        Scene::Faulty(Load(0, 0), SMALL),
+        Scene::Faulty(Load(1, 100), Load(4, 2)),
+    ] {
+        assert_eq!(rt; growths_in(&heap, scene), Some(2));
     }
     Ok(())
 }

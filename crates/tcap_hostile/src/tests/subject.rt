@@ -1,7 +1,7 @@
 //! What an example's lines are told to.
 
 use super::words::{Word, number, text};
-use super::{codec, dialogue, engine, invocations};
+use super::{alternatives, codec, dialogue, engine, invocations};
 use ber_core::Feed;
 use refusing::Refusing;
 use std::alloc::Global;
@@ -38,6 +38,8 @@ pub(super) enum Subject<'h> {
     Feed(Feed<Heap<'h>>),
     /// `codec`: writers and texts.
     Codec,
+    /// `alternatives`: two calls on the same input.
+    Alternatives,
 }
 
 /// An engine that goes on with the counters that stand behind `engine from`.
@@ -63,6 +65,7 @@ impl<'h> Subject<'h> {
             "dialogue" => Subject::Dialogue(Dialogue::fresh(heap, 1, 1000, 0)),
             "invocations" => Subject::Invocations(Invocations::new(heap, 1000)),
             "feed" => Subject::Feed(Feed::new(heap)),
+            "alternatives" => Subject::Alternatives,
             _ => Subject::Codec,
         }
     }
@@ -95,6 +98,7 @@ impl<'h> Subject<'h> {
             Subject::Invocations(list) => invocations::tell(list, words, told),
             Subject::Feed(feed) => codec::push(alloc, feed, words, told),
             Subject::Codec => codec::tell(alloc, heap, words, told),
+            Subject::Alternatives => alternatives::tell(alloc, heap, words, told),
         }
     }
 }

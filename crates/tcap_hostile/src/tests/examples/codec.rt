@@ -76,6 +76,10 @@ head
   6c81c8
 element
   0401aa
+longhead
+  7f2282012c
+longelement
+  5f2201aa
 int 128
   02020080
 # A Begin at the limit.
