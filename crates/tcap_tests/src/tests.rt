@@ -1,5 +1,6 @@
 //! What no clause says, run; and what the definitions print, computed.
 
+mod added;
 mod addressed;
 mod caller;
 mod devices;
