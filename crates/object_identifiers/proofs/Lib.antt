@@ -1,0 +1,8 @@
+mod FittingLemmas
+mod NumberLemmas
+mod OctetGrammar
+mod SubidentifierLemmas
+mod TextLemmas
+mod TextWriting
+mod TextGrammar
+mod Names

@@ -1,0 +1,4 @@
+pub mod Arcs
+pub mod Contents
+pub mod FaultText
+pub mod TextReading

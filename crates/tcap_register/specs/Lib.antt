@@ -1,0 +1,3 @@
+pub mod Invokes
+pub mod Answering
+pub mod Serving
