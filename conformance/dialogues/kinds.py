@@ -25,13 +25,22 @@ WANTED = [
     *(f"dropped {why}" for why in ("toolong", "badmessage", "nodialogue", "baddialogue")),
     "line bad",
 ]
+# A line without the words or the octets that its kind has.
+OF_NO_FORM = "of no form"
 
 
 def kind_of(line):
-    """The kind of a line that a play prints."""
+    """The kind of a line that a program prints for a play, also where no play prints such a line."""
     if re.fullmatch(r"line \d+ bad", line):
         return "line bad"
-    words = line.split(" ")[1:]
+    try:
+        return kind_of_words(line.split(" ")[1:])
+    except (IndexError, KeyError):
+        return OF_NO_FORM
+
+
+def kind_of_words(words):
+    """The kind of a line by the words behind its side."""
     name = words[0]
     if name == "send":
         return f"send {TYPES[words[2][:2]]}" + (" to" if "to" in words else "")

@@ -1,13 +1,18 @@
-"""Plays scripts by wrong engines until each differs from what `tcap play` prints.
+"""Plays scripts by wrong engines until each differs from what `tcap play` prints, and compares programs that
+print lines of no form.
 planted_plays.py PROGRAM SEED"""
 
+import pathlib
 import sys
+import tempfile
 
 import wrong_engines
-from plays import first_difference, play_by_program, play_plainly
+from kinds import OF_NO_FORM
+from plays import Comparison, first_difference, play_by_program, play_plainly
 from scripts import script
 
 MOST = 2_000
+LINES_OF_NO_FORM = ["", "A", "A send", "A send A1 zz", "A uabort 1", "A invoked 1 id 1", "A localreject 1", "A refused"]
 
 
 class Programmed:
@@ -35,6 +40,17 @@ def find(programmed, make_engine):
     return None
 
 
+def is_reported(line, seed):
+    """Whether a comparison with a program that prints this line alone says that it differs, and what it printed."""
+    with tempfile.TemporaryDirectory() as folder:
+        program = pathlib.Path(folder, "program")
+        program.write_text(f"#!/bin/sh\ncat > /dev/null\necho '{line}'\n")
+        program.chmod(0o755)
+        comparison = Comparison(program, seed)
+        comparison.play(1)
+    return comparison.differing == 1 and comparison.counts["program"] == {OF_NO_FORM: 1}
+
+
 def shown(line):
     return line if len(line) <= 200 else line[:200] + ".."
 
@@ -52,7 +68,10 @@ def main(program, seed):
         print(f"{name}: script {number}, line {place}")
         print(f"  wrong:   {shown(wrong)}\n  program: {shown(right)}", flush=True)
     print(f"{len(wrong_engines.WRONG) - missed} of {len(wrong_engines.WRONG)} wrong engines found")
-    return 1 if missed else 0
+    unreported = [line for line in LINES_OF_NO_FORM if not is_reported(line, seed)]
+    for line in unreported:
+        print(f"not reported, where a program prints it: '{line}'")
+    return 1 if missed or unreported else 0
 
 
 if __name__ == "__main__":

@@ -14,7 +14,7 @@ from scripts import script
 def play_by_program(program, text):
     """The lines that the program prints, and its status."""
     run = subprocess.run([program, "play"], input=text.encode(), capture_output=True)
-    return run.stdout.decode().split("\n")[:-1], run.returncode
+    return run.stdout.decode(errors="backslashreplace").split("\n")[:-1], run.returncode
 
 
 def play_plainly(text, make_engine=Engine):
