@@ -97,8 +97,9 @@ pub extern "C" fn tcap_bench_dialogue(alloc: Global, steps: u8, message: &[u8]) 
 /// all. A step is, 1: a dialogue is begun with an Invoke, and the drawn one ended by the peer with its
 /// result; 2: a Begin with an Invoke is received, and the drawn dialogue answered by a result and a
 /// basic end; 3: a Continue with a result is received, and a Continue with an Invoke sent, and after each
-/// lap a moment is handed in; 4: the next moment is handed in, at which nothing is due. It answers 0 where
-/// memory runs out (own).
+/// lap a moment is handed in; 4: the next moment is handed in, at which nothing is due; 5: the next
+/// moment, and a Continue without components is received, under an idle limit; any other number: the same
+/// without one. It answers 0 where memory runs out (own).
 #[unsafe(no_mangle)]
 pub extern "C" fn tcap_bench_engine(alloc: Global, step: u8, dialogues: u16, laps: u32) -> u64
     // The dialogues that are opened first are no step: in no laps nothing is given.
