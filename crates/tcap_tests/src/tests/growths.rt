@@ -18,18 +18,26 @@ enum Outcome {
     Other,
 }
 
-/// How many growths of a call were refused in turn, each answered by `OutOfMemory`, before it ended well.
-fn refused_growths<F: FnMut() -> Outcome>(heap: &Refusing<Global>, mut call: F) -> Option<u64>
+/// How many growths of a call were refused in turn before it ended well: so many with no answer, and each other one
+/// answered by `OutOfMemory`.
+fn refused_growths<F: FnMut() -> Outcome>(
+    heap: &Refusing<Global>,
+    unanswered: u64,
+    mut call: F,
+) -> Option<u64>
     requires { F.IsAlwaysCallable call }
 {
+    let mut silent = 0u64;
     for number in 1..512u64 {
         heap.refuse(number);
         let outcome = call();
         if heap.is_armed() {
-            return (outcome == Outcome::Done).then_some(number - 1);
+            return (outcome == Outcome::Done && silent == unanswered).then_some(number - 1);
         }
-        if outcome != Outcome::NoMemory {
-            return None;
+        match outcome {
+            Outcome::NoMemory => (),
+            Outcome::Done => silent = silent.saturating_add(1),
+            Outcome::Other => return None,
         }
     }
     None
@@ -84,7 +92,7 @@ fn growths_of_text(
     bytes: &[u8],
     wanted: &[u8],
 ) -> Option<u64> {
-    refused_growths(heap, || outcome_of(heap, text, bytes, wanted))
+    refused_growths(heap, 0, || outcome_of(heap, text, bytes, wanted))
 }
 
 #[test]
@@ -184,6 +192,7 @@ fn command_with_each_growth_refused(rt: HostRuntime) -> Result<(), Fail> {
     for (words, input, wanted, left, least) in rows {
         let growths = refused_growths(
             &heap,
+            0,
             || outcome_of_run(alloc, &heap, words, input, wanted, left),
         );
         assert!(rt; is_at_least(growths, least), "at {words:?}, {growths:?}");
@@ -198,15 +207,18 @@ fn joined(alloc: Global, front: &[u8], behind: &[u8]) -> Result<Vec<u8>, AllocEr
     Ok(text)
 }
 
-/// How many growths a play of this script was refused in turn, where it comes to this status and writes this.
+/// How many growths a play of this script was refused in turn, so many with no answer, where it comes to this status
+/// and writes this.
 fn growths_of_play(
     alloc: Global,
     heap: &Refusing<Global>,
+    unanswered: u64,
     script: &[u8],
     wanted: (u8, &[u8]),
 ) -> Option<u64> {
     refused_growths(
         heap,
+        unanswered,
         || outcome_of_run(alloc, heap, &["play"], script, wanted, &LINES[..1]),
     )
 }
@@ -215,13 +227,20 @@ fn growths_of_play(
 fn growths_of_parts(
     alloc: Global,
     heap: &Refusing<Global>,
+    unanswered: u64,
     script: (&[u8], &[u8]),
     status: u8,
     written: (&[u8], &[u8]),
 ) -> Option<u64> {
     let input = joined(alloc, script.0, script.1).ok()?;
     let text = joined(alloc, written.0, written.1).ok()?;
-    growths_of_play(alloc, heap, input.as_slice(), (status, text.as_slice()))
+    growths_of_play(
+        alloc,
+        heap,
+        unanswered,
+        input.as_slice(),
+        (status, text.as_slice()),
+    )
 }
 
 #[test]
@@ -230,14 +249,23 @@ fn plays_with_each_growth_refused(rt: HostRuntime) -> Result<(), Fail> {
     let heap = Refusing::new(alloc);
     let idle = IDLE_SCRIPT.as_bytes();
     let addresses = ADDRESSES_SCRIPT.as_bytes();
-    let rows: [(&[u8], &[u8], u8, &[u8], &[u8], u64); 10] = [
+    let rows: [(&[u8], &[u8], u8, &[u8], &[u8], u64, u64); 10] = [
         // The script, and what stands behind it; the status, what is written, and what stands behind that;
-        // the least number of growths.
-        (SCRIPT, b"", 0, PLAYED, b"", 20),
-        (idle, b"", 0, IDLE_TEXT.as_bytes(), b"", 6),
-        (addresses, b"", 1, ADDRESSES_TEXT.as_bytes(), b"", 8),
-        (LOST_SCRIPT, b"", 0, LOST, b"", 20),
-        (LOST_SCRIPT, b"deliver B2\n", 1, LOST, b"line 14 bad\n", 20),
+        // the least number of growths; how many are refused with no answer: at each engine where a dialogue leaves
+        // memory, the two that make places for it.
+        (SCRIPT, b"", 0, PLAYED, b"", 20, 0),
+        (idle, b"", 0, IDLE_TEXT.as_bytes(), b"", 6, 0),
+        (addresses, b"", 1, ADDRESSES_TEXT.as_bytes(), b"", 8, 0),
+        (LOST_SCRIPT, b"", 0, LOST, b"", 20, 4),
+        (
+            LOST_SCRIPT,
+            b"deliver B2\n",
+            1,
+            LOST,
+            b"line 14 bad\n",
+            20,
+            4,
+        ),
         (
             b"A new\n",
             b"A new 1\n",
@@ -245,14 +273,22 @@ fn plays_with_each_growth_refused(rt: HostRuntime) -> Result<(), Fail> {
             b"A new 1\n",
             b"line 2 bad\n",
             3,
+            0,
         ),
-        (b"A begin 9 - -\n", b"", 0, b"A refused 2\n", b"", 2),
-        (b"deliver A1\n", b"", 1, b"line 1 bad\n", b"", 2),
-        (b"A  new\n", b"", 1, b"line 1 bad\n", b"", 2),
-        (b"", b"", 0, b"", b"", 0),
+        (b"A begin 9 - -\n", b"", 0, b"A refused 2\n", b"", 2, 0),
+        (b"deliver A1\n", b"", 1, b"line 1 bad\n", b"", 2, 0),
+        (b"A  new\n", b"", 1, b"line 1 bad\n", b"", 2, 0),
+        (b"", b"", 0, b"", b"", 0, 0),
     ];
-    for (script, more, status, written, behind, least) in rows {
-        let growths = growths_of_parts(alloc, &heap, (script, more), status, (written, behind));
+    for (script, more, status, written, behind, least, unanswered) in rows {
+        let growths = growths_of_parts(
+            alloc,
+            &heap,
+            unanswered,
+            (script, more),
+            status,
+            (written, behind),
+        );
         assert!(rt; is_at_least(growths, least), "at {script:?}, {growths:?}");
     }
     Ok(())
