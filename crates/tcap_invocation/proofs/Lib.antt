@@ -1,5 +1,7 @@
 pub mod CallerLemmas
 mod DueLemmas
+mod IndexingLemmas
+mod FewLemmas
 pub mod InsertionLemmas
 pub mod KeptLemmas
 pub mod LapseLemmas
@@ -10,6 +12,7 @@ mod QueuedLemmas
 pub mod RemovalLemmas
 mod SortLemmas
 pub mod TellingLemmas
+mod SortedLemmas
 mod TiedLemmas
 mod TimedLemmas
 mod TimelyLemmas

@@ -6,6 +6,7 @@ pub mod Fault
 pub mod Invocations
 pub mod Lapses
 pub mod Order
+pub mod Rows
 pub mod Stage
 pub mod TimerList
 pub mod Timers

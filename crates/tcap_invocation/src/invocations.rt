@@ -7,19 +7,18 @@ ghost use Rattle.tcap_invocation.specs.Timers.{next_timer_at};
 
 pub(crate) mod answers;
 pub(crate) mod closing;
+mod few;
+mod indexed;
 pub(crate) mod lapse;
-mod timed;
+mod rows;
 mod timers;
 
 use crate::class::Class;
 use crate::fault::AddFault;
 use crate::stage::{MAX_MOMENT, Stage};
-use indexmap::IndexMap;
-use std::alloc::{Allocator, Global};
-use std::hash::{BuildHasherDefault, FoldHasher};
+use rows::Rows;
+use std::alloc::{AllocError, Allocator, Global};
 use std::marker::Model;
-use timed::send_queued;
-use timers::Timers;
 
 /// What is known of an invoke identifier that is in use.
 #[derive(Clone, Copy, Debug)]
@@ -31,9 +30,6 @@ struct Invocation {
 
 /// How many identifiers there are (Q.773, Invoke ID: one octet).
 const IDENTIFIERS: usize = 256;
-
-/// The invocations by their identifiers, in order of number.
-type Entries<A> = IndexMap<i8, Invocation, BuildHasherDefault<FoldHasher>, A>;
 
 /// The invocations of one dialogue (Q.774, Invocation state machine), by rising number.
 ///
@@ -48,23 +44,20 @@ type Entries<A> = IndexMap<i8, Invocation, BuildHasherDefault<FoldHasher>, A>;
 /// the wait and the rows, and forgets the timers, which are those of the rows, and how much room there is.
 #[derive(Debug, Drop)]
 pub struct Invocations<A: Allocator + Copy = Global> {
-    entries: Entries<A>,
-    /// Of each Sent or Waiting entry, with room for one of each entry.
-    timers: Timers<A>,
+    rows: Rows<A>,
     reject_ms: u64,
 }
 
 impl<A: Allocator + Copy> Model for Invocations<A> {
-    ghost use Rattle.tcap_invocation.specs.Invocations.{InvocationList, IsSound};
-    ghost use Rattle.tcap_invocation.specs.TimerList.{IsTimed, AreQueuedLast};
+    ghost use Rattle.std.specs.Prelude.{◌≤◌};
+    ghost use Rattle.tcap_invocation.specs.Invocations.{InvocationList};
+    ghost use Rattle.tcap_invocation.specs.Stage.{moment_limit};
 
     ghost Value = { InvocationList };
 
-    ghost view = { λ v. record { reject_ms = v.reject_ms; rows = v.entries.entries } };
+    ghost view = { λ v. record { reject_ms = v.reject_ms; rows = v.rows } };
 
-    ghost invariant = { λ v. IsSound (record { reject_ms = v.reject_ms; rows = v.entries.entries })
-        × IsTimed v.entries.entries v.timers
-        × AreQueuedLast v.entries.entries };
+    ghost invariant = { λ v. v.reject_ms ≤ moment_limit };
 }
 
 impl<A: Allocator + Copy> Invocations<A> {
@@ -75,8 +68,7 @@ impl<A: Allocator + Copy> Invocations<A> {
         ensures { result ≡ record { reject_ms = reject_ms; rows = [] } }
     {
         Invocations {
-            entries: IndexMap::new(alloc),
-            timers: Timers::new(alloc),
+            rows: Rows::new(alloc),
             reject_ms,
         }
     }
@@ -86,8 +78,7 @@ impl<A: Allocator + Copy> Invocations<A> {
         requires { reject_ms ≤ moment_limit }
         ensures { self.new ≡ record { reject_ms = reject_ms; rows = [] } }
     {
-        self.timers.clear();
-        self.entries.clear();
+        self.rows.clear();
         self.reject_ms = reject_ms;
     }
 
@@ -98,17 +89,14 @@ impl<A: Allocator + Copy> Invocations<A> {
         ensures least { min (length self.now.rows) 256 ≤ result }
         ensures most { result ≤ 256 }
     {
-        self.entries
-            .capacity()
-            .max(self.timers.capacity())
-            .min(IDENTIFIERS)
+        self.rows.capacity().min(IDENTIFIERS)
     }
 
     /// Whether an invocation with the identifier is Sent, so that a result or an error is for it.
     pub fn is_open(&self, id: i8) -> bool
         ensures { result ≡ is_some (sent_at self.now.rows id) }
     {
-        sent_at(&self.entries, &id).is_some()
+        sent_at(&self.rows, &id).is_some()
     }
 
     /// Whether the identifier is in use, in any stage.
@@ -117,7 +105,7 @@ impl<A: Allocator + Copy> Invocations<A> {
         // What every list keeps.
         ensures sound { IsSound self.now }
     {
-        self.entries.contains_key(&id)
+        self.rows.get(&id).is_some()
     }
 
     /// Whether the number is above all in the list, as `add` needs it.
@@ -125,7 +113,7 @@ impl<A: Allocator + Copy> Invocations<A> {
     pub fn is_above_all(&self, number: u64) -> bool
         ensures { IsTrue result ↔ AllBelow number self.now.rows }
     {
-        are_below(&self.entries, number)
+        self.rows.are_below(number)
     }
 
     /// Takes an invocation in, Queued until the next message goes out. `number` is above all in the
@@ -146,7 +134,7 @@ impl<A: Allocator + Copy> Invocations<A> {
         if timeout == 0 || timeout > MAX_MOMENT {
             return Err(AddFault::BadTimeout);
         }
-        if self.entries.contains_key(&id) {
+        if self.rows.get(&id).is_some() {
             return Err(AddFault::InUse);
         }
         let entry = Invocation {
@@ -154,11 +142,10 @@ impl<A: Allocator + Copy> Invocations<A> {
             class,
             stage: Stage::Queued(timeout),
         };
-        if self.timers.reserve(self.entries.len() + 1).is_err() {
-            return Err(AddFault::OutOfMemory);
+        match self.rows.push(id, entry) {
+            Ok(()) => Ok(()),
+            Err(AllocError) => Err(AddFault::OutOfMemory),
         }
-        self.entries.insert(id, entry)?;
-        Ok(())
     }
 
     /// The message with the queued Invokes goes out at this moment, at most 2^62: each gets its deadline.
@@ -166,7 +153,7 @@ impl<A: Allocator + Copy> Invocations<A> {
         requires { clock ≤ moment_limit }
         ensures { self.new ≡ after_sent self.old clock }
     {
-        send_queued(&mut self.entries, &mut self.timers, clock);
+        self.rows.send_queued(clock);
     }
 
     /// The moment at which time next changes something: the least deadline of a Sent invocation or end of
@@ -176,25 +163,17 @@ impl<A: Allocator + Copy> Invocations<A> {
     pub fn next_timer(&self) -> Option<u64>
         ensures { result ≡ next_timer_at self.now.rows }
     {
-        Some(self.timers.first()?.time)
+        self.rows.next_timer()
     }
 }
 
 /// The invocation that has the identifier, if it is Sent.
-fn sent_at<A: Allocator + Copy>(entries: &Entries<A>, id: &i8) -> Option<Invocation>
-    ensures { result ≡ sent_at entries.now.entries id.now }
+fn sent_at<A: Allocator + Copy>(rows: &Rows<A>, id: &i8) -> Option<Invocation>
+    ensures { result ≡ sent_at rows.now id.now }
 {
-    let entry = *entries.get(id)?;
+    let entry = *rows.get(id)?;
     match entry.stage {
         Stage::Sent(_) => Some(entry),
         Stage::Queued(_) | Stage::Waiting(_) => None,
     }
-}
-
-/// Whether each number is below this one.
-#[tactic(auto, using(crate::proofs::OrderLemmas::below_rules))]
-fn are_below<A: Allocator + Copy>(entries: &Entries<A>, number: u64) -> bool
-    ensures { IsTrue result ↔ AllBelow number entries.now.entries }
-{
-    entries.values().all(|entry| entry.number < number)
 }

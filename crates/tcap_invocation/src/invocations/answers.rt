@@ -6,7 +6,6 @@ ghost use Rattle.tcap_invocation.specs.Class.Received.{return_error};
 ghost use Rattle.tcap_invocation.specs.Answers.{verdict_on, after_received, rejected_at, after_reject};
 ghost use Rattle.tcap_invocation.specs.Stage.{moment_limit};
 
-use super::timed::{take_out, wait};
 use super::{Invocations, sent_at};
 use std::alloc::Allocator;
 use tcap_component::Kind;
@@ -29,16 +28,16 @@ impl<A: Allocator + Copy> Invocations<A> {
         ensures verdict { result ≡ verdict_on self.old.rows id (return_result last) }
         ensures list { self.new ≡ after_received self.old id (return_result last) clock }
     {
-        let Some(entry) = sent_at(&self.entries, &id) else {
+        let Some(entry) = sent_at(&self.rows, &id) else {
             return Verdict::Unknown;
         };
         if !entry.class.reports_success() {
-            take_out(&mut self.entries, &mut self.timers, &id, &entry);
+            self.rows.take_out(&id, &entry);
             return Verdict::Unexpected(entry.number);
         }
         if last {
             let until = clock + self.reject_ms;
-            wait(&mut self.entries, &mut self.timers, &id, entry, until);
+            self.rows.wait(&id, entry, until);
         }
         Verdict::Good(entry.number)
     }
@@ -49,15 +48,15 @@ impl<A: Allocator + Copy> Invocations<A> {
         ensures verdict { result ≡ verdict_on self.old.rows id return_error }
         ensures list { self.new ≡ after_received self.old id return_error clock }
     {
-        let Some(entry) = sent_at(&self.entries, &id) else {
+        let Some(entry) = sent_at(&self.rows, &id) else {
             return Verdict::Unknown;
         };
         if !entry.class.reports_failure() {
-            take_out(&mut self.entries, &mut self.timers, &id, &entry);
+            self.rows.take_out(&id, &entry);
             return Verdict::Unexpected(entry.number);
         }
         let until = clock + self.reject_ms;
-        wait(&mut self.entries, &mut self.timers, &id, entry, until);
+        self.rows.wait(&id, entry, until);
         Verdict::Good(entry.number)
     }
 
@@ -67,10 +66,10 @@ impl<A: Allocator + Copy> Invocations<A> {
         ensures number { result ≡ rejected_at self.old.rows id kind }
         ensures list { self.new ≡ after_reject self.old id kind }
     {
-        let entry = sent_at(&self.entries, &id)?;
+        let entry = sent_at(&self.rows, &id)?;
         match kind {
             Kind::General | Kind::Invoke => {
-                take_out(&mut self.entries, &mut self.timers, &id, &entry);
+                self.rows.take_out(&id, &entry);
                 Some(entry.number)
             }
             Kind::Result | Kind::Error => None,

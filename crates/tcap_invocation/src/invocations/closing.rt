@@ -5,8 +5,8 @@ ghost use Rattle.tcap_invocation.specs.Invocations.{IsSound, entry_at, passing};
 ghost use Rattle.tcap_invocation.specs.Stage.{is_waiting};
 ghost use Rattle.tcap_invocation.specs.Closing.{given_up_at, after_give_up, after_free_wait, ended_of, ended_at, first_ended_at, after_close_one, after_close};
 
-use super::timed::take_out;
-use super::{Entries, Invocation, Invocations};
+use super::rows::Rows;
+use super::{Invocation, Invocations};
 use crate::stage::Stage;
 use ber_core::OutOfMemory;
 use std::alloc::Allocator;
@@ -18,10 +18,10 @@ impl<A: Allocator + Copy> Invocations<A> {
         ensures number { result ≡ given_up_at self.old.rows id }
         ensures list { self.new ≡ after_give_up self.old id }
     {
-        let entry = *self.entries.get(&id)?;
+        let entry = *self.rows.get(&id)?;
         match entry.stage {
             Stage::Queued(_) | Stage::Sent(_) => {
-                take_out(&mut self.entries, &mut self.timers, &id, &entry);
+                self.rows.take_out(&id, &entry);
                 Some(entry.number)
             }
             Stage::Waiting(_) => None,
@@ -34,12 +34,12 @@ impl<A: Allocator + Copy> Invocations<A> {
         ensures value { result ≡ is_some (passing is_waiting (entry_at self.old.rows id)) }
         ensures list { self.new ≡ after_free_wait self.old id }
     {
-        let Some(entry) = self.entries.get(&id).copied() else {
+        let Some(entry) = self.rows.get(&id).copied() else {
             return false;
         };
         match entry.stage {
             Stage::Waiting(_) => {
-                take_out(&mut self.entries, &mut self.timers, &id, &entry);
+                self.rows.take_out(&id, &entry);
                 true
             }
             Stage::Queued(_) | Stage::Sent(_) => false,
@@ -54,9 +54,8 @@ impl<A: Allocator + Copy> Invocations<A> {
         ensures err { OnErr result (self.new ≡ self.old) }
         ensures memory { OnErr result (ended_at self.old.rows ≢ []) }
     {
-        let ended = ended_at(*self.entries.allocator(), &self.entries)?;
-        self.timers.clear();
-        self.entries.clear();
+        let ended = self.rows.ended()?;
+        self.rows.clear();
         Ok(ended)
     }
 
@@ -64,7 +63,7 @@ impl<A: Allocator + Copy> Invocations<A> {
     pub fn open_count(&self) -> usize
         ensures { result ≡ length (ended_at self.now.rows) }
     {
-        ended_count(&self.entries)
+        self.rows.ended_count()
     }
 
     /// The dialogue is over: takes out the first invocation that is Queued or Sent and gives its number
@@ -84,54 +83,15 @@ impl<A: Allocator + Copy> Invocations<A> {
         ensures list { self.new ≡ after_close_one self.old }
         ensures sound { IsSound self.old }
     {
-        let (number, id) = first_ended(&self.entries)?;
-        let entry = *self.entries.get(&id)?;
-        take_out(&mut self.entries, &mut self.timers, &id, &entry);
+        let (number, id) = self.rows.first_ended()?;
+        let entry = *self.rows.get(&id)?;
+        self.rows.take_out(&id, &entry);
         Some((number, id))
     }
 }
 
-/// What is told first at the end of the dialogue.
-fn first_ended<A: Allocator + Copy>(entries: &Entries<A>) -> Option<(u64, i8)>
-    ensures { result ≡ first_ended_at entries.now.entries }
-{
-    for (id, entry) in entries.iter() {
-        if let Some(one) = ended_of(id, entry) {
-            return Some(one);
-        }
-    }
-    None
-}
-
-/// What is told of each invocation at the end of the dialogue, with all room found first.
-fn ended_at<A: Allocator + Copy>(
-    alloc: A,
-    entries: &Entries<A>,
-) -> Result<Vec<(u64, i8), A>, OutOfMemory>
-    ensures told { IfOk result (λ v. v.items ≡ ended_at entries.now.entries) }
-    ensures memory { OnErr result (0 < length (ended_at entries.now.entries)) }
-{
-    let mut ended = Vec::with_capacity(alloc, ended_count(entries))?;
-    for (id, entry) in entries.iter() {
-        if let Some(one) = ended_of(id, entry) {
-            ended.push_reserved(one);
-        }
-    }
-    Ok(ended)
-}
-
-/// How many invocations are Queued or Sent.
-fn ended_count<A: Allocator + Copy>(entries: &Entries<A>) -> usize
-    ensures { result ≡ length (ended_at entries.now.entries) }
-{
-    entries
-        .iter()
-        .filter_map(|(id, entry)| ended_of(id, entry))
-        .count()
-}
-
 /// What is told of an invocation at the end of the dialogue.
-fn ended_of(id: &i8, entry: &Invocation) -> Option<(u64, i8)>
+pub(super) fn ended_of(id: &i8, entry: &Invocation) -> Option<(u64, i8)>
     ensures { result ≡ ended_of (id.now, entry.now) }
 {
     match entry.stage {

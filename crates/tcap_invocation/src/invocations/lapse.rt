@@ -4,7 +4,6 @@ ghost use Rattle.std.specs.Prelude.{◌≡◌, ◌≢◌, ◌<◌, [], ◌∷◌
 ghost use Rattle.tcap_invocation.specs.Invocations.{IsSound};
 ghost use Rattle.tcap_invocation.specs.Lapses.{due_at, told_at, first_due_at, lapse_of, lapse_at, after_lapse, after_lapse_one, after_free_due, is_held, stays};
 
-use super::timed::take_out;
 use super::{Invocation, Invocations};
 use ber_core::OutOfMemory;
 use std::alloc::Allocator;
@@ -20,13 +19,6 @@ pub struct Lapse {
     pub id: i8,
 }
 
-/// Where the time of so many has come, one walk through all frees each identifier whose wait is over. Fewer are freed
-/// one by one, which costs less: mostly one wait ends at a moment.
-const MANY: usize = 3;
-
-/// Where the list is shorter than this, a walk through it costs less, however few are freed.
-const SHORT: usize = 6;
-
 impl<A: Allocator + Copy> Invocations<A> {
     /// The clock is at this moment: takes out each Sent invocation whose deadline is at most the clock,
     /// told by deadline, then number, and untold each identifier whose wait is over by then.
@@ -36,33 +28,21 @@ impl<A: Allocator + Copy> Invocations<A> {
         ensures err { OnErr result (self.new ≡ self.old) }
         ensures memory { OnErr result (told_at clock self.old.rows ≢ []) }
     {
-        if !self.timers.is_due(clock) {
-            return Ok(Vec::new(*self.entries.allocator()));
-        }
-        let told = self.timers.due_lapses(clock)?;
-        self.timers.expire(clock);
-        self.entries.retain(
-            |_id: &i8, entry: &mut Invocation| -> bool
-                ensures { (result ≡ stays clock entry.old.stage) × (entry.new ≡ entry.old) }
-            { entry.stage.stays(clock) },
-        );
-        Ok(told)
+        self.rows.lapse(clock)
     }
 
     /// How many Sent invocations have a deadline at most the clock.
-    #[tactic(auto, using(crate::proofs::TimelyLemmas::timely_rules))]
     pub fn due_count(&self, clock: u64) -> usize
         ensures { result ≡ length (due_at clock self.now.rows) }
     {
-        self.timers.due_count(clock)
+        self.rows.due_count(clock)
     }
 
     /// Of these the first by deadline, then number.
-    #[tactic(auto, using(crate::proofs::TimelyLemmas::timely_rules))]
     pub fn first_due(&self, clock: u64) -> Option<Lapse>
         ensures { result ≡ first_due_at clock self.now.rows }
     {
-        self.timers.first_due(clock)
+        self.rows.first_due(clock)
     }
 
     /// Takes out the Sent invocation with the identifier, if its deadline is at most the clock.
@@ -85,9 +65,9 @@ impl<A: Allocator + Copy> Invocations<A> {
         ensures list { self.new ≡ after_lapse_one self.old id clock }
         ensures sound { IsSound self.old }
     {
-        let entry = *self.entries.get(&id)?;
+        let entry = *self.rows.get(&id)?;
         let lapse = lapse_of(&id, &entry, clock)?;
-        take_out(&mut self.entries, &mut self.timers, &id, &entry);
+        self.rows.take_out(&id, &entry);
         Some(lapse)
     }
 
@@ -95,58 +75,12 @@ impl<A: Allocator + Copy> Invocations<A> {
     pub fn free_due(&mut self, clock: u64)
         ensures { self.new ≡ after_free_due self.old clock }
     {
-        if !self.timers.is_due(clock) {
-            return;
-        }
-        if self.entries.len() < SHORT || self.timers.is_due_behind(MANY - 2, clock) {
-            self.free_all(clock);
-        } else {
-            self.free_each(clock);
-        }
-    }
-
-    /// `free_due`, one by one.
-    #[inline(never)]
-    fn free_each(&mut self, clock: u64)
-        ensures { self.new ≡ after_free_due self.old clock }
-    {
-        while self.free_first(clock) {}
-    }
-
-    /// Frees the first identifier whose wait is over at the clock: whether there was one.
-    fn free_first(&mut self, clock: u64) -> bool
-        ensures same { after_free_due self.new clock ≡ after_free_due self.old clock }
-        ensures none { result ≡ false → after_free_due self.new clock ≡ self.new }
-        ensures fewer { IsTrue result → length self.new.rows < length self.old.rows }
-    {
-        if !self.timers.is_due(clock) {
-            return false;
-        }
-        let Some(timer) = self.timers.first_over(clock) else {
-            return false;
-        };
-        let Some(entry) = self.entries.get(&timer.id).copied() else {
-            return false;
-        };
-        take_out(&mut self.entries, &mut self.timers, &timer.id, &entry);
-        true
-    }
-
-    /// `free_due`, by one walk through all.
-    fn free_all(&mut self, clock: u64)
-        ensures { self.new ≡ after_free_due self.old clock }
-    {
-        self.timers.end_waits(clock);
-        self.entries.retain(
-            |_id: &i8, entry: &mut Invocation| -> bool
-                ensures { (result ≡ is_held clock entry.old.stage) × (entry.new ≡ entry.old) }
-            { entry.stage.is_held(clock) },
-        );
+        self.rows.free_due(clock);
     }
 }
 
 /// What is told of an invocation, if its deadline is at most the clock.
-fn lapse_of(id: &i8, entry: &Invocation, clock: u64) -> Option<Lapse>
+pub(super) fn lapse_of(id: &i8, entry: &Invocation, clock: u64) -> Option<Lapse>
     ensures { result ≡ lapse_of clock (id.now, entry.now) }
 {
     let deadline = entry.stage.due_deadline(clock)?;

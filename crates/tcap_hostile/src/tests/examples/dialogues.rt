@@ -177,6 +177,44 @@ lapse 20
 next
   -
 free 20
+# More than stand one after the other.
+invocations
+add 1 1 1 110
+add 2 2 1 120
+add 3 3 1 130
+add 4 4 1 140
+add 5 5 1 150
+add 6 6 1 160
+add 7 7 1 170
+add 8 8 1 180
+sent 0
+result 2 last 5
+  good 2
+giveup 4
+  4
+add 9 9 1 50
+add 10 10 1 40
+add 11 11 1 30
+sent 20
+next
+  50
+open 2
+  open false used true
+open 4
+  open false used false
+lapse 110
+  (50, 11, 11)
+  (60, 10, 10)
+  (70, 9, 9)
+  (110, 1, 1)
+close
+  3 3
+  5 5
+  6 6
+  7 7
+  8 8
+next
+  -
 # Rejected and given up.
 invocations
 add 5 3 1 20

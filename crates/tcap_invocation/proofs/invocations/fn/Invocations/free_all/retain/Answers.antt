@@ -1,5 +1,0 @@
-use Rattle.std.proofs.Common.{rules}
-use Rattle.tcap_invocation.proofs.invocations.fn.Invocations.free_all.retain.Goals as goal
-
-pub returns : goal.returns
-returns c = search rules

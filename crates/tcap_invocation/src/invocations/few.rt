@@ -1,0 +1,224 @@
+//! Few invocations: they stand one after the other, in one block of memory.
+
+ghost use Rattle.std.specs.Prelude.{◌≡◌, ◌↔◌, ◌≤◌, ◌≢◌, [], List, length, filter, option_copied, IsTrue, IfOk, OnOk, OnErr, Some};
+ghost use Rattle.std.specs.List.{position_from};
+ghost use Rattle.std.specs.Ordering.{int_eq};
+ghost use Rattle.tcap_invocation.specs.Closing.{ended_at, first_ended_at};
+ghost use Rattle.tcap_invocation.specs.Invocations.{AllBelow, AreInOrder, entry_at, without, at_stage, sent_rows};
+ghost use Rattle.tcap_invocation.specs.Lapses.{due_at, told_at, first_due_at, is_held, stays};
+ghost use Rattle.tcap_invocation.specs.Stage.{moment_limit};
+ghost use Rattle.tcap_invocation.specs.Timers.{next_timer_at};
+
+use super::Invocation;
+use super::closing::ended_of;
+use super::lapse::{Lapse, lapse_of};
+use crate::stage::Stage;
+use ber_core::OutOfMemory;
+use std::alloc::Allocator;
+
+/// An invoke identifier, and what is known of it.
+pub(super) type Row = (i8, Invocation);
+
+/// The invocation that has the identifier.
+pub(super) fn get<'a>(rows: &'a [Row], id: &i8) -> Option<&'a Invocation>
+    ensures { option_copied result ≡ entry_at rows.now id.now }
+{
+    for row in rows {
+        if row.0 == *id {
+            return Some(&row.1);
+        }
+    }
+    None
+}
+
+/// The place of the identifier.
+fn place_of(rows: &[Row], id: &i8) -> Option<usize>
+    ensures { result ≡ position_from (λ r. int_eq id.now r.0) 0 rows.now }
+{
+    rows.iter().position(|row| row.0 == *id)
+}
+
+/// Takes an invocation out.
+pub(super) fn take_out<A: Allocator + Copy>(rows: &mut Vec<Row, A>, id: &i8)
+    ensures { rows.new.items ≡ without rows.old.items id.now }
+{
+    if let Some(place) = place_of(rows, id) {
+        rows.remove(place);
+    }
+}
+
+/// The invocation of the identifier is at this stage from now on.
+pub(super) fn set_stage<A: Allocator + Copy>(
+    rows: &mut Vec<Row, A>,
+    id: &i8,
+    entry: &Invocation,
+    stage: Stage,
+)
+    requires { entry_at rows.old.items id.now ≡ Some entry.now }
+    ensures { rows.new.items ≡ at_stage rows.old.items id.now entry.now stage }
+{
+    if let Some(place) = place_of(rows, id) {
+        rows[place].1.stage = stage;
+    }
+}
+
+/// The message with the queued Invokes goes out at this moment: each gets its deadline.
+pub(super) fn send_queued<A: Allocator + Copy>(rows: &mut Vec<Row, A>, clock: u64)
+    requires clock { clock ≤ moment_limit }
+    requires order { AreInOrder rows.old.items }
+    ensures { rows.new.items ≡ sent_rows clock rows.old.items }
+{
+    for place in 0..rows.len() {
+        if let Stage::Queued(timeout) = rows[place].1.stage {
+            rows[place].1.stage = Stage::Sent(clock + timeout);
+        }
+    }
+}
+
+/// The moment at which time next changes something.
+pub(super) fn next_timer(rows: &[Row]) -> Option<u64>
+    ensures { result ≡ next_timer_at rows.now }
+{
+    let mut least: Option<u64> = None;
+    for row in rows {
+        let time = match row.1.stage {
+            Stage::Queued(_) => continue,
+            Stage::Sent(time) | Stage::Waiting(time) => time,
+        };
+        if least.is_none_or(|least| time < least) {
+            least = Some(time);
+        }
+    }
+    least
+}
+
+/// How many Sent invocations have a deadline at most the clock.
+pub(super) fn due_count(rows: &[Row], clock: u64) -> usize
+    ensures { result ≡ length (due_at clock rows.now) }
+{
+    let mut count = 0;
+    for row in rows {
+        if row.1.stage.due_deadline(clock).is_some() {
+            count += 1;
+        }
+    }
+    count
+}
+
+/// Of these the first by deadline, then number.
+pub(super) fn first_due(rows: &[Row], clock: u64) -> Option<Lapse>
+    requires { AreInOrder rows.now }
+    ensures { result ≡ first_due_at clock rows.now }
+{
+    let mut first: Option<Lapse> = None;
+    for row in rows {
+        let Some(lapse) = lapse_of(&row.0, &row.1, clock) else {
+            continue;
+        };
+        match first {
+            Some(found) if found.deadline <= lapse.deadline => {}
+            _ => first = Some(lapse),
+        }
+    }
+    first
+}
+
+/// Takes out each identifier whose wait is over at the clock.
+pub(super) fn free_due<A: Allocator + Copy>(rows: &mut Vec<Row, A>, clock: u64)
+    ensures { rows.new.items ≡ filter (λ r. is_held clock r.1.stage) rows.old.items }
+{
+    rows.retain(
+        |row: &Row| -> bool
+            ensures { result ≡ is_held clock row.now.1.stage }
+        { row.1.stage.is_held(clock) },
+    );
+}
+
+/// Takes out each invocation whose deadline, and each identifier whose wait, is over at the clock, and tells the
+/// former by deadline, then number, with all room found first.
+pub(super) fn lapse<A: Allocator + Copy>(
+    rows: &mut Vec<Row, A>,
+    clock: u64,
+) -> Result<Vec<Lapse, A>, OutOfMemory>
+    requires { AreInOrder rows.old.items }
+    ensures told { IfOk result (λ v. v.items ≡ told_at clock rows.old.items) }
+    ensures rows { OnOk result (rows.new.items ≡ filter (λ r. stays clock r.1.stage) rows.old.items) }
+    ensures err { OnErr result (rows.new.items ≡ rows.old.items) }
+    ensures memory { OnErr result (told_at clock rows.old.items ≢ []) }
+{
+    let mut told = due(*rows.allocator(), rows, clock)?;
+    told.sort_unstable();
+    rows.retain(
+        |row: &Row| -> bool
+            ensures { result ≡ stays clock row.now.1.stage }
+        { row.1.stage.stays(clock) },
+    );
+    Ok(told)
+}
+
+/// What is told of each invocation whose deadline is over at the clock, by number, with all room found first.
+fn due<A: Allocator + Copy>(
+    alloc: A,
+    rows: &[Row],
+    clock: u64,
+) -> Result<Vec<Lapse, A>, OutOfMemory>
+    ensures due { IfOk result (λ v. v.items ≡ due_at clock rows.now) }
+    ensures memory { OnErr result (due_at clock rows.now ≢ []) }
+{
+    let mut lapses = Vec::with_capacity(alloc, due_count(rows, clock))?;
+    for row in rows {
+        if let Some(lapse) = lapse_of(&row.0, &row.1, clock) {
+            lapses.push_reserved(lapse);
+        }
+    }
+    Ok(lapses)
+}
+
+/// Whether each number is below this one.
+pub(super) fn are_below(rows: &[Row], number: u64) -> bool
+    ensures { IsTrue result ↔ AllBelow number rows.now }
+{
+    rows.iter().all(|row| row.1.number < number)
+}
+
+/// What is told first at the end of the dialogue.
+pub(super) fn first_ended(rows: &[Row]) -> Option<(u64, i8)>
+    ensures { result ≡ first_ended_at rows.now }
+{
+    for row in rows {
+        if let Some(one) = ended_of(&row.0, &row.1) {
+            return Some(one);
+        }
+    }
+    None
+}
+
+/// How many invocations are Queued or Sent.
+pub(super) fn ended_count(rows: &[Row]) -> usize
+    ensures { result ≡ length (ended_at rows.now) }
+{
+    let mut count = 0;
+    for row in rows {
+        if ended_of(&row.0, &row.1).is_some() {
+            count += 1;
+        }
+    }
+    count
+}
+
+/// What is told of each invocation at the end of the dialogue, with all room found first.
+pub(super) fn ended<A: Allocator + Copy>(
+    alloc: A,
+    rows: &[Row],
+) -> Result<Vec<(u64, i8), A>, OutOfMemory>
+    ensures told { IfOk result (λ v. v.items ≡ ended_at rows.now) }
+    ensures memory { OnErr result (ended_at rows.now ≢ []) }
+{
+    let mut ended = Vec::with_capacity(alloc, ended_count(rows))?;
+    for row in rows {
+        if let Some(one) = ended_of(&row.0, &row.1) {
+            ended.push_reserved(one);
+        }
+    }
+    Ok(ended)
+}

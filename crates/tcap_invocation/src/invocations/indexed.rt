@@ -1,0 +1,468 @@
+//! Many invocations: by their identifiers in a map, together with their timers.
+
+ghost use Rattle.std.specs.List.{IsDistinct};
+ghost use Rattle.std.specs.Map.{keys_of};
+ghost use Rattle.std.specs.Ordering.{int_eq};
+ghost use Rattle.std.specs.Prelude.{◌≡◌, ◌↔◌, ◌≢◌, ◌<◌, ◌≤◌, ◌*◌, ◌++◌, ◌∷◌, [], ℕ, List, None, false, IsTrue, length, min, filter, slice_get, option_copied, Some, IfOk, OnOk, OnErr};
+ghost use Rattle.tcap_invocation.specs.declared.invocations.timers.Timer.{Timer};
+ghost use Rattle.tcap_invocation.specs.declared.stage.Stage.TheVariants.{Waiting};
+ghost use Rattle.tcap_invocation.specs.Closing.{ended_at, first_ended_at};
+ghost use Rattle.tcap_invocation.specs.Invocations.{Row, AllBelow, AreInOrder, entry_at, sent_at, without, at_stage, sent_rows};
+ghost use Rattle.tcap_invocation.specs.Lapses.{due_at, told_at, first_due_at, is_held, stays};
+ghost use Rattle.tcap_invocation.specs.Rows.{AreSorted, IsNew};
+ghost use Rattle.tcap_invocation.specs.Stage.{is_queued, moment_limit};
+ghost use Rattle.tcap_invocation.specs.TimerList.{IsTimed, AreQueuedLast, timer_of, put_timer, sent_place, sent_below};
+ghost use Rattle.tcap_invocation.specs.Timers.{next_timer_at};
+
+use super::Invocation;
+use super::closing::ended_of;
+use super::lapse::Lapse;
+use super::timers::{Timer, Timers};
+use crate::stage::Stage;
+use ber_core::OutOfMemory;
+use indexmap::IndexMap;
+use std::alloc::{AllocError, Allocator};
+use std::hash::{BuildHasherDefault, FoldHasher};
+use std::marker::Model;
+
+/// The invocations by their identifiers, in order of number.
+type Entries<A> = IndexMap<i8, Invocation, BuildHasherDefault<FoldHasher>, A>;
+
+/// Where the time of so many has come, one walk through all frees each identifier whose wait is over. Fewer are freed
+/// one by one, which costs less: mostly one wait ends at a moment.
+const MANY: usize = 3;
+
+/// Where the list is shorter than this, a walk through it costs less, however few are freed.
+const SHORT: usize = 6;
+
+/// The invocations by their identifiers, with their timers. A contract sees the rows, and forgets the timers, which
+/// are those of the rows.
+#[derive(Debug, Drop)]
+pub(super) struct Indexed<A: Allocator + Copy> {
+    entries: Entries<A>,
+    /// Of each Sent or Waiting entry, with room for one of each entry.
+    timers: Timers<A>,
+}
+
+impl<A: Allocator + Copy> Model for Indexed<A> {
+    ghost use Rattle.std.specs.Prelude.{List};
+    ghost use Rattle.tcap_invocation.specs.Invocations.{Row};
+    ghost use Rattle.tcap_invocation.specs.Rows.{AreSorted};
+    ghost use Rattle.tcap_invocation.specs.TimerList.{IsTimed};
+
+    ghost Value = { List Row };
+
+    ghost view = { λ v. v.entries.entries };
+
+    ghost invariant = { λ v. AreSorted v.entries.entries × IsTimed v.entries.entries v.timers };
+}
+
+impl<A: Allocator + Copy> Indexed<A> {
+    /// These rows.
+    pub(super) fn of_few(alloc: A, rows: &[(i8, Invocation)]) -> Result<Indexed<A>, AllocError>
+        requires { AreSorted rows.now }
+        ensures { IfOk result (λ indexed. indexed ≡ rows.now) }
+    {
+        let mut entries = IndexMap::new(alloc);
+        let mut timers = Timers::new(alloc);
+        entries.reserve(rows.len())?;
+        timers.reserve(rows.len())?;
+        for (id, entry) in rows {
+            take_in(&mut entries, &mut timers, id, entry)?;
+        }
+        Ok(Indexed { entries, timers })
+    }
+
+    /// Takes all out; the room stays.
+    pub(super) fn clear(&mut self)
+        ensures { self.new ≡ [] }
+    {
+        self.timers.clear();
+        self.entries.clear();
+    }
+
+    /// For how many there is memory: the greater of what the map and the timers have room for. The map may show less
+    /// than it has once many were taken out.
+    pub(super) fn capacity(&self) -> usize
+        ensures { min (length self.now) 256 ≤ result }
+    {
+        self.entries.capacity().max(self.timers.capacity())
+    }
+
+    /// The invocation that has the identifier.
+    pub(super) fn get(&self, id: &i8) -> Option<&Invocation>
+        ensures { option_copied result ≡ entry_at self.now id.now }
+    {
+        self.entries.get(id)
+    }
+
+    /// Takes an invocation in that is Queued, under an identifier that is free and a number above all.
+    pub(super) fn push(&mut self, id: i8, entry: Invocation) -> Result<(), AllocError>
+        requires { IsNew self.old id entry }
+        ensures ok { OnOk result (self.new ≡ self.old ++ (id, entry) ∷ []) }
+        ensures err { OnErr result (self.new ≡ self.old) }
+    {
+        self.timers.reserve(self.entries.len() + 1)?;
+        self.entries.insert(id, entry)?;
+        Ok(())
+    }
+
+    /// Takes an invocation out, with its timer.
+    pub(super) fn take_out(&mut self, id: &i8, entry: &Invocation)
+        requires { entry_at self.old id.now ≡ Some entry.now }
+        ensures { self.new ≡ without self.old id.now }
+    {
+        take_out(&mut self.entries, &mut self.timers, id, entry);
+    }
+
+    /// The identifier of an invocation that a result or an error closed waits for a Reject.
+    pub(super) fn wait(&mut self, id: &i8, entry: Invocation, until: u64)
+        requires until { until ≤ 2 * moment_limit }
+        requires found { sent_at self.old id.now ≡ Some entry }
+        ensures { self.new ≡ at_stage self.old id.now entry (Waiting until) }
+    {
+        wait(&mut self.entries, &mut self.timers, id, entry, until);
+    }
+
+    /// The message with the queued Invokes goes out at this moment: each gets its deadline.
+    pub(super) fn send_queued(&mut self, clock: u64)
+        requires { clock ≤ moment_limit }
+        ensures { self.new ≡ sent_rows clock self.old }
+    {
+        send_queued(&mut self.entries, &mut self.timers, clock);
+    }
+
+    /// The moment at which time next changes something.
+    #[tactic(auto, using(crate::proofs::TimelyLemmas::timely_rules))]
+    pub(super) fn next_timer(&self) -> Option<u64>
+        ensures { result ≡ next_timer_at self.now }
+    {
+        Some(self.timers.first()?.time)
+    }
+
+    /// How many Sent invocations have a deadline at most the clock.
+    #[tactic(auto, using(crate::proofs::TimelyLemmas::timely_rules))]
+    pub(super) fn due_count(&self, clock: u64) -> usize
+        ensures { result ≡ length (due_at clock self.now) }
+    {
+        self.timers.due_count(clock)
+    }
+
+    /// Of these the first by deadline, then number.
+    #[tactic(auto, using(crate::proofs::TimelyLemmas::timely_rules))]
+    pub(super) fn first_due(&self, clock: u64) -> Option<Lapse>
+        ensures { result ≡ first_due_at clock self.now }
+    {
+        self.timers.first_due(clock)
+    }
+
+    /// Takes out each invocation whose deadline, and each identifier whose wait, is over at the clock, and tells the
+    /// former by deadline, then number, with all room found first.
+    pub(super) fn lapse(&mut self, clock: u64) -> Result<Vec<Lapse, A>, OutOfMemory>
+        ensures told { IfOk result (λ v. v.items ≡ told_at clock self.old) }
+        ensures rows { OnOk result (self.new ≡ filter (λ r. stays clock r.1.stage) self.old) }
+        ensures err { OnErr result (self.new ≡ self.old) }
+        ensures memory { OnErr result (told_at clock self.old ≢ []) }
+    {
+        if !self.timers.is_due(clock) {
+            return Ok(Vec::new(*self.entries.allocator()));
+        }
+        let told = self.timers.due_lapses(clock)?;
+        self.timers.expire(clock);
+        self.entries.retain(
+            |_id: &i8, entry: &mut Invocation| -> bool
+                ensures { (result ≡ stays clock entry.old.stage) × (entry.new ≡ entry.old) }
+            { entry.stage.stays(clock) },
+        );
+        Ok(told)
+    }
+
+    /// Frees each identifier whose wait is over at the clock.
+    pub(super) fn free_due(&mut self, clock: u64)
+        ensures { self.new ≡ filter (λ r. is_held clock r.1.stage) self.old }
+    {
+        if !self.timers.is_due(clock) {
+            return;
+        }
+        if self.entries.len() < SHORT || self.timers.is_due_behind(MANY - 2, clock) {
+            self.free_all(clock);
+        } else {
+            self.free_each(clock);
+        }
+    }
+
+    /// `free_due`, one by one.
+    #[inline(never)]
+    fn free_each(&mut self, clock: u64)
+        ensures { self.new ≡ filter (λ r. is_held clock r.1.stage) self.old }
+    {
+        while self.free_first(clock) {}
+    }
+
+    /// Frees the first identifier whose wait is over at the clock: whether there was one.
+    fn free_first(&mut self, clock: u64) -> bool
+        ensures same { filter (λ r. is_held clock r.1.stage) self.new ≡ filter (λ r. is_held clock r.1.stage) self.old }
+        ensures none { result ≡ false → filter (λ r. is_held clock r.1.stage) self.new ≡ self.new }
+        ensures fewer { IsTrue result → length self.new < length self.old }
+    {
+        if !self.timers.is_due(clock) {
+            return false;
+        }
+        let Some(timer) = self.timers.first_over(clock) else {
+            return false;
+        };
+        let Some(entry) = self.entries.get(&timer.id).copied() else {
+            return false;
+        };
+        take_out(&mut self.entries, &mut self.timers, &timer.id, &entry);
+        true
+    }
+
+    /// `free_due`, by one walk through all.
+    fn free_all(&mut self, clock: u64)
+        ensures { self.new ≡ filter (λ r. is_held clock r.1.stage) self.old }
+    {
+        self.timers.end_waits(clock);
+        self.entries.retain(
+            |_id: &i8, entry: &mut Invocation| -> bool
+                ensures { (result ≡ is_held clock entry.old.stage) × (entry.new ≡ entry.old) }
+            { entry.stage.is_held(clock) },
+        );
+    }
+
+    /// Whether each number is below this one.
+    #[tactic(auto, using(crate::proofs::OrderLemmas::below_rules))]
+    pub(super) fn are_below(&self, number: u64) -> bool
+        ensures { IsTrue result ↔ AllBelow number self.now }
+    {
+        self.entries.values().all(|entry| entry.number < number)
+    }
+
+    /// What is told first at the end of the dialogue.
+    pub(super) fn first_ended(&self) -> Option<(u64, i8)>
+        ensures { result ≡ first_ended_at self.now }
+    {
+        for (id, entry) in self.entries.iter() {
+            if let Some(one) = ended_of(id, entry) {
+                return Some(one);
+            }
+        }
+        None
+    }
+
+    /// How many invocations are Queued or Sent.
+    pub(super) fn ended_count(&self) -> usize
+        ensures { result ≡ length (ended_at self.now) }
+    {
+        self.entries
+            .iter()
+            .filter_map(|(id, entry)| ended_of(id, entry))
+            .count()
+    }
+
+    /// What is told of each invocation at the end of the dialogue, with all room found first.
+    pub(super) fn ended(&self) -> Result<Vec<(u64, i8), A>, OutOfMemory>
+        ensures told { IfOk result (λ v. v.items ≡ ended_at self.now) }
+        ensures memory { OnErr result (ended_at self.now ≢ []) }
+    {
+        let mut ended = Vec::with_capacity(*self.entries.allocator(), self.ended_count())?;
+        for (id, entry) in self.entries.iter() {
+            if let Some(one) = ended_of(id, entry) {
+                ended.push_reserved(one);
+            }
+        }
+        Ok(ended)
+    }
+}
+
+/// The timer of an invocation; there is none while it is Queued.
+fn timer_of(id: &i8, entry: &Invocation) -> Option<Timer>
+    ensures { result ≡ timer_of (id.now, entry.now) }
+{
+    let (time, lapses) = match entry.stage {
+        Stage::Queued(_) => return None,
+        Stage::Sent(deadline) => (deadline, true),
+        Stage::Waiting(until) => (until, false),
+    };
+    Some(Timer {
+        time,
+        number: entry.number,
+        id: *id,
+        lapses,
+    })
+}
+
+/// Takes the timer of an invocation out of the list, if it has one.
+fn drop_timer<A: Allocator + Copy>(timers: &mut Timers<A>, id: &i8, entry: &Invocation)
+    ensures timers { (rest : List Timer) → timers.old.timers ≡ put_timer (timer_of (id.now, entry.now)) rest
+        → timers.new.timers ≡ rest }
+    ensures room { timers.new.room ≡ timers.old.room }
+{
+    if let Some(timer) = timer_of(id, entry) {
+        timers.remove(timer);
+    }
+}
+
+/// Puts the timer of an invocation into the list, if it has one, in room that is there.
+fn put_timer<A: Allocator + Copy>(timers: &mut Timers<A>, id: &i8, entry: &Invocation)
+    requires { length timers.old.timers < timers.old.room }
+    ensures timers { timers.new.timers ≡ put_timer (timer_of (id.now, entry.now)) timers.old.timers }
+    ensures room { timers.old.room ≤ timers.new.room }
+{
+    if let Some(timer) = timer_of(id, entry) {
+        timers.insert(timer);
+    }
+}
+
+/// Takes an invocation in, whose number is above all, with its timer, in room that is there.
+fn take_in<A: Allocator + Copy>(
+    entries: &mut Entries<A>,
+    timers: &mut Timers<A>,
+    id: &i8,
+    entry: &Invocation,
+) -> Result<(), AllocError>
+    requires free { entry_at entries.old.entries id.now ≡ None }
+    requires room { length timers.old.timers < timers.old.room }
+    ensures rows { OnOk result (entries.new.entries ≡ entries.old.entries ++ (id.now, entry.now) ∷ []) }
+    ensures timers { timers.new.timers ≡ put_timer (timer_of (id.now, entry.now)) timers.old.timers }
+    ensures room { timers.old.room ≤ timers.new.room }
+{
+    put_timer(timers, id, entry);
+    entries.insert(*id, *entry)?;
+    Ok(())
+}
+
+/// Takes an invocation out, with its timer.
+fn take_out<A: Allocator + Copy>(
+    entries: &mut Entries<A>,
+    timers: &mut Timers<A>,
+    id: &i8,
+    entry: &Invocation,
+)
+    requires found { entry_at entries.old.entries id.now ≡ Some entry.now }
+    requires order { AreInOrder entries.old.entries }
+    requires timed { IsTimed entries.old.entries timers.old }
+    requires last { AreQueuedLast entries.old.entries }
+    ensures rows { entries.new.entries ≡ without entries.old.entries id.now }
+    ensures order { AreInOrder entries.new.entries }
+    ensures distinct { IsDistinct int_eq (keys_of entries.new.entries) }
+    ensures timed { IsTimed entries.new.entries timers.new }
+    ensures last { AreQueuedLast entries.new.entries }
+{
+    drop_timer(timers, id, entry);
+    entries.shift_remove(id);
+}
+
+/// The identifier of an invocation that a result or an error closed waits for a Reject.
+fn wait<A: Allocator + Copy>(
+    entries: &mut Entries<A>,
+    timers: &mut Timers<A>,
+    id: &i8,
+    entry: Invocation,
+    until: u64,
+)
+    requires until { until ≤ 2 * moment_limit }
+    requires found { sent_at entries.old.entries id.now ≡ Some entry }
+    requires order { AreInOrder entries.old.entries }
+    requires timed { IsTimed entries.old.entries timers.old }
+    requires last { AreQueuedLast entries.old.entries }
+    ensures rows { entries.new.entries ≡ at_stage entries.old.entries id.now entry (Waiting until) }
+    ensures order { AreInOrder entries.new.entries }
+    ensures distinct { IsDistinct int_eq (keys_of entries.new.entries) }
+    ensures timed { IsTimed entries.new.entries timers.new }
+    ensures last { AreQueuedLast entries.new.entries }
+{
+    drop_timer(timers, id, &entry);
+    let waiting = Invocation {
+        stage: Stage::Waiting(until),
+        ..entry
+    };
+    put_timer(timers, id, &waiting);
+    if let Some(place) = entries.get_mut(id) {
+        *place = waiting;
+    }
+}
+
+/// The message with the queued Invokes goes out at this moment: each gets its deadline.
+fn send_queued<A: Allocator + Copy>(entries: &mut Entries<A>, timers: &mut Timers<A>, clock: u64)
+    requires clock { clock ≤ moment_limit }
+    requires order { AreInOrder entries.old.entries }
+    requires distinct { IsDistinct int_eq (keys_of entries.old.entries) }
+    requires timed { IsTimed entries.old.entries timers.old }
+    requires last { AreQueuedLast entries.old.entries }
+    ensures rows { entries.new.entries ≡ sent_rows clock entries.old.entries }
+    ensures order { AreInOrder entries.new.entries }
+    ensures distinct { IsDistinct int_eq (keys_of entries.new.entries) }
+    ensures timed { IsTimed entries.new.entries timers.new }
+    ensures last { AreQueuedLast entries.new.entries }
+{
+    for place in first_queued(entries)..entries.len() {
+        send_at(entries, timers, place, clock);
+    }
+}
+
+/// A place before which none is Queued, and behind which all are. Since they stand behind all others, they
+/// are counted from the end, and those that were sent long ago aren't looked at.
+fn first_queued<A: Allocator + Copy>(entries: &Entries<A>) -> usize
+    requires { AreQueuedLast entries.now.entries }
+    ensures { (clock : ℕ) → sent_below clock result entries.now.entries ≡ entries.now.entries }
+{
+    if entries.len() <= 1 {
+        return 0;
+    }
+    search_queued(entries)
+}
+
+/// `first_queued`, of more than one.
+#[inline(never)]
+fn search_queued<A: Allocator + Copy>(entries: &Entries<A>) -> usize
+    requires { AreQueuedLast entries.now.entries }
+    ensures { (clock : ℕ) → sent_below clock result entries.now.entries ≡ entries.now.entries }
+{
+    let mut place = entries.len().saturating_sub(1);
+    while 0 < place && is_queued(entries, place - 1) {
+        place -= 1;
+    }
+    place
+}
+
+/// Whether the one at this place is Queued.
+fn is_queued<A: Allocator + Copy>(entries: &Entries<A>, place: usize) -> bool
+    ensures { result ≡ false → (r : Row) → slice_get entries.now.entries place ≡ Some r
+        → is_queued r.1.stage ≡ false }
+{
+    match entries.get_index(place) {
+        Some((_, entry)) => entry.stage.is_queued(),
+        None => false,
+    }
+}
+
+/// The one at this place is sent, if it is Queued.
+fn send_at<A: Allocator + Copy>(
+    entries: &mut Entries<A>,
+    timers: &mut Timers<A>,
+    place: usize,
+    clock: u64,
+)
+    requires clock { clock ≤ moment_limit }
+    requires order { AreInOrder entries.old.entries }
+    requires distinct { IsDistinct int_eq (keys_of entries.old.entries) }
+    requires timed { IsTimed entries.old.entries timers.old }
+    ensures rows { entries.new.entries ≡ sent_place clock place entries.old.entries }
+    ensures order { AreInOrder entries.new.entries }
+    ensures distinct { IsDistinct int_eq (keys_of entries.new.entries) }
+    ensures timed { IsTimed entries.new.entries timers.new }
+{
+    let Some((id, entry)) = entries.get_index(place) else {
+        return;
+    };
+    let Stage::Queued(timeout) = entry.stage else {
+        return;
+    };
+    let sent = Invocation {
+        stage: Stage::Sent(clock + timeout),
+        ..*entry
+    };
+    put_timer(timers, id, &sent);
+    entries[place] = sent;
+}
