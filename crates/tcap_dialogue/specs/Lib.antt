@@ -3,6 +3,7 @@ pub mod AskViews
 pub mod Beginning
 pub mod ComponentRefusals
 pub mod HandledViews
+pub mod KeptOctets
 pub mod RequestForm
 pub mod RequestMessages
 pub mod StepViews

@@ -10,6 +10,7 @@ pub(crate) mod dialogue_request_faults;
 pub(crate) mod dialogue_requests;
 pub(crate) mod ending;
 pub(crate) mod getters;
+pub(crate) mod kept_address;
 pub(crate) mod lending;
 pub(crate) mod messages;
 pub(crate) mod request_message;
@@ -21,9 +22,9 @@ ghost use Rattle.std.specs.Prelude.{◌≡◌, ◌≤◌};
 ghost use Rattle.tcap_invocation.specs.Stage.{moment_limit};
 ghost use Rattle.tcap_model.specs.Table.Dialogue.{fresh_dialogue};
 
+use kept_address::KeptAddress;
 use std::alloc::{Allocator, Global};
 use std::marker::Model;
-use tcap_address::Address;
 use tcap_invocation::Invocations;
 use tcap_primitives::{Context, Output, Queue};
 use tcap_reception::Phase;
@@ -61,7 +62,7 @@ pub struct Dialogue<A: Allocator + Copy = Global> {
     /// The clock at its last activity, 0 if there was none.
     touched: u64,
     /// The address to which its messages go, empty before there is one.
-    kept: Address,
+    kept: KeptAddress<A>,
 }
 
 impl<A: Allocator + Copy> Model for Dialogue<A> {
@@ -107,7 +108,7 @@ impl<A: Allocator + Copy> Dialogue<A> {
             invocations: Invocations::new(alloc, reject_ms),
             idle_ms,
             touched: 0,
-            kept: Address::empty(),
+            kept: KeptAddress::empty(),
         }
     }
 }

@@ -19,6 +19,7 @@ ghost use Rattle.tcap_pdu.specs.FramePortions.{reason_slice};
 ghost use Rattle.tcap_pdu.specs.FrameViews.{reason_of};
 
 use super::ending::tell_ended;
+use super::kept_address::KeptAddress;
 use super::{Dialogue, Step};
 use ber_core::OutOfMemory;
 use std::alloc::Allocator;
@@ -122,12 +123,12 @@ fn is_no_common(diagnostic: Diagnostic) -> bool
 
 /// The address of the peer of a Continue: the one that is kept, or in Sent that of its sender (our own).
 #[inline]
-fn address_by<'a>(phase: &Phase, kept: &'a Address, from: &'a Address) -> &'a Address
-    ensures { result.now ≡ address_by (phase_view phase.now) kept.now from.now }
+fn address_by<A: Allocator + Copy>(phase: &Phase, kept: &KeptAddress<A>, from: &Address) -> Address
+    ensures { result ≡ address_by (phase_view phase.now) kept.now from.now }
 {
     match phase {
-        Phase::Sent => from,
-        Phase::Fresh | Phase::Received(_) | Phase::Active(_) => kept,
+        Phase::Sent => from.copied(),
+        Phase::Fresh | Phase::Received(_) | Phase::Active(_) => kept.to_address(),
     }
 }
 
@@ -199,7 +200,7 @@ impl<A: Allocator + Copy> Dialogue<A> {
         let bytes = write_abort(alloc, &Abort::Abnormal { peer })?;
         let count = self.invocations.open_count().saturating_add(2);
         let mut outputs = Vec::with_capacity(alloc, count)?;
-        let to = address_by(&self.phase, &self.kept, from).copied();
+        let to = address_by(&self.phase, &self.kept, from);
         outputs.push_reserved(Output::Send { to, bytes });
         outputs.push_reserved(Output::PAbort {
             dialogue: self.identifier,

@@ -1,10 +1,11 @@
 //! What creates a dialogue: a Begin.
 
-ghost use Rattle.std.specs.Prelude.{◌≡◌, ℕ, ◌≤◌, Option, true, option_copied, IfOk, IfSome, OnErr};
+ghost use Rattle.std.specs.Prelude.{◌≡◌, ℕ, ◌≤◌, Option, true, option_copied, IfOk, IfSome, OnOk, OnErr};
 ghost use Rattle.ber_core.specs.ObjectIdentifier.{IsObjectIdentifier};
 ghost use Rattle.ber_core.specs.Place.{Slice};
 ghost use Rattle.tcap_dialogue.specs.Beginning.{begun, begun_from};
 ghost use Rattle.tcap_reception.specs.PortionParts.{Given, GivenIn, context_of_portion, info_of_portion, context_slice};
+ghost use Rattle.tcap_primitives.specs.ContextViews.{context_view};
 ghost use Rattle.tcap_primitives.specs.Slices.{AllInPlace, PartsLieIn};
 ghost use Rattle.tcap_dialogue.specs.StepViews.{at_clock, outcome};
 ghost use Rattle.tcap_invocation.specs.Stage.{moment_limit};
@@ -12,6 +13,7 @@ ghost use Rattle.tcap_model.specs.Procedures.Refusals.{can_name};
 ghost use Rattle.tcap_model.specs.Table.TableMove.{born};
 
 use super::Dialogue;
+use super::kept_address::KeptAddress;
 use super::spares::Spares;
 use crate::component_handling::message::{handle_components, reserve_rejects, room_for};
 use ber_core::OutOfMemory;
@@ -34,6 +36,27 @@ pub(super) fn parts_of<'m>(pdu: Option<(&'m [u8], &'m [u8])>) -> (Option<&'m [u8
         None => (None, &[]),
         Some((context, info)) => (Some(context), info),
     }
+}
+
+/// What a dialogue keeps of a Begin for good: the address of the peer, and the context.
+#[inline]
+pub(super) fn keep_names<A: Allocator + Copy>(
+    alloc: A,
+    kept: &mut KeptAddress<A>,
+    named: &mut Option<Context<A>>,
+    peer: &Address,
+    context: Option<&[u8]>,
+) -> Result<(), OutOfMemory>
+    requires { can_name (option_copied context) ≡ true }
+    ensures kept { OnOk result (kept.new ≡ peer.now) }
+    ensures named { OnOk result (context_view named.new ≡ option_copied context.entry) }
+    ensures kept_err { OnErr result (kept.new ≡ kept.old) }
+    ensures named_err { OnErr result (context_view named.new ≡ context_view named.old) }
+{
+    let copy = Context::of_any(alloc, context)?;
+    kept.set(alloc, peer)?;
+    *named = copy;
+    Ok(())
 }
 
 impl<A: Allocator + Copy> Dialogue<A> {
@@ -63,7 +86,7 @@ impl<A: Allocator + Copy> Dialogue<A> {
         let mut outputs = Vec::with_capacity(alloc, items.saturating_add(1))?;
         spares.lend_queue(&mut self.queue, items.saturating_mul(MAX_REJECT));
         reserve_rejects(&mut self.queue, components, items)?;
-        self.context = Context::of_any(alloc, context)?;
+        keep_names(alloc, &mut self.kept, &mut self.context, from, context)?;
         outputs.push_reserved(Output::Begin {
             dialogue: self.identifier,
             context,
@@ -78,7 +101,6 @@ impl<A: Allocator + Copy> Dialogue<A> {
             &mut outputs,
         );
         self.phase = Phase::Received(otid.copied());
-        self.kept.set(from);
         if self.queue.parts.is_empty() {
             spares.keep_queue(&mut self.queue);
         }
@@ -121,8 +143,8 @@ impl<A: Allocator + Copy> Dialogue<A> {
 
     /// The Begin that creates the dialogue, in which nothing has happened: what is told; the arguments are those
     /// of `accept`. The Rejects that answer its components may take memory of `spares` (Q.774, Dialogue begin).
-    // It stands where it is to stay: a dialogue is 560 octets, with the address 256 of them, and each move on
-    // its way into a table copied and cleared them again.
+    // It stands where it is to stay: a dialogue is 336 octets, and each move on its way into a table copied and
+    // cleared them again.
     #[tactic(auto, using(crate::proofs::PortionNames::named_given))]
     #[inline(always)]
     pub fn hear_begin<'m>(

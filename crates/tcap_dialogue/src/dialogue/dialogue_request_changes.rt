@@ -1,11 +1,9 @@
 //! What a request of dialogue handling changes, once no fault is due.
 
-ghost use Rattle.std.specs.Prelude.{◌≡◌, ◌+◌, ◌<◌, ◌≤◌, ◌||◌, ◌++◌, ◌∷◌, [], List, ℕ, true, false, is_some, nat_lt, option_copied, IfOk, OnErr, IsTrue, vec_len, vec_capacity};
+ghost use Rattle.std.specs.Prelude.{◌≡◌, ◌+◌, ◌≤◌, ◌||◌, true, false, is_some, nat_lt, option_copied, IfOk, OnErr, IsTrue, vec_len, vec_capacity};
 ghost use Rattle.tcap_primitives.specs.ControlViews.{control_view};
 ghost use Rattle.tcap_dialogue.specs.RequestForm.{takes_memory};
 ghost use Rattle.tcap_dialogue.specs.RequestMessages.{Spells};
-ghost use Rattle.std.specs.declared.vec.Vec.{Vec};
-ghost use Rattle.tcap_primitives.specs.declared.output.Output.TheVariants as output_variants;
 ghost use Rattle.tcap_primitives.specs.OutputViews.{all_shown};
 ghost use Rattle.tcap_reception.specs.StateViews.{phase_view};
 ghost use Rattle.tcap_dialogue.specs.StepViews.{asked, outcome, stepped};
@@ -13,59 +11,28 @@ ghost use Rattle.tcap_invocation.specs.Stage.{moment_limit};
 ghost use Rattle.tcap_model.specs.Procedures.Refusals.{can_name, context_given};
 ghost use Rattle.tcap_model.specs.Procedures.RequestMessage.{message_of, request_address};
 ghost use Rattle.tcap_model.specs.Table.TableMove.{accepted, gone_out, over_with, sent_for_request};
-ghost use Rattle.tcap_model.specs.Words.Output as model;
 ghost use Rattle.tcap_model.specs.Words.Request.{DialogueRequest, Request};
 
+use super::beginning::keep_names;
 use super::ending::tell_ended;
 use super::{Dialogue, Step};
 use ber_core::OutOfMemory;
 use std::alloc::Allocator;
 use tcap_address::Address;
-use tcap_primitives::{Context, Control, Output};
+use tcap_primitives::{Control, Output};
 use tcap_reception::Phase;
-
-/// Appends a message to this address; there is room for it.
-// The address is set where it stands: it is 256 octets, and a few of them are in use.
-#[inline(always)]
-fn push_send<'m, A: Allocator + Copy>(
-    outputs: &mut Vec<Output<'m, A>, A>,
-    to: &Address,
-    bytes: Vec<u8, A>,
-)
-    requires { vec_len outputs.old < vec_capacity outputs.old }
-    ensures sent { all_shown outputs.new.items ≡ all_shown outputs.old.items
-        ++ model.Output.send to.now bytes.items ∷ [] }
-    ensures room { vec_capacity outputs.old ≤ vec_capacity outputs.new }
-    ensures len { vec_len outputs.new ≡ vec_len outputs.old + 1 }
-{
-    let place = outputs.len();
-    outputs.push_reserved(Output::Send {
-        to: Address::empty(),
-        bytes,
-    });
-    set_destination(&mut outputs[place], to);
-}
-
-/// A message goes to this address.
-#[inline(always)]
-fn set_destination<A: Allocator + Copy>(output: &mut Output<'_, A>, to: &Address)
-    ensures { (old : List ℕ) (bytes : Vec ℕ A) → output.old ≡ output_variants.Send old bytes
-        → output.new ≡ output_variants.Send to.now bytes }
-{
-    if let Output::Send { to: address, .. } = output {
-        address.set(to);
-    }
-}
 
 impl<A: Allocator + Copy> Dialogue<A> {
     /// Where the message of a request goes: to the destination that is named, or else to the peer's address.
     #[inline]
-    fn destination<'a>(&'a self, control: &Control<'a>) -> &'a Address
-        ensures { result.now ≡ request_address self.now.kept (Request.dialogue (control_view control.now)) }
+    fn destination(&self, control: &Control<'_>) -> Address
+        ensures { result ≡ request_address self.now.kept (Request.dialogue (control_view control.now)) }
     {
         match control {
-            Control::Uni { to, .. } | Control::Begin { to, .. } => to,
-            Control::Continue { .. } | Control::End { .. } | Control::Abort { .. } => &self.kept,
+            Control::Uni { to, .. } | Control::Begin { to, .. } => to.copied(),
+            Control::Continue { .. } | Control::End { .. } | Control::Abort { .. } => {
+                self.kept.to_address()
+            }
         }
     }
 
@@ -91,7 +58,10 @@ impl<A: Allocator + Copy> Dialogue<A> {
             None => Ok(Vec::with_capacity(alloc, more)?),
             Some(bytes) => {
                 let mut outputs = Vec::with_capacity(alloc, more.saturating_add(1))?;
-                push_send(&mut outputs, self.destination(control), bytes);
+                outputs.push_reserved(Output::Send {
+                    to: self.destination(control),
+                    bytes,
+                });
                 Ok(outputs)
             }
         }
@@ -124,14 +94,13 @@ impl<A: Allocator + Copy> Dialogue<A> {
         ensures err { OnErr result (self.new ≡ self.old) }
         ensures kept { self.new.standing.identifier ≡ self.old.standing.identifier }
     {
-        let named = Context::of_any(*self.queue.octets.allocator(), context)?;
+        let alloc = *self.queue.octets.allocator();
         let begin = Control::Begin { to, context, info };
         let outputs = self.sent_outputs(&begin, message, 0)?;
+        keep_names(alloc, &mut self.kept, &mut self.context, to, context)?;
         self.send_queue(clock);
         self.phase = Phase::Sent;
-        self.context = named;
         self.touched = clock;
-        self.kept.set(to);
         Ok(Step {
             outputs,
             over: false,

@@ -6,7 +6,6 @@ ghost use Rattle.tcap_model.specs.Words.State.{peer_of};
 
 use super::Dialogue;
 use std::alloc::Allocator;
-use tcap_address::Address;
 use tcap_pdu::TransId;
 use tcap_reception::State;
 
@@ -33,12 +32,12 @@ impl<A: Allocator + Copy> Dialogue<A> {
     }
 
     /// The address to which its messages go: that to which it began, or from which the Begin came that
-    /// made it, or the first Continue to it, if it began; empty before there is one. It takes no memory
-    /// (own).
+    /// made it, or the first Continue to it, if it began: its octets, 0 to 255, none before there is one. It
+    /// takes no memory (own).
     #[inline]
-    pub fn kept(&self) -> &Address
+    pub fn kept(&self) -> &[u8]
         ensures { result.now ≡ self.now.kept }
     {
-        &self.kept
+        self.kept.octets()
     }
 }

@@ -17,6 +17,7 @@ ghost use Rattle.tcap_pdu.specs.FramePortions.{dialogue_slice, components_slice}
 ghost use Rattle.tcap_pdu.specs.FrameViews.{message};
 
 use super::ending::tell_ended;
+use super::kept_address::KeptAddress;
 use super::{Dialogue, Step};
 use crate::component_handling::message::{
     handle_components, handle_in_end, reserve_rejects, room_for,
@@ -30,12 +31,18 @@ use tcap_reception::{Phase, PortionVerdict, judge_portion};
 
 /// The sender of a Continue to a dialogue in Sent is kept; later ones are not (our own).
 #[inline]
-fn keep_sender(phase: &Phase, kept: &mut Address, from: &Address)
-    ensures { kept.new ≡ address_by (phase_view phase.now) kept.old from.now }
+fn keep_sender<A: Allocator + Copy>(
+    alloc: A,
+    phase: &Phase,
+    kept: &mut KeptAddress<A>,
+    from: &Address,
+) -> Result<(), OutOfMemory>
+    ensures ok { OnOk result (kept.new ≡ address_by (phase_view phase.now) kept.old from.now) }
+    ensures err { OnErr result (kept.new ≡ kept.old) }
 {
     match phase {
-        Phase::Sent => kept.set(from),
-        Phase::Fresh | Phase::Received(_) | Phase::Active(_) => {}
+        Phase::Sent => kept.set(alloc, from),
+        Phase::Fresh | Phase::Received(_) | Phase::Active(_) => Ok(()),
     }
 }
 
@@ -60,12 +67,11 @@ impl<A: Allocator + Copy> Dialogue<A> {
         ensures place { (portion : Option Slice) → PartsLieIn 0x61 context.entry info.entry portion
             → IfOk result (λ s. AllInPlace portion components.entry s.outputs.items) }
     {
+        let alloc = *self.queue.octets.allocator();
         let items = room_for(components);
-        let mut outputs = Vec::with_capacity(
-            *self.queue.octets.allocator(),
-            items.saturating_add(1),
-        )?;
+        let mut outputs = Vec::with_capacity(alloc, items.saturating_add(1))?;
         reserve_rejects(&mut self.queue, components, items)?;
+        keep_sender(alloc, &self.phase, &mut self.kept, from)?;
         outputs.push_reserved(Output::Continue {
             dialogue: self.identifier,
             context,
@@ -79,7 +85,6 @@ impl<A: Allocator + Copy> Dialogue<A> {
             &mut self.queue,
             &mut outputs,
         );
-        keep_sender(&self.phase, &mut self.kept, from);
         self.phase = self.phase.continued(origin);
         self.touched = clock;
         Ok(Step {

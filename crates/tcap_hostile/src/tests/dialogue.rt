@@ -148,7 +148,7 @@ fn add_kept<A: Allocator + Copy>(
     told: &mut String,
     dialogue: &Dialogue<A>,
 ) -> Option<()> {
-    let kept = octets_or_dash(alloc, dialogue.kept().octets()).ok()?;
+    let kept = octets_or_dash(alloc, dialogue.kept()).ok()?;
     write!(told, "  kept {kept}\n").ok()
 }
 

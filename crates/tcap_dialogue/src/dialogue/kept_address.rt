@@ -1,0 +1,130 @@
+//! The address that a dialogue keeps, in the memory that it takes.
+
+ghost use Rattle.std.specs.Prelude.{◌≡◌, ◌≤◌, ◌<◌, [], IfOk, OnOk, OnErr, length};
+ghost use Rattle.tcap_dialogue.specs.KeptOctets.{IsKept, kept_octets, most_in_place};
+
+use ber_core::OutOfMemory;
+use std::alloc::Allocator;
+use std::fmt;
+use std::marker::Model;
+use tcap_address::Address;
+
+/// The most octets that stand in the dialogue itself (our own).
+// With them an address is 32 octets, what the vector of a longer one takes with its tag.
+const MOST_IN_PLACE: usize = 30;
+
+/// Where the octets of an address are.
+#[derive(Drop)]
+enum Held<A: Allocator + Copy> {
+    /// Here: the first `len` are the address, those behind mean nothing.
+    InPlace {
+        len: u8,
+        octets: [u8; MOST_IN_PLACE],
+    },
+    /// In a block of memory of their own.
+    Apart(Vec<u8, A>),
+}
+
+/// The address that a dialogue keeps: 0 to 255 octets. At most 30 take no memory of the allocator, more take
+/// one block of so many (our own).
+#[derive(Drop)]
+pub(super) struct KeptAddress<A: Allocator + Copy> {
+    held: Held<A>,
+}
+
+impl<A: Allocator + Copy> Model for KeptAddress<A> {
+    ghost use Rattle.std.specs.Prelude.{List, ℕ};
+    ghost use Rattle.tcap_dialogue.specs.KeptOctets.{kept_octets, IsKept};
+
+    ghost Value = { List ℕ };
+
+    ghost view = { λ a. kept_octets a.held };
+
+    ghost invariant = { λ a. IsKept a.held };
+}
+
+/// As that of `Address`.
+impl<A: Allocator + Copy> fmt::Debug for KeptAddress<A> {
+    fn fmt<W: fmt::Write>(&self, f: &mut fmt::Formatter<W>) -> fmt::Result {
+        f.debug_struct("Address")
+            .field("octets", &self.octets())
+            .finish()
+    }
+}
+
+impl<A: Allocator + Copy> KeptAddress<A> {
+    /// The address of no octets.
+    #[inline]
+    pub(super) fn empty() -> Self
+        ensures { result ≡ [] }
+    {
+        KeptAddress {
+            held: Held::InPlace {
+                len: 0,
+                octets: [0; MOST_IN_PLACE],
+            },
+        }
+    }
+
+    /// A copy of an address.
+    #[inline]
+    pub(super) fn of(alloc: A, address: &Address) -> Result<Self, OutOfMemory>
+        ensures ok { IfOk result (λ kept. kept ≡ address.now) }
+        // What stands in place takes no memory.
+        ensures err { OnErr result (most_in_place < length address.now) }
+    {
+        let octets = address.octets();
+        let held = if octets.len() <= MOST_IN_PLACE {
+            in_place(octets)
+        } else {
+            Held::Apart(Vec::from_slice(alloc, octets)?)
+        };
+        Ok(KeptAddress { held })
+    }
+
+    /// Its octets.
+    #[inline]
+    pub(super) fn octets(&self) -> &[u8]
+        ensures value { result.now ≡ self.now }
+        ensures within { length result.now ≤ 255 }
+    {
+        match &self.held {
+            Held::InPlace { len, octets } => &octets[..usize::from(*len)],
+            Held::Apart(octets) => octets,
+        }
+    }
+
+    /// Becomes a copy of an address, and gives back the memory of the one before.
+    #[inline]
+    pub(super) fn set(&mut self, alloc: A, address: &Address) -> Result<(), OutOfMemory>
+        ensures ok { OnOk result (self.new ≡ address.now) }
+        ensures err { OnErr result (self.new ≡ self.old) }
+        ensures memory { OnErr result (most_in_place < length address.now) }
+    {
+        *self = KeptAddress::of(alloc, address)?;
+        Ok(())
+    }
+
+    /// The same address, for a message.
+    #[inline]
+    pub(super) fn to_address(&self) -> Address
+        ensures { result ≡ self.now }
+    {
+        Address::new(self.octets()).unwrap()
+    }
+}
+
+/// So few octets, in place.
+#[inline]
+fn in_place<A: Allocator + Copy>(octets: &[u8]) -> Held<A>
+    requires { length octets.now ≤ most_in_place }
+    ensures value { kept_octets result ≡ octets.now }
+    ensures kept { IsKept result }
+{
+    let mut place = [0; MOST_IN_PLACE];
+    place[..octets.len()].copy_from_slice(octets);
+    Held::InPlace {
+        len: octets.len() as u8,
+        octets: place,
+    }
+}
