@@ -67,7 +67,7 @@ impl<A: Allocator + Copy> KeptAddress<A> {
     }
 
     /// A copy of an address.
-    #[inline]
+    #[inline(always)]
     pub(super) fn of(alloc: A, address: &Address) -> Result<Self, OutOfMemory>
         ensures ok { IfOk result (λ kept. kept ≡ address.now) }
         // What stands in place takes no memory.
@@ -95,7 +95,7 @@ impl<A: Allocator + Copy> KeptAddress<A> {
     }
 
     /// Becomes a copy of an address, and gives back the memory of the one before.
-    #[inline]
+    #[inline(always)]
     pub(super) fn set(&mut self, alloc: A, address: &Address) -> Result<(), OutOfMemory>
         ensures ok { OnOk result (self.new ≡ address.now) }
         ensures err { OnErr result (self.new ≡ self.old) }
@@ -106,7 +106,7 @@ impl<A: Allocator + Copy> KeptAddress<A> {
     }
 
     /// The same address, for a message.
-    #[inline]
+    #[inline(always)]
     pub(super) fn to_address(&self) -> Address
         ensures { result ≡ self.now }
     {
@@ -115,7 +115,7 @@ impl<A: Allocator + Copy> KeptAddress<A> {
 }
 
 /// So few octets, in place.
-#[inline]
+#[inline(always)]
 fn in_place<A: Allocator + Copy>(octets: &[u8]) -> Held<A>
     requires { length octets.now ≤ most_in_place }
     ensures value { kept_octets result ≡ octets.now }
