@@ -41,7 +41,7 @@ const IDENTIFIERS: usize = 256;
 /// - Getters: `is_open`, `in_use`, `is_above_all`, `capacity`.
 ///
 /// Moments and lengths of time are in milliseconds by the caller's clock. A contract sees the length of
-/// the wait and the rows, and forgets the timers, which are those of the rows, and how much room there is.
+/// the wait and the rows, and forgets how they are kept and how much room there is.
 #[derive(Debug, Drop)]
 pub struct Invocations<A: Allocator + Copy = Global> {
     rows: Rows<A>,
@@ -82,9 +82,9 @@ impl<A: Allocator + Copy> Invocations<A> {
         self.reject_ms = reject_ms;
     }
 
-    /// For how many invocations there is memory: the greater of what the map and the timers have room for, at most
-    /// 256, the number of identifiers. The map may show less than it has once many were taken out; after `renew` it
-    /// shows all, and 0 where there is none. A contract sees the rows alone.
+    /// For how many invocations there is memory, at most 256, the number of identifiers. Where there were more than
+    /// eight it may show less than there is once many were taken out; after `renew` it shows all, and 0 where there is
+    /// none. A contract sees the rows alone.
     pub fn capacity(&self) -> usize
         ensures least { min (length self.now.rows) 256 ≤ result }
         ensures most { result ≤ 256 }

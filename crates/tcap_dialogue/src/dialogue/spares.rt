@@ -19,8 +19,8 @@ const MOST_OCTETS: usize = 256;
 /// Its most components: as many as a vector has room for once there is one.
 const MOST_PARTS: usize = 4;
 
-/// The most invocations of a list that is kept: as many as a map has room for once there is one.
-const MOST_INVOCATIONS: usize = 9;
+/// The most invocations of a list that is kept: as many as stand one after the other at most.
+const MOST_INVOCATIONS: usize = 8;
 
 /// The memory that dialogues which are over left to those that come: of their queues and of their lists of
 /// invocations, 16 of each at most, and none that is large. A dialogue takes it with its first component, in place

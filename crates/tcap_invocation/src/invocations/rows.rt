@@ -18,8 +18,9 @@ use std::alloc::{AllocError, Allocator};
 use std::marker::Model;
 
 /// So many stand one after the other at most.
-// Of these all are looked through for an identifier or the next timer, which takes fewer instructions than a map and
-// a list of timers, and no memory but their own.
+// All of these are looked through for an identifier and for the next timer, which takes no memory but their own.
+// A step that receives a result and sends an Invoke takes 4,143 instructions with 8 Sent, 4,559 with 12 and 4,974
+// with 16; by a map and a list of timers 4,747 with 12 and 4,802 with 16. A lapse turns at 10.
 const FEW: usize = 8;
 
 /// The invocations of a dialogue. A contract sees the rows.
