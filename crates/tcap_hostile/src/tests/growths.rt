@@ -103,7 +103,7 @@ fn examples_with_each_growth_refused(rt: HostRuntime) -> Result<(), Fail> {
     ];
     let Total { examples, growths } = total_of(alloc, Way::Told, texts.as_slice())?;
     assert!(rt;
-        examples == 95 && growths > 900,
+        examples == 98 && growths > 900,
         "{examples} examples, {growths} growths"
     );
     Ok(())
@@ -115,7 +115,7 @@ fn runs_with_each_growth_refused(rt: HostRuntime) -> Result<(), Fail> {
     let texts = [MESSAGES, OUTCOMES, REQUESTS, IDLE, ADDRESSES];
     let Total { examples, growths } = total_of(alloc, Way::Handed, texts.as_slice())?;
     assert!(rt;
-        examples == 51 && growths > 750,
+        examples == 53 && growths > 750,
         "{examples} examples, {growths} growths"
     );
     Ok(())
