@@ -69,9 +69,31 @@ fn count_items(components: &[u8]) -> usize
 }
 
 /// Makes room for the Rejects that answer the components of a message, for which `room_for` gave `items`.
+// A message without components costs no call.
+#[inline(always)]
+pub(crate) fn reserve_rejects<A: Allocator + Copy>(
+    queue: &mut Queue<A>,
+    components: &[u8],
+    items: usize,
+) -> Result<(), AllocError>
+    requires { length (components_of components.now) ≤ items }
+    ensures same { queue_view queue.new ≡ queue_view queue.old }
+    ensures octets { OnOk result (vec_len queue.new.octets + 8 * length (components_of components.now)
+        ≤ vec_capacity queue.new.octets) }
+    ensures parts { OnOk result (vec_len queue.new.parts + length (components_of components.now)
+        ≤ vec_capacity queue.new.parts) }
+{
+    if items == 0 {
+        return Ok(());
+    }
+    reserve_some(queue, components, items)
+}
+
+/// `reserve_rejects`, where there are elements.
 // There is mostly room for all elements, or for none. Where there is some, the components up to the first fault may
 // need no more: to tell that, a few are read once more.
-pub(crate) fn reserve_rejects<A: Allocator + Copy>(
+#[inline(never)]
+fn reserve_some<A: Allocator + Copy>(
     queue: &mut Queue<A>,
     components: &[u8],
     items: usize,
