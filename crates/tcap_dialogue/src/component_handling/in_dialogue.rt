@@ -225,7 +225,7 @@ fn take_component<'m, A: Allocator + Copy>(
 }
 
 /// One component of a message to a dialogue (Q.774, Component handling).
-// Each handler pushes what it tells, so that an `Output`, which is 296 octets, is built in the vector and
+// Each handler pushes what it tells, so that an `Output`, which is 288 octets, is built in the vector and
 // not moved there.
 #[inline(always)]
 pub(crate) fn take_item<'m, A: Allocator + Copy>(

@@ -145,7 +145,7 @@ impl<A: Allocator + Copy> Dialogue<A> {
 
     /// The Begin that creates the dialogue, in which nothing has happened: what is told; the arguments are those
     /// of `accept`. The Rejects that answer its components may take memory of `spares` (Q.774, Dialogue begin).
-    // It stands where it is to stay: a dialogue is 336 octets, and each move on its way into a table copied and
+    // It stands where it is to stay: a dialogue is 200 octets, and each move on its way into a table copied and
     // cleared them again.
     #[tactic(auto, using(crate::proofs::PortionNames::named_given))]
     #[inline(always)]
