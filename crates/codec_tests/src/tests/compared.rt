@@ -201,6 +201,9 @@ fn calls_drawn_by_lot(rt: HostRuntime) -> Result<(), Fail> {
         (3, 3, 3000, MAX_MOMENT - 1000, MAX_MOMENT),
         (4, 200, 1500, 0, 100),
         (5, 256, 600, 0, 0),
+        // Around the number from which on there is a map.
+        (6, 8, 3000, 0, 10),
+        (7, 10, 2000, 0, 100),
     ] {
         let mut draws = Draws {
             seed,

@@ -40,7 +40,7 @@ pub(super) fn parts_of<'m>(pdu: Option<(&'m [u8], &'m [u8])>) -> (Option<&'m [u8
 
 /// What a dialogue keeps of a Begin for good: the address of the peer, and the context.
 // Each call has its own copy, as those of `KeptAddress` have: apart they moved the address twice more, which took
-// 60 instructions a dialogue.
+// 60 instructions a turn of `register`.
 #[inline(always)]
 pub(super) fn keep_names<A: Allocator + Copy>(
     alloc: A,
@@ -145,7 +145,7 @@ impl<A: Allocator + Copy> Dialogue<A> {
 
     /// The Begin that creates the dialogue, in which nothing has happened: what is told; the arguments are those
     /// of `accept`. The Rejects that answer its components may take memory of `spares` (Q.774, Dialogue begin).
-    // It stands where it is to stay: a dialogue is 200 octets, and each move on its way into a table copied and
+    // It stands where it is to stay: a dialogue is 192 octets, and each move on its way into a table copied and
     // cleared them again.
     #[tactic(auto, using(crate::proofs::PortionNames::named_given))]
     #[inline(always)]

@@ -7,6 +7,8 @@ ghost use Rattle.tcap_reception.specs.PortionViews.{portion_view, PortionIn};
 ghost use Rattle.tcap_primitives.specs.QueueViews.{queue_view};
 ghost use Rattle.tcap_primitives.specs.Slices.{AllInPlace, PartsLieIn};
 ghost use Rattle.tcap_reception.specs.StateViews.{phase_view};
+ghost use Rattle.tcap_dialogue.specs.KeptOctets.{most_in_place};
+ghost use Rattle.tcap_model.specs.Words.State.State.{sent};
 ghost use Rattle.tcap_dialogue.specs.StepViews.{at_clock, outcome, stepped};
 ghost use Rattle.tcap_invocation.specs.Stage.{moment_limit};
 ghost use Rattle.tcap_model.specs.Procedures.PortionRules.{portion_verdict};
@@ -39,6 +41,7 @@ fn keep_sender<A: Allocator + Copy>(
 ) -> Result<(), OutOfMemory>
     ensures ok { OnOk result (kept.new ≡ address_by (phase_view phase.now) kept.old from.now) }
     ensures err { OnErr result (kept.new ≡ kept.old) }
+    ensures memory { OnErr result ((phase_view phase.now ≡ sent) × (most_in_place < length from.now)) }
 {
     match phase {
         Phase::Sent => kept.set(alloc, from),

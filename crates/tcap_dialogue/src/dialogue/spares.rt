@@ -19,8 +19,9 @@ const MOST_OCTETS: usize = 256;
 /// Its most components: as many as a vector has room for once there is one.
 const MOST_PARTS: usize = 4;
 
-/// The most invocations of a list that is kept: as many as stand one after the other at most.
-const MOST_INVOCATIONS: usize = 8;
+/// The most invocations of a list that is kept: as many as there is room for once there is one, so that who takes it
+/// takes no more than of its own.
+const MOST_INVOCATIONS: usize = 4;
 
 /// The memory that dialogues which are over left to those that come: of their queues and of their lists of
 /// invocations, 16 of each at most, and none that is large. A dialogue takes it with its first component, in place

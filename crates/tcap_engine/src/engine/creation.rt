@@ -83,7 +83,7 @@ impl<A: Allocator + Copy> Engine<A> {
     }
 
     /// Takes in a dialogue that is created under the next identifier, which is drawn then.
-    // A dialogue is 200 octets: built in place, it isn't moved from call to call on its way into the table.
+    // A dialogue is 192 octets: built in place, it isn't moved from call to call on its way into the table.
     #[inline(always)]
     fn keep(&mut self, dialogue: Dialogue<A>) -> Result<(), OutOfMemory>
         requires free { birth_fault_in self.old ≡ None }

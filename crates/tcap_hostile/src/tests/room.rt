@@ -48,17 +48,17 @@ fn growths(heap: Heap<'_>, load: Load) -> Option<u64> {
     None
 }
 
-/// The ring of the timers doubles once at most, which takes one block, and the map once at most, which takes four.
-const MOST_GROWTHS: u64 = 5;
+/// The ring of the timers doubles once, which takes one block, and the map once, which takes four.
+const GROWTHS: u64 = 5;
 
 const LOADS: [Load; 2] = [
     Load {
         sent: 40,
-        queued: 25,
+        queued: 17,
     },
     Load {
         sent: 60,
-        queued: 68,
+        queued: 53,
     },
 ];
 
@@ -66,11 +66,7 @@ const LOADS: [Load; 2] = [
 fn room_doubles_while_invocations_are_queued(rt: HostRuntime) -> Result<(), Fail> {
     let heap = Refusing::new(rt.alloc());
     for load in LOADS {
-        let growths = growths(&heap, load);
-        assert!(rt;
-            growths.is_some_and(|count| count <= MOST_GROWTHS),
-            "{growths:?}"
-        );
+        assert_eq!(rt; growths(&heap, load), Some(GROWTHS));
     }
     Ok(())
 }

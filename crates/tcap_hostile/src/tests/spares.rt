@@ -227,14 +227,15 @@ fn growths_left(own: u64, taken: Taken) -> u64 {
 /// A small Invoke, of 13 octets.
 const SMALL: Load = Load(1, 2);
 
-const SCENES: [(Scene, Taken); 13] = [
+const SCENES: [(Scene, Taken); 14] = [
     (Scene::After(SMALL, SMALL), Taken::Both),
     (Scene::After(Load(1, 240), Load(1, 240)), Taken::Both),
     (Scene::After(Load(1, 200), Load(1, 100)), Taken::Both),
     (Scene::After(Load(1, 240), SMALL), Taken::List),
     (Scene::After(SMALL, Load(1, 240)), Taken::List),
     (Scene::After(Load(1, 255), Load(1, 255)), Taken::List),
-    (Scene::After(Load(5, 2), Load(1, 60)), Taken::List),
+    (Scene::After(Load(4, 2), Load(1, 60)), Taken::List),
+    (Scene::After(Load(5, 2), Load(1, 60)), Taken::Nothing),
     (Scene::After(Load(10, 2), SMALL), Taken::Nothing),
     (Scene::After(Load(0, 0), SMALL), Taken::Nothing),
     (Scene::AfterMany(SMALL), Taken::Nothing),
