@@ -200,6 +200,12 @@ fn command_with_each_growth_refused(rt: HostRuntime) -> Result<(), Fail> {
     Ok(())
 }
 
+/// What is asked behind the script "A lost End" for a message that was lost, and what is written then.
+const AGAIN: (&[u8], &[u8]) = (b"deliver B2\n", b"line 14 bad\n");
+
+/// What is written of a line, and of a second one that is bad.
+const NEW: (&[u8], &[u8]) = (b"A new 1\n", b"line 2 bad\n");
+
 /// Two texts, one behind the other.
 fn joined(alloc: Global, front: &[u8], behind: &[u8]) -> Result<Vec<u8>, AllocError> {
     let mut text = front.to_vec(alloc)?;
@@ -223,14 +229,16 @@ fn growths_of_play(
     )
 }
 
+/// A script and what it writes, in two parts each.
+type Parts<'a> = ((&'a [u8], &'a [u8]), (&'a [u8], &'a [u8]));
+
 /// How many growths such a play was refused, whose script and what it writes stand in two parts each.
 fn growths_of_parts(
     alloc: Global,
     heap: &Refusing<Global>,
     unanswered: u64,
-    script: (&[u8], &[u8]),
+    (script, written): Parts<'_>,
     status: u8,
-    written: (&[u8], &[u8]),
 ) -> Option<u64> {
     let input = joined(alloc, script.0, script.1).ok()?;
     let text = joined(alloc, written.0, written.1).ok()?;
@@ -257,38 +265,16 @@ fn plays_with_each_growth_refused(rt: HostRuntime) -> Result<(), Fail> {
         (idle, b"", 0, IDLE_TEXT.as_bytes(), b"", 6, 0),
         (addresses, b"", 1, ADDRESSES_TEXT.as_bytes(), b"", 8, 0),
         (LOST_SCRIPT, b"", 0, LOST, b"", 20, 4),
-        (
-            LOST_SCRIPT,
-            b"deliver B2\n",
-            1,
-            LOST,
-            b"line 14 bad\n",
-            20,
-            4,
-        ),
-        (
-            b"A new\n",
-            b"A new 1\n",
-            1,
-            b"A new 1\n",
-            b"line 2 bad\n",
-            3,
-            0,
-        ),
+        (LOST_SCRIPT, AGAIN.0, 1, LOST, AGAIN.1, 20, 4),
+        (b"A new\n", b"A new 1\n", 1, NEW.0, NEW.1, 3, 0),
         (b"A begin 9 - -\n", b"", 0, b"A refused 2\n", b"", 2, 0),
         (b"deliver A1\n", b"", 1, b"line 1 bad\n", b"", 2, 0),
         (b"A  new\n", b"", 1, b"line 1 bad\n", b"", 2, 0),
         (b"", b"", 0, b"", b"", 0, 0),
     ];
     for (script, more, status, written, behind, least, unanswered) in rows {
-        let growths = growths_of_parts(
-            alloc,
-            &heap,
-            unanswered,
-            (script, more),
-            status,
-            (written, behind),
-        );
+        let parts = ((script, more), (written, behind));
+        let growths = growths_of_parts(alloc, &heap, unanswered, parts, status);
         assert!(rt; is_at_least(growths, least), "at {script:?}, {growths:?}");
     }
     Ok(())
