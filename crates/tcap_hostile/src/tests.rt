@@ -10,6 +10,7 @@ mod engine;
 mod examples;
 mod growths;
 mod invocations;
+mod kept;
 mod played;
 mod room;
 mod runs;
