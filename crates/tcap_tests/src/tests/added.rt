@@ -213,7 +213,7 @@ fn room_behind_a_fault(rt: HostRuntime) -> Result<(), Fail> {
     );
     // The same contents behind an Invoke of six octets.
     let mut components = b"\xa1\x06\x02\x01\x01\x02\x01\x02".to_vec(rt.alloc())?;
-    components.extend_from_slice(&message[14..])?;
+    components.extend_from_slice(message.get(14..).ok_or("short")?)?;
     let rewritten = rewrite_components(rt.alloc(), &components)
         .ok()
         .ok_or("no canonical form")?;
