@@ -1,6 +1,6 @@
 //! Few invocations: they stand one after the other, in one block of memory.
 
-ghost use Rattle.std.specs.Prelude.{◌≡◌, ◌↔◌, ◌≤◌, ◌≢◌, [], List, length, filter, option_copied, IsTrue, IfOk, OnOk, OnErr, Some};
+ghost use Rattle.std.specs.Prelude.{◌≡◌, ◌↔◌, ◌≤◌, ◌≢◌, ◌++◌, ◌∷◌, [], List, length, filter, option_copied, IsTrue, IfOk, OnOk, OnErr, Some};
 ghost use Rattle.std.specs.List.{position_from};
 ghost use Rattle.std.specs.Ordering.{int_eq};
 ghost use Rattle.tcap_invocation.specs.Closing.{ended_at, first_ended_at};
@@ -14,10 +14,15 @@ use super::closing::ended_of;
 use super::lapse::{Lapse, lapse_of};
 use crate::stage::Stage;
 use ber_core::OutOfMemory;
-use std::alloc::Allocator;
+use std::alloc::{AllocError, Allocator};
 
 /// An invoke identifier, and what is known of it.
 pub(super) type Row = (i8, Invocation);
+
+/// The first block has room for so many.
+// `Vec` by itself begins with four. A row takes 40 octets, so a dialogue that never has more than two at a time, as
+// most, keeps 80 octets less.
+const FIRST: usize = 2;
 
 /// The invocation that has the identifier.
 pub(super) fn get<'a>(rows: &'a [Row], id: &i8) -> Option<&'a Invocation>
@@ -29,6 +34,22 @@ pub(super) fn get<'a>(rows: &'a [Row], id: &i8) -> Option<&'a Invocation>
         }
     }
     None
+}
+
+/// Takes an invocation in, behind the others.
+pub(super) fn push<A: Allocator + Copy>(
+    rows: &mut Vec<Row, A>,
+    id: i8,
+    entry: Invocation,
+) -> Result<(), AllocError>
+    ensures ok { OnOk result (rows.new.items ≡ rows.old.items ++ (id, entry) ∷ []) }
+    ensures err { OnErr result (rows.new.items ≡ rows.old.items) }
+{
+    if rows.capacity() == 0 {
+        rows.reserve_exact(FIRST)?;
+    }
+    rows.push((id, entry))?;
+    Ok(())
 }
 
 /// The place of the identifier.

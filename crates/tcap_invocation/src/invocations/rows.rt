@@ -102,10 +102,7 @@ impl<A: Allocator + Copy> Rows<A> {
     {
         match &mut self.many {
             Some(many) => many.push(id, entry),
-            None if self.few.len() < FEW => {
-                self.few.push((id, entry))?;
-                Ok(())
-            }
+            None if self.few.len() < FEW => few::push(&mut self.few, id, entry),
             None => {
                 let alloc = *self.few.allocator();
                 self.many = Some(indexed_with(alloc, &self.few, id, entry)?);

@@ -16,8 +16,7 @@ pub invariant_of-self-then-len-lt-FEW : goal.invariant_of-self-then-len-lt-FEW
 invariant_of-self-then-len-lt-FEW g c =
     let old = rw c.in-None.is at c.self.invariant in
     let fresh : IsNew c.self.inside.few.items c.args.id c.args.entry = search rules in
-    let new : c.push-in-None.new.self.items ≡ c.self.inside.few.items ++ (c.args.id, c.args.entry) ∷ [] = search rules in
-    rw (c.in-None.is, new) (AreSorted-push c.self.inside.few.items c.args.id c.args.entry fresh old.0, tt)
+    rw c.in-None.is (AreSorted-pushed c.push-in-None.result c.self.inside.few.items c.push-in-None.new.rows.items c.args.id c.args.entry (rw (to_z-of_z w8 c.args.id c.ranges.id) at c.push-in-None.ensures.ok) c.push-in-None.ensures.err fresh old.0, tt)
 
 pub invariant_of-self-in-None-2 : goal.invariant_of-self-in-None-2
 invariant_of-self-in-None-2 g c =
