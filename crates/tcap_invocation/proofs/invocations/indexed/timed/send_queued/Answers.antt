@@ -2,7 +2,7 @@ use Rattle.std.proofs.Common.{◌∙◌, sym, subst, arith}
 use Rattle.tcap_invocation.specs.TimerList.{AreQueuedLast}
 use Rattle.tcap_invocation.proofs.QueuedLemmas.{AreQueuedLast-sent_rows}
 use Rattle.tcap_invocation.proofs.TimedLemmas.{sent_below-all}
-use Rattle.tcap_invocation.proofs.invocations.indexed.send_queued.Goals as goal
+use Rattle.tcap_invocation.proofs.invocations.indexed.timed.send_queued.Goals as goal
 
 pub returns-clause-rows : goal.returns-clause-rows
 returns-clause-rows g c =

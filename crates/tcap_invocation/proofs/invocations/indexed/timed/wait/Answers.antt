@@ -6,7 +6,7 @@ use Rattle.tcap_invocation.specs.Invocations.{at_stage}
 use Rattle.tcap_invocation.proofs.OrderLemmas.{AreInOrder-at_stage, entry_at-sent}
 use Rattle.tcap_invocation.proofs.QueuedLemmas.{AreQueuedLast-set_value, sent-unqueued}
 use Rattle.tcap_invocation.proofs.TiedLemmas.{room-sent, is_sent-at, IsTimed-at_stage}
-use Rattle.tcap_invocation.proofs.invocations.indexed.wait.Goals as goal
+use Rattle.tcap_invocation.proofs.invocations.indexed.timed.wait.Goals as goal
 
 pub put_timer-requires : goal.put_timer-requires
 put_timer-requires g c =

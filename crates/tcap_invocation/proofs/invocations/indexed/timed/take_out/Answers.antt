@@ -2,7 +2,7 @@ use Rattle.std.specs.Ordering.{int_eq}
 use Rattle.tcap_invocation.proofs.OrderLemmas.{AreInOrder-remove_entry}
 use Rattle.tcap_invocation.proofs.QueuedLemmas.{AreQueuedLast-remove_entry}
 use Rattle.tcap_invocation.proofs.TiedLemmas.{IsTimed-without}
-use Rattle.tcap_invocation.proofs.invocations.indexed.take_out.Goals as goal
+use Rattle.tcap_invocation.proofs.invocations.indexed.timed.take_out.Goals as goal
 
 pub returns-clause-order : goal.returns-clause-order
 returns-clause-order g c = rw c.shift_remove.ensures.entries (AreInOrder-remove_entry (int_eq c.args.id.now) c.args.entries.now.entries c.requires.order)

@@ -12,7 +12,7 @@ use Rattle.tcap_invocation.specs.Stage.{moment_limit, IsTimely, sent_stage}
 use Rattle.tcap_invocation.specs.Invocations.{Row, sent_entry}
 use Rattle.tcap_invocation.proofs.TimedLemmas.{sent_place-written, sent_place-same, sent_place-past, sent_entry-same, AreInOrder-sent_place, IsTimely-get}
 use Rattle.tcap_invocation.proofs.TiedLemmas.{room-queued, IsTimed-sent_place}
-use Rattle.tcap_invocation.proofs.invocations.indexed.send_at.Goals as goal
+use Rattle.tcap_invocation.proofs.invocations.indexed.timed.send_at.Goals as goal
 
 pub returns-in_default-clause-rows : goal.returns-in_default-clause-rows
 returns-in_default-clause-rows g c =

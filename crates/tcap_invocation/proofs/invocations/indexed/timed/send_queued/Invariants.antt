@@ -4,7 +4,7 @@ use Rattle.std.specs.Map.{keys_of}
 use Rattle.std.specs.Ordering.{int_eq}
 use Rattle.tcap_invocation.specs.Invocations.{AreInOrder}
 use Rattle.tcap_invocation.specs.TimerList.{IsTimed, sent_below}
-use Rattle.tcap_invocation.proofs.invocations.indexed.send_queued.Given as goal
+use Rattle.tcap_invocation.proofs.invocations.indexed.timed.send_queued.Given as goal
 
 abbrev pub invariant-loop-place : goal.invariant-loop-place
 invariant-loop-place g l = record {
