@@ -55,15 +55,16 @@ impl<A: Allocator + Copy> Model for Indexed<A> {
 }
 
 impl<A: Allocator + Copy> Indexed<A> {
-    /// These rows.
+    /// These rows, with room for one more, since there is one more wherever few become many.
     pub(super) fn of_few(alloc: A, rows: &[(i8, Invocation)]) -> Result<Indexed<A>, AllocError>
         requires { AreSorted rows.now }
         ensures { IfOk result (λ indexed. indexed ≡ rows.now) }
     {
         let mut entries = IndexMap::new(alloc);
         let mut timers = Timers::new(alloc);
-        entries.reserve(rows.len())?;
-        timers.reserve(rows.len())?;
+        let count = rows.len() + 1;
+        entries.reserve(count)?;
+        timers.reserve(count)?;
         for (id, entry) in rows {
             take_in(&mut entries, &mut timers, id, entry)?;
         }
