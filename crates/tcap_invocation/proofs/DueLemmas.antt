@@ -1,13 +1,12 @@
 -- What stands in front of timers in order once their time has come, and what stands behind it.
-use Rattle.std.proofs.Common.{◌≡◌, ℕ, ◌<◌, Bool, true, false, cond, List, [], ◌∷◌, length, drop, filter, Option, Some, None, refl, ap, sym, subst, ◌∙◌, arith, tests, nat_lt, nat_le, ◌||◌}
+use Rattle.std.proofs.Common.{◌≡◌, ℕ, ◌<◌, Bool, true, false, cond, List, [], ◌∷◌, length, drop, filter, refl, ap, sym, ◌∙◌, arith, tests, nat_lt, nat_le, ◌||◌}
 use Rattle.std.specs.Prelude.{filter_map}
-use Rattle.std.specs.List.{cons_option}
 use Rattle.tcap_invocation.specs.declared.invocations.lapse.Lapse.{Lapse}
 use Rattle.tcap_invocation.specs.declared.invocations.timers.Timer.{Timer}
 use Rattle.tcap_invocation.specs.Order.{first_of}
 use Rattle.tcap_invocation.specs.Invocations.{Row, InvocationList, with_rows}
 use Rattle.tcap_invocation.specs.Lapses.{due_at, told_at, after_lapse}
-use Rattle.tcap_invocation.specs.TimerList.{IsInOrder, IsFilled, is_earlier, timer_of, timers_at, told_of_timer, is_later, is_kept, is_over, is_first_over, has_come}
+use Rattle.tcap_invocation.specs.TimerList.{IsInOrder, is_earlier, timer_of, timers_at, told_of_timer, is_later, is_kept, is_over, is_first_over, has_come}
 use Rattle.tcap_invocation.proofs.InsertionLemmas.{Ahead, ordered_in_order}
 use Rattle.tcap_invocation.proofs.SortLemmas.{filter-dropped, in_order-fixed}
 use Rattle.tcap_invocation.proofs.TellingLemmas.{after_lapse-none}
@@ -48,10 +47,6 @@ module _ (clock : ℕ) where
   pub filter-over : (ts : List Timer) → is_first_over clock (first_of ts) ≡ true → filter (is_kept clock) (drop 1 ts) ≡ filter (is_kept clock) ts
   filter-over [] over = absurd cc
   filter-over (t ∷ ts) over = sym (filter-dropped (is_kept clock) t ts (kept-false t over))
-
-  pub filter-listed : (o : Option Timer) (ts : List Timer) → has_come clock (first_of (cons_option o ts)) ≡ true → IsFilled o ts → filter (is_later clock) ts ≡ filter (is_later clock) (cons_option o ts)
-  filter-listed None ts come none = let no = subst (λ (ts : List Timer). has_come clock (first_of ts) ≡ true) none come in absurd cc
-  filter-listed (Some t) ts come filled = filter-due (t ∷ ts) come
 
   pub length-due : (ts : List Timer) → has_come clock (first_of ts) ≡ true → length (drop 1 ts) < length ts
   length-due [] come = absurd cc

@@ -6,10 +6,10 @@ use Rattle.std.specs.List.Sorted.{IsPartitionedBy}
 use Rattle.std.specs.List.{AllWithin}
 use Rattle.tcap_invocation.specs.declared.invocations.lapse.Lapse.{Lapse}
 use Rattle.tcap_invocation.specs.declared.invocations.timers.Timer.{Timer}
-use Rattle.tcap_invocation.specs.Order.{put_by, first_of}
-use Rattle.tcap_invocation.specs.TimerList.{is_earlier, IsInOrder, IsFilled, told_of_timer, told_first}
+use Rattle.tcap_invocation.specs.Order.{put_by}
+use Rattle.tcap_invocation.specs.TimerList.{is_earlier, IsInOrder, told_of_timer}
 use Rattle.tcap_invocation.proofs.InsertionLemmas.{Ahead, Ordered, ordered_put, ordered_in_order}
-use Rattle.tcap_invocation.proofs.SortLemmas.{put_ahead, length-put, in_order-fixed, IsPartitionedBy-before, ordered_filter, ordered_remove, put_put}
+use Rattle.tcap_invocation.proofs.SortLemmas.{in_order-fixed, IsPartitionedBy-before, ordered_filter, ordered_remove, put_put}
 
 pub earlier_once : (a b : Timer) → is_earlier a b ≡ true → is_earlier b a ≡ false
 earlier_once a b h = grind (arith, tests, h)
@@ -70,47 +70,6 @@ told-front clock (t ∷ ts) zero a =
     let rest = told-front clock ts zero (λ k d low high. a (suc k) d (omega arith) (omega (arith, high))) in
     rw first rest
 told-front clock (t ∷ ts) (suc i) a = ap (cons_option (told_of_timer clock t)) (told-front clock ts i (λ k d low high. a (suc k) d (omega (arith, low)) (omega (arith, high))))
-
--- ---- a first timer, and those behind it
-
-pub IsInOrder-rest : (o : Option Timer) (ts : List Timer) → IsInOrder (cons_option o ts) → IsInOrder ts
-IsInOrder-rest None ts o = o
-IsInOrder-rest (Some t) ts o = IsInOrder-tail t ts o
-
-pub first-listed : (o : Option Timer) (ts : List Timer) → IsFilled o ts → o ≡ first_of (cons_option o ts)
-first-listed None ts none = rw none refl
-first-listed (Some t) ts none = refl
-
--- a timer is put behind the first, or before it
-pub put-behind : (f t : Timer) (ts : List Timer) → is_earlier f t ≡ true → put_by is_earlier t (f ∷ ts) ≡ f ∷ put_by is_earlier t ts
-put-behind f t ts e = rw e refl
-
-pub put-before : (f t : Timer) (ts : List Timer) → is_earlier f t ≡ false → IsInOrder (f ∷ ts) → put_by is_earlier t (f ∷ ts) ≡ t ∷ put_by is_earlier f ts
-put-before f t ts e o = rw e (ap (λ (l : List Timer). t ∷ l) (sym (put_ahead is_earlier f ts (ordered (f ∷ ts) o).0)))
-
-pub put-some : (t : Timer) (ts : List Timer) → [] ≡ put_by is_earlier t ts → ⊥
-put-some t ts e = let long = length-put is_earlier t ts in let none = ap length e in omega (arith, long, none)
-
--- and is taken out there
-pub taken-behind : (f t : Timer) (ts left : List Timer) → is_earlier f t ≡ true → f ∷ ts ≡ put_by is_earlier t left → (more : List Timer) × (left ≡ f ∷ more) × (ts ≡ put_by is_earlier t more)
-taken-behind f t ts [] e p = let same : f ≡ t = cc in let no = earlier_never t in let yes = subst (λ (x : Timer). is_earlier x t ≡ true) same e in absurd cc
-taken-behind f t ts (y ∷ ys) e p = go (is_earlier y t) p
-  where
-    go : (b : Bool) → f ∷ ts ≡ cond b (y ∷ put_by is_earlier t ys) (t ∷ y ∷ ys) → (more : List Timer) × (y ∷ ys ≡ f ∷ more) × (ts ≡ put_by is_earlier t more)
-    go true q = let same : y ≡ f = cc in let rest : ts ≡ put_by is_earlier t ys = cc in (ys, ap (λ (x : Timer). x ∷ ys) same, rest)
-    go false q = let same : f ≡ t = cc in let no = earlier_never t in let yes = subst (λ (x : Timer). is_earlier x t ≡ true) same e in absurd cc
-
-pub taken-first : (f t : Timer) (ts left : List Timer) → is_earlier f t ≡ false → f ∷ ts ≡ put_by is_earlier t left → ts ≡ left
-taken-first f t ts [] e p = cc
-taken-first f t ts (y ∷ ys) e p = go (is_earlier y t) refl p
-  where
-    go : (b : Bool) → is_earlier y t ≡ b → f ∷ ts ≡ cond b (y ∷ put_by is_earlier t ys) (t ∷ y ∷ ys) → ts ≡ y ∷ ys
-    go true d q = let same : y ≡ f = cc in let yes = subst (λ (x : Timer). is_earlier x t ≡ true) same d in absurd cc
-    go false d q = cc
-
-pub told-listed : (clock : ℕ) (o : Option Timer) (ts : List Timer) → filter_map (told_of_timer clock) (cons_option o ts) ≡ cons_option (told_first clock o) (filter_map (told_of_timer clock) ts)
-told-listed clock None ts = refl
-told-listed clock (Some t) ts = refl
 
 pub length-told : (clock : ℕ) (ts : List Timer) → length (filter_map (told_of_timer clock) ts) ≤ length ts
 length-told clock [] = omega arith

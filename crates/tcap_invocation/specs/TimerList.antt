@@ -22,11 +22,6 @@ is_earlier a b = nat_lt a.time b.time || ((a.time == b.time) && nat_lt a.number 
 abbrev pub IsInOrder : List Timer → Type 0
 IsInOrder timers = in_order_by is_earlier timers ≡ timers
 
--- Where there is no first, there are no others (own).
-abbrev pub IsFilled : Option Timer → List Timer → Type 0
-IsFilled None rest = rest ≡ []
-IsFilled (Some first) rest = Unit {0}
-
 -- The timers before this place are earlier than the timer, those from it on aren't (own).
 abbrev pub IsPlace : Timer → List Timer → ℕ → Type 0
 IsPlace timer timers place = IsPartitionPoint (λ t. is_earlier t timer ≡ true) (λ t. is_earlier t timer ≡ false) timers place
@@ -54,11 +49,6 @@ put_timer (Some timer) timers = put_by is_earlier timer timers
 abbrev pub told_of_timer : ℕ → Timer → Option Lapse
 told_of_timer clock t =
     if t.lapses && nat_le t.time clock then Some (record { deadline = t.time; number = t.number; id = t.id }) else None
-
--- What the first timer tells at the clock, if there is one (own).
-abbrev pub told_first : ℕ → Option Timer → Option Lapse
-told_first clock None = None
-told_first clock (Some t) = told_of_timer clock t
 
 -- The time hasn't come at the clock (own).
 abbrev pub is_later : ℕ → Timer → Bool

@@ -182,7 +182,7 @@ impl<A: Allocator + Copy> Indexed<A> {
         if !self.timers.is_due(clock) {
             return;
         }
-        if self.entries.len() < SHORT || self.timers.is_due_behind(MANY - 2, clock) {
+        if self.entries.len() < SHORT || self.timers.is_due_at(MANY - 1, clock) {
             self.free_all(clock);
         } else {
             self.free_each(clock);

@@ -1,6 +1,6 @@
 //! The timers of invocations: deadlines, and ends of the wait for a Reject.
 
-ghost use Rattle.std.specs.Prelude.{◌≡◌, ◌+◌, ◌<◌, ◌≤◌, true, [], List, length, filter, filter_map, slice_get, option_copied, IfOk, OnOk, OnErr};
+ghost use Rattle.std.specs.Prelude.{◌≡◌, ◌<◌, ◌≤◌, [], List, length, filter, filter_map, slice_get, option_copied, IfOk, OnOk, OnErr};
 ghost use Rattle.tcap_invocation.specs.declared.invocations.timers.Timer.{Timer};
 ghost use Rattle.tcap_invocation.specs.Order.{put_by, first_of};
 ghost use Rattle.tcap_invocation.specs.TimerList.{is_earlier, told_of_timer, is_later, is_kept, is_over, has_come};
@@ -11,12 +11,12 @@ mod telling;
 
 use super::lapse::Lapse;
 use ber_core::OutOfMemory;
-use due::{take_due, take_over};
-use sorted::{is_earlier, put, take, take_first};
+use due::{is_due, take_due, take_over};
+use sorted::{put, take};
 use std::alloc::{AllocError, Allocator};
 use std::collections::VecDeque;
 use std::marker::Model;
-use telling::{due_count, first_due, first_over, push_due, told_first};
+use telling::{due_count, first_due, first_over, push_due};
 
 /// When an invocation lapses, or when the wait of its identifier ends.
 #[derive(Clone, Copy, Debug)]
@@ -54,25 +54,21 @@ impl Timer {
     }
 }
 
-/// Timers by time, then number. The first stands apart, so that one alone takes no memory. A contract sees
-/// the list, and for how many there is room.
+/// Timers by time, then number. A contract sees the list, and for how many there is room.
 #[derive(Debug, Drop)]
 pub(super) struct Timers<A: Allocator + Copy> {
-    first: Option<Timer>,
-    rest: VecDeque<Timer, A>,
+    ring: VecDeque<Timer, A>,
 }
 
 impl<A: Allocator + Copy> Model for Timers<A> {
-    ghost use Rattle.std.specs.List.{cons_option};
-    ghost use Rattle.std.specs.Prelude.{◌+◌};
     ghost use Rattle.std.specs.VecDeque.{deque_capacity};
-    ghost use Rattle.tcap_invocation.specs.TimerList.{TimerList, IsInOrder, IsFilled};
+    ghost use Rattle.tcap_invocation.specs.TimerList.{TimerList, IsInOrder};
 
     ghost Value = { TimerList };
 
-    ghost view = { λ v. record { timers = cons_option v.first v.rest.items; room = deque_capacity v.rest + 1 } };
+    ghost view = { λ v. record { timers = v.ring.items; room = deque_capacity v.ring } };
 
-    ghost invariant = { λ v. IsInOrder (cons_option v.first v.rest.items) × IsFilled v.first v.rest.items };
+    ghost invariant = { λ v. IsInOrder v.ring.items };
 }
 
 impl<A: Allocator + Copy> Timers<A> {
@@ -81,8 +77,7 @@ impl<A: Allocator + Copy> Timers<A> {
         ensures { result.timers ≡ [] }
     {
         Timers {
-            first: None,
-            rest: VecDeque::new(alloc),
+            ring: VecDeque::new(alloc),
         }
     }
 
@@ -90,24 +85,21 @@ impl<A: Allocator + Copy> Timers<A> {
     pub(super) fn first(&self) -> Option<&Timer>
         ensures { option_copied result ≡ first_of self.now.timers }
     {
-        self.first.as_ref()
+        self.ring.front()
     }
 
     /// Whether the time of the first has come at the clock.
     pub(super) fn is_due(&self, clock: u64) -> bool
         ensures { result ≡ has_come clock (first_of self.now.timers) }
     {
-        match self.first() {
-            Some(timer) => timer.time <= clock,
-            None => false,
-        }
+        is_due(&self.ring, clock)
     }
 
-    /// Whether the time of the one at this place behind the first has come at the clock.
-    pub(super) fn is_due_behind(&self, place: usize, clock: u64) -> bool
-        ensures { result ≡ has_come clock (slice_get self.now.timers (place + 1)) }
+    /// Whether the time of the one at this place has come at the clock.
+    pub(super) fn is_due_at(&self, place: usize, clock: u64) -> bool
+        ensures { result ≡ has_come clock (slice_get self.now.timers place) }
     {
-        match self.rest.get(place) {
+        match self.ring.get(place) {
             Some(timer) => timer.time <= clock,
             None => false,
         }
@@ -117,19 +109,14 @@ impl<A: Allocator + Copy> Timers<A> {
     pub(super) fn first_over(&self, clock: u64) -> Option<Timer>
         ensures { result ≡ first_of (filter (is_over clock) self.now.timers) }
     {
-        let first = self.first?;
-        if first.is_over(clock) {
-            Some(first)
-        } else {
-            first_over(&self.rest, clock)
-        }
+        first_over(&self.ring, clock)
     }
 
-    /// For how many there is room behind the first.
+    /// For how many there is room.
     pub(super) fn capacity(&self) -> usize
-        ensures { result + 1 ≡ self.now.room }
+        ensures { result ≡ self.now.room }
     {
-        self.rest.capacity()
+        self.ring.capacity()
     }
 
     /// Makes room for so many in all. Where that takes memory, the room doubles: the ring by itself grows by its
@@ -139,13 +126,12 @@ impl<A: Allocator + Copy> Timers<A> {
         ensures more { self.old.room ≤ self.new.room }
         ensures kept { self.new.timers ≡ self.old.timers }
     {
-        let behind = count.saturating_sub(1);
-        let room = self.rest.capacity();
-        if behind <= room {
+        let room = self.ring.capacity();
+        if count <= room {
             return Ok(());
         }
-        let wanted = behind.max(room.saturating_mul(2));
-        self.rest.reserve(wanted.saturating_sub(self.rest.len()))
+        let wanted = count.max(room.saturating_mul(2));
+        self.ring.reserve(wanted.saturating_sub(self.ring.len()))
     }
 
     /// Puts a timer in its place, in room that is there.
@@ -154,16 +140,7 @@ impl<A: Allocator + Copy> Timers<A> {
         ensures timers { self.new.timers ≡ put_by is_earlier timer self.old.timers }
         ensures room { self.old.room ≤ self.new.room }
     {
-        let Some(first) = self.first else {
-            self.first = Some(timer);
-            return;
-        };
-        if is_earlier(first, timer) {
-            put(&mut self.rest, timer);
-        } else {
-            put(&mut self.rest, first);
-            self.first = Some(timer);
-        }
+        put(&mut self.ring, timer);
     }
 
     /// Takes a timer out of the list.
@@ -172,14 +149,7 @@ impl<A: Allocator + Copy> Timers<A> {
             → self.new.timers ≡ left }
         ensures room { self.new.room ≡ self.old.room }
     {
-        let Some(first) = self.first else {
-            return;
-        };
-        if is_earlier(first, timer) {
-            take(&mut self.rest, timer);
-        } else {
-            self.first = take_first(&mut self.rest);
-        }
+        take(&mut self.ring, timer);
     }
 
     /// Takes each timer out.
@@ -187,18 +157,15 @@ impl<A: Allocator + Copy> Timers<A> {
         ensures timers { self.new.timers ≡ [] }
         ensures room { self.new.room ≡ self.old.room }
     {
-        self.first = None;
-        self.rest.clear();
+        self.ring.clear();
     }
 
-    /// Takes out each timer whose time has come at the clock, where that of the first has.
+    /// Takes out each timer whose time has come at the clock.
     pub(super) fn expire(&mut self, clock: u64)
-        requires { has_come clock (first_of self.old.timers) ≡ true }
         ensures timers { self.new.timers ≡ filter (is_later clock) self.old.timers }
         ensures room { self.new.room ≡ self.old.room }
     {
-        take_due(&mut self.rest, clock);
-        self.first = take_first(&mut self.rest);
+        take_due(&mut self.ring, clock);
     }
 
     /// Takes out each timer of a wait that is over at the clock.
@@ -206,34 +173,21 @@ impl<A: Allocator + Copy> Timers<A> {
         ensures timers { self.new.timers ≡ filter (is_kept clock) self.old.timers }
         ensures room { self.new.room ≡ self.old.room }
     {
-        let Some(first) = self.first else {
-            return;
-        };
-        take_over(&mut self.rest, clock);
-        if !first.is_kept(clock) {
-            self.first = take_first(&mut self.rest);
-        }
+        take_over(&mut self.ring, clock);
     }
 
     /// How many are of invocations that lapse by the clock.
     pub(super) fn due_count(&self, clock: u64) -> usize
         ensures { result ≡ length (filter_map (told_of_timer clock) self.now.timers) }
     {
-        let behind = due_count(&self.rest, clock);
-        match told_first(self.first, clock) {
-            Some(_) => behind + 1,
-            None => behind,
-        }
+        due_count(&self.ring, clock)
     }
 
     /// What is told first of what lapses by the clock.
     pub(super) fn first_due(&self, clock: u64) -> Option<Lapse>
         ensures { result ≡ first_of (filter_map (told_of_timer clock) self.now.timers) }
     {
-        match told_first(self.first, clock) {
-            Some(lapse) => Some(lapse),
-            None => first_due(&self.rest, clock),
-        }
+        first_due(&self.ring, clock)
     }
 
     /// All that is told of what lapses by the clock, with all room found first.
@@ -241,11 +195,8 @@ impl<A: Allocator + Copy> Timers<A> {
         ensures told { IfOk result (λ v. v.items ≡ filter_map (told_of_timer clock) self.now.timers) }
         ensures memory { OnErr result (0 < length (filter_map (told_of_timer clock) self.now.timers)) }
     {
-        let mut lapses = Vec::with_capacity(*self.rest.allocator(), self.due_count(clock))?;
-        if let Some(lapse) = told_first(self.first, clock) {
-            lapses.push_reserved(lapse);
-        }
-        push_due(&mut lapses, &self.rest, clock);
+        let mut lapses = Vec::with_capacity(*self.ring.allocator(), self.due_count(clock))?;
+        push_due(&mut lapses, &self.ring, clock);
         Ok(lapses)
     }
 }

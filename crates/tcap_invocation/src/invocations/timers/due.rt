@@ -40,7 +40,7 @@ pub(super) fn take_over<A: Allocator + Copy>(timers: &mut VecDeque<Timer, A>, cl
 }
 
 /// Whether the time of the first has come at the clock.
-fn is_due<A: Allocator + Copy>(timers: &VecDeque<Timer, A>, clock: u64) -> bool
+pub(super) fn is_due<A: Allocator + Copy>(timers: &VecDeque<Timer, A>, clock: u64) -> bool
     ensures { result ≡ has_come clock (first_of timers.now.items) }
 {
     match timers.front() {

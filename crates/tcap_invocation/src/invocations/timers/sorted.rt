@@ -1,11 +1,10 @@
 //! Rings of timers in order.
 
-ghost use Rattle.std.specs.List.{cons_option};
 ghost use Rattle.std.specs.Prelude.{◌≡◌, ◌<◌, ◌≤◌, ◌∷◌, ◌++◌, [], IsTrue, List, length};
 ghost use Rattle.std.specs.VecDeque.{deque_len, deque_capacity};
 ghost use Rattle.tcap_invocation.specs.declared.invocations.timers.Timer.{Timer};
 ghost use Rattle.tcap_invocation.specs.Order.{put_by};
-ghost use Rattle.tcap_invocation.specs.TimerList.{IsInOrder, IsFilled, IsPlace, is_earlier};
+ghost use Rattle.tcap_invocation.specs.TimerList.{IsInOrder, IsPlace, is_earlier};
 
 use super::Timer;
 use std::alloc::Allocator;
@@ -38,13 +37,11 @@ fn is_last<A: Allocator + Copy>(timers: &VecDeque<Timer, A>, timer: Timer) -> bo
 }
 
 /// Takes a timer out.
-#[inline(never)]
 pub(super) fn take<A: Allocator + Copy>(timers: &mut VecDeque<Timer, A>, timer: Timer)
     requires order { IsInOrder timers.old.items }
     ensures timers { (left : List Timer) → timers.old.items ≡ put_by is_earlier timer left
         → timers.new.items ≡ left }
-    ensures order { (first : Timer) → IsInOrder (first ∷ timers.old.items)
-        → IsInOrder (first ∷ timers.new.items) }
+    ensures order { IsInOrder timers.new.items }
     ensures room { deque_capacity timers.new ≡ deque_capacity timers.old }
 {
     let at = place_of(timers, timer);
@@ -53,31 +50,8 @@ pub(super) fn take<A: Allocator + Copy>(timers: &mut VecDeque<Timer, A>, timer: 
     }
 }
 
-/// Takes the first out, if there is one.
-pub(super) fn take_first<A: Allocator + Copy>(timers: &mut VecDeque<Timer, A>) -> Option<Timer>
-    ensures timers { timers.old.items ≡ cons_option result timers.new.items }
-    ensures filled { IsFilled result timers.new.items }
-    ensures room { deque_capacity timers.new ≡ deque_capacity timers.old }
-{
-    if timers.is_empty() {
-        None
-    } else {
-        pop_first(timers)
-    }
-}
-
-/// Takes the first out, where there are timers; kept apart, so that the caller's look costs no call.
-#[inline(never)]
-fn pop_first<A: Allocator + Copy>(timers: &mut VecDeque<Timer, A>) -> Option<Timer>
-    ensures timers { timers.old.items ≡ cons_option result timers.new.items }
-    ensures filled { IsFilled result timers.new.items }
-    ensures room { deque_capacity timers.new ≡ deque_capacity timers.old }
-{
-    timers.pop_front()
-}
-
 /// Whether a timer stands before another: by time, then number.
-pub(super) fn is_earlier(a: Timer, b: Timer) -> bool
+fn is_earlier(a: Timer, b: Timer) -> bool
     ensures { result ≡ is_earlier a b }
 {
     a.time < b.time || (a.time == b.time && a.number < b.number)

@@ -2,7 +2,7 @@
 
 ghost use Rattle.std.specs.Prelude.{◌≡◌, ◌≤◌, ◌+◌, ◌++◌, length, filter, filter_map, vec_len, vec_capacity};
 ghost use Rattle.tcap_invocation.specs.Order.{first_of};
-ghost use Rattle.tcap_invocation.specs.TimerList.{IsInOrder, is_over, told_of_timer, told_first};
+ghost use Rattle.tcap_invocation.specs.TimerList.{IsInOrder, is_over, told_of_timer};
 
 use super::Timer;
 use crate::invocations::lapse::Lapse;
@@ -24,13 +24,6 @@ fn told(timer: &Timer, clock: u64) -> Option<Lapse>
     }
 }
 
-/// What is told of an invocation with the first timer, if there is one and it lapses by the clock.
-pub(super) fn told_first(first: Option<Timer>, clock: u64) -> Option<Lapse>
-    ensures { result ≡ told_first clock first }
-{
-    told(&first?, clock)
-}
-
 /// The first of those of a wait that is over at the clock.
 pub(super) fn first_over<A: Allocator + Copy>(
     timers: &VecDeque<Timer, A>,
@@ -50,20 +43,8 @@ pub(super) fn first_over<A: Allocator + Copy>(
     None
 }
 
-/// How many of them are of invocations that lapse by the clock. Mostly there are no timers.
+/// How many of them are of invocations that lapse by the clock.
 pub(super) fn due_count<A: Allocator + Copy>(timers: &VecDeque<Timer, A>, clock: u64) -> usize
-    requires { IsInOrder timers.now.items }
-    ensures { result ≡ length (filter_map (told_of_timer clock) timers.now.items) }
-{
-    if timers.is_empty() {
-        return 0;
-    }
-    count_due(timers, clock)
-}
-
-/// How many are of invocations that lapse by the clock, where there are timers; kept apart like `pop_first`.
-#[inline(never)]
-fn count_due<A: Allocator + Copy>(timers: &VecDeque<Timer, A>, clock: u64) -> usize
     requires { IsInOrder timers.now.items }
     ensures { result ≡ length (filter_map (told_of_timer clock) timers.now.items) }
 {

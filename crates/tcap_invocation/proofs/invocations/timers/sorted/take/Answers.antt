@@ -1,4 +1,4 @@
-use Rattle.std.proofs.Common.{rules, tests, arith, suc, ◌≡◌, ◌∙◌, ◌<◌, ◌∷◌, remove, length, List, subst, sym, ap}
+use Rattle.std.proofs.Common.{rules, tests, arith, ◌≡◌, ◌∙◌, ◌<◌, remove, length, List, subst, sym, ap}
 use Rattle.tcap_invocation.specs.declared.invocations.timers.Timer.{Timer}
 use Rattle.tcap_invocation.specs.TimerList.{IsPlace, is_earlier}
 use Rattle.std.specs.Prelude.{IsSome}
@@ -16,10 +16,10 @@ returns-then-at-len-clause-timers g c = λ left is.
     removed ∙ ap (λ (ts : List Timer). remove ts c.place_of-at.result) is ∙ found.1
 
 pub returns-then-at-len-clause-order : goal.returns-then-at-len-clause-order
-returns-then-at-len-clause-order g c = λ first o.
+returns-then-at-len-clause-order g c =
     let some : IsSome c.remove.result = search (rules, tests) in
     let removed : c.remove.new.self.items ≡ remove c.args.timers.now.items c.place_of-at.result = OnSome-of c.remove.result _ some c.remove.ensures.items in
-    rw removed (IsInOrder-remove (first ∷ c.args.timers.now.items) (suc c.place_of-at.result) o)
+    rw removed (IsInOrder-remove c.args.timers.now.items c.place_of-at.result c.requires.order)
 
 pub returns-else-at-len-clause-timers : goal.returns-else-at-len-clause-timers
 returns-else-at-len-clause-timers g c = λ left is.

@@ -3,7 +3,7 @@ use Rattle.std.specs.Prelude.{filter_map}
 use Rattle.std.specs.VecDeque.Iter.{deque_iter_rest}
 use Rattle.tcap_invocation.specs.TimerList.{IsInOrder, told_of_timer}
 use Rattle.tcap_invocation.proofs.TimerLemmas.{IsInOrder-tail, untold-later, told-dropped, told-kept, lapse_at_time, length-told}
-use Rattle.tcap_invocation.proofs.invocations.timers.telling.count_due.Goals as goal
+use Rattle.tcap_invocation.proofs.invocations.timers.telling.due_count.Goals as goal
 
 pub returns-then-is_later : goal.returns-then-is_later
 returns-then-is_later g c =

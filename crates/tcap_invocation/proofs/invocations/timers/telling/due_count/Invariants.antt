@@ -2,7 +2,7 @@ use Rattle.std.proofs.Common.{◌≡◌, ◌+◌, length}
 use Rattle.std.specs.VecDeque.Iter.{deque_iter_rest}
 use Rattle.std.specs.Prelude.{filter_map}
 use Rattle.tcap_invocation.specs.TimerList.{IsInOrder, told_of_timer}
-use Rattle.tcap_invocation.proofs.invocations.timers.telling.count_due.Given as goal
+use Rattle.tcap_invocation.proofs.invocations.timers.telling.due_count.Given as goal
 
 abbrev pub invariant-loop-timer : goal.invariant-loop-timer
 invariant-loop-timer g l = record {
