@@ -29,9 +29,6 @@ type Entries<A> = IndexMap<i8, Invocation, BuildHasherDefault<FoldHasher>, A>;
 /// one by one, which costs less: mostly one wait ends at a moment.
 const MANY: usize = 3;
 
-/// Where the list is shorter than this, a walk through it costs less, however few are freed.
-const SHORT: usize = 6;
-
 /// The invocations by their identifiers, with their timers. A contract sees the rows, and forgets the timers, which
 /// are those of the rows.
 #[derive(Debug, Drop)]
@@ -182,7 +179,7 @@ impl<A: Allocator + Copy> Indexed<A> {
         if !self.timers.is_due(clock) {
             return;
         }
-        if self.entries.len() < SHORT || self.timers.is_due_at(MANY - 1, clock) {
+        if self.timers.is_due_at(MANY - 1, clock) {
             self.free_all(clock);
         } else {
             self.free_each(clock);

@@ -152,18 +152,6 @@ fn first_queued<A: Allocator + Copy>(entries: &Entries<A>) -> usize
     requires { AreQueuedLast entries.now.entries }
     ensures { (clock : ℕ) → sent_below clock result entries.now.entries ≡ entries.now.entries }
 {
-    if entries.len() <= 1 {
-        return 0;
-    }
-    search_queued(entries)
-}
-
-/// `first_queued`, of more than one.
-#[inline(never)]
-fn search_queued<A: Allocator + Copy>(entries: &Entries<A>) -> usize
-    requires { AreQueuedLast entries.now.entries }
-    ensures { (clock : ℕ) → sent_below clock result entries.now.entries ≡ entries.now.entries }
-{
     let mut place = entries.len().saturating_sub(1);
     while 0 < place && is_queued(entries, place - 1) {
         place -= 1;

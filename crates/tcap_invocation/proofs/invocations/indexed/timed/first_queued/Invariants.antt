@@ -1,5 +1,5 @@
 use Rattle.std.proofs.Common.{◌≤◌, length}
-use Rattle.tcap_invocation.proofs.invocations.indexed.timed.search_queued.Given as goal
+use Rattle.tcap_invocation.proofs.invocations.indexed.timed.first_queued.Given as goal
 
 abbrev pub invariant-loop-place : goal.invariant-loop-place
 invariant-loop-place g l = l.place ≤ length l.entries.entries

@@ -3,7 +3,7 @@ use Rattle.std.specs.Prelude.{slice_get}
 use Rattle.tcap_invocation.specs.Invocations.{Row}
 use Rattle.tcap_invocation.specs.Stage.{is_queued}
 use Rattle.tcap_invocation.proofs.QueuedLemmas.{sent_below-first}
-use Rattle.tcap_invocation.proofs.invocations.indexed.timed.search_queued.Goals as goal
+use Rattle.tcap_invocation.proofs.invocations.indexed.timed.first_queued.Goals as goal
 
 pub returns-else-is_queued : goal.returns-else-is_queued
 returns-else-is_queued g c = λ clock.
