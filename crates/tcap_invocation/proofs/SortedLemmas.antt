@@ -1,5 +1,5 @@
 -- The rows stay sorted through each change.
-use Rattle.std.proofs.Common.{◌≡◌, ℤ, ◌≤◌, ◌*◌, Bool, true, false, cond, List, [], ◌∷◌, ◌++◌, filter, Option, Some, None, refl, ap, sym, subst, ◌∙◌, ℕ, arith, Result, Ok, Err, OnOk, OnErr}
+use Rattle.std.proofs.Common.{◌≡◌, ℤ, ◌≤◌, ◌*◌, Bool, true, false, cond, List, [], ◌∷◌, ◌++◌, filter, Some, None, refl, ap, sym, subst, ℕ, Result, Ok, Err, OnOk, OnErr}
 use Rattle.std.specs.Ordering.{int_eq}
 use Rattle.std.specs.Cmp.{int_eq_equiv}
 use Rattle.std.specs.List.{AllByRecursion, IsDistinct, list_any}
@@ -9,8 +9,8 @@ use Rattle.std.proofs.lemmas.Map.Made.{IsDistinct-keys_filter, keys_of-map_value
 use Rattle.tcap_invocation.specs.declared.invocations.Invocation.{Invocation}
 use Rattle.tcap_invocation.specs.declared.stage.Stage.{Stage}
 use Rattle.tcap_invocation.specs.declared.stage.Stage.TheVariants.{Queued, Sent, Waiting}
-use Rattle.tcap_invocation.specs.Stage.{moment_limit, is_sent, is_queued}
-use Rattle.tcap_invocation.specs.Invocations.{Row, AllBelow, sent_at, at_stage, without, sent_entry, sent_rows}
+use Rattle.tcap_invocation.specs.Stage.{moment_limit, is_queued}
+use Rattle.tcap_invocation.specs.Invocations.{Row, sent_at, at_stage, without, sent_entry, sent_rows}
 use Rattle.tcap_invocation.specs.Rows.{AreSorted, IsNew}
 use Rattle.tcap_invocation.specs.TimerList.{timer_with}
 use Rattle.tcap_invocation.proofs.OrderLemmas.{AreInOrder-remove_entry, AreInOrder-at_stage, AreInOrder-filter, AreInOrder-sent_rows, AreInOrder-push, entry_at-sent}

@@ -5,7 +5,6 @@ ghost use Rattle.tcap_invocation.specs.Invocations.{IsSound, entry_at, passing};
 ghost use Rattle.tcap_invocation.specs.Stage.{is_waiting};
 ghost use Rattle.tcap_invocation.specs.Closing.{given_up_at, after_give_up, after_free_wait, ended_of, ended_at, first_ended_at, after_close_one, after_close};
 
-use super::rows::Rows;
 use super::{Invocation, Invocations};
 use crate::stage::Stage;
 use ber_core::OutOfMemory;

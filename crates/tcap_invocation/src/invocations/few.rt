@@ -1,6 +1,6 @@
 //! Few invocations: they stand one after the other, in one block of memory.
 
-ghost use Rattle.std.specs.Prelude.{◌≡◌, ◌↔◌, ◌≤◌, ◌≢◌, ◌++◌, ◌∷◌, [], List, length, filter, option_copied, IsTrue, IfOk, OnOk, OnErr, Some};
+ghost use Rattle.std.specs.Prelude.{◌≡◌, ◌↔◌, ◌≤◌, ◌≢◌, ◌++◌, ◌∷◌, [], length, filter, option_copied, IsTrue, IfOk, OnOk, OnErr, Some};
 ghost use Rattle.std.specs.List.{position_from};
 ghost use Rattle.std.specs.Ordering.{int_eq};
 ghost use Rattle.tcap_invocation.specs.Closing.{ended_at, first_ended_at};

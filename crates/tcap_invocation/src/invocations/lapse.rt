@@ -1,8 +1,8 @@
 //! Invocations whose deadline has come (TC-L-CANCEL indication).
 
-ghost use Rattle.std.specs.Prelude.{◌≡◌, ◌≢◌, ◌<◌, [], ◌∷◌, length, false, IsTrue, OnOk, OnErr, IfOk, IfSome};
+ghost use Rattle.std.specs.Prelude.{◌≡◌, ◌≢◌, ◌<◌, [], ◌∷◌, length, OnOk, OnErr, IfOk, IfSome};
 ghost use Rattle.tcap_invocation.specs.Invocations.{IsSound};
-ghost use Rattle.tcap_invocation.specs.Lapses.{due_at, told_at, first_due_at, lapse_of, lapse_at, after_lapse, after_lapse_one, after_free_due, is_held, stays};
+ghost use Rattle.tcap_invocation.specs.Lapses.{due_at, told_at, first_due_at, lapse_of, lapse_at, after_lapse, after_lapse_one, after_free_due};
 
 use super::{Invocation, Invocations};
 use ber_core::OutOfMemory;

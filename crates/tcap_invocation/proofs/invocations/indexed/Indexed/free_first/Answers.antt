@@ -1,5 +1,5 @@
-use Rattle.std.proofs.Common.{◌≡◌, ap, subst, rules, tests, filter, false, None, Some, List}
-use Rattle.tcap_invocation.specs.Invocations.{Row, entry_at}
+use Rattle.std.proofs.Common.{◌≡◌, subst, rules, tests, filter, false, None, Some}
+use Rattle.tcap_invocation.specs.Invocations.{entry_at}
 use Rattle.tcap_invocation.specs.Order.{first_of}
 use Rattle.tcap_invocation.specs.TimerList.{has_come, is_over}
 use Rattle.tcap_invocation.proofs.OverLemmas.{over-entry, held-without, length-without, held-none}

@@ -1,8 +1,8 @@
-use Rattle.std.proofs.Common.{◌≡◌, ◌∙◌, ◌<◌, ◌≤◌, ◌+◌, ap, sym, rules, tests, arith, None, pos, length, get_or, take, List, ◌++◌, ◌∷◌, []}
+use Rattle.std.proofs.Common.{◌≡◌, ◌∙◌, ◌<◌, ap, sym, rules, tests, arith, pos, length, get_or, take, List, ◌++◌, ◌∷◌, []}
 use Rattle.std.proofs.lemmas.List.{take_more}
 use Rattle.tcap_invocation.specs.declared.class.Class.TheVariants.{One}
 use Rattle.tcap_invocation.specs.declared.stage.Stage.TheVariants.{Queued}
-use Rattle.tcap_invocation.specs.Invocations.{Row, entry_at}
+use Rattle.tcap_invocation.specs.Invocations.{Row}
 use Rattle.tcap_invocation.specs.TimerList.{timer_of, timers_at, put_timer}
 use Rattle.tcap_invocation.proofs.IndexingLemmas.{absent-at, timers-at, room-at}
 use Rattle.tcap_invocation.proofs.invocations.indexed.Indexed.of_few.Goals as goal

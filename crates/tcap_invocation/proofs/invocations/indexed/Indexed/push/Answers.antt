@@ -1,10 +1,8 @@
-use Rattle.std.proofs.Common.{arith, refl, rules, subst, sym, ◌≡◌, ◌∙◌, ◌+◌, ◌≤◌, None, [], ◌++◌, ◌∷◌}
+use Rattle.std.proofs.Common.{arith, refl, rules, ◌≡◌, ◌∙◌, ◌+◌, ◌≤◌, [], ◌++◌, ◌∷◌}
 use Rattle.std.proofs.lemmas.Int.{to_z-of_z}
 use Rattle.std.specs.Ordering.{int_eq}
 use Rattle.std.specs.Int.{w8}
-use Rattle.indexmap.specs.IndexMap.{get}
 use Rattle.indexmap.proofs.CallerLemmas.{insert_entry-new}
-use Rattle.tcap_invocation.specs.Invocations.{Row}
 use Rattle.tcap_invocation.specs.Rows.{IsNew}
 use Rattle.tcap_invocation.proofs.SortedLemmas.{AreSorted-push, untimed}
 use Rattle.tcap_invocation.proofs.TiedLemmas.{IsTimed-push}
