@@ -28,6 +28,9 @@ struct Invocation {
     stage: Stage,
 }
 
+/// An invoke identifier, and what is known of it.
+type Row = (i8, Invocation);
+
 /// How many identifiers there are (Q.773, Invoke ID: one octet).
 const IDENTIFIERS: usize = 256;
 

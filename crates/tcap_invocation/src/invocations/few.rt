@@ -9,15 +9,12 @@ ghost use Rattle.tcap_invocation.specs.Lapses.{due_at, told_at, first_due_at, is
 ghost use Rattle.tcap_invocation.specs.Stage.{moment_limit};
 ghost use Rattle.tcap_invocation.specs.Timers.{next_timer_at};
 
-use super::Invocation;
 use super::closing::ended_of;
 use super::lapse::{Lapse, lapse_of};
+use super::{Invocation, Row};
 use crate::stage::Stage;
 use ber_core::OutOfMemory;
 use std::alloc::{AllocError, Allocator};
-
-/// An invoke identifier, and what is known of it.
-pub(super) type Row = (i8, Invocation);
 
 /// The first block has room for so many.
 // `Vec` by itself begins with four. A row takes 40 octets, so a dialogue that never has more than two at a time, as

@@ -11,10 +11,10 @@ ghost use Rattle.tcap_invocation.specs.Timers.{next_timer_at};
 
 mod timed;
 
-use super::Invocation;
 use super::closing::ended_of;
 use super::lapse::Lapse;
 use super::timers::Timers;
+use super::{Invocation, Row};
 use ber_core::OutOfMemory;
 use indexmap::IndexMap;
 use std::alloc::{AllocError, Allocator};
@@ -53,7 +53,7 @@ impl<A: Allocator + Copy> Model for Indexed<A> {
 
 impl<A: Allocator + Copy> Indexed<A> {
     /// These rows, with room for one more, since there is one more wherever few become many.
-    pub(super) fn of_few(alloc: A, rows: &[(i8, Invocation)]) -> Result<Indexed<A>, AllocError>
+    pub(super) fn of_few(alloc: A, rows: &[Row]) -> Result<Indexed<A>, AllocError>
         requires { AreSorted rows.now }
         ensures { IfOk result (λ indexed. indexed ≡ rows.now) }
     {
@@ -187,7 +187,6 @@ impl<A: Allocator + Copy> Indexed<A> {
     }
 
     /// `free_due`, one by one.
-    #[inline(never)]
     fn free_each(&mut self, clock: u64)
         ensures { self.new ≡ filter (λ r. is_held clock r.1.stage) self.old }
     {

@@ -11,7 +11,7 @@ ghost use Rattle.tcap_invocation.specs.Timers.{next_timer_at};
 
 use super::indexed::Indexed;
 use super::lapse::Lapse;
-use super::{Invocation, few};
+use super::{Invocation, Row, few};
 use crate::stage::Stage;
 use ber_core::OutOfMemory;
 use std::alloc::{AllocError, Allocator};
@@ -27,7 +27,7 @@ const FEW: usize = 8;
 #[derive(Debug, Drop)]
 pub(super) struct Rows<A: Allocator + Copy> {
     /// All of them, while there were never more than a few; else none.
-    few: Vec<(i8, Invocation), A>,
+    few: Vec<Row, A>,
     /// All of them, once there were more.
     many: Option<Box<Indexed<A>, A>>,
 }
@@ -245,10 +245,11 @@ impl<A: Allocator + Copy> Rows<A> {
 }
 
 /// These rows and one more, by their identifiers.
+// Not inlined: each invocation goes through `push`, and few dialogues ever come here.
 #[inline(never)]
 fn indexed_with<A: Allocator + Copy>(
     alloc: A,
-    rows: &[(i8, Invocation)],
+    rows: &[Row],
     id: i8,
     entry: Invocation,
 ) -> Result<Box<Indexed<A>, A>, AllocError>
