@@ -15,17 +15,19 @@ use Rattle.tcap_primitives.specs.Slices.{Slices, IsLeftOf, ComponentLiesIn, AreO
 pub left_self : (portion : Slice) → IsLeftOf portion portion
 left_self portion = record { ends = (refl, refl); before = []; follows = refl }
 
+-- What follows the first component of what is left.
+pub left_behind : (portion bytes rest : Slice) (item : Result Component ComponentFault) → IsLeftOf bytes portion →
+    components_of bytes.now ≡ item_view item ∷ components_of rest.now → AtEnd rest bytes → IsLeftOf rest portion
+left_behind portion bytes rest item left first ends = record {
+  ends = (ends.0 ∙ left.ends.0, ends.1 ∙ left.ends.1);
+  before = left.before ++ item_view item ∷ [];
+  follows = left.follows ∙ ap (λ (is : List Item). left.before ++ is) first ∙ sym (append_assoc left.before (item_view item ∷ []) (components_of rest.now));
+}
+
 -- One component less is left.
 pub left_step : (portion : Slice) (old new : Components) (item : Result Component ComponentFault) →
     IsLeftOf (bytes_left old) portion → components_steps old (Some item) new → IsLeftOf (bytes_left new) portion
-left_step portion old new item left step =
-    let ends : AtEnd (bytes_left new) (bytes_left old) = step.1.1 in
-    let first : components_of (bytes_left old).now ≡ item_view item ∷ components_of (bytes_left new).now = step.0 in
-    record {
-      ends = (ends.0 ∙ left.ends.0, ends.1 ∙ left.ends.1);
-      before = left.before ++ item_view item ∷ [];
-      follows = left.follows ∙ ap (λ (is : List Item). left.before ++ is) first ∙ sym (append_assoc left.before (item_view item ∷ []) (components_of (bytes_left new).now));
-    }
+left_step portion old new item left step = left_behind portion (bytes_left old) (bytes_left new) item left step.0 step.1.1
 
 component-lies : (portion : Slice) (dialogue : Option Slice) (bytes : Slice) (item : Result Component ComponentFault) (slices : Slices) →
     IsLeftOf bytes portion → ItemInPlace item bytes → AreOfItem item slices → LieIn dialogue portion slices
@@ -48,6 +50,13 @@ module _ {A : Type 0} where
       AllInPlace dialogue portion outputs → AllInPlace dialogue portion (outputs ++ told ∷ [])
   one_more dialogue portion outputs told bytes item left place are all =
       all_push dialogue portion outputs told all (component-lies portion dialogue bytes item (slices_of told) left place are)
+
+  -- The same of all outputs then.
+  pub one_after : (dialogue : Option Slice) (portion : Slice) (outputs all : List (Output A)) (told : Output A) (bytes : Slice) (item : Result Component ComponentFault) →
+      IsLeftOf bytes portion → ItemInPlace item bytes → AreOfItem item (slices_of told) → all ≡ outputs ++ told ∷ [] →
+      AllInPlace dialogue portion outputs → AllInPlace dialogue portion all
+  one_after dialogue portion outputs all told bytes item left place are last before =
+      rw last (one_more dialogue portion outputs told bytes item left place are before)
 
   -- The first output.
   pub all_first : (dialogue : Option Slice) (portion : Slice) (outputs all : List (Output A)) (o : Output A) →

@@ -2,6 +2,7 @@ pub mod Aborting
 pub mod AskViews
 pub mod Beginning
 pub mod ComponentRefusals
+pub mod FirstComponent
 pub mod HandledViews
 pub mod KeptOctets
 pub mod RequestForm

@@ -1,12 +1,13 @@
 //! One component of a message to a dialogue.
 
 ghost use Rattle.std.specs.Option.{option_map};
-ghost use Rattle.std.specs.Prelude.{◌≡◌, ◌<◌, ◌≤◌, Some, None, Bool, true, false, Ok, Err, option_copied, vec_len, vec_capacity};
+ghost use Rattle.std.specs.Prelude.{◌≡◌, ◌<◌, ◌≤◌, length, Some, None, Bool, true, false, Ok, Err, option_copied, vec_len, vec_capacity};
 ghost use Rattle.tcap_component.specs.Component.ComponentParts.{reject_back};
-ghost use Rattle.tcap_component.specs.Views.{item_view, problem_parts, body_parts, code_parts, component_parts, fault_parts};
+ghost use Rattle.tcap_component.specs.Views.{problem_parts, body_parts, code_parts, component_parts, fault_parts};
 ghost use Rattle.tcap_component.specs.declared.component.Component.TheVariants as component;
 ghost use Rattle.tcap_dialogue.specs.HandledViews.{IsHandled, AreNone};
-ghost use Rattle.tcap_primitives.specs.Slices.{AreOf, AreOfItem, result_of};
+ghost use Rattle.tcap_primitives.specs.Slices.{AreOf, result_of};
+ghost use Rattle.tcap_dialogue.specs.FirstComponent.{IsFirstTaken};
 ghost use Rattle.tcap_dialogue.specs.Verdicts.{result_handled};
 ghost use Rattle.tcap_invocation.specs.Answers.{after_received, after_reject};
 ghost use Rattle.tcap_invocation.specs.Class.{return_result};
@@ -19,7 +20,7 @@ ghost use Rattle.tcap_model.specs.Table.TableMove.{after_item};
 use super::answers::{error_judged, reject_judged, result_judged};
 use super::{Reject, rejecting, remote_rejector};
 use std::alloc::Allocator;
-use tcap_component::{Body, Code, Component, ComponentFault, Problem};
+use tcap_component::{Body, Code, Component, ComponentFault, Problem, read_component};
 use tcap_invocation::Invocations;
 use tcap_primitives::Output;
 
@@ -224,25 +225,40 @@ fn take_component<'m, A: Allocator + Copy>(
     }
 }
 
-/// One component of a message to a dialogue (Q.774, Component handling).
-// Each handler pushes what it tells, so that an `Output`, which is 288 octets, is built in the vector and
-// not moved there.
+/// The octets of a component portion that are left.
+// A struct, and not a slice: of the slice that a loop changes an invariant doesn't see where it lies.
+#[derive(Clone, Copy)]
+pub(crate) struct Left<'m> {
+    pub(crate) octets: &'m [u8],
+}
+
+/// The first component of what is left: what it comes to. Behind a faulty one nothing is left
+/// (Q.774, Component handling).
+// Each handler pushes what it tells, so that an `Output`, which is 288 octets, is built in the vector and not moved
+// there. The component is read here: an item of `Components` is copied five times more on its way, which took 40 to 95
+// instructions a message.
 #[inline(always)]
-pub(crate) fn take_item<'m, A: Allocator + Copy>(
+pub(crate) fn take_first<'m, A: Allocator + Copy>(
     invocations: &mut Invocations<A>,
     dialogue: u32,
     clock: u64,
-    item: Result<Component<'m>, ComponentFault>,
+    left: &mut Left<'m>,
     outputs: &mut Vec<Output<'m, A>, A>,
 ) -> Option<Reject>
     requires clock { clock ≤ moment_limit }
     requires room { vec_len outputs.old < vec_capacity outputs.old }
-    ensures handled { IsHandled outputs.old outputs.new result (AreOfItem item.entry) (handled (Some dialogue)
-        (sent_by_rows dialogue invocations.old (subject_of (item_view item.entry))) (item_view item.entry)) }
-    ensures list { invocations.new ≡ after_item clock invocations.old (item_view item.entry) }
+    requires left { 0 < length left.old.octets.now }
+    ensures { IsFirstTaken dialogue clock left.old.octets left.new.octets outputs.old outputs.new invocations.old
+        invocations.new result }
 {
-    match item {
-        Ok(component) => take_component(invocations, dialogue, clock, component, outputs),
-        Err(fault) => take_unreadable(dialogue, fault, outputs),
+    match read_component(left.octets) {
+        Ok((component, rest)) => {
+            left.octets = rest;
+            take_component(invocations, dialogue, clock, component, outputs)
+        }
+        Err(fault) => {
+            left.octets = &left.octets[left.octets.len()..];
+            take_unreadable(dialogue, fault, outputs)
+        }
     }
 }

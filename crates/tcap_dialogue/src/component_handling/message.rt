@@ -15,7 +15,7 @@ ghost use Rattle.tcap_model.specs.Procedures.ComponentHandling.{uni_told};
 ghost use Rattle.tcap_invocation.specs.Stage.{moment_limit};
 
 use crate::component_handling::Reject;
-use crate::component_handling::in_dialogue::take_item;
+use crate::component_handling::in_dialogue::{Left, take_first};
 use crate::component_handling::unidirectional::take_in_unidirectional;
 use ber_core::take_short;
 use std::alloc::{AllocError, Allocator};
@@ -140,7 +140,7 @@ fn queue_reject<A: Allocator + Copy>(queue: &mut Queue<A>, reject: Option<Reject
 
 /// Takes the components of a message, tells them and queues the Rejects that answer them; there is room
 /// for all that (Q.774, Component handling).
-// Two callers share it, and it has all of `take_item` in it.
+// Two callers share it, and it has all of `take_first` in it.
 #[inline(never)]
 pub(crate) fn handle_components<'m, A: Allocator + Copy>(
     dialogue: u32,
@@ -160,8 +160,9 @@ pub(crate) fn handle_components<'m, A: Allocator + Copy>(
     ensures place { (portion : Option Slice) → AllInPlace portion components.entry outputs.old.items
         → AllInPlace portion components.entry outputs.new.items }
 {
-    for item in Components::new(components) {
-        let reject = take_item(invocations, dialogue, clock, item, outputs);
+    let mut left = Left { octets: components };
+    while !left.octets.is_empty() {
+        let reject = take_first(invocations, dialogue, clock, &mut left, outputs);
         queue_reject(queue, reject);
     }
 }
@@ -185,8 +186,9 @@ pub(crate) fn handle_in_end<'m, A: Allocator + Copy>(
     ensures place { (portion : Option Slice) → AllInPlace portion components.entry outputs.old.items
         → AllInPlace portion components.entry outputs.new.items }
 {
-    for item in Components::new(components) {
-        let _reject = take_item(invocations, dialogue, clock, item, outputs);
+    let mut left = Left { octets: components };
+    while !left.octets.is_empty() {
+        let _reject = take_first(invocations, dialogue, clock, &mut left, outputs);
     }
 }
 

@@ -1,34 +1,42 @@
-use Rattle.std.proofs.Common.{rules, ◌≡◌, Some, sym, subst, le_trans, ◌∙◌}
-use Rattle.ber_core.specs.Place.{Slice}
-use Rattle.tcap_component.specs.Place.{bytes_left, components_steps}
-use Rattle.tcap_component.specs.Views.{components_left, item_view}
+use Rattle.std.proofs.Common.{rules, arith, ◌≡◌, ◌<◌, [], length, le_trans, ◌∙◌}
+use Rattle.tcap_component.proofs.CallerLemmas.{components_of-none}
+use Rattle.tcap_component.specs.ComponentReading.{components_of}
+use Rattle.tcap_component.specs.Views.{item_view}
 use Rattle.tcap_primitives.specs.OutputViews.{all_shown, shown}
-use Rattle.tcap_primitives.specs.Slices.{AllInPlace}
-use Rattle.tcap_dialogue.proofs.PlaceLemmas.{left_step, one_more}
+use Rattle.tcap_dialogue.proofs.ItemLemmas.{some-component}
+use Rattle.tcap_dialogue.proofs.PlaceLemmas.{left_behind, left_self, one_after}
 use Rattle.tcap_dialogue.proofs.WalkLemmas.{told_next, shown_push, ended_next}
 use Rattle.tcap_dialogue.proofs.component_handling.message.handle_in_end.Goals as goal
 
-pub loop-item-preserved : goal.loop-item-preserved
-loop-item-preserved g c =
-    let steps : components_steps c.loop-item.item-iterator (Some c.in-Some.item) c.next.new.self = c.in-Some.ensures.steps in
-    let inv = c.loop-item.invariant in
-    let all = bytes_left c.into_iter-item-iterator.result in
-    let h = c.take_item-reject.ensures.handled in
-    let told = told_next c.args.dialogue c.args.clock (all_shown c.loop-item.outputs.items) (all_shown c.take_item-reject.new.outputs.items) c.loop-item.invocations c.take_item-reject.new.invocations
-    (shown h.output) (item_view c.in-Some.item) (components_left c.next.new.self) (components_left c.loop-item.item-iterator)
-    steps.0 h.is_told (shown_push c.loop-item.outputs.items c.take_item-reject.new.outputs.items h.output h.is_last) c.take_item-reject.ensures.list in (
-      tt,
-      tt,
-      told ∙ inv.2,
+pub loop-left-preserved : goal.loop-left-preserved
+loop-left-preserved g c =
+    let inv = c.loop-left.invariant in
+    let left = c.loop-left.left.octets in
+    let rest = c.take_first-reject.new.left.octets in
+    let t = c.take_first-reject.ensures in
+    let h = t.is_handled in
+    let told = told_next c.args.dialogue c.args.clock (all_shown c.loop-left.outputs.items) (all_shown c.take_first-reject.new.outputs.items) c.loop-left.invocations c.take_first-reject.new.invocations
+    (shown h.output) (item_view t.item) (components_of rest.now) (components_of left.now)
+    t.is_first h.is_told (shown_push c.loop-left.outputs.items c.take_first-reject.new.outputs.items h.output h.is_last) t.is_after in (
+      told ∙ inv.0,
       search rules,
       search rules,
-      rw (c.take_item-reject.ensures.list) (le_trans (ended_next c.args.clock c.loop-item.invocations (item_view c.in-Some.item)) inv.5),
-      left_step all c.loop-item.item-iterator c.next.new.self c.in-Some.item inv.6 steps,
-      λ portion before. subst (AllInPlace portion all) (sym h.is_last)
-          (one_more portion all c.loop-item.outputs.items h.output (bytes_left c.loop-item.item-iterator) c.in-Some.item inv.6 steps.1.0 h.are_parts (inv.7 portion before)),
+      rw (t.is_after) (le_trans (ended_next c.args.clock c.loop-left.invocations (item_view t.item)) inv.3),
+      left_behind _ left rest t.item inv.4 t.is_first t.ends,
+      λ portion before. one_after portion _ c.loop-left.outputs.items c.take_first-reject.new.outputs.items h.output left t.item inv.4 t.is_in_place h.are_parts h.is_last (inv.5 portion before),
     )
 
-pub returns-clause-place : goal.returns-clause-place
-returns-clause-place g c portion all =
-    let same : bytes_left c.into_iter-item-iterator.result ≡ c.args.components = search rules in
-    subst (λ (s : Slice). AllInPlace portion s c.loop-item.outputs.items) same (c.loop-item.invariant.7 portion (subst (λ (s : Slice). AllInPlace portion s c.args.outputs.now.items) (sym same) all))
+pub loop-left-init : goal.loop-left-init
+loop-left-init g c = search (rules, left_self)
+
+pub take_first-reject-requires-clause-room : goal.take_first-reject-requires-clause-room
+take_first-reject-requires-clause-room g c =
+    let octets = c.loop-left.left.octets.now in
+    let some : 0 < length (components_of octets) = some-component octets (search rules) in
+    omega (arith, some, c.loop-left.invariant.1, c.loop-left.invariant.2, c.requires.outputs)
+
+pub returns-clause-told : goal.returns-clause-told
+returns-clause-told g c =
+    let octets = c.loop-left.left.octets.now in
+    let none : components_of octets ≡ [] = components_of-none octets (search rules) in
+    search (rules, none)
