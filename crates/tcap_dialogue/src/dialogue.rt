@@ -52,17 +52,18 @@ pub struct Step<'m, A: Allocator = Global> {
 /// how much room there is.
 #[derive(Debug, Drop)]
 pub struct Dialogue<A: Allocator + Copy = Global> {
+    // What each step and each moment reads comes first, so that it lies in two lines of the cache.
     identifier: u32,
     phase: Phase,
-    context: Option<Context<A>>,
-    queue: Queue<A>,
-    invocations: Invocations<A>,
-    /// Its idle limit in milliseconds, 0 for none, at most 2^62.
-    idle_ms: u64,
     /// The clock at its last activity, 0 if there was none.
     touched: u64,
+    /// Its idle limit in milliseconds, 0 for none, at most 2^62.
+    idle_ms: u64,
+    invocations: Invocations<A>,
+    queue: Queue<A>,
     /// The address to which its messages go, empty before there is one.
     kept: KeptAddress<A>,
+    context: Option<Context<A>>,
 }
 
 impl<A: Allocator + Copy> Model for Dialogue<A> {
