@@ -14,12 +14,10 @@ ghost use Rattle.tcap_model.specs.Table.TableMove.{born};
 
 use super::Dialogue;
 use super::kept_address::KeptAddress;
-use super::spares::Spares;
 use crate::component_handling::message::{handle_components, reserve_rejects, room_for};
 use ber_core::OutOfMemory;
 use std::alloc::Allocator;
 use tcap_address::Address;
-use tcap_component::MAX_REJECT;
 use tcap_pdu::TransId;
 use tcap_primitives::{Context, Output};
 use tcap_reception::Phase;
@@ -62,12 +60,10 @@ pub(super) fn keep_names<A: Allocator + Copy>(
 }
 
 impl<A: Allocator + Copy> Dialogue<A> {
-    /// The Begin to the dialogue, in which nothing has happened: it is told with its components, the
-    /// Rejects that answer them are queued, and the sender's address is kept. All room is found first; that
-    /// for Rejects is left to other dialogues where there is none.
+    /// The Begin to the dialogue, in which nothing has happened: it is told with its components, the Rejects that
+    /// answer them are queued, and the sender's address is kept. All room is found first.
     fn begin_with<'m>(
         &mut self,
-        spares: &mut Spares<A>,
         from: &Address,
         otid: &TransId,
         context: Option<&'m [u8]>,
@@ -86,7 +82,6 @@ impl<A: Allocator + Copy> Dialogue<A> {
         let alloc = *self.queue.octets.allocator();
         let items = room_for(components);
         let mut outputs = Vec::with_capacity(alloc, items.saturating_add(1))?;
-        spares.lend_queue(&mut self.queue, items.saturating_mul(MAX_REJECT));
         reserve_rejects(&mut self.queue, components, items)?;
         keep_names(alloc, &mut self.kept, &mut self.context, from, context)?;
         outputs.push_reserved(Output::Begin {
@@ -103,9 +98,6 @@ impl<A: Allocator + Copy> Dialogue<A> {
             &mut outputs,
         );
         self.phase = Phase::Received(otid.copied());
-        if self.queue.parts.is_empty() {
-            spares.keep_queue(&mut self.queue);
-        }
         Ok(outputs)
     }
 
@@ -137,21 +129,19 @@ impl<A: Allocator + Copy> Dialogue<A> {
         ensures place { (portion : Option Slice) → GivenIn 0x60 aarq.entry portion
             → IfOk result (λ r. AllInPlace portion components.entry r.1.items) }
     {
-        let mut spares = Spares::new(alloc);
         let mut dialogue = Dialogue::fresh(alloc, identifier, reject_ms, idle_ms);
-        let outputs = dialogue.hear_begin(&mut spares, from, otid, aarq, components, clock)?;
+        let outputs = dialogue.receive_begin(from, otid, aarq, components, clock)?;
         Ok((dialogue, outputs))
     }
 
     /// The Begin that creates the dialogue, in which nothing has happened: what is told; the arguments are those
-    /// of `accept`. The Rejects that answer its components may take memory of `spares` (Q.774, Dialogue begin).
+    /// of `accept` (Q.774, Dialogue begin).
     // It stands where it is to stay: a dialogue is 192 octets, and each move on its way into a table copied and
     // cleared them again.
     #[tactic(auto, using(crate::proofs::PortionNames::named_given))]
     #[inline(always)]
-    pub fn hear_begin<'m>(
+    pub(super) fn receive_begin<'m>(
         &mut self,
-        spares: &mut Spares<A>,
         from: &Address,
         otid: &TransId,
         aarq: Option<(&'m [u8], &'m [u8])>,
@@ -160,15 +150,13 @@ impl<A: Allocator + Copy> Dialogue<A> {
     ) -> Result<Vec<Output<'m, A>, A>, OutOfMemory>
         requires clock { clock ≤ moment_limit }
         requires named { IfSome aarq (λ a. IsObjectIdentifier a.0.now) }
-        // What is told, and the dialogue.
         ensures ok { IfOk result (λ outputs. begun outputs.items self.new ≡ outcome (begun_from clock self.old
             from.now otid.now (context_of_portion aarq.entry) (info_of_portion aarq.entry) components.now)) }
         ensures err { OnErr result (self.new ≡ self.old) }
-        // The slices that are told are those that were given, and parts of the component portion.
         ensures place { (portion : Option Slice) → GivenIn 0x60 aarq.entry portion
             → IfOk result (λ outputs. AllInPlace portion components.entry outputs.items) }
     {
         let (context, info) = parts_of(aarq);
-        self.begin_with(spares, from, otid, context, info, components, clock)
+        self.begin_with(from, otid, context, info, components, clock)
     }
 }

@@ -1,35 +1,32 @@
 //! How a dialogue takes memory that others left, and leaves its own.
 
-ghost use Rattle.std.specs.Prelude.{◌≡◌, ◌≤◌};
+ghost use Rattle.std.specs.Prelude.{◌≡◌, ◌≤◌, Option, IfOk, IfSome, OnErr, unwrap_or};
+ghost use Rattle.ber_core.specs.ObjectIdentifier.{IsObjectIdentifier};
+ghost use Rattle.ber_core.specs.Place.{Slice};
 ghost use Rattle.tcap_dialogue.specs.AskViews.{IsNumbered, Asks};
-ghost use Rattle.tcap_dialogue.specs.StepViews.{asked, outcome};
+ghost use Rattle.tcap_dialogue.specs.Beginning.{begun, begun_from};
+ghost use Rattle.tcap_dialogue.specs.StepViews.{asked, at_clock, outcome, stepped};
 ghost use Rattle.tcap_invocation.specs.Stage.{moment_limit};
 ghost use Rattle.tcap_model.specs.Table.TableMove.{DialogueEvent, table_move};
+ghost use Rattle.tcap_pdu.specs.FramePortions.{components_slice, dialogue_slice};
+ghost use Rattle.tcap_pdu.specs.FrameViews.{message};
 ghost use Rattle.tcap_primitives.specs.RequestViews.{request_view};
+ghost use Rattle.tcap_primitives.specs.Slices.{AllInPlace};
+ghost use Rattle.tcap_reception.specs.PortionParts.{GivenIn, context_of_portion, info_of_portion};
 
-use super::Dialogue;
 use super::ask::Asked;
 use super::spares::Spares;
+use super::{Dialogue, Step};
+use ber_core::OutOfMemory;
 use std::alloc::Allocator;
-use tcap_component::{Body, Code, MAX_REJECT};
-use tcap_primitives::{Fault, Request};
-
-/// What was lent for a request: a queue, a list of invocations.
-#[derive(Clone, Copy)]
-struct Lent {
-    queue: bool,
-    list: bool,
-}
-
-/// Nothing was lent.
-const NOTHING: Lent = Lent {
-    queue: false,
-    list: false,
-};
+use tcap_address::Address;
+use tcap_pdu::{Frame, TransId};
+use tcap_primitives::{Fault, Output, Request};
 
 impl<A: Allocator + Copy> Dialogue<A> {
-    /// `ask`, where the first component takes memory that another dialogue left, if it fits. `reject_ms` is what the
-    /// dialogue was made with. A request that is refused gives back what it took.
+    /// `ask`, where a component takes memory that other dialogues left. `reject_ms` is what the dialogue was made with.
+    /// A queue that is empty afterwards leaves its memory to others, and so does a list of invocations that was taken
+    /// for a request that is refused.
     #[inline(always)]
     pub fn ask_with<'m>(
         &mut self,
@@ -47,67 +44,113 @@ impl<A: Allocator + Copy> Dialogue<A> {
             (DialogueEvent.request (request_view request.now)))) self.old self.new }
         ensures kept { self.new.standing.identifier ≡ self.old.standing.identifier }
     {
-        let lent = self.borrow(spares, reject_ms, request);
+        self.borrow(spares, reject_ms, request);
         match self.ask(clock, number, request) {
-            Ok(asked) => Ok(asked),
+            Ok(asked) => {
+                self.leave_queue(spares);
+                Ok(asked)
+            }
             Err(fault) => {
-                self.give_back(spares, reject_ms, lent);
+                self.give_back(spares, reject_ms);
                 Err(fault)
             }
         }
     }
 
-    /// Takes what the first component needs: a queue, and for an Invoke a list of invocations.
-    // A dialogue has a list only once it has a queue.
+    /// Takes what a component needs: a queue, and for an Invoke a list of invocations.
+    // Where the request is known, what is asked of it folds away.
     #[inline(always)]
-    fn borrow(&mut self, spares: &mut Spares<A>, reject_ms: u64, request: &Request<'_>) -> Lent
+    fn borrow(&mut self, spares: &mut Spares<A>, reject_ms: u64, request: &Request<'_>)
         requires wait { self.old.invocations.reject_ms ≡ reject_ms }
         requires limited { reject_ms ≤ moment_limit }
         ensures { self.new ≡ self.old }
     {
-        let octets = usual_octets(request);
-        if octets == 0 || self.queue.octets.capacity() > 0 {
-            return NOTHING;
+        if !queues_component(request) {
+            return;
         }
-        self.borrow_first(
-            spares,
-            reject_ms,
-            octets,
-            matches!(request, Request::Invoke { .. }),
-        )
+        spares.lend_queue(&mut self.queue);
+        if matches!(request, Request::Invoke { .. }) && self.invocations.capacity() == 0 {
+            spares.lend_list(&mut self.invocations, reject_ms);
+        }
     }
 
-    /// `borrow`, for a component of so many octets.
-    #[inline(never)]
-    fn borrow_first(
-        &mut self,
-        spares: &mut Spares<A>,
-        reject_ms: u64,
-        octets: usize,
-        invokes: bool,
-    ) -> Lent
-        requires wait { self.old.invocations.reject_ms ≡ reject_ms }
-        requires limited { reject_ms ≤ moment_limit }
+    /// Leaves the memory of the queue to others, where it is empty.
+    #[inline(always)]
+    fn leave_queue(&mut self, spares: &mut Spares<A>)
         ensures { self.new ≡ self.old }
     {
-        let queue = spares.lend_queue(&mut self.queue, octets);
-        let list = invokes && spares.lend_list(&mut self.invocations, reject_ms);
-        Lent { queue, list }
+        if self.queue.octets.capacity() > 0 && self.queue.parts.is_empty() {
+            spares.keep_queue(&mut self.queue);
+        }
     }
 
     /// Gives back what was taken for a request that is refused.
     #[inline(never)]
-    fn give_back(&mut self, spares: &mut Spares<A>, reject_ms: u64, lent: Lent)
+    fn give_back(&mut self, spares: &mut Spares<A>, reject_ms: u64)
         requires wait { self.old.invocations.reject_ms ≡ reject_ms }
         requires limited { reject_ms ≤ moment_limit }
         ensures { self.new ≡ self.old }
     {
-        if lent.queue && self.queue.parts.is_empty() {
-            spares.keep_queue(&mut self.queue);
-        }
-        if lent.list && self.invocations.is_above_all(0) {
+        self.leave_queue(spares);
+        if self.invocations.is_above_all(0) {
             spares.keep_list(&mut self.invocations, reject_ms);
         }
+    }
+
+    /// The Begin that creates the dialogue, in which nothing has happened: what is told; the arguments are those
+    /// of `accept`. The Rejects that answer its components take memory that other dialogues left
+    /// (Q.774, Dialogue begin).
+    #[inline(always)]
+    pub fn receive_begin_with<'m>(
+        &mut self,
+        spares: &mut Spares<A>,
+        from: &Address,
+        otid: &TransId,
+        aarq: Option<(&'m [u8], &'m [u8])>,
+        components: &'m [u8],
+        clock: u64,
+    ) -> Result<Vec<Output<'m, A>, A>, OutOfMemory>
+        requires clock { clock ≤ moment_limit }
+        requires named { IfSome aarq (λ a. IsObjectIdentifier a.0.now) }
+        // What is told, and the dialogue.
+        ensures ok { IfOk result (λ outputs. begun outputs.items self.new ≡ outcome (begun_from clock self.old
+            from.now otid.now (context_of_portion aarq.entry) (info_of_portion aarq.entry) components.now)) }
+        ensures err { OnErr result (self.new ≡ self.old) }
+        // The slices that are told are those that were given, and parts of the component portion.
+        ensures place { (portion : Option Slice) → GivenIn 0x60 aarq.entry portion
+            → IfOk result (λ outputs. AllInPlace portion components.entry outputs.items) }
+    {
+        if !components.is_empty() {
+            spares.lend_queue(&mut self.queue);
+        }
+        let outputs = self.receive_begin(from, otid, aarq, components, clock);
+        self.leave_queue(spares);
+        outputs
+    }
+
+    /// `take_frame`, where the Rejects that answer components take memory that other dialogues left. A queue that is
+    /// empty afterwards leaves its memory to others.
+    pub fn take_frame_with<'m>(
+        &mut self,
+        spares: &mut Spares<A>,
+        from: &Address,
+        frame: &Frame<'m>,
+        clock: u64,
+    ) -> Result<Step<'m, A>, OutOfMemory>
+        requires { clock ≤ moment_limit }
+        ensures ok { IfOk result (λ s. stepped s self.new
+            ≡ outcome (table_move (at_clock clock) self.old (DialogueEvent.frame from.now (message frame.now)))) }
+        ensures err { OnErr result (self.new ≡ self.old) }
+        ensures kept { self.new.standing.identifier ≡ self.old.standing.identifier }
+        ensures place { (other : Slice) → IfOk result (λ s. AllInPlace
+            (dialogue_slice frame.now) (unwrap_or (components_slice frame.now) other) s.outputs.items) }
+    {
+        if has_components(frame) {
+            spares.lend_queue(&mut self.queue);
+        }
+        let step = self.take_frame(from, frame, clock);
+        self.leave_queue(spares);
+        step
     }
 
     /// Leaves its memory to those that come: it is over, and not to be used any more.
@@ -115,72 +158,38 @@ impl<A: Allocator + Copy> Dialogue<A> {
     pub fn leave_memory(&mut self, spares: &mut Spares<A>)
         ensures { self.new.standing.identifier ≡ self.old.standing.identifier }
     {
-        if self.queue.octets.capacity() > 0 || self.invocations.capacity() > 0 {
+        if self.queue.octets.capacity() > 0 {
+            spares.keep_queue(&mut self.queue);
+        }
+        if self.invocations.capacity() > 0 {
             spares.make_places();
+            spares.keep_list(&mut self.invocations, 0);
         }
-        spares.keep_queue(&mut self.queue);
-        spares.keep_list(&mut self.invocations, 0);
     }
 }
 
-/// How many octets a code has, a local one of one octet.
-fn code_octets(code: Code<'_>) -> usize {
-    match code {
-        Code::Local(_) => 3,
-        Code::Global(octets) => octets.len().saturating_add(2),
-    }
-}
-
-/// How many octets a parameter has.
-fn parameter_octets(parameter: Option<&[u8]>) -> usize {
-    match parameter {
-        Some(octets) => octets.len(),
-        None => 0,
-    }
-}
-
-/// How many octets the component of a request mostly has, 0 where it queues none: its lengths have one octet each.
-// It only chooses among what others left: where it has more, the queue grows.
+/// Whether a request queues a component.
 #[inline(always)]
-fn usual_octets(request: &Request<'_>) -> usize {
-    match *request {
-        Request::Invoke {
-            code,
-            parameter,
-            linked,
-            ..
-        } => {
-            let linked = if linked.is_some() { 3 } else { 0 };
-            code_octets(code)
-                .saturating_add(parameter_octets(parameter))
-                .saturating_add(5 + linked)
-        }
-        Request::ErrorBack {
-            code,
-            parameter,
-            ..
-        } => code_octets(code)
-            .saturating_add(parameter_octets(parameter))
-            .saturating_add(5),
-        Request::ResultLast { body, .. } | Request::ResultMore { body, .. } => result_octets(body),
-        Request::Reject { .. } => MAX_REJECT,
+fn queues_component(request: &Request<'_>) -> bool {
+    match request {
+        Request::Invoke { .. }
+        | Request::ResultLast { .. }
+        | Request::ResultMore { .. }
+        | Request::ErrorBack { .. }
+        | Request::Reject { .. } => true,
         Request::Cancel { .. }
         | Request::Uni { .. }
         | Request::Begin { .. }
         | Request::Continue { .. }
         | Request::End { .. }
-        | Request::Abort { .. } => 0,
+        | Request::Abort { .. } => false,
     }
 }
 
-/// How many octets a result mostly has.
-fn result_octets(body: Option<Body<'_>>) -> usize {
-    match body {
-        None => 5,
-        Some(Body { code, parameter }) => {
-            code_octets(code)
-                .saturating_add(parameter_octets(parameter))
-                .saturating_add(7)
-        }
+/// Whether Rejects may answer components of a message: it is a Continue that has some.
+fn has_components(frame: &Frame<'_>) -> bool {
+    match frame {
+        Frame::Continue { components, .. } => !components.is_empty(),
+        Frame::Uni { .. } | Frame::Begin { .. } | Frame::End { .. } | Frame::Abort { .. } => false,
     }
 }

@@ -1,6 +1,6 @@
-//! The memory that dialogues which are over leave to those that come.
+//! The memory that dialogues leave to others.
 
-ghost use Rattle.std.specs.Prelude.{◌≡◌, ◌<◌, ◌≤◌, [], true, IfSome, length, vec_len, vec_capacity};
+ghost use Rattle.std.specs.Prelude.{◌≡◌, ◌<◌, ◌≤◌, [], true, vec_len, vec_capacity};
 ghost use Rattle.tcap_invocation.specs.Invocations.{AllBelow};
 ghost use Rattle.tcap_invocation.specs.Stage.{moment_limit};
 ghost use Rattle.tcap_primitives.specs.QueueViews.{queue_view};
@@ -14,20 +14,19 @@ use tcap_primitives::Queue;
 const MOST_KEPT: usize = 16;
 
 /// The greatest queue that is kept, in octets.
-const MOST_OCTETS: usize = 256;
+const MOST_OCTETS: usize = 1_024;
 
-/// Its most components: as many as a vector has room for once there is one.
-const MOST_PARTS: usize = 4;
+/// Its most components.
+const MOST_PARTS: usize = 16;
 
-/// The most invocations of a list that is kept: as many as there is room for once there is one, so that who takes it
-/// takes no more than of its own.
+/// The most invocations of a list that is kept.
 const MOST_INVOCATIONS: usize = 4;
 
-/// The memory that dialogues which are over left to those that come: of their queues and of their lists of
-/// invocations, 16 of each at most, and none that is large. A dialogue takes it with its first component, in place
-/// of memory of its own (our own).
-// What is in it says nothing: who takes it clears it first. No `Debug`, which would print the octets of dialogues
-// that are over.
+/// The memory that dialogues left to others: of queues that are empty, and of the lists of invocations of those that
+/// are over, 16 of each at most, and none that is large. A dialogue takes it with a component, in place of memory of
+/// its own (our own).
+// A queue is mostly empty: so few serve all dialogues, and stay in the processor's cache. What is in it says nothing:
+// who takes it clears it first. No `Debug`, which would print the octets of other dialogues.
 #[derive(Drop)]
 pub struct Spares<A: Allocator + Copy = Global> {
     queues: Vec<Queue<A>, A>,
@@ -44,21 +43,18 @@ impl<A: Allocator + Copy> Spares<A> {
         }
     }
 
-    /// Lends the memory of another queue to one that has none, for a component or Rejects of this many octets;
-    /// whether it did. It takes no memory.
+    /// Lends the memory that another queue left to one that has none. It takes no memory.
     #[inline(always)]
-    pub(crate) fn lend_queue(&mut self, queue: &mut Queue<A>, octets: usize) -> bool
+    pub(crate) fn lend_queue(&mut self, queue: &mut Queue<A>)
         ensures { queue_view queue.new ≡ queue_view queue.old }
     {
         if queue.octets.capacity() > 0 || !queue.parts.is_empty() {
-            return false;
+            return;
         }
-        let Some(place) = fitting(&self.queues, octets) else {
-            return false;
-        };
-        *queue = self.queues.swap_remove(place);
-        queue.clear();
-        true
+        if let Some(found) = self.queues.pop() {
+            *queue = found;
+            queue.clear();
+        }
     }
 
     /// Lends the memory of another list of invocations to one that never had any, whose wait is `reject_ms`;
@@ -84,35 +80,43 @@ impl<A: Allocator + Copy> Spares<A> {
     /// Makes the places for what is kept, once, where memory for them is given.
     pub(crate) fn make_places(&mut self) {
         if self.queues.capacity() == 0 {
-            let _ = self.queues.reserve(MOST_KEPT);
+            let _ = self.queues.reserve_exact(MOST_KEPT);
         }
         if self.lists.capacity() == 0 {
-            let _ = self.lists.reserve(MOST_KEPT);
+            let _ = self.lists.reserve_exact(MOST_KEPT);
         }
     }
 
-    /// Keeps the memory of a queue, where it has some and is small and there are places; where 16 are kept, the
-    /// first of them goes. It takes no memory.
+    /// Keeps the memory of a queue that is empty, or that nobody reads any more, where it is small and there is a
+    /// place for it; else the memory is given back.
+    // Each call has its own copy: a queue is 48 octets, and as a call of its own it took 15 instructions more.
     #[inline(always)]
     pub(crate) fn keep_queue(&mut self, queue: &mut Queue<A>)
-        ensures { queue_view queue.old ≡ [] → queue_view queue.new ≡ [] }
+        ensures { queue_view queue.new ≡ [] }
     {
-        let octets = queue.octets.capacity();
-        if octets == 0 || octets > MOST_OCTETS || queue.parts.capacity() > MOST_PARTS {
-            return;
-        }
-        if self.queues.len() >= MOST_KEPT {
-            let _ = self.queues.swap_remove(0);
-        }
-        if !has_place(&self.queues) {
-            return;
-        }
         let alloc = *queue.octets.allocator();
         let empty = Queue {
             octets: Vec::new(alloc),
             parts: Vec::new(alloc),
         };
-        self.queues.push_reserved(mem::replace(queue, empty));
+        let left = mem::replace(queue, empty);
+        if has_place(&self.queues) && is_small(&left) {
+            self.queues.push_reserved(left);
+        } else {
+            self.keep_first(left);
+        }
+    }
+
+    /// Keeps the memory of a queue where it is the first that is kept; else gives it back.
+    #[inline(never)]
+    fn keep_first(&mut self, queue: Queue<A>) {
+        if self.queues.capacity() > 0 || !is_small(&queue) {
+            return;
+        }
+        self.make_places();
+        if has_place(&self.queues) {
+            self.queues.push_reserved(queue);
+        }
     }
 
     /// Keeps the memory of a list of invocations, where it has some and is small and there is a place; an empty list
@@ -132,25 +136,16 @@ impl<A: Allocator + Copy> Spares<A> {
     }
 }
 
+/// Whether a queue is none that is large.
+#[inline(always)]
+fn is_small<A: Allocator + Copy>(queue: &Queue<A>) -> bool {
+    queue.octets.capacity() <= MOST_OCTETS && queue.parts.capacity() <= MOST_PARTS
+}
+
 /// Whether there is a place for one more.
 #[inline(always)]
 fn has_place<T, A: Allocator + Copy>(places: &Vec<T, A>) -> bool
     ensures { result ≡ true → vec_len places.now < vec_capacity places.now }
 {
     places.len() < places.capacity()
-}
-
-/// The place of the last queue that has room for so many octets, and for no more than twice as many.
-fn fitting<A: Allocator + Copy>(queues: &[Queue<A>], octets: usize) -> Option<usize>
-    ensures { IfSome result (λ place. place < length queues.now) }
-{
-    let mut left = queues;
-    while let [others @ .., last] = left {
-        let room = last.octets.capacity();
-        if octets <= room && room - octets <= octets {
-            return Some(others.len());
-        }
-        left = others;
-    }
-    None
 }

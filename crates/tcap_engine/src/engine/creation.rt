@@ -137,7 +137,7 @@ fn begin_in<'m, A: Allocator + Copy>(
         return Ok(Vec::new(alloc));
     };
     let spares = &mut table.spares;
-    let outputs = dialogue.hear_begin(spares, from, origin, request, components, clock);
+    let outputs = dialogue.receive_begin_with(spares, from, origin, request, components, clock);
     let timer = dialogue.next_timer();
     store_or_remove(&mut table.rows, identifier, outputs.is_err(), timer);
     outputs

@@ -37,7 +37,7 @@ pub(super) fn deliver_in<'m, A: Allocator + Copy>(
     let Some(dialogue) = table.rows.get_mut(identifier) else {
         return Ok(Vec::new(alloc));
     };
-    let step = dialogue.take_frame(from, frame, clock)?;
+    let step = dialogue.take_frame_with(&mut table.spares, from, frame, clock)?;
     keep_spare(&mut table.spares, dialogue, step.over);
     let timer = dialogue.next_timer();
     store_or_remove(&mut table.rows, identifier, step.over, timer);

@@ -26,7 +26,7 @@ fn are_alike<T: Debug, U: Debug>(alloc: Global, one: &T, other: &U) -> Option<bo
     Some(one.as_str() == other.as_str())
 }
 
-// ---- `Dialogue::accept`, beside `hear_begin`
+// ---- `Dialogue::accept`, beside `receive_begin_with`
 
 /// Adds what is told of the Begin that creates a dialogue, where both tell the same and leave the same dialogue.
 fn add_accepted(
@@ -47,7 +47,7 @@ fn add_accepted(
     let mut other = Dialogue::fresh(alloc, 1, 1000, 0);
     let mut spares = Spares::new(alloc);
     let heard = other
-        .hear_begin(&mut spares, &from, otid, aarq, components, 0)
+        .receive_begin_with(&mut spares, &from, otid, aarq, components, 0)
         .ok()?;
     if !are_alike(alloc, &dialogue, &other)? || !are_alike(alloc, &outputs, &heard)? {
         return None;

@@ -76,7 +76,8 @@ impl Unanswered {
 }
 
 /// Whether a growth may be refused here with no answer: an engine makes places for the memory that a dialogue leaves
-/// which this call ends. The first growth of a call is of its outputs or its message, but in a prearranged end.
+/// whose queue this call empties, or which it ends. The first growth of a call is of its outputs or its message, but
+/// where an Invoke is given up and in a prearranged end.
 fn may_leave_memory(player: Player<'_>, subject: &Subject<'_>, words: &[Word<'_>]) -> bool {
     if !matches!(subject, Subject::Engine(_)) {
         return false;
@@ -85,9 +86,19 @@ fn may_leave_memory(player: Player<'_>, subject: &Subject<'_>, words: &[Word<'_>
     match player.refusal {
         Refusal::AsTold => matches!(
             word,
-            "raw" | "rawfrom" | "uni" | "unito" | "end" | "prearranged" | "abort"
+            "raw"
+                | "rawfrom"
+                | "uni"
+                | "unito"
+                | "begin"
+                | "beginto"
+                | "continue"
+                | "cancel"
+                | "end"
+                | "prearranged"
+                | "abort"
         ),
-        Refusal::FirstOfEachCall => word == "prearranged",
+        Refusal::FirstOfEachCall => matches!(word, "cancel" | "prearranged"),
     }
 }
 

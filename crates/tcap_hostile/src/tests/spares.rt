@@ -1,5 +1,5 @@
-//! What dialogues that are over leave to those that come: their memory where it was small, to the first component
-//! that it fits.
+//! What dialogues leave to others: the memory of a queue that is empty and that of the invocations of one that is
+//! over, where it is small.
 
 use super::subject::Heap;
 use refusing::Refusing;
@@ -53,6 +53,8 @@ enum Scene {
     After(Load, Load),
     /// One sent four Invokes five times, and was over; one of this load comes.
     AfterMany(Load),
+    /// One of this load sent it, and stands; another comes.
+    AfterSent(Load),
     /// As `After`, and a dialogue stands in which nothing was asked.
     BesideOne(Load, Load),
     /// As `After`, and an Invoke was refused.
@@ -133,6 +135,11 @@ fn prepare(engine: &mut Engine<Heap<'_>>, scene: Scene) -> Option<()> {
     match scene {
         Scene::After(load, _) => two_over(engine, load),
         Scene::AfterMany(_) => send_many(engine),
+        Scene::AfterSent(load) => {
+            let dialogue = queued(engine, load)?;
+            engine.begin(dialogue, &Address::empty(), None, &[]).ok()?;
+            Some(())
+        }
         Scene::BesideOne(load, _) => {
             two_over(engine, load)?;
             queued(engine, Load(0, 0))?;
@@ -168,6 +175,7 @@ fn come(engine: &mut Engine<Heap<'_>>, scene: Scene) -> Option<()> {
     match scene {
         Scene::After(_, load)
         | Scene::AfterMany(load)
+        | Scene::AfterSent(load)
         | Scene::BesideOne(_, load)
         | Scene::AfterRefusal(_, load)
         | Scene::AfterReject(_, load) => {
@@ -206,61 +214,63 @@ fn growths_in(heap: Heap<'_>, scene: Scene) -> Option<u64> {
     None
 }
 
-/// What is taken of what was left.
+/// How many growths a dialogue has with one Invoke, by what of that is taken which was left.
 #[derive(Clone, Copy)]
 enum Taken {
+    /// A queue that has room for it, and a list of invocations.
     Both,
-    /// The list of invocations: a queue of its own takes two blocks.
+    /// A list, and a queue whose octets grow.
+    SmallerQueue,
+    /// A queue that has room for it: a list takes one block.
+    Queue,
+    /// A list: a queue takes two blocks.
     List,
     Nothing,
 }
 
-/// How many growths a dialogue has with one Invoke, where this is taken, of so many with nothing taken.
-fn growths_left(own: u64, taken: Taken) -> u64 {
+/// So many.
+fn growths_left(taken: Taken) -> u64 {
     match taken {
         Taken::Both => 0,
+        Taken::SmallerQueue | Taken::Queue => 1,
         Taken::List => 2,
-        Taken::Nothing => own,
+        Taken::Nothing => 3,
     }
 }
 
 /// A small Invoke, of 13 octets.
 const SMALL: Load = Load(1, 2);
 
-const SCENES: [(Scene, Taken); 14] = [
+const SCENES: [(Scene, Taken); 15] = [
     (Scene::After(SMALL, SMALL), Taken::Both),
     (Scene::After(Load(1, 240), Load(1, 240)), Taken::Both),
-    (Scene::After(Load(1, 200), Load(1, 100)), Taken::Both),
-    (Scene::After(Load(1, 240), SMALL), Taken::List),
-    (Scene::After(SMALL, Load(1, 240)), Taken::List),
-    (Scene::After(Load(1, 255), Load(1, 255)), Taken::List),
-    (Scene::After(Load(4, 2), Load(1, 60)), Taken::List),
-    (Scene::After(Load(5, 2), Load(1, 60)), Taken::Nothing),
-    (Scene::After(Load(10, 2), SMALL), Taken::Nothing),
+    (Scene::After(Load(1, 240), SMALL), Taken::Both),
+    (Scene::After(SMALL, Load(1, 240)), Taken::SmallerQueue),
+    // Four of 248 octets take 1,024, four of 263 more.
+    (Scene::After(Load(4, 240), SMALL), Taken::Both),
+    (Scene::After(Load(4, 255), SMALL), Taken::List),
+    // The list of a dialogue that had five is too large.
+    (Scene::After(Load(5, 2), SMALL), Taken::Queue),
+    // So is the queue of one that had seventeen components.
+    (Scene::After(Load(16, 2), SMALL), Taken::Queue),
+    (Scene::After(Load(17, 2), SMALL), Taken::Nothing),
     (Scene::After(Load(0, 0), SMALL), Taken::Nothing),
-    (Scene::AfterMany(SMALL), Taken::Nothing),
+    (Scene::AfterMany(SMALL), Taken::Queue),
+    (Scene::AfterSent(SMALL), Taken::Queue),
     (Scene::BesideOne(SMALL, SMALL), Taken::Both),
     (Scene::AfterRefusal(SMALL, SMALL), Taken::Both),
-    (Scene::AfterReject(Load(1, 240), Load(1, 240)), Taken::Both),
+    (Scene::AfterReject(Load(1, 240), Load(1, 240)), Taken::List),
 ];
 
 #[test]
-fn memory_is_left_to_a_component_that_it_fits(rt: HostRuntime) -> Result<(), Fail> {
+fn memory_is_left_to_a_component(rt: HostRuntime) -> Result<(), Fail> {
     let heap = Refusing::new(rt.alloc());
-    let own = growths_in(&heap, Scene::After(Load(0, 0), SMALL)).ok_or("refused")?;
-    assert!(rt; own > 2);
     for (place, (scene, taken)) in SCENES.iter().enumerate() {
         let found = growths_in(&heap, *scene);
-        assert!(rt;
-            found == Some(growths_left(own, *taken)),
-            "{place}: {found:?} of {own}"
-        );
+        assert!(rt; found == Some(growths_left(*taken)), "{place}: {found:?}");
     }
     // Of twenty, sixteen leave theirs.
-    assert_eq!(rt;
-        growths_in(&heap, Scene::Twenty(SMALL)),
-        Some(own.saturating_mul(4))
-    );
+    assert_eq!(rt; growths_in(&heap, Scene::Twenty(SMALL)), Some(4 * 3));
     // The outputs of a Begin take one.
     assert_eq!(rt; growths_in(&heap, Scene::Begin(SMALL)), Some(1));
     // Beside the outputs, room for one Reject: its octets where the queue is full, its place where four stand in it.

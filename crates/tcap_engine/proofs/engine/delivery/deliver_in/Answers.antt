@@ -14,7 +14,7 @@ use Rattle.tcap_engine.proofs.engine.delivery.deliver_in.Goals as goal
 pub invariant_of-table-in_err-step : goal.invariant_of-table-in_err-step
 invariant_of-table-in_err-step g c =
     let old = c.in-Some.dialogue.now in
-    let new = c.take_frame.new.self in
+    let new = c.take_frame_with.new.self in
     let found : lookup (nat_eq c.args.identifier) (entries_of c.table.inside.rows) ≡ Some old = search rules in
     let same : new ≡ old = search rules in
     rw (c.get_mut.follows.holds new).rows (timed-still c.args.identifier old new c.table.inside.rows found same c.table.invariant)
@@ -23,7 +23,7 @@ pub returns-in_err-step : goal.returns-in_err-step
 returns-in_err-step g c =
     let ps : List TableEntry = entries_of c.table.inside.rows in
     let old = c.in-Some.dialogue.now in
-    let new = c.take_frame.new.self in
+    let new = c.take_frame_with.new.self in
     let found : lookup (nat_eq c.args.identifier) ps ≡ Some old = search rules in
     let same : new ≡ old = search rules in
     let is : c.from_residual.result ≡ Err c.in_err-step.field-0.0 = search rules in
@@ -38,7 +38,7 @@ pub returns : goal.returns
 returns g c =
     let ps : List TableEntry = entries_of c.table.inside.rows in
     let old = c.in-Some.dialogue.now in
-    let new = c.take_frame.new.self in
+    let new = c.take_frame_with.new.self in
     let after = c.keep_spare.new.dialogue in
     let s = c.in_ok-step.step in
     let found : lookup (nat_eq c.args.identifier) ps ≡ Some old = search rules in
