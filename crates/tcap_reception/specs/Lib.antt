@@ -1,4 +1,3 @@
 pub mod PortionParts
 pub mod PortionViews
-pub mod ReceptionViews
 pub mod StateViews

@@ -12,6 +12,9 @@ use std::alloc::Allocator;
 use tcap_pdu::{DialoguePdu, read_dialogue};
 use tcap_primitives::Context;
 
+/// The context and the user information of an AARQ or an AUDT, if there is one.
+pub type AarqParts<'m> = Option<(&'m [u8], &'m [u8])>;
+
 /// What the dialogue portion of a Unidirectional, of a Continue or of an End comes to
 /// (Q.774, Abnormal procedures relating to dialogue control).
 #[derive(Clone, Copy, Debug, PartialEq, Eq)]
