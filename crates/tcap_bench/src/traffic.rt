@@ -46,7 +46,7 @@ impl Traffic {
             requests::invoke(&mut self.lot, self.dialogues),
             requests::begin(peer),
         ] {
-            self.take(&Event::On { dialogue, request })?;
+            self.take(&Event::of(dialogue, request))?;
         }
         Some(dialogue)
     }
@@ -61,7 +61,7 @@ impl Traffic {
             1..=5 => self.hear(peer, dialogue)?,
             _ => {
                 let request = requests::any(&mut self.lot, self.dialogues, peer);
-                self.take(&Event::On { dialogue, request })?;
+                self.take(&Event::of(dialogue, request))?;
             }
         }
         Some(())

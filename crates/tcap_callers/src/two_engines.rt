@@ -9,7 +9,10 @@ ghost use Rattle.tcap_callers.specs.TwoEngines.{ComesBack, GoesOn, Hears, IsSent
 
 use std::alloc::Allocator;
 use tcap_component::Code;
-use tcap_engine::{Address, Answer, Engine, Event, Limits, Output, Request, laws, run};
+use tcap_engine::{
+    Address, Answer, BeginRequest, ContinueRequest, Engine, Event, InvokeRequest, Limits, Output, ResultRequest, laws,
+    run,
+};
 use tcap_invocation::Class;
 
 /// Hands events to one of the engines, and gives its answers: to all of them, or to those before the one
@@ -95,7 +98,7 @@ fn asked_events(to: &Address) -> [Event<'_>; 3]
     ensures { (places : Places) (engine : Which) (trace : Trace)
         → AreCarried places engine (events_view result) trace }
 {
-    let invoke = Request::Invoke {
+    let invoke = InvokeRequest {
         id: 1,
         class: Class::One,
         code: Code::Local(10),
@@ -103,21 +106,15 @@ fn asked_events(to: &Address) -> [Event<'_>; 3]
         linked: None,
         timeout_ms: 1000,
     };
-    let begin = Request::Begin {
+    let begin = BeginRequest {
         to,
         context: None,
         info: &[],
     };
     [
         Event::NewDialogue,
-        Event::On {
-            dialogue: 1,
-            request: invoke,
-        },
-        Event::On {
-            dialogue: 1,
-            request: begin,
-        },
+        Event::Invoke(1, invoke),
+        Event::Begin(1, begin),
     ]
 }
 
@@ -126,21 +123,12 @@ fn answering_events() -> [Event<'static>; 2]
     ensures { (places : Places) (engine : Which) (trace : Trace)
         → AreCarried places engine (events_view result) trace }
 {
-    let result = Request::ResultLast { id: 1, body: None };
-    let go_on = Request::Continue {
+    let result = ResultRequest { id: 1, body: None };
+    let go_on = ContinueRequest {
         context: None,
         info: &[],
     };
-    [
-        Event::On {
-            dialogue: 1,
-            request: result,
-        },
-        Event::On {
-            dialogue: 1,
-            request: go_on,
-        },
-    ]
+    [Event::ResultLast(1, result), Event::Continue(1, go_on)]
 }
 
 /// One operation between two new engines, at the addresses 01 and 02: the first user's Invoke goes to the

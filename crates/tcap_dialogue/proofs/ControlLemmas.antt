@@ -1,8 +1,8 @@
 -- The first due fault of a request of dialogue handling, and what it gives.
-use Rattle.std.proofs.Common.{◌≡◌, ◌&&◌, ◌∙◌, ℕ, Bool, true, false, not, cond, List, [], ◌∷◌, ◌++◌, Option, Some, None, Result, Ok, Err, inl, inr, refl, sym, ap, length, is_some, nat_lt, ◌||◌, IsTrue}
+use Rattle.std.proofs.Common.{◌≡◌, ◌&&◌, ◌∙◌, ℕ, Bool, true, false, not, cond, List, [], ◌∷◌, ◌++◌, Option, Some, None, Result, Ok, Err, inl, inr, refl, sym, ap, subst, length, is_some, nat_lt, ◌||◌, IsTrue}
 use Rattle.std.specs.Prelude.{IfOk, IfErr}
 use Rattle.std.specs.declared.vec.Vec.{Vec}
-use Rattle.tcap_dialogue.specs.RequestMessages.{IsRefusal, IsUnspelled, Spells, early_faults}
+use Rattle.tcap_dialogue.specs.RequestMessages.{IsRefusal, IsUnspelled, Spells, early_faults, octets_sent}
 use Rattle.tcap_model.specs.Procedures.RequestMessage.{message_of}
 use Rattle.tcap_primitives.specs.declared.fault.Fault.{Fault as RequestFault}
 use Rattle.tcap_primitives.specs.FaultViews.{fault_view}
@@ -55,16 +55,20 @@ module _ (s : Situation) (a : DialogueRequest) (none : None ≡ first_that (hold
   late-due : due_on s (Request.dialogue a) ≡ cond (passes_message (message_of s.standing (Request.dialogue a))) (Some Fault.too_long) None
   late-due = control-due s a ∙ last-first (holds s (Request.dialogue a)) Fault.too_long early_faults (sym none)
 
-  pub spelled-due : {V : Type 0} {A : Type 0} (r : Result (Option (Vec ℕ A)) V) → let m = message_of s.standing (Request.dialogue a) in IfOk r (λ v. Spells v m × (passes_message m ≡ false))
-      → IfOk r (λ v. Spells v m × (due_on s (Request.dialogue a) ≡ None))
-  spelled-due (Ok v) h = (h.0, late-due ∙ ap (λ (b : Bool). cond b (Some Fault.too_long) None) h.1)
-  spelled-due (Err f) h = tt
+  pub spelled-due : {V W : Type 0} (Are : V → Option Message → Type 0) (r : Result V W) (m : Option Message) → m ≡ message_of s.standing (Request.dialogue a)
+      → IfOk r (λ v. Are v m × (passes_message m ≡ false)) → IfOk r (λ v. Are v (message_of s.standing (Request.dialogue a)) × (due_on s (Request.dialogue a) ≡ None))
+  spelled-due Are (Ok v) m is h = (subst (Are v) is h.0, late-due ∙ ap (λ (b : Bool). cond b (Some Fault.too_long) None) (ap passes_message (sym is) ∙ h.1))
+  spelled-due Are (Err f) m is h = tt
 
-  pub unspelled-due : {V : Type 0} (r : Result V RequestFault) → let m = message_of s.standing (Request.dialogue a) in IfErr r (λ f. IsUnspelled f m)
-      → IfErr r (λ f. IsRefusal f m (due_on s (Request.dialogue a)))
-  unspelled-due (Ok v) h = tt
-  unspelled-due (Err f) (inl h) = inl (late-due ∙ ap (λ (b : Bool). cond b (Some Fault.too_long) None) h.1 ∙ ap (λ (x : RequestFault). Some (fault_view x)) (sym h.0))
-  unspelled-due (Err f) (inr h) = inr (h.0, late-due ∙ ap (λ (b : Bool). cond b (Some Fault.too_long) None) h.1, h.2)
+  pub unspelled-due : {V : Type 0} (r : Result V RequestFault) (m : Option Message) → m ≡ message_of s.standing (Request.dialogue a)
+      → IfErr r (λ f. IsUnspelled f m) → IfErr r (λ f. IsRefusal f (message_of s.standing (Request.dialogue a)) (due_on s (Request.dialogue a)))
+  unspelled-due r m is h = told r (subst (λ (x : Option Message). IfErr r (λ f. IsUnspelled f x)) is h)
+    where
+      told : {V : Type 0} (r : Result V RequestFault) → IfErr r (λ f. IsUnspelled f (message_of s.standing (Request.dialogue a)))
+          → IfErr r (λ f. IsRefusal f (message_of s.standing (Request.dialogue a)) (due_on s (Request.dialogue a)))
+      told (Ok v) h = tt
+      told (Err f) (inl h) = inl (late-due ∙ ap (λ (b : Bool). cond b (Some Fault.too_long) None) h.1 ∙ ap (λ (x : RequestFault). Some (fault_view x)) (sym h.0))
+      told (Err f) (inr h) = inr (h.0, late-due ∙ ap (λ (b : Bool). cond b (Some Fault.too_long) None) h.1, h.2)
 
 -- ---- what is given is good where neither of its faults holds
 
@@ -79,8 +83,15 @@ pub informed : (a : DialogueRequest) → has_bad_parameter (Request.dialogue a) 
 informed a e = both (is_information (information_given (Request.dialogue a))) e
 
 -- Where memory is refused, something would have been sent or told: there is a message, or an invocation is left.
-pub memory-told : (to : Address) (m : Option Message) (left : ℕ) (told : List Output) → left ≡ length told → IsTrue (is_some m || nat_lt 0 left)
-    → IsTrue (takes_memory (Answer.outputs (sent_if_any to m ++ told)))
+pub memory-told : {A : Type 0} (to : Address) (octets : Option (Vec ℕ A)) (left : ℕ) (told : List Output) → left ≡ length told → IsTrue (is_some octets || nat_lt 0 left)
+    → IsTrue (takes_memory (Answer.outputs (octets_sent to octets ++ told)))
 memory-told to None left [] many h = rw many at h
 memory-told to None left (o ∷ os) many h = refl
-memory-told to (Some m) left told many h = refl
+memory-told to (Some v) left told many h = refl
+
+-- The octets of a message are what is sent for it.
+pub sent_spelled : {A : Type 0} (to : Address) (octets : Option (Vec ℕ A)) (m : Option Message) → Spells octets m → octets_sent to octets ≡ sent_if_any to m
+sent_spelled to None None h = refl
+sent_spelled to None (Some m) h = absurd h
+sent_spelled to (Some v) None h = absurd h
+sent_spelled to (Some v) (Some m) h = ap (λ (octets : List ℕ). Output.send to octets ∷ []) h

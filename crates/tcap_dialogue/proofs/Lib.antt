@@ -1,7 +1,6 @@
 pub mod CallerLemmas
 pub mod ComponentRequestLemmas
 pub mod ControlLemmas
-pub mod FaultLemmas
 pub mod ItemLemmas
 pub mod PlaceLemmas
 pub mod PortionNames

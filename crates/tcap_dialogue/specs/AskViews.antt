@@ -4,8 +4,8 @@ use Rattle.tcap_invocation.specs.Invocations.{Row, AllBelow}
 use Rattle.tcap_model.specs.Table.Dialogue as model
 use Rattle.tcap_model.specs.Words.Answer.{Answer}
 use Rattle.tcap_model.specs.Words.Request.{Request, ComponentRequest}
-use Rattle.tcap_dialogue.specs.declared.dialogue.ask.Asked.{Asked}
-use Rattle.tcap_dialogue.specs.declared.dialogue.ask.Asked.TheVariants as asked
+use Rattle.tcap_dialogue.specs.declared.dialogue.requests.Asked.{Asked}
+use Rattle.tcap_dialogue.specs.declared.dialogue.requests.Asked.TheVariants as asked
 use Rattle.tcap_primitives.specs.declared.fault.Fault.{Fault}
 use Rattle.tcap_dialogue.specs.RequestForm.{RefusedBy}
 use Rattle.tcap_primitives.specs.FaultViews.{fault_view}

@@ -1,19 +1,13 @@
 //! The dialogue, what it keeps, and what a call on it gives.
 
 pub(crate) mod abort;
-pub(crate) mod ask;
 pub(crate) mod beginning;
-pub(crate) mod component_request_faults;
-pub(crate) mod component_requests;
-pub(crate) mod dialogue_request_changes;
-pub(crate) mod dialogue_request_faults;
-pub(crate) mod dialogue_requests;
 pub(crate) mod ending;
 pub(crate) mod getters;
 pub(crate) mod kept_address;
 pub(crate) mod lending;
 pub(crate) mod messages;
-pub(crate) mod request_message;
+pub(crate) mod requests;
 pub(crate) mod spares;
 pub(crate) mod timers;
 pub(crate) mod unidirectional;

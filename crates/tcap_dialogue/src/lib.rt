@@ -9,12 +9,14 @@
 mod component_handling;
 mod dialogue;
 
-pub use dialogue::ask::Asked;
+pub use dialogue::requests::Asked;
 pub use dialogue::spares::Spares;
 pub use dialogue::unidirectional::take_uni;
 pub use dialogue::{Dialogue, Step};
 pub use tcap_address::Address;
 pub use tcap_primitives::{
-    Abort, AbortWhy, By, Cause, DropWhy, Ending, Fault, Output, Request, Why, write_abort,
+    Abort, AbortRequest, AbortWhy, BeginRequest, By, CancelRequest, Cause, ContinueRequest,
+    DropWhy, EndRequest, Ending, ErrorRequest, Fault, InvokeRequest, Output, RejectRequest,
+    Request, ResultRequest, UniRequest, Why, write_abort,
 };
 pub use tcap_reception::{BeginVerdict, PortionVerdict, State, judge_begin, judge_uni};

@@ -2,8 +2,8 @@
 use Rattle.std.proofs.Common.{◌≡◌, ℕ, Bool, true, false, nat_eq, List, Option, Some, None, refl, ap, sym, ◌∙◌, if◌then◌else◌}
 use Rattle.std.proofs.lemmas.Map.Steps.{set_value_same}
 use Rattle.std.specs.Map.{lookup, set_value, remove_entry}
-use Rattle.tcap_dialogue.specs.declared.dialogue.ask.Asked.{Asked}
-use Rattle.tcap_dialogue.specs.declared.dialogue.ask.Asked.TheVariants as asked
+use Rattle.tcap_dialogue.specs.declared.dialogue.requests.Asked.{Asked}
+use Rattle.tcap_dialogue.specs.declared.dialogue.requests.Asked.TheVariants as asked
 use Rattle.tcap_dialogue.specs.AskViews.{asked_view}
 use Rattle.tcap_dialogue.specs.RequestForm.{RefusedBy}
 use Rattle.tcap_dialogue.specs.StepViews.{Outcome}

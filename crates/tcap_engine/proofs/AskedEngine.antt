@@ -2,7 +2,7 @@
 use Rattle.std.proofs.Common.{◌≡◌, ℕ, ◌≤◌, true, false, nat_eq, List, Option, Some, None, Ok, Err, refl, ap, sym, ◌∙◌, subst, if◌then◌else◌, arith}
 use Rattle.std.specs.Prelude.{IfSome, IsTrue}
 use Rattle.std.specs.Map.{lookup}
-use Rattle.tcap_dialogue.specs.declared.dialogue.ask.Asked.{Asked}
+use Rattle.tcap_dialogue.specs.declared.dialogue.requests.Asked.{Asked}
 use Rattle.tcap_primitives.specs.declared.fault.Fault.{Fault}
 use Rattle.tcap_primitives.specs.declared.fault.Fault.TheVariants as fault
 use Rattle.tcap_dialogue.specs.RequestForm.{takes_memory}

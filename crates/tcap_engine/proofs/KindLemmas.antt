@@ -1,6 +1,6 @@
 -- The engine answers each request with its kind, or refuses it.
 use Rattle.std.proofs.Common.{ℕ, ℤ, Option, Some, None, Result, Ok, Err, IfOk, refl, sym, subst}
-use Rattle.tcap_dialogue.specs.declared.dialogue.ask.Asked.{Asked}
+use Rattle.tcap_dialogue.specs.declared.dialogue.requests.Asked.{Asked}
 use Rattle.tcap_primitives.specs.declared.fault.Fault.{Fault}
 use Rattle.tcap_engine.specs.StepForm.{EngineAnswers}
 use Rattle.tcap_engine.specs.AnswerKinds.{AnswerKind, kind_of, MayAnswer}

@@ -3,6 +3,7 @@ use Rattle.std.specs.Prelude.{List, map}
 use Rattle.tcap_primitives.specs.FaultViews.{fault_view}
 use Rattle.tcap_primitives.specs.OutputViews.{all_shown}
 use Rattle.tcap_primitives.specs.RequestViews.{request_view}
+use Rattle.tcap_primitives.specs.declared.request.Request.TheVariants as request
 use Rattle.tcap_engine.specs.declared.event.Answer.{Answer}
 use Rattle.tcap_engine.specs.declared.event.Answer.TheVariants as answer
 use Rattle.tcap_engine.specs.declared.event.Event.{Event}
@@ -13,7 +14,17 @@ use Rattle.tcap_model.specs.Words.Event as model
 -- What comes to an engine (own).
 abbrev pub event_view : Event → model.Event
 event_view event.NewDialogue = model.Event.new_dialogue
-event_view (event.On dialogue request) = model.Event.on_dialogue dialogue (request_view request)
+event_view (event.Invoke dialogue r) = model.Event.on_dialogue dialogue (request_view (request.Invoke r))
+event_view (event.ResultLast dialogue r) = model.Event.on_dialogue dialogue (request_view (request.ResultLast r))
+event_view (event.ResultMore dialogue r) = model.Event.on_dialogue dialogue (request_view (request.ResultMore r))
+event_view (event.ErrorBack dialogue r) = model.Event.on_dialogue dialogue (request_view (request.ErrorBack r))
+event_view (event.Reject dialogue r) = model.Event.on_dialogue dialogue (request_view (request.Reject r))
+event_view (event.Cancel dialogue r) = model.Event.on_dialogue dialogue (request_view (request.Cancel r))
+event_view (event.Uni dialogue r) = model.Event.on_dialogue dialogue (request_view (request.Uni r))
+event_view (event.Begin dialogue r) = model.Event.on_dialogue dialogue (request_view (request.Begin r))
+event_view (event.Continue dialogue r) = model.Event.on_dialogue dialogue (request_view (request.Continue r))
+event_view (event.End dialogue r) = model.Event.on_dialogue dialogue (request_view (request.End r))
+event_view (event.Abort dialogue r) = model.Event.on_dialogue dialogue (request_view (request.Abort r))
 event_view (event.Bytes from bytes) = model.Event.received from.now bytes.now
 event_view (event.Moment now) = model.Event.moment now
 

@@ -1,8 +1,8 @@
 -- What a table answers to a request on one of its dialogues, beside what the model's table says.
 use Rattle.std.specs.Prelude.{[], ◌≡◌, ℕ, ◌<◌, Bool, false, List, Option, Some, None, Result, Ok, Err, IsTrue}
 use Rattle.ber_core.specs.declared.fault.OutOfMemory.{OutOfMemory}
-use Rattle.tcap_dialogue.specs.declared.dialogue.ask.Asked.{Asked}
-use Rattle.tcap_dialogue.specs.declared.dialogue.ask.Asked.TheVariants as asked
+use Rattle.tcap_dialogue.specs.declared.dialogue.requests.Asked.{Asked}
+use Rattle.tcap_dialogue.specs.declared.dialogue.requests.Asked.TheVariants as asked
 use Rattle.tcap_primitives.specs.declared.fault.Fault.{Fault}
 use Rattle.tcap_primitives.specs.declared.fault.Fault.TheVariants as fault
 use Rattle.tcap_dialogue.specs.RequestForm.{takes_memory}

@@ -18,5 +18,7 @@ pub use event::{Answer, Event};
 pub use limits::Limits;
 pub use runs::run;
 pub use tcap_dialogue::{
-    AbortWhy, Address, Asked, By, DropWhy, Ending, Fault, Output, Request, State, Why,
+    AbortRequest, AbortWhy, Address, Asked, BeginRequest, By, CancelRequest, ContinueRequest,
+    DropWhy, EndRequest, Ending, ErrorRequest, Fault, InvokeRequest, Output, RejectRequest,
+    Request, ResultRequest, State, UniRequest, Why,
 };

@@ -3,4 +3,3 @@ pub mod CancelLemmas
 pub mod CutLemmas
 pub mod PortionLemmas
 pub mod RoomLemmas
-pub mod SendingLemmas

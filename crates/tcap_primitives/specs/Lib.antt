@@ -1,6 +1,5 @@
 pub mod AbortViews
 pub mod ContextViews
-pub mod ControlViews
 pub mod FaultText
 pub mod FaultViews
 pub mod OutputViews

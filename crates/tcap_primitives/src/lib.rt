@@ -6,7 +6,6 @@
 #![tactic(auto)]
 
 mod context;
-mod dialogue_request;
 mod fault;
 mod output;
 mod provider_abort;
@@ -16,12 +15,14 @@ mod request;
 mod sending;
 
 pub use context::Context;
-pub use dialogue_request::Control;
 pub use fault::Fault;
 pub use output::{By, DropWhy, Output, Why};
 pub use provider_abort::{Abort, Cause, write_abort};
 pub use queue::{Invoking, MAX_QUEUE, Part, Queue};
-pub use request::{AbortWhy, Ending, Request};
+pub use request::{
+    AbortRequest, AbortWhy, BeginRequest, CancelRequest, ContinueRequest, EndRequest, Ending,
+    ErrorRequest, InvokeRequest, RejectRequest, Request, ResultRequest, UniRequest,
+};
 pub use sending::portions::{abort_pdu, answering_pdu, begin_pdu, refusing_pdu, uni_pdu};
 pub use sending::{MessageParts, Sending};
 // The name that it had before: who names it so has nothing to change.

@@ -111,43 +111,35 @@ pub fn request(asked: &Request<'_>)
     ensures { IsTrue (is_request (request_view asked.now)) }
 {
     match asked {
-        Request::Invoke {
-            id,
-            class: _,
-            code: given,
-            parameter,
-            linked,
-            timeout_ms,
-        } => {
-            identifier(*id);
-            coded(given, *parameter);
-            identifier_if_any(*linked);
-            long(*timeout_ms);
+        Request::Invoke(invoke) => {
+            identifier(invoke.id);
+            coded(&invoke.code, invoke.parameter);
+            identifier_if_any(invoke.linked);
+            long(invoke.timeout_ms);
         }
-        Request::ResultLast { id, body: given } | Request::ResultMore { id, body: given } => {
-            identifier(*id);
-            body(*given);
+        Request::ResultLast(result) | Request::ResultMore(result) => {
+            identifier(result.id);
+            body(result.body);
         }
-        Request::ErrorBack {
-            id,
-            code: given,
-            parameter,
-        } => {
-            identifier(*id);
-            coded(given, *parameter);
+        Request::ErrorBack(error) => {
+            identifier(error.id);
+            coded(&error.code, error.parameter);
         }
-        Request::Reject { id, problem: given } => {
-            identifier_if_any(*id);
-            problem(*given);
+        Request::Reject(reject) => {
+            identifier_if_any(reject.id);
+            problem(reject.problem);
         }
-        Request::Cancel { id } => identifier(*id),
-        Request::Uni { to, context, info } | Request::Begin { to, context, info } => {
-            address(to);
-            portion(*context, info);
+        Request::Cancel(cancel) => identifier(cancel.id),
+        Request::Uni(uni) => {
+            address(uni.to);
+            portion(uni.context, uni.info);
         }
-        Request::Continue { context, info } | Request::End { context, info, .. } => {
-            portion(*context, info);
+        Request::Begin(begin) => {
+            address(begin.to);
+            portion(begin.context, begin.info);
         }
-        Request::Abort { info, .. } => octets(info),
+        Request::Continue(go_on) => portion(go_on.context, go_on.info),
+        Request::End(end) => portion(end.context, end.info),
+        Request::Abort(abort) => octets(abort.info),
     }
 }

@@ -1,4 +1,4 @@
-//! Request primitives of a dialogue (Q.771).
+//! Request primitives of a dialogue (Q.771): each with its arguments, and any of them as one value.
 
 use tcap_address::Address;
 use tcap_component::{Body, Code, Problem};
@@ -22,72 +22,134 @@ pub enum AbortWhy {
     NotSupported,
 }
 
+/// TC-INVOKE request (Q.771, Component handling).
+#[derive(Clone, Copy, Debug, PartialEq, Eq)]
+pub struct InvokeRequest<'a> {
+    /// Invoke identifier, -128 to 127.
+    pub id: i8,
+    /// Class of the operation.
+    pub class: Class,
+    /// Operation code.
+    pub code: Code<'a>,
+    /// The octets of one element, if there is a parameter.
+    pub parameter: Option<&'a [u8]>,
+    /// Linked identifier, -128 to 127, if the operation is linked to one.
+    pub linked: Option<i8>,
+    /// How long the invocation waits for its answer once it is sent: 1 to 2^62 milliseconds.
+    pub timeout_ms: u64,
+}
+
+/// TC-RESULT-L or TC-RESULT-NL request (Q.771, Component handling).
+#[derive(Clone, Copy, Debug, PartialEq, Eq)]
+pub struct ResultRequest<'a> {
+    /// Invoke identifier of the peer's invocation, -128 to 127.
+    pub id: i8,
+    /// Operation code and parameter of the result, if it has them.
+    pub body: Option<Body<'a>>,
+}
+
+/// TC-U-ERROR request (Q.771, Component handling).
+#[derive(Clone, Copy, Debug, PartialEq, Eq)]
+pub struct ErrorRequest<'a> {
+    /// Invoke identifier of the peer's invocation, -128 to 127.
+    pub id: i8,
+    /// Error code.
+    pub code: Code<'a>,
+    /// The octets of one element, if there is a parameter.
+    pub parameter: Option<&'a [u8]>,
+}
+
+/// TC-U-REJECT request (Q.771, Component handling).
+#[derive(Clone, Copy, Debug, PartialEq, Eq)]
+pub struct RejectRequest {
+    /// Invoke identifier of the component that is rejected, -128 to 127, if it is known.
+    pub id: Option<i8>,
+    /// What is wrong with it.
+    pub problem: Problem,
+}
+
+/// TC-U-CANCEL request (Q.771, Component handling).
+#[derive(Clone, Copy, Debug, PartialEq, Eq)]
+pub struct CancelRequest {
+    /// Invoke identifier of the invocation that is given up, -128 to 127.
+    pub id: i8,
+}
+
+/// TC-UNI request (Q.771, Dialogue handling).
+#[derive(Clone, Copy, Debug, PartialEq, Eq)]
+pub struct UniRequest<'a> {
+    /// Destination.
+    pub to: &'a Address,
+    /// The contents octets of the application context name, if there is one.
+    pub context: Option<&'a [u8]>,
+    /// User information: EXTERNALs one after the other, empty where there is none.
+    pub info: &'a [u8],
+}
+
+/// TC-BEGIN request (Q.771, Dialogue handling).
+#[derive(Clone, Copy, Debug, PartialEq, Eq)]
+pub struct BeginRequest<'a> {
+    /// Destination.
+    pub to: &'a Address,
+    /// The contents octets of the application context name, if there is one.
+    pub context: Option<&'a [u8]>,
+    /// User information: EXTERNALs one after the other, empty where there is none.
+    pub info: &'a [u8],
+}
+
+/// TC-CONTINUE request (Q.771, Dialogue handling).
+#[derive(Clone, Copy, Debug, PartialEq, Eq)]
+pub struct ContinueRequest<'a> {
+    /// The contents octets of the application context name, where it isn't that of the AARQ that is answered.
+    pub context: Option<&'a [u8]>,
+    /// User information: EXTERNALs one after the other, empty where there is none.
+    pub info: &'a [u8],
+}
+
+/// TC-END request (Q.771, Dialogue handling).
+#[derive(Clone, Copy, Debug, PartialEq, Eq)]
+pub struct EndRequest<'a> {
+    /// How the dialogue ends.
+    pub ending: Ending,
+    /// The contents octets of the application context name, where it isn't that of the AARQ that is answered.
+    pub context: Option<&'a [u8]>,
+    /// User information: EXTERNALs one after the other, empty where there is none.
+    pub info: &'a [u8],
+}
+
+/// TC-U-ABORT request (Q.771, Dialogue handling).
+#[derive(Clone, Copy, Debug, PartialEq, Eq)]
+pub struct AbortRequest<'a> {
+    /// Why the user aborts.
+    pub why: AbortWhy,
+    /// User information: EXTERNALs one after the other, empty where there is none.
+    pub info: &'a [u8],
+}
+
 /// What the user asks of one dialogue: the request primitives of TC (Q.771, Component handling; Q.771,
-/// Dialogue handling). Invoke identifiers are -128 to 127, `timeout_ms` is 1 to 2^62 milliseconds,
-/// `parameter` is the octets of one element; `context` is the contents octets of the application
-/// context name, `info` the user information: EXTERNALs one after the other, empty where there is none.
+/// Dialogue handling), each with its arguments.
 #[derive(Clone, Copy, Debug, PartialEq, Eq)]
 pub enum Request<'a> {
     /// TC-INVOKE.
-    Invoke {
-        id: i8,
-        class: Class,
-        code: Code<'a>,
-        parameter: Option<&'a [u8]>,
-        linked: Option<i8>,
-        timeout_ms: u64,
-    },
+    Invoke(InvokeRequest<'a>),
     /// TC-RESULT-L.
-    ResultLast {
-        id: i8,
-        body: Option<Body<'a>>,
-    },
+    ResultLast(ResultRequest<'a>),
     /// TC-RESULT-NL.
-    ResultMore {
-        id: i8,
-        body: Option<Body<'a>>,
-    },
+    ResultMore(ResultRequest<'a>),
     /// TC-U-ERROR.
-    ErrorBack {
-        id: i8,
-        code: Code<'a>,
-        parameter: Option<&'a [u8]>,
-    },
+    ErrorBack(ErrorRequest<'a>),
     /// TC-U-REJECT.
-    Reject {
-        id: Option<i8>,
-        problem: Problem,
-    },
+    Reject(RejectRequest),
     /// TC-U-CANCEL.
-    Cancel {
-        id: i8,
-    },
-    /// TC-UNI, to this address.
-    Uni {
-        to: &'a Address,
-        context: Option<&'a [u8]>,
-        info: &'a [u8],
-    },
-    /// TC-BEGIN, to this address.
-    Begin {
-        to: &'a Address,
-        context: Option<&'a [u8]>,
-        info: &'a [u8],
-    },
+    Cancel(CancelRequest),
+    /// TC-UNI.
+    Uni(UniRequest<'a>),
+    /// TC-BEGIN.
+    Begin(BeginRequest<'a>),
     /// TC-CONTINUE.
-    Continue {
-        context: Option<&'a [u8]>,
-        info: &'a [u8],
-    },
+    Continue(ContinueRequest<'a>),
     /// TC-END.
-    End {
-        ending: Ending,
-        context: Option<&'a [u8]>,
-        info: &'a [u8],
-    },
+    End(EndRequest<'a>),
     /// TC-U-ABORT.
-    Abort {
-        why: AbortWhy,
-        info: &'a [u8],
-    },
+    Abort(AbortRequest<'a>),
 }

@@ -2,16 +2,19 @@
 
 use super::lot::Lot;
 use tcap_component::{Body, Code, Problem};
-use tcap_engine::{AbortWhy, Address, Ending, Request};
+use tcap_engine::{
+    AbortRequest, AbortWhy, Address, BeginRequest, CancelRequest, ContinueRequest, EndRequest, Ending, ErrorRequest,
+    InvokeRequest, RejectRequest, Request, ResultRequest, UniRequest,
+};
 use tcap_invocation::Class;
 
 /// A Begin to this address, without context or information.
 pub(super) fn begin(to: &Address) -> Request<'_> {
-    Request::Begin {
+    Request::Begin(BeginRequest {
         to,
         context: None,
         info: &[],
-    }
+    })
 }
 
 /// A parameter: an octet string.
@@ -45,63 +48,63 @@ pub(super) fn invoke(lot: &mut Lot, dialogues: u32) -> Request<'static> {
         _ => Class::Four,
     };
     let longest = dialogues.saturating_mul(24);
-    Request::Invoke {
+    Request::Invoke(InvokeRequest {
         id: lot.id(),
         class,
         code: Code::Local(10),
         parameter: parameter(lot),
         linked: None,
         timeout_ms: lot.below(longest) as u64 + 1,
-    }
+    })
 }
 
 /// A request on components, but for an Invoke.
 fn answer(lot: &mut Lot) -> Request<'static> {
     let id = lot.id();
     match lot.below(5) {
-        0 => Request::ResultLast {
+        0 => Request::ResultLast(ResultRequest {
             id,
             body: body(lot),
-        },
-        1 => Request::ResultMore {
+        }),
+        1 => Request::ResultMore(ResultRequest {
             id,
             body: body(lot),
-        },
-        2 => Request::ErrorBack {
+        }),
+        2 => Request::ErrorBack(ErrorRequest {
             id,
             code: Code::Local(5),
             parameter: parameter(lot),
-        },
-        3 => Request::Reject {
+        }),
+        3 => Request::Reject(RejectRequest {
             id: Some(id),
             problem: Problem::unexpected_result(),
-        },
-        _ => Request::Cancel { id },
+        }),
+        _ => Request::Cancel(CancelRequest { id }),
     }
 }
 
 /// A request of this kind that ends a dialogue, or one that no dialogue has any more.
 fn ending(kind: u32, to: &Address) -> Request<'_> {
     match kind {
-        0 => Request::End {
+        0 => Request::End(EndRequest {
             ending: Ending::Basic,
             context: None,
             info: &[],
-        },
-        1 => Request::End {
+        }),
+        1 => Request::End(EndRequest {
             ending: Ending::Prearranged,
             context: None,
             info: &[],
-        },
-        2 => Request::Abort {
+        }),
+        2 => Request::Abort(AbortRequest {
             why: AbortWhy::User,
             info: &[],
-        },
-        3 => Request::Uni {
+        }),
+        3 => Request::Uni(UniRequest {
             to,
             context: None,
             info: &[],
-        },
+        }),
         _ => begin(to),
     }
 }
@@ -115,10 +118,10 @@ pub(super) fn any<'a>(lot: &mut Lot, dialogues: u32, to: &'a Address) -> Request
     }
     match drawn {
         0..=2 => invoke(lot, dialogues),
-        3..=5 => Request::Continue {
+        3..=5 => Request::Continue(ContinueRequest {
             context: None,
             info: &[],
-        },
+        }),
         _ => answer(lot),
     }
 }

@@ -14,7 +14,7 @@ ghost use Rattle.tcap_primitives.specs.RequestViews.{request_view};
 ghost use Rattle.tcap_primitives.specs.Slices.{AllInPlace};
 ghost use Rattle.tcap_reception.specs.PortionParts.{GivenIn, context_of_portion, info_of_portion};
 
-use super::ask::Asked;
+use super::requests::Asked;
 use super::spares::Spares;
 use super::{Dialogue, Step};
 use ber_core::OutOfMemory;
@@ -69,7 +69,7 @@ impl<A: Allocator + Copy> Dialogue<A> {
             return;
         }
         spares.lend_queue(&mut self.queue);
-        if matches!(request, Request::Invoke { .. }) && self.invocations.capacity() == 0 {
+        if matches!(request, Request::Invoke(_)) && self.invocations.capacity() == 0 {
             spares.lend_list(&mut self.invocations, reject_ms);
         }
     }
@@ -172,17 +172,17 @@ impl<A: Allocator + Copy> Dialogue<A> {
 #[inline(always)]
 fn queues_component(request: &Request<'_>) -> bool {
     match request {
-        Request::Invoke { .. }
-        | Request::ResultLast { .. }
-        | Request::ResultMore { .. }
-        | Request::ErrorBack { .. }
-        | Request::Reject { .. } => true,
-        Request::Cancel { .. }
-        | Request::Uni { .. }
-        | Request::Begin { .. }
-        | Request::Continue { .. }
-        | Request::End { .. }
-        | Request::Abort { .. } => false,
+        Request::Invoke(_)
+        | Request::ResultLast(_)
+        | Request::ResultMore(_)
+        | Request::ErrorBack(_)
+        | Request::Reject(_) => true,
+        Request::Cancel(_)
+        | Request::Uni(_)
+        | Request::Begin(_)
+        | Request::Continue(_)
+        | Request::End(_)
+        | Request::Abort(_) => false,
     }
 }
 

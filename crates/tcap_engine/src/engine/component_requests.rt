@@ -15,7 +15,9 @@ use super::Engine;
 use super::request_answers::{given_up_of, number_of, queued_of};
 use std::alloc::Allocator;
 use tcap_component::{Body, Code, Problem};
-use tcap_dialogue::{Fault, Request};
+use tcap_dialogue::{
+    CancelRequest, ErrorRequest, Fault, InvokeRequest, RejectRequest, Request, ResultRequest,
+};
 use tcap_invocation::Class;
 
 impl<A: Allocator + Copy> Engine<A> {
@@ -41,7 +43,7 @@ impl<A: Allocator + Copy> Engine<A> {
             (code_parts code.entry) (option_copied parameter.entry) linked timeout_ms))) self.old self.new }
         ensures err { OnErr result (self.new ≡ self.old) }
     {
-        let request = Request::Invoke {
+        let invoke = InvokeRequest {
             id,
             class,
             code,
@@ -49,7 +51,7 @@ impl<A: Allocator + Copy> Engine<A> {
             linked,
             timeout_ms,
         };
-        number_of(self.request(dialogue, &request))
+        number_of(self.request(dialogue, &Request::Invoke(invoke)))
     }
 
     /// TC-RESULT-L request: the last or only result of an invocation of the peer, -128 to 127, is queued.
@@ -67,7 +69,7 @@ impl<A: Allocator + Copy> Engine<A> {
             (ComponentRequest.result_last id (option_map body_parts body.entry)))) self.old self.new }
         ensures err { OnErr result (self.new ≡ self.old) }
     {
-        queued_of(self.request(dialogue, &Request::ResultLast { id, body }))
+        queued_of(self.request(dialogue, &Request::ResultLast(ResultRequest { id, body })))
     }
 
     /// TC-RESULT-NL request: a result of an invocation of the peer, -128 to 127, that others follow is
@@ -85,7 +87,7 @@ impl<A: Allocator + Copy> Engine<A> {
             (ComponentRequest.result_more id (option_map body_parts body.entry)))) self.old self.new }
         ensures err { OnErr result (self.new ≡ self.old) }
     {
-        queued_of(self.request(dialogue, &Request::ResultMore { id, body }))
+        queued_of(self.request(dialogue, &Request::ResultMore(ResultRequest { id, body })))
     }
 
     /// TC-U-ERROR request: the error of an invocation of the peer, -128 to 127, is queued; `parameter` is
@@ -105,12 +107,12 @@ impl<A: Allocator + Copy> Engine<A> {
             (code_parts code.entry) (option_copied parameter.entry)))) self.old self.new }
         ensures err { OnErr result (self.new ≡ self.old) }
     {
-        let request = Request::ErrorBack {
+        let error = ErrorRequest {
             id,
             code,
             parameter,
         };
-        queued_of(self.request(dialogue, &request))
+        queued_of(self.request(dialogue, &Request::ErrorBack(error)))
     }
 
     /// TC-U-REJECT request: a Reject is queued, of the component with this identifier, -128 to 127, if it
@@ -122,7 +124,7 @@ impl<A: Allocator + Copy> Engine<A> {
             (model.Request.component (ComponentRequest.u_reject id (problem_parts problem)))) self.old self.new }
         ensures err { OnErr result (self.new ≡ self.old) }
     {
-        queued_of(self.request(dialogue, &Request::Reject { id, problem }))
+        queued_of(self.request(dialogue, &Request::Reject(RejectRequest { id, problem })))
     }
 
     /// TC-U-CANCEL request: the Queued or Sent invocation with this identifier, -128 to 127, is given up,
@@ -134,6 +136,6 @@ impl<A: Allocator + Copy> Engine<A> {
             (Event.on_dialogue dialogue (model.Request.component (ComponentRequest.u_cancel id))) self.old self.new }
         ensures err { OnErr result (self.new ≡ self.old) }
     {
-        given_up_of(self.request(dialogue, &Request::Cancel { id }))
+        given_up_of(self.request(dialogue, &Request::Cancel(CancelRequest { id })))
     }
 }

@@ -12,7 +12,10 @@ ghost use Rattle.tcap_model.specs.Words.Request.{DialogueRequest};
 use super::Engine;
 use super::request_answers::outputs_of;
 use std::alloc::Allocator;
-use tcap_dialogue::{AbortWhy, Address, Ending, Fault, Output, Request};
+use tcap_dialogue::{
+    AbortRequest, AbortWhy, Address, BeginRequest, ContinueRequest, EndRequest, Ending, Fault,
+    Output, Request, UniRequest,
+};
 
 /// In all of these `context` is the contents octets of the application context name, and `info` the user
 /// information: EXTERNALs one after the other, empty where there is none.
@@ -36,7 +39,7 @@ impl<A: Allocator + Copy> Engine<A> {
             (DialogueRequest.uni to.now (option_copied context.entry) info.now))) self.old self.new }
         ensures err { OnErr result (self.new ≡ self.old) }
     {
-        outputs_of(self.request(dialogue, &Request::Uni { to, context, info }))
+        outputs_of(self.request(dialogue, &Request::Uni(UniRequest { to, context, info })))
     }
 
     /// TC-BEGIN request: the queue goes out in a Begin to this address, which the dialogue keeps, with an
@@ -58,7 +61,10 @@ impl<A: Allocator + Copy> Engine<A> {
             (DialogueRequest.begin to.now (option_copied context.entry) info.now))) self.old self.new }
         ensures err { OnErr result (self.new ≡ self.old) }
     {
-        outputs_of(self.request(dialogue, &Request::Begin { to, context, info }))
+        outputs_of(self.request(
+            dialogue,
+            &Request::Begin(BeginRequest { to, context, info }),
+        ))
     }
 
     /// TC-CONTINUE request: the queue goes out in a Continue to the peer's address. In Received an AARQ is
@@ -79,7 +85,10 @@ impl<A: Allocator + Copy> Engine<A> {
             (model.Request.dialogue (DialogueRequest.go_on (option_copied context.entry) info.now))) self.old self.new }
         ensures err { OnErr result (self.new ≡ self.old) }
     {
-        outputs_of(self.request(dialogue, &Request::Continue { context, info }))
+        outputs_of(self.request(
+            dialogue,
+            &Request::Continue(ContinueRequest { context, info }),
+        ))
     }
 
     /// TC-END request: a basic end sends the queue in an End to the peer's address, a prearranged one nothing;
@@ -100,12 +109,12 @@ impl<A: Allocator + Copy> Engine<A> {
             (DialogueRequest.finish (ending_view ending) (option_copied context.entry) info.now))) self.old self.new }
         ensures err { OnErr result (self.new ≡ self.old) }
     {
-        let request = Request::End {
+        let end = EndRequest {
             ending,
             context,
             info,
         };
-        outputs_of(self.request(dialogue, &request))
+        outputs_of(self.request(dialogue, &Request::End(end)))
     }
 
     /// TC-U-ABORT request: an Abort goes out to the peer's address, if the peer knows the dialogue; this is
@@ -123,6 +132,6 @@ impl<A: Allocator + Copy> Engine<A> {
             (model.Request.dialogue (DialogueRequest.u_abort (reason_view why) info.now))) self.old self.new }
         ensures err { OnErr result (self.new ≡ self.old) }
     {
-        outputs_of(self.request(dialogue, &Request::Abort { why, info }))
+        outputs_of(self.request(dialogue, &Request::Abort(AbortRequest { why, info })))
     }
 }

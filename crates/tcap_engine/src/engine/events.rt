@@ -3,6 +3,7 @@
 ghost use Rattle.std.specs.Prelude.{◌≡◌, IsTrue, OnErr};
 ghost use Rattle.tcap_dialogue.specs.RequestForm.{takes_memory};
 ghost use Rattle.tcap_primitives.specs.FaultViews.{fault_view};
+ghost use Rattle.tcap_primitives.specs.RequestViews.{request_view};
 ghost use Rattle.tcap_engine.specs.StepForm.{EngineAnswers, EngineReceives, EngineRefuses, birth_answer, outputs_answer};
 ghost use Rattle.tcap_engine.specs.RequestInTable.{asked_answer};
 ghost use Rattle.tcap_engine.specs.EventViews.{answer_view, event_view};
@@ -17,7 +18,7 @@ use super::Engine;
 use crate::event::{Answer, Event};
 use ber_core::OutOfMemory;
 use std::alloc::Allocator;
-use tcap_dialogue::{Asked, Fault, Output};
+use tcap_dialogue::{Asked, Fault, Output, Request};
 
 /// A refusal is an answer, but for `OutOfMemory`.
 fn refused<'m, A: Allocator + Copy>(fault: Fault) -> Result<Answer<'m, A>, OutOfMemory>
@@ -99,6 +100,24 @@ fn told<'m, A: Allocator + Copy>(
 }
 
 impl<A: Allocator + Copy> Engine<A> {
+    /// A request on the dialogue with this identifier, and its answer.
+    // `request` is copied to where it is called; what `handle` calls stands once.
+    #[inline(never)]
+    fn answer<'m>(
+        &mut self,
+        dialogue: u32,
+        request: Request<'_>,
+    ) -> Result<Answer<'m, A>, OutOfMemory>
+        ensures moves { EngineReceives answer_view result
+            (engine_move self.old (model.Event.on_dialogue dialogue (request_view request.entry))) self.old self.new }
+        ensures memory { OnErr result (IsTrue (takes_memory
+            (engine_move self.old (model.Event.on_dialogue dialogue (request_view request.entry))).answer)) }
+        ensures stands { StandsReceived answer_view result
+            (model.Event.on_dialogue dialogue (request_view request.entry)) self.old self.new }
+    {
+        asked(self.request(dialogue, &request))
+    }
+
     /// Any event; the calls of their own names are the same. A refusal is an answer too; the only error is
     /// that memory was refused, and then nothing has changed.
     pub fn handle<'m>(&mut self, event: &Event<'m>) -> Result<Answer<'m, A>, OutOfMemory>
@@ -110,11 +129,21 @@ impl<A: Allocator + Copy> Engine<A> {
         // Whatever legal history the engine stood at: the reply, and the history that it stands at then.
         ensures stands { StandsReceived answer_view result (event_view event.now) self.old self.new }
     {
-        match event {
+        match *event {
             Event::NewDialogue => created(self.new_dialogue()),
-            Event::On { dialogue, request } => asked(self.request(*dialogue, request)),
+            Event::Invoke(dialogue, invoke) => self.answer(dialogue, Request::Invoke(invoke)),
+            Event::ResultLast(dialogue, last) => self.answer(dialogue, Request::ResultLast(last)),
+            Event::ResultMore(dialogue, more) => self.answer(dialogue, Request::ResultMore(more)),
+            Event::ErrorBack(dialogue, error) => self.answer(dialogue, Request::ErrorBack(error)),
+            Event::Reject(dialogue, reject) => self.answer(dialogue, Request::Reject(reject)),
+            Event::Cancel(dialogue, cancel) => self.answer(dialogue, Request::Cancel(cancel)),
+            Event::Uni(dialogue, uni) => self.answer(dialogue, Request::Uni(uni)),
+            Event::Begin(dialogue, begin) => self.answer(dialogue, Request::Begin(begin)),
+            Event::Continue(dialogue, go_on) => self.answer(dialogue, Request::Continue(go_on)),
+            Event::End(dialogue, end) => self.answer(dialogue, Request::End(end)),
+            Event::Abort(dialogue, abort) => self.answer(dialogue, Request::Abort(abort)),
             Event::Bytes(from, bytes) => Ok(Answer::Outputs(self.receive(from, bytes)?)),
-            Event::Moment(now) => told(self.advance(*now)),
+            Event::Moment(now) => told(self.advance(now)),
         }
     }
 }

@@ -45,15 +45,13 @@ fn ask_one<'m, A: Allocator + Copy>(
     ensures kept { dialogue.new.standing.identifier ≡ dialogue.old.standing.identifier }
 {
     if number == u64::MAX {
-        if let Request::Invoke {
-            id,
-            code,
-            parameter,
-            timeout_ms,
-            ..
-        } = *request
-        {
-            let fault = dialogue.check_invoke(id, code, parameter, timeout_ms);
+        if let Request::Invoke(invoke) = request {
+            let fault = dialogue.check_invoke(
+                invoke.id,
+                invoke.code,
+                invoke.parameter,
+                invoke.timeout_ms,
+            );
             return Err(fault.unwrap_or(Fault::NumbersSpent));
         }
     }

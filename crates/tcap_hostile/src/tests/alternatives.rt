@@ -6,6 +6,8 @@ ghost use Rattle.ber_core.specs.ObjectIdentifier.{IsObjectIdentifier};
 ghost use Rattle.tcap_pdu.specs.DialogueDue.{content_fault};
 ghost use Rattle.tcap_pdu.specs.DialogueViews.{pdu_value};
 ghost use Rattle.tcap_pdu.specs.DialogueWritten.{HasDiagnostic};
+ghost use Rattle.tcap_pdu.specs.FrameSpelling.{HasCause};
+ghost use Rattle.tcap_pdu.specs.FrameViews.{message};
 
 use super::answers::{add_line, add_outputs};
 use super::codec::add_octets;
@@ -14,9 +16,12 @@ use super::words::{Word, code, info, number, octets, peer, text};
 use ber_core::is_oid;
 use std::alloc::Global;
 use std::fmt::Debug;
-use tcap_component::Component;
+use tcap_component::{Component, write_component};
 use tcap_dialogue::{BeginVerdict, Dialogue, Spares, judge_begin};
-use tcap_pdu::{DialoguePdu, Frame, PduFault, TransId, is_user_information, read_frame};
+use tcap_pdu::{
+    AbortPart, DialoguePdu, Frame, PduFault, TransId, is_user_information, read_frame,
+    write_dialogue, write_frame,
+};
 use tcap_primitives::{MessageParts, Queue, Sending, begin_pdu, uni_pdu};
 
 /// Whether both print the same for debugging.
@@ -76,7 +81,7 @@ fn accept(alloc: Global, heap: Heap<'_>, bytes: &[u8], told: &mut String) -> Opt
     }
 }
 
-// ---- `Queue::make_room`, beside `reserve` and `append_component`
+// ---- `write_component` and `Queue::append`, beside `append_component`
 
 /// Queues a component by `judge`, `reserve` and `append_component`.
 fn queue_at_once(queue: &mut Queue, component: &Component<'_>) -> Option<()> {
@@ -90,9 +95,12 @@ fn queue_at_once(queue: &mut Queue, component: &Component<'_>) -> Option<()> {
     Some(())
 }
 
-/// Queues a component by `make_room` and `append`: whether memory was found.
-fn queue_apart(queue: &mut Queue<Heap<'_>>, component: &Component<'_>) -> bool {
-    let Ok(octets) = queue.make_room(component) else {
+/// Queues a component by `write_component`, `reserve` and `append`: whether memory was found.
+fn queue_apart(heap: Heap<'_>, queue: &mut Queue<Heap<'_>>, component: &Component<'_>) -> bool {
+    let Ok(octets) = write_component(heap, component) else {
+        return false;
+    };
+    let Ok(()) = queue.reserve(octets.len()) else {
         return false;
     };
     queue.append(&octets, None);
@@ -110,7 +118,7 @@ fn add_queued(
         octets: Vec::new(heap),
         parts: Vec::new(heap),
     };
-    if !queue_apart(&mut queue, component) || !queue_apart(&mut queue, component) {
+    if !queue_apart(heap, &mut queue, component) || !queue_apart(heap, &mut queue, component) {
         return Some(Told::NoMemory);
     }
     let mut other = Queue {
@@ -141,7 +149,7 @@ fn queue_invoke(
     add_queued(alloc, heap, &invoke, told)
 }
 
-// ---- `Sending::fits` and `written`, beside `spelled`
+// ---- `write_dialogue` and `write_frame`, beside `Sending::spelled`
 
 /// The AUDT or the AARQ of this context and information, where both are good.
 fn pdu_of<'w>(word: &str, context: Option<&'w [u8]>, info: &'w [u8]) -> Option<DialoguePdu<'w>>
@@ -177,21 +185,83 @@ fn parts_of<'w>(word: &str, peer: &'w TransId, components: &'w [u8]) -> Option<M
     }
 }
 
-/// Adds the octets of a message, or that it is too long, where both say so.
+/// The message of this name with this dialogue portion, if there is one.
+fn frame_of<'w>(
+    word: &str,
+    peer: &TransId,
+    dialogue: Option<&'w [u8]>,
+    components: &'w [u8],
+) -> Option<Frame<'w>>
+    ensures { IfSome result (λ f. HasCause (message f)) }
+{
+    match word {
+        "uni" => Some(Frame::Uni {
+            dialogue,
+            components,
+        }),
+        "begin" => Some(Frame::Begin {
+            otid: TransId::of(1),
+            dialogue,
+            components,
+        }),
+        "continue" => Some(Frame::Continue {
+            otid: TransId::of(1),
+            dtid: peer.copied(),
+            dialogue,
+            components,
+        }),
+        "end" => Some(Frame::End {
+            dtid: peer.copied(),
+            dialogue,
+            components,
+        }),
+        "abort" => Some(Frame::Abort {
+            dtid: peer.copied(),
+            reason: AbortPart::Nothing,
+        }),
+        _ => None,
+    }
+}
+
+/// The octets of this message with this dialogue PDU, if there is one.
+fn write_apart<'h>(
+    heap: Heap<'h>,
+    word: &str,
+    pdu: &Option<DialoguePdu<'_>>,
+    components: &[u8],
+) -> Option<Result<Vec<u8, Heap<'h>>, PduFault>>
+    requires { IfSome pdu.now (λ p. HasDiagnostic (pdu_value p)) }
+{
+    let peer = TransId::of(1);
+    let Some(pdu) = pdu else {
+        return Some(write_frame(heap, &frame_of(word, &peer, None, components)?));
+    };
+    match write_dialogue(heap, pdu) {
+        Ok(portion) => {
+            let frame = frame_of(word, &peer, Some(&portion), components)?;
+            Some(write_frame(heap, &frame))
+        }
+        Err(fault) => Some(Err(fault)),
+    }
+}
+
+/// Adds the octets of a message, where both write the same, or that it is too long.
 fn add_message(
     alloc: Global,
     heap: Heap<'_>,
+    word: &str,
     sending: &Sending<'_>,
+    components: &[u8],
     told: &mut String,
 ) -> Option<Told>
     requires { IfSome sending.now.pdu (λ p. HasDiagnostic (pdu_value p) × (content_fault (pdu_value p) ≡ None)) }
 {
     let spelled = sending.spelled(alloc);
-    if !sending.fits() {
+    if matches!(&spelled, Err(PduFault::TooLong)) {
         add_line(told, "too long")?;
-        return matches!(spelled, Err(PduFault::TooLong)).then_some(Told::Small);
+        return Some(Told::Small);
     }
-    let Ok(written) = sending.written(heap) else {
+    let Ok(written) = write_apart(heap, word, &sending.pdu, components)? else {
         return Some(Told::NoMemory);
     };
     if written.as_slice() != spelled.ok()?.as_slice() {
@@ -208,7 +278,7 @@ fn send(alloc: Global, heap: Heap<'_>, words: &[Word<'_>], told: &mut String) ->
         bearer: parts_of(word, &peer, info(words, 3))?,
         pdu: pdu_of(word, octets(words, 1), info(words, 2)),
     };
-    add_message(alloc, heap, &sending, told)
+    add_message(alloc, heap, word, &sending, info(words, 3), told)
 }
 
 /// What a line tells of two calls.

@@ -6,7 +6,7 @@ use super::subject::Told;
 use super::words::{Word, event_of, number, peer, text};
 use ber_core::OutOfMemory;
 use std::alloc::{Allocator, Global};
-use tcap_dialogue::{Dialogue, Fault, Request, State, Step};
+use tcap_dialogue::{Dialogue, Fault, InvokeRequest, State, Step};
 use tcap_engine::{Address, Event};
 use tcap_invocation::Lapse;
 use tcap_pdu::read_frame;
@@ -92,20 +92,17 @@ pub(super) fn add_queued(told: &mut String, queued: Result<(), Fault>) -> Option
 fn invoke<A: Allocator + Copy>(
     heap: A,
     dialogue: &mut Dialogue<A>,
-    request: Request<'_>,
+    request: InvokeRequest<'_>,
     told: &mut String,
 ) -> Option<Told> {
-    let Request::Invoke {
+    let InvokeRequest {
         id,
         class,
         code,
         parameter,
         linked,
         timeout_ms,
-    } = request
-    else {
-        return None;
-    };
+    } = request;
     let mut fresh = Dialogue::fresh(heap, 1, 1000, 0);
     let invoked = fresh.invoke(1, id, class, code, parameter, linked, timeout_ms);
     *dialogue = fresh;
@@ -117,20 +114,26 @@ fn ask<A: Allocator + Copy>(
     alloc: Global,
     heap: A,
     dialogue: &mut Dialogue<A>,
-    request: Request<'_>,
+    event: Event<'_>,
     told: &mut String,
 ) -> Option<Told> {
-    match request {
-        Request::Invoke { .. } => invoke(heap, dialogue, request, told),
-        Request::Begin { to, context, info } => {
-            add_asked(alloc, told, dialogue.begin(to, context, info, 0))
+    match event {
+        Event::Invoke(_, invoked) => invoke(heap, dialogue, invoked, told),
+        Event::Begin(_, begin) => add_asked(
+            alloc,
+            told,
+            dialogue.begin(begin.to, begin.context, begin.info, 0),
+        ),
+        Event::Continue(_, go_on) => {
+            add_asked(alloc, told, dialogue.go_on(go_on.context, go_on.info, 0))
         }
-        Request::Continue { context, info } => {
-            add_asked(alloc, told, dialogue.go_on(context, info, 0))
+        Event::Reject(_, reject) => {
+            add_queued(told, dialogue.u_reject(reject.id, reject.problem))
         }
-        Request::Reject { id, problem } => add_queued(told, dialogue.u_reject(id, problem)),
-        Request::ResultLast { id, body } => add_queued(told, dialogue.result_last(id, body)),
-        Request::Cancel { id } => add_given_up(told, dialogue.u_cancel(id)),
+        Event::ResultLast(_, result) => {
+            add_queued(told, dialogue.result_last(result.id, result.body))
+        }
+        Event::Cancel(_, cancel) => add_given_up(told, dialogue.u_cancel(cancel.id)),
         _ => None,
     }
 }
@@ -221,8 +224,7 @@ fn take<A: Allocator + Copy>(
     let peer = peer();
     match event_of(words, &peer)? {
         Event::Bytes(from, bytes) => take_bytes(alloc, dialogue, from, bytes, told),
-        Event::On { request, .. } => ask(alloc, heap, dialogue, request, told),
-        Event::NewDialogue | Event::Moment(_) => None,
+        event => ask(alloc, heap, dialogue, event, told),
     }
 }
 

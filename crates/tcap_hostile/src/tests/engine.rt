@@ -6,7 +6,7 @@ use super::subject::Told;
 use super::words::{Word, event_of, number, peer, text};
 use ber_core::OutOfMemory;
 use std::alloc::{Allocator, Global};
-use tcap_engine::{Address, Engine, Event, Fault, Limits, Output, Request};
+use tcap_engine::{Address, Engine, Event, Fault, InvokeRequest, Limits, Output};
 
 /// A new engine of at most 4 dialogues, or at `1` of at most one; at `idle` with an idle limit of 500
 /// milliseconds.
@@ -52,24 +52,21 @@ fn add_told<A: Allocator>(
     }
 }
 
-/// An Invoke, by a request for one.
+/// An Invoke.
 fn invoke<A: Allocator + Copy>(
     engine: &mut Engine<A>,
     d: u32,
-    request: Request<'_>,
+    request: InvokeRequest<'_>,
     told: &mut String,
 ) -> Option<Told> {
-    let Request::Invoke {
+    let InvokeRequest {
         id,
         class,
         code,
         parameter,
         linked,
         timeout_ms,
-    } = request
-    else {
-        return None;
-    };
+    } = request;
     let invoked = engine.invoke(d, id, class, code, parameter, linked, timeout_ms);
     add_invoked(told, invoked)
 }
@@ -77,21 +74,26 @@ fn invoke<A: Allocator + Copy>(
 /// A request of component handling.
 fn ask_component<A: Allocator + Copy>(
     engine: &mut Engine<A>,
-    d: u32,
-    request: Request<'_>,
+    event: Event<'_>,
     told: &mut String,
 ) -> Option<Told> {
-    match request {
-        Request::ResultLast { id, body } => add_queued(told, engine.result_last(d, id, body)),
-        Request::ResultMore { id, body } => add_queued(told, engine.result_more(d, id, body)),
-        Request::ErrorBack {
-            id,
-            code,
-            parameter,
-        } => add_queued(told, engine.error_back(d, id, code, parameter)),
-        Request::Reject { id, problem } => add_queued(told, engine.u_reject(d, id, problem)),
-        Request::Cancel { id } => add_given_up(told, engine.u_cancel(d, id)),
-        _ => invoke(engine, d, request, told),
+    match event {
+        Event::Invoke(d, invoked) => invoke(engine, d, invoked, told),
+        Event::ResultLast(d, result) => {
+            add_queued(told, engine.result_last(d, result.id, result.body))
+        }
+        Event::ResultMore(d, result) => {
+            add_queued(told, engine.result_more(d, result.id, result.body))
+        }
+        Event::ErrorBack(d, error) => add_queued(
+            told,
+            engine.error_back(d, error.id, error.code, error.parameter),
+        ),
+        Event::Reject(d, reject) => {
+            add_queued(told, engine.u_reject(d, reject.id, reject.problem))
+        }
+        Event::Cancel(d, cancel) => add_given_up(told, engine.u_cancel(d, cancel.id)),
+        _ => None,
     }
 }
 
@@ -99,27 +101,30 @@ fn ask_component<A: Allocator + Copy>(
 fn ask<A: Allocator + Copy>(
     alloc: Global,
     engine: &mut Engine<A>,
-    d: u32,
-    request: Request<'_>,
+    event: Event<'_>,
     told: &mut String,
 ) -> Option<Told> {
-    match request {
-        Request::Uni { to, context, info } => {
-            add_told(alloc, told, engine.uni(d, to, context, info))
+    match event {
+        Event::Uni(d, uni) => {
+            add_told(alloc, told, engine.uni(d, uni.to, uni.context, uni.info))
         }
-        Request::Begin { to, context, info } => {
-            add_told(alloc, told, engine.begin(d, to, context, info))
+        Event::Begin(d, begin) => add_told(
+            alloc,
+            told,
+            engine.begin(d, begin.to, begin.context, begin.info),
+        ),
+        Event::Continue(d, go_on) => {
+            add_told(alloc, told, engine.go_on(d, go_on.context, go_on.info))
         }
-        Request::Continue { context, info } => {
-            add_told(alloc, told, engine.go_on(d, context, info))
+        Event::End(d, end) => add_told(
+            alloc,
+            told,
+            engine.finish(d, end.ending, end.context, end.info),
+        ),
+        Event::Abort(d, abort) => {
+            add_told(alloc, told, engine.u_abort(d, abort.why, abort.info))
         }
-        Request::End {
-            ending,
-            context,
-            info,
-        } => add_told(alloc, told, engine.finish(d, ending, context, info)),
-        Request::Abort { why, info } => add_told(alloc, told, engine.u_abort(d, why, info)),
-        _ => ask_component(engine, d, request, told),
+        _ => ask_component(engine, event, told),
     }
 }
 
@@ -159,7 +164,7 @@ fn take<A: Allocator + Copy>(
         Event::NewDialogue => add_new(told, engine.new_dialogue()),
         Event::Bytes(from, bytes) => receive(alloc, engine, from, bytes, told),
         Event::Moment(now) => add_told(alloc, told, engine.advance(now)),
-        Event::On { dialogue, request } => ask(alloc, engine, dialogue, request, told),
+        _ => ask(alloc, engine, event, told),
     }
 }
 

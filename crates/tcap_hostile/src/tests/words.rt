@@ -3,7 +3,10 @@
 use std::alloc::Global;
 use std::str::FromStr;
 use tcap_component::{Body, Code, Kind, Problem};
-use tcap_engine::{AbortWhy, Address, Ending, Event, Request};
+use tcap_engine::{
+    AbortRequest, AbortWhy, Address, BeginRequest, CancelRequest, ContinueRequest, EndRequest,
+    Ending, ErrorRequest, Event, InvokeRequest, RejectRequest, Request, ResultRequest, UniRequest,
+};
 use tcap_invocation::Class;
 
 /// A word, and the octets that it spells in hexadecimal, behind an `x` or not; `+N` at its end spells N
@@ -132,14 +135,14 @@ pub(super) fn kind(word: &str) -> Option<Kind> {
 
 /// `invoke D ID CLASS CODE TIMEOUT LINKED PARAM`.
 fn invoke_of<'w>(words: &'w [Word<'_>]) -> Option<Request<'w>> {
-    Some(Request::Invoke {
+    Some(Request::Invoke(InvokeRequest {
         id: number(words, 2)?,
         class: class(text(words, 3))?,
         code: code(words, 4)?,
         timeout_ms: number(words, 5)?,
         linked: number(words, 6),
         parameter: octets(words, 7),
-    })
+    }))
 }
 
 /// `last D ID CODE PARAM`, `more`, `error`, `reject D ID KIND CODE`, `cancel D ID`.
@@ -150,22 +153,22 @@ fn component_of<'w>(words: &'w [Word<'_>]) -> Option<Request<'w>> {
     match text(words, 0) {
         "last" => {
             let body = code.map(|code| Body { code, parameter });
-            Some(Request::ResultLast { id, body })
+            Some(Request::ResultLast(ResultRequest { id, body }))
         }
         "more" => {
             let body = code.map(|code| Body { code, parameter });
-            Some(Request::ResultMore { id, body })
+            Some(Request::ResultMore(ResultRequest { id, body }))
         }
-        "error" => Some(Request::ErrorBack {
+        "error" => Some(Request::ErrorBack(ErrorRequest {
             id,
             code: code?,
             parameter,
-        }),
-        "reject" => Some(Request::Reject {
+        })),
+        "reject" => Some(Request::Reject(RejectRequest {
             id: Some(id),
             problem: Problem::new(kind(text(words, 3))?, number(words, 4)?)?,
-        }),
-        "cancel" => Some(Request::Cancel { id }),
+        })),
+        "cancel" => Some(Request::Cancel(CancelRequest { id })),
         _ => None,
     }
 }
@@ -176,8 +179,8 @@ fn addressed_of<'w>(words: &'w [Word<'_>]) -> Option<Request<'w>> {
     let context = octets(words, 3);
     let info = info(words, 4);
     match text(words, 0) {
-        "unito" => Some(Request::Uni { to, context, info }),
-        "beginto" => Some(Request::Begin { to, context, info }),
+        "unito" => Some(Request::Uni(UniRequest { to, context, info })),
+        "beginto" => Some(Request::Begin(BeginRequest { to, context, info })),
         _ => None,
     }
 }
@@ -187,19 +190,19 @@ fn portion_of<'w>(words: &'w [Word<'_>], to: &'w Address) -> Option<Request<'w>>
     let context = octets(words, 2);
     let info = info(words, 3);
     match text(words, 0) {
-        "uni" => Some(Request::Uni { to, context, info }),
-        "begin" => Some(Request::Begin { to, context, info }),
-        "continue" => Some(Request::Continue { context, info }),
-        "end" => Some(Request::End {
+        "uni" => Some(Request::Uni(UniRequest { to, context, info })),
+        "begin" => Some(Request::Begin(BeginRequest { to, context, info })),
+        "continue" => Some(Request::Continue(ContinueRequest { context, info })),
+        "end" => Some(Request::End(EndRequest {
             ending: Ending::Basic,
             context,
             info,
-        }),
-        "prearranged" => Some(Request::End {
+        })),
+        "prearranged" => Some(Request::End(EndRequest {
             ending: Ending::Prearranged,
             context,
             info,
-        }),
+        })),
         _ => None,
     }
 }
@@ -208,14 +211,14 @@ fn portion_of<'w>(words: &'w [Word<'_>], to: &'w Address) -> Option<Request<'w>>
 fn abort_of<'w>(words: &'w [Word<'_>]) -> Option<Request<'w>> {
     let info = info(words, 3);
     match text(words, 2) {
-        "user" => Some(Request::Abort {
+        "user" => Some(Request::Abort(AbortRequest {
             why: AbortWhy::User,
             info,
-        }),
-        "unsupported" => Some(Request::Abort {
+        })),
+        "unsupported" => Some(Request::Abort(AbortRequest {
             why: AbortWhy::NotSupported,
             info,
-        }),
+        })),
         _ => None,
     }
 }
@@ -251,9 +254,6 @@ pub(super) fn event_of<'w>(words: &'w [Word<'_>], peer: &'w Address) -> Option<E
         "raw" => Some(Event::Bytes(peer, info(words, 1))),
         "rawfrom" => Some(Event::Bytes(address(words, 1)?, info(words, 2))),
         "advance" => Some(Event::Moment(number(words, 1)?)),
-        _ => Some(Event::On {
-            dialogue: number(words, 1)?,
-            request: request_of(words, peer)?,
-        }),
+        _ => Some(Event::of(number(words, 1)?, request_of(words, peer)?)),
     }
 }

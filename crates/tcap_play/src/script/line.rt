@@ -16,7 +16,7 @@ use crate::script::values::{Name, dialogue, is, message_name, milliseconds, octe
 use crate::script::word::Word;
 use crate::side::Side;
 use std::alloc::Allocator;
-use tcap_dialogue::{Ending, Request};
+use tcap_dialogue::{EndRequest, Ending, Request};
 use tcap_engine::{Address, Event};
 
 /// What a line asks for.
@@ -70,7 +70,7 @@ fn asked_on<'w>(side_word: &[u8], dialogue_word: &[u8], request: Request<'w>) ->
 {
     let side = side(side_word)?;
     let dialogue = dialogue(dialogue_word)?;
-    Some(Line::Call(side, Event::On { dialogue, request }))
+    Some(Line::Call(side, Event::of(dialogue, request)))
 }
 
 /// `S new`, `deliver M`, `again M`, `lose M`, `advance MS`.
@@ -104,12 +104,12 @@ pub(crate) fn line_of_three<'w, A: Allocator>(
     if is(name, "raw") {
         received_on(addresses, side, octets(word)?)
     } else if is(name, "prearranged") {
-        let request = Request::End {
+        let end = EndRequest {
             ending: Ending::Prearranged,
             context: None,
             info: &[],
         };
-        asked_on(side, word.text, request)
+        asked_on(side, word.text, Request::End(end))
     } else {
         None
     }

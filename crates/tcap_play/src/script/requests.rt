@@ -13,7 +13,10 @@ use crate::script::values::{
 };
 use crate::script::word::Word;
 use std::alloc::Allocator;
-use tcap_dialogue::{Address, Ending, Request};
+use tcap_dialogue::{
+    AbortRequest, Address, BeginRequest, CancelRequest, ContinueRequest, EndRequest, Ending, ErrorRequest,
+    InvokeRequest, RejectRequest, Request, ResultRequest, UniRequest,
+};
 
 /// A request of dialogue handling with a destination where it has one, a context and user information.
 fn portion_request<'w, A: Allocator>(
@@ -28,18 +31,18 @@ fn portion_request<'w, A: Allocator>(
     let context = optional_octets(context)?;
     let info = octets(information)?;
     if is(name, "uni") {
-        Some(Request::Uni { to, context, info })
+        Some(Request::Uni(UniRequest { to, context, info }))
     } else if is(name, "begin") {
-        Some(Request::Begin { to, context, info })
+        Some(Request::Begin(BeginRequest { to, context, info }))
     } else if is(name, "continue") {
-        Some(Request::Continue { context, info })
+        Some(Request::Continue(ContinueRequest { context, info }))
     } else if is(name, "end") {
         let ending = Ending::Basic;
-        Some(Request::End {
+        Some(Request::End(EndRequest {
             ending,
             context,
             info,
-        })
+        }))
     } else {
         None
     }
@@ -82,10 +85,10 @@ pub(crate) fn abort_request<'w, A: Allocator>(
 ) -> Option<Request<'w>>
     ensures { option_map request_view result ≡ abort_request_of why.now (text_of information.entry.now) }
 {
-    Some(Request::Abort {
+    Some(Request::Abort(AbortRequest {
         why: reason(why)?,
         info: octets(information)?,
-    })
+    }))
 }
 
 /// The last result, with a body or none.
@@ -98,7 +101,7 @@ pub(crate) fn last_request<'w, A: Allocator>(
 {
     let id = identifier(id)?;
     let body = body(code, parameter)?;
-    Some(Request::ResultLast { id, body })
+    Some(Request::ResultLast(ResultRequest { id, body }))
 }
 
 /// A result that isn't the last, with a body or none.
@@ -111,7 +114,7 @@ pub(crate) fn more_request<'w, A: Allocator>(
 {
     let id = identifier(id)?;
     let body = body(code, parameter)?;
-    Some(Request::ResultMore { id, body })
+    Some(Request::ResultMore(ResultRequest { id, body }))
 }
 
 /// That the user gives an invocation up.
@@ -119,7 +122,7 @@ pub(crate) fn cancel_request<'w>(id: &[u8]) -> Option<Request<'w>>
     ensures { option_map request_view result ≡ cancel_request_of id.now }
 {
     let id = identifier(id)?;
-    Some(Request::Cancel { id })
+    Some(Request::Cancel(CancelRequest { id }))
 }
 
 /// An error.
@@ -130,21 +133,21 @@ pub(crate) fn error_request<'w, A: Allocator>(
 ) -> Option<Request<'w>>
     ensures { option_map request_view result ≡ error_request_of id.now code_word.now (text_of parameter.entry.now) }
 {
-    Some(Request::ErrorBack {
+    Some(Request::ErrorBack(ErrorRequest {
         id: identifier(id)?,
         code: code(code_word)?,
         parameter: optional_octets(parameter)?,
-    })
+    }))
 }
 
 /// A Reject.
 pub(crate) fn reject_request<'w>(id: &[u8], kind: &[u8], code: &[u8]) -> Option<Request<'w>>
     ensures { option_map request_view result ≡ reject_request_of id.now kind.now code.now }
 {
-    Some(Request::Reject {
+    Some(Request::Reject(RejectRequest {
         id: optional_identifier(id)?,
         problem: problem(kind, code)?,
-    })
+    }))
 }
 
 /// An Invoke, by the words behind its dialogue.
@@ -160,12 +163,12 @@ pub(crate) fn invoke_request<'w, A: Allocator>(
         ≡ invoke_request_of id.now class_word.now code_word.now timeout.now linked.now
         (text_of parameter.entry.now) }
 {
-    Some(Request::Invoke {
+    Some(Request::Invoke(InvokeRequest {
         id: identifier(id)?,
         class: class(class_word)?,
         code: code(code_word)?,
         timeout_ms: milliseconds(timeout)?,
         linked: optional_identifier(linked)?,
         parameter: optional_octets(parameter)?,
-    })
+    }))
 }

@@ -10,9 +10,8 @@ ghost use Rattle.tcap_primitives.specs.QueueViews.{queue_view};
 
 use super::{MAX_QUEUE, Queue};
 use crate::fault::Fault;
-use ber_core::OutOfMemory;
 use std::alloc::{AllocError, Allocator};
-use tcap_component::{Component, MAX_REJECT, WriteFault, judge_component, write_component};
+use tcap_component::{Component, MAX_REJECT, WriteFault, judge_component};
 
 /// The fault of a request whose component can't be written.
 fn fault_of(fault: WriteFault) -> Fault
@@ -27,17 +26,6 @@ fn fault_of(fault: WriteFault) -> Fault
 }
 
 impl<A: Allocator + Copy> Queue<A> {
-    /// Why a component doesn't come into the queue: BadOid, BadParameter, TooLong. It takes no memory.
-    #[inline(always)]
-    pub fn refusal(&self, component: &Component<'_>) -> Option<Fault>
-        ensures { option_map fault_view result ≡ queue_fault (queue_view self.now) (component_parts component.now) }
-    {
-        match self.judge(component) {
-            Ok(_) => None,
-            Err(fault) => Some(fault),
-        }
-    }
-
     /// How many octets a component that comes into the queue has, or why it doesn't: BadOid, BadParameter,
     /// TooLong. It takes no memory.
     #[inline(always)]
@@ -80,22 +68,6 @@ impl<A: Allocator + Copy> Queue<A> {
         self.octets.reserve(len)?;
         self.parts.reserve(1)?;
         Ok(())
-    }
-
-    /// Writes a component to memory of its own and makes room for it in the queue.
-    pub fn make_room(&mut self, component: &Component<'_>) -> Result<Vec<u8, A>, OutOfMemory>
-        ensures octets { IfOk result (λ v. v.items ≡ written_component (component_parts component.now)) }
-        ensures same { queue_view self.new ≡ queue_view self.old }
-        ensures octets_room { IfOk result (λ v. vec_len self.new.octets + length v.items
-            ≤ vec_capacity self.new.octets) }
-        ensures part_room { OnOk result (vec_len self.new.parts < vec_capacity self.new.parts) }
-    {
-        let Ok(octets) = write_component(*self.octets.allocator(), component) else {
-            return Err(OutOfMemory);
-        };
-        self.octets.reserve(octets.len())?;
-        self.parts.reserve(1)?;
-        Ok(octets)
     }
 
     /// Makes room for this many Rejects.

@@ -1,6 +1,6 @@
-//! Whether the message of a request fits, and its octets.
+//! The octets of the message of a request.
 
-ghost use Rattle.std.specs.Prelude.{◌≡◌, ◌⊎◌, option_copied, true, false, IfOk, IfErr, IsErrOf, IfSome, None, Some, not};
+ghost use Rattle.std.specs.Prelude.{◌≡◌, ◌⊎◌, option_copied, true, false, IfOk, IfErr, IsErrOf, IfSome, None, Some};
 ghost use Rattle.tcap_primitives.specs.SendingViews.{carried_by, reason_with, sending_view};
 ghost use Rattle.tcap_model.specs.Procedures.Refusals.{passes_message};
 ghost use Rattle.tcap_pdu.specs.declared.fault.PduFault.TheVariants as pdu_fault;
@@ -11,12 +11,8 @@ ghost use Rattle.tcap_pdu.specs.FrameViews.{message, reason_of};
 ghost use Rattle.tcap_pdu.specs.FrameWritten.{written_frame};
 
 use super::{MessageParts, Sending};
-use ber_core::OutOfMemory;
 use std::alloc::Allocator;
-use tcap_pdu::{
-    AbortPart, Frame, PduFault, TransId, dialogue_len, frame_fits, write_dialogue, write_frame,
-    write_frame_with,
-};
+use tcap_pdu::{AbortPart, Frame, PduFault, TransId, write_frame, write_frame_with};
 
 /// What an Abort carries.
 fn reason<'a>(portion: Option<&'a [u8]>) -> AbortPart<'a>
@@ -66,52 +62,7 @@ impl<'a> MessageParts<'a> {
     }
 }
 
-/// The octets of a message with this dialogue portion, if there is one.
-#[tactic(auto, using(crate::proofs::SendingLemmas::bearer_cause))]
-fn framed<A: Allocator + Copy>(
-    alloc: A,
-    bearer: &MessageParts<'_>,
-    dialogue: Option<&[u8]>,
-) -> Result<Vec<u8, A>, OutOfMemory>
-    ensures { IfOk result (λ v. v.items ≡ written_frame (carried_by bearer.now (option_copied dialogue.entry))) }
-{
-    let frame = bearer.frame(dialogue);
-    match write_frame(alloc, &frame) {
-        Ok(octets) => Ok(octets),
-        Err(_) => Err(OutOfMemory),
-    }
-}
-
 impl<'a> Sending<'a> {
-    /// Whether the message is within the limit, where the contents of its PDU are good.
-    pub fn fits(&self) -> bool
-        ensures { IfSome self.now.pdu (λ p. HasDiagnostic (pdu_value p) × (content_fault (pdu_value p) ≡ None))
-            → not result ≡ passes_message (Some (sending_view self.now)) }
-    {
-        let frame = self.bearer.frame(None);
-        match &self.pdu {
-            None => frame_fits(&frame, 0),
-            Some(pdu) => match dialogue_len(pdu) {
-                Some(len) => frame_fits(&frame, len),
-                None => false,
-            },
-        }
-    }
-
-    /// The octets of the message.
-    pub fn written<A: Allocator + Copy>(&self, alloc: A) -> Result<Vec<u8, A>, OutOfMemory>
-        requires { IfSome self.now.pdu (λ p. HasDiagnostic (pdu_value p)) }
-        ensures { IfOk result (λ v. v.items ≡ written_frame (sending_view self.now)) }
-    {
-        match &self.pdu {
-            None => framed(alloc, &self.bearer, None),
-            Some(pdu) => match write_dialogue(alloc, pdu) {
-                Ok(portion) => framed(alloc, &self.bearer, Some(&portion)),
-                Err(_) => Err(OutOfMemory),
-            },
-        }
-    }
-
     /// The octets of the message, where the contents of its PDU are good; it is written at once, with the
     /// dialogue portion in its place. Faults: TooLong above 65,535 bytes, then OutOfMemory (our own).
     pub fn spelled<A: Allocator + Copy>(&self, alloc: A) -> Result<Vec<u8, A>, PduFault>

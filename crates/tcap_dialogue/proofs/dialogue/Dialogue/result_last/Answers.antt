@@ -1,8 +1,0 @@
-use Rattle.std.proofs.Common.{rules}
-use Rattle.std.specs.Option.{option_map}
-use Rattle.tcap_component.specs.Views.{body_parts}
-use Rattle.tcap_dialogue.proofs.ComponentRequestLemmas.{result-answered}
-use Rattle.tcap_dialogue.proofs.dialogue.Dialogue.result_last.Goals as goal
-
-pub returns-clause-answer : goal.returns-clause-answer
-returns-clause-answer g c = rw (result-answered 0 0 c.args.self.now c.args.id (option_map body_parts c.args.body)) (search (rules, c.queue_answer.ensures.answer))

@@ -1,0 +1,120 @@
+//! TC-CONTINUE (Q.771, Dialogue handling): the request that goes on with a dialogue.
+
+ghost use Rattle.std.specs.Prelude.{◌≡◌, ◌≤◌, None, IfErr, IfOk, option_copied};
+ghost use Rattle.std.specs.Option.{option_map};
+ghost use Rattle.tcap_dialogue.specs.RequestForm.{Steps};
+ghost use Rattle.tcap_dialogue.specs.RequestMessages.{IsRefusal, Spells, early_faults};
+ghost use Rattle.tcap_dialogue.specs.StepViews.{asked, requested};
+ghost use Rattle.tcap_invocation.specs.Stage.{moment_limit};
+ghost use Rattle.tcap_model.specs.Procedures.Refusals.{due_on, first_that, holds};
+ghost use Rattle.tcap_model.specs.Procedures.RequestMessage.{message_of};
+ghost use Rattle.tcap_model.specs.Table.TableMove.{situation};
+ghost use Rattle.tcap_model.specs.Words.Request.{DialogueRequest, Request};
+ghost use Rattle.tcap_primitives.specs.FaultViews.{fault_view};
+ghost use Rattle.tcap_primitives.specs.RequestViews.{continue_view};
+ghost use Rattle.tcap_primitives.specs.SendingViews.{CanSend, sending_view};
+ghost use Rattle.tcap_reception.specs.StateViews.{phase_view};
+
+use super::sending::{Destination, gives_any, is_name_good};
+use crate::dialogue::{Dialogue, Step};
+use std::alloc::Allocator;
+use tcap_pdu::is_user_information;
+use tcap_primitives::{ContinueRequest, Fault, MessageParts, Sending};
+use tcap_reception::Phase;
+
+impl<A: Allocator + Copy> Dialogue<A> {
+    /// TC-CONTINUE request: the queue goes out in a Continue to the peer's address, and the dialogue is
+    /// Active. In Received an AARQ is answered, with the context given or else its own; `context` is the contents
+    /// octets of its object identifier, not its dotted text. Faults:
+    /// WrongState unless Received or Active, BadOid, BadParameter, NoContext for a context or information
+    /// where no AARQ is answered, TooLong, OutOfMemory (Q.774, Dialogue continuation).
+    #[inline(always)]
+    pub fn go_on<'m>(
+        &mut self,
+        context: Option<&[u8]>,
+        info: &[u8],
+        clock: u64,
+    ) -> Result<Step<'m, A>, Fault>
+        requires { clock ≤ moment_limit }
+        ensures step { Steps result (requested clock 0 self.old
+            (Request.dialogue (DialogueRequest.go_on (option_copied context.entry) info.now))) self.old self.new }
+        ensures kept { self.new.standing.identifier ≡ self.old.standing.identifier }
+    {
+        self.send_continue(&ContinueRequest { context, info }, clock)
+    }
+
+    /// The first fault of a Continue that is due before its message is written.
+    fn continue_fault(&self, request: &ContinueRequest<'_>) -> Option<Fault>
+        ensures { let r = Request.dialogue (continue_view request.now) in option_map fault_view result
+            ≡ first_that (holds (situation (asked 0 0) self.now r) r) early_faults }
+    {
+        if !self.phase.has_peer() {
+            return Some(Fault::WrongState);
+        }
+        if !is_name_good(request.context) {
+            return Some(Fault::BadOid);
+        }
+        if !is_user_information(request.info) {
+            return Some(Fault::BadParameter);
+        }
+        if !self.is_asked() && gives_any(request.context, request.info) {
+            return Some(Fault::NoContext);
+        }
+        None
+    }
+
+    /// The Continue with the queue, once the peer is known.
+    fn continue_sending<'a>(&'a self, request: &ContinueRequest<'a>) -> Option<Sending<'a>>
+        ensures message { option_map sending_view result
+            ≡ message_of self.now.standing (Request.dialogue (continue_view request.now)) }
+        ensures sound { CanSend (option_copied request.now.context) request.now.info.now result }
+    {
+        match &self.phase {
+            Phase::Fresh | Phase::Sent => None,
+            Phase::Received(peer) | Phase::Active(peer) => Some(Sending {
+                bearer: MessageParts::Continue {
+                    origin: self.identifier,
+                    peer,
+                    components: self.queue.all_octets(),
+                },
+                pdu: self.answer_pdu(request.context, request.info),
+            }),
+        }
+    }
+
+    /// The octets of the Continue, or the first due fault of its request.
+    fn continue_octets(&self, request: &ContinueRequest<'_>) -> Result<Option<Vec<u8, A>>, Fault>
+        ensures ok { let r = Request.dialogue (continue_view request.now) in IfOk result (λ v.
+            Spells v (message_of self.now.standing r) × (due_on (situation (asked 0 0) self.now r) r ≡ None)) }
+        ensures err { let r = Request.dialogue (continue_view request.now) in IfErr result (λ f.
+            IsRefusal f (message_of self.now.standing r) (due_on (situation (asked 0 0) self.now r) r)) }
+    {
+        if let Some(fault) = self.continue_fault(request) {
+            return Err(fault);
+        }
+        self.spelled_if_any(self.continue_sending(request))
+    }
+
+    /// Judges a Continue, writes it, and sends it at this moment; the dialogue is Active.
+    #[inline(never)]
+    pub(super) fn send_continue<'m>(
+        &mut self,
+        request: &ContinueRequest<'_>,
+        clock: u64,
+    ) -> Result<Step<'m, A>, Fault>
+        requires { clock ≤ moment_limit }
+        ensures step { Steps result
+            (requested clock 0 self.old (Request.dialogue (continue_view request.now))) self.old self.new }
+        ensures kept { self.new.standing.identifier ≡ self.old.standing.identifier }
+    {
+        let octets = self.continue_octets(request)?;
+        let outputs = self.sent(Destination::Kept, octets, 0)?;
+        self.send_queue(clock);
+        self.phase = self.phase.activated();
+        self.touched = clock;
+        Ok(Step {
+            outputs,
+            over: false,
+        })
+    }
+}
