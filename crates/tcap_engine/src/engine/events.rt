@@ -101,8 +101,8 @@ fn told<'m, A: Allocator + Copy>(
 
 impl<A: Allocator + Copy> Engine<A> {
     /// A request on the dialogue with this identifier, and its answer.
-    // `request` is copied to where it is called; what `handle` calls stands once.
-    #[inline(never)]
+    // In each arm of `handle` the request is known, and the match on it folds away.
+    #[inline(always)]
     fn answer<'m>(
         &mut self,
         dialogue: u32,

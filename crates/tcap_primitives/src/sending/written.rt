@@ -65,6 +65,8 @@ impl<'a> MessageParts<'a> {
 impl<'a> Sending<'a> {
     /// The octets of the message, where the contents of its PDU are good; it is written at once, with the
     /// dialogue portion in its place. Faults: TooLong above 65,535 bytes, then OutOfMemory (our own).
+    // Where the message is known, as in a request, the match on it folds away.
+    #[inline(always)]
     pub fn spelled<A: Allocator + Copy>(&self, alloc: A) -> Result<Vec<u8, A>, PduFault>
         requires { IfSome self.now.pdu (λ p. HasDiagnostic (pdu_value p) × (content_fault (pdu_value p) ≡ None)) }
         ensures written { IfOk result (λ v. v.items ≡ written_frame (sending_view self.now)) }

@@ -66,6 +66,8 @@ impl<A: Allocator + Copy> Dialogue<A> {
 
     /// The dialogue is over: its message goes out, if there is one, and each invocation that is left is told as
     /// ended.
+    // In each of its callers the destination is known, and in some that there is a message.
+    #[inline(always)]
     pub(super) fn close<'m>(
         &mut self,
         to: Destination<'_>,

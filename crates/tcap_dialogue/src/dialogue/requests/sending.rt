@@ -97,7 +97,9 @@ impl<A: Allocator + Copy> Dialogue<A> {
 
     /// The octets of a message. Faults: TooLong, then OutOfMemory.
     // A message is judged by writing it, before anything changes: it was composed twice, and its dialogue
-    // portion judged three times, as long as one call looked for the fault and another one wrote.
+    // portion judged three times, as long as one call looked for the fault and another one wrote. Each request
+    // knows which message it sends: in its own copy the match on that folds away, here and below.
+    #[inline(always)]
     pub(super) fn spelled(&self, sending: &Sending<'_>) -> Result<Vec<u8, A>, Fault>
         requires { IfSome sending.now.pdu (λ p. HasDiagnostic (pdu_value p) × (content_fault (pdu_value p) ≡ None)) }
         ensures ok { let m = Some (sending_view sending.now) in
@@ -112,6 +114,7 @@ impl<A: Allocator + Copy> Dialogue<A> {
     }
 
     /// The octets of a message, if there is one. Faults: TooLong, then OutOfMemory.
+    #[inline(always)]
     pub(super) fn spelled_if_any(
         &self,
         sending: Option<Sending<'_>>,
@@ -132,7 +135,8 @@ impl<A: Allocator + Copy> Dialogue<A> {
     }
 
     /// Where the message of a request goes.
-    #[inline(always)]
+    // Where it was always copied to its caller, the address was moved twice more, 85 instructions a message.
+    #[inline]
     fn address_for(&self, to: Destination<'_>) -> Address
         ensures { result ≡ address_for to.entry self.now.kept }
     {

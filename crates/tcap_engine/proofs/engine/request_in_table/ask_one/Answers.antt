@@ -10,10 +10,10 @@ use Rattle.tcap_engine.proofs.engine.request_in_table.ask_one.Goals as goal
 
 pub returns-in-Invoke-clause-answer : goal.returns-in-Invoke-clause-answer
 returns-in-Invoke-clause-answer g c =
-    let i = c.in-Invoke in
+    let i = c.in-Invoke.invoke in
     let none : are_numbers_spent c.args.number ≡ true = let last = c.if-number-eq18446744073709551615.true in grind (arith, nat_tests, last) in
     let fault : c.unwrap_or.result ≡ unwrap_or c.check_invoke-fault.result fault.NumbersSpent = c.unwrap_or.ensures in
     let same : to_z w8 (of_z w8 i.id) ≡ i.id = to_z-of_z w8 i.id (search rules) in
-    rw (i.is, fault)
+    rw (c.in-Invoke.is, fault)
     (spent-refused c.args.clock c.args.number c.args.dialogue.now i.id i.class (code_parts i.code) (option_copied i.parameter) i.linked i.timeout_ms c.check_invoke-fault.result none
     (rw same at (c.check_invoke-fault.ensures c.args.number i.class i.linked)))
