@@ -1,9 +1,9 @@
 //! The dialogues that stand, and of each the moment at which time next changes it.
 
-ghost use Rattle.std.specs.Prelude.{◌≡◌, false, ◌≢◌, ◌≤◌, ◌⊎◌, ◌+◌, ◌-◌, ◌++◌, ◌∷◌, ◌^◌, [], nat_eq, length, min, option_copied, OnErr, OnOk, MatchOption, if◌then◌else◌};
+ghost use Rattle.std.specs.Prelude.{◌≡◌, false, ◌≢◌, ◌≤◌, ◌⊎◌, ◌+◌, ◌-◌, ◌++◌, ◌∷◌, ◌^◌, [], nat_eq, length, min, None, option_copied, OnErr, OnOk, MatchOption, if◌then◌else◌};
 ghost use Rattle.std.specs.Map.{lookup, remove_entry};
 ghost use Rattle.tcap_engine.specs.IdleDialogues.{idle_ids};
-ghost use Rattle.tcap_engine.specs.Lapsing.{AreUntimed, IsFirstTimer};
+ghost use Rattle.tcap_engine.specs.Lapsing.{AreUntimed, IsFirstTimer, timer_of};
 ghost use Rattle.tcap_engine.specs.DialogueEntries.{AreDrawn, dialogues_of};
 ghost use Rattle.tcap_model.specs.Table.Dialogue.{is_idle_at};
 ghost use Rattle.tcap_model.specs.Table.DueLapses.{all_told, all_idle_told};
@@ -78,20 +78,20 @@ impl<A: Allocator + Copy> Dialogues<A> {
         self.rows.get(identifier)
     }
 
-    /// Takes in a dialogue under an identifier above all others. All memory that its place will need is taken
-    /// here.
+    /// Takes in a dialogue that has no timer yet, under an identifier above all others. All memory that its
+    /// place will need is taken here.
     #[inline(always)]
     pub(crate) fn insert(
         &mut self,
         identifier: u32,
         dialogue: Dialogue<A>,
     ) -> Result<(), OutOfMemory>
-        requires { AreDrawn identifier self.old }
+        requires drawn { AreDrawn identifier self.old }
+        requires untimed { timer_of dialogue ≡ None }
         ensures ok { OnOk result (self.new ≡ self.old ++ (identifier, dialogue) ∷ []) }
         ensures err { OnErr result (self.new ≡ self.old) }
     {
-        let timer = dialogue.next_timer();
-        match self.rows.insert(identifier, dialogue, timer) {
+        match self.rows.insert(identifier, dialogue, None) {
             Ok(()) => Ok(()),
             Err(_) => Err(OutOfMemory),
         }

@@ -1,24 +1,21 @@
 //! Dialogues that are created.
 
-ghost use Rattle.std.specs.Prelude.{◌≡◌, ◌<◌, ◌≤◌, ◌+◌, ◌++◌, ◌∷◌, [], None, Some, nat_eq, OnErr, OnOk, IfOk, IfSome};
-ghost use Rattle.std.specs.Map.{lookup, remove_entry, set_value};
+ghost use Rattle.std.specs.Prelude.{◌≡◌, ◌<◌, ◌+◌, None, OnErr, OnOk, IfOk, IfSome};
 ghost use Rattle.std.specs.Option.{option_map};
 ghost use Rattle.ber_core.specs.ObjectIdentifier.{IsObjectIdentifier};
 ghost use Rattle.tcap_reception.specs.PortionParts.{context_of_portion, info_of_portion};
 ghost use Rattle.tcap_primitives.specs.FaultViews.{fault_view};
-ghost use Rattle.tcap_dialogue.specs.Beginning.{begun_from};
-ghost use Rattle.tcap_invocation.specs.Stage.{moment_limit};
-ghost use Rattle.tcap_model.specs.Table.Dialogue as model;
+ghost use Rattle.tcap_model.specs.Table.Dialogue.{fresh_dialogue};
 ghost use Rattle.tcap_engine.specs.StepForm.{EngineAnswers, Moves, birth_answer, outputs_answer};
 ghost use Rattle.tcap_engine.specs.HistoryForm.{Stands};
-ghost use Rattle.tcap_engine.specs.DialogueEntries.{AreDrawn, IsWithin, with_created};
+ghost use Rattle.tcap_engine.specs.DialogueEntries.{IsWithin, with_created};
+ghost use Rattle.tcap_engine.specs.Lapsing.{timer_of};
 ghost use Rattle.tcap_model.specs.Table.EngineMove.{engine_move, begun_in, birth_fault_in, setting_in};
 ghost use Rattle.tcap_model.specs.Table.TableMove.{born};
 ghost use Rattle.tcap_model.specs.Words.Event.{Event};
 ghost use Rattle.tcap_model.specs.Words.Identifiers.{last_dialogue};
 
 use super::Engine;
-use crate::dialogues::{Dialogues, store_or_remove};
 use ber_core::OutOfMemory;
 use std::alloc::Allocator;
 use tcap_dialogue::{Address, Dialogue, Fault, Output};
@@ -48,13 +45,12 @@ impl<A: Allocator + Copy> Engine<A> {
             return Err(fault);
         }
         let identifier = self.next_dialogue;
-        let (alloc, limits) = (self.table.allocator(), self.limits);
-        self.keep(Dialogue::fresh(alloc, identifier, limits.reject_ms, limits.idle_ms))?;
+        self.keep(self.fresh())?;
         Ok(identifier)
     }
 
     /// A Begin creates a dialogue: what is told (Q.774, Dialogue begin).
-    #[tactic(auto, using(crate::proofs::BeginLemmas::kept_born))]
+    #[tactic(auto, using(crate::proofs::BeginLemmas::kept_born, crate::proofs::BeginLemmas::untimed_born))]
     pub(super) fn accept_begin<'m>(
         &mut self,
         from: &Address,
@@ -70,25 +66,39 @@ impl<A: Allocator + Copy> Engine<A> {
             (outputs_answer os) self.new) }
         ensures err { OnErr result (self.new ≡ self.old) }
     {
-        let identifier = self.next_dialogue;
-        let following = next_identifier(identifier);
-        let (alloc, limits) = (self.table.allocator(), self.limits);
-        let fresh = Dialogue::fresh(alloc, identifier, limits.reject_ms, limits.idle_ms);
-        let (table, clock) = (&mut self.table, self.clock);
-        let outputs = accept_in(
-            table, identifier, fresh, clock, from, origin, request, components,
+        let mut dialogue = self.fresh();
+        let outputs = dialogue.receive_begin_with(
+            &mut self.table.spares,
+            from,
+            origin,
+            request,
+            components,
+            self.clock,
         )?;
-        self.next_dialogue = following;
+        self.keep(dialogue)?;
         Ok(outputs)
     }
 
+    /// A dialogue under the next identifier, in which nothing has happened.
+    fn fresh(&self) -> Dialogue<A>
+        ensures { result ≡ fresh_dialogue self.now.next_dialogue self.now.reject_ms self.now.idle_ms }
+    {
+        let limits = self.limits;
+        Dialogue::fresh(
+            self.table.allocator(),
+            self.next_dialogue,
+            limits.reject_ms,
+            limits.idle_ms,
+        )
+    }
+
     /// Takes in a dialogue that is created under the next identifier, which is drawn then.
-    // A dialogue is 192 octets: built in place, it isn't moved from call to call on its way into the table.
     #[inline(always)]
     fn keep(&mut self, dialogue: Dialogue<A>) -> Result<(), OutOfMemory>
         requires free { birth_fault_in self.old ≡ None }
         requires next { dialogue.standing.identifier ≡ self.old.next_dialogue }
         requires within { IsWithin self.old.reject_ms self.old.next_number dialogue }
+        requires untimed { timer_of dialogue ≡ None }
         ensures ok { OnOk result (self.new ≡ with_created self.old dialogue) }
         ensures err { OnErr result (self.new ≡ self.old) }
     {
@@ -111,61 +121,6 @@ impl<A: Allocator + Copy> Engine<A> {
             None
         }
     }
-}
-
-/// A Begin comes to the dialogue of an identifier, in which nothing has happened; where memory is refused the
-/// dialogue is taken out.
-fn begin_in<'m, A: Allocator + Copy>(
-    table: &mut Dialogues<A>,
-    identifier: u32,
-    clock: u64,
-    from: &Address,
-    origin: &TransId,
-    request: AarqParts<'m>,
-    components: &'m [u8],
-) -> Result<Vec<Output<'m, A>, A>, OutOfMemory>
-    requires clock { clock ≤ moment_limit }
-    requires named { IfSome request (λ r. IsObjectIdentifier r.0.now) }
-    ensures ok { (x : model.Dialogue) → lookup (nat_eq identifier) table.old ≡ Some x
-        → let m = begun_from clock x from.now origin.now (context_of_portion request.entry)
-        (info_of_portion request.entry) components.now in IfOk result (λ os. (outputs_answer os ≡ m.answer)
-        × (table.new ≡ set_value (nat_eq identifier) table.old m.after)) }
-    ensures err { OnErr result (table.new ≡ remove_entry (nat_eq identifier) table.old) }
-{
-    let alloc = table.allocator();
-    let Some(dialogue) = table.rows.get_mut(identifier) else {
-        return Ok(Vec::new(alloc));
-    };
-    let spares = &mut table.spares;
-    let outputs = dialogue.receive_begin_with(spares, from, origin, request, components, clock);
-    let timer = dialogue.next_timer();
-    store_or_remove(&mut table.rows, identifier, outputs.is_err(), timer);
-    outputs
-}
-
-/// Takes in a fresh dialogue under an identifier above all others, and then has the Begin come to it.
-// So it is begun where it stays: moved on its way there, its octets, 568 then, were copied and cleared four times.
-#[inline(always)]
-fn accept_in<'m, A: Allocator + Copy>(
-    table: &mut Dialogues<A>,
-    identifier: u32,
-    fresh: Dialogue<A>,
-    clock: u64,
-    from: &Address,
-    origin: &TransId,
-    request: AarqParts<'m>,
-    components: &'m [u8],
-) -> Result<Vec<Output<'m, A>, A>, OutOfMemory>
-    requires drawn { AreDrawn identifier table.old }
-    requires clock { clock ≤ moment_limit }
-    requires named { IfSome request (λ r. IsObjectIdentifier r.0.now) }
-    ensures ok { let m = begun_from clock fresh from.now origin.now (context_of_portion request.entry)
-        (info_of_portion request.entry) components.now in IfOk result (λ os. (outputs_answer os ≡ m.answer)
-        × (table.new ≡ table.old ++ (identifier, m.after) ∷ [])) }
-    ensures err { OnErr result (table.new ≡ table.old) }
-{
-    table.insert(identifier, fresh)?;
-    begin_in(table, identifier, clock, from, origin, request, components)
 }
 
 /// The identifier that is drawn after this one: no identifier is drawn twice.

@@ -1,4 +1,4 @@
-use Rattle.std.proofs.Common.{ap, ◌∙◌}
+use Rattle.std.proofs.Common.{ap, sym, None, ◌∙◌}
 use Rattle.std.proofs.lemmas.List.{map-append}
 use Rattle.tcap_engine.proofs.TimedLemmas.{below-drawn, timed-push}
 use Rattle.timed_table.specs.Row.{entries_of}
@@ -6,11 +6,11 @@ use Rattle.tcap_engine.proofs.dialogues.Dialogues.insert.Goals.{in-Ok, in-Err}
 use Rattle.tcap_engine.proofs.dialogues.Dialogues.insert.Goals as goal
 
 pub insert-requires : goal.insert-requires
-insert-requires g c = below-drawn c.args.identifier c.self.inside.rows (rw (← c.self.view_is) at c.requires)
+insert-requires g c = below-drawn c.args.identifier c.self.inside.rows (rw (← c.self.view_is) at c.requires.drawn)
 
 pub invariant_of-self : goal.invariant_of-self
 invariant_of-self g c = elim c.match-insert.branch [
-  | in-Ok w ↦ rw w.in-Ok.ensures.ok (timed-push c.args.identifier c.args.dialogue c.next_timer-timer.result c.self.inside.rows c.next_timer-timer.ensures c.self.invariant)
+  | in-Ok w ↦ rw w.in-Ok.ensures.ok (timed-push c.args.identifier c.args.dialogue None c.self.inside.rows (sym c.requires.untimed) c.self.invariant)
   | in-Err w ↦ rw w.in-Err.ensures.err c.self.invariant
 ]
 
