@@ -65,12 +65,3 @@ module _ {A : Type 0} (new : Dialogue) (d : ℕ) (ps : List TableEntry) where
       → qs ≡ (if is_over then remove_entry (nat_eq d) (set_value (nat_eq d) ps new) else set_value (nat_eq d) ps new) → EntriesMove o d (asked_answer a) ps qs
   settled-placed true a o qs e is q = rw q (gone-placed a o e (sym is))
   settled-placed false a o qs e is q = rw q (kept-placed a o e (sym is))
-
-  -- The same, where one that is over became anything before it was taken out.
-  pub settled-spared : (is_over : Bool) (after : Dialogue) → (is_over ≡ false → after ≡ new) → (a : Asked A) (o : Outcome) (qs : List TableEntry) → asked_view a new ≡ o → is_over ≡ ends_dialogue a
-      → qs ≡ (if is_over then remove_entry (nat_eq d) (set_value (nat_eq d) ps after) else set_value (nat_eq d) ps after) → EntriesMove o d (asked_answer a) ps qs
-  settled-spared true after same a o qs e is q =
-      let ends : ends_dialogue a ≡ true = sym is in
-      let left : o.1 ≡ None = sym (ap (λ (x : Outcome). x.1) e) ∙ standing a ∙ rw ends refl in
-      rw q (sym (answered a) ∙ ap (λ (x : Outcome). x.0) e, removed-set d after ps ∙ ap (λ (x : Option Dialogue). entries_with d x ps) (sym left))
-  settled-spared false after same a o qs e is q = rw (q, same refl) (kept-placed a o e (sym is))

@@ -20,15 +20,29 @@ timed-set d new (r ∷ rows) h = go (nat_eq d r.identifier) refl (timed-set d ne
     go true e ih = rw e (refl, h.1)
     go false e ih = rw e (h.0, ih)
 
--- One that was written back as it was.
-pub timed-still : (d : ℕ) (old new : Dialogue) (rows : List (Row Dialogue)) → lookup (nat_eq d) (entries_of rows) ≡ Some old → new ≡ old → AreTimed rows → AreTimed (with_value d new rows)
-timed-still d old new [] found same h = tt
-timed-still d old new (r ∷ rows) found same h = go (nat_eq d r.identifier) found (λ f. timed-still d old new rows f same h.1)
+-- One that was written with the same timer.
+pub timed-alike : (d : ℕ) (old new : Dialogue) (rows : List (Row Dialogue)) → lookup (nat_eq d) (entries_of rows) ≡ Some old → timer_of new ≡ timer_of old → AreTimed rows → AreTimed (with_value d new rows)
+timed-alike d old new [] found same h = tt
+timed-alike d old new (r ∷ rows) found same h = go (nat_eq d r.identifier) found (λ f. timed-alike d old new rows f same h.1)
   where
     go : (b : Bool) → cond b (Some r.value) (lookup (nat_eq d) (entries_of rows)) ≡ Some old → (lookup (nat_eq d) (entries_of rows) ≡ Some old → AreTimed (with_value d new rows))
         → AreTimed (cond b (record r { value = new } ∷ rows) (r ∷ with_value d new rows))
-    go true f ih = let is : r.value ≡ new = let own : r.value ≡ old = cc in own ∙ sym same in (h.0 ∙ ap timer_of is, h.1)
+    go true f ih = let own : r.value ≡ old = cc in (h.0 ∙ ap timer_of own ∙ sym same, h.1)
     go false f ih = (h.0, ih f)
+
+-- One that was written back as it was.
+pub timed-still : (d : ℕ) (old new : Dialogue) (rows : List (Row Dialogue)) → lookup (nat_eq d) (entries_of rows) ≡ Some old → new ≡ old → AreTimed rows → AreTimed (with_value d new rows)
+timed-still d old new rows found same h = timed-alike d old new rows found (ap timer_of same) h
+
+-- It makes no difference to the rest how one was written that is taken out.
+pub without-written : (d : ℕ) (new : Dialogue) (rows : List (Row Dialogue)) → without d (with_value d new rows) ≡ without d rows
+without-written d new [] = refl
+without-written d new (r ∷ rows) = go (nat_eq d r.identifier) refl (without-written d new rows)
+  where
+    go : (b : Bool) → nat_eq d r.identifier ≡ b → without d (with_value d new rows) ≡ without d rows
+        → without d (cond b (record r { value = new } ∷ rows) (r ∷ with_value d new rows)) ≡ cond b rows (r ∷ without d rows)
+    go true e ih = rw e refl
+    go false e ih = rw e (ap (λ (qs : List (Row Dialogue)). r ∷ qs) ih)
 
 -- One that was taken out after it was written.
 pub timed-gone : (d : ℕ) (new : Dialogue) (rows : List (Row Dialogue)) → AreTimed rows → AreTimed (without d (with_value d new rows))

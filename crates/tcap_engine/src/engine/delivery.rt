@@ -14,7 +14,7 @@ ghost use Rattle.tcap_model.specs.Table.TableMove.{DialogueEvent, table_move};
 ghost use Rattle.tcap_pdu.specs.FrameViews.{message};
 
 use super::Engine;
-use crate::dialogues::{Dialogues, keep_spare, store_or_remove};
+use crate::dialogues::{Dialogues, settle};
 use ber_core::OutOfMemory;
 use std::alloc::Allocator;
 use tcap_dialogue::{Abort, Address, Cause, Output, write_abort};
@@ -28,19 +28,22 @@ pub(super) fn deliver_in<'m, A: Allocator + Copy>(
     from: &Address,
     frame: &Frame<'m>,
 ) -> Result<Vec<Output<'m, A>, A>, OutOfMemory>
-    requires { clock ≤ moment_limit }
+    requires clock { clock ≤ moment_limit }
+    requires stands { IsSome (lookup (nat_eq identifier) table.old) }
     ensures { DeliversInTable outputs_answer result (λ x. outcome
         (table_move (at_clock clock) x (DialogueEvent.frame from.now (message frame.now)))) identifier
         (lookup (nat_eq identifier) table.old) table.old table.new }
 {
-    let alloc = table.allocator();
-    let Some(dialogue) = table.rows.get_mut(identifier) else {
-        return Ok(Vec::new(alloc));
-    };
+    let dialogue = table.rows.get_mut(identifier).unwrap();
     let step = dialogue.take_frame_with(&mut table.spares, from, frame, clock)?;
-    keep_spare(&mut table.spares, dialogue, step.over);
     let timer = dialogue.next_timer();
-    store_or_remove(&mut table.rows, identifier, step.over, timer);
+    settle(
+        &mut table.rows,
+        &mut table.spares,
+        identifier,
+        step.over,
+        timer,
+    );
     Ok(step.outputs)
 }
 
@@ -57,14 +60,16 @@ pub(super) fn abort_in<'m, A: Allocator + Copy>(
         (cause_number cause)))) identifier (lookup (nat_eq identifier) table.old) table.old table.new }
     ensures room { IfOk result (λ os. vec_len os < vec_capacity os) }
 {
-    let alloc = table.allocator();
-    let Some(dialogue) = table.rows.get_mut(identifier) else {
-        return Ok(Vec::new(alloc));
-    };
+    let dialogue = table.rows.get_mut(identifier).unwrap();
     let step = dialogue.take_fault(cause.number())?;
-    keep_spare(&mut table.spares, dialogue, step.over);
     let timer = dialogue.next_timer();
-    store_or_remove(&mut table.rows, identifier, step.over, timer);
+    settle(
+        &mut table.rows,
+        &mut table.spares,
+        identifier,
+        step.over,
+        timer,
+    );
     Ok(step.outputs)
 }
 
@@ -76,6 +81,7 @@ impl<A: Allocator + Copy> Engine<A> {
         from: &Address,
         frame: &Frame<'m>,
     ) -> Result<Vec<Output<'m, A>, A>, OutOfMemory>
+        requires { is_live_in self.old.dialogues identifier ≡ true }
         ensures ok { IfOk result (λ os. Moves (reached_in self.old identifier [] (DialogueEvent.frame from.now
             (message frame.now)) (dialogue_in identifier self.old.dialogues)) (outputs_answer os) self.new) }
         ensures err { OnErr result (self.new ≡ self.old) }

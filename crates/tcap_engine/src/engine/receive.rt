@@ -6,6 +6,7 @@ ghost use Rattle.tcap_primitives.specs.AbortViews.{CanWriteAbort, abort_sent, ca
 ghost use Rattle.tcap_primitives.specs.OutputViews.{all_shown, shown};
 ghost use Rattle.tcap_engine.specs.StepForm.{EngineReceives, outputs_answer};
 ghost use Rattle.tcap_engine.specs.HistoryForm.{StandsReceived};
+ghost use Rattle.tcap_engine.specs.StateOf.{state_in};
 ghost use Rattle.tcap_model.specs.Procedures.AbortRules.{abort_with, message_sent};
 ghost use Rattle.tcap_model.specs.Procedures.PortionRules.{begin_verdict, uni_verdict};
 ghost use Rattle.tcap_model.specs.Procedures.Reception.{addressed, begin_by, message_by, uni_by};
@@ -148,10 +149,12 @@ impl<A: Allocator + Copy> Engine<A> {
         }
     }
 
-    /// The live dialogue that a destination names, by the four octets of its identifier.
-    pub(super) fn live_named(&self, destination: &TransId) -> Option<u32>
-        ensures value { result ≡ addressed (is_live_in self.now.dialogues) destination.now }
-        ensures live { IfSome result (λ dialogue. is_live_in self.now.dialogues dialogue ≡ true) }
+    /// The live dialogue that a destination names, by the four octets of its identifier; what is done to it then finds
+    /// it at once.
+    pub(super) fn live_named(&mut self, destination: &TransId) -> Option<u32>
+        ensures value { result ≡ addressed (is_live_in self.old.dialogues) destination.now }
+        ensures live { IfSome result (λ dialogue. is_live_in self.old.dialogues dialogue ≡ true) }
+        ensures same { self.new ≡ self.old }
     {
         let dialogue = destination.as_u32()?;
         if self.is_live(dialogue) {
@@ -162,13 +165,22 @@ impl<A: Allocator + Copy> Engine<A> {
     }
 
     /// Whether a dialogue stands and is live: in Sent or in Active.
-    fn is_live(&self, dialogue: u32) -> bool
-        ensures { result ≡ is_live_in self.now.dialogues dialogue }
+    fn is_live(&mut self, dialogue: u32) -> bool
+        ensures live { result ≡ is_live_in self.old.dialogues dialogue }
+        ensures same { self.new ≡ self.old }
     {
-        match self.state_of(dialogue) {
+        match self.find_state(dialogue) {
             Some(State::Sent | State::Active) => true,
             Some(State::Fresh | State::Received) | None => false,
         }
+    }
+
+    /// The state of the dialogue with this identifier, if it stands.
+    fn find_state(&mut self, dialogue: u32) -> Option<State>
+        ensures state { result ≡ state_in self.old dialogue }
+        ensures same { self.new ≡ self.old }
+    {
+        self.table.find_state(dialogue)
     }
 
     /// One output is told.

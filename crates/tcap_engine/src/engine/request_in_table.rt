@@ -11,7 +11,7 @@ ghost use Rattle.tcap_invocation.specs.Invocations.{AllBelow};
 ghost use Rattle.tcap_invocation.specs.Stage.{moment_limit};
 ghost use Rattle.tcap_model.specs.Table.TableMove.{DialogueEvent, table_move};
 
-use crate::dialogues::{Dialogues, keep_spare, store_or_remove};
+use crate::dialogues::{Dialogues, settle};
 use std::alloc::Allocator;
 use tcap_dialogue::{Asked, Dialogue, Fault, Request, Spares};
 
@@ -79,9 +79,13 @@ pub(super) fn ask_in<'m, A: Allocator + Copy>(
     };
     let spares = &mut table.spares;
     let asked = ask_one(dialogue, spares, reject_ms, clock, number, request)?;
-    let is_over = ends_dialogue(&asked);
-    keep_spare(&mut table.spares, dialogue, is_over);
-    let timer = dialogue.next_timer();
-    store_or_remove(&mut table.rows, identifier, is_over, timer);
+    let (is_over, timer) = (ends_dialogue(&asked), dialogue.next_timer());
+    settle(
+        &mut table.rows,
+        &mut table.spares,
+        identifier,
+        is_over,
+        timer,
+    );
     Ok(asked)
 }

@@ -1,8 +1,7 @@
-use Rattle.std.proofs.Common.{◌≡◌, ap, sym, None}
+use Rattle.std.proofs.Common.{◌≡◌, ap, sym}
 use Rattle.tcap_dialogue.specs.StepViews.{at_clock}
 use Rattle.tcap_engine.proofs.BeginLemmas.{begun-is, kept_born, untimed_born}
 use Rattle.tcap_engine.specs.DialogueEntries.{IsWithin}
-use Rattle.tcap_engine.specs.Lapsing.{timer_of}
 use Rattle.tcap_model.specs.Table.Dialogue.{fresh_dialogue}
 use Rattle.tcap_model.specs.Table.TableMove.{Moved, born}
 use Rattle.tcap_reception.specs.PortionParts.{context_of_portion, info_of_portion}

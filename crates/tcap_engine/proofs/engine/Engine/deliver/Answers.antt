@@ -1,9 +1,19 @@
+use Rattle.std.proofs.Common.{◌≡◌, ◌∙◌, ap, true}
+use Rattle.tcap_engine.specs.DialogueEntries.{dialogues_of}
+use Rattle.tcap_model.specs.Table.EngineMove.{is_live_in}
+use Rattle.tcap_model.specs.Table.World.{World}
 use Rattle.tcap_primitives.specs.OutputViews.{all_shown}
 use Rattle.tcap_dialogue.specs.StepViews.{at_clock}
 use Rattle.tcap_model.specs.Table.TableMove.{DialogueEvent, table_move}
 use Rattle.tcap_pdu.specs.FrameViews.{message}
-use Rattle.tcap_engine.proofs.ReachedEngine.{framed-alike, kept-frame, sound-reached, reached-if}
+use Rattle.tcap_engine.proofs.ReachedEngine.{framed-alike, kept-frame, live-found, sound-reached, reached-if}
 use Rattle.tcap_engine.proofs.engine.Engine.deliver.Goals as goal
+
+pub deliver_in-requires-clause-stands : goal.deliver_in-requires-clause-stands
+deliver_in-requires-clause-stands g c =
+    let s = c.self.inside in
+    let live : is_live_in (dialogues_of s.table) c.args.identifier ≡ true = ap (λ (w : World). is_live_in w.dialogues c.args.identifier) c.self.view_is ∙ c.requires in
+    live-found c.args.identifier s.table c.self.invariant.from live
 
 pub invariant_of-self : goal.invariant_of-self
 invariant_of-self g c =

@@ -6,14 +6,14 @@ use Rattle.tcap_dialogue.specs.StepViews.{Outcome, at_clock, outcome}
 use Rattle.tcap_model.specs.Table.TableMove.{DialogueEvent, table_move}
 use Rattle.tcap_primitives.specs.AbortViews.{cause_number}
 use Rattle.tcap_engine.specs.DialogueEntries.{TableEntry}
-use Rattle.tcap_engine.proofs.AskLemmas.{settled-spared}
+use Rattle.tcap_engine.proofs.AskLemmas.{settled-placed}
 use Rattle.tcap_engine.proofs.TimedLemmas.{timed-still, timed-settled}
 use Rattle.timed_table.specs.Row.{entries_of}
 use Rattle.tcap_engine.proofs.engine.delivery.abort_in.Goals as goal
 
-pub invariant_of-table-in_err-step : goal.invariant_of-table-in_err-step
-invariant_of-table-in_err-step g c =
-    let old = c.in-Some.dialogue.now in
+pub invariant_of-table : goal.invariant_of-table
+invariant_of-table g c =
+    let old = c.unwrap-dialogue.result.now in
     let new = c.take_fault.new.self in
     let found : lookup (nat_eq c.args.identifier) (entries_of c.table.inside.rows) ≡ Some old = search rules in
     let same : new ≡ old = search rules in
@@ -22,7 +22,7 @@ invariant_of-table-in_err-step g c =
 pub returns-in_err-step-clause-reached : goal.returns-in_err-step-clause-reached
 returns-in_err-step-clause-reached g c =
     let ps : List TableEntry = entries_of c.table.inside.rows in
-    let old = c.in-Some.dialogue.now in
+    let old = c.unwrap-dialogue.result.now in
     let new = c.take_fault.new.self in
     let found : lookup (nat_eq c.args.identifier) ps ≡ Some old = search rules in
     let same : new ≡ old = search rules in
@@ -31,18 +31,17 @@ returns-in_err-step-clause-reached g c =
 
 pub invariant_of-table-2 : goal.invariant_of-table-2
 invariant_of-table-2 g c =
-    let new = c.keep_spare.new.dialogue in
-    rw (c.store_or_remove.ensures.rows, (c.get_mut.follows.holds new).rows, c.next_timer-timer.ensures) (timed-settled c.in_ok-step.step.over c.args.identifier new c.table.inside.rows c.table.invariant)
+    let new = c.take_fault.new.self in
+    rw (c.settle.ensures.rows, (c.get_mut.follows.holds new).rows, c.next_timer-timer.ensures) (timed-settled c.in_ok-step.step.over c.args.identifier new c.table.inside.rows c.table.invariant)
 
 pub returns-clause-reached : goal.returns-clause-reached
 returns-clause-reached g c =
     let ps : List TableEntry = entries_of c.table.inside.rows in
-    let old = c.in-Some.dialogue.now in
+    let old = c.unwrap-dialogue.result.now in
     let new = c.take_fault.new.self in
-    let after = c.keep_spare.new.dialogue in
     let s = c.in_ok-step.step in
     let found : lookup (nat_eq c.args.identifier) ps ≡ Some old = search rules in
     let o : Outcome = outcome (table_move (at_clock 0) old (DialogueEvent.fault (cause_number c.args.cause))) in
     rw (← c.table.view_is, found)
-    (settled-spared new c.args.identifier ps s.over after c.keep_spare.ensures (asked.Step s) o (entries_of c.store_or_remove.new.rows) (rw c.number.ensures.value at (c.in_ok-step.ensures.ok (at_clock 0))) refl
-    (rw (c.get_mut.follows.holds after).entries at c.store_or_remove.ensures.entries))
+    (settled-placed new c.args.identifier ps s.over (asked.Step s) o (entries_of c.settle.new.rows) (rw c.number.ensures.value at (c.in_ok-step.ensures.ok (at_clock 0))) refl
+    (rw (c.get_mut.follows.holds new).entries at c.settle.ensures.entries))

@@ -5,7 +5,7 @@ use Rattle.tcap_dialogue.specs.StepViews.{Outcome, asked, outcome}
 use Rattle.tcap_model.specs.Table.TableMove.{DialogueEvent, table_move}
 use Rattle.tcap_primitives.specs.FaultViews.{fault_view}
 use Rattle.tcap_engine.specs.DialogueEntries.{TableEntry}
-use Rattle.tcap_engine.proofs.AskLemmas.{refused-placed, settled-spared}
+use Rattle.tcap_engine.proofs.AskLemmas.{refused-placed, settled-placed}
 use Rattle.tcap_dialogue.proofs.CallerLemmas.{refused-same}
 use Rattle.tcap_engine.proofs.TimedLemmas.{timed-still, timed-settled}
 use Rattle.timed_table.specs.Row.{entries_of}
@@ -31,17 +31,16 @@ returns-in_err-asked g c =
 
 pub invariant_of-table-2 : goal.invariant_of-table-2
 invariant_of-table-2 g c =
-    let new = c.keep_spare.new.dialogue in
-    rw (c.store_or_remove.ensures.rows, (c.get_mut.follows.holds new).rows, c.next_timer-timer.ensures) (timed-settled c.ends_dialogue-is_over.result c.args.identifier new c.table.inside.rows c.table.invariant)
+    let new = c.ask_one.new.dialogue in
+    rw (c.settle.ensures.rows, (c.get_mut.follows.holds new).rows, c.next_timer-timer.ensures) (timed-settled c.ends_dialogue-is_over.result c.args.identifier new c.table.inside.rows c.table.invariant)
 
 pub returns : goal.returns
 returns g c =
     let ps : List TableEntry = entries_of c.table.inside.rows in
     let old = c.in-Some.dialogue.now in
     let new = c.ask_one.new.dialogue in
-    let after = c.keep_spare.new.dialogue in
     let found : lookup (nat_eq c.args.identifier) ps ≡ Some old = search rules in
     let o : Outcome = outcome (table_move (asked c.args.clock c.args.number) old (DialogueEvent.request (request_view c.args.request.now))) in
     rw (← c.table.view_is, found)
-    (settled-spared new c.args.identifier ps c.ends_dialogue-is_over.result after c.keep_spare.ensures c.in_ok-asked.asked o (entries_of c.store_or_remove.new.rows) c.in_ok-asked.ensures.answer c.ends_dialogue-is_over.ensures
-    (rw (c.get_mut.follows.holds after).entries at c.store_or_remove.ensures.entries))
+    (settled-placed new c.args.identifier ps c.ends_dialogue-is_over.result c.in_ok-asked.asked o (entries_of c.settle.new.rows) c.in_ok-asked.ensures.answer c.ends_dialogue-is_over.ensures
+    (rw (c.get_mut.follows.holds new).entries at c.settle.ensures.entries))
