@@ -17,6 +17,7 @@ pub mod OverLemmas
 pub mod PassedLemmas
 pub mod PlaceLemmas
 pub mod QuietLemmas
+pub mod QueuedLemmas
 pub mod ReachedEngine
 pub mod RefusedEngine
 pub mod RoomLemmas

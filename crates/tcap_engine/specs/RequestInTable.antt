@@ -1,5 +1,5 @@
 -- What a table answers to a request on one of its dialogues, beside what the model's table says.
-use Rattle.std.specs.Prelude.{[], ◌≡◌, ℕ, ◌<◌, Bool, false, List, Option, Some, None, Result, Ok, Err, IsTrue}
+use Rattle.std.specs.Prelude.{[], ◌≡◌, ℕ, ◌<◌, Bool, true, false, List, Option, Some, None, Result, Ok, Err, IsTrue}
 use Rattle.ber_core.specs.declared.fault.OutOfMemory.{OutOfMemory}
 use Rattle.tcap_dialogue.specs.declared.dialogue.requests.Asked.{Asked}
 use Rattle.tcap_dialogue.specs.declared.dialogue.requests.Asked.TheVariants as asked
@@ -13,6 +13,7 @@ use Rattle.tcap_model.specs.Table.Dialogue.{Dialogue}
 use Rattle.tcap_model.specs.Words.Answer.{Answer}
 use Rattle.tcap_model.specs.Words.Fault as model
 use Rattle.tcap_model.specs.Words.Identifiers.{last_number}
+use Rattle.tcap_model.specs.Words.Request.{Request, ComponentRequest}
 use Rattle.tcap_engine.specs.DialogueEntries.{TableEntry, entries_with}
 
 -- What was answered (own).
@@ -37,6 +38,17 @@ ends_dialogue (asked.Number number) = false
 ends_dialogue asked.Done = false
 ends_dialogue (asked.GivenUp number) = false
 ends_dialogue (asked.Step step) = step.over
+
+-- Whether a request queues a component and frees no identifier, so that time next changes its dialogue when it did
+-- before (Q.774, Component handling).
+abbrev pub keeps_timer : Request → Bool
+keeps_timer (Request.component (ComponentRequest.invoke id class code parameter linked timeout)) = true
+keeps_timer (Request.component (ComponentRequest.result_last id body)) = true
+keeps_timer (Request.component (ComponentRequest.result_more id body)) = true
+keeps_timer (Request.component (ComponentRequest.error_back id code parameter)) = true
+keeps_timer (Request.component (ComponentRequest.u_reject id problem)) = false
+keeps_timer (Request.component (ComponentRequest.u_cancel id)) = false
+keeps_timer (Request.dialogue request) = false
 
 -- The answer is that of the outcome, and its dialogue is the outcome's in the table then, or is gone
 -- (own).

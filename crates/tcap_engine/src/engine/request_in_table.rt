@@ -6,7 +6,7 @@ ghost use Rattle.tcap_dialogue.specs.AskViews.{Asks};
 ghost use Rattle.tcap_primitives.specs.RequestViews.{request_view};
 ghost use Rattle.tcap_dialogue.specs.StepViews.{asked, outcome};
 ghost use Rattle.tcap_engine.specs.DialogueEntries.{IsWithin};
-ghost use Rattle.tcap_engine.specs.RequestInTable.{AnswersInTable, ends_dialogue};
+ghost use Rattle.tcap_engine.specs.RequestInTable.{AnswersInTable, ends_dialogue, keeps_timer};
 ghost use Rattle.tcap_invocation.specs.Invocations.{AllBelow};
 ghost use Rattle.tcap_invocation.specs.Stage.{moment_limit};
 ghost use Rattle.tcap_model.specs.Table.TableMove.{DialogueEvent, table_move};
@@ -23,6 +23,27 @@ fn ends_dialogue<A: Allocator + Copy>(asked: &Asked<'_, A>) -> bool
     match asked {
         Asked::Number(_) | Asked::Done | Asked::GivenUp(_) => false,
         Asked::Step(step) => step.over,
+    }
+}
+
+/// Whether the next timer of a dialogue is after the request what it was: a component is queued, and no identifier
+/// is freed.
+#[inline(always)]
+fn keeps_timer(request: &Request<'_>) -> bool
+    ensures { result ≡ keeps_timer (request_view request.now) }
+{
+    match request {
+        Request::Invoke { .. }
+        | Request::ResultLast { .. }
+        | Request::ResultMore { .. }
+        | Request::ErrorBack { .. } => true,
+        Request::Reject { .. }
+        | Request::Cancel { .. }
+        | Request::Uni { .. }
+        | Request::Begin { .. }
+        | Request::Continue { .. }
+        | Request::End { .. }
+        | Request::Abort { .. } => false,
     }
 }
 
@@ -79,6 +100,9 @@ pub(super) fn ask_in<'m, A: Allocator + Copy>(
     };
     let spares = &mut table.spares;
     let asked = ask_one(dialogue, spares, reject_ms, clock, number, request)?;
+    if keeps_timer(request) {
+        return Ok(asked);
+    }
     let (is_over, timer) = (ends_dialogue(&asked), dialogue.next_timer());
     settle(
         &mut table.rows,

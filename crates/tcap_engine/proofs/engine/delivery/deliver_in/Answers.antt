@@ -1,7 +1,7 @@
 use Rattle.std.proofs.Common.{rules, ◌≡◌, ◌∙◌, ap, refl, nat_eq, List, Some, Err}
 use Rattle.std.proofs.lemmas.Map.Steps.{set_value_same}
 use Rattle.std.specs.Map.{lookup, set_value}
-use Rattle.tcap_dialogue.specs.declared.dialogue.ask.Asked.TheVariants as asked
+use Rattle.tcap_dialogue.specs.declared.dialogue.requests.Asked.TheVariants as asked
 use Rattle.tcap_dialogue.specs.StepViews.{Outcome, at_clock, outcome}
 use Rattle.tcap_model.specs.Table.TableMove.{DialogueEvent, table_move}
 use Rattle.tcap_pdu.specs.FrameViews.{message}

@@ -1,13 +1,15 @@
-use Rattle.std.proofs.Common.{rules, ◌≡◌, nat_eq, List, Some, Err}
+use Rattle.std.proofs.Common.{rules, ◌≡◌, ◌∙◌, sym, true, nat_eq, List, Some, Err}
 use Rattle.std.specs.Map.{lookup}
 use Rattle.tcap_primitives.specs.RequestViews.{request_view}
 use Rattle.tcap_dialogue.specs.StepViews.{Outcome, asked, outcome}
 use Rattle.tcap_model.specs.Table.TableMove.{DialogueEvent, table_move}
 use Rattle.tcap_primitives.specs.FaultViews.{fault_view}
 use Rattle.tcap_engine.specs.DialogueEntries.{TableEntry}
-use Rattle.tcap_engine.proofs.AskLemmas.{refused-placed, settled-placed}
+use Rattle.tcap_engine.proofs.AskLemmas.{kept-placed, refused-placed, settled-placed}
+use Rattle.tcap_engine.proofs.QueuedLemmas.{timer-asked}
+use Rattle.tcap_engine.specs.RequestInTable.{keeps_timer}
 use Rattle.tcap_dialogue.proofs.CallerLemmas.{refused-same}
-use Rattle.tcap_engine.proofs.TimedLemmas.{timed-still, timed-settled}
+use Rattle.tcap_engine.proofs.TimedLemmas.{timed-alike, timed-still, timed-settled}
 use Rattle.timed_table.specs.Row.{entries_of}
 use Rattle.tcap_engine.proofs.engine.request_in_table.ask_in.Goals as goal
 
@@ -28,6 +30,26 @@ returns-in_err-asked g c =
     let o : Outcome = outcome (table_move (asked c.args.clock c.args.number) old (DialogueEvent.request (request_view c.args.request.now))) in
     let is : c.from_residual.result ≡ Err c.in_err-asked.field-0.0 = search rules in
     rw (← c.table.view_is, is, found, (c.get_mut.follows.holds new).entries) (refused-placed o old new c.args.identifier ps found (fault_view c.in_err-asked.field-0.0) c.in_err-asked.ensures.answer)
+
+pub invariant_of-table-then-keeps_timer : goal.invariant_of-table-then-keeps_timer
+invariant_of-table-then-keeps_timer g c =
+    let old = c.in-Some.dialogue.now in
+    let new = c.ask_one.new.dialogue in
+    let found : lookup (nat_eq c.args.identifier) (entries_of c.table.inside.rows) ≡ Some old = search rules in
+    let keeps : keeps_timer (request_view c.args.request.now) ≡ true = sym c.keeps_timer.ensures ∙ c.if-keeps_timer.true in
+    let alike = timer-asked (asked c.args.clock c.args.number) (request_view c.args.request.now) old new c.in_ok-asked.asked keeps c.in_ok-asked.ensures.answer in
+    rw (c.get_mut.follows.holds new).rows (timed-alike c.args.identifier old new c.table.inside.rows found alike.1 c.table.invariant)
+
+pub returns-then-keeps_timer : goal.returns-then-keeps_timer
+returns-then-keeps_timer g c =
+    let ps : List TableEntry = entries_of c.table.inside.rows in
+    let old = c.in-Some.dialogue.now in
+    let new = c.ask_one.new.dialogue in
+    let found : lookup (nat_eq c.args.identifier) ps ≡ Some old = search rules in
+    let keeps : keeps_timer (request_view c.args.request.now) ≡ true = sym c.keeps_timer.ensures ∙ c.if-keeps_timer.true in
+    let alike = timer-asked (asked c.args.clock c.args.number) (request_view c.args.request.now) old new c.in_ok-asked.asked keeps c.in_ok-asked.ensures.answer in
+    let o : Outcome = outcome (table_move (asked c.args.clock c.args.number) old (DialogueEvent.request (request_view c.args.request.now))) in
+    rw (← c.table.view_is, found, (c.get_mut.follows.holds new).entries) (kept-placed new c.args.identifier ps c.in_ok-asked.asked o c.in_ok-asked.ensures.answer alike.0)
 
 pub invariant_of-table-2 : goal.invariant_of-table-2
 invariant_of-table-2 g c =
