@@ -1,6 +1,6 @@
 -- The engine after a message, or a faulty one, reached one of its dialogues.
 use Rattle.std.proofs.Common.{◌≡◌, ℕ, ◌++◌, true, nat_eq, List, Option, Some, None, Ok, Err, refl, ap, sym, ◌∙◌, subst, arith}
-use Rattle.std.specs.Prelude.{[], IfOk, IsSome, Result}
+use Rattle.std.specs.Prelude.{IfOk, IsSome, Result}
 use Rattle.std.specs.Map.{lookup}
 use Rattle.ber_core.specs.declared.fault.OutOfMemory.{OutOfMemory}
 use Rattle.tcap_dialogue.specs.StepViews.{asked, at_clock, outcome}
@@ -98,47 +98,26 @@ module _ (limits : Limits) (next_dialogue number clock d : ℕ) (ps : List Table
   reached-some x sent told qs found p =
       subst (λ (v : EngineMoved). Moves v (Answer.outputs (sent ++ told)) (engine_of qs)) (sym (move-of sent x found)) (reached-engine x sent told qs found p)
 
-  -- The same, whether it stands or not.
-  pub reached-ok : {T : Type 0} (view : T → List Output) (outputs : T) (qs : List TableEntry)
-      → DeliversInTable (λ (t : T). Answer.outputs (view t)) (Ok outputs) (λ x. outcome (move x)) d (lookup (nat_eq d) ps) ps qs
-      → Moves (reached_in (engine_of ps) d [] event (dialogue_in d (dialogues_of ps))) (Answer.outputs (view outputs)) (engine_of qs)
-  reached-ok {T} view outputs qs h = go (lookup (nat_eq d) ps) refl h
-    where
-      go : (o : Option Dialogue) → lookup (nat_eq d) ps ≡ o → DeliversInTable (λ (t : T). Answer.outputs (view t)) (Ok outputs) (λ x. outcome (move x)) d o ps qs
-          → Moves (reached_in (engine_of ps) d [] event (dialogue_in d (dialogues_of ps))) (Answer.outputs (view outputs)) (engine_of qs)
-      go None e p =
-          let absent : dialogue_in d (dialogues_of ps) ≡ None = found-in d 0 ps sound.from ∙ e in
-          subst (λ (o : Option Dialogue). Moves (reached_in (engine_of ps) d [] event o) (Answer.outputs (view outputs)) (engine_of qs)) (sym absent) (p.0, ap engine_of p.1)
-      go (Some x) e p = reached-some x [] (view outputs) qs e p
-
   pub sound-reached : {T : Type 0} (view : T → List Output) (result : Result T OutOfMemory) (qs : List TableEntry)
       → DeliversInTable (λ (t : T). Answer.outputs (view t)) result (λ x. outcome (move x)) d (lookup (nat_eq d) ps) ps qs → IsSound limits next_dialogue number clock qs
   sound-reached {T} view (Err f) qs h = subst (λ (qs : List TableEntry). IsSound limits next_dialogue number clock qs) (sym h) sound
   sound-reached {T} view (Ok outputs) qs h = go (lookup (nat_eq d) ps) refl h
     where
       go : (o : Option Dialogue) → lookup (nat_eq d) ps ≡ o → DeliversInTable (λ (t : T). Answer.outputs (view t)) (Ok outputs) (λ x. outcome (move x)) d o ps qs → IsSound limits next_dialogue number clock qs
-      go None e p = subst (λ (qs : List TableEntry). IsSound limits next_dialogue number clock qs) (sym p.1) sound
+      go None e p = absurd p
       go (Some x) e p = reached-sound x (view outputs) qs e p
 
-  -- What was told, if memory wasn't refused.
-  pub reached-if : {T : Type 0} (view : T → List Output) (result : Result T OutOfMemory) (qs : List TableEntry)
-      → DeliversInTable (λ (t : T). Answer.outputs (view t)) result (λ x. outcome (move x)) d (lookup (nat_eq d) ps) ps qs
-      → IfOk result (λ t. Moves (reached_in (engine_of ps) d [] event (dialogue_in d (dialogues_of ps))) (Answer.outputs (view t)) (engine_of qs))
-  reached-if {T} view (Ok t) qs h = reached-ok view t qs h
-  reached-if {T} view (Err f) qs h = tt
-
-  -- The same of a dialogue that stands, where something is sent first.
+  -- What was told, if memory wasn't refused, behind what is sent first.
   pub reached-sending : {T : Type 0} (view : T → List Output) (sent : List Output) (result : Result T OutOfMemory) (qs : List TableEntry)
-      → IsSome (lookup (nat_eq d) ps)
       → DeliversInTable (λ (t : T). Answer.outputs (view t)) result (λ x. outcome (move x)) d (lookup (nat_eq d) ps) ps qs
       → IfOk result (λ t. Moves (reached_in (engine_of ps) d sent event (dialogue_in d (dialogues_of ps))) (Answer.outputs (sent ++ view t)) (engine_of qs))
-  reached-sending {T} view sent (Err f) qs there h = tt
-  reached-sending {T} view sent (Ok t) qs there h = go (lookup (nat_eq d) ps) refl there h
+  reached-sending {T} view sent (Err f) qs h = tt
+  reached-sending {T} view sent (Ok t) qs h = go (lookup (nat_eq d) ps) refl h
     where
-      go : (o : Option Dialogue) → lookup (nat_eq d) ps ≡ o → IsSome o → DeliversInTable (λ (t : T). Answer.outputs (view t)) (Ok t) (λ x. outcome (move x)) d o ps qs
+      go : (o : Option Dialogue) → lookup (nat_eq d) ps ≡ o → DeliversInTable (λ (t : T). Answer.outputs (view t)) (Ok t) (λ x. outcome (move x)) d o ps qs
           → Moves (reached_in (engine_of ps) d sent event (dialogue_in d (dialogues_of ps))) (Answer.outputs (sent ++ view t)) (engine_of qs)
-      go None e missing p = absurd cc
-      go (Some x) e there p = reached-some x sent (view t) qs e p
+      go None e p = absurd p
+      go (Some x) e p = reached-some x sent (view t) qs e p
 
 -- A dialogue that is live stands.
 pub live-found : (d : ℕ) (ps : List TableEntry) → AreFrom 0 ps → is_live_in (dialogues_of ps) d ≡ true → IsSome (lookup (nat_eq d) ps)

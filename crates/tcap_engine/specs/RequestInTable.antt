@@ -1,5 +1,5 @@
 -- What a table answers to a request on one of its dialogues, beside what the model's table says.
-use Rattle.std.specs.Prelude.{[], ◌≡◌, ℕ, ◌<◌, Bool, true, false, List, Option, Some, None, Result, Ok, Err, IsTrue}
+use Rattle.std.specs.Prelude.{◌≡◌, ℕ, ◌<◌, Bool, true, false, List, Option, Some, None, Result, Ok, Err, IsTrue}
 use Rattle.ber_core.specs.declared.fault.OutOfMemory.{OutOfMemory}
 use Rattle.tcap_dialogue.specs.declared.dialogue.requests.Asked.{Asked}
 use Rattle.tcap_dialogue.specs.declared.dialogue.requests.Asked.TheVariants as asked
@@ -73,9 +73,9 @@ abbrev pub AnswersInTable : {A : Type 0} → Result (Asked A) Fault → (Dialogu
 AnswersInTable result says d None old new = (result ≡ Err fault.UnknownDialogue) × (new ≡ old)
 AnswersInTable result says d (Some dialogue) old new = EntriesAnswer result (says dialogue) d old new
 
--- What a table gives where a message reaches one of its dialogues, if that stands; where none stands
--- nothing is told and nothing changes; where memory was refused nothing changes either (own).
+-- What a table gives where a message reaches one of its dialogues, which stands; where memory was refused
+-- nothing changes (own).
 abbrev pub DeliversInTable : {T : Type 0} → (T → Answer) → Result T OutOfMemory → (Dialogue → Outcome) → ℕ → Option Dialogue → List TableEntry → List TableEntry → Type 0
 DeliversInTable view (Err refused) says d dialogue old new = new ≡ old
-DeliversInTable view (Ok outputs) says d None old new = (view outputs ≡ Answer.outputs []) × (new ≡ old)
+DeliversInTable view (Ok outputs) says d None old new = ⊥
 DeliversInTable view (Ok outputs) says d (Some dialogue) old new = EntriesMove (says dialogue) d (view outputs) old new

@@ -27,8 +27,7 @@ pub returns-in-None-clause-ok : goal.returns-in-None-clause-ok
 returns-in-None-clause-ok g c =
     let s = c.self.inside in
     let cause = fault_cause c.args.fault in
-    let live : is_live_in (dialogues_of s.table) c.args.identifier ≡ true = ap (λ (w : World). is_live_in w.dialogues c.args.identifier) c.self.view_is ∙ c.requires in
     rw (c.in-None.is, ← c.self.view_is)
     (reached-sending s.limits s.next_dialogue s.next_number s.clock c.args.identifier s.table c.self.invariant (DialogueEvent.fault cause)
     (λ x. table_move (at_clock 0) x (DialogueEvent.fault cause)) (λ x. fault-alike s.clock s.next_number x cause) (λ x h. kept-fault s.limits.reject_ms s.next_number x cause h)
-    (λ os. all_shown os.items) [] c.abort_in.result c.abort_in.new.table (live-found c.args.identifier s.table c.self.invariant.from live) c.abort_in.ensures.reached)
+    (λ os. all_shown os.items) [] c.abort_in.result c.abort_in.new.table c.abort_in.ensures.reached)

@@ -29,11 +29,10 @@ pub returns-clause-ok : goal.returns-clause-ok
 returns-clause-ok g c =
     let s = c.self.inside in
     let cause = fault_cause c.args.fault in
-    let live : is_live_in (dialogues_of s.table) c.args.identifier ≡ true = ap (λ (w : World). is_live_in w.dialogues c.args.identifier) c.self.view_is ∙ c.requires in
     let abort : Output = message_sent c.args.from.now (abort_with cause c.args.peer) in
     let front : all_shown c.insert.new.self.items ≡ abort ∷ all_shown c.in_ok-outputs.outputs.items = search rules in
     let all = reached-sending s.limits s.next_dialogue s.next_number s.clock c.args.identifier s.table c.self.invariant (DialogueEvent.fault cause)
     (λ x. table_move (at_clock 0) x (DialogueEvent.fault cause)) (λ x. fault-alike s.clock s.next_number x cause) (λ x h. kept-fault s.limits.reject_ms s.next_number x cause h)
-    (λ os. all_shown os.items) (abort ∷ []) c.abort_in.result c.abort_in.new.table (live-found c.args.identifier s.table c.self.invariant.from live) c.abort_in.ensures.reached in
+    (λ os. all_shown os.items) (abort ∷ []) c.abort_in.result c.abort_in.new.table c.abort_in.ensures.reached in
     let told = rw c.in_ok-outputs.was at all in
     rw (← c.self.view_is) (ap (λ (os : List Output). Answer.outputs os) front ∙ told.0, told.1)

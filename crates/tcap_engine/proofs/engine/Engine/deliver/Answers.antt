@@ -1,4 +1,4 @@
-use Rattle.std.proofs.Common.{◌≡◌, ◌∙◌, ap, true}
+use Rattle.std.proofs.Common.{◌≡◌, ◌∙◌, ap, true, []}
 use Rattle.tcap_engine.specs.DialogueEntries.{dialogues_of}
 use Rattle.tcap_model.specs.Table.EngineMove.{is_live_in}
 use Rattle.tcap_model.specs.Table.World.{World}
@@ -6,7 +6,7 @@ use Rattle.tcap_primitives.specs.OutputViews.{all_shown}
 use Rattle.tcap_dialogue.specs.StepViews.{at_clock}
 use Rattle.tcap_model.specs.Table.TableMove.{DialogueEvent, table_move}
 use Rattle.tcap_pdu.specs.FrameViews.{message}
-use Rattle.tcap_engine.proofs.ReachedEngine.{framed-alike, kept-frame, live-found, sound-reached, reached-if}
+use Rattle.tcap_engine.proofs.ReachedEngine.{framed-alike, kept-frame, live-found, sound-reached, reached-sending}
 use Rattle.tcap_engine.proofs.engine.Engine.deliver.Goals as goal
 
 pub deliver_in-requires-clause-stands : goal.deliver_in-requires-clause-stands
@@ -28,6 +28,6 @@ returns-clause-ok g c =
     let s = c.self.inside in
     let m = message c.args.frame.now in
     rw (← c.self.view_is)
-    (reached-if s.limits s.next_dialogue s.next_number s.clock c.args.identifier s.table c.self.invariant (DialogueEvent.frame c.args.from.now m)
+    (reached-sending s.limits s.next_dialogue s.next_number s.clock c.args.identifier s.table c.self.invariant (DialogueEvent.frame c.args.from.now m)
     (λ x. table_move (at_clock s.clock) x (DialogueEvent.frame c.args.from.now m)) (λ x. framed-alike s.clock s.next_number x c.args.from.now m) (λ x h. kept-frame s.limits.reject_ms s.next_number s.clock x c.args.from.now m h)
-    (λ os. all_shown os.items) c.deliver_in.result c.deliver_in.new.table c.deliver_in.ensures)
+    (λ os. all_shown os.items) [] c.deliver_in.result c.deliver_in.new.table c.deliver_in.ensures)
