@@ -92,6 +92,7 @@ impl<A: Allocator + Copy> Dialogues<A> {
 
     /// Takes in a dialogue that has no timer yet, under an identifier above all others. All memory that its
     /// place will need is taken here.
+    // As `Table::insert`: a dialogue is 192 octets.
     #[inline(always)]
     pub(crate) fn insert(
         &mut self,

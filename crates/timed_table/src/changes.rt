@@ -12,7 +12,6 @@ use std::alloc::{AllocError, AllocFailed, Allocator};
 use timer_queue::{Timer, TimerQueue};
 
 /// The timer that stands for a time.
-#[inline(always)]
 pub(crate) fn timer_named(id: u32, time: Option<u64>) -> Option<Timer>
     ensures { result ≡ timer_named id time }
 {
@@ -52,6 +51,7 @@ fn make_room<T: Drop, A: Allocator + Copy>(
 }
 
 /// Puts a row behind the others.
+// In `Table::insert`, for the same reason.
 #[inline(always)]
 pub(crate) fn insert_row<T: Drop, A: Allocator + Copy>(
     values: &mut Slab<T, A>,
@@ -83,6 +83,7 @@ pub(crate) fn insert_row<T: Drop, A: Allocator + Copy>(
 }
 
 /// Takes out the row of an identifier.
+// In `Table::remove`, for the same reason.
 #[inline(always)]
 pub(crate) fn remove_row<T: Drop, A: Allocator + Copy>(
     values: &mut Slab<T, A>,
@@ -102,7 +103,6 @@ pub(crate) fn remove_row<T: Drop, A: Allocator + Copy>(
 }
 
 /// Writes the time of an identifier, if it has a row.
-#[inline(always)]
 pub(crate) fn time_row<T: Drop, A: Allocator + Copy>(
     values: &Slab<T, A>,
     keys: &mut Keys<A>,

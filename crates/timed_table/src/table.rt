@@ -100,6 +100,7 @@ impl<T: Drop, A: Allocator + Copy> Table<T, A> {
 
     /// Puts a value and its time, if it has one, behind the others. All memory that the row will need is taken
     /// here; an `Err` has the value back.
+    // In its callers, with all that it calls: each call on a value's way copied it whole and cleared where it had been.
     #[inline(always)]
     pub fn insert(&mut self, id: u32, value: T, time: Option<u64>) -> Result<(), AllocFailed<T>>
         requires { AllBelow id self.old }
@@ -119,6 +120,7 @@ impl<T: Drop, A: Allocator + Copy> Table<T, A> {
     }
 
     /// Takes out the row of an identifier, and answers its value; takes no memory.
+    // In its callers, with all that it calls: each call on a value's way copied it whole and cleared where it had been.
     #[inline(always)]
     pub fn remove(&mut self, id: u32) -> Option<T>
         ensures value { result ≡ lookup (nat_eq id) (entries_of self.old) }
@@ -129,7 +131,6 @@ impl<T: Drop, A: Allocator + Copy> Table<T, A> {
     }
 
     /// Writes the time beside the value of an identifier, if there is one; takes no memory.
-    #[inline(always)]
     pub fn set_time(&mut self, id: u32, time: Option<u64>)
         ensures rows { self.new ≡ with_time id time self.old }
         ensures entries { entries_of self.new ≡ entries_of self.old }

@@ -16,7 +16,6 @@ use std::alloc::Allocator;
 use tcap_dialogue::{Asked, Dialogue, Fault, Request, Spares};
 
 /// Whether the dialogue is over.
-#[inline(always)]
 fn ends_dialogue<A: Allocator + Copy>(asked: &Asked<'_, A>) -> bool
     ensures { result ≡ ends_dialogue asked.now }
 {
@@ -28,7 +27,6 @@ fn ends_dialogue<A: Allocator + Copy>(asked: &Asked<'_, A>) -> bool
 
 /// Whether the next timer of a dialogue is after the request what it was: a component is queued, and no identifier
 /// is freed.
-#[inline(always)]
 fn keeps_timer(request: &Request<'_>) -> bool
     ensures { result ≡ keeps_timer (request_view request.now) }
 {
@@ -48,6 +46,7 @@ fn keeps_timer(request: &Request<'_>) -> bool
 }
 
 /// Any request on a dialogue, where `number` is what an Invoke gets; the greatest one is never drawn.
+// A part of `ask_in`, for the same reason.
 #[inline(always)]
 fn ask_one<'m, A: Allocator + Copy>(
     dialogue: &mut Dialogue<A>,
@@ -80,6 +79,7 @@ fn ask_one<'m, A: Allocator + Copy>(
 }
 
 /// A request on the dialogue of an identifier, which is taken out where it is over.
+// Each named call of the engine has its own copy, in which the request is known and the match on it folds away.
 #[inline(always)]
 pub(super) fn ask_in<'m, A: Allocator + Copy>(
     table: &mut Dialogues<A>,
