@@ -50,7 +50,6 @@ impl<A: Allocator + Copy> Engine<A> {
     }
 
     /// A Begin creates a dialogue: what is told (Q.774, Dialogue begin).
-    #[tactic(auto, using(crate::proofs::BeginLemmas::kept_born, crate::proofs::BeginLemmas::untimed_born))]
     pub(super) fn accept_begin<'m>(
         &mut self,
         from: &Address,

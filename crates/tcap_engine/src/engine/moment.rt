@@ -77,9 +77,7 @@ fn expire_first<A: Allocator + Copy>(
     requires late { now ≤ moment_limit }
     ensures { IsExpired now identifier result table.old table.new }
 {
-    let Some(dialogue) = table.rows.get_mut(identifier) else {
-        return Expiry::Freed;
-    };
+    let dialogue = table.rows.get_mut(identifier).unwrap();
     let passed = expire_in(dialogue, now, time);
     let timer = dialogue.next_timer();
     table.rows.set_time(identifier, timer);

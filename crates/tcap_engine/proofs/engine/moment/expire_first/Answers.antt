@@ -11,18 +11,18 @@ pub expire_in-passed-requires-clause-timer : goal.expire_in-passed-requires-clau
 expire_in-passed-requires-clause-timer g c =
     let ps : List TableEntry = entries_of c.table.inside.rows in
     let first : IsFirstTimer ps (c.args.time, c.args.identifier) = rw (← c.table.view_is) at c.requires.first in
-    let found : lookup (nat_eq c.args.identifier) ps ≡ Some c.in-Some.dialogue.now = search rules in
-    same-first ps c.args.time c.args.identifier c.in-Some.dialogue.now first found
+    let found : lookup (nat_eq c.args.identifier) ps ≡ Some c.unwrap-dialogue.result.now = search rules in
+    same-first ps c.args.time c.args.identifier c.unwrap-dialogue.result.now first found
 
-pub invariant_of-table-2 : goal.invariant_of-table-2
-invariant_of-table-2 g c =
+pub invariant_of-table : goal.invariant_of-table
+invariant_of-table g c =
     let new = c.expire_in-passed.new.dialogue in
     rw (c.set_time.ensures.rows, (c.get_mut.follows.holds new).rows, c.next_timer-timer.ensures) (timed-set c.args.identifier new c.table.inside.rows c.table.invariant)
 
 pub returns : goal.returns
 returns g c =
     let ps : List TableEntry = entries_of c.table.inside.rows in
-    let old = c.in-Some.dialogue.now in
+    let old = c.unwrap-dialogue.result.now in
     let new = c.expire_in-passed.new.dialogue in
     let first : IsFirstTimer ps (c.args.time, c.args.identifier) = rw (← c.table.view_is) at c.requires.first in
     let from = rw (← c.table.view_is) at c.requires.from in
