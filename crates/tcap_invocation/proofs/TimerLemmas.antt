@@ -1,5 +1,5 @@
 -- The order of timers, and what is due of timers in order.
-use Rattle.std.proofs.Common.{◌≡◌, ℕ, zero, suc, ◌<◌, ◌≤◌, Bool, true, false, cond, List, [], ◌∷◌, ◌++◌, ◌-◌, length, slice_index_or, remove, take, filter, Option, Some, None, refl, ap, sym, subst, arith, tests, nat_lt, nat_le, ◌&&◌}
+use Rattle.std.proofs.Common.{◌≡◌, ℕ, zero, suc, ◌<◌, ◌≤◌, Bool, true, false, cond, List, [], ◌∷◌, ◌++◌, ◌-◌, length, slice_index_or, remove, take, filter, Option, Some, None, refl, ap, sym, ◌∙◌, subst, arith, tests, nat_lt, nat_le, ◌&&◌}
 use Rattle.std.specs.Prelude.{filter_map}
 use Rattle.std.specs.List.{cons_option}
 use Rattle.std.specs.List.Sorted.{IsPartitionedBy}
@@ -47,6 +47,19 @@ IsInOrder-tail t ts o = in_order-fixed is_earlier ts (ordered (t ∷ ts) o).1
 
 pub IsPartitionedBy-timer : (ts : List Timer) (t : Timer) → IsInOrder ts → IsPartitionedBy (λ y. is_earlier y t) ts
 IsPartitionedBy-timer ts t o = IsPartitionedBy-before is_earlier earlier_once not_earlier ts t (ordered ts o)
+
+-- Where the first isn't earlier, none is.
+pub none-earlier : (ts : List Timer) (t first : Timer) → IsInOrder ts → first ≡ slice_index_or ts 0 first → is_earlier first t ≡ false
+    → (k : ℕ) (d : Timer) → k < length ts → is_earlier (slice_index_or ts k d) t ≡ false
+none-earlier [] t first o is late k d high = absurd (omega (arith, high))
+none-earlier (x ∷ xs) t first o is late k d high = go (is_earlier (slice_index_or (x ∷ xs) k d) t) refl
+  where
+    go : (b : Bool) → is_earlier (slice_index_or (x ∷ xs) k d) t ≡ b → is_earlier (slice_index_or (x ∷ xs) k d) t ≡ false
+    go false e = e
+    go true e =
+        let head : is_earlier x t ≡ true = IsPartitionedBy-timer (x ∷ xs) t o 0 k d (omega arith) high e in
+        let none : is_earlier x t ≡ false = subst (λ (y : Timer). is_earlier y t ≡ false) is late in
+        let both : false ≡ true = sym none ∙ head in absurd cc
 
 -- ---- what is due
 

@@ -1,6 +1,6 @@
 //! The invocations of one dialogue (Q.774, Invocation state machine).
 
-ghost use Rattle.std.specs.Prelude.{◌≡◌, ◌↔◌, ◌≤◌, min, length, [], is_some, IsSome, IfSome, IfNone, OnOk, OnErr, IsErrOf, IsOkUnless, IsTrue, Err};
+ghost use Rattle.std.specs.Prelude.{◌≡◌, ◌↔◌, ◌≤◌, min, length, [], None, is_some, IsSome, IfSome, IfNone, OnOk, OnErr, IsErrOf, IsOkUnless, IsTrue, Err};
 ghost use Rattle.tcap_invocation.specs.Invocations.{InvocationList, AllBelow, IsSound, entry_at, sent_at, add_fault, added, after_sent};
 ghost use Rattle.tcap_invocation.specs.Stage.{moment_limit, IsTimeout};
 ghost use Rattle.tcap_invocation.specs.Timers.{next_timer_at};
@@ -36,7 +36,7 @@ const IDENTIFIERS: usize = 256;
 
 /// The invocations of one dialogue (Q.774, Invocation state machine), by rising number.
 ///
-/// - Requests of the TC-user and of the dialogue: `add`, `sent`, `give_up`, `free_wait`, `close_all`, or
+/// - Requests of the TC-user and of the dialogue: `add`, `add_free`, `sent`, `give_up`, `free_wait`, `close_all`, or
 ///   one by one `open_count` and `close_one`; `renew` for the next dialogue.
 /// - Answers that were received: `on_result`, `on_error`, `on_reject`.
 /// - Time: `lapse`, or one by one `due_count`, `first_due`, `lapse_one` and `free_due`; `next_timer` tells
@@ -140,15 +140,32 @@ impl<A: Allocator + Copy> Invocations<A> {
         if self.rows.get(&id).is_some() {
             return Err(AddFault::InUse);
         }
+        match self.add_free(id, number, class, timeout) {
+            Ok(()) => Ok(()),
+            Err(AllocError) => Err(AddFault::OutOfMemory),
+        }
+    }
+
+    /// `add`, where the timeout is in its range and the identifier is free.
+    // Who has judged an Invoke doesn't have its identifier looked for again.
+    pub fn add_free(
+        &mut self,
+        id: i8,
+        number: u64,
+        class: Class,
+        timeout: u64,
+    ) -> Result<(), AllocError>
+        requires above { AllBelow number self.old.rows }
+        requires free { add_fault self.old.rows id timeout ≡ None }
+        ensures ok { OnOk result (self.new ≡ added self.old id number class timeout) }
+        ensures err { OnErr result (self.new ≡ self.old) }
+    {
         let entry = Invocation {
             number,
             class,
             stage: Stage::Queued(timeout),
         };
-        match self.rows.push(id, entry) {
-            Ok(()) => Ok(()),
-            Err(AllocError) => Err(AddFault::OutOfMemory),
-        }
+        self.rows.push(id, entry)
     }
 
     /// The message with the queued Invokes goes out at this moment, at most 2^62: each gets its deadline.

@@ -63,6 +63,13 @@ fn place_of<A: Allocator + Copy>(timers: &VecDeque<Timer, A>, timer: Timer) -> u
     ensures bound { result ≤ length timers.now.items }
     ensures place { IsPlace timer timers.now.items result }
 {
+    // The first is mostly the one that is taken out: it is found by a comparison.
+    let Some(first) = timers.front() else {
+        return 0;
+    };
+    if !is_earlier(*first, timer) {
+        return 0;
+    }
     timers.partition_point(
         |other: &Timer| -> bool
             ensures { result ≡ is_earlier other.now timer }
