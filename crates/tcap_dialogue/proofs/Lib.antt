@@ -1,9 +1,10 @@
 pub mod CallerLemmas
-pub mod ComponentRequestLemmas
-pub mod ControlLemmas
+pub mod DialogueRequestLemmas
+pub mod InvokeLemmas
 pub mod ItemLemmas
 pub mod PlaceLemmas
 pub mod PortionNames
 pub mod RefusalLemmas
+pub mod ResultLemmas
 pub mod SpareLemmas
 pub mod WalkLemmas

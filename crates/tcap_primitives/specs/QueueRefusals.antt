@@ -14,12 +14,6 @@ written_fault write.BadParameter = Fault.bad_parameter
 written_fault write.BadOid = Fault.bad_oid
 written_fault write.TooLong = Fault.too_long
 
--- Why the code or the parameter of a component can't be written, if so (own).
-abbrev pub spelling_fault : ComponentParts → Option Fault
-spelling_fault c =
-    if has_code (coded_part c) then (if has_parameter (coded_part c) then None else Some Fault.bad_parameter)
-    else Some Fault.bad_oid
-
 -- Why a component doesn't come into a queue: it can't be written, or it doesn't fit (own).
 abbrev pub queue_fault : List Queued → ComponentParts → Option Fault
 queue_fault queue c =

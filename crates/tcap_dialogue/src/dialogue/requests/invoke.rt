@@ -95,7 +95,8 @@ impl<A: Allocator + Copy> Dialogue<A> {
         timeout_ms: u64,
     ) -> Option<Fault>
         ensures { (number : ℕ) (class : Class) (linked : Option ℤ) →
-            let r = Request.component (invoke id class (code_parts code.entry) (option_copied parameter.entry) linked timeout_ms) in
+            let r = Request.component
+            (invoke id class (code_parts code.entry) (option_copied parameter.entry) linked timeout_ms) in
             option_map fault_view result ≡ invoke_fault (situation (asked 0 number) self.now r) r }
     {
         let component = Component::Invoke {

@@ -106,7 +106,8 @@ impl<A: Allocator + Copy> Dialogue<A> {
     /// The octets of the Unidirectional, or the first due fault of its request.
     fn uni_octets(&self, request: &UniRequest<'_>) -> Result<Vec<u8, A>, Fault>
         ensures ok { let r = Request.dialogue (uni_view request.now) in IfOk result (λ v.
-            Spells (Some v) (message_of self.now.standing r) × (due_on (situation (asked 0 0) self.now r) r ≡ None)) }
+            Spells (Some v) (message_of self.now.standing r)
+            × (due_on (situation (asked 0 0) self.now r) r ≡ None)) }
         ensures err { let r = Request.dialogue (uni_view request.now) in IfErr result (λ f.
             IsRefusal f (message_of self.now.standing r) (due_on (situation (asked 0 0) self.now r) r)) }
     {
@@ -169,7 +170,8 @@ impl<A: Allocator + Copy> Dialogue<A> {
     /// The octets of the Begin, or the first due fault of its request.
     fn begin_octets(&self, request: &BeginRequest<'_>) -> Result<Vec<u8, A>, Fault>
         ensures ok { let r = Request.dialogue (begin_view request.now) in IfOk result (λ v.
-            Spells (Some v) (message_of self.now.standing r) × (due_on (situation (asked 0 0) self.now r) r ≡ None)) }
+            Spells (Some v) (message_of self.now.standing r)
+            × (due_on (situation (asked 0 0) self.now r) r ≡ None)) }
         ensures named { OnOk result (can_name (option_copied request.now.context) ≡ true) }
         ensures err { let r = Request.dialogue (begin_view request.now) in IfErr result (λ f.
             IsRefusal f (message_of self.now.standing r) (due_on (situation (asked 0 0) self.now r) r)) }

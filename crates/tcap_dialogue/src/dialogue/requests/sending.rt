@@ -101,7 +101,8 @@ impl<A: Allocator + Copy> Dialogue<A> {
     // knows which message it sends: in its own copy the match on that folds away, here and below.
     #[inline(always)]
     pub(super) fn spelled(&self, sending: &Sending<'_>) -> Result<Vec<u8, A>, Fault>
-        requires { IfSome sending.now.pdu (λ p. HasDiagnostic (pdu_value p) × (content_fault (pdu_value p) ≡ None)) }
+        requires { IfSome sending.now.pdu
+            (λ p. HasDiagnostic (pdu_value p) × (content_fault (pdu_value p) ≡ None)) }
         ensures ok { let m = Some (sending_view sending.now) in
             IfOk result (λ v. Spells (Some v) m × (passes_message m ≡ false)) }
         ensures err { IfErr result (λ f. IsUnspelled f (Some (sending_view sending.now))) }

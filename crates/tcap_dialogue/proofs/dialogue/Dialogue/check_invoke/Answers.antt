@@ -1,12 +1,11 @@
 use Rattle.std.proofs.Common.{◌≡◌, ◌∙◌, None, Some, ap, option_copied, rules}
 use Rattle.tcap_component.specs.Component.{ComponentParts}
 use Rattle.tcap_component.specs.Views.{code_parts}
-use Rattle.tcap_model.specs.Words.Fault as model
 use Rattle.tcap_primitives.specs.FaultViews.{fault_view}
 use Rattle.tcap_primitives.specs.declared.fault.Fault.{Fault}
 use Rattle.tcap_primitives.specs.declared.fault.Fault.TheVariants as fault
 use Rattle.tcap_dialogue.specs.ComponentRefusals.{invoke_refusal}
-use Rattle.tcap_dialogue.proofs.ComponentRequestLemmas.{check-fault, check-none, check-room, long-only}
+use Rattle.tcap_dialogue.proofs.InvokeLemmas.{check-fault, check-none, check-room, long-only}
 use Rattle.tcap_dialogue.proofs.dialogue.Dialogue.check_invoke.Goals as goal
 
 pub returns-in-Ok : goal.returns-in-Ok

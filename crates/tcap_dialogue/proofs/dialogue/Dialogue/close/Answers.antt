@@ -4,7 +4,7 @@ use Rattle.tcap_invocation.specs.Closing.{ended_at}
 use Rattle.tcap_model.specs.Table.Dialogue.{Dialogue}
 use Rattle.tcap_model.specs.Table.TableMove.{ended_told}
 use Rattle.tcap_dialogue.specs.RequestMessages.{address_for}
-use Rattle.tcap_dialogue.proofs.ControlLemmas.{memory-told}
+use Rattle.tcap_dialogue.proofs.DialogueRequestLemmas.{memory-told}
 use Rattle.tcap_dialogue.proofs.dialogue.Dialogue.close.Goals as goal
 
 pub returns-in_err-outputs-clause-memory : goal.returns-in_err-outputs-clause-memory

@@ -5,7 +5,7 @@ use Rattle.tcap_primitives.specs.RequestViews.{end_view}
 use Rattle.tcap_primitives.specs.SendingViews.{sending_view}
 use Rattle.tcap_dialogue.specs.RequestMessages.{Spells}
 use Rattle.tcap_dialogue.specs.StepViews.{asked}
-use Rattle.tcap_dialogue.proofs.ControlLemmas.{early-due, spelled-due, unspelled-due}
+use Rattle.tcap_dialogue.proofs.DialogueRequestLemmas.{early-due, spelled-due, unspelled-due}
 use Rattle.tcap_dialogue.proofs.dialogue.Dialogue.end_octets.Goals as goal
 
 pub returns-in-Some-clause-err : goal.returns-in-Some-clause-err

@@ -1,11 +1,11 @@
-use Rattle.std.proofs.Common.{◌≡◌, ◌≢◌, ◌&&◌, ◌∙◌, Bool, Option, Some, None, true, false, is_some, nat_lt, nat_le, refl, sym, ap, subst, OnOk, IfErr, rules, if◌then◌else◌}
+use Rattle.std.proofs.Common.{◌≡◌, ◌&&◌, ◌∙◌, Bool, Option, Some, None, true, false, is_some, nat_lt, nat_le, refl, sym, ap, subst, OnOk, IfErr, rules, if◌then◌else◌}
 use Rattle.tcap_component.specs.Views.{component_parts}
 use Rattle.tcap_invocation.specs.Invocations.{entry_at}
 use Rattle.tcap_invocation.specs.Stage.{moment_limit}
 use Rattle.tcap_model.specs.Words.Fault.{Fault}
 use Rattle.tcap_primitives.specs.FaultViews.{fault_view}
 use Rattle.tcap_primitives.specs.QueueRefusals.{queue_fault}
-use Rattle.tcap_dialogue.proofs.ComponentRequestLemmas.{IsLong, free, held, misspelled, spelled}
+use Rattle.tcap_dialogue.proofs.InvokeLemmas.{IsLong, free, held, misspelled, spelled}
 use Rattle.tcap_dialogue.proofs.dialogue.Dialogue.judge_invoke.Goals as goal
 
 pub returns-then-not-is_spelled-clause-err : goal.returns-then-not-is_spelled-clause-err

@@ -2,7 +2,7 @@ use Rattle.std.proofs.Common.{sym}
 use Rattle.std.proofs.lemmas.Result.{err_from_is_err_and}
 use Rattle.tcap_component.specs.Views.{component_parts}
 use Rattle.tcap_primitives.specs.FaultViews.{fault_view}
-use Rattle.tcap_dialogue.proofs.ComponentRequestLemmas.{answer-refused}
+use Rattle.tcap_dialogue.proofs.ResultLemmas.{answer-refused}
 use Rattle.tcap_dialogue.proofs.dialogue.Dialogue.queue_answer.Goals as goal
 
 pub returns-in_err-len-clause-answer : goal.returns-in_err-len-clause-answer

@@ -1,6 +1,6 @@
 use Rattle.std.proofs.Common.{rules, option_copied}
 use Rattle.tcap_component.specs.Views.{code_parts}
-use Rattle.tcap_dialogue.proofs.ComponentRequestLemmas.{error-answered}
+use Rattle.tcap_dialogue.proofs.ResultLemmas.{error-answered}
 use Rattle.tcap_dialogue.proofs.dialogue.Dialogue.queue_error.Goals as goal
 
 pub returns-clause-answer : goal.returns-clause-answer

@@ -7,7 +7,7 @@ use Rattle.tcap_model.specs.Table.TableMove.{situation}
 use Rattle.tcap_primitives.specs.FaultViews.{fault_view}
 use Rattle.tcap_dialogue.specs.ComponentRefusals.{invoke_refusal}
 use Rattle.tcap_dialogue.specs.StepViews.{asked}
-use Rattle.tcap_dialogue.proofs.ComponentRequestLemmas.{invoking, invoke-due, invoke-wants}
+use Rattle.tcap_dialogue.proofs.InvokeLemmas.{invoking, invoke-due, invoke-wants}
 use Rattle.tcap_dialogue.proofs.RefusalLemmas.{due-refused}
 use Rattle.tcap_dialogue.proofs.dialogue.Dialogue.queue_invoke.Goals as goal
 

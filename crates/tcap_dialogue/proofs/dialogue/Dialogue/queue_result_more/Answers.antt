@@ -1,7 +1,7 @@
 use Rattle.std.proofs.Common.{rules}
 use Rattle.std.specs.Option.{option_map}
 use Rattle.tcap_component.specs.Views.{body_parts}
-use Rattle.tcap_dialogue.proofs.ComponentRequestLemmas.{more-answered}
+use Rattle.tcap_dialogue.proofs.ResultLemmas.{more-answered}
 use Rattle.tcap_dialogue.proofs.dialogue.Dialogue.queue_result_more.Goals as goal
 
 pub returns-clause-answer : goal.returns-clause-answer
