@@ -23,10 +23,11 @@ use tcap_address::Address;
 use tcap_pdu::{Frame, TransId};
 use tcap_primitives::{Fault, Output, Request};
 
+// What is asked of each request and each message stands in its own copy; what follows seldom is a call.
 impl<A: Allocator + Copy> Dialogue<A> {
     /// `ask`, where a component takes memory that other dialogues left. `reject_ms` is what the dialogue was made with.
-    /// A queue that is empty afterwards leaves its memory to others, and so does a list of invocations that was taken
-    /// for a request that is refused.
+    /// A queue that is empty afterwards leaves its memory to others, and so does an empty list of invocations where an
+    /// Invoke is refused.
     #[inline(always)]
     pub fn ask_with<'m>(
         &mut self,
@@ -47,11 +48,14 @@ impl<A: Allocator + Copy> Dialogue<A> {
         self.borrow(spares, reject_ms, request);
         match self.ask(clock, number, request) {
             Ok(asked) => {
+                if matches!(request, Request::Begin(_) | Request::Continue(_)) {
+                    spares.make_places();
+                }
                 self.leave_queue(spares);
                 Ok(asked)
             }
             Err(fault) => {
-                self.give_back(spares, reject_ms);
+                self.give_back(spares, reject_ms, request);
                 Err(fault)
             }
         }
@@ -69,12 +73,12 @@ impl<A: Allocator + Copy> Dialogue<A> {
             return;
         }
         spares.lend_queue(&mut self.queue);
-        if matches!(request, Request::Invoke(_)) && self.invocations.capacity() == 0 {
+        if matches!(request, Request::Invoke(_)) {
             spares.lend_list(&mut self.invocations, reject_ms);
         }
     }
 
-    /// Leaves the memory of the queue to others, where it is empty.
+    /// Leaves the memory of the queue to others, where it is empty. It takes none.
     #[inline(always)]
     fn leave_queue(&mut self, spares: &mut Spares<A>)
         ensures { self.new ≡ self.old }
@@ -84,15 +88,15 @@ impl<A: Allocator + Copy> Dialogue<A> {
         }
     }
 
-    /// Gives back what was taken for a request that is refused.
+    /// Gives back what was taken for a request that is refused: an empty queue, and of an Invoke an empty list.
     #[inline(never)]
-    fn give_back(&mut self, spares: &mut Spares<A>, reject_ms: u64)
+    fn give_back(&mut self, spares: &mut Spares<A>, reject_ms: u64, request: &Request<'_>)
         requires wait { self.old.invocations.reject_ms ≡ reject_ms }
         requires limited { reject_ms ≤ moment_limit }
         ensures { self.new ≡ self.old }
     {
         self.leave_queue(spares);
-        if self.invocations.is_above_all(0) {
+        if matches!(request, Request::Invoke(_)) && self.invocations.is_above_all(0) {
             spares.keep_list(&mut self.invocations, reject_ms);
         }
     }
@@ -158,13 +162,13 @@ impl<A: Allocator + Copy> Dialogue<A> {
     pub fn leave_memory(&mut self, spares: &mut Spares<A>)
         ensures { self.new.standing.identifier ≡ self.old.standing.identifier }
     {
+        if self.queue.octets.capacity() > 0 || self.invocations.capacity() > 0 {
+            spares.make_places();
+        }
         if self.queue.octets.capacity() > 0 {
             spares.keep_queue(&mut self.queue);
         }
-        if self.invocations.capacity() > 0 {
-            spares.make_places();
-            spares.keep_list(&mut self.invocations, 0);
-        }
+        spares.keep_list(&mut self.invocations, 0);
     }
 }
 

@@ -27,6 +27,8 @@ const MOST_INVOCATIONS: usize = 4;
 /// its own (our own).
 // A queue is mostly empty: so few serve all dialogues, and stay in the processor's cache. What is in it says nothing:
 // who takes it clears it first. No `Debug`, which would print the octets of other dialogues.
+// What is lent and kept at each request is inlined into it: a few instructions, of which a call of its own would take
+// fifteen more.
 #[derive(Drop)]
 pub struct Spares<A: Allocator + Copy = Global> {
     queues: Vec<Queue<A>, A>,
@@ -57,39 +59,41 @@ impl<A: Allocator + Copy> Spares<A> {
         }
     }
 
-    /// Lends the memory of another list of invocations to one that never had any, whose wait is `reject_ms`;
-    /// whether it did. It takes no memory.
+    /// Lends the memory of another list of invocations to one that has none, whose wait is `reject_ms`. It takes no
+    /// memory.
     #[tactic(auto, using(crate::proofs::SpareLemmas::emptied))]
     #[inline(always)]
-    pub(crate) fn lend_list(&mut self, list: &mut Invocations<A>, reject_ms: u64) -> bool
+    pub(crate) fn lend_list(&mut self, list: &mut Invocations<A>, reject_ms: u64)
         requires limited { reject_ms ≤ moment_limit }
         requires wait { list.old.reject_ms ≡ reject_ms }
         ensures { list.new ≡ list.old }
     {
-        if !list.is_above_all(0) {
-            return false;
+        if list.capacity() > 0 || !list.is_above_all(0) {
+            return;
         }
-        let Some(found) = self.lists.pop() else {
-            return false;
-        };
-        *list = found;
-        list.renew(reject_ms);
-        true
+        if let Some(found) = self.lists.pop() {
+            *list = found;
+            list.renew(reject_ms);
+        }
     }
 
     /// Makes the places for what is kept, once, where memory for them is given.
+    #[inline(always)]
     pub(crate) fn make_places(&mut self) {
-        if self.queues.capacity() == 0 {
-            let _ = self.queues.reserve_exact(MOST_KEPT);
-        }
-        if self.lists.capacity() == 0 {
-            let _ = self.lists.reserve_exact(MOST_KEPT);
+        if self.queues.capacity() == 0 || self.lists.capacity() == 0 {
+            self.reserve_places();
         }
     }
 
+    /// `make_places`, where there are none.
+    #[inline(never)]
+    fn reserve_places(&mut self) {
+        let _ = self.queues.reserve_exact(MOST_KEPT);
+        let _ = self.lists.reserve_exact(MOST_KEPT);
+    }
+
     /// Keeps the memory of a queue that is empty, or that nobody reads any more, where it is small and there is a
-    /// place for it; else the memory is given back.
-    // Each call has its own copy: a queue is 48 octets, and as a call of its own it took 15 instructions more.
+    /// place for it; else gives the memory back. It takes none.
     #[inline(always)]
     pub(crate) fn keep_queue(&mut self, queue: &mut Queue<A>)
         ensures { queue_view queue.new ≡ [] }
@@ -103,19 +107,7 @@ impl<A: Allocator + Copy> Spares<A> {
         if has_place(&self.queues) && is_small(&left) {
             self.queues.push_reserved(left);
         } else {
-            self.keep_first(left);
-        }
-    }
-
-    /// Keeps the memory of a queue where it is the first that is kept; else gives it back.
-    #[inline(never)]
-    fn keep_first(&mut self, queue: Queue<A>) {
-        if self.queues.capacity() > 0 || !is_small(&queue) {
-            return;
-        }
-        self.make_places();
-        if has_place(&self.queues) {
-            self.queues.push_reserved(queue);
+            give_back(left);
         }
     }
 
@@ -135,6 +127,11 @@ impl<A: Allocator + Copy> Spares<A> {
         self.lists.push_reserved(mem::replace(list, empty));
     }
 }
+
+/// The memory of a queue goes back.
+// It is rare, and kept out of what each request runs through.
+#[inline(never)]
+fn give_back<A: Allocator + Copy>(_queue: Queue<A>) {}
 
 /// Whether a queue is none that is large.
 #[inline(always)]

@@ -76,8 +76,8 @@ impl Unanswered {
 }
 
 /// Whether a growth may be refused here with no answer: an engine makes places for the memory that a dialogue leaves
-/// whose queue this call empties, or which it ends. The first growth of a call is of its outputs or its message, but
-/// where an Invoke is given up and in a prearranged end.
+/// whose queue this call sends, or which it ends. The first growth of a call is of its outputs or its message, but in
+/// a prearranged end.
 fn may_leave_memory(player: Player<'_>, subject: &Subject<'_>, words: &[Word<'_>]) -> bool {
     if !matches!(subject, Subject::Engine(_)) {
         return false;
@@ -93,12 +93,11 @@ fn may_leave_memory(player: Player<'_>, subject: &Subject<'_>, words: &[Word<'_>
                 | "begin"
                 | "beginto"
                 | "continue"
-                | "cancel"
                 | "end"
                 | "prearranged"
                 | "abort"
         ),
-        Refusal::FirstOfEachCall => matches!(word, "cancel" | "prearranged"),
+        Refusal::FirstOfEachCall => word == "prearranged",
     }
 }
 
