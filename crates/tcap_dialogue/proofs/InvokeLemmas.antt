@@ -24,7 +24,6 @@ use Rattle.tcap_primitives.specs.declared.fault.Fault.{Fault as RequestFault}
 use Rattle.tcap_primitives.specs.declared.fault.Fault.TheVariants as fault
 use Rattle.tcap_dialogue.specs.RequestForm.{takes_memory}
 use Rattle.tcap_dialogue.specs.StepViews.{outcome, asked, requested}
-use Rattle.tcap_dialogue.proofs.RefusalLemmas.{refused}
 
 -- No user information is user information.
 pub information-none : is_information [] ≡ true

@@ -1,5 +1,7 @@
 //! TC-INVOKE and TC-U-CANCEL (Q.771, Component handling).
 
+// Hints to inline have the reasons that requests.rt gives.
+
 ghost use Rattle.std.specs.Prelude.{◌≡◌, ◌↔◌, ◌<◌, ◌^◌, ◌-◌, ◌&&◌, ℕ, ℤ, length, Option, Some, None, IfOk, OnOk, IfErr, IsTrue, nat_lt, nat_le, option_copied};
 ghost use Rattle.std.specs.Option.{option_map};
 ghost use Rattle.tcap_component.specs.Views.{code_parts, component_parts};
@@ -12,7 +14,7 @@ ghost use Rattle.tcap_invocation.specs.Stage.{moment_limit};
 ghost use Rattle.tcap_invocation.specs.declared.class.Class.{Class};
 ghost use Rattle.tcap_model.specs.Procedures.Refusals.{invoke_fault};
 ghost use Rattle.tcap_model.specs.Table.TableMove.{situation};
-ghost use Rattle.tcap_model.specs.Words.Request.{ComponentRequest, Request};
+ghost use Rattle.tcap_model.specs.Words.Request.{Request};
 ghost use Rattle.tcap_model.specs.Words.Request.ComponentRequest.{invoke, u_cancel};
 ghost use Rattle.tcap_primitives.specs.FaultViews.{fault_view};
 ghost use Rattle.tcap_primitives.specs.declared.fault.Fault.TheVariants as fault;
@@ -120,7 +122,7 @@ impl<A: Allocator + Copy> Dialogue<A> {
 
     /// How many octets an Invoke has, or why it is refused, its number and memory apart: BadTimeout, BadOid,
     /// BadParameter, InvokeIdInUse, TooLong. It takes no memory.
-    // Judged at once, and so once: what it has to be written is found with its length.
+    // Code and parameter are judged once, whether room is missing or not: their length is found with them.
     #[inline(always)]
     fn judge_invoke(
         &self,
@@ -171,13 +173,8 @@ impl<A: Allocator + Copy> Dialogue<A> {
         let len = self.judge_invoke(request.id, request.timeout_ms, &component)?;
         self.queue.reserve(len)?;
         let class = request.class;
-        if self
-            .invocations
-            .add(request.id, number, class, request.timeout_ms)
-            .is_err()
-        {
-            return Err(Fault::OutOfMemory);
-        }
+        self.invocations
+            .add_free(request.id, number, class, request.timeout_ms)?;
         self.queue
             .append_component(&component, len, Some(Invoking { number, class }));
         Ok(number)

@@ -29,8 +29,8 @@ returns-in_err-reserve-clause-answer g c =
     let wants = invoke-wants c.args.number c.args.self.now c.args.request.now.id c.args.request.now.class (code_parts c.args.request.now.code) (option_copied c.args.request.now.parameter) c.args.request.now.linked c.args.request.now.timeout_ms due in
     search (rules, wants)
 
-pub returns-then-is_err-clause-answer : goal.returns-then-is_err-clause-answer
-returns-then-is_err-clause-answer g c =
+pub returns-in_err-add_free-clause-answer : goal.returns-in_err-add_free-clause-answer
+returns-in_err-add_free-clause-answer g c =
     let d = c.args.self.now in
     let r = invoking c.args.number c.args.self.now c.args.request.now.id c.args.request.now.class (code_parts c.args.request.now.code) (option_copied c.args.request.now.parameter) c.args.request.now.linked c.args.request.now.timeout_ms in
     let good : invoke_refusal d c.args.request.now.id c.args.request.now.timeout_ms (ComponentParts.invoke c.args.request.now.id c.args.request.now.linked (code_parts c.args.request.now.code) (option_copied c.args.request.now.parameter)) ≡ None = search (rules, c.in_ok-len.ensures.ok) in
