@@ -18,10 +18,12 @@ use Rattle.tcap_primitives.specs.Slices.{AreOfItem}
 
 -- The first component of the bytes, or the fault at which they end, is handled, and the rest is what follows it
 -- (Q.774, Component handling).
-pub record IsFirstTaken {A : Type 0} (dialogue clock : ℕ) (bytes rest : Slice) (old new : Vec (Output A) A) (before after : InvocationList) (reject : Option Reject) : Type 0 where
+pub record IsFirstTaken {A : Type 0} (dialogue clock : ℕ) (bytes rest : Slice) (old new : Vec (Output A) A)
+    (before after : InvocationList) (reject : Option Reject) : Type 0 where
   pub item : Result Component ComponentFault
   pub is_first : components_of bytes.now ≡ item_view item ∷ components_of rest.now
   pub is_in_place : ItemInPlace item bytes
   pub ends : AtEnd rest bytes
-  pub is_handled : IsHandled old new reject (AreOfItem item) (handled (Some dialogue) (sent_by_rows dialogue before (subject_of (item_view item))) (item_view item))
+  pub is_handled : IsHandled old new reject (AreOfItem item)
+      (handled (Some dialogue) (sent_by_rows dialogue before (subject_of (item_view item))) (item_view item))
   pub is_after : after ≡ after_item clock before (item_view item)

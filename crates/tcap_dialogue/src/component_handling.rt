@@ -1,5 +1,7 @@
 //! What one received component comes to: what is told, and the Reject that answers it.
 
+// Hints to inline have the reason that in_dialogue.rt gives.
+
 ghost use Rattle.std.specs.Prelude.{◌≡◌, ◌<◌, Some, None, vec_len, vec_capacity};
 ghost use Rattle.tcap_component.specs.Views.{problem_parts};
 ghost use Rattle.tcap_dialogue.specs.HandledViews.{IsHandled, AreNone};

@@ -87,6 +87,7 @@ impl<A: Allocator + Copy> Keys<A> {
     }
 
     /// `find`, by the index.
+    // It stands once: mostly it isn't come to.
     #[inline(never)]
     fn look_up(&mut self, id: u32) -> Option<usize>
         ensures value { result ≡ key_of self.old id }

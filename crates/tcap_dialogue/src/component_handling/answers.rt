@@ -1,5 +1,7 @@
 //! Results, errors and Rejects, by what the class machine says of them.
 
+// Hints to inline have the reason that in_dialogue.rt gives.
+
 ghost use Rattle.std.specs.Option.{option_map};
 ghost use Rattle.std.specs.Prelude.{◌<◌, Some, None, Bool, true, false, option_copied, vec_len, vec_capacity};
 ghost use Rattle.tcap_component.specs.Views.{problem_parts, body_parts, code_parts};

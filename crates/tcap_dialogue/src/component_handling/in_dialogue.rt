@@ -1,5 +1,8 @@
 //! One component of a message to a dialogue.
 
+// All handlers are inlined into the two loops over components: as calls of their own they took what they tell through
+// memory, 270 to 420 instructions a step.
+
 ghost use Rattle.std.specs.Option.{option_map};
 ghost use Rattle.std.specs.Prelude.{◌≡◌, ◌<◌, ◌≤◌, length, Some, None, Bool, true, false, Ok, Err, option_copied, vec_len, vec_capacity};
 ghost use Rattle.tcap_component.specs.Component.ComponentParts.{reject_back};

@@ -61,6 +61,7 @@ fn short_count(components: &[u8]) -> Option<usize>
 }
 
 /// How many components there are, with the fault at which they end.
+// It is long, and seldom needed.
 #[inline(never)]
 fn count_items(components: &[u8]) -> usize
     ensures { result ≡ length (components_of components.now) }

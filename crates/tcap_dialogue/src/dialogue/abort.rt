@@ -122,7 +122,6 @@ fn is_no_common(diagnostic: Diagnostic) -> bool
 }
 
 /// The address of the peer of a Continue: the one that is kept, or in Sent that of its sender (our own).
-#[inline]
 fn address_by<A: Allocator + Copy>(phase: &Phase, kept: &KeptAddress<A>, from: &Address) -> Address
     ensures { result ≡ address_by (phase_view phase.now) kept.now from.now }
 {

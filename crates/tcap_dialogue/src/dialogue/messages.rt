@@ -32,7 +32,6 @@ use tcap_primitives::{Output, Why};
 use tcap_reception::{Phase, PortionVerdict, judge_portion};
 
 /// The sender of a Continue to a dialogue in Sent is kept; later ones are not (our own).
-#[inline]
 fn keep_sender<A: Allocator + Copy>(
     alloc: A,
     phase: &Phase,

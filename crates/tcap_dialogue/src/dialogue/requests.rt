@@ -1,5 +1,9 @@
 //! The requests of the TC-user on a dialogue (Q.771): any of them by `ask`, and each by its own call.
 
+// Hints to inline, here and in requests/: what only hands on is copied to its caller, where the kind of request is
+// known and the matches on it fold away, 190 to 350 instructions a step. What does a request stands once: copied to
+// each named call of an engine it would fill the cache of instructions.
+
 pub(crate) mod closing;
 pub(crate) mod continuing;
 pub(crate) mod invoke;

@@ -92,6 +92,8 @@ impl<A: Allocator + Copy> Engine<A> {
     }
 
     /// Takes in a dialogue that is created under the next identifier, which is drawn then.
+    // A dialogue is 192 octets: built in place, it isn't moved from call to call on its way into the table. One that
+    // memory refuses gives its own back, and not to other dialogues.
     #[inline(always)]
     fn keep(&mut self, dialogue: Dialogue<A>) -> Result<(), OutOfMemory>
         requires free { birth_fault_in self.old ≡ None }

@@ -34,6 +34,7 @@ pub(super) fn deliver_in<'m, A: Allocator + Copy>(
         (table_move (at_clock clock) x (DialogueEvent.frame from.now (message frame.now)))) identifier
         (lookup (nat_eq identifier) table.old) table.old table.new }
 {
+    // It stands, as the caller has seen.
     let dialogue = table.rows.get_mut(identifier).unwrap();
     let step = dialogue.take_frame_with(&mut table.spares, from, frame, clock)?;
     let timer = dialogue.next_timer();
@@ -60,6 +61,7 @@ pub(super) fn abort_in<'m, A: Allocator + Copy>(
         (cause_number cause)))) identifier (lookup (nat_eq identifier) table.old) table.old table.new }
     ensures room { IfOk result (λ os. vec_len os < vec_capacity os) }
 {
+    // It stands, as the caller has seen.
     let dialogue = table.rows.get_mut(identifier).unwrap();
     let step = dialogue.take_fault(cause.number())?;
     let timer = dialogue.next_timer();

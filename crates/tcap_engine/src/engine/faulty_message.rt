@@ -16,6 +16,7 @@ impl<A: Allocator + Copy> Engine<A> {
     /// A faulty message, by its first octet alone: a faulty Continue, End or Abort ends the live dialogue that it
     /// names, and the originator of anything but a Unidirectional, an End or an Abort gets an Abort, if it is known
     /// (Q.774, Abnormal procedures; the choice by the first octet is our own).
+    // It is rare, and kept out of what a good message runs through.
     #[inline(never)]
     pub(super) fn take_faulty<'m>(
         &mut self,

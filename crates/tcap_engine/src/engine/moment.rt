@@ -77,6 +77,7 @@ fn expire_first<A: Allocator + Copy>(
     requires late { now ≤ moment_limit }
     ensures { IsExpired now identifier result table.old table.new }
 {
+    // It stands, since it has a timer.
     let dialogue = table.rows.get_mut(identifier).unwrap();
     let passed = expire_in(dialogue, now, time);
     let timer = dialogue.next_timer();

@@ -1,5 +1,7 @@
 //! The answer of a request, by its kind.
 
+// In each named call the kind of answer is known: inlined, the match on it folds away.
+
 ghost use Rattle.std.specs.Prelude.{◌≡◌, IfOk, OnErr};
 ghost use Rattle.tcap_dialogue.specs.RequestForm.{numbered, queued_done, gave_up};
 ghost use Rattle.tcap_engine.specs.StepForm.{EngineAnswers, outputs_answer};

@@ -1,5 +1,7 @@
 //! TC-END and TC-U-ABORT (Q.771, Dialogue handling): the requests with which a dialogue is over.
 
+// Hints to inline have the reasons that requests.rt gives.
+
 ghost use Rattle.std.specs.Prelude.{◌≡◌, None, Some, IfErr, IfOk, IsTrue, OnErr, option_copied};
 ghost use Rattle.std.specs.Option.{option_map};
 ghost use Rattle.tcap_dialogue.specs.RequestForm.{Steps, takes_memory};

@@ -1,5 +1,7 @@
 //! TC-CONTINUE (Q.771, Dialogue handling): the request that goes on with a dialogue.
 
+// Hints to inline have the reasons that requests.rt gives.
+
 ghost use Rattle.std.specs.Prelude.{◌≡◌, ◌≤◌, None, IfErr, IfOk, option_copied};
 ghost use Rattle.std.specs.Option.{option_map};
 ghost use Rattle.tcap_dialogue.specs.RequestForm.{Steps};

@@ -1,5 +1,7 @@
 //! TC-UNI and TC-BEGIN (Q.771, Dialogue handling): the first request of a dialogue, which names its destination.
 
+// Hints to inline have the reasons that requests.rt gives.
+
 ghost use Rattle.std.specs.Prelude.{◌≡◌, ◌≤◌, None, Some, IfErr, IfOk, OnOk, option_copied, true};
 ghost use Rattle.std.specs.Option.{option_map};
 ghost use Rattle.tcap_dialogue.specs.RequestForm.{Steps};

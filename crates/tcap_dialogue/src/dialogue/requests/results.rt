@@ -1,6 +1,8 @@
 //! TC-RESULT-L, TC-RESULT-NL, TC-U-ERROR and TC-U-REJECT (Q.771, Component handling): the peer is answered by a
 //! component, which is written at once and queued until the next message goes out.
 
+// Hints to inline have the reasons that requests.rt gives.
+
 ghost use Rattle.std.specs.Prelude.{◌≡◌, length, Some, None, IfOk, OnOk, IfErr, option_copied};
 ghost use Rattle.std.specs.Option.{option_map};
 ghost use Rattle.tcap_component.specs.Views.{body_parts, code_parts, component_parts, problem_parts};

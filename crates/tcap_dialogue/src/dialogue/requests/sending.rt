@@ -1,6 +1,8 @@
 //! What the requests of dialogue handling share: how their dialogue portion is judged, and how their message is
 //! written and sent.
 
+// Hints to inline have the reasons that requests.rt gives.
+
 ghost use Rattle.std.specs.Prelude.{◌≡◌, ◌+◌, ◌≤◌, ◌||◌, None, Some, IfErr, IfOk, IfSome, IsTrue, OnErr, false, is_some, nat_lt, option_copied, vec_len, vec_capacity};
 ghost use Rattle.std.specs.Option.{option_map};
 ghost use Rattle.tcap_dialogue.specs.RequestMessages.{IsUnspelled, Spells, address_for, octets_sent};
