@@ -10,8 +10,8 @@ ghost use Rattle.tcap_callers.specs.TwoEngines.{ComesBack, GoesOn, Hears, IsSent
 use std::alloc::Allocator;
 use tcap_component::Code;
 use tcap_engine::{
-    Address, Answer, BeginRequest, ContinueRequest, Engine, Event, InvokeRequest, Limits, Output, ResultRequest, laws,
-    run,
+    Address, Answer, BeginRequest, ContinueRequest, Engine, Event, InvokeRequest, Limits, Output,
+    ResultRequest, laws, run,
 };
 use tcap_invocation::Class;
 

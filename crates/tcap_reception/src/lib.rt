@@ -7,7 +7,5 @@
 mod portion;
 mod state;
 
-pub use portion::{
-    AarqParts, BeginVerdict, PortionVerdict, judge_begin, judge_portion, judge_uni,
-};
+pub use portion::{AarqParts, BeginVerdict, PortionVerdict, judge_begin, judge_portion, judge_uni};
 pub use state::{Phase, State};

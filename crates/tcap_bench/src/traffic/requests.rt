@@ -3,8 +3,8 @@
 use super::lot::Lot;
 use tcap_component::{Body, Code, Problem};
 use tcap_engine::{
-    AbortRequest, AbortWhy, Address, BeginRequest, CancelRequest, ContinueRequest, EndRequest, Ending, ErrorRequest,
-    InvokeRequest, RejectRequest, Request, ResultRequest, UniRequest,
+    AbortRequest, AbortWhy, Address, BeginRequest, CancelRequest, ContinueRequest, EndRequest,
+    Ending, ErrorRequest, InvokeRequest, RejectRequest, Request, ResultRequest, UniRequest,
 };
 use tcap_invocation::Class;
 

@@ -14,8 +14,8 @@ use crate::script::values::{
 use crate::script::word::Word;
 use std::alloc::Allocator;
 use tcap_dialogue::{
-    AbortRequest, Address, BeginRequest, CancelRequest, ContinueRequest, EndRequest, Ending, ErrorRequest,
-    InvokeRequest, RejectRequest, Request, ResultRequest, UniRequest,
+    AbortRequest, Address, BeginRequest, CancelRequest, ContinueRequest, EndRequest, Ending,
+    ErrorRequest, InvokeRequest, RejectRequest, Request, ResultRequest, UniRequest,
 };
 
 /// A request of dialogue handling with a destination where it has one, a context and user information.
