@@ -259,11 +259,11 @@ fn plays_with_each_growth_refused(rt: HostRuntime) -> Result<(), Fail> {
     let addresses = ADDRESSES_SCRIPT.as_bytes();
     let rows: [(&[u8], &[u8], u8, &[u8], &[u8], u64, u64); 10] = [
         // The script, and what stands behind it; the status, what is written, and what stands behind that;
-        // the least number of growths; how many are refused with no answer: at each engine where a dialogue leaves
-        // memory, as one does whose queue went out, the two that make places for it.
+        // the least number of growths; how many are refused with no answer: at each engine that sends a Begin or a
+        // Continue, or where a dialogue that is over leaves memory, the two that make places for it.
         (SCRIPT, b"", 0, PLAYED, b"", 20, 4),
-        (idle, b"", 0, IDLE_TEXT.as_bytes(), b"", 6, 0),
-        (addresses, b"", 1, ADDRESSES_TEXT.as_bytes(), b"", 8, 0),
+        (idle, b"", 0, IDLE_TEXT.as_bytes(), b"", 6, 2),
+        (addresses, b"", 1, ADDRESSES_TEXT.as_bytes(), b"", 8, 2),
         (LOST_SCRIPT, b"", 0, LOST, b"", 20, 4),
         (LOST_SCRIPT, AGAIN.0, 1, LOST, AGAIN.1, 20, 4),
         (b"A new\n", b"A new 1\n", 1, NEW.0, NEW.1, 3, 0),
