@@ -10,6 +10,7 @@ pub mod FrameCarrying
 pub mod FrameGrammar
 pub mod FrontGrammar
 pub mod LengthGrammar
+pub mod MeasuredGrammar
 pub mod MessageGrammar
 pub mod PartsWithin
 pub mod PlainDialogue

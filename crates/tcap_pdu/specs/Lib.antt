@@ -8,6 +8,7 @@ pub mod DialogueWritten
 pub mod FaultText
 pub mod FrameFaults
 pub mod FrameLength
+pub mod FrameMeasured
 pub mod FrameParts
 pub mod FramePlace
 pub mod FramePortions

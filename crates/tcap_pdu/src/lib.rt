@@ -16,6 +16,7 @@ pub use dialogue_pdu::{
 };
 pub use fault::{DialogueFault, FrameFault, PduFault};
 pub use frame::{
-    AbortPart, Frame, MAX_MESSAGE, frame_fits, front_ids, read_frame, write_frame, write_frame_with,
+    AbortPart, Frame, MAX_MESSAGE, MessageLength, append_message, frame_fits, front_ids,
+    message_length, read_frame, write_frame, write_frame_with,
 };
 pub use trans_id::TransId;

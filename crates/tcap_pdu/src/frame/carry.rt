@@ -1,94 +1,41 @@
 //! Writing a message with a dialogue portion of its own.
 
-ghost use Rattle.std.specs.Prelude.{◌≡◌, ◌+◌, ◌<◌, ◌≤◌, ◌++◌, length, vec_len, vec_capacity, None, Some, IfOk, IfErr, IfSome, IsErrOf};
-ghost use Rattle.ber_core.specs.ObjectIdentifier.{object_identifier_limit};
-ghost use Rattle.ber_core.specs.Sequence.Field.{may};
-ghost use Rattle.ber_core.specs.Written.{written_field, written_fields};
+ghost use Rattle.std.specs.Prelude.{◌≡◌, ◌<◌, length, None, Some, IfOk, IfErr, IsErrOf};
 ghost use Rattle.tcap_pdu.specs.declared.fault.PduFault.TheVariants.{TooLong};
-ghost use Rattle.tcap_pdu.specs.DialogueDue.{content_fault, context_of};
+ghost use Rattle.tcap_pdu.specs.DialogueDue.{content_fault};
 ghost use Rattle.tcap_pdu.specs.DialogueViews.{pdu_value};
 ghost use Rattle.tcap_pdu.specs.DialogueWritten.{HasDiagnostic, written_dialogue};
-ghost use Rattle.tcap_pdu.specs.FrameLength.{dialogue_of, with_dialogue};
-ghost use Rattle.tcap_pdu.specs.FrameParts.{has_place};
-ghost use Rattle.tcap_pdu.specs.FrameSpelling.{HasCause, fields};
+ghost use Rattle.tcap_pdu.specs.FrameLength.{with_dialogue};
+ghost use Rattle.tcap_pdu.specs.FrameMeasured.{IsMeasured};
+ghost use Rattle.tcap_pdu.specs.FrameSpelling.{HasCause};
 ghost use Rattle.tcap_pdu.specs.FrameViews.{message};
 ghost use Rattle.tcap_pdu.specs.FrameWritten.{IsWriteFault, message_limit, written_frame};
 
-use super::length::fitting_len;
-use super::put::{put_closing, put_front};
+use super::Frame;
+use super::append::append_carrying;
+use super::measured::{MessageLength, carrying_length};
 use super::write::MAX_HEAD;
-use super::{AbortPart, Frame};
 use crate::dialogue_pdu::DialoguePdu;
-use crate::dialogue_pdu::len::portion_len;
-use crate::dialogue_pdu::put::put_portion;
 use crate::fault::PduFault;
-use crate::tag;
-use ber_core::{OutOfMemory, put_head};
+use ber_core::OutOfMemory;
 use std::alloc::Allocator;
 
-/// Whether the message can hold a dialogue portion: an Abort with a P-Abort cause can't.
-#[inline(always)]
-fn has_place(frame: &Frame<'_>) -> bool
-    ensures { result ≡ has_place (message frame.now) }
-{
-    match frame {
-        Frame::Uni { .. } | Frame::Begin { .. } | Frame::End { .. } | Frame::Continue { .. } => {
-            true
-        }
-        Frame::Abort { reason, .. } => match reason {
-            AbortPart::Cause(_) => false,
-            AbortPart::Nothing | AbortPart::Dialogue(_) => true,
-        },
-    }
-}
-
-/// Appends 6B with this PDU, whose EXTERNAL has this length, where the message can hold it.
-#[inline(always)]
-fn put_carried<A: Allocator + Copy>(
-    out: &mut Vec<u8, A>,
-    frame: &Frame<'_>,
-    pdu: &DialoguePdu<'_>,
-    len: usize,
-)
-    requires context { IfSome (context_of (pdu_value pdu.now)) (λ c. length c ≤ object_identifier_limit) }
-    requires len { len ≡ length (written_dialogue (pdu_value pdu.now)) }
-    requires short { length (written_field (may 0x6b (dialogue_of (with_dialogue
-        (Some (written_dialogue (pdu_value pdu.now))) (message frame.now))))) ≤ message_limit }
-    requires room { vec_len out.old + length (written_field (may 0x6b (dialogue_of (with_dialogue
-        (Some (written_dialogue (pdu_value pdu.now))) (message frame.now))))) ≤ vec_capacity out.old }
-    ensures items { out.new.items ≡ out.old.items ++ written_field (may 0x6b (dialogue_of (with_dialogue
-        (Some (written_dialogue (pdu_value pdu.now))) (message frame.now)))) }
-    ensures capacity { vec_capacity out.old ≤ vec_capacity out.new }
-{
-    if has_place(frame) {
-        put_head(out, tag::DIALOGUE_PORTION, len);
-        put_portion(out, pdu);
-    }
-}
-
-/// The octets of a message with the dialogue portion of this PDU, whose EXTERNAL has this length, where
-/// the contents have this many bytes. All room is taken first.
+/// The octets of a message with the dialogue portion of this PDU, with which it is so long. All room is taken
+/// first.
 #[inline(always)]
 fn spell_carrying<A: Allocator + Copy>(
     alloc: A,
     frame: &Frame<'_>,
     pdu: &DialoguePdu<'_>,
-    len: usize,
-    content: usize,
+    len: MessageLength,
 ) -> Result<Vec<u8, A>, OutOfMemory>
-    requires context { IfSome (context_of (pdu_value pdu.now)) (λ c. length c ≤ object_identifier_limit) }
-    requires len { len ≡ length (written_dialogue (pdu_value pdu.now)) }
-    requires content { content ≡ length (written_fields (fields (with_dialogue
-        (Some (written_dialogue (pdu_value pdu.now))) (message frame.now)))) }
-    requires fits { length (written_frame (with_dialogue
-        (Some (written_dialogue (pdu_value pdu.now))) (message frame.now))) ≤ message_limit }
+    requires good { content_fault (pdu_value pdu.now) ≡ None }
+    requires measured { IsMeasured len (message frame.now) (Some (pdu_value pdu.now)) }
     ensures { IfOk result (λ bytes. bytes.items
         ≡ written_frame (with_dialogue (Some (written_dialogue (pdu_value pdu.now))) (message frame.now))) }
 {
-    let mut out = Vec::with_capacity(alloc, content + MAX_HEAD)?;
-    put_front(&mut out, frame, content);
-    put_carried(&mut out, frame, pdu, len);
-    put_closing(&mut out, frame);
+    let mut out = Vec::with_capacity(alloc, len.contents + MAX_HEAD)?;
+    append_carrying(&mut out, frame, pdu, len);
     Ok(out)
 }
 
@@ -121,9 +68,8 @@ pub fn write_frame_with<A: Allocator + Copy>(
     ensures fault { IfErr result (λ fault. IsWriteFault (with_dialogue
         (Some (written_dialogue (pdu_value pdu.now))) (message frame.now)) fault) }
 {
-    let len = portion_len(pdu);
-    let Some(content) = fitting_len(frame, Some(len)) else {
+    let Some(len) = carrying_length(frame, pdu) else {
         return Err(PduFault::TooLong);
     };
-    Ok(spell_carrying(alloc, frame, pdu, len, content)?)
+    Ok(spell_carrying(alloc, frame, pdu, len)?)
 }

@@ -1,15 +1,15 @@
 //! Writing a message.
 
-ghost use Rattle.std.specs.Prelude.{◌≡◌, ◌<◌, ◌≤◌, length, IfOk, IfErr, IsErrOf};
-ghost use Rattle.ber_core.specs.Written.{written_fields};
+ghost use Rattle.std.specs.Prelude.{◌≡◌, ◌<◌, length, None, IfOk, IfErr, IsErrOf};
 ghost use Rattle.tcap_pdu.specs.declared.fault.PduFault.TheVariants.{TooLong};
-ghost use Rattle.tcap_pdu.specs.FrameSpelling.{HasCause, SpellsFrame, fields};
+ghost use Rattle.tcap_pdu.specs.FrameSpelling.{HasCause, SpellsFrame};
+ghost use Rattle.tcap_pdu.specs.FrameMeasured.{IsMeasured};
 ghost use Rattle.tcap_pdu.specs.FrameWritten.{IsWriteFault, message_limit, written_frame};
 ghost use Rattle.tcap_pdu.specs.FrameViews.{message};
 
 use super::Frame;
-use super::length::{dialogue_len, fitting_len};
-use super::put::{put_closing, put_dialogue, put_front};
+use super::append::append_own;
+use super::measured::{MessageLength, own_length};
 use crate::fault::PduFault;
 use ber_core::OutOfMemory;
 use std::alloc::Allocator;
@@ -17,21 +17,18 @@ use std::alloc::Allocator;
 /// The most octets of a written head: the tag and three length octets.
 pub(super) const MAX_HEAD: usize = 4;
 
-/// The octets of a message whose contents have this many bytes. All room is taken first.
+/// The octets of a message that is so long. All room is taken first.
 #[inline(always)]
 fn spell_frame<A: Allocator + Copy>(
     alloc: A,
     frame: &Frame<'_>,
-    content: usize,
+    len: MessageLength,
 ) -> Result<Vec<u8, A>, OutOfMemory>
-    requires content { content ≡ length (written_fields (fields (message frame.now))) }
-    requires fits { length (written_frame (message frame.now)) ≤ message_limit }
+    requires { IsMeasured len (message frame.now) None }
     ensures { IfOk result (λ bytes. bytes.items ≡ written_frame (message frame.now)) }
 {
-    let mut out = Vec::with_capacity(alloc, content + MAX_HEAD)?;
-    put_front(&mut out, frame, content);
-    put_dialogue(&mut out, frame.dialogue());
-    put_closing(&mut out, frame);
+    let mut out = Vec::with_capacity(alloc, len.contents + MAX_HEAD)?;
+    append_own(&mut out, frame, len);
     Ok(out)
 }
 
@@ -55,8 +52,8 @@ pub fn write_frame<A: Allocator + Copy>(alloc: A, frame: &Frame<'_>) -> Result<V
     ensures too_long { message_limit < length (written_frame (message frame.now)) → IsErrOf result TooLong }
     ensures fault { IfErr result (λ fault. IsWriteFault (message frame.now) fault) }
 {
-    let Some(content) = fitting_len(frame, dialogue_len(frame)) else {
+    let Some(len) = own_length(frame) else {
         return Err(PduFault::TooLong);
     };
-    Ok(spell_frame(alloc, frame, content)?)
+    Ok(spell_frame(alloc, frame, len)?)
 }
