@@ -2,10 +2,16 @@ pub mod AbortViews
 pub mod ContextViews
 pub mod FaultText
 pub mod FaultViews
+pub mod IndicationViews
+pub mod OutboxOctets
+pub mod OutboxReading
+pub mod OutboxSpans
+pub mod OutboxViews
 pub mod OutputViews
 pub mod Parts
 pub mod QueueRefusals
 pub mod QueueViews
 pub mod RequestViews
 pub mod SendingViews
+pub mod SinkViews
 pub mod Slices

@@ -1,11 +1,14 @@
 -- The message of a request as a contract sees it.
-use Rattle.std.specs.Prelude.{◌≡◌, ℕ, true, List, Option, Some, None}
+use Rattle.std.specs.Prelude.{◌≡◌, ℕ, true, List, Option, Some, None, IfSome, option_map}
+use Rattle.std.specs.Option.{ForSome}
 use Rattle.tcap_pdu.specs.declared.dialogue_pdu.DialoguePdu.{DialoguePdu}
 use Rattle.tcap_pdu.specs.DialoguePartsReading.{is_information}
 use Rattle.tcap_pdu.specs.DialogueDue.{content_fault}
 use Rattle.tcap_pdu.specs.DialogueViews.{pdu_value}
 use Rattle.tcap_pdu.specs.DialogueWritten.{HasDiagnostic, written_dialogue}
+use Rattle.tcap_pdu.specs.FrameMeasured.{IsMeasured}
 use Rattle.tcap_pdu.specs.FrameSpelling.{Message, Reason}
+use Rattle.tcap_pdu.specs.declared.frame.measured.MessageLength.{MessageLength}
 use Rattle.tcap_model.specs.Procedures.Refusals.{can_name}
 use Rattle.tcap_model.specs.Words.LocalId.{local_id}
 use Rattle.tcap_primitives.specs.declared.sending.MessageParts.{MessageParts}
@@ -30,10 +33,21 @@ carried_by (bearer.Continue origin peer components) portion =
     Message.go_on (local_id origin) peer.now portion components.now
 carried_by (bearer.End peer components) portion = Message.end peer.now portion components.now
 carried_by (bearer.Abort peer) portion = Message.abort peer.now (reason_with portion)
+carried_by (bearer.AbortCause peer cause) portion = Message.abort peer.now (Reason.cause cause)
 
 -- The message of a request (own).
 abbrev pub sending_view : Sending → Message
 sending_view s = carried_by s.bearer (portion_view s.pdu)
+
+-- The contents of a PDU, if there is one, are good, and a diagnostic is at most 127 (own).
+abbrev pub IsGood : Option DialoguePdu → Type 0
+IsGood pdu = IfSome pdu (λ p. HasDiagnostic (pdu_value p) × (content_fault (pdu_value p) ≡ None))
+
+-- The message can go out: the contents of its PDU are good, it is within the limit, and this is its length
+-- (own).
+pub record CanGoOut (len : MessageLength) (s : Sending) : Type 0 where
+  pub is_good : ForSome s.pdu (λ p. content_fault (pdu_value p) ≡ None)
+  pub is_measured : IsMeasured len (carried_by s.bearer None) (option_map pdu_value s.pdu)
 
 -- A PDU, if there is one, can be written but for its length, where the application context and the user
 -- information given are good (own).

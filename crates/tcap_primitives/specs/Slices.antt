@@ -99,3 +99,7 @@ LieIn dialogue components (Slices.of_component c) = ComponentLiesIn c components
 -- tells, and no equal octets elsewhere (own).
 abbrev pub AllInPlace : {A : Type 0} → Option Slice → Slice → List (Output A) → Type 0
 AllInPlace dialogue components outputs = AllByRecursion (λ o. LieIn dialogue components (slices_of o)) outputs
+
+-- The same of slices, one after the other (own).
+abbrev pub LieInPlace : Option Slice → Slice → List Slices → Type 0
+LieInPlace dialogue components slices = AllByRecursion (LieIn dialogue components) slices

@@ -1,22 +1,20 @@
 //! The Aborts that the provider sends.
 
-ghost use Rattle.std.specs.Prelude.{◌≡◌, ◌≤◌, IfOk, IfErr, length};
-ghost use Rattle.tcap_primitives.specs.AbortViews.{CanWriteAbort, IsShortReason, abort_sent, cause_number};
+ghost use Rattle.std.specs.Prelude.{◌≡◌, ◌≤◌, IfOk, Some};
+ghost use Rattle.tcap_primitives.specs.AbortViews.{CanWriteAbort, abort_sent, cause_number};
+ghost use Rattle.tcap_primitives.specs.SendingViews.{IsGood, sending_view};
 ghost use Rattle.tcap_pdu.specs.DialogueViews.{pdu_value};
-ghost use Rattle.tcap_pdu.specs.DialogueWritten.{IsWritable, HasDiagnostic, written_dialogue};
-ghost use Rattle.tcap_pdu.specs.FrameSpelling.{Message, Reason, IsReason};
-ghost use Rattle.tcap_pdu.specs.FrameViews.{reason_of};
+ghost use Rattle.tcap_pdu.specs.DialogueWritten.{written_dialogue};
+ghost use Rattle.tcap_pdu.specs.FrameSpelling.{Message, Reason};
 ghost use Rattle.tcap_pdu.specs.FrameWritten.{written_frame};
-ghost use Rattle.tcap_pdu.specs.declared.fault.PduFault.TheVariants.{OutOfMemory as NoMemory};
 
+use crate::sending::outgoing::Outgoing;
+use crate::sending::{MessageParts, Sending};
 use ber_core::OutOfMemory;
 use std::alloc::Allocator;
 use tcap_pdu::dialogue_tag::NO_COMMON_DIALOGUE_PORTION;
 use tcap_pdu::tag::{RESOURCE_LIMITATION, UNRECOGNIZED_TRANSACTION_ID};
-use tcap_pdu::{
-    AbortPart, Diagnostic, DialoguePdu, Frame, FrameFault, PduFault, TransId, write_dialogue,
-    write_frame,
-};
+use tcap_pdu::{Diagnostic, DialoguePdu, FrameFault, TransId};
 
 /// Why the provider aborts by a P-Abort cause (Q.773, P-Abort cause).
 #[derive(Clone, Copy, Debug, PartialEq, Eq)]
@@ -55,70 +53,66 @@ pub enum Abort<'m> {
     WrongVersion { peer: TransId, context: &'m [u8] },
 }
 
-/// The octets of an Abort with this reason, which is short enough for any message.
-fn write_reason<A: Allocator + Copy>(
-    alloc: A,
-    peer: &TransId,
-    reason: AbortPart<'_>,
-) -> Result<Vec<u8, A>, PduFault>
-    requires reason { IsReason (reason_of reason) }
-    requires short { IsShortReason (reason_of reason) }
-    ensures written { IfOk result (λ octets. octets.items
-        ≡ written_frame (Message.abort peer.now (reason_of reason.entry))) }
-    ensures memory { IfErr result (λ fault. fault ≡ NoMemory) }
+/// The message of an Abort with this dialogue PDU.
+fn pdu_sending<'a>(peer: &'a TransId, pdu: DialoguePdu<'a>) -> Sending<'a>
+    requires { IsGood (Some pdu) }
+    ensures sent { sending_view result
+        ≡ Message.abort peer.now (Reason.portion (written_dialogue (pdu_value pdu.entry))) }
+    ensures good { IsGood result.pdu }
 {
-    let frame = Frame::Abort {
-        dtid: peer.copied(),
-        reason,
-    };
-    write_frame(alloc, &frame)
+    Sending {
+        bearer: MessageParts::Abort { peer },
+        pdu: Some(pdu),
+    }
 }
 
-/// The octets of an Abort with this dialogue PDU, which is short enough for any message.
-fn write_pdu<A: Allocator + Copy>(
-    alloc: A,
-    peer: &TransId,
-    pdu: &DialoguePdu<'_>,
-) -> Result<Vec<u8, A>, PduFault>
-    requires can { IsWritable (pdu_value pdu.now) }
-    requires diagnostic { HasDiagnostic (pdu_value pdu.now) }
-    requires short { IsShortReason (Reason.portion (written_dialogue (pdu_value pdu.now))) }
-    ensures written { IfOk result (λ octets. octets.items
-        ≡ written_frame (Message.abort peer.now (Reason.portion (written_dialogue (pdu_value pdu.now))))) }
-    ensures memory { IfErr result (λ fault. fault ≡ NoMemory) }
-{
-    let portion = write_dialogue(alloc, pdu)?;
-    write_reason(alloc, peer, AbortPart::Dialogue(&portion))
-}
+impl<'m> Abort<'m> {
+    /// The message of the Abort, not yet measured.
+    #[tactic(auto, using(crate::proofs::AbortLemmas::abort_good, crate::proofs::AbortLemmas::response_good))]
+    fn sending<'a>(&'a self) -> Sending<'a>
+        requires { CanWriteAbort self.now }
+        ensures sent { sending_view result ≡ abort_sent self.now }
+        ensures good { IsGood result.pdu }
+    {
+        match self {
+            Abort::Cause { peer, cause } => Sending {
+                bearer: MessageParts::AbortCause {
+                    peer,
+                    cause: cause.number(),
+                },
+                pdu: None,
+            },
+            Abort::Abnormal { peer } => pdu_sending(
+                peer,
+                DialoguePdu::Abrt {
+                    by_provider: true,
+                    info: &[],
+                },
+            ),
+            Abort::WrongVersion { peer, context } => pdu_sending(
+                peer,
+                DialoguePdu::Aare {
+                    version1: true,
+                    context: *context,
+                    accepted: false,
+                    diagnostic: Diagnostic::Provider(NO_COMMON_DIALOGUE_PORTION),
+                    info: &[],
+                },
+            ),
+        }
+    }
 
-/// The octets of an Abort, which fail only where memory is refused.
-#[tactic(auto, using(crate::proofs::AbortLemmas::abort_short, crate::proofs::AbortLemmas::abort_writable, crate::proofs::AbortLemmas::response_short, crate::proofs::AbortLemmas::response_writable))]
-fn write_any<A: Allocator + Copy>(alloc: A, abort: &Abort<'_>) -> Result<Vec<u8, A>, PduFault>
-    requires { CanWriteAbort abort.now }
-    ensures sent { IfOk result (λ octets. octets.items ≡ written_frame (abort_sent abort.now)) }
-    ensures memory { IfErr result (λ fault. fault ≡ NoMemory) }
-{
-    match abort {
-        Abort::Cause { peer, cause } => write_reason(alloc, peer, AbortPart::Cause(cause.number())),
-        Abort::Abnormal { peer } => write_pdu(
-            alloc,
-            peer,
-            &DialoguePdu::Abrt {
-                by_provider: true,
-                info: &[],
-            },
-        ),
-        Abort::WrongVersion { peer, context } => write_pdu(
-            alloc,
-            peer,
-            &DialoguePdu::Aare {
-                version1: true,
-                context: *context,
-                accepted: false,
-                diagnostic: Diagnostic::Provider(NO_COMMON_DIALOGUE_PORTION),
-                info: &[],
-            },
-        ),
+    /// The message of the Abort, which is short enough for any. The context of one for a wrong version is an
+    /// object identifier, as the AARQ has it. It takes no memory.
+    #[tactic(auto, using(crate::proofs::AbortLemmas::abort_fits))]
+    #[inline(always)]
+    pub fn outgoing<'a>(&'a self) -> Outgoing<'a>
+        requires { CanWriteAbort self.now }
+        ensures { sending_view result.sending ≡ abort_sent self.now }
+    {
+        let sending = self.sending();
+        let length = sending.measured().unwrap();
+        Outgoing { sending, length }
     }
 }
 
@@ -131,5 +125,8 @@ pub fn write_abort<A: Allocator + Copy>(
     requires { CanWriteAbort abort.now }
     ensures { IfOk result (λ octets. octets.items ≡ written_frame (abort_sent abort.now)) }
 {
-    write_any(alloc, abort).map_err(|_fault| OutOfMemory)
+    let message = abort.outgoing();
+    let mut out = Vec::with_capacity(alloc, message.len())?;
+    message.append(&mut out);
+    Ok(out)
 }

@@ -1,5 +1,6 @@
 //! The message of a request: what carries the dialogue portion, and the PDU in it.
 
+pub mod outgoing;
 pub mod portions;
 pub mod written;
 
@@ -31,6 +32,11 @@ pub enum MessageParts<'a> {
     /// Abort by the user.
     Abort {
         peer: &'a TransId,
+    },
+    /// Abort by the provider, with a P-Abort cause, 0 to 127; it carries no dialogue portion.
+    AbortCause {
+        peer: &'a TransId,
+        cause: u8,
     },
 }
 

@@ -1,18 +1,22 @@
 //! The octets of the message of a request.
 
-ghost use Rattle.std.specs.Prelude.{◌≡◌, ◌⊎◌, option_copied, true, false, IfOk, IfErr, IsErrOf, IfSome, None, Some};
-ghost use Rattle.tcap_primitives.specs.SendingViews.{carried_by, reason_with, sending_view};
+ghost use Rattle.std.specs.Prelude.{◌≡◌, ◌⊎◌, ◌+◌, ◌≤◌, ◌++◌, option_copied, true, false, not, is_some, length, vec_len, vec_capacity, IfOk, IfErr, IsErrOf, IfSome, None, Some};
+ghost use Rattle.tcap_primitives.specs.SendingViews.{CanGoOut, IsGood, carried_by, reason_with, sending_view};
 ghost use Rattle.tcap_model.specs.Procedures.Refusals.{passes_message};
 ghost use Rattle.tcap_pdu.specs.declared.fault.PduFault.TheVariants as pdu_fault;
 ghost use Rattle.tcap_pdu.specs.DialogueDue.{content_fault};
 ghost use Rattle.tcap_pdu.specs.DialogueViews.{pdu_value};
 ghost use Rattle.tcap_pdu.specs.DialogueWritten.{HasDiagnostic};
+ghost use Rattle.tcap_pdu.specs.FrameSpelling.{HasIds};
 ghost use Rattle.tcap_pdu.specs.FrameViews.{message, reason_of};
 ghost use Rattle.tcap_pdu.specs.FrameWritten.{written_frame};
 
 use super::{MessageParts, Sending};
+use ber_core::OutOfMemory;
 use std::alloc::Allocator;
-use tcap_pdu::{AbortPart, Frame, PduFault, TransId, write_frame, write_frame_with};
+use tcap_pdu::{
+    AbortPart, Frame, MessageLength, PduFault, TransId, append_message, message_length,
+};
 
 /// What an Abort carries.
 fn reason<'a>(portion: Option<&'a [u8]>) -> AbortPart<'a>
@@ -25,7 +29,8 @@ fn reason<'a>(portion: Option<&'a [u8]>) -> AbortPart<'a>
 }
 
 impl<'a> MessageParts<'a> {
-    /// The message with this dialogue portion, if there is one.
+    /// The message with this dialogue portion, if there is one and it can hold it.
+    #[inline(always)]
     fn frame<'b>(&'b self, dialogue: Option<&'b [u8]>) -> Frame<'b>
         ensures { message result ≡ carried_by self.now (option_copied dialogue.entry) }
     {
@@ -58,11 +63,67 @@ impl<'a> MessageParts<'a> {
                 dtid: peer.copied(),
                 reason: reason(dialogue),
             },
+            MessageParts::AbortCause { peer, cause } => Frame::Abort {
+                dtid: peer.copied(),
+                reason: AbortPart::Cause(*cause),
+            },
         }
     }
 }
 
 impl<'a> Sending<'a> {
+    /// How long the message is, where the contents of its PDU are good; `None` above 65,535 octets. It takes no
+    /// memory (our own).
+    // Where the message is known, as in a request, the match on it folds away; so it does below.
+    #[inline(always)]
+    pub(crate) fn measured(&self) -> Option<MessageLength>
+        requires { IsGood self.now.pdu }
+        ensures some { IfSome result (λ len. CanGoOut len self.now) }
+        ensures passes { is_some result ≡ not (passes_message (Some (sending_view self.now))) }
+        ensures ids { HasIds (sending_view self.now) }
+    {
+        message_length(&self.bearer.frame(None), self.pdu.as_ref())
+    }
+
+    /// Appends the octets of the message, which is so long, and for which there is room.
+    #[inline(always)]
+    pub(super) fn append_measured<A: Allocator + Copy>(
+        &self,
+        out: &mut Vec<u8, A>,
+        len: MessageLength,
+    )
+        requires can { CanGoOut len self.now }
+        requires room { vec_len out.old + length (written_frame (sending_view self.now)) ≤ vec_capacity out.old }
+        ensures items { out.new.items ≡ out.old.items ++ written_frame (sending_view self.now) }
+        ensures capacity { vec_capacity out.old ≤ vec_capacity out.new }
+    {
+        append_message(out, &self.bearer.frame(None), self.pdu.as_ref(), len);
+    }
+
+    /// How many octets the message has, which is so long.
+    #[inline(always)]
+    pub(super) fn octets_measured(&self, len: MessageLength) -> usize
+        requires { CanGoOut len self.now }
+        ensures { result ≡ length (written_frame (sending_view self.now)) }
+    {
+        len.octets()
+    }
+
+    /// The octets of the message, which is so long. All room is taken first, and no more.
+    #[inline(always)]
+    fn spell_measured<A: Allocator + Copy>(
+        &self,
+        alloc: A,
+        len: MessageLength,
+    ) -> Result<Vec<u8, A>, OutOfMemory>
+        requires { CanGoOut len self.now }
+        ensures { IfOk result (λ v. v.items ≡ written_frame (sending_view self.now)) }
+    {
+        let mut out = Vec::with_capacity(alloc, self.octets_measured(len))?;
+        self.append_measured(&mut out, len);
+        Ok(out)
+    }
+
     /// The octets of the message, where the contents of its PDU are good; it is written at once, with the
     /// dialogue portion in its place. Faults: TooLong above 65,535 bytes, then OutOfMemory (our own).
     // Where the message is known, as in a request, the match on it folds away.
@@ -76,10 +137,9 @@ impl<'a> Sending<'a> {
             ((f ≡ pdu_fault.TooLong) × (passes_message (Some (sending_view self.now)) ≡ true))
             ⊎ ((f ≡ pdu_fault.OutOfMemory) × (passes_message (Some (sending_view self.now)) ≡ false))) }
     {
-        let frame = self.bearer.frame(None);
-        match &self.pdu {
-            None => write_frame(alloc, &frame),
-            Some(pdu) => write_frame_with(alloc, &frame, pdu),
-        }
+        let Some(len) = self.measured() else {
+            return Err(PduFault::TooLong);
+        };
+        Ok(self.spell_measured(alloc, len)?)
     }
 }

@@ -1,0 +1,8 @@
+use Rattle.std.proofs.Common.{sym}
+use Rattle.tcap_primitives.specs.OutboxViews.{output_ref_view}
+use Rattle.tcap_primitives.proofs.OutboxRecords.{next_left}
+use Rattle.tcap_primitives.proofs.outbox.iter.OutboxIterIterator.next.Goals as goal
+
+pub returns-clause-steps : goal.returns-clause-steps
+returns-clause-steps g c =
+    next_left c.args.self.now.outbox.now.outputs c.args.self.now.index (output_ref_view c.in_ok-output.output) (sym c.in_ok-output.ensures)

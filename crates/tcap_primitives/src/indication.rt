@@ -1,0 +1,260 @@
+//! What the user is told, wherever it is kept.
+
+ghost use Rattle.std.specs.Prelude.{◌≡◌};
+ghost use Rattle.tcap_primitives.specs.IndicationViews.{indicated, indicated_slices};
+ghost use Rattle.tcap_primitives.specs.OutputViews.{shown};
+ghost use Rattle.tcap_primitives.specs.Slices.{slices_of};
+
+pub mod octets;
+
+use crate::output::{By, DropWhy, Output, Why};
+use std::alloc::Allocator;
+use tcap_component::{Body, Code, Problem};
+use tcap_pdu::DialoguePdu;
+
+/// An indication primitive of TC (Q.771, Component handling; Q.771, Dialogue handling), or what our own adds to
+/// them: what `Output` says but for messages that are sent. Its slices are parts of a message, or of an outbox.
+#[derive(Clone, Copy, Debug, PartialEq, Eq)]
+pub enum Indication<'m> {
+    /// TC-UNI indication.
+    Uni {
+        context: Option<&'m [u8]>,
+        info: &'m [u8],
+    },
+    /// TC-BEGIN indication.
+    Begin {
+        dialogue: u32,
+        context: Option<&'m [u8]>,
+        info: &'m [u8],
+    },
+    /// TC-CONTINUE indication.
+    Continue {
+        dialogue: u32,
+        context: Option<&'m [u8]>,
+        info: &'m [u8],
+    },
+    /// TC-END indication.
+    End {
+        dialogue: u32,
+        context: Option<&'m [u8]>,
+        info: &'m [u8],
+    },
+    /// TC-U-ABORT indication, with the dialogue PDU of the Abort if there is one.
+    UAbort {
+        dialogue: u32,
+        pdu: Option<DialoguePdu<'m>>,
+    },
+    /// TC-P-ABORT indication.
+    PAbort {
+        dialogue: u32,
+        why: Why,
+    },
+    /// TC-INVOKE indication; `dialogue` is `None` in a Unidirectional.
+    Invoked {
+        dialogue: Option<u32>,
+        id: i8,
+        linked: Option<i8>,
+        code: Code<'m>,
+        parameter: Option<&'m [u8]>,
+    },
+    /// TC-RESULT-NL indication.
+    ResultMore {
+        dialogue: u32,
+        number: u64,
+        id: i8,
+        body: Option<Body<'m>>,
+    },
+    /// TC-L-REJECT indication of a component that was received, which closes no invocation.
+    LocalReject {
+        dialogue: Option<u32>,
+        id: Option<i8>,
+        problem: Problem,
+    },
+    /// TC-U-REJECT or TC-R-REJECT indication that closes no invocation.
+    RemoteReject {
+        dialogue: Option<u32>,
+        id: Option<i8>,
+        problem: Problem,
+        by: By,
+    },
+    /// TC-RESULT-L indication; it closes the invocation.
+    ResultLast {
+        dialogue: u32,
+        number: u64,
+        id: i8,
+        body: Option<Body<'m>>,
+    },
+    /// TC-U-ERROR indication; it closes the invocation.
+    ErrorBack {
+        dialogue: u32,
+        number: u64,
+        id: i8,
+        code: Code<'m>,
+        parameter: Option<&'m [u8]>,
+    },
+    /// TC-L-REJECT, TC-R-REJECT or TC-U-REJECT indication that closes an invocation.
+    Rejected {
+        dialogue: u32,
+        number: u64,
+        id: i8,
+        problem: Problem,
+        by: By,
+    },
+    /// TC-L-CANCEL indication: the timer of the invocation ran out.
+    Lapsed {
+        dialogue: u32,
+        number: u64,
+        id: i8,
+    },
+    /// The dialogue of the invocation is over (our own).
+    Ended {
+        dialogue: u32,
+        number: u64,
+        id: i8,
+    },
+    /// A message was dropped (our own).
+    Dropped(DropWhy),
+}
+
+impl<'m> Indication<'m> {
+    /// The same as an output.
+    // Where the indication is known, the match on it folds away, and the output is built in its place.
+    #[inline(always)]
+    pub fn output<A: Allocator>(self) -> Output<'m, A>
+        ensures told { shown result ≡ indicated self.entry }
+        ensures slices { slices_of result ≡ indicated_slices self.entry }
+    {
+        match self {
+            Indication::Uni { context, info } => Output::Uni { context, info },
+            Indication::Begin {
+                dialogue,
+                context,
+                info,
+            } => Output::Begin {
+                dialogue,
+                context,
+                info,
+            },
+            Indication::Continue {
+                dialogue,
+                context,
+                info,
+            } => Output::Continue {
+                dialogue,
+                context,
+                info,
+            },
+            Indication::End {
+                dialogue,
+                context,
+                info,
+            } => Output::End {
+                dialogue,
+                context,
+                info,
+            },
+            Indication::UAbort { dialogue, pdu } => Output::UAbort { dialogue, pdu },
+            Indication::PAbort { dialogue, why } => Output::PAbort { dialogue, why },
+            Indication::Invoked {
+                dialogue,
+                id,
+                linked,
+                code,
+                parameter,
+            } => Output::Invoked {
+                dialogue,
+                id,
+                linked,
+                code,
+                parameter,
+            },
+            Indication::ResultMore {
+                dialogue,
+                number,
+                id,
+                body,
+            } => Output::ResultMore {
+                dialogue,
+                number,
+                id,
+                body,
+            },
+            Indication::LocalReject {
+                dialogue,
+                id,
+                problem,
+            } => Output::LocalReject {
+                dialogue,
+                id,
+                problem,
+            },
+            Indication::RemoteReject {
+                dialogue,
+                id,
+                problem,
+                by,
+            } => Output::RemoteReject {
+                dialogue,
+                id,
+                problem,
+                by,
+            },
+            Indication::ResultLast {
+                dialogue,
+                number,
+                id,
+                body,
+            } => Output::ResultLast {
+                dialogue,
+                number,
+                id,
+                body,
+            },
+            Indication::ErrorBack {
+                dialogue,
+                number,
+                id,
+                code,
+                parameter,
+            } => Output::ErrorBack {
+                dialogue,
+                number,
+                id,
+                code,
+                parameter,
+            },
+            Indication::Rejected {
+                dialogue,
+                number,
+                id,
+                problem,
+                by,
+            } => Output::Rejected {
+                dialogue,
+                number,
+                id,
+                problem,
+                by,
+            },
+            Indication::Lapsed {
+                dialogue,
+                number,
+                id,
+            } => Output::Lapsed {
+                dialogue,
+                number,
+                id,
+            },
+            Indication::Ended {
+                dialogue,
+                number,
+                id,
+            } => Output::Ended {
+                dialogue,
+                number,
+                id,
+            },
+            Indication::Dropped(why) => Output::Dropped(why),
+        }
+    }
+}

@@ -1,0 +1,93 @@
+//! How many octets an indication names.
+
+ghost use Rattle.std.specs.Prelude.{◌≡◌, ◌<◌, ◌^◌};
+ghost use Rattle.tcap_primitives.specs.IndicationViews.{body_octets, code_octets, indicated_octets, optional_octets, pdu_octets};
+
+use super::Indication;
+use tcap_component::{Body, Code};
+use tcap_pdu::DialoguePdu;
+
+/// How many octets there are, if any.
+#[inline(always)]
+fn optional_octets(octets: Option<&[u8]>) -> usize
+    ensures value { result ≡ optional_octets octets.entry }
+    ensures within { result < 2 ^ 63 }
+{
+    octets.map_or(0, |octets| octets.len())
+}
+
+/// How many octets a code has apart from its number.
+#[inline(always)]
+fn code_octets(code: &Code<'_>) -> usize
+    ensures value { result ≡ code_octets code.now }
+    ensures within { result < 2 ^ 63 }
+{
+    match code {
+        Code::Local(_) => 0,
+        Code::Global(octets) => octets.len(),
+    }
+}
+
+/// How many octets the body of a result names, if there is one.
+#[inline(always)]
+fn body_octets(body: &Option<Body<'_>>) -> usize
+    ensures { result ≡ body_octets body.now }
+{
+    match body {
+        None => 0,
+        Some(body) => code_octets(&body.code) + optional_octets(body.parameter),
+    }
+}
+
+/// How many octets a dialogue PDU names, if there is one.
+#[inline(always)]
+fn pdu_octets(pdu: &Option<DialoguePdu<'_>>) -> usize
+    ensures { result ≡ pdu_octets pdu.now }
+{
+    match pdu {
+        None => 0,
+        Some(
+            DialoguePdu::Aarq { context, info, .. }
+            | DialoguePdu::Audt { context, info, .. }
+            | DialoguePdu::Aare { context, info, .. },
+        ) => context.len() + info.len(),
+        Some(DialoguePdu::Abrt { info, .. }) => info.len(),
+        Some(DialoguePdu::Foreign { external }) => external.len(),
+    }
+}
+
+impl<'m> Indication<'m> {
+    /// How many octets it names: those of its slices. It takes no memory.
+    #[inline(always)]
+    pub fn octet_count(&self) -> usize
+        ensures { result ≡ indicated_octets self.now }
+    {
+        match self {
+            Indication::Uni { context, info }
+            | Indication::Begin { context, info, .. }
+            | Indication::Continue { context, info, .. }
+            | Indication::End { context, info, .. } => optional_octets(*context) + info.len(),
+            Indication::UAbort { pdu, .. } => pdu_octets(pdu),
+            Indication::Invoked {
+                code,
+                parameter,
+                ..
+            }
+            | Indication::ErrorBack {
+                code,
+                parameter,
+                ..
+            } => code_octets(code) + optional_octets(*parameter),
+            Indication::ResultMore { body, .. } | Indication::ResultLast { body, .. } => {
+                body_octets(body)
+            }
+            Indication::PAbort { .. }
+            | Indication::LocalReject { .. }
+            | Indication::RemoteReject { .. }
+            | Indication::Rejected { .. }
+            | Indication::Lapsed { .. }
+            | Indication::Ended { .. }
+            | Indication::Dropped(_) => 0,
+        }
+    }
+}

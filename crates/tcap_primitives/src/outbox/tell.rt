@@ -1,0 +1,95 @@
+//! An outbox takes outputs.
+
+ghost use Rattle.std.specs.Prelude.{◌≡◌, ◌+◌, ◌-◌, ◌^◌, ◌≤◌, ◌<◌, ◌++◌, ◌∷◌, [], length, take, vec_len, vec_capacity, OnOk, OnErr};
+ghost use Rattle.tcap_model.specs.Words.Output as model;
+ghost use Rattle.tcap_pdu.specs.FrameWritten.{written_frame};
+ghost use Rattle.tcap_primitives.specs.IndicationViews.{indicated, indicated_octets};
+ghost use Rattle.tcap_primitives.specs.OutboxReading.{part};
+ghost use Rattle.tcap_primitives.specs.OutboxSpans.{Fits, HasRoom, most_octets};
+ghost use Rattle.tcap_primitives.specs.SendingViews.{sending_view};
+
+use super::Outbox;
+use super::indications::keep_indication;
+use super::keeping::keep;
+use super::records::{Record, Span};
+use super::room::{make_places, make_room};
+use crate::indication::Indication;
+use crate::sending::outgoing::Outgoing;
+use std::alloc::{AllocError, Allocator};
+
+impl<A: Allocator + Copy> Outbox<A> {
+    /// Makes places for so many outputs, whose indications name so many octets. Nothing takes no memory.
+    #[inline(always)]
+    pub(crate) fn reserve(&mut self, count: usize, octets: usize) -> Result<(), AllocError>
+        ensures same { self.new.outputs ≡ self.old.outputs }
+        ensures places { self.old.places ≤ self.new.places }
+        ensures count { OnOk result (count ≤ self.new.places) }
+        ensures octets { OnOk result (octets ≤ self.new.octets) }
+        ensures within { OnOk result ((count < 2 ^ 63) × (octets < 2 ^ 64 - 1)) }
+        ensures memory { OnErr result (0 < count + octets) }
+    {
+        make_places(&mut self.records, count)?;
+        make_room(&mut self.octets, octets)
+    }
+
+    /// Appends an indication, for which there is room.
+    // Where the indication is known, the match on it folds away.
+    #[inline(always)]
+    pub(crate) fn tell(&mut self, indication: Indication<'_>)
+        requires place { 1 ≤ self.old.places }
+        requires octets { indicated_octets indication ≤ self.old.octets }
+        ensures told { self.new.outputs ≡ self.old.outputs ++ indicated indication.entry ∷ [] }
+        ensures places { self.old.places ≤ self.new.places + 1 }
+        ensures octets { self.old.octets ≤ self.new.octets + indicated_octets indication.entry }
+    {
+        let kept = keep_indication(&mut self.octets, indication);
+        self.records.push_reserved(kept);
+    }
+
+    /// Writes a message that goes to this address; there is a place for it.
+    #[inline(always)]
+    pub(crate) fn send(&mut self, to: &[u8], message: &Outgoing<'_>) -> Result<(), AllocError>
+        requires to { length to.now ≤ 255 }
+        requires place { 1 ≤ self.old.places }
+        ensures ok { OnOk result (self.new.outputs ≡ self.old.outputs
+            ++ model.Output.send to.now (written_frame (sending_view message.now.sending)) ∷ []) }
+        ensures err { OnErr result (self.new.outputs ≡ self.old.outputs) }
+        ensures places { OnOk result (self.old.places ≤ self.new.places + 1) }
+    {
+        make_room(&mut self.octets, to.len().saturating_add(message.len()))?;
+        let to = keep(&mut self.octets, to);
+        let bytes = keep_message(&mut self.octets, message);
+        self.records.push_reserved(Record::Send { to, bytes });
+        Ok(())
+    }
+
+    /// Takes back the outputs behind the first so many.
+    // Their octets go with the next `clear`, or here, where nothing is left.
+    pub(crate) fn truncate(&mut self, count: usize)
+        ensures { self.new.outputs ≡ take count self.old.outputs }
+    {
+        if count == 0 {
+            self.clear();
+        } else {
+            self.records.truncate(count);
+        }
+    }
+}
+
+/// Appends the octets of a message, for which there is room.
+#[inline(always)]
+fn keep_message<A: Allocator + Copy>(octets: &mut Vec<u8, A>, message: &Outgoing<'_>) -> Span
+    requires { HasRoom (vec_capacity octets.old) (vec_len octets.old) (length (written_frame (sending_view message.now.sending))) }
+    ensures items { octets.new.items ≡ octets.old.items ++ written_frame (sending_view message.now.sending) }
+    ensures within { vec_len octets.new ≤ most_octets }
+    ensures capacity { vec_capacity octets.old ≤ vec_capacity octets.new }
+    ensures fits { Fits octets.new.items result }
+    ensures reads { part octets.new.items result ≡ written_frame (sending_view message.now.sending) }
+{
+    let at = octets.len() as u32;
+    message.append(octets);
+    Span {
+        at,
+        len: message.len() as u32,
+    }
+}

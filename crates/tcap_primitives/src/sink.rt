@@ -1,0 +1,201 @@
+//! Where the outputs of a call go.
+
+ghost use Rattle.std.specs.Prelude.{◌≡◌, ◌+◌, ◌-◌, ◌^◌, ◌≤◌, ◌<◌, ◌++◌, ◌∷◌, [], true, false, Bool, Option, length, map, take, vec_len, vec_capacity, OnOk, OnErr};
+ghost use Rattle.ber_core.specs.Place.{Slice};
+ghost use Rattle.tcap_model.specs.Words.Output as model;
+ghost use Rattle.tcap_pdu.specs.FrameWritten.{written_frame};
+ghost use Rattle.tcap_primitives.specs.IndicationViews.{indicated, indicated_octets, indicated_slices};
+ghost use Rattle.tcap_primitives.specs.OutputViews.{all_shown};
+ghost use Rattle.tcap_primitives.specs.SendingViews.{sending_view};
+ghost use Rattle.tcap_primitives.specs.Slices.{LieIn, LieInPlace, slices_of};
+
+use crate::indication::Indication;
+use crate::outbox::Outbox;
+use crate::output::Output;
+use crate::sending::outgoing::Outgoing;
+use std::alloc::{AllocError, Allocator};
+use std::marker::{Model, PhantomData};
+use tcap_address::Address;
+
+/// Which of the two a sink is.
+pub trait SinkKind {
+    ghost TO_OUTBOX: { Bool };
+
+    /// Whether it is an outbox.
+    const TO_OUTBOX: bool;
+}
+
+/// A vector, whose outputs have slices of the message that was received.
+pub struct ToVector;
+
+impl SinkKind for ToVector {
+    ghost TO_OUTBOX = { false };
+
+    const TO_OUTBOX: bool = false;
+}
+
+/// An outbox, which keeps the octets that its outputs name.
+pub struct ToOutbox;
+
+impl SinkKind for ToOutbox {
+    ghost TO_OUTBOX = { true };
+
+    const TO_OUTBOX: bool = true;
+}
+
+/// Where the outputs of a call go, in order: a vector or an outbox, by its kind. All room is made before anything is
+/// told.
+// The kind is known where a call is compiled, so that each of its two copies has one way alone. A trait with both as
+// its implementations says the same; the toolchain doesn't take a type argument that holds a lifetime beside an
+// allocator.
+#[derive(Drop)]
+pub struct Sink<'m, A: Allocator + Copy, K: SinkKind> {
+    vector: Vec<Output<'m, A>, A>,
+    outbox: Outbox<A>,
+    kind: PhantomData<K>,
+}
+
+impl<'m, A: Allocator + Copy, K: SinkKind> Model for Sink<'m, A, K> {
+    ghost use Rattle.tcap_primitives.specs.SinkViews.{Filled, filled_by};
+
+    ghost Value = { Filled };
+
+    ghost view = { λ s. filled_by K.TO_OUTBOX s.vector s.outbox };
+}
+
+impl<'m, A: Allocator + Copy> Sink<'m, A, ToVector> {
+    /// A vector, which takes no memory yet.
+    #[inline(always)]
+    pub fn vector(alloc: A) -> Self
+        ensures outputs { result.outputs ≡ [] }
+        ensures slices { result.slices ≡ [] }
+    {
+        Sink {
+            vector: Vec::new(alloc),
+            outbox: Outbox::new(alloc),
+            kind: PhantomData,
+        }
+    }
+
+    /// The vector.
+    #[inline(always)]
+    pub fn into_vector(self) -> Vec<Output<'m, A>, A>
+        ensures outputs { all_shown result.items ≡ self.entry.outputs }
+        ensures slices { map slices_of result.items ≡ self.entry.slices }
+        ensures room { vec_capacity result - vec_len result ≡ self.entry.places }
+    {
+        self.vector
+    }
+}
+
+impl<'m, A: Allocator + Copy> Sink<'m, A, ToOutbox> {
+    /// This outbox.
+    #[inline(always)]
+    pub fn outbox(alloc: A, outbox: Outbox<A>) -> Self
+        ensures { result.outputs ≡ outbox.outputs }
+    {
+        Sink {
+            vector: Vec::new(alloc),
+            outbox,
+            kind: PhantomData,
+        }
+    }
+
+    /// The outbox.
+    #[inline(always)]
+    pub fn into_outbox(self) -> Outbox<A>
+        ensures { result.outputs ≡ self.entry.outputs }
+    {
+        self.outbox
+    }
+}
+
+// All of it is copied to its caller, where the indication is known: the match on it folds away, and the output is
+// built in its place.
+impl<'m, A: Allocator + Copy, K: SinkKind> Sink<'m, A, K> {
+    /// Makes places for so many outputs, whose indications name so many octets. Nothing takes no memory.
+    #[inline(always)]
+    pub fn reserve(&mut self, count: usize, octets: usize) -> Result<(), AllocError>
+        ensures same { self.new.outputs ≡ self.old.outputs }
+        ensures slices { self.new.slices ≡ self.old.slices }
+        ensures places { self.old.places ≤ self.new.places }
+        ensures count { OnOk result (count ≤ self.new.places) }
+        ensures octets { OnOk result (octets ≤ self.new.octets) }
+        // More than memory can hold is refused.
+        ensures within { OnOk result ((count < 2 ^ 63) × (octets < 2 ^ 64 - 1)) }
+        ensures memory { OnErr result (0 < count + octets) }
+    {
+        if K::TO_OUTBOX {
+            return self.outbox.reserve(count, octets);
+        }
+        if octets == usize::MAX {
+            return Err(AllocError);
+        }
+        // It is made for one call, and takes what this needs.
+        self.vector.reserve_exact(count)
+    }
+
+    /// Appends an indication, for which there is room.
+    #[inline(always)]
+    pub fn tell(&mut self, indication: Indication<'m>)
+        requires place { 1 ≤ self.old.places }
+        requires octets { indicated_octets indication ≤ self.old.octets }
+        ensures told { self.new.outputs ≡ self.old.outputs ++ indicated indication.entry ∷ [] }
+        ensures places { self.old.places ≤ self.new.places + 1 }
+        ensures octets { self.old.octets ≤ self.new.octets + indicated_octets indication.entry }
+        ensures place { (portion : Option Slice) (components : Slice)
+            → LieIn portion components (indicated_slices indication.entry)
+            → LieInPlace portion components self.old.slices → LieInPlace portion components self.new.slices }
+    {
+        if K::TO_OUTBOX {
+            self.outbox.tell(indication);
+        } else {
+            self.vector.push_reserved(indication.output());
+        }
+    }
+
+    /// Writes a message that goes to this address, of at most 255 octets; there is a place for it.
+    #[inline(always)]
+    pub fn send(&mut self, to: &[u8], message: &Outgoing<'_>) -> Result<(), AllocError>
+        requires to { length to.now ≤ 255 }
+        requires place { 1 ≤ self.old.places }
+        ensures ok { OnOk result (self.new.outputs ≡ self.old.outputs
+            ++ model.Output.send to.now (written_frame (sending_view message.now.sending)) ∷ []) }
+        ensures err { OnErr result (self.new.outputs ≡ self.old.outputs) }
+        ensures places { OnOk result (self.old.places ≤ self.new.places + 1) }
+        ensures place { (portion : Option Slice) (components : Slice)
+            → LieInPlace portion components self.old.slices → LieInPlace portion components self.new.slices }
+    {
+        if K::TO_OUTBOX {
+            return self.outbox.send(to, message);
+        }
+        let mut bytes = Vec::with_capacity(*self.vector.allocator(), message.len())?;
+        message.append(&mut bytes);
+        let to = Address::new(to).unwrap();
+        self.vector.push_reserved(Output::Send { to, bytes });
+        Ok(())
+    }
+
+    /// How many outputs it holds.
+    #[inline(always)]
+    pub fn count(&self) -> usize
+        ensures { result ≡ length self.now.outputs }
+    {
+        if K::TO_OUTBOX {
+            self.outbox.len()
+        } else {
+            self.vector.len()
+        }
+    }
+
+    /// Takes back the outputs behind the first so many.
+    pub fn truncate(&mut self, count: usize)
+        ensures { self.new.outputs ≡ take count self.old.outputs }
+    {
+        if K::TO_OUTBOX {
+            self.outbox.truncate(count);
+        } else {
+            self.vector.truncate(count);
+        }
+    }
+}
