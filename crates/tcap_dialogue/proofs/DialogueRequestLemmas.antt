@@ -1,10 +1,11 @@
 -- The first due fault of a request of dialogue handling, and what it gives.
 use Rattle.std.proofs.Common.{◌≡◌, ◌∙◌, ℕ, Bool, true, false, cond, List, [], ◌∷◌, ◌++◌, Option, Some, None, Result, Ok, Err, inl, inr, refl, sym, ap, subst, length, is_some, nat_lt, ◌||◌, IsTrue}
 use Rattle.std.specs.Prelude.{IfOk, IfErr}
-use Rattle.std.specs.declared.vec.Vec.{Vec}
-use Rattle.tcap_dialogue.specs.RequestMessages.{IsRefusal, IsUnspelled, early_faults, octets_sent}
+use Rattle.tcap_dialogue.specs.RequestMessages.{early_faults}
+use Rattle.tcap_model.specs.Procedures.AbortRules.{sent_if_any}
 use Rattle.tcap_model.specs.Procedures.RequestMessage.{message_of}
 use Rattle.tcap_primitives.specs.declared.fault.Fault.{Fault as RequestFault}
+use Rattle.tcap_primitives.specs.declared.fault.Fault.TheVariants as too_long
 use Rattle.tcap_primitives.specs.FaultViews.{fault_view}
 use Rattle.tcap_dialogue.specs.RequestForm.{takes_memory}
 use Rattle.tcap_model.specs.Words.Address.{Address}
@@ -53,24 +54,20 @@ module _ (s : Situation) (a : DialogueRequest) (none : None ≡ first_that (hold
   late-due : due_on s (Request.dialogue a) ≡ cond (passes_message (message_of s.standing (Request.dialogue a))) (Some Fault.too_long) None
   late-due = request-due s a ∙ last-first (holds s (Request.dialogue a)) Fault.too_long early_faults (sym none)
 
-  pub spelled-due : {V W : Type 0} (Are : V → Option Message → Type 0) (r : Result V W) (m : Option Message) → m ≡ message_of s.standing (Request.dialogue a)
-      → IfOk r (λ v. Are v m × (passes_message m ≡ false)) → IfOk r (λ v. Are v (message_of s.standing (Request.dialogue a)) × (due_on s (Request.dialogue a) ≡ None))
-  spelled-due Are (Ok v) m is h = (subst (Are v) is h.0, late-due ∙ ap (λ (b : Bool). cond b (Some Fault.too_long) None) (ap passes_message (sym is) ∙ h.1))
-  spelled-due Are (Err f) m is h = tt
+  -- A message within the limit is not refused, and one above it is too long.
+  pub within-due : {V W : Type 0} (r : Result V W) (view : V → Option Message) (m : Option Message) → m ≡ message_of s.standing (Request.dialogue a)
+      → IfOk r (λ v. (view v ≡ m) × (passes_message m ≡ false)) → IfOk r (λ v. (view v ≡ message_of s.standing (Request.dialogue a)) × (due_on s (Request.dialogue a) ≡ None))
+  within-due (Ok v) view m is h = (h.0 ∙ is, late-due ∙ ap (λ (b : Bool). cond b (Some Fault.too_long) None) (ap passes_message (sym is) ∙ h.1))
+  within-due (Err f) view m is h = tt
 
-  pub unspelled-due : {V : Type 0} (r : Result V RequestFault) (m : Option Message) → m ≡ message_of s.standing (Request.dialogue a)
-      → IfErr r (λ f. IsUnspelled f m) → IfErr r (λ f. IsRefusal f (message_of s.standing (Request.dialogue a)) (due_on s (Request.dialogue a)))
-  unspelled-due r m is h = told r (subst (λ (x : Option Message). IfErr r (λ f. IsUnspelled f x)) is h)
-    where
-      told : {V : Type 0} (r : Result V RequestFault) → IfErr r (λ f. IsUnspelled f (message_of s.standing (Request.dialogue a)))
-          → IfErr r (λ f. IsRefusal f (message_of s.standing (Request.dialogue a)) (due_on s (Request.dialogue a)))
-      told (Ok v) h = tt
-      told (Err f) (inl h) = inl (late-due ∙ ap (λ (b : Bool). cond b (Some Fault.too_long) None) h.1 ∙ ap (λ (x : RequestFault). Some (fault_view x)) (sym h.0))
-      told (Err f) (inr h) = inr (h.0, late-due ∙ ap (λ (b : Bool). cond b (Some Fault.too_long) None) h.1, h.2)
+  pub long-due : {V : Type 0} (r : Result V RequestFault) (m : Option Message) → m ≡ message_of s.standing (Request.dialogue a)
+      → IfErr r (λ f. (f ≡ too_long.TooLong) × (passes_message m ≡ true)) → IfErr r (λ f. due_on s (Request.dialogue a) ≡ Some (fault_view f))
+  long-due (Ok v) m is h = tt
+  long-due (Err f) m is h = late-due ∙ ap (λ (b : Bool). cond b (Some Fault.too_long) None) (ap passes_message (sym is) ∙ h.1) ∙ ap (λ (x : RequestFault). Some (fault_view x)) (sym h.0)
 
 -- Where memory is refused, something would have been sent or told: there is a message, or an invocation is left.
-pub memory-told : {A : Type 0} (to : Address) (octets : Option (Vec ℕ A)) (left : ℕ) (told : List Output) → left ≡ length told → IsTrue (is_some octets || nat_lt 0 left)
-    → IsTrue (takes_memory (Answer.outputs (octets_sent to octets ++ told)))
+pub memory-told : (to : Address) (m : Option Message) (left : ℕ) (told : List Output) → left ≡ length told → IsTrue (is_some m || nat_lt 0 left)
+    → IsTrue (takes_memory (Answer.outputs (sent_if_any to m ++ told)))
 memory-told to None left [] many h = rw many at h
 memory-told to None left (o ∷ os) many h = refl
 memory-told to (Some v) left told many h = refl

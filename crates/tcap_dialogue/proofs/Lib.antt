@@ -2,9 +2,11 @@ pub mod CallerLemmas
 pub mod DialogueRequestLemmas
 pub mod InvokeLemmas
 pub mod ItemLemmas
+pub mod OctetLemmas
 pub mod PlaceLemmas
 pub mod PortionNames
 pub mod RefusalLemmas
 pub mod ResultLemmas
+pub mod SliceOctets
 pub mod SpareLemmas
 pub mod WalkLemmas

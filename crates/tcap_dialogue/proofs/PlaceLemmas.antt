@@ -1,5 +1,5 @@
 -- The slices of what the components tell lie in place.
-use Rattle.std.proofs.Common.{◌≡◌, List, [], ◌∷◌, ◌++◌, Option, Some, Result, Ok, Err, refl, sym, ap, subst, ◌∙◌, append_assoc}
+use Rattle.std.proofs.Common.{◌≡◌, List, [], ◌∷◌, ◌++◌, Option, Some, Result, Ok, Err, refl, sym, ap, subst, map, ◌∙◌, append_assoc}
 use Rattle.ber_core.specs.Place.{Slice, AtEnd}
 use Rattle.tcap_component.specs.declared.component.Component.{Component}
 use Rattle.tcap_component.specs.declared.components.Components.{Components}
@@ -9,7 +9,7 @@ use Rattle.tcap_component.specs.Place.{ItemInPlace, bytes_left, components_steps
 use Rattle.tcap_component.specs.Views.{item_view}
 use Rattle.tcap_model.specs.Procedures.ComponentHandling.{Item}
 use Rattle.tcap_primitives.specs.declared.output.Output.{Output}
-use Rattle.tcap_primitives.specs.Slices.{Slices, IsLeftOf, ComponentLiesIn, AreOfItem, LieIn, AllInPlace, slices_of}
+use Rattle.tcap_primitives.specs.Slices.{Slices, IsLeftOf, ComponentLiesIn, AreOfItem, LieIn, LieInPlace, AllInPlace, slices_of}
 
 -- All is left of a component portion of which nothing was read.
 pub left_self : (portion : Slice) → IsLeftOf portion portion
@@ -29,7 +29,8 @@ pub left_step : (portion : Slice) (old new : Components) (item : Result Componen
     IsLeftOf (bytes_left old) portion → components_steps old (Some item) new → IsLeftOf (bytes_left new) portion
 left_step portion old new item left step = left_behind portion (bytes_left old) (bytes_left new) item left step.0 step.1.1
 
-component-lies : (portion : Slice) (dialogue : Option Slice) (bytes : Slice) (item : Result Component ComponentFault) (slices : Slices) →
+-- The slices of the component that is read lie in place.
+pub component-lies : (portion : Slice) (dialogue : Option Slice) (bytes : Slice) (item : Result Component ComponentFault) (slices : Slices) →
     IsLeftOf bytes portion → ItemInPlace item bytes → AreOfItem item slices → LieIn dialogue portion slices
 component-lies portion dialogue bytes (Ok c) Slices.none left place are = tt
 component-lies portion dialogue bytes (Ok c) (Slices.held tag context info) left place are = absurd are
@@ -38,32 +39,12 @@ component-lies portion dialogue bytes (Ok c) (Slices.of_component told) left pla
     subst (λ x. ComponentLiesIn x portion) (sym are) (record { bytes = bytes; is_left = left; in_place = place })
 component-lies portion dialogue bytes (Err f) slices left place are = subst (LieIn dialogue portion) (sym are) tt
 
+-- The slices of the outputs of a vector lie in place.
 module _ {A : Type 0} where
-  pub all_push : (dialogue : Option Slice) (portion : Slice) (outputs : List (Output A)) (o : Output A) →
-      AllInPlace dialogue portion outputs → LieIn dialogue portion (slices_of o) → AllInPlace dialogue portion (outputs ++ o ∷ [])
-  all_push dialogue portion [] o all one = (one, tt)
-  all_push dialogue portion (x ∷ xs) o all one = (all.0, all_push dialogue portion xs o all.1 one)
+  each-in-place : (dialogue : Option Slice) (portion : Slice) (outputs : List (Output A)) → LieInPlace dialogue portion (map slices_of outputs) → AllInPlace dialogue portion outputs
+  each-in-place dialogue portion [] all = tt
+  each-in-place dialogue portion (o ∷ os) all = (all.0, each-in-place dialogue portion os all.1)
 
-  -- One output more, of the component that is read.
-  pub one_more : (dialogue : Option Slice) (portion : Slice) (outputs : List (Output A)) (told : Output A) (bytes : Slice) (item : Result Component ComponentFault) →
-      IsLeftOf bytes portion → ItemInPlace item bytes → AreOfItem item (slices_of told) →
-      AllInPlace dialogue portion outputs → AllInPlace dialogue portion (outputs ++ told ∷ [])
-  one_more dialogue portion outputs told bytes item left place are all =
-      all_push dialogue portion outputs told all (component-lies portion dialogue bytes item (slices_of told) left place are)
-
-  -- The same of all outputs then.
-  pub one_after : (dialogue : Option Slice) (portion : Slice) (outputs all : List (Output A)) (told : Output A) (bytes : Slice) (item : Result Component ComponentFault) →
-      IsLeftOf bytes portion → ItemInPlace item bytes → AreOfItem item (slices_of told) → all ≡ outputs ++ told ∷ [] →
-      AllInPlace dialogue portion outputs → AllInPlace dialogue portion all
-  one_after dialogue portion outputs all told bytes item left place are last before =
-      rw last (one_more dialogue portion outputs told bytes item left place are before)
-
-  -- The first output.
-  pub all_first : (dialogue : Option Slice) (portion : Slice) (outputs all : List (Output A)) (o : Output A) →
-      outputs ≡ [] → all ≡ outputs ++ o ∷ [] → LieIn dialogue portion (slices_of o) → AllInPlace dialogue portion all
-  all_first dialogue portion outputs all o none one lies = rw (one, none) (lies, tt)
-
-  -- One output more.
-  pub all_next : (dialogue : Option Slice) (portion : Slice) (outputs all : List (Output A)) (o : Output A) →
-      AllInPlace dialogue portion outputs → all ≡ outputs ++ o ∷ [] → LieIn dialogue portion (slices_of o) → AllInPlace dialogue portion all
-  all_next dialogue portion outputs all o before one lies = rw one (all_push dialogue portion outputs o before lies)
+  pub vector-in-place : (dialogue : Option Slice) (portion : Slice) (outputs : List (Output A)) (slices : List Slices) →
+      map slices_of outputs ≡ slices → LieInPlace dialogue portion slices → AllInPlace dialogue portion outputs
+  vector-in-place dialogue portion outputs slices are all = each-in-place dialogue portion outputs (subst (LieInPlace dialogue portion) (sym are) all)

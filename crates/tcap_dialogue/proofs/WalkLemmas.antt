@@ -10,10 +10,7 @@ use Rattle.tcap_model.specs.Procedures.QueueRules.{Queued, queue_limit, queue_ea
 use Rattle.tcap_model.specs.Table.Dialogue.{sent_by_rows}
 use Rattle.tcap_model.specs.Table.TableMove.{Walked, walked, walked_before, reject_queued, after_item, ended_told}
 use Rattle.tcap_model.specs.Words.Output.{Output, Closing, ComponentIndication}
-use Rattle.tcap_primitives.specs.declared.output.Output.TheVariants as output
 use Rattle.tcap_invocation.specs.Invocations.{InvocationList}
-use Rattle.tcap_primitives.specs.declared.output.Output as code
-use Rattle.tcap_primitives.specs.OutputViews.{all_shown, shown}
 use Rattle.tcap_dialogue.specs.Walking.{WalkTold, told_from, Done, done_by, done_from, with_reject}
 
 rejects_each : (queue : List Queued) (reject : Option ComponentParts) (rejects : List Queued) →
@@ -66,15 +63,6 @@ pub told_next : (dialogue clock : ℕ) (told told_new : List Output) (list list_
 told_next dialogue clock told told_new list list_new one item items_new items first by more after =
     rw (first, more, after, by) (told_step dialogue clock (record { told = told; list = list }) item items_new)
 
-module _ {A : Type 0} where
-  shown_end : (os : List (code.Output A)) (o : code.Output A) → all_shown (os ++ o ∷ []) ≡ all_shown os ++ shown o ∷ []
-  shown_end [] o = refl
-  shown_end (x ∷ xs) o = ap (λ (ms : List Output). shown x ∷ ms) (shown_end xs o)
-
-  -- One output more is shown.
-  pub shown_push : (outputs all : List (code.Output A)) (o : code.Output A) → all ≡ outputs ++ o ∷ [] → all_shown all ≡ all_shown outputs ++ shown o ∷ []
-  shown_push outputs all o e = rw e (shown_end outputs o)
-
 -- A component leaves no more invocations to be ended.
 pub ended_next : (clock : ℕ) (list : InvocationList) (item : Item) → length (ended_at (after_item clock list item).rows) ≤ length (ended_at list.rows)
 ended_next clock list (Ok (invoke id linked code parameter)) = omega arith
@@ -86,21 +74,21 @@ ended_next clock list (Ok (reject_back (Some id) problem)) = ended_at-after_reje
 ended_next clock list (Err f) = omega arith
 
 -- One invocation more is told as ended.
-pub tell_next : {A : Type 0} → (d number : ℕ) (id : ℤ) (outputs all : List (code.Output A)) (list rest : InvocationList) →
-    all ≡ outputs ++ output.Ended d number id ∷ [] → ended_at list.rows ≡ (number, id) ∷ ended_at rest.rows →
-    all_shown all ++ ended_told d rest ≡ all_shown outputs ++ ended_told d list
-tell_next d number id outputs all list rest more left =
+pub tell_next : (d number : ℕ) (id : ℤ) (before after : List Output) (list rest : InvocationList) →
+    after ≡ before ++ Output.component (ComponentIndication.closed d number id Closing.ended) ∷ [] → ended_at list.rows ≡ (number, id) ∷ ended_at rest.rows →
+    after ++ ended_told d rest ≡ before ++ ended_told d list
+tell_next d number id before after list rest more left =
     let told : Output = Output.component (ComponentIndication.closed d number id Closing.ended) in
-    ap (λ (os : List Output). os ++ ended_told d rest) (shown_push outputs all (output.Ended d number id) more)
-    ∙ append_assoc (all_shown outputs) (told ∷ []) (ended_told d rest)
-    ∙ ap (λ (es : List (ℕ × ℤ)). all_shown outputs ++ map (λ e. Output.component (ComponentIndication.closed d e.0 e.1 Closing.ended)) es) (sym left)
+    ap (λ (os : List Output). os ++ ended_told d rest) more
+    ∙ append_assoc before (told ∷ []) (ended_told d rest)
+    ∙ ap (λ (es : List (ℕ × ℤ)). before ++ map (λ e. Output.component (ComponentIndication.closed d e.0 e.1 Closing.ended)) es) (sym left)
 
 -- One component more of a Unidirectional.
-pub alone_next : {A : Type 0} → (outputs all : List (code.Output A)) (o : code.Output A) (item : Item) (items_new items : List Item) →
-    items ≡ item ∷ items_new → shown o ≡ (handled None None item).told → all ≡ outputs ++ o ∷ [] →
-    all_shown all ++ uni_told items_new ≡ all_shown outputs ++ uni_told items
-alone_next outputs all o item items_new items first by more =
-    ap (λ (os : List Output). os ++ uni_told items_new) (shown_push outputs all o more)
-    ∙ append_assoc (all_shown outputs) (shown o ∷ []) (uni_told items_new)
-    ∙ ap (λ (x : Output). all_shown outputs ++ (x ∷ uni_told items_new)) by
-    ∙ ap (λ (is : List Item). all_shown outputs ++ uni_told is) (sym first)
+pub alone_next : (before after : List Output) (o : Output) (item : Item) (items_new items : List Item) →
+    items ≡ item ∷ items_new → o ≡ (handled None None item).told → after ≡ before ++ o ∷ [] →
+    after ++ uni_told items_new ≡ before ++ uni_told items
+alone_next before after o item items_new items first by more =
+    ap (λ (os : List Output). os ++ uni_told items_new) more
+    ∙ append_assoc before (o ∷ []) (uni_told items_new)
+    ∙ ap (λ (x : Output). before ++ (x ∷ uni_told items_new)) by
+    ∙ ap (λ (is : List Item). before ++ uni_told is) (sym first)

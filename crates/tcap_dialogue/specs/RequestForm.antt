@@ -1,12 +1,13 @@
 -- Refusals as a contract sees them.
-use Rattle.std.specs.Prelude.{◌≡◌, ℕ, Bool, true, false, [], ◌∷◌, Some, Result, Ok, Err, IsTrue}
+use Rattle.std.specs.Prelude.{◌≡◌, ℕ, List, Bool, true, false, [], ◌∷◌, Some, Result, Ok, Err, IsTrue}
 use Rattle.tcap_model.specs.Table.Dialogue as model
 use Rattle.tcap_model.specs.Words.Answer.{Answer}
 use Rattle.tcap_model.specs.Words.Fault as model_fault
+use Rattle.tcap_model.specs.Words.Output.{Output}
 use Rattle.tcap_dialogue.specs.declared.dialogue.Step.{Step}
 use Rattle.tcap_primitives.specs.declared.fault.Fault.{Fault}
 use Rattle.tcap_primitives.specs.FaultViews.{fault_view}
-use Rattle.tcap_dialogue.specs.StepViews.{Outcome, stepped}
+use Rattle.tcap_dialogue.specs.StepViews.{Outcome, StepsTo, stepped}
 
 -- Whether something is kept or told, for which memory may be refused: the answer is no refusal and no
 -- empty list, and nothing was given up (own).
@@ -34,6 +35,12 @@ Answers view (Err f) o old new = RefusedBy (fault_view f) o old new
 abbrev pub Steps : {A : Type 0} → Result (Step A) Fault → Outcome → model.Dialogue → model.Dialogue → Type 0
 Steps (Ok s) o old new = stepped s new ≡ o
 Steps (Err f) o old new = RefusedBy (fault_view f) o old new
+
+-- What a step appended, or a refusal, is what the outcome says; the dialogue may be over after a step, and a refusal
+-- appends nothing (own).
+abbrev pub StepsInto : List Output → List Output → Result Bool Fault → Outcome → model.Dialogue → model.Dialogue → Type 0
+StepsInto before after (Ok over) o old new = StepsTo before after over new o
+StepsInto before after (Err f) o old new = (after ≡ before) × RefusedBy (fault_view f) o old new
 
 -- An invocation gets a number (own).
 abbrev pub numbered : ℕ → Answer

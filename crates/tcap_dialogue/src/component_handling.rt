@@ -2,7 +2,7 @@
 
 // Hints to inline have the reason that in_dialogue.rt gives.
 
-ghost use Rattle.std.specs.Prelude.{◌≡◌, ◌<◌, Some, None, vec_len, vec_capacity};
+ghost use Rattle.std.specs.Prelude.{◌≡◌, ◌≤◌, Some, None};
 ghost use Rattle.tcap_component.specs.Views.{problem_parts};
 ghost use Rattle.tcap_dialogue.specs.HandledViews.{IsHandled, AreNone};
 ghost use Rattle.tcap_primitives.specs.OutputViews.{rejector};
@@ -17,7 +17,7 @@ pub mod unidirectional;
 
 use std::alloc::Allocator;
 use tcap_component::Problem;
-use tcap_primitives::{By, Output};
+use tcap_primitives::{By, Indication, Sink, SinkKind};
 
 /// A Reject that answers a component (Q.773, Reject component).
 #[derive(Clone, Copy)]
@@ -41,18 +41,18 @@ fn remote_rejector(problem: Problem) -> By
 
 /// An answer that closes an invocation and is rejected here.
 #[inline(always)]
-fn unexpected<'m, A: Allocator>(
+fn unexpected<'m, A: Allocator + Copy, K: SinkKind>(
     dialogue: u32,
     number: u64,
     id: i8,
     problem: Problem,
-    outputs: &mut Vec<Output<'m, A>, A>,
+    sink: &mut Sink<'m, A, K>,
 ) -> Option<Reject>
-    requires room { vec_len outputs.old < vec_capacity outputs.old }
-    ensures handled { IsHandled outputs.old outputs.new result AreNone
+    requires room { 1 ≤ sink.old.places }
+    ensures handled { IsHandled sink.old sink.new result AreNone 0
         (unexpected_told dialogue number id (problem_parts problem)) }
 {
-    outputs.push_reserved(Output::Rejected {
+    sink.tell(Indication::Rejected {
         dialogue,
         number,
         id,
@@ -67,17 +67,17 @@ fn unexpected<'m, A: Allocator>(
 
 /// A component that is rejected here and closes nothing.
 #[inline(always)]
-fn rejecting<'m, A: Allocator>(
+fn rejecting<'m, A: Allocator + Copy, K: SinkKind>(
     dialogue: u32,
     id: i8,
     problem: Problem,
-    outputs: &mut Vec<Output<'m, A>, A>,
+    sink: &mut Sink<'m, A, K>,
 ) -> Option<Reject>
-    requires room { vec_len outputs.old < vec_capacity outputs.old }
-    ensures handled { IsHandled outputs.old outputs.new result AreNone
+    requires room { 1 ≤ sink.old.places }
+    ensures handled { IsHandled sink.old sink.new result AreNone 0
         (rejecting_told (Some dialogue) (Some id) (problem_parts problem)) }
 {
-    outputs.push_reserved(Output::LocalReject {
+    sink.tell(Indication::LocalReject {
         dialogue: Some(dialogue),
         id: Some(id),
         problem,

@@ -9,14 +9,14 @@
 mod component_handling;
 mod dialogue;
 
-pub use dialogue::requests::Asked;
+pub use dialogue::requests::{Accepted, Asked};
 pub use dialogue::spares::Spares;
-pub use dialogue::unidirectional::take_uni;
+pub use dialogue::unidirectional::{take_uni, take_uni_into};
 pub use dialogue::{Dialogue, Step};
 pub use tcap_address::Address;
 pub use tcap_primitives::{
     Abort, AbortRequest, AbortWhy, BeginRequest, By, CancelRequest, Cause, ContinueRequest,
-    DropWhy, EndRequest, Ending, ErrorRequest, Fault, InvokeRequest, Output, RejectRequest,
-    Request, ResultRequest, UniRequest, Why, write_abort,
+    DropWhy, EndRequest, Ending, ErrorRequest, Fault, Indication, InvokeRequest, Outbox, Output,
+    OutputRef, RejectRequest, Request, ResultRequest, Sink, SinkKind, UniRequest, Why, write_abort,
 };
 pub use tcap_reception::{BeginVerdict, PortionVerdict, State, judge_begin, judge_uni};

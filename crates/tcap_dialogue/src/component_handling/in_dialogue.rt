@@ -4,11 +4,12 @@
 // memory, 270 to 420 instructions a step.
 
 ghost use Rattle.std.specs.Option.{option_map};
-ghost use Rattle.std.specs.Prelude.{◌≡◌, ◌<◌, ◌≤◌, length, Some, None, Bool, true, false, Ok, Err, option_copied, vec_len, vec_capacity};
+ghost use Rattle.std.specs.Prelude.{◌≡◌, ◌+◌, ◌<◌, ◌≤◌, length, Some, None, Bool, true, false, Ok, Err, option_copied};
 ghost use Rattle.tcap_component.specs.Component.ComponentParts.{reject_back};
 ghost use Rattle.tcap_component.specs.Views.{problem_parts, body_parts, code_parts, component_parts, fault_parts};
 ghost use Rattle.tcap_component.specs.declared.component.Component.TheVariants as component;
 ghost use Rattle.tcap_dialogue.specs.HandledViews.{IsHandled, AreNone};
+ghost use Rattle.tcap_primitives.specs.IndicationViews.{body_octets, code_octets, component_octets, optional_octets};
 ghost use Rattle.tcap_primitives.specs.Slices.{AreOf, result_of};
 ghost use Rattle.tcap_dialogue.specs.FirstComponent.{IsFirstTaken};
 ghost use Rattle.tcap_dialogue.specs.Verdicts.{result_handled};
@@ -25,31 +26,33 @@ use super::{Reject, rejecting, remote_rejector};
 use std::alloc::Allocator;
 use tcap_component::{Body, Code, Component, ComponentFault, Problem, read_component};
 use tcap_invocation::Invocations;
-use tcap_primitives::Output;
+use tcap_primitives::{Indication, Sink, SinkKind};
 
 /// An Invoke.
 #[inline(always)]
-fn take_invoke<'m, A: Allocator + Copy>(
+fn take_invoke<'m, A: Allocator + Copy, K: SinkKind>(
     invocations: &Invocations<A>,
     dialogue: u32,
     id: i8,
     linked: Option<i8>,
     code: Code<'m>,
     parameter: Option<&'m [u8]>,
-    outputs: &mut Vec<Output<'m, A>, A>,
+    sink: &mut Sink<'m, A, K>,
 ) -> Option<Reject>
-    requires room { vec_len outputs.old < vec_capacity outputs.old }
-    ensures handled { IsHandled outputs.old outputs.new result
+    requires room { 1 ≤ sink.old.places }
+    requires octets { code_octets code + optional_octets parameter ≤ sink.old.octets }
+    ensures handled { IsHandled sink.old sink.new result
         (AreOf (component.Invoke id linked code.entry parameter.entry))
+        (code_octets code.entry + optional_octets parameter.entry)
         (invoke_handled (Some dialogue) (sent_by_rows dialogue invocations.now linked) id linked
         (code_parts code.entry) (option_copied parameter.entry)) }
 {
     if let Some(linked) = linked {
         if !invocations.is_open(linked) {
-            return rejecting(dialogue, id, Problem::unrecognized_linked_id(), outputs);
+            return rejecting(dialogue, id, Problem::unrecognized_linked_id(), sink);
         }
     }
-    outputs.push_reserved(Output::Invoked {
+    sink.tell(Indication::Invoked {
         dialogue: Some(dialogue),
         id,
         linked,
@@ -61,79 +64,83 @@ fn take_invoke<'m, A: Allocator + Copy>(
 
 /// A Return Result, Last or not.
 #[inline(always)]
-fn take_result<'m, A: Allocator + Copy>(
+fn take_result<'m, A: Allocator + Copy, K: SinkKind>(
     invocations: &mut Invocations<A>,
     dialogue: u32,
     clock: u64,
     id: i8,
     body: Option<Body<'m>>,
     last: bool,
-    outputs: &mut Vec<Output<'m, A>, A>,
+    sink: &mut Sink<'m, A, K>,
 ) -> Option<Reject>
     requires clock { clock ≤ moment_limit }
-    requires room { vec_len outputs.old < vec_capacity outputs.old }
-    ensures handled { IsHandled outputs.old outputs.new result (AreOf (result_of last id body.entry))
+    requires room { 1 ≤ sink.old.places }
+    requires octets { body_octets body ≤ sink.old.octets }
+    ensures handled { IsHandled sink.old sink.new result (AreOf (result_of last id body.entry))
+        (body_octets body.entry)
         (result_handled (Some dialogue) (sent_by_rows dialogue invocations.old (Some id)) id
         (option_map body_parts body.entry) last) }
     ensures list { invocations.new ≡ after_received invocations.old id (return_result last) clock }
 {
     let verdict = invocations.on_result(id, last, clock);
-    result_judged(dialogue, id, body, last, verdict, outputs)
+    result_judged(dialogue, id, body, last, verdict, sink)
 }
 
 /// A Return Error.
 #[inline(always)]
-fn take_error<'m, A: Allocator + Copy>(
+fn take_error<'m, A: Allocator + Copy, K: SinkKind>(
     invocations: &mut Invocations<A>,
     dialogue: u32,
     clock: u64,
     id: i8,
     code: Code<'m>,
     parameter: Option<&'m [u8]>,
-    outputs: &mut Vec<Output<'m, A>, A>,
+    sink: &mut Sink<'m, A, K>,
 ) -> Option<Reject>
     requires clock { clock ≤ moment_limit }
-    requires room { vec_len outputs.old < vec_capacity outputs.old }
-    ensures handled { IsHandled outputs.old outputs.new result
+    requires room { 1 ≤ sink.old.places }
+    requires octets { code_octets code + optional_octets parameter ≤ sink.old.octets }
+    ensures handled { IsHandled sink.old sink.new result
         (AreOf (component.ErrorBack id code.entry parameter.entry))
+        (code_octets code.entry + optional_octets parameter.entry)
         (error_handled (Some dialogue) (sent_by_rows dialogue invocations.old (Some id)) id
         (code_parts code.entry) (option_copied parameter.entry)) }
     ensures list { invocations.new ≡ after_received invocations.old id return_error clock }
 {
     let verdict = invocations.on_error(id, clock);
-    error_judged(dialogue, id, code, parameter, verdict, outputs)
+    error_judged(dialogue, id, code, parameter, verdict, sink)
 }
 
 /// A Reject with an identifier.
 #[inline(always)]
-fn take_reject<'m, A: Allocator + Copy>(
+fn take_reject<'m, A: Allocator + Copy, K: SinkKind>(
     invocations: &mut Invocations<A>,
     dialogue: u32,
     id: i8,
     problem: Problem,
-    outputs: &mut Vec<Output<'m, A>, A>,
+    sink: &mut Sink<'m, A, K>,
 ) -> Option<Reject>
-    requires room { vec_len outputs.old < vec_capacity outputs.old }
-    ensures handled { IsHandled outputs.old outputs.new result AreNone (reject_handled (Some dialogue)
+    requires room { 1 ≤ sink.old.places }
+    ensures handled { IsHandled sink.old sink.new result AreNone 0 (reject_handled (Some dialogue)
         (sent_by_rows dialogue invocations.old (Some id)) (Some id) (problem_parts problem)) }
     ensures list { invocations.new ≡ after_reject invocations.old id (problem_parts problem).kind }
 {
     let closed = invocations.on_reject(id, problem.kind());
-    reject_judged(dialogue, id, problem, closed, outputs)
+    reject_judged(dialogue, id, problem, closed, sink)
 }
 
 /// A Reject without identifier.
 #[inline(always)]
-fn take_unmatched_reject<'m, A: Allocator>(
+fn take_unmatched_reject<'m, A: Allocator + Copy, K: SinkKind>(
     dialogue: u32,
     problem: Problem,
-    outputs: &mut Vec<Output<'m, A>, A>,
+    sink: &mut Sink<'m, A, K>,
 ) -> Option<Reject>
-    requires room { vec_len outputs.old < vec_capacity outputs.old }
-    ensures handled { IsHandled outputs.old outputs.new result AreNone
+    requires room { 1 ≤ sink.old.places }
+    ensures handled { IsHandled sink.old sink.new result AreNone 0
         (remote (Some dialogue) None (problem_parts problem)) }
 {
-    outputs.push_reserved(Output::RemoteReject {
+    sink.tell(Indication::RemoteReject {
         dialogue: Some(dialogue),
         id: None,
         problem,
@@ -144,16 +151,16 @@ fn take_unmatched_reject<'m, A: Allocator>(
 
 /// A component that can't be read.
 #[inline(always)]
-fn take_unreadable<'m, A: Allocator>(
+fn take_unreadable<'m, A: Allocator + Copy, K: SinkKind>(
     dialogue: u32,
     fault: ComponentFault,
-    outputs: &mut Vec<Output<'m, A>, A>,
+    sink: &mut Sink<'m, A, K>,
 ) -> Option<Reject>
-    requires room { vec_len outputs.old < vec_capacity outputs.old }
-    ensures handled { IsHandled outputs.old outputs.new result AreNone
+    requires room { 1 ≤ sink.old.places }
+    ensures handled { IsHandled sink.old sink.new result AreNone 0
         (handled (Some dialogue) None (Err (fault_parts fault))) }
 {
-    outputs.push_reserved(Output::LocalReject {
+    sink.tell(Indication::LocalReject {
         dialogue: Some(dialogue),
         id: fault.id,
         problem: fault.problem,
@@ -170,36 +177,38 @@ fn take_unreadable<'m, A: Allocator>(
 
 /// A Reject, which may be without identifier.
 #[inline(always)]
-fn take_reject_back<'m, A: Allocator + Copy>(
+fn take_reject_back<'m, A: Allocator + Copy, K: SinkKind>(
     invocations: &mut Invocations<A>,
     dialogue: u32,
     id: Option<i8>,
     problem: Problem,
-    outputs: &mut Vec<Output<'m, A>, A>,
+    sink: &mut Sink<'m, A, K>,
 ) -> Option<Reject>
-    requires room { vec_len outputs.old < vec_capacity outputs.old }
-    ensures handled { IsHandled outputs.old outputs.new result AreNone (handled (Some dialogue)
+    requires room { 1 ≤ sink.old.places }
+    ensures handled { IsHandled sink.old sink.new result AreNone 0 (handled (Some dialogue)
         (sent_by_rows dialogue invocations.old id) (Ok (reject_back id (problem_parts problem)))) }
     ensures list { invocations.new ≡ after_item 0 invocations.old (Ok (reject_back id (problem_parts problem))) }
 {
     match id {
-        Some(id) => take_reject(invocations, dialogue, id, problem, outputs),
-        None => take_unmatched_reject(dialogue, problem, outputs),
+        Some(id) => take_reject(invocations, dialogue, id, problem, sink),
+        None => take_unmatched_reject(dialogue, problem, sink),
     }
 }
 
 /// A component that was read.
 #[inline(always)]
-fn take_component<'m, A: Allocator + Copy>(
+fn take_component<'m, A: Allocator + Copy, K: SinkKind>(
     invocations: &mut Invocations<A>,
     dialogue: u32,
     clock: u64,
     component: Component<'m>,
-    outputs: &mut Vec<Output<'m, A>, A>,
+    sink: &mut Sink<'m, A, K>,
 ) -> Option<Reject>
     requires clock { clock ≤ moment_limit }
-    requires room { vec_len outputs.old < vec_capacity outputs.old }
-    ensures handled { IsHandled outputs.old outputs.new result (AreOf component.entry) (handled (Some dialogue)
+    requires room { 1 ≤ sink.old.places }
+    requires octets { component_octets component ≤ sink.old.octets }
+    ensures handled { IsHandled sink.old sink.new result (AreOf component.entry)
+        (component_octets component.entry) (handled (Some dialogue)
         (sent_by_rows dialogue invocations.old (subject_of (Ok (component_parts component.entry))))
         (Ok (component_parts component.entry))) }
     ensures list { invocations.new ≡ after_item clock invocations.old (Ok (component_parts component.entry)) }
@@ -210,20 +219,20 @@ fn take_component<'m, A: Allocator + Copy>(
             linked,
             code,
             parameter,
-        } => take_invoke(invocations, dialogue, id, linked, code, parameter, outputs),
+        } => take_invoke(invocations, dialogue, id, linked, code, parameter, sink),
         Component::ResultLast { id, body } => {
-            take_result(invocations, dialogue, clock, id, body, true, outputs)
+            take_result(invocations, dialogue, clock, id, body, true, sink)
         }
         Component::ResultMore { id, body } => {
-            take_result(invocations, dialogue, clock, id, body, false, outputs)
+            take_result(invocations, dialogue, clock, id, body, false, sink)
         }
         Component::ErrorBack {
             id,
             code,
             parameter,
-        } => take_error(invocations, dialogue, clock, id, code, parameter, outputs),
+        } => take_error(invocations, dialogue, clock, id, code, parameter, sink),
         Component::RejectBack { id, problem } => {
-            take_reject_back(invocations, dialogue, id, problem, outputs)
+            take_reject_back(invocations, dialogue, id, problem, sink)
         }
     }
 }
@@ -237,31 +246,31 @@ pub(crate) struct Left<'m> {
 
 /// The first component of what is left: what it comes to. Behind a faulty one nothing is left
 /// (Q.774, Component handling).
-// Each handler pushes what it tells, so that an `Output`, which is 288 octets, is built in the vector and not moved
-// there. The component is read here: an item of `Components` is copied five times more on its way, which took 40 to 95
+// Each handler tells by itself, so that an `Output`, which is 288 octets, is built in the vector and not moved there. The component is read here: an item of `Components` is copied five times more on its way, which took 40 to 95
 // instructions a message.
 #[inline(always)]
-pub(crate) fn take_first<'m, A: Allocator + Copy>(
+pub(crate) fn take_first<'m, A: Allocator + Copy, K: SinkKind>(
     invocations: &mut Invocations<A>,
     dialogue: u32,
     clock: u64,
     left: &mut Left<'m>,
-    outputs: &mut Vec<Output<'m, A>, A>,
+    sink: &mut Sink<'m, A, K>,
 ) -> Option<Reject>
     requires clock { clock ≤ moment_limit }
-    requires room { vec_len outputs.old < vec_capacity outputs.old }
+    requires room { 1 ≤ sink.old.places }
+    requires octets { length left.old.octets.now ≤ sink.old.octets }
     requires left { 0 < length left.old.octets.now }
-    ensures { IsFirstTaken dialogue clock left.old.octets left.new.octets outputs.old outputs.new invocations.old
-        invocations.new result }
+    ensures { IsFirstTaken dialogue clock left.old.octets left.new.octets sink.old sink.new
+        invocations.old invocations.new result }
 {
     match read_component(left.octets) {
         Ok((component, rest)) => {
             left.octets = rest;
-            take_component(invocations, dialogue, clock, component, outputs)
+            take_component(invocations, dialogue, clock, component, sink)
         }
         Err(fault) => {
             left.octets = &left.octets[left.octets.len()..];
-            take_unreadable(dialogue, fault, outputs)
+            take_unreadable(dialogue, fault, sink)
         }
     }
 }

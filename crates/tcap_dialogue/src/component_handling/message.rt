@@ -6,22 +6,21 @@ ghost use Rattle.ber_core.specs.ListReading.{items_of};
 ghost use Rattle.ber_core.specs.Place.{Slice};
 ghost use Rattle.tcap_component.specs.ComponentReading.{components_of};
 ghost use Rattle.tcap_dialogue.specs.HandledViews.{reject_parts};
-ghost use Rattle.tcap_primitives.specs.OutputViews.{all_shown};
 ghost use Rattle.tcap_primitives.specs.QueueViews.{queue_view};
-ghost use Rattle.tcap_primitives.specs.Slices.{AllInPlace};
 ghost use Rattle.tcap_dialogue.specs.Walking.{done_from, told_from, with_reject};
 ghost use Rattle.tcap_invocation.specs.Closing.{ended_at};
 ghost use Rattle.tcap_model.specs.Procedures.ComponentHandling.{uni_told};
 ghost use Rattle.tcap_invocation.specs.Stage.{moment_limit};
+ghost use Rattle.tcap_primitives.specs.Slices.{LieInPlace};
 
 use crate::component_handling::Reject;
 use crate::component_handling::in_dialogue::{Left, take_first};
-use crate::component_handling::unidirectional::take_in_unidirectional;
+use crate::component_handling::unidirectional::tell_first;
 use ber_core::take_short;
 use std::alloc::{AllocError, Allocator};
 use tcap_component::{Components, MAX_REJECT};
 use tcap_invocation::Invocations;
-use tcap_primitives::{Output, Queue};
+use tcap_primitives::{Queue, Sink, SinkKind};
 
 /// The most elements for which room is taken, whatever they are.
 const FEW: usize = 8;
@@ -143,68 +142,72 @@ fn queue_reject<A: Allocator + Copy>(queue: &mut Queue<A>, reject: Option<Reject
 /// for all that (Q.774, Component handling).
 // Two callers share it, and it has all of `take_first` in it.
 #[inline(never)]
-pub(crate) fn handle_components<'m, A: Allocator + Copy>(
+pub(crate) fn handle_components<'m, A: Allocator + Copy, K: SinkKind>(
     dialogue: u32,
     clock: u64,
     components: &'m [u8],
     invocations: &mut Invocations<A>,
     queue: &mut Queue<A>,
-    outputs: &mut Vec<Output<'m, A>, A>,
+    sink: &mut Sink<'m, A, K>,
 )
     requires clock { clock ≤ moment_limit }
-    requires outputs { vec_len outputs.old + length (components_of components.now) ≤ vec_capacity outputs.old }
+    requires places { length (components_of components.now) ≤ sink.old.places }
+    requires room { length components.now ≤ sink.old.octets }
     requires octets { vec_len queue.old.octets + 8 * length (components_of components.now)
         ≤ vec_capacity queue.old.octets }
     requires parts { vec_len queue.old.parts + length (components_of components.now) ≤ vec_capacity queue.old.parts }
-    ensures done { record { told = all_shown outputs.new.items; list = invocations.new; queue = queue_view queue.new }
-        ≡ done_from dialogue clock (record { told = all_shown outputs.old.items; list = invocations.old; queue = queue_view queue.old }) (components_of components.now) }
-    ensures place { (portion : Option Slice) → AllInPlace portion components.entry outputs.old.items
-        → AllInPlace portion components.entry outputs.new.items }
+    ensures done { record { told = sink.new.outputs; list = invocations.new; queue = queue_view queue.new }
+        ≡ done_from dialogue clock (record { told = sink.old.outputs; list = invocations.old; queue = queue_view queue.old }) (components_of components.now) }
+    ensures place { (portion : Option Slice) → LieInPlace portion components.entry sink.old.slices
+        → LieInPlace portion components.entry sink.new.slices }
 {
     let mut left = Left { octets: components };
     while !left.octets.is_empty() {
-        let reject = take_first(invocations, dialogue, clock, &mut left, outputs);
+        let reject = take_first(invocations, dialogue, clock, &mut left, sink);
         queue_reject(queue, reject);
     }
 }
 
 /// Takes the components of an End and tells them: the Rejects don't go out, and aren't queued (Q.774,
 /// Dialogue end).
-pub(crate) fn handle_in_end<'m, A: Allocator + Copy>(
+pub(crate) fn handle_in_end<'m, A: Allocator + Copy, K: SinkKind>(
     dialogue: u32,
     clock: u64,
     components: &'m [u8],
     invocations: &mut Invocations<A>,
-    outputs: &mut Vec<Output<'m, A>, A>,
+    sink: &mut Sink<'m, A, K>,
 )
     requires clock { clock ≤ moment_limit }
-    requires outputs { vec_len outputs.old + length (components_of components.now) ≤ vec_capacity outputs.old }
-    ensures told { record { told = all_shown outputs.new.items; list = invocations.new }
-        ≡ told_from dialogue clock (record { told = all_shown outputs.old.items; list = invocations.old }) (components_of components.now) }
-    ensures room { vec_capacity outputs.old ≤ vec_capacity outputs.new }
-    ensures len { vec_len outputs.new ≤ vec_len outputs.old + length (components_of components.now) }
+    requires places { length (components_of components.now) ≤ sink.old.places }
+    requires room { length components.now ≤ sink.old.octets }
+    ensures told { record { told = sink.new.outputs; list = invocations.new }
+        ≡ told_from dialogue clock (record { told = sink.old.outputs; list = invocations.old }) (components_of components.now) }
+    ensures places { sink.old.places ≤ sink.new.places
+        + length (components_of components.now) }
     ensures left { length (ended_at invocations.new.rows) ≤ length (ended_at invocations.old.rows) }
-    ensures place { (portion : Option Slice) → AllInPlace portion components.entry outputs.old.items
-        → AllInPlace portion components.entry outputs.new.items }
+    ensures place { (portion : Option Slice) → LieInPlace portion components.entry sink.old.slices
+        → LieInPlace portion components.entry sink.new.slices }
 {
     let mut left = Left { octets: components };
     while !left.octets.is_empty() {
-        let _reject = take_first(invocations, dialogue, clock, &mut left, outputs);
+        let _reject = take_first(invocations, dialogue, clock, &mut left, sink);
     }
 }
 
 /// Tells the components of a Unidirectional; there is room for them (Q.774, Unstructured dialogue).
-pub(crate) fn handle_in_unidirectional<'m, A: Allocator + Copy>(
+pub(crate) fn handle_in_unidirectional<'m, A: Allocator + Copy, K: SinkKind>(
     components: &'m [u8],
-    outputs: &mut Vec<Output<'m, A>, A>,
+    sink: &mut Sink<'m, A, K>,
 )
-    requires outputs { vec_len outputs.old + length (components_of components.now) ≤ vec_capacity outputs.old }
-    ensures told { all_shown outputs.new.items ≡ all_shown outputs.old.items
+    requires places { length (components_of components.now) ≤ sink.old.places }
+    requires room { length components.now ≤ sink.old.octets }
+    ensures told { sink.new.outputs ≡ sink.old.outputs
         ++ uni_told (components_of components.now) }
-    ensures place { (portion : Option Slice) → AllInPlace portion components.entry outputs.old.items
-        → AllInPlace portion components.entry outputs.new.items }
+    ensures place { (portion : Option Slice) → LieInPlace portion components.entry sink.old.slices
+        → LieInPlace portion components.entry sink.new.slices }
 {
-    for item in Components::new(components) {
-        outputs.push_reserved(take_in_unidirectional(item));
+    let mut left = Left { octets: components };
+    while !left.octets.is_empty() {
+        tell_first(&mut left, sink);
     }
 }

@@ -1,23 +1,26 @@
 //! One component of a Unidirectional: no invocation is Sent there, and no Reject goes out.
 
-ghost use Rattle.std.specs.Prelude.{◌≡◌, Some, None, Ok, option_copied};
-ghost use Rattle.tcap_component.specs.Views.{code_parts, component_parts, item_view, problem_parts};
+ghost use Rattle.std.specs.Prelude.{◌≡◌, ◌+◌, ◌≤◌, ◌<◌, length, Some, None, Ok, option_copied};
+ghost use Rattle.tcap_component.specs.Views.{code_parts, component_parts, problem_parts};
 ghost use Rattle.tcap_component.specs.declared.component.Component.TheVariants as component;
-ghost use Rattle.tcap_primitives.specs.OutputViews.{shown};
-ghost use Rattle.tcap_primitives.specs.Slices.{Slices, AreOf, AreOfItem, slices_of};
+ghost use Rattle.tcap_dialogue.specs.FirstComponent.{IsFirstTold};
+ghost use Rattle.tcap_primitives.specs.IndicationViews.{code_octets, component_octets, indicated, indicated_octets, indicated_slices, optional_octets};
+ghost use Rattle.tcap_primitives.specs.Slices.{Slices, AreOf};
 ghost use Rattle.tcap_model.specs.Procedures.ComponentHandling.{handled, invoke_handled, rejecting, remote};
 
+use super::in_dialogue::Left;
 use super::remote_rejector;
 use std::alloc::Allocator;
-use tcap_component::{Code, Component, ComponentFault, Problem};
-use tcap_primitives::Output;
+use tcap_component::{Code, Component, Problem, read_component};
+use tcap_primitives::{Indication, Sink, SinkKind};
 
 /// A component that answers nothing, is linked to nothing or can't be read.
-fn rejected<'m, A: Allocator>(id: Option<i8>, problem: Problem) -> Output<'m, A>
-    ensures told { shown result ≡ (rejecting None id (problem_parts problem)).told }
-    ensures slices { slices_of result ≡ Slices.none }
+fn rejected<'m>(id: Option<i8>, problem: Problem) -> Indication<'m>
+    ensures told { indicated result ≡ (rejecting None id (problem_parts problem)).told }
+    ensures slices { indicated_slices result ≡ Slices.none }
+    ensures octets { indicated_octets result ≡ 0 }
 {
-    Output::LocalReject {
+    Indication::LocalReject {
         dialogue: None,
         id,
         problem,
@@ -25,11 +28,12 @@ fn rejected<'m, A: Allocator>(id: Option<i8>, problem: Problem) -> Output<'m, A>
 }
 
 /// A Reject, which closes nothing.
-fn unidirectional_reject<'m, A: Allocator>(id: Option<i8>, problem: Problem) -> Output<'m, A>
-    ensures told { shown result ≡ (remote None id (problem_parts problem)).told }
-    ensures slices { slices_of result ≡ Slices.none }
+fn unidirectional_reject<'m>(id: Option<i8>, problem: Problem) -> Indication<'m>
+    ensures told { indicated result ≡ (remote None id (problem_parts problem)).told }
+    ensures slices { indicated_slices result ≡ Slices.none }
+    ensures octets { indicated_octets result ≡ 0 }
 {
-    Output::RemoteReject {
+    Indication::RemoteReject {
         dialogue: None,
         id,
         problem,
@@ -38,18 +42,19 @@ fn unidirectional_reject<'m, A: Allocator>(id: Option<i8>, problem: Problem) -> 
 }
 
 /// An Invoke.
-fn unidirectional_invoke<'m, A: Allocator>(
+fn unidirectional_invoke<'m>(
     id: i8,
     linked: Option<i8>,
     code: Code<'m>,
     parameter: Option<&'m [u8]>,
-) -> Output<'m, A>
-    ensures told { shown result
+) -> Indication<'m>
+    ensures told { indicated result
         ≡ (invoke_handled None None id linked (code_parts code.entry) (option_copied parameter.entry)).told }
-    ensures slices { AreOf (component.Invoke id linked code.entry parameter.entry) (slices_of result) }
+    ensures slices { AreOf (component.Invoke id linked code.entry parameter.entry) (indicated_slices result) }
+    ensures octets { indicated_octets result ≤ code_octets code.entry + optional_octets parameter.entry }
 {
     match linked {
-        None => Output::Invoked {
+        None => Indication::Invoked {
             dialogue: None,
             id,
             linked: None,
@@ -61,9 +66,10 @@ fn unidirectional_invoke<'m, A: Allocator>(
 }
 
 /// A component that was read.
-fn unidirectional_component<'m, A: Allocator>(component: Component<'m>) -> Output<'m, A>
-    ensures told { shown result ≡ (handled None None (Ok (component_parts component.entry))).told }
-    ensures slices { AreOf component.entry (slices_of result) }
+fn unidirectional_component<'m>(component: Component<'m>) -> Indication<'m>
+    ensures told { indicated result ≡ (handled None None (Ok (component_parts component.entry))).told }
+    ensures slices { AreOf component.entry (indicated_slices result) }
+    ensures octets { indicated_octets result ≤ component_octets component.entry }
 {
     match component {
         Component::Invoke {
@@ -80,15 +86,25 @@ fn unidirectional_component<'m, A: Allocator>(component: Component<'m>) -> Outpu
     }
 }
 
-/// One component of a Unidirectional (Q.774, Unstructured dialogue).
-pub(crate) fn take_in_unidirectional<'m, A: Allocator>(
-    item: Result<Component<'m>, ComponentFault>,
-) -> Output<'m, A>
-    ensures told { shown result ≡ (handled None None (item_view item.entry)).told }
-    ensures slices { AreOfItem item.entry (slices_of result) }
+/// The first component of what is left is told; there is room for it. Behind a faulty one nothing is left
+/// (Q.774, Unstructured dialogue).
+pub(crate) fn tell_first<'m, A: Allocator + Copy, K: SinkKind>(
+    left: &mut Left<'m>,
+    sink: &mut Sink<'m, A, K>,
+)
+    requires room { 1 ≤ sink.old.places }
+    requires octets { length left.old.octets.now ≤ sink.old.octets }
+    requires left { 0 < length left.old.octets.now }
+    ensures { IsFirstTold left.old.octets left.new.octets sink.old sink.new }
 {
-    match item {
-        Ok(component) => unidirectional_component(component),
-        Err(fault) => rejected(fault.id, fault.problem),
+    match read_component(left.octets) {
+        Ok((component, rest)) => {
+            left.octets = rest;
+            sink.tell(unidirectional_component(component));
+        }
+        Err(fault) => {
+            left.octets = &left.octets[left.octets.len()..];
+            sink.tell(rejected(fault.id, fault.problem));
+        }
     }
 }

@@ -1,14 +1,17 @@
 //! The abort of a dialogue: what an Abort of the peer tells, and the Abort of the provider here.
 
-ghost use Rattle.std.specs.Prelude.{◌≡◌, ◌<◌, ◌∷◌, [], true, Some, Ok, Option, IfOk, OnErr, vec_len, vec_capacity};
+ghost use Rattle.std.specs.Prelude.{◌≡◌, ◌+◌, ◌^◌, ◌<◌, ◌≤◌, ◌++◌, ◌∷◌, [], true, length, Some, Ok, Option, OnOk, OnErr};
 ghost use Rattle.ber_core.specs.Place.{Slice};
 ghost use Rattle.tcap_dialogue.specs.Aborting.{abnormal_over, provider_told};
-ghost use Rattle.tcap_primitives.specs.OutputViews.{shown, cause_view};
-ghost use Rattle.tcap_primitives.specs.Slices.{Slices, AllInPlace, LieIn, slices_of};
+ghost use Rattle.tcap_primitives.specs.IndicationViews.{indicated, indicated_octets, indicated_slices};
+ghost use Rattle.tcap_primitives.specs.OutputViews.{cause_view};
+ghost use Rattle.tcap_primitives.specs.Slices.{Slices, LieIn, LieInPlace};
 ghost use Rattle.tcap_reception.specs.StateViews.{phase_view};
-ghost use Rattle.tcap_model.specs.Procedures.AbortRules.{abort_told, portion_told, is_no_common};
-ghost use Rattle.tcap_dialogue.specs.StepViews.{outcome, stepped};
-ghost use Rattle.tcap_model.specs.Table.TableMove.{over_with};
+ghost use Rattle.tcap_invocation.specs.Closing.{ended_at};
+ghost use Rattle.tcap_model.specs.Procedures.AbortRules.{abort_told, fault_cause, is_no_common, portion_told, sent_if_any};
+ghost use Rattle.tcap_model.specs.Procedures.Reception.{fault_abort};
+ghost use Rattle.tcap_dialogue.specs.StepViews.{StepsTo, outcome};
+ghost use Rattle.tcap_model.specs.Table.TableMove.{DialogueEvent, Setting, over_with, table_move};
 ghost use Rattle.tcap_model.specs.Words.Output as model;
 ghost use Rattle.tcap_model.specs.Words.Output.{DialogueIndication};
 ghost use Rattle.tcap_model.specs.Words.State.{address_by};
@@ -18,28 +21,28 @@ ghost use Rattle.tcap_pdu.specs.DialogueViews.{pdu_value, source};
 ghost use Rattle.tcap_pdu.specs.FramePortions.{reason_slice};
 ghost use Rattle.tcap_pdu.specs.FrameViews.{reason_of};
 
+use super::Dialogue;
 use super::ending::tell_ended;
 use super::kept_address::KeptAddress;
-use super::{Dialogue, Step};
 use ber_core::OutOfMemory;
 use std::alloc::Allocator;
 use tcap_address::Address;
 use tcap_pdu::dialogue_tag::NO_COMMON_DIALOGUE_PORTION;
-use tcap_pdu::{AbortPart, Diagnostic, DialoguePdu, TransId, read_dialogue};
-use tcap_primitives::{Abort, Output, Why, write_abort};
+use tcap_pdu::{AbortPart, Diagnostic, DialoguePdu, FrameFault, TransId, read_dialogue};
+use tcap_primitives::{Abort, Cause, Indication, Sink, SinkKind, Why};
 use tcap_reception::Phase;
 
 /// What an Abort to a dialogue tells (Q.774, Abort by the user; Q.774, Abort by the provider).
-pub(crate) fn abort_told<'m, A: Allocator>(dialogue: u32, reason: &AbortPart<'m>) -> Output<'m, A>
-    ensures told { shown result ≡ abort_told dialogue (reason_of reason.now) }
-    ensures place { (components : Slice) → LieIn (reason_slice reason.now) components (slices_of result) }
+pub(crate) fn abort_told<'m>(dialogue: u32, reason: &AbortPart<'m>) -> Indication<'m>
+    ensures told { indicated result ≡ abort_told dialogue (reason_of reason.now) }
+    ensures place { (components : Slice) → LieIn (reason_slice reason.now) components (indicated_slices result) }
 {
     match reason {
-        AbortPart::Nothing => Output::UAbort {
+        AbortPart::Nothing => Indication::UAbort {
             dialogue,
             pdu: None,
         },
-        AbortPart::Cause(cause) => Output::PAbort {
+        AbortPart::Cause(cause) => Indication::PAbort {
             dialogue,
             why: Why::Cause(*cause),
         },
@@ -48,13 +51,13 @@ pub(crate) fn abort_told<'m, A: Allocator>(dialogue: u32, reason: &AbortPart<'m>
 }
 
 /// What the dialogue portion of an Abort tells.
-fn portion_told<'m, A: Allocator>(dialogue: u32, portion: &'m [u8]) -> Output<'m, A>
-    ensures told { shown result ≡ portion_told dialogue (dialogue_at portion.now) }
-    ensures place { (components : Slice) → LieIn (Some portion.entry) components (slices_of result) }
+fn portion_told<'m>(dialogue: u32, portion: &'m [u8]) -> Indication<'m>
+    ensures told { indicated result ≡ portion_told dialogue (dialogue_at portion.now) }
+    ensures place { (components : Slice) → LieIn (Some portion.entry) components (indicated_slices result) }
 {
     match read_dialogue(portion) {
         Ok(pdu) => pdu_told(dialogue, pdu),
-        Err(_) => Output::PAbort {
+        Err(_) => Indication::PAbort {
             dialogue,
             why: Why::Abnormal,
         },
@@ -63,10 +66,10 @@ fn portion_told<'m, A: Allocator>(dialogue: u32, portion: &'m [u8]) -> Output<'m
 
 /// What the dialogue PDU of an Abort tells: the user's abort by an ABRT of the user, by a foreign
 /// EXTERNAL and by an AARE that isn't accepted, unless there is no common dialogue portion.
-fn pdu_told<'m, A: Allocator>(dialogue: u32, pdu: DialoguePdu<'m>) -> Output<'m, A>
-    ensures told { shown result ≡ portion_told dialogue (Ok (pdu_value pdu.entry)) }
+fn pdu_told<'m>(dialogue: u32, pdu: DialoguePdu<'m>) -> Indication<'m>
+    ensures told { indicated result ≡ portion_told dialogue (Ok (pdu_value pdu.entry)) }
     ensures place { (portion components : Slice) → PduInPlace pdu.entry portion
-        → LieIn (Some portion) components (slices_of result) }
+        → LieIn (Some portion) components (indicated_slices result) }
 {
     match pdu {
         DialoguePdu::Abrt {
@@ -74,7 +77,7 @@ fn pdu_told<'m, A: Allocator>(dialogue: u32, pdu: DialoguePdu<'m>) -> Output<'m,
             ..
         }
         | DialoguePdu::Foreign { .. } => {
-            Output::UAbort {
+            Indication::UAbort {
                 dialogue,
                 pdu: Some(pdu),
             }
@@ -87,7 +90,7 @@ fn pdu_told<'m, A: Allocator>(dialogue: u32, pdu: DialoguePdu<'m>) -> Output<'m,
             if is_no_common(diagnostic) {
                 provider_told(dialogue, Why::NoCommon)
             } else {
-                Output::UAbort {
+                Indication::UAbort {
                     dialogue,
                     pdu: Some(pdu),
                 }
@@ -104,11 +107,11 @@ fn pdu_told<'m, A: Allocator>(dialogue: u32, pdu: DialoguePdu<'m>) -> Output<'m,
 }
 
 /// TC-P-ABORT for this reason.
-fn provider_told<'m, A: Allocator>(dialogue: u32, why: Why) -> Output<'m, A>
-    ensures told { shown result ≡ model.Output.dialogue (DialogueIndication.p_abort dialogue (cause_view why)) }
-    ensures slices { slices_of result ≡ Slices.none }
+fn provider_told<'m>(dialogue: u32, why: Why) -> Indication<'m>
+    ensures told { indicated result ≡ model.Output.dialogue (DialogueIndication.p_abort dialogue (cause_view why)) }
+    ensures slices { indicated_slices result ≡ Slices.none }
 {
-    Output::PAbort { dialogue, why }
+    Indication::PAbort { dialogue, why }
 }
 
 /// Whether a diagnostic is "no common dialogue portion" by the provider.
@@ -122,93 +125,174 @@ fn is_no_common(diagnostic: Diagnostic) -> bool
 }
 
 /// The address of the peer of a Continue: the one that is kept, or in Sent that of its sender (our own).
-fn address_by<A: Allocator + Copy>(phase: &Phase, kept: &KeptAddress<A>, from: &Address) -> Address
-    ensures { result ≡ address_by (phase_view phase.now) kept.now from.now }
+fn address_by<'a, A: Allocator + Copy>(
+    phase: &Phase,
+    kept: &'a KeptAddress<A>,
+    from: &'a Address,
+) -> &'a [u8]
+    ensures value { result.now ≡ address_by (phase_view phase.now) kept.now from.now }
+    ensures within { length result.now ≤ 255 }
 {
     match phase {
-        Phase::Sent => from.copied(),
-        Phase::Fresh | Phase::Received(_) | Phase::Active(_) => kept.to_address(),
+        Phase::Sent => from.octets(),
+        Phase::Fresh | Phase::Received(_) | Phase::Active(_) => kept.octets(),
     }
 }
 
+/// The originator of a faulty message gets an Abort with the fault's cause, if it is known, with places for so many
+/// outputs more.
+fn answer_fault<'m, A: Allocator + Copy, K: SinkKind>(
+    from: &Address,
+    origin: Option<TransId>,
+    fault: FrameFault,
+    more: usize,
+    sink: &mut Sink<'m, A, K>,
+) -> Result<(), OutOfMemory>
+    ensures ok { OnOk result (sink.new.outputs ≡ sink.old.outputs
+        ++ sent_if_any from.now (fault_abort fault origin)) }
+    ensures places { OnOk result (more ≤ sink.new.places) }
+    ensures within { OnOk result (more < 2 ^ 63) }
+    ensures still { OnErr result (sink.new.outputs ≡ sink.old.outputs) }
+{
+    sink.reserve(more.saturating_add(1), 0)?;
+    if let Some(peer) = origin {
+        let cause = Cause::Faulty(fault);
+        sink.send(from.octets(), &Abort::Cause { peer, cause }.outgoing())?;
+    }
+    Ok(())
+}
+
 impl<A: Allocator + Copy> Dialogue<A> {
-    /// Tells first what the message tells, then each invocation that the end of the dialogue ends.
-    fn over_with<'m>(&mut self, first: Output<'m, A>) -> Result<Step<'m, A>, OutOfMemory>
-        ensures ok { IfOk result (λ s. stepped s self.new
-            ≡ outcome (over_with self.old (shown first.entry ∷ []) self.old.invocations)) }
-        ensures err { OnErr result (self.new ≡ self.old) }
+    /// Tells first what the message tells, then each invocation that the end of the dialogue ends; there is room
+    /// for all.
+    fn tell_over<'m, K: SinkKind>(&mut self, first: Indication<'m>, sink: &mut Sink<'m, A, K>)
+        requires places { 1 + length (ended_at self.old.invocations.rows) ≤ sink.old.places }
+        requires octets { indicated_octets first ≤ sink.old.octets }
+        ensures told { StepsTo sink.old.outputs sink.new.outputs true self.new
+            (outcome (over_with self.old (indicated first.entry ∷ []) self.old.invocations)) }
         ensures kept { self.new.standing.identifier ≡ self.old.standing.identifier }
-        ensures place { (portion : Option Slice) (components : Slice) → LieIn portion components
-            (slices_of first.entry) → IfOk result (λ s. AllInPlace portion components s.outputs.items) }
-        ensures room { IfOk result (λ s. vec_len s.outputs < vec_capacity s.outputs) }
+        ensures places { sink.old.places
+            ≤ sink.new.places + (1 + length (ended_at self.old.invocations.rows)) }
+        ensures place { (portion : Option Slice) (components : Slice)
+            → LieIn portion components (indicated_slices first.entry) → LieInPlace portion components sink.old.slices
+            → LieInPlace portion components sink.new.slices }
     {
-        let count = self.invocations.open_count().saturating_add(2);
-        let mut outputs = Vec::with_capacity(*self.queue.octets.allocator(), count)?;
-        outputs.push_reserved(first);
-        tell_ended(self.identifier, &mut self.invocations, &mut outputs);
-        Ok(Step {
-            outputs,
-            over: true,
-        })
+        sink.tell(first);
+        tell_ended(self.identifier, &mut self.invocations, sink);
+    }
+
+    /// `tell_over`; all room is made first.
+    fn over_with<'m, K: SinkKind>(
+        &mut self,
+        first: Indication<'m>,
+        sink: &mut Sink<'m, A, K>,
+    ) -> Result<(), OutOfMemory>
+        ensures ok { OnOk result (StepsTo sink.old.outputs sink.new.outputs true self.new
+            (outcome (over_with self.old (indicated first.entry ∷ []) self.old.invocations))) }
+        ensures err { OnErr result (self.new ≡ self.old) }
+        ensures still { OnErr result (sink.new.outputs ≡ sink.old.outputs) }
+        ensures kept { self.new.standing.identifier ≡ self.old.standing.identifier }
+        ensures places { sink.old.places
+            ≤ sink.new.places + (1 + length (ended_at self.old.invocations.rows)) }
+        ensures place { (portion : Option Slice) (components : Slice)
+            → LieIn portion components (indicated_slices first.entry) → LieInPlace portion components sink.old.slices
+            → LieInPlace portion components sink.new.slices }
+    {
+        let count = self.invocations.open_count().saturating_add(1);
+        sink.reserve(count, first.octet_count())?;
+        self.tell_over(first, sink);
+        Ok(())
     }
 
     /// An Abort: it tells why, and the dialogue is over, whatever its state is.
-    pub(super) fn receive_abort<'m>(
+    pub(super) fn receive_abort<'m, K: SinkKind>(
         &mut self,
         reason: &AbortPart<'m>,
-    ) -> Result<Step<'m, A>, OutOfMemory>
-        ensures ok { IfOk result (λ s. stepped s self.new ≡ outcome (over_with self.old
-            (abort_told self.old.standing.identifier (reason_of reason.now) ∷ []) self.old.invocations)) }
+        sink: &mut Sink<'m, A, K>,
+    ) -> Result<(), OutOfMemory>
+        ensures ok { OnOk result (StepsTo sink.old.outputs sink.new.outputs true self.new
+            (outcome (over_with self.old (abort_told self.old.standing.identifier (reason_of reason.now) ∷ [])
+            self.old.invocations))) }
         ensures err { OnErr result (self.new ≡ self.old) }
+        ensures still { OnErr result (sink.new.outputs ≡ sink.old.outputs) }
         ensures kept { self.new.standing.identifier ≡ self.old.standing.identifier }
-        ensures place { (components : Slice)
-            → IfOk result (λ s. AllInPlace (reason_slice reason.now) components s.outputs.items) }
+        ensures place { (components : Slice) → LieInPlace (reason_slice reason.now) components sink.old.slices
+            → LieInPlace (reason_slice reason.now) components sink.new.slices }
     {
         let told = abort_told(self.identifier, reason);
-        self.over_with(told)
+        self.over_with(told, sink)
     }
 
     /// The provider here aborts, and the dialogue is over.
-    pub(super) fn abort_provider<'m>(&mut self, why: Why) -> Result<Step<'m, A>, OutOfMemory>
-        ensures ok { IfOk result (λ s. stepped s self.new
-            ≡ outcome (over_with self.old (provider_told self.old (cause_view why) ∷ []) self.old.invocations)) }
+    pub(super) fn abort_provider<'m, K: SinkKind>(
+        &mut self,
+        why: Why,
+        sink: &mut Sink<'m, A, K>,
+    ) -> Result<(), OutOfMemory>
+        ensures ok { OnOk result (StepsTo sink.old.outputs sink.new.outputs true self.new
+            (outcome (over_with self.old (provider_told self.old (cause_view why) ∷ []) self.old.invocations))) }
         ensures err { OnErr result (self.new ≡ self.old) }
+        ensures still { OnErr result (sink.new.outputs ≡ sink.old.outputs) }
         ensures kept { self.new.standing.identifier ≡ self.old.standing.identifier }
-        ensures place { (portion : Option Slice) (components : Slice)
-            → IfOk result (λ s. AllInPlace portion components s.outputs.items) }
-        ensures room { IfOk result (λ s. vec_len s.outputs < vec_capacity s.outputs) }
+        ensures places { sink.old.places
+            ≤ sink.new.places + (1 + length (ended_at self.old.invocations.rows)) }
+        ensures place { (portion : Option Slice) (components : Slice) → LieInPlace portion components sink.old.slices
+            → LieInPlace portion components sink.new.slices }
     {
         let dialogue = self.identifier;
-        self.over_with(Output::PAbort { dialogue, why })
+        self.over_with(Indication::PAbort { dialogue, why }, sink)
     }
 
     /// A Continue whose dialogue portion is abnormal: the peer gets an Abort, and the dialogue is over.
-    pub(super) fn abort_abnormal<'m>(
+    pub(super) fn abort_abnormal<'m, K: SinkKind>(
         &mut self,
         from: &Address,
         origin: &TransId,
-    ) -> Result<Step<'m, A>, OutOfMemory>
-        ensures ok { IfOk result (λ s. stepped s self.new ≡ outcome (abnormal_over self.old from.now origin.now)) }
+        sink: &mut Sink<'m, A, K>,
+    ) -> Result<(), OutOfMemory>
+        ensures ok { OnOk result (StepsTo sink.old.outputs sink.new.outputs true self.new
+            (outcome (abnormal_over self.old from.now origin.now))) }
         ensures err { OnErr result (self.new ≡ self.old) }
+        ensures still { OnErr result (sink.new.outputs ≡ sink.old.outputs) }
         ensures kept { self.new.standing.identifier ≡ self.old.standing.identifier }
-        ensures place { (portion : Option Slice) (components : Slice)
-            → IfOk result (λ s. AllInPlace portion components s.outputs.items) }
+        ensures place { (portion : Option Slice) (components : Slice) → LieInPlace portion components sink.old.slices
+            → LieInPlace portion components sink.new.slices }
     {
-        let alloc = *self.queue.octets.allocator();
         let peer = self.phase.peer_or(origin).copied();
-        let bytes = write_abort(alloc, &Abort::Abnormal { peer })?;
         let count = self.invocations.open_count().saturating_add(2);
-        let mut outputs = Vec::with_capacity(alloc, count)?;
-        let to = address_by(&self.phase, &self.kept, from);
-        outputs.push_reserved(Output::Send { to, bytes });
-        outputs.push_reserved(Output::PAbort {
-            dialogue: self.identifier,
-            why: Why::Abnormal,
-        });
-        tell_ended(self.identifier, &mut self.invocations, &mut outputs);
-        Ok(Step {
-            outputs,
-            over: true,
-        })
+        sink.reserve(count, 0)?;
+        let abort = Abort::Abnormal { peer };
+        sink.send(address_by(&self.phase, &self.kept, from), &abort.outgoing())?;
+        let dialogue = self.identifier;
+        let why = Why::Abnormal;
+        self.tell_over(Indication::PAbort { dialogue, why }, sink);
+        Ok(())
+    }
+
+    /// A faulty message names the dialogue, which is over then: the originator gets an Abort with the fault's cause,
+    /// if it is known, and the user TC-P-ABORT (our own, after Q.774, Abnormal procedures).
+    #[tactic(auto, unfolding(tcap_model::specs::Table::TableMove::table_move))]
+    pub fn take_faulty<'m, K: SinkKind>(
+        &mut self,
+        from: &Address,
+        origin: Option<TransId>,
+        fault: FrameFault,
+        sink: &mut Sink<'m, A, K>,
+    ) -> Result<(), OutOfMemory>
+        // What is sent, then what is told; the dialogue is over.
+        ensures ok { (around : Setting) → OnOk result (StepsTo (sink.old.outputs
+            ++ sent_if_any from.now (fault_abort fault origin)) sink.new.outputs true self.new
+            (outcome (table_move around self.old (DialogueEvent.fault (fault_cause fault))))) }
+        ensures err { OnErr result (self.new ≡ self.old) }
+        ensures still { OnErr result (sink.new.outputs ≡ sink.old.outputs) }
+        // The identifier stays, also of one that is over.
+        ensures kept { self.new.standing.identifier ≡ self.old.standing.identifier }
+    {
+        let count = self.invocations.open_count().saturating_add(1);
+        answer_fault(from, origin, fault, count, sink)?;
+        let dialogue = self.identifier;
+        let why = Why::Cause(fault.cause());
+        self.tell_over(Indication::PAbort { dialogue, why }, sink);
+        Ok(())
     }
 }

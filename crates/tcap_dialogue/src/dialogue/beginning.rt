@@ -1,13 +1,16 @@
 //! What creates a dialogue: a Begin.
 
-ghost use Rattle.std.specs.Prelude.{◌≡◌, ℕ, ◌≤◌, Option, true, option_copied, IfOk, IfSome, OnOk, OnErr};
+ghost use Rattle.std.specs.Prelude.{◌≡◌, ℕ, ◌+◌, ◌*◌, ◌≤◌, Option, length, Some, true, false, option_copied, IfOk, IfSome, OnOk, OnErr, vec_len, vec_capacity};
 ghost use Rattle.ber_core.specs.ObjectIdentifier.{IsObjectIdentifier};
 ghost use Rattle.ber_core.specs.Place.{Slice};
 ghost use Rattle.tcap_dialogue.specs.Beginning.{begun, begun_from};
 ghost use Rattle.tcap_reception.specs.PortionParts.{Given, GivenIn, context_of_portion, info_of_portion, context_slice};
+ghost use Rattle.tcap_component.specs.ComponentReading.{components_of};
 ghost use Rattle.tcap_primitives.specs.ContextViews.{context_view};
-ghost use Rattle.tcap_primitives.specs.Slices.{AllInPlace, PartsLieIn};
-ghost use Rattle.tcap_dialogue.specs.StepViews.{at_clock, outcome};
+ghost use Rattle.tcap_primitives.specs.IndicationViews.{indicated_octets};
+ghost use Rattle.tcap_primitives.specs.QueueViews.{queue_view};
+ghost use Rattle.tcap_primitives.specs.Slices.{AllInPlace, PartsLieIn, LieInPlace};
+ghost use Rattle.tcap_dialogue.specs.StepViews.{StepsTo, at_clock, outcome};
 ghost use Rattle.tcap_invocation.specs.Stage.{moment_limit};
 ghost use Rattle.tcap_model.specs.Procedures.Refusals.{can_name};
 ghost use Rattle.tcap_model.specs.Table.TableMove.{born};
@@ -19,7 +22,7 @@ use ber_core::OutOfMemory;
 use std::alloc::Allocator;
 use tcap_address::Address;
 use tcap_pdu::TransId;
-use tcap_primitives::{Context, Output};
+use tcap_primitives::{Context, Indication, Output, Queue, Sink, SinkKind};
 use tcap_reception::Phase;
 
 /// The context and the information of an AARQ or an AUDT, empty where there is none.
@@ -36,33 +39,63 @@ pub(super) fn parts_of<'m>(pdu: Option<(&'m [u8], &'m [u8])>) -> (Option<&'m [u8
     }
 }
 
-/// What a dialogue keeps of a Begin for good: the address of the peer, and the context.
-// Each call has its own copy, as those of `KeptAddress` have: apart they moved the address twice more, which took
-// 60 instructions a turn of `register`.
+/// Makes room for a message that is told so, with its components and the Rejects that answer them.
 #[inline(always)]
-pub(super) fn keep_names<A: Allocator + Copy>(
-    alloc: A,
-    kept: &mut KeptAddress<A>,
-    named: &mut Option<Context<A>>,
-    peer: &Address,
-    context: Option<&[u8]>,
+pub(super) fn reserve_message<'m, A: Allocator + Copy, K: SinkKind>(
+    queue: &mut Queue<A>,
+    told: &Indication<'m>,
+    components: &[u8],
+    sink: &mut Sink<'m, A, K>,
 ) -> Result<(), OutOfMemory>
-    requires { can_name (option_copied context) ≡ true }
-    ensures kept { OnOk result (kept.new ≡ peer.now) }
-    ensures named { OnOk result (context_view named.new ≡ option_copied context.entry) }
-    ensures kept_err { OnErr result (kept.new ≡ kept.old) }
-    ensures named_err { OnErr result (context_view named.new ≡ context_view named.old) }
+    ensures same { queue_view queue.new ≡ queue_view queue.old }
+    ensures octets { OnOk result (vec_len queue.new.octets + 8 * length (components_of components.now)
+        ≤ vec_capacity queue.new.octets) }
+    ensures parts { OnOk result (vec_len queue.new.parts + length (components_of components.now)
+        ≤ vec_capacity queue.new.parts) }
+    ensures still { sink.new.outputs ≡ sink.old.outputs }
+    ensures places { OnOk result (1 + length (components_of components.now) ≤ sink.new.places) }
+    ensures room { OnOk result (indicated_octets told.now + length components.now ≤ sink.new.octets) }
+    ensures place { (portion : Option Slice) (other : Slice) → LieInPlace portion other sink.old.slices
+        → LieInPlace portion other sink.new.slices }
 {
-    let copy = Context::of_any(alloc, context)?;
-    kept.set(alloc, peer)?;
-    *named = copy;
+    let items = room_for(components);
+    let octets = told.octet_count().saturating_add(components.len());
+    sink.reserve(items.saturating_add(1), octets)?;
+    reserve_rejects(queue, components, items)?;
     Ok(())
+}
+
+/// What a dialogue keeps of a Begin for good: the address of the peer, and the context.
+#[derive(Drop)]
+pub(super) struct Names<A: Allocator + Copy> {
+    pub(super) kept: KeptAddress<A>,
+    pub(super) context: Option<Context<A>>,
+}
+
+impl<A: Allocator + Copy> Names<A> {
+    /// A copy of these.
+    // Each call has its own copy, as those of `KeptAddress` have: apart they moved the address twice more, which took
+    // 60 instructions a turn of `register`.
+    #[inline(always)]
+    pub(super) fn of(
+        alloc: A,
+        peer: &Address,
+        context: Option<&[u8]>,
+    ) -> Result<Names<A>, OutOfMemory>
+        requires named { can_name (option_copied context) ≡ true }
+        ensures kept { IfOk result (λ names. names.kept ≡ peer.now) }
+        ensures named { IfOk result (λ names. context_view names.context ≡ option_copied context.entry) }
+    {
+        let context = Context::of_any(alloc, context)?;
+        let kept = KeptAddress::of(alloc, peer)?;
+        Ok(Names { kept, context })
+    }
 }
 
 impl<A: Allocator + Copy> Dialogue<A> {
     /// The Begin to the dialogue, in which nothing has happened: it is told with its components, the Rejects that
     /// answer them are queued, and the sender's address is kept. All room is found first.
-    fn begin_with<'m>(
+    fn begin_with<'m, K: SinkKind>(
         &mut self,
         from: &Address,
         otid: &TransId,
@@ -70,35 +103,38 @@ impl<A: Allocator + Copy> Dialogue<A> {
         info: &'m [u8],
         components: &'m [u8],
         clock: u64,
-    ) -> Result<Vec<Output<'m, A>, A>, OutOfMemory>
+        sink: &mut Sink<'m, A, K>,
+    ) -> Result<(), OutOfMemory>
         requires clock { clock ≤ moment_limit }
         requires named { can_name (option_copied context) ≡ true }
-        ensures ok { IfOk result (λ outputs. begun outputs.items self.new ≡ outcome
-            (begun_from clock self.old from.now otid.now (option_copied context.entry) info.now components.now)) }
+        ensures ok { OnOk result (StepsTo sink.old.outputs sink.new.outputs false self.new
+            (outcome (begun_from clock self.old from.now otid.now (option_copied context.entry) info.now
+            components.now))) }
         ensures err { OnErr result (self.new ≡ self.old) }
+        ensures still { OnErr result (sink.new.outputs ≡ sink.old.outputs) }
         ensures place { (portion : Option Slice) → PartsLieIn 0x60 context.entry info.entry portion
-            → IfOk result (λ outputs. AllInPlace portion components.entry outputs.items) }
+            → LieInPlace portion components.entry sink.old.slices → LieInPlace portion components.entry sink.new.slices }
     {
-        let alloc = *self.queue.octets.allocator();
-        let items = room_for(components);
-        let mut outputs = Vec::with_capacity(alloc, items.saturating_add(1))?;
-        reserve_rejects(&mut self.queue, components, items)?;
-        keep_names(alloc, &mut self.kept, &mut self.context, from, context)?;
-        outputs.push_reserved(Output::Begin {
+        let told = Indication::Begin {
             dialogue: self.identifier,
             context,
             info,
-        });
+        };
+        reserve_message(&mut self.queue, &told, components, sink)?;
+        let names = Names::of(*self.queue.octets.allocator(), from, context)?;
+        self.kept = names.kept;
+        self.context = names.context;
+        sink.tell(told);
         handle_components(
             self.identifier,
             clock,
             components,
             &mut self.invocations,
             &mut self.queue,
-            &mut outputs,
+            sink,
         );
         self.phase = Phase::Received(otid.copied());
-        Ok(outputs)
+        Ok(())
     }
 
     /// The dialogue with this identifier that a Begin creates at this moment, and what is told.
@@ -130,8 +166,9 @@ impl<A: Allocator + Copy> Dialogue<A> {
             → IfOk result (λ r. AllInPlace portion components.entry r.1.items) }
     {
         let mut dialogue = Dialogue::fresh(alloc, identifier, reject_ms, idle_ms);
-        let outputs = dialogue.receive_begin(from, otid, aarq, components, clock)?;
-        Ok((dialogue, outputs))
+        let mut sink = Sink::vector(alloc);
+        dialogue.receive_begin(from, otid, aarq, components, clock, &mut sink)?;
+        Ok((dialogue, sink.into_vector()))
     }
 
     /// The Begin that creates the dialogue, in which nothing has happened: what is told; the arguments are those
@@ -140,23 +177,26 @@ impl<A: Allocator + Copy> Dialogue<A> {
     // cleared them again.
     #[tactic(auto, using(crate::proofs::PortionNames::named_given))]
     #[inline(always)]
-    pub(super) fn receive_begin<'m>(
+    pub(super) fn receive_begin<'m, K: SinkKind>(
         &mut self,
         from: &Address,
         otid: &TransId,
         aarq: Option<(&'m [u8], &'m [u8])>,
         components: &'m [u8],
         clock: u64,
-    ) -> Result<Vec<Output<'m, A>, A>, OutOfMemory>
+        sink: &mut Sink<'m, A, K>,
+    ) -> Result<(), OutOfMemory>
         requires clock { clock ≤ moment_limit }
         requires named { IfSome aarq (λ a. IsObjectIdentifier a.0.now) }
-        ensures ok { IfOk result (λ outputs. begun outputs.items self.new ≡ outcome (begun_from clock self.old
-            from.now otid.now (context_of_portion aarq.entry) (info_of_portion aarq.entry) components.now)) }
+        ensures ok { OnOk result (StepsTo sink.old.outputs sink.new.outputs false self.new
+            (outcome (begun_from clock self.old from.now otid.now (context_of_portion aarq.entry)
+            (info_of_portion aarq.entry) components.now))) }
         ensures err { OnErr result (self.new ≡ self.old) }
+        ensures still { OnErr result (sink.new.outputs ≡ sink.old.outputs) }
         ensures place { (portion : Option Slice) → GivenIn 0x60 aarq.entry portion
-            → IfOk result (λ outputs. AllInPlace portion components.entry outputs.items) }
+            → LieInPlace portion components.entry sink.old.slices → LieInPlace portion components.entry sink.new.slices }
     {
         let (context, info) = parts_of(aarq);
-        self.begin_with(from, otid, context, info, components, clock)
+        self.begin_with(from, otid, context, info, components, clock, sink)
     }
 }

@@ -1,33 +1,33 @@
 //! The end of a dialogue.
 
-ghost use Rattle.std.specs.Prelude.{◌≡◌, ◌+◌, ◌≤◌, ◌++◌, Option, length, vec_len, vec_capacity};
+ghost use Rattle.std.specs.Prelude.{◌≡◌, ◌+◌, ◌≤◌, ◌++◌, Option, length};
 ghost use Rattle.ber_core.specs.Place.{Slice};
-ghost use Rattle.tcap_primitives.specs.OutputViews.{all_shown};
-ghost use Rattle.tcap_primitives.specs.Slices.{AllInPlace};
 ghost use Rattle.tcap_invocation.specs.Closing.{ended_at};
 ghost use Rattle.tcap_model.specs.Table.TableMove.{ended_told};
+ghost use Rattle.tcap_primitives.specs.Slices.{LieInPlace};
 
 use std::alloc::Allocator;
 use tcap_invocation::Invocations;
-use tcap_primitives::Output;
+use tcap_primitives::{Indication, Sink, SinkKind};
 
 /// The dialogue is over: tells each of its invocations that is Queued or Sent as ended, by number, and
 /// takes it out; there is room for all of them.
-pub(crate) fn tell_ended<'m, A: Allocator + Copy>(
+pub(crate) fn tell_ended<'m, A: Allocator + Copy, K: SinkKind>(
     dialogue: u32,
     invocations: &mut Invocations<A>,
-    outputs: &mut Vec<Output<'m, A>, A>,
+    sink: &mut Sink<'m, A, K>,
 )
-    requires { vec_len outputs.old + length (ended_at invocations.old.rows) ≤ vec_capacity outputs.old }
-    ensures told { all_shown outputs.new.items ≡ all_shown outputs.old.items ++ ended_told dialogue invocations.old }
-    ensures room { vec_capacity outputs.old ≤ vec_capacity outputs.new }
+    requires { length (ended_at invocations.old.rows) ≤ sink.old.places }
+    ensures told { sink.new.outputs ≡ sink.old.outputs
+        ++ ended_told dialogue invocations.old }
     // What is told so has no slices.
-    ensures place { (portion : Option Slice) (components : Slice)
-        → AllInPlace portion components outputs.old.items → AllInPlace portion components outputs.new.items }
-    ensures len { vec_len outputs.new ≡ vec_len outputs.old + length (ended_at invocations.old.rows) }
+    ensures place { (portion : Option Slice) (components : Slice) → LieInPlace portion components sink.old.slices
+        → LieInPlace portion components sink.new.slices }
+    ensures places { sink.old.places ≤ sink.new.places
+        + length (ended_at invocations.old.rows) }
 {
     while let Some((number, id)) = invocations.close_one() {
-        outputs.push_reserved(Output::Ended {
+        sink.tell(Indication::Ended {
             dialogue,
             number,
             id,

@@ -1,15 +1,15 @@
 //! Messages to a dialogue, and faulty ones.
 
-ghost use Rattle.std.specs.Prelude.{◌≡◌, ◌+◌, ◌*◌, ◌≤◌, ◌<◌, Option, length, unwrap_or, option_copied, IfOk, OnOk, OnErr, vec_len, vec_capacity};
+ghost use Rattle.std.specs.Prelude.{◌≡◌, ◌≤◌, ◌<◌, vec_len, vec_capacity, Option, false, true, length, unwrap_or, option_copied, IfOk, OnOk, OnErr};
 ghost use Rattle.ber_core.specs.Place.{Slice};
 ghost use Rattle.tcap_primitives.specs.OutputViews.{cause_view};
 ghost use Rattle.tcap_reception.specs.PortionViews.{portion_view, PortionIn};
 ghost use Rattle.tcap_primitives.specs.QueueViews.{queue_view};
-ghost use Rattle.tcap_primitives.specs.Slices.{AllInPlace, PartsLieIn};
+ghost use Rattle.tcap_primitives.specs.Slices.{AllInPlace, PartsLieIn, LieInPlace};
 ghost use Rattle.tcap_reception.specs.StateViews.{phase_view};
 ghost use Rattle.tcap_dialogue.specs.KeptOctets.{most_in_place};
 ghost use Rattle.tcap_model.specs.Words.State.State.{sent};
-ghost use Rattle.tcap_dialogue.specs.StepViews.{at_clock, outcome, stepped};
+ghost use Rattle.tcap_dialogue.specs.StepViews.{StepsTo, at_clock, outcome, stepped};
 ghost use Rattle.tcap_invocation.specs.Stage.{moment_limit};
 ghost use Rattle.tcap_model.specs.Procedures.PortionRules.{portion_verdict};
 ghost use Rattle.tcap_model.specs.Procedures.PortionRules.PortionVerdict.{normal};
@@ -18,17 +18,16 @@ ghost use Rattle.tcap_model.specs.Words.State.{State, address_by, peer_by};
 ghost use Rattle.tcap_pdu.specs.FramePortions.{dialogue_slice, components_slice};
 ghost use Rattle.tcap_pdu.specs.FrameViews.{message};
 
+use super::beginning::reserve_message;
 use super::ending::tell_ended;
 use super::kept_address::KeptAddress;
 use super::{Dialogue, Step};
-use crate::component_handling::message::{
-    handle_components, handle_in_end, reserve_rejects, room_for,
-};
+use crate::component_handling::message::{handle_components, handle_in_end, room_for};
 use ber_core::OutOfMemory;
 use std::alloc::Allocator;
 use tcap_address::Address;
 use tcap_pdu::{Frame, TransId};
-use tcap_primitives::{Output, Why};
+use tcap_primitives::{Indication, Sink, SinkKind, Why};
 use tcap_reception::{Phase, PortionVerdict, judge_portion};
 
 /// The sender of a Continue to a dialogue in Sent is kept; later ones are not (our own).
@@ -51,7 +50,7 @@ fn keep_sender<A: Allocator + Copy>(
 impl<A: Allocator + Copy> Dialogue<A> {
     /// A Continue whose dialogue portion is as it should be: it is told with its components, and the
     /// Rejects that answer them are queued; the sender of the first is kept. All room is found first.
-    fn continue_normal<'m>(
+    fn continue_normal<'m, K: SinkKind>(
         &mut self,
         from: &Address,
         origin: &TransId,
@@ -59,146 +58,158 @@ impl<A: Allocator + Copy> Dialogue<A> {
         info: &'m [u8],
         components: &'m [u8],
         clock: u64,
-    ) -> Result<Step<'m, A>, OutOfMemory>
+        sink: &mut Sink<'m, A, K>,
+    ) -> Result<(), OutOfMemory>
         requires { clock ≤ moment_limit }
-        ensures ok { IfOk result (λ s. stepped s self.new
-            ≡ outcome (continued_by (at_clock clock) self.old from.now origin.now
-            (normal (option_copied context.entry) info.now) (walked_in clock self.old components.now))) }
+        ensures ok { OnOk result (StepsTo sink.old.outputs sink.new.outputs false self.new
+            (outcome (continued_by (at_clock clock) self.old from.now origin.now
+            (normal (option_copied context.entry) info.now) (walked_in clock self.old components.now)))) }
         ensures err { OnErr result (self.new ≡ self.old) }
+        ensures still { OnErr result (sink.new.outputs ≡ sink.old.outputs) }
         ensures kept { self.new.standing.identifier ≡ self.old.standing.identifier }
         ensures place { (portion : Option Slice) → PartsLieIn 0x61 context.entry info.entry portion
-            → IfOk result (λ s. AllInPlace portion components.entry s.outputs.items) }
+            → LieInPlace portion components.entry sink.old.slices → LieInPlace portion components.entry sink.new.slices }
     {
-        let alloc = *self.queue.octets.allocator();
-        let items = room_for(components);
-        let mut outputs = Vec::with_capacity(alloc, items.saturating_add(1))?;
-        reserve_rejects(&mut self.queue, components, items)?;
-        keep_sender(alloc, &self.phase, &mut self.kept, from)?;
-        outputs.push_reserved(Output::Continue {
+        let told = Indication::Continue {
             dialogue: self.identifier,
             context,
             info,
-        });
+        };
+        reserve_message(&mut self.queue, &told, components, sink)?;
+        let alloc = *self.queue.octets.allocator();
+        keep_sender(alloc, &self.phase, &mut self.kept, from)?;
+        sink.tell(told);
         handle_components(
             self.identifier,
             clock,
             components,
             &mut self.invocations,
             &mut self.queue,
-            &mut outputs,
+            sink,
         );
         self.phase = self.phase.continued(origin);
         self.touched = clock;
-        Ok(Step {
-            outputs,
-            over: false,
-        })
+        Ok(())
     }
 
     /// An End whose dialogue portion is as it should be: it is told with its components, and then the
     /// dialogue is over. All room is found first.
-    fn end_normal<'m>(
+    fn end_normal<'m, K: SinkKind>(
         &mut self,
         context: Option<&'m [u8]>,
         info: &'m [u8],
         components: &'m [u8],
         clock: u64,
-    ) -> Result<Step<'m, A>, OutOfMemory>
+        sink: &mut Sink<'m, A, K>,
+    ) -> Result<(), OutOfMemory>
         requires { clock ≤ moment_limit }
-        ensures ok { IfOk result (λ s. stepped s self.new ≡ outcome (ended_by self.old
-            (normal (option_copied context.entry) info.now) (walked_in clock self.old components.now))) }
+        ensures ok { OnOk result (StepsTo sink.old.outputs sink.new.outputs true self.new
+            (outcome (ended_by self.old (normal (option_copied context.entry) info.now)
+            (walked_in clock self.old components.now)))) }
         ensures err { OnErr result (self.new ≡ self.old) }
+        ensures still { OnErr result (sink.new.outputs ≡ sink.old.outputs) }
         ensures kept { self.new.standing.identifier ≡ self.old.standing.identifier }
         ensures place { (portion : Option Slice) → PartsLieIn 0x61 context.entry info.entry portion
-            → IfOk result (λ s. AllInPlace portion components.entry s.outputs.items) }
+            → LieInPlace portion components.entry sink.old.slices → LieInPlace portion components.entry sink.new.slices }
     {
-        let items = room_for(components);
-        let count = items
-            .saturating_add(self.invocations.open_count())
-            .saturating_add(1);
-        let mut outputs = Vec::with_capacity(*self.queue.octets.allocator(), count)?;
-        outputs.push_reserved(Output::End {
+        let told = Indication::End {
             dialogue: self.identifier,
             context,
             info,
-        });
+        };
+        let count = room_for(components)
+            .saturating_add(self.invocations.open_count())
+            .saturating_add(1);
+        let octets = told.octet_count().saturating_add(components.len());
+        sink.reserve(count, octets)?;
+        sink.tell(told);
         handle_in_end(
             self.identifier,
             clock,
             components,
             &mut self.invocations,
-            &mut outputs,
+            sink,
         );
-        tell_ended(self.identifier, &mut self.invocations, &mut outputs);
-        Ok(Step {
-            outputs,
-            over: true,
-        })
+        tell_ended(self.identifier, &mut self.invocations, sink);
+        Ok(())
     }
 
-    /// A Continue (Q.774, Dialogue continuation).
-    fn receive_continue<'m>(
+    /// A Continue (Q.774, Dialogue continuation): whether the dialogue is over.
+    fn receive_continue<'m, K: SinkKind>(
         &mut self,
         from: &Address,
         origin: &TransId,
         dialogue: Option<&'m [u8]>,
         components: &'m [u8],
         clock: u64,
-    ) -> Result<Step<'m, A>, OutOfMemory>
+        sink: &mut Sink<'m, A, K>,
+    ) -> Result<bool, OutOfMemory>
         requires { clock ≤ moment_limit }
-        ensures ok { IfOk result (λ s. stepped s self.new
-            ≡ outcome (continued_by (at_clock clock) self.old from.now origin.now
+        ensures ok { IfOk result (λ over. StepsTo sink.old.outputs sink.new.outputs over
+            self.new (outcome (continued_by (at_clock clock) self.old from.now origin.now
             (portion_verdict self.old.standing.state self.old.standing.context (option_copied dialogue.entry))
-            (walked_in clock self.old components.now))) }
+            (walked_in clock self.old components.now)))) }
         ensures err { OnErr result (self.new ≡ self.old) }
+        ensures still { OnErr result (sink.new.outputs ≡ sink.old.outputs) }
         ensures kept { self.new.standing.identifier ≡ self.old.standing.identifier }
-        ensures place { IfOk result (λ s. AllInPlace dialogue.entry components.entry s.outputs.items) }
+        ensures place { LieInPlace dialogue.entry components.entry sink.old.slices
+            → LieInPlace dialogue.entry components.entry sink.new.slices }
     {
         match judge_portion(&self.phase, &self.context, dialogue) {
             PortionVerdict::Normal { context, info } => {
-                self.continue_normal(from, origin, context, info, components, clock)
+                self.continue_normal(from, origin, context, info, components, clock, sink)?;
+                Ok(false)
             }
-            PortionVerdict::Abnormal => self.abort_abnormal(from, origin),
+            PortionVerdict::Abnormal => {
+                self.abort_abnormal(from, origin, sink)?;
+                Ok(true)
+            }
         }
     }
 
-    /// An End (Q.774, Dialogue end).
-    fn receive_end<'m>(
+    /// An End (Q.774, Dialogue end): the dialogue is over.
+    fn receive_end<'m, K: SinkKind>(
         &mut self,
         dialogue: Option<&'m [u8]>,
         components: &'m [u8],
         clock: u64,
-    ) -> Result<Step<'m, A>, OutOfMemory>
+        sink: &mut Sink<'m, A, K>,
+    ) -> Result<(), OutOfMemory>
         requires { clock ≤ moment_limit }
-        ensures ok { IfOk result (λ s. stepped s self.new
-            ≡ outcome (ended_by self.old (portion_verdict self.old.standing.state self.old.standing.context
-            (option_copied dialogue.entry)) (walked_in clock self.old components.now))) }
+        ensures ok { OnOk result (StepsTo sink.old.outputs sink.new.outputs true self.new
+            (outcome (ended_by self.old (portion_verdict self.old.standing.state self.old.standing.context
+            (option_copied dialogue.entry)) (walked_in clock self.old components.now)))) }
         ensures err { OnErr result (self.new ≡ self.old) }
+        ensures still { OnErr result (sink.new.outputs ≡ sink.old.outputs) }
         ensures kept { self.new.standing.identifier ≡ self.old.standing.identifier }
-        ensures place { IfOk result (λ s. AllInPlace dialogue.entry components.entry s.outputs.items) }
+        ensures place { LieInPlace dialogue.entry components.entry sink.old.slices
+            → LieInPlace dialogue.entry components.entry sink.new.slices }
     {
         match judge_portion(&self.phase, &self.context, dialogue) {
             PortionVerdict::Normal { context, info } => {
-                self.end_normal(context, info, components, clock)
+                self.end_normal(context, info, components, clock, sink)
             }
-            PortionVerdict::Abnormal => self.abort_provider(Why::Abnormal),
+            PortionVerdict::Abnormal => self.abort_provider(Why::Abnormal, sink),
         }
     }
 
-    /// `take_frame`, message by message.
-    fn receive_message<'m>(
+    /// `take_frame`, message by message: whether the dialogue is over.
+    pub(super) fn receive_message<'m, K: SinkKind>(
         &mut self,
         from: &Address,
         frame: &Frame<'m>,
         clock: u64,
-    ) -> Result<Step<'m, A>, OutOfMemory>
+        sink: &mut Sink<'m, A, K>,
+    ) -> Result<bool, OutOfMemory>
         requires { clock ≤ moment_limit }
-        ensures ok { IfOk result (λ s. stepped s self.new
-            ≡ outcome (framed (at_clock clock) self.old from.now (message frame.now))) }
+        ensures ok { IfOk result (λ over. StepsTo sink.old.outputs sink.new.outputs over
+            self.new (outcome (framed (at_clock clock) self.old from.now (message frame.now)))) }
         ensures err { OnErr result (self.new ≡ self.old) }
+        ensures still { OnErr result (sink.new.outputs ≡ sink.old.outputs) }
         ensures kept { self.new.standing.identifier ≡ self.old.standing.identifier }
-        ensures place { (other : Slice) → IfOk result (λ s. AllInPlace
-            (dialogue_slice frame.now) (unwrap_or (components_slice frame.now) other) s.outputs.items) }
+        ensures place { (other : Slice)
+            → LieInPlace (dialogue_slice frame.now) (unwrap_or (components_slice frame.now) other) sink.old.slices
+            → LieInPlace (dialogue_slice frame.now) (unwrap_or (components_slice frame.now) other) sink.new.slices }
     {
         match frame {
             Frame::Continue {
@@ -206,17 +217,20 @@ impl<A: Allocator + Copy> Dialogue<A> {
                 dialogue,
                 components,
                 ..
-            } => self.receive_continue(from, otid, *dialogue, components, clock),
+            } => self.receive_continue(from, otid, *dialogue, components, clock, sink),
             Frame::End {
                 dialogue,
                 components,
                 ..
-            } => self.receive_end(*dialogue, components, clock),
-            Frame::Abort { reason, .. } => self.receive_abort(reason),
-            Frame::Uni { .. } | Frame::Begin { .. } => Ok(Step {
-                outputs: Vec::new(*self.queue.octets.allocator()),
-                over: false,
-            }),
+            } => {
+                self.receive_end(*dialogue, components, clock, sink)?;
+                Ok(true)
+            }
+            Frame::Abort { reason, .. } => {
+                self.receive_abort(reason, sink)?;
+                Ok(true)
+            }
+            Frame::Uni { .. } | Frame::Begin { .. } => Ok(false),
         }
     }
 
@@ -242,7 +256,10 @@ impl<A: Allocator + Copy> Dialogue<A> {
         ensures place { (other : Slice) → IfOk result (λ s. AllInPlace
             (dialogue_slice frame.now) (unwrap_or (components_slice frame.now) other) s.outputs.items) }
     {
-        self.receive_message(from, frame, clock)
+        let mut sink = Sink::vector(*self.queue.octets.allocator());
+        let over = self.receive_message(from, frame, clock, &mut sink)?;
+        let outputs = sink.into_vector();
+        Ok(Step { outputs, over })
     }
 
     /// A faulty message names the dialogue: TC-P-ABORT with this P-Abort cause, 0 to 127, and the
@@ -258,6 +275,13 @@ impl<A: Allocator + Copy> Dialogue<A> {
         // There is room for one output more.
         ensures room { IfOk result (λ s. vec_len s.outputs < vec_capacity s.outputs) }
     {
-        self.abort_provider(Why::Cause(cause))
+        let count = self.invocations.open_count().saturating_add(2);
+        let mut sink = Sink::vector(*self.queue.octets.allocator());
+        sink.reserve(count, 0)?;
+        self.abort_provider(Why::Cause(cause), &mut sink)?;
+        Ok(Step {
+            outputs: sink.into_vector(),
+            over: true,
+        })
     }
 }

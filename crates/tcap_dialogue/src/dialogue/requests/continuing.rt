@@ -2,12 +2,13 @@
 
 // Hints to inline have the reasons that requests.rt gives.
 
-ghost use Rattle.std.specs.Prelude.{◌≡◌, ◌≤◌, None, IfErr, IfOk, option_copied};
+ghost use Rattle.std.specs.Prelude.{◌≡◌, ◌≤◌, ◌++◌, None, Some, IfErr, IfOk, OnErr, OnOk, is_some, option_copied};
 ghost use Rattle.std.specs.Option.{option_map};
-ghost use Rattle.tcap_dialogue.specs.RequestForm.{Steps};
-ghost use Rattle.tcap_dialogue.specs.RequestMessages.{IsRefusal, Spells, early_faults};
+ghost use Rattle.tcap_dialogue.specs.RequestForm.{Steps, StepsInto};
+ghost use Rattle.tcap_dialogue.specs.RequestMessages.{IsUnwritten, early_faults, outgoing_view};
 ghost use Rattle.tcap_dialogue.specs.StepViews.{asked, requested};
 ghost use Rattle.tcap_invocation.specs.Stage.{moment_limit};
+ghost use Rattle.tcap_model.specs.Procedures.AbortRules.{sent_if_any};
 ghost use Rattle.tcap_model.specs.Procedures.Refusals.{due_on, first_that, holds};
 ghost use Rattle.tcap_model.specs.Procedures.RequestMessage.{message_of};
 ghost use Rattle.tcap_model.specs.Table.TableMove.{situation};
@@ -17,11 +18,11 @@ ghost use Rattle.tcap_primitives.specs.RequestViews.{continue_view};
 ghost use Rattle.tcap_primitives.specs.SendingViews.{CanSend, sending_view};
 ghost use Rattle.tcap_reception.specs.StateViews.{phase_view};
 
-use super::sending::{Destination, gives_any, is_name_good};
+use super::sending::{gives_any, is_name_good, send, within_limit_if_any};
 use crate::dialogue::{Dialogue, Step};
 use std::alloc::Allocator;
 use tcap_pdu::is_user_information;
-use tcap_primitives::{ContinueRequest, Fault, MessageParts, Sending};
+use tcap_primitives::{ContinueRequest, Fault, MessageParts, Outgoing, Sending, Sink, SinkKind};
 use tcap_reception::Phase;
 
 impl<A: Allocator + Copy> Dialogue<A> {
@@ -42,7 +43,7 @@ impl<A: Allocator + Copy> Dialogue<A> {
             (Request.dialogue (DialogueRequest.go_on (option_copied context.entry) info.now))) self.old self.new }
         ensures kept { self.new.standing.identifier ≡ self.old.standing.identifier }
     {
-        self.send_continue(&ContinueRequest { context, info }, clock)
+        self.continue_step(&ContinueRequest { context, info }, clock)
     }
 
     /// The first fault of a Continue that is due before its message is written.
@@ -66,6 +67,7 @@ impl<A: Allocator + Copy> Dialogue<A> {
     }
 
     /// The Continue with the queue, once the peer is known.
+    #[inline(always)]
     fn continue_sending<'a>(&'a self, request: &ContinueRequest<'a>) -> Option<Sending<'a>>
         ensures message { option_map sending_view result
             ≡ message_of self.now.standing (Request.dialogue (continue_view request.now)) }
@@ -84,22 +86,68 @@ impl<A: Allocator + Copy> Dialogue<A> {
         }
     }
 
-    /// The octets of the Continue, or the first due fault of its request.
-    fn continue_octets(&self, request: &ContinueRequest<'_>) -> Result<Option<Vec<u8, A>>, Fault>
-        ensures ok { let r = Request.dialogue (continue_view request.now) in IfOk result (λ v.
-            Spells v (message_of self.now.standing r) × (due_on (situation (asked 0 0) self.now r) r ≡ None)) }
-        ensures err { let r = Request.dialogue (continue_view request.now) in IfErr result (λ f.
-            IsRefusal f (message_of self.now.standing r) (due_on (situation (asked 0 0) self.now r) r)) }
+    /// The Continue, or the first due fault of its request.
+    #[inline(always)]
+    fn continue_message<'a>(
+        &'a self,
+        request: &ContinueRequest<'a>,
+    ) -> Result<Option<Outgoing<'a>>, Fault>
+        ensures ok { let r = Request.dialogue (continue_view request.now) in
+            IfOk result (λ m. (outgoing_view m ≡ message_of self.now.standing r)
+            × (due_on (situation (asked 0 0) self.now r) r ≡ None)) }
+        ensures err { let r = Request.dialogue (continue_view request.now) in
+            IfErr result (λ f. due_on (situation (asked 0 0) self.now r) r ≡ Some (fault_view f)) }
     {
         if let Some(fault) = self.continue_fault(request) {
             return Err(fault);
         }
-        self.spelled_if_any(self.continue_sending(request))
+        within_limit_if_any(self.continue_sending(request))
     }
 
-    /// Judges a Continue, writes it, and sends it at this moment; the dialogue is Active.
+    /// Judges a Continue and writes it.
+    #[inline(always)]
+    fn write_continue<'m, K: SinkKind>(
+        &self,
+        request: &ContinueRequest<'_>,
+        sink: &mut Sink<'m, A, K>,
+    ) -> Result<(), Fault>
+        ensures ok { let r = Request.dialogue (continue_view request.now) in OnOk result
+            (sink.new.outputs ≡ sink.old.outputs
+            ++ sent_if_any self.now.kept (message_of self.now.standing r)) }
+        ensures due { let r = Request.dialogue (continue_view request.now) in
+            OnOk result (due_on (situation (asked 0 0) self.now r) r ≡ None) }
+        ensures err { let r = Request.dialogue (continue_view request.now) in IfErr result (λ f. IsUnwritten f
+            (due_on (situation (asked 0 0) self.now r) r)
+            (is_some (message_of self.now.standing r))) }
+        ensures still { OnErr result (sink.new.outputs ≡ sink.old.outputs) }
+    {
+        let message = self.continue_message(request)?;
+        send(self.kept.octets(), message, 0, sink)?;
+        Ok(())
+    }
+
+    /// Judges a Continue, and writes it at this moment; the dialogue is Active, and not over.
     #[inline(never)]
-    pub(super) fn send_continue<'m>(
+    pub(super) fn send_continue<'m, K: SinkKind>(
+        &mut self,
+        request: &ContinueRequest<'_>,
+        clock: u64,
+        sink: &mut Sink<'m, A, K>,
+    ) -> Result<bool, Fault>
+        requires { clock ≤ moment_limit }
+        ensures step { StepsInto sink.old.outputs sink.new.outputs result
+            (requested clock 0 self.old (Request.dialogue (continue_view request.now))) self.old self.new }
+        ensures kept { self.new.standing.identifier ≡ self.old.standing.identifier }
+    {
+        self.write_continue(request, sink)?;
+        self.send_queue(clock);
+        self.phase = self.phase.activated();
+        self.touched = clock;
+        Ok(false)
+    }
+
+    /// `send_continue`, into a vector.
+    fn continue_step<'m>(
         &mut self,
         request: &ContinueRequest<'_>,
         clock: u64,
@@ -109,14 +157,9 @@ impl<A: Allocator + Copy> Dialogue<A> {
             (requested clock 0 self.old (Request.dialogue (continue_view request.now))) self.old self.new }
         ensures kept { self.new.standing.identifier ≡ self.old.standing.identifier }
     {
-        let octets = self.continue_octets(request)?;
-        let outputs = self.sent(Destination::Kept, octets, 0)?;
-        self.send_queue(clock);
-        self.phase = self.phase.activated();
-        self.touched = clock;
-        Ok(Step {
-            outputs,
-            over: false,
-        })
+        let mut sink = Sink::vector(*self.queue.octets.allocator());
+        let over = self.send_continue(request, clock, &mut sink)?;
+        let outputs = sink.into_vector();
+        Ok(Step { outputs, over })
     }
 }

@@ -3,11 +3,12 @@
 
 // Hints to inline have the reasons that requests.rt gives.
 
-ghost use Rattle.std.specs.Prelude.{◌≡◌, ◌+◌, ◌≤◌, ◌||◌, None, Some, IfErr, IfOk, IfSome, IsTrue, OnErr, false, is_some, nat_lt, option_copied, vec_len, vec_capacity};
+ghost use Rattle.std.specs.Prelude.{◌≡◌, ◌≤◌, ◌++◌, ◌||◌, None, Some, IfErr, IfOk, IfSome, IsTrue, OnErr, OnOk, false, true, is_some, length, nat_lt, option_copied};
 ghost use Rattle.std.specs.Option.{option_map};
-ghost use Rattle.tcap_dialogue.specs.RequestMessages.{IsUnspelled, Spells, address_for, octets_sent};
+ghost use Rattle.tcap_dialogue.specs.RequestMessages.{outgoing_view};
 ghost use Rattle.tcap_dialogue.specs.StepViews.{asked};
 ghost use Rattle.tcap_invocation.specs.Stage.{moment_limit};
+ghost use Rattle.tcap_model.specs.Procedures.AbortRules.{sent_if_any};
 ghost use Rattle.tcap_model.specs.Procedures.Refusals.{can_name, gives_any, is_filled, lacks_context, passes_message};
 ghost use Rattle.tcap_model.specs.Procedures.RequestMessage.{answer_portion};
 ghost use Rattle.tcap_model.specs.Procedures.States.{is_asked};
@@ -15,26 +16,16 @@ ghost use Rattle.tcap_model.specs.Table.TableMove.{gone_out};
 ghost use Rattle.tcap_pdu.specs.DialogueDue.{content_fault};
 ghost use Rattle.tcap_pdu.specs.DialogueViews.{pdu_value};
 ghost use Rattle.tcap_pdu.specs.DialogueWritten.{HasDiagnostic};
-ghost use Rattle.tcap_primitives.specs.OutputViews.{all_shown};
 ghost use Rattle.tcap_primitives.specs.SendingViews.{CanCarry, portion_view, sending_view};
+ghost use Rattle.tcap_primitives.specs.declared.fault.Fault.TheVariants as fault;
 ghost use Rattle.tcap_reception.specs.StateViews.{phase_view};
 
 use crate::dialogue::Dialogue;
 use ber_core::{OutOfMemory, is_oid};
 use std::alloc::Allocator;
-use tcap_address::Address;
-use tcap_pdu::{DialoguePdu, PduFault};
-use tcap_primitives::{Fault, Output, Sending, answering_pdu};
+use tcap_pdu::DialoguePdu;
+use tcap_primitives::{Fault, Outgoing, Sending, Sink, SinkKind, answering_pdu};
 use tcap_reception::Phase;
-
-/// Where the message of a request goes.
-#[derive(Clone, Copy)]
-pub(super) enum Destination<'a> {
-    /// To the destination that the request names.
-    Named(&'a Address),
-    /// To the address that the dialogue keeps.
-    Kept,
-}
 
 /// Whether a context that is given is an object identifier.
 pub(super) fn is_name_good(context: Option<&[u8]>) -> bool
@@ -97,87 +88,6 @@ impl<A: Allocator + Copy> Dialogue<A> {
         }
     }
 
-    /// The octets of a message. Faults: TooLong, then OutOfMemory.
-    // A message is judged by writing it, before anything changes: it was composed twice, and its dialogue
-    // portion judged three times, as long as one call looked for the fault and another one wrote. Each request
-    // knows which message it sends: in its own copy the match on that folds away, here and below.
-    #[inline(always)]
-    pub(super) fn spelled(&self, sending: &Sending<'_>) -> Result<Vec<u8, A>, Fault>
-        requires { IfSome sending.now.pdu
-            (λ p. HasDiagnostic (pdu_value p) × (content_fault (pdu_value p) ≡ None)) }
-        ensures ok { let m = Some (sending_view sending.now) in
-            IfOk result (λ v. Spells (Some v) m × (passes_message m ≡ false)) }
-        ensures err { IfErr result (λ f. IsUnspelled f (Some (sending_view sending.now))) }
-    {
-        match sending.spelled(*self.queue.octets.allocator()) {
-            Ok(octets) => Ok(octets),
-            Err(PduFault::TooLong) => Err(Fault::TooLong),
-            Err(_) => Err(Fault::OutOfMemory),
-        }
-    }
-
-    /// The octets of a message, if there is one. Faults: TooLong, then OutOfMemory.
-    #[inline(always)]
-    pub(super) fn spelled_if_any(
-        &self,
-        sending: Option<Sending<'_>>,
-    ) -> Result<Option<Vec<u8, A>>, Fault>
-        requires { IfSome sending (λ s. IfSome s.pdu
-            (λ p. HasDiagnostic (pdu_value p) × (content_fault (pdu_value p) ≡ None))) }
-        ensures ok { let m = option_map sending_view sending.entry in
-            IfOk result (λ v. Spells v m × (passes_message m ≡ false)) }
-        ensures err { IfErr result (λ f. IsUnspelled f (option_map sending_view sending.entry)) }
-    {
-        match sending {
-            None => Ok(None),
-            Some(sending) => match self.spelled(&sending) {
-                Ok(octets) => Ok(Some(octets)),
-                Err(fault) => Err(fault),
-            },
-        }
-    }
-
-    /// Where the message of a request goes.
-    // Where it was always copied to its caller, the address was moved twice more, 85 instructions a message.
-    #[inline]
-    fn address_for(&self, to: Destination<'_>) -> Address
-        ensures { result ≡ address_for to.entry self.now.kept }
-    {
-        match to {
-            Destination::Named(address) => address.copied(),
-            Destination::Kept => self.kept.to_address(),
-        }
-    }
-
-    /// What is sent, if a message is, with room for so many outputs more.
-    // In each of its callers the destination is known, and in some that there is a message: the matches fold
-    // away, and the outputs are built in place.
-    #[inline(always)]
-    pub(super) fn sent<'m>(
-        &self,
-        to: Destination<'_>,
-        message: Option<Vec<u8, A>>,
-        more: usize,
-    ) -> Result<Vec<Output<'m, A>, A>, OutOfMemory>
-        ensures sent { IfOk result (λ v. all_shown v.items
-            ≡ octets_sent (address_for to.entry self.now.kept) message) }
-        ensures room { IfOk result (λ v. vec_len v + more ≤ vec_capacity v) }
-        ensures memory { OnErr result (IsTrue (is_some message || nat_lt 0 more)) }
-    {
-        let alloc = *self.queue.octets.allocator();
-        match message {
-            None => Ok(Vec::with_capacity(alloc, more)?),
-            Some(bytes) => {
-                let mut outputs = Vec::with_capacity(alloc, more.saturating_add(1))?;
-                outputs.push_reserved(Output::Send {
-                    to: self.address_for(to),
-                    bytes,
-                });
-                Ok(outputs)
-            }
-        }
-    }
-
     /// A message with the queue goes out at this moment.
     pub(super) fn send_queue(&mut self, clock: u64)
         requires { clock ≤ moment_limit }
@@ -185,5 +95,61 @@ impl<A: Allocator + Copy> Dialogue<A> {
     {
         self.queue.clear();
         self.invocations.sent(clock);
+    }
+}
+
+/// A message that is sent, which is within the limit. Faults: TooLong.
+// Each request knows which message it sends: in its own copy the match on that folds away, here and below.
+#[inline(always)]
+pub(super) fn within_limit(sending: Sending<'_>) -> Result<Outgoing<'_>, Fault>
+    requires { IfSome sending.pdu (λ p. HasDiagnostic (pdu_value p) × (content_fault (pdu_value p) ≡ None)) }
+    ensures ok { IfOk result (λ m. (m.sending ≡ sending.entry)
+        × (passes_message (Some (sending_view sending.entry)) ≡ false)) }
+    ensures err { IfErr result (λ f. (f ≡ fault.TooLong)
+        × (passes_message (Some (sending_view sending.entry)) ≡ true)) }
+{
+    Outgoing::of(sending).ok_or(Fault::TooLong)
+}
+
+/// A message that is sent, if there is one. Faults: TooLong.
+#[inline(always)]
+pub(super) fn within_limit_if_any(
+    sending: Option<Sending<'_>>,
+) -> Result<Option<Outgoing<'_>>, Fault>
+    requires { IfSome sending (λ s. IfSome s.pdu
+        (λ p. HasDiagnostic (pdu_value p) × (content_fault (pdu_value p) ≡ None))) }
+    ensures ok { let m = option_map sending_view sending.entry in
+        IfOk result (λ v. (outgoing_view v ≡ m) × (passes_message m ≡ false)) }
+    ensures err { IfErr result (λ f. (f ≡ fault.TooLong)
+        × (passes_message (option_map sending_view sending.entry) ≡ true)) }
+{
+    match sending {
+        None => Ok(None),
+        Some(sending) => Ok(Some(within_limit(sending)?)),
+    }
+}
+
+/// Sends a message to an address, of at most 255 octets, if there is one, with places for so many outputs more.
+// In each of its callers it is known whether there is a message: the match folds away.
+#[inline(always)]
+pub(super) fn send<'m, A: Allocator + Copy, K: SinkKind>(
+    to: &[u8],
+    message: Option<Outgoing<'_>>,
+    more: usize,
+    sink: &mut Sink<'m, A, K>,
+) -> Result<(), OutOfMemory>
+    requires to { length to.now ≤ 255 }
+    ensures ok { OnOk result (sink.new.outputs ≡ sink.old.outputs
+        ++ sent_if_any to.now (outgoing_view message.entry)) }
+    ensures places { OnOk result (more ≤ sink.new.places) }
+    ensures still { OnErr result (sink.new.outputs ≡ sink.old.outputs) }
+    ensures memory { OnErr result (IsTrue (is_some (outgoing_view message.entry) || nat_lt 0 more)) }
+{
+    match message {
+        None => Ok(sink.reserve(more, 0)?),
+        Some(message) => {
+            sink.reserve(more.saturating_add(1), 0)?;
+            Ok(sink.send(to, &message)?)
+        }
     }
 }

@@ -1,14 +1,13 @@
-use Rattle.std.proofs.Common.{rules, arith, ◌≡◌, ◌<◌, [], length, ◌∙◌}
+use Rattle.std.proofs.Common.{rules, arith, ◌≡◌, ◌<◌, [], length, ap, refl, ◌∙◌}
 use Rattle.std.specs.Option.{option_map}
 use Rattle.tcap_component.proofs.CallerLemmas.{components_of-none}
 use Rattle.tcap_component.specs.ComponentReading.{components_of}
 use Rattle.tcap_component.specs.Views.{item_view}
 use Rattle.tcap_dialogue.specs.HandledViews.{reject_parts}
-use Rattle.tcap_primitives.specs.OutputViews.{all_shown, shown}
 use Rattle.tcap_primitives.specs.QueueViews.{queue_view}
 use Rattle.tcap_dialogue.proofs.ItemLemmas.{some-component}
-use Rattle.tcap_dialogue.proofs.PlaceLemmas.{left_behind, left_self, one_after}
-use Rattle.tcap_dialogue.proofs.WalkLemmas.{done_next, shown_push}
+use Rattle.tcap_dialogue.proofs.PlaceLemmas.{component-lies, left_behind, left_self}
+use Rattle.tcap_dialogue.proofs.WalkLemmas.{done_next}
 use Rattle.tcap_dialogue.proofs.component_handling.message.handle_components.Goals as goal
 
 pub loop-left-preserved : goal.loop-left-preserved
@@ -18,15 +17,17 @@ loop-left-preserved g c =
     let rest = c.take_first-reject.new.left.octets in
     let t = c.take_first-reject.ensures in
     let h = t.is_handled in
-    let done = done_next c.args.dialogue c.args.clock (all_shown c.loop-left.outputs.items) (all_shown c.take_first-reject.new.outputs.items) c.loop-left.invocations c.take_first-reject.new.invocations
-    (queue_view c.loop-left.queue) (queue_view c.queue_reject.new.queue) (shown h.output) (option_map reject_parts c.take_first-reject.result) (item_view t.item) (components_of rest.now) (components_of left.now)
-    t.is_first h.is_told h.is_answered (shown_push c.loop-left.outputs.items c.take_first-reject.new.outputs.items h.output h.is_last) t.is_after c.queue_reject.ensures.queue in (
+    let long = ap length t.is_first in
+    let done = done_next c.args.dialogue c.args.clock c.loop-left.sink.outputs c.take_first-reject.new.sink.outputs c.loop-left.invocations c.take_first-reject.new.invocations
+    (queue_view c.loop-left.queue) (queue_view c.queue_reject.new.queue) _ (option_map reject_parts c.take_first-reject.result) (item_view t.item) (components_of rest.now) (components_of left.now)
+    t.is_first refl h.is_answered h.is_told t.is_after c.queue_reject.ensures.queue in (
       done ∙ inv.0,
-      search rules,
+      omega (arith, long, inv.1, h.keeps_places),
       search rules,
       search rules,
       left_behind _ left rest t.item inv.4 t.is_first t.ends,
-      λ portion before. one_after portion _ c.loop-left.outputs.items c.take_first-reject.new.outputs.items h.output left t.item inv.4 t.is_in_place h.are_parts h.is_last (inv.5 portion before),
+      λ portion before. h.is_in_place portion _ (component-lies _ portion left t.item h.slices inv.4 t.is_in_place h.are_parts) (inv.5 portion before),
+      omega (arith, inv.6, h.keeps_octets, t.within),
     )
 
 pub loop-left-init : goal.loop-left-init

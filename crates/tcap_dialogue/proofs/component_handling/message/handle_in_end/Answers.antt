@@ -1,11 +1,10 @@
-use Rattle.std.proofs.Common.{rules, arith, ◌≡◌, ◌<◌, [], length, le_trans, ◌∙◌}
+use Rattle.std.proofs.Common.{rules, arith, ◌≡◌, ◌<◌, [], length, le_trans, ap, refl, ◌∙◌}
 use Rattle.tcap_component.proofs.CallerLemmas.{components_of-none}
 use Rattle.tcap_component.specs.ComponentReading.{components_of}
 use Rattle.tcap_component.specs.Views.{item_view}
-use Rattle.tcap_primitives.specs.OutputViews.{all_shown, shown}
 use Rattle.tcap_dialogue.proofs.ItemLemmas.{some-component}
-use Rattle.tcap_dialogue.proofs.PlaceLemmas.{left_behind, left_self, one_after}
-use Rattle.tcap_dialogue.proofs.WalkLemmas.{told_next, shown_push, ended_next}
+use Rattle.tcap_dialogue.proofs.PlaceLemmas.{component-lies, left_behind, left_self}
+use Rattle.tcap_dialogue.proofs.WalkLemmas.{told_next, ended_next}
 use Rattle.tcap_dialogue.proofs.component_handling.message.handle_in_end.Goals as goal
 
 pub loop-left-preserved : goal.loop-left-preserved
@@ -15,15 +14,17 @@ loop-left-preserved g c =
     let rest = c.take_first-reject.new.left.octets in
     let t = c.take_first-reject.ensures in
     let h = t.is_handled in
-    let told = told_next c.args.dialogue c.args.clock (all_shown c.loop-left.outputs.items) (all_shown c.take_first-reject.new.outputs.items) c.loop-left.invocations c.take_first-reject.new.invocations
-    (shown h.output) (item_view t.item) (components_of rest.now) (components_of left.now)
-    t.is_first h.is_told (shown_push c.loop-left.outputs.items c.take_first-reject.new.outputs.items h.output h.is_last) t.is_after in (
+    let long = ap length t.is_first in
+    let told = told_next c.args.dialogue c.args.clock c.loop-left.sink.outputs c.take_first-reject.new.sink.outputs c.loop-left.invocations c.take_first-reject.new.invocations
+    _ (item_view t.item) (components_of rest.now) (components_of left.now)
+    t.is_first refl h.is_told t.is_after in (
       told ∙ inv.0,
-      search rules,
-      search rules,
+      omega (arith, long, inv.1, h.keeps_places),
+      omega (arith, long, inv.2, h.keeps_places),
       rw (t.is_after) (le_trans (ended_next c.args.clock c.loop-left.invocations (item_view t.item)) inv.3),
       left_behind _ left rest t.item inv.4 t.is_first t.ends,
-      λ portion before. one_after portion _ c.loop-left.outputs.items c.take_first-reject.new.outputs.items h.output left t.item inv.4 t.is_in_place h.are_parts h.is_last (inv.5 portion before),
+      λ portion before. h.is_in_place portion _ (component-lies _ portion left t.item h.slices inv.4 t.is_in_place h.are_parts) (inv.5 portion before),
+      omega (arith, inv.6, h.keeps_octets, t.within),
     )
 
 pub loop-left-init : goal.loop-left-init
@@ -33,7 +34,7 @@ pub take_first-reject-requires-clause-room : goal.take_first-reject-requires-cla
 take_first-reject-requires-clause-room g c =
     let octets = c.loop-left.left.octets.now in
     let some : 0 < length (components_of octets) = some-component octets (search rules) in
-    omega (arith, some, c.loop-left.invariant.1, c.loop-left.invariant.2, c.requires.outputs)
+    omega (arith, some, c.loop-left.invariant.1)
 
 pub returns-clause-told : goal.returns-clause-told
 returns-clause-told g c =

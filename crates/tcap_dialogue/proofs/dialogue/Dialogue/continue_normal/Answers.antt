@@ -1,7 +1,12 @@
-use Rattle.tcap_dialogue.proofs.PlaceLemmas.{all_first}
 use Rattle.tcap_dialogue.proofs.dialogue.Dialogue.continue_normal.Goals as goal
 
+pub returns-in_err-reserve_message-clause-place : goal.returns-in_err-reserve_message-clause-place
+returns-in_err-reserve_message-clause-place g c portion held before = c.reserve_message.ensures.place portion c.args.components before
+
+pub returns-in_err-keep_sender-clause-place : goal.returns-in_err-keep_sender-clause-place
+returns-in_err-keep_sender-clause-place g c portion held before = c.reserve_message.ensures.place portion c.args.components before
+
 pub returns-clause-place : goal.returns-clause-place
-returns-clause-place g c portion held =
+returns-clause-place g c portion held before =
     c.handle_components.ensures.place portion
-    (all_first portion c.args.components c.in_ok-outputs.outputs.items c.push_reserved.new.self.items _ c.in_ok-outputs.ensures.items c.push_reserved.ensures.items held)
+    (c.tell.ensures.place portion c.args.components held (c.reserve_message.ensures.place portion c.args.components before))

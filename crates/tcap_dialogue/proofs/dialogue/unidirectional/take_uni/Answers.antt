@@ -1,7 +1,7 @@
-use Rattle.tcap_dialogue.proofs.PlaceLemmas.{all_first}
+use Rattle.tcap_dialogue.proofs.PlaceLemmas.{vector-in-place}
 use Rattle.tcap_dialogue.proofs.dialogue.unidirectional.take_uni.Goals as goal
 
 pub returns-clause-place : goal.returns-clause-place
 returns-clause-place g c portion given =
-    c.handle_in_unidirectional.ensures.place portion
-    (all_first portion c.args.components c.in_ok-outputs.outputs.items c.push_reserved.new.self.items _ c.in_ok-outputs.ensures.items c.push_reserved.ensures.items (c.parts_of.ensures.place 0x60 portion given))
+    vector-in-place portion c.args.components c.into_vector.result.items _ c.into_vector.ensures.slices
+    (c.take_uni_into.ensures.place portion given (rw (c.vector-sink.ensures.slices) tt))

@@ -1,0 +1,30 @@
+use Rattle.std.proofs.Common.{rules}
+use Rattle.tcap_primitives.specs.Slices.{Slices}
+use Rattle.tcap_component.specs.declared.component.Component.TheVariants as component
+use Rattle.tcap_dialogue.proofs.component_handling.answers.result_judged.Goals as goal
+
+pub returns-then-last : goal.returns-then-last
+returns-then-last g c = record {
+  handled = record {
+    slices = Slices.of_component (component.ResultLast c.args.id c.args.body);
+    is_told = search (rules, c.tell.ensures.told);
+    are_parts = search rules;
+    is_in_place = λ portion components lies. c.tell.ensures.place portion components (search (rules, lies));
+    is_answered = search rules;
+    keeps_places = c.tell.ensures.places;
+    keeps_octets = search (rules, c.tell.ensures.octets);
+  };
+}
+
+pub returns-else-last : goal.returns-else-last
+returns-else-last g c = record {
+  handled = record {
+    slices = Slices.of_component (component.ResultMore c.args.id c.args.body);
+    is_told = search (rules, c.tell-else-last.ensures.told);
+    are_parts = search rules;
+    is_in_place = λ portion components lies. c.tell-else-last.ensures.place portion components (search (rules, lies));
+    is_answered = search rules;
+    keeps_places = c.tell-else-last.ensures.places;
+    keeps_octets = search (rules, c.tell-else-last.ensures.octets);
+  };
+}

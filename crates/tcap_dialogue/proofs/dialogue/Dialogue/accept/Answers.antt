@@ -1,0 +1,7 @@
+use Rattle.tcap_dialogue.proofs.PlaceLemmas.{vector-in-place}
+use Rattle.tcap_dialogue.proofs.dialogue.Dialogue.accept.Goals as goal
+
+pub returns-clause-place : goal.returns-clause-place
+returns-clause-place g c portion given =
+    vector-in-place portion c.args.components c.into_vector.result.items _ c.into_vector.ensures.slices
+    (c.receive_begin.ensures.place portion given (rw (c.vector-sink.ensures.slices) tt))
