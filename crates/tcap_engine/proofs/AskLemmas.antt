@@ -2,17 +2,18 @@
 use Rattle.std.proofs.Common.{◌≡◌, ℕ, Bool, true, false, nat_eq, List, Option, Some, None, refl, ap, sym, ◌∙◌, if◌then◌else◌}
 use Rattle.std.proofs.lemmas.Map.Steps.{set_value_same}
 use Rattle.std.specs.Map.{lookup, set_value, remove_entry}
-use Rattle.tcap_dialogue.specs.declared.dialogue.requests.Asked.{Asked}
-use Rattle.tcap_dialogue.specs.declared.dialogue.requests.Asked.TheVariants as asked
-use Rattle.tcap_dialogue.specs.AskViews.{asked_view}
+use Rattle.tcap_dialogue.specs.declared.dialogue.requests.Accepted.{Accepted}
+use Rattle.tcap_dialogue.specs.declared.dialogue.requests.Accepted.TheVariants as accepted
+use Rattle.tcap_dialogue.specs.AskViews.{accepted_outcome}
 use Rattle.tcap_dialogue.specs.RequestForm.{RefusedBy}
 use Rattle.tcap_dialogue.specs.StepViews.{Outcome}
-use Rattle.tcap_engine.specs.RequestInTable.{asked_answer, ends_dialogue, EntriesMove, EntriesRefuse}
+use Rattle.tcap_engine.specs.RequestInTable.{accepted_answer, ends_dialogue, EntriesMove, EntriesRefuse}
 use Rattle.tcap_engine.specs.DialogueEntries.{TableEntry, entries_with}
 use Rattle.tcap_engine.proofs.TableLemmas.{removed-set}
 use Rattle.tcap_model.specs.Table.Dialogue.{Dialogue}
 use Rattle.tcap_model.specs.Words.Answer.{Answer}
 use Rattle.tcap_model.specs.Words.Fault as model
+use Rattle.tcap_model.specs.Words.Output.{Output}
 
 -- A refusal, where the dialogue was written back.
 module _ (o : Outcome) (old new : Dialogue) (d : ℕ) (ps : List TableEntry) (found : lookup (nat_eq d) ps ≡ Some old) where
@@ -37,31 +38,31 @@ module _ (o : Outcome) (old new : Dialogue) (d : ℕ) (ps : List TableEntry) (fo
   refused-placed model.Fault.no_context r = moved _ r
 
 -- An answer, where the dialogue was written back or is taken out.
-module _ {A : Type 0} (new : Dialogue) (d : ℕ) (ps : List TableEntry) where
-  answered : (a : Asked A) → (asked_view a new).0 ≡ asked_answer a
-  answered (asked.Number number) = refl
-  answered asked.Done = refl
-  answered (asked.GivenUp number) = refl
-  answered (asked.Step step) = refl
+module _ (told : List Output) (new : Dialogue) (d : ℕ) (ps : List TableEntry) where
+  answered : (a : Accepted) → (accepted_outcome told a new).0 ≡ accepted_answer told a
+  answered (accepted.Number number) = refl
+  answered accepted.Done = refl
+  answered (accepted.GivenUp number) = refl
+  answered (accepted.Step over) = refl
 
-  standing : (a : Asked A) → (asked_view a new).1 ≡ (if ends_dialogue a then None else Some new)
-  standing (asked.Number number) = refl
-  standing asked.Done = refl
-  standing (asked.GivenUp number) = refl
-  standing (asked.Step step) = refl
+  standing : (a : Accepted) → (accepted_outcome told a new).1 ≡ (if ends_dialogue a then None else Some new)
+  standing (accepted.Number number) = refl
+  standing accepted.Done = refl
+  standing (accepted.GivenUp number) = refl
+  standing (accepted.Step over) = refl
 
-  pub kept-placed : (a : Asked A) (o : Outcome) → asked_view a new ≡ o → ends_dialogue a ≡ false → EntriesMove o d (asked_answer a) ps (set_value (nat_eq d) ps new)
+  pub kept-placed : (a : Accepted) (o : Outcome) → accepted_outcome told a new ≡ o → ends_dialogue a ≡ false → EntriesMove o d (accepted_answer told a) ps (set_value (nat_eq d) ps new)
   kept-placed a o e is =
       let left : o.1 ≡ Some new = sym (ap (λ (x : Outcome). x.1) e) ∙ standing a ∙ rw is refl in
       (sym (answered a) ∙ ap (λ (x : Outcome). x.0) e, ap (λ (x : Option Dialogue). entries_with d x ps) (sym left))
 
-  pub gone-placed : (a : Asked A) (o : Outcome) → asked_view a new ≡ o → ends_dialogue a ≡ true → EntriesMove o d (asked_answer a) ps (remove_entry (nat_eq d) (set_value (nat_eq d) ps new))
+  pub gone-placed : (a : Accepted) (o : Outcome) → accepted_outcome told a new ≡ o → ends_dialogue a ≡ true → EntriesMove o d (accepted_answer told a) ps (remove_entry (nat_eq d) (set_value (nat_eq d) ps new))
   gone-placed a o e is =
       let left : o.1 ≡ None = sym (ap (λ (x : Outcome). x.1) e) ∙ standing a ∙ rw is refl in
       (sym (answered a) ∙ ap (λ (x : Outcome). x.0) e, removed-set d new ps ∙ ap (λ (x : Option Dialogue). entries_with d x ps) (sym left))
 
   -- The dialogue was settled: it stands where it isn't over.
-  pub settled-placed : (is_over : Bool) (a : Asked A) (o : Outcome) (qs : List TableEntry) → asked_view a new ≡ o → is_over ≡ ends_dialogue a
-      → qs ≡ (if is_over then remove_entry (nat_eq d) (set_value (nat_eq d) ps new) else set_value (nat_eq d) ps new) → EntriesMove o d (asked_answer a) ps qs
+  pub settled-placed : (is_over : Bool) (a : Accepted) (o : Outcome) (qs : List TableEntry) → accepted_outcome told a new ≡ o → is_over ≡ ends_dialogue a
+      → qs ≡ (if is_over then remove_entry (nat_eq d) (set_value (nat_eq d) ps new) else set_value (nat_eq d) ps new) → EntriesMove o d (accepted_answer told a) ps qs
   settled-placed true a o qs e is q = rw q (gone-placed a o e (sym is))
   settled-placed false a o qs e is q = rw q (kept-placed a o e (sym is))

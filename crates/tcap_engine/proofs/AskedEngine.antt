@@ -2,14 +2,13 @@
 use Rattle.std.proofs.Common.{◌≡◌, ℕ, ◌≤◌, true, false, nat_eq, List, Option, Some, None, Ok, Err, refl, ap, sym, ◌∙◌, subst, if◌then◌else◌, arith}
 use Rattle.std.specs.Prelude.{IfSome, IsTrue}
 use Rattle.std.specs.Map.{lookup}
-use Rattle.tcap_dialogue.specs.declared.dialogue.requests.Asked.{Asked}
 use Rattle.tcap_primitives.specs.declared.fault.Fault.{Fault}
 use Rattle.tcap_primitives.specs.declared.fault.Fault.TheVariants as fault
 use Rattle.tcap_dialogue.specs.RequestForm.{takes_memory}
 use Rattle.tcap_primitives.specs.FaultViews.{fault_view}
 use Rattle.tcap_dialogue.specs.StepViews.{Outcome, asked, outcome}
 use Rattle.tcap_engine.specs.StepForm.{Moves, EngineRefuses}
-use Rattle.tcap_engine.specs.RequestInTable.{IsLeft, asked_answer, AnswersInTable, EntriesMove, EntriesRefuse}
+use Rattle.tcap_engine.specs.RequestInTable.{IsLeft, AnswersInTable, EntriesMove, EntriesRefuse}
 use Rattle.tcap_engine.specs.DialogueEntries.{TableEntry, AreWithin, IsSound, dialogues_of, entries_with, IsWithin}
 use Rattle.tcap_engine.specs.declared.limits.Limits.{Limits}
 use Rattle.tcap_engine.proofs.KeptLemmas.{IsKept, kept-requested}
@@ -126,19 +125,19 @@ module _ (limits : Limits) (next_dialogue number clock d : ℕ) (ps : List Table
 
   -- ---- an answer, and a refusal
 
-  pub asked-ok : {A : Type 0} (a : Asked A) (qs : List TableEntry) → AnswersInTable (Ok a) says d (lookup (nat_eq d) ps) ps qs → Moves (engine_move before (Event.on_dialogue d r)) (asked_answer a) (engine_with (number_after (asked_answer a) number) qs)
-  asked-ok {A} a qs h = go (lookup (nat_eq d) ps) refl h
+  pub asked-ok : {T : Type 0} (view : T → Answer) (a : T) (qs : List TableEntry) → AnswersInTable view (Ok a) says d (lookup (nat_eq d) ps) ps qs → Moves (engine_move before (Event.on_dialogue d r)) (view a) (engine_with (number_after (view a) number) qs)
+  asked-ok {T} view a qs h = go (lookup (nat_eq d) ps) refl h
     where
-      go : (o : Option Dialogue) → lookup (nat_eq d) ps ≡ o → AnswersInTable (Ok a) says d o ps qs → Moves (engine_move before (Event.on_dialogue d r)) (asked_answer a) (engine_with (number_after (asked_answer a) number) qs)
+      go : (o : Option Dialogue) → lookup (nat_eq d) ps ≡ o → AnswersInTable view (Ok a) says d o ps qs → Moves (engine_move before (Event.on_dialogue d r)) (view a) (engine_with (number_after (view a) number) qs)
       go None e p = let no = p.0 in absurd cc
-      go (Some x) e p = moved-engine x (asked_answer a) qs e p
+      go (Some x) e p = moved-engine x (view a) qs e p
 
-  pub sound-ok : {A : Type 0} (a : Asked A) (qs : List TableEntry) → AnswersInTable (Ok a) says d (lookup (nat_eq d) ps) ps qs → IsSound limits next_dialogue (number_after (asked_answer a) number) clock qs
-  sound-ok {A} a qs h = go (lookup (nat_eq d) ps) refl h
+  pub sound-ok : {T : Type 0} (view : T → Answer) (a : T) (qs : List TableEntry) → AnswersInTable view (Ok a) says d (lookup (nat_eq d) ps) ps qs → IsSound limits next_dialogue (number_after (view a) number) clock qs
+  sound-ok {T} view a qs h = go (lookup (nat_eq d) ps) refl h
     where
-      go : (o : Option Dialogue) → lookup (nat_eq d) ps ≡ o → AnswersInTable (Ok a) says d o ps qs → IsSound limits next_dialogue (number_after (asked_answer a) number) clock qs
+      go : (o : Option Dialogue) → lookup (nat_eq d) ps ≡ o → AnswersInTable view (Ok a) says d o ps qs → IsSound limits next_dialogue (number_after (view a) number) clock qs
       go None e p = let no = p.0 in absurd cc
-      go (Some x) e p = moved-sound x (asked_answer a) qs e p
+      go (Some x) e p = moved-sound x (view a) qs e p
 
   unknown : (f : Fault) (qs : List TableEntry) → lookup (nat_eq d) ps ≡ None → f ≡ fault.UnknownDialogue → qs ≡ ps → EngineRefuses (fault_view f) (engine_move before (Event.on_dialogue d r)) before (engine_with number qs)
   unknown f qs e is same =
@@ -147,24 +146,24 @@ module _ (limits : Limits) (next_dialogue number clock d : ℕ) (ps : List Table
       subst (λ (v : Fault). EngineRefuses (fault_view v) (engine_move before (Event.on_dialogue d r)) before (engine_with number qs)) (sym is)
       (sym (ap (λ (v : EngineMoved). v.answer) move), ap (engine_with number) same ∙ sym (ap (λ (v : EngineMoved). v.after) move))
 
-  pub asked-err : (A : Type 0) (f : Fault) (qs : List TableEntry) → AnswersInTable {A = A} (Err f) says d (lookup (nat_eq d) ps) ps qs → EngineRefuses (fault_view f) (engine_move before (Event.on_dialogue d r)) before (engine_with number qs)
-  asked-err A f qs h = go (lookup (nat_eq d) ps) refl h
+  pub asked-err : (T : Type 0) (view : T → Answer) (f : Fault) (qs : List TableEntry) → AnswersInTable view (Err f) says d (lookup (nat_eq d) ps) ps qs → EngineRefuses (fault_view f) (engine_move before (Event.on_dialogue d r)) before (engine_with number qs)
+  asked-err T view f qs h = go (lookup (nat_eq d) ps) refl h
     where
-      go : (o : Option Dialogue) → lookup (nat_eq d) ps ≡ o → AnswersInTable {A = A} (Err f) says d o ps qs → EngineRefuses (fault_view f) (engine_move before (Event.on_dialogue d r)) before (engine_with number qs)
+      go : (o : Option Dialogue) → lookup (nat_eq d) ps ≡ o → AnswersInTable view (Err f) says d o ps qs → EngineRefuses (fault_view f) (engine_move before (Event.on_dialogue d r)) before (engine_with number qs)
       go None e p = let first = p.0 in let is : f ≡ fault.UnknownDialogue = cc in unknown f qs e is p.1
       go (Some x) e p = refused-engine (fault_view f) x qs e p
 
-  pub sound-err : (A : Type 0) (f : Fault) (qs : List TableEntry) → AnswersInTable {A = A} (Err f) says d (lookup (nat_eq d) ps) ps qs → IsSound limits next_dialogue number clock qs
-  sound-err A f qs h = go (lookup (nat_eq d) ps) refl h
+  pub sound-err : (T : Type 0) (view : T → Answer) (f : Fault) (qs : List TableEntry) → AnswersInTable view (Err f) says d (lookup (nat_eq d) ps) ps qs → IsSound limits next_dialogue number clock qs
+  sound-err T view f qs h = go (lookup (nat_eq d) ps) refl h
     where
-      go : (o : Option Dialogue) → lookup (nat_eq d) ps ≡ o → AnswersInTable {A = A} (Err f) says d o ps qs → IsSound limits next_dialogue number clock qs
+      go : (o : Option Dialogue) → lookup (nat_eq d) ps ≡ o → AnswersInTable view (Err f) says d o ps qs → IsSound limits next_dialogue number clock qs
       go None e p = subst (λ (l : List TableEntry). IsSound limits next_dialogue number clock l) (sym p.1) sound
       go (Some x) e p = refused-sound (fault_view f) x qs e p
 
   -- the number that is answered was left
-  pub left-ok : {A : Type 0} (a : Asked A) (qs : List TableEntry) → number ≤ last_number → AnswersInTable (Ok a) says d (lookup (nat_eq d) ps) ps qs → IsLeft (asked_answer a) number
-  left-ok {A} a qs le h = go (lookup (nat_eq d) ps) h
+  pub left-ok : {T : Type 0} (view : T → Answer) (a : T) (qs : List TableEntry) → number ≤ last_number → AnswersInTable view (Ok a) says d (lookup (nat_eq d) ps) ps qs → IsLeft (view a) number
+  left-ok {T} view a qs le h = go (lookup (nat_eq d) ps) h
     where
-      go : (o : Option Dialogue) → AnswersInTable (Ok a) says d o ps qs → IsLeft (asked_answer a) number
+      go : (o : Option Dialogue) → AnswersInTable view (Ok a) says d o ps qs → IsLeft (view a) number
       go None p = let no = p.0 in absurd cc
       go (Some x) p = subst (λ v. IsLeft v number) (sym p.0) (number-left (asked clock number) x r le)

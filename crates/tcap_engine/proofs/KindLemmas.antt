@@ -1,17 +1,20 @@
 -- The engine answers each request with its kind, or refuses it.
-use Rattle.std.proofs.Common.{ℕ, ℤ, Option, Some, None, Result, Ok, Err, IfOk, refl, sym, subst}
-use Rattle.tcap_dialogue.specs.declared.dialogue.requests.Asked.{Asked}
+use Rattle.std.proofs.Common.{ℕ, ℤ, List, Option, Some, None, Result, Ok, Err, IfOk, refl, sym, subst}
+use Rattle.tcap_dialogue.specs.declared.dialogue.requests.Accepted.{Accepted}
+use Rattle.tcap_dialogue.specs.declared.dialogue.requests.Accepted.TheVariants as asked
 use Rattle.tcap_primitives.specs.declared.fault.Fault.{Fault}
 use Rattle.tcap_engine.specs.StepForm.{EngineAnswers}
 use Rattle.tcap_engine.specs.AnswerKinds.{AnswerKind, kind_of, MayAnswer}
-use Rattle.tcap_engine.specs.RequestInTable.{asked_answer}
+use Rattle.tcap_engine.specs.RequestInTable.{accepted_answer}
 use Rattle.tcap_model.specs.Procedures.Refusals.{due_on}
 use Rattle.tcap_model.specs.Table.Dialogue.{Dialogue}
 use Rattle.tcap_model.specs.Table.EngineMove.{engine_move, dialogue_in, requested_in, setting_in}
 use Rattle.tcap_model.specs.Table.TableMove.{Setting, accepted, giving_up, requested_by, situation, table_move}
 use Rattle.tcap_model.specs.Table.World.{World}
 use Rattle.tcap_model.specs.Words.Event.{Event}
+use Rattle.tcap_model.specs.Words.Answer.{Answer}
 use Rattle.tcap_model.specs.Words.Fault as model
+use Rattle.tcap_model.specs.Words.Output.{Output}
 use Rattle.tcap_model.specs.Words.Request.{Request, ComponentRequest, DialogueRequest}
 use Rattle.tcap_invocation.specs.Closing.{given_up_at}
 
@@ -46,8 +49,19 @@ unfolding engine_move
 moved-kind w d r = stands-kind w d r (dialogue_in d w.dialogues)
 
 -- What the engine answers to a request, where it answers as its move says, is of the request's kind.
-pub of-kind : {A : Type 0} (result : Result (Asked A) Fault) (d : ℕ) (r : Request) (old new : World)
-    → EngineAnswers asked_answer result (engine_move old (Event.on_dialogue d r)) old new
-    → IfOk result (λ a. MayAnswer (kind_of r) (asked_answer a))
-of-kind (Ok a) d r old new answers = subst (MayAnswer (kind_of r)) (sym answers.0) (moved-kind old d r)
-of-kind (Err f) d r old new answers = tt
+pub of-kind : {T : Type 0} (view : T → Answer) (result : Result T Fault) (d : ℕ) (r : Request) (old new : World)
+    → EngineAnswers view result (engine_move old (Event.on_dialogue d r)) old new
+    → IfOk result (λ a. MayAnswer (kind_of r) (view a))
+of-kind view (Ok a) d r old new answers = subst (MayAnswer (kind_of r)) (sym answers.0) (moved-kind old d r)
+of-kind view (Err f) d r old new answers = tt
+
+-- The kind of an answer doesn't depend on what was told.
+told-kind : (kind : AnswerKind) (told other : List Output) (a : Accepted) → MayAnswer kind (accepted_answer told a) → MayAnswer kind (accepted_answer other a)
+told-kind kind told other (asked.Number number) h = h
+told-kind kind told other asked.Done h = h
+told-kind kind told other (asked.GivenUp number) h = h
+told-kind kind told other (asked.Step over) h = h
+
+pub any-kind : (kind : AnswerKind) (told : List Output) (result : Result Accepted Fault) → IfOk result (λ a. MayAnswer kind (accepted_answer told a)) → IfOk result (λ a. (other : List Output) → MayAnswer kind (accepted_answer other a))
+any-kind kind told (Ok a) h = λ other. told-kind kind told other a h
+any-kind kind told (Err f) h = tt

@@ -12,6 +12,7 @@ pub mod KindLemmas
 pub mod LeastLemmas
 pub mod MomentLemmas
 pub mod NextTimerLemmas
+pub mod NumberLemmas
 pub mod OrderLemmas
 pub mod OverLemmas
 pub mod PassedLemmas

@@ -1,11 +1,11 @@
 -- A request that queues a component and frees no identifier leaves the next timer of its dialogue.
 use Rattle.std.proofs.Common.{◌≡◌, Bool, true, false, nat_lt, List, [], ◌∷◌, ◌++◌, Option, Some, None, refl, ap, ◌∙◌, if◌then◌else◌}
 use Rattle.std.specs.List.{cons_option}
-use Rattle.tcap_dialogue.specs.AskViews.{asked_view}
+use Rattle.tcap_dialogue.specs.AskViews.{accepted_outcome}
 use Rattle.tcap_dialogue.specs.StepViews.{Outcome, outcome}
 use Rattle.tcap_dialogue.specs.Timers.{earliest}
-use Rattle.tcap_dialogue.specs.declared.dialogue.requests.Asked.{Asked}
-use Rattle.tcap_dialogue.specs.declared.dialogue.requests.Asked.TheVariants as asked
+use Rattle.tcap_dialogue.specs.declared.dialogue.requests.Accepted.{Accepted}
+use Rattle.tcap_dialogue.specs.declared.dialogue.requests.Accepted.TheVariants as asked
 use Rattle.tcap_engine.specs.Lapsing.{timer_of}
 use Rattle.tcap_engine.specs.RequestInTable.{ends_dialogue, keeps_timer}
 use Rattle.tcap_invocation.specs.Invocations.{Row, added}
@@ -17,6 +17,7 @@ use Rattle.tcap_model.specs.Procedures.Refusals.{due_on}
 use Rattle.tcap_model.specs.Table.Dialogue.{Dialogue, idle_end, with_invocations}
 use Rattle.tcap_model.specs.Table.TableMove.{Setting, Moved, DialogueEvent, table_move, requested_by, situation, accepted, with_queued, left_standing}
 use Rattle.tcap_model.specs.Words.Fault.{Fault}
+use Rattle.tcap_model.specs.Words.Output.{Output}
 use Rattle.tcap_model.specs.Words.Request.{Request, ComponentRequest}
 
 -- A row without a timer behind the others adds none.
@@ -60,20 +61,20 @@ some-same : (a b : Dialogue) → Some a ≡ Some b → a ≡ b
 some-same a b e = cc
 
 -- What was answered where the dialogue stands after it.
-stands-asked : {A : Type 0} (a : Asked A) (new after : Dialogue) → (asked_view a new).1 ≡ Some after → (ends_dialogue a ≡ false) × (new ≡ after)
-stands-asked (asked.Number number) new after e = (refl, some-same new after e)
-stands-asked asked.Done new after e = (refl, some-same new after e)
-stands-asked (asked.GivenUp number) new after e = (refl, some-same new after e)
-stands-asked (asked.Step step) new after e = go step.over e
+stands-asked : (told : List Output) (a : Accepted) (new after : Dialogue) → (accepted_outcome told a new).1 ≡ Some after → (ends_dialogue a ≡ false) × (new ≡ after)
+stands-asked told (asked.Number number) new after e = (refl, some-same new after e)
+stands-asked told asked.Done new after e = (refl, some-same new after e)
+stands-asked told (asked.GivenUp number) new after e = (refl, some-same new after e)
+stands-asked told (asked.Step over) new after e = go over e
   where
     go : (b : Bool) → (if b then None else Some new) ≡ Some after → (b ≡ false) × (new ≡ after)
     go true e = absurd cc
     go false e = (refl, some-same new after e)
 
-pub timer-asked : {A : Type 0} (s : Setting) (r : Request) (old new : Dialogue) (a : Asked A) → keeps_timer r ≡ true → asked_view a new ≡ outcome (table_move s old (DialogueEvent.request r))
+pub timer-asked : (s : Setting) (r : Request) (old new : Dialogue) (told : List Output) (a : Accepted) → keeps_timer r ≡ true → accepted_outcome told a new ≡ outcome (table_move s old (DialogueEvent.request r))
     → (ends_dialogue a ≡ false) × (timer_of new ≡ timer_of old)
-timer-asked s r old new a keeps is =
+timer-asked s r old new told a keeps is =
     let m : Moved = table_move s old (DialogueEvent.request r) in
     let alike : IsAlike old m = moved-alike s old r keeps in
-    let left = stands-asked a new m.after (ap (λ (o : Outcome). o.1) is ∙ alike.0) in
+    let left = stands-asked told a new m.after (ap (λ (o : Outcome). o.1) is ∙ alike.0) in
     (left.0, ap timer_of left.1 ∙ alike.1)

@@ -1,10 +1,10 @@
 -- The engine after a message, or a faulty one, reached one of its dialogues.
-use Rattle.std.proofs.Common.{◌≡◌, ℕ, ◌++◌, true, nat_eq, List, Option, Some, None, Ok, Err, refl, ap, sym, ◌∙◌, subst, arith}
-use Rattle.std.specs.Prelude.{IfOk, IsSome, Result}
+use Rattle.std.proofs.Common.{◌≡◌, ℕ, ◌++◌, [], true, nat_eq, List, append_assoc, Option, Some, None, Ok, Err, refl, ap, sym, ◌∙◌, subst, arith}
+use Rattle.std.specs.Prelude.{IfOk, OnOk, OnErr, IsSome, Result}
 use Rattle.std.specs.Map.{lookup}
 use Rattle.ber_core.specs.declared.fault.OutOfMemory.{OutOfMemory}
 use Rattle.tcap_dialogue.specs.StepViews.{asked, at_clock, outcome}
-use Rattle.tcap_engine.specs.StepForm.{Moves}
+use Rattle.tcap_engine.specs.StepForm.{Moves, ReceivesInto, since_answer}
 use Rattle.tcap_engine.specs.RequestInTable.{EntriesMove, DeliversInTable}
 use Rattle.tcap_engine.specs.DialogueEntries.{TableEntry, AreFrom, IsSound, IsWithin, dialogues_of, entries_with}
 use Rattle.tcap_engine.specs.declared.limits.Limits.{Limits}
@@ -21,6 +21,8 @@ use Rattle.tcap_model.specs.Words.Address.{Address}
 use Rattle.tcap_model.specs.Words.Answer.{Answer}
 use Rattle.tcap_model.specs.Words.Output.{Output}
 use Rattle.tcap_pdu.specs.FrameSpelling.{Message}
+use Rattle.tcap_primitives.proofs.SinkLemmas.{keeps, since-is}
+use Rattle.tcap_primitives.specs.SinkViews.{KeepsOutputs, told_since}
 
 -- ---- a message draws no number
 
@@ -118,6 +120,26 @@ module _ (limits : Limits) (next_dialogue number clock d : ℕ) (ps : List Table
           → Moves (reached_in (engine_of ps) d sent event (dialogue_in d (dialogues_of ps))) (Answer.outputs (sent ++ view t)) (engine_of qs)
       go None e p = absurd p
       go (Some x) e p = reached-some x sent (view t) qs e p
+
+  -- What was appended, behind what is sent first.
+  pub receives-sending : {T : Type 0} (before after sent : List Output) (result : Result T OutOfMemory) (qs : List TableEntry)
+      → DeliversInTable (since_answer (before ++ sent) after) result (λ x. outcome (move x)) d (lookup (nat_eq d) ps) ps qs
+      → OnOk result (KeepsOutputs (before ++ sent) after) → OnErr result (after ≡ before)
+      → ReceivesInto before after result (reached_in (engine_of ps) d sent event (dialogue_in d (dialogues_of ps))) (engine_of ps) (engine_of qs)
+  receives-sending before after sent (Err f) qs h kept still = (still, ap engine_of h)
+  receives-sending {T} before after sent (Ok t) qs h kept still =
+      let told = told_since (before ++ sent) after in
+      let all : after ≡ before ++ (sent ++ told) = kept ∙ append_assoc before sent told in
+      let m = reached-sending (λ (x : T). told) sent (Ok t) qs h in
+      (keeps before after (sent ++ told) all, (ap Answer.outputs (since-is before after (sent ++ told) all) ∙ m.0, m.1))
+
+  -- The same where nothing is sent first.
+  pub receives-told : {T : Type 0} (before after : List Output) (result : Result T OutOfMemory) (qs : List TableEntry)
+      → DeliversInTable (since_answer before after) result (λ x. outcome (move x)) d (lookup (nat_eq d) ps) ps qs
+      → KeepsOutputs before after → OnErr result (after ≡ before)
+      → ReceivesInto before after result (reached_in (engine_of ps) d [] event (dialogue_in d (dialogues_of ps))) (engine_of ps) (engine_of qs)
+  receives-told before after (Err f) qs h kept still = (still, ap engine_of h)
+  receives-told {T} before after (Ok t) qs h kept still = (kept, reached-sending (λ (x : T). told_since before after) [] (Ok t) qs h)
 
 -- A dialogue that is live stands.
 pub live-found : (d : ℕ) (ps : List TableEntry) → AreFrom 0 ps → is_live_in (dialogues_of ps) d ≡ true → IsSome (lookup (nat_eq d) ps)

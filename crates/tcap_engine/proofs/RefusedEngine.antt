@@ -42,9 +42,9 @@ module _ (s : Setting) (r : Request) (d : ℕ) (ps qs : List TableEntry) where
   refused model.Fault.no_context x found p = same _ x found p
 
   -- After a refusal the table is as it was.
-  pub table-still : (A : Type 0) (f : Fault) → AnswersInTable {A = A} (Err f) says d (lookup (nat_eq d) ps) ps qs → qs ≡ ps
-  table-still A f h = go (lookup (nat_eq d) ps) refl h
+  pub table-still : (T : Type 0) (view : T → Answer) (f : Fault) → AnswersInTable view (Err f) says d (lookup (nat_eq d) ps) ps qs → qs ≡ ps
+  table-still T view f h = go (lookup (nat_eq d) ps) refl h
     where
-      go : (o : Option Dialogue) → lookup (nat_eq d) ps ≡ o → AnswersInTable {A = A} (Err f) says d o ps qs → qs ≡ ps
+      go : (o : Option Dialogue) → lookup (nat_eq d) ps ≡ o → AnswersInTable view (Err f) says d o ps qs → qs ≡ ps
       go None e p = p.1
       go (Some x) e p = refused (fault_view f) x e p

@@ -1,6 +1,8 @@
 -- What a table answers to a request on one of its dialogues, beside what the model's table says.
 use Rattle.std.specs.Prelude.{◌≡◌, ℕ, ◌<◌, Bool, true, false, List, Option, Some, None, Result, Ok, Err, IsTrue}
 use Rattle.ber_core.specs.declared.fault.OutOfMemory.{OutOfMemory}
+use Rattle.tcap_dialogue.specs.declared.dialogue.requests.Accepted.{Accepted}
+use Rattle.tcap_dialogue.specs.declared.dialogue.requests.Accepted.TheVariants as accepted
 use Rattle.tcap_dialogue.specs.declared.dialogue.requests.Asked.{Asked}
 use Rattle.tcap_dialogue.specs.declared.dialogue.requests.Asked.TheVariants as asked
 use Rattle.tcap_primitives.specs.declared.fault.Fault.{Fault}
@@ -13,6 +15,7 @@ use Rattle.tcap_model.specs.Table.Dialogue.{Dialogue}
 use Rattle.tcap_model.specs.Words.Answer.{Answer}
 use Rattle.tcap_model.specs.Words.Fault as model
 use Rattle.tcap_model.specs.Words.Identifiers.{last_number}
+use Rattle.tcap_model.specs.Words.Output.{Output}
 use Rattle.tcap_model.specs.Words.Request.{Request, ComponentRequest}
 use Rattle.tcap_engine.specs.DialogueEntries.{TableEntry, entries_with}
 
@@ -32,12 +35,19 @@ IsLeft (Answer.given_up number) next = Unit {0}
 IsLeft (Answer.outputs outputs) next = Unit {0}
 IsLeft (Answer.refused f) next = Unit {0}
 
+-- What was answered, where this was told (own).
+abbrev pub accepted_answer : List Output → Accepted → Answer
+accepted_answer told (accepted.Number number) = Answer.number number
+accepted_answer told accepted.Done = Answer.done
+accepted_answer told (accepted.GivenUp number) = Answer.given_up number
+accepted_answer told (accepted.Step over) = Answer.outputs told
+
 -- Whether the dialogue is over then (own).
-abbrev pub ends_dialogue : {A : Type 0} → Asked A → Bool
-ends_dialogue (asked.Number number) = false
-ends_dialogue asked.Done = false
-ends_dialogue (asked.GivenUp number) = false
-ends_dialogue (asked.Step step) = step.over
+abbrev pub ends_dialogue : Accepted → Bool
+ends_dialogue (accepted.Number number) = false
+ends_dialogue accepted.Done = false
+ends_dialogue (accepted.GivenUp number) = false
+ends_dialogue (accepted.Step over) = over
 
 -- Whether a request queues a component and frees no identifier, so that time next changes its dialogue when it did
 -- before (Q.774, Component handling).
@@ -63,15 +73,15 @@ EntriesRefuse f o d old new = EntriesMove o d (Answer.refused f) old new
 
 -- An answer, or a refusal, is that of the outcome, and its dialogue stands in the table then, or is gone
 -- (own).
-abbrev pub EntriesAnswer : {A : Type 0} → Result (Asked A) Fault → Outcome → ℕ → List TableEntry → List TableEntry → Type 0
-EntriesAnswer (Ok a) o d old new = EntriesMove o d (asked_answer a) old new
-EntriesAnswer (Err f) o d old new = EntriesRefuse (fault_view f) o d old new
+abbrev pub EntriesAnswer : {T : Type 0} → (T → Answer) → Result T Fault → Outcome → ℕ → List TableEntry → List TableEntry → Type 0
+EntriesAnswer view (Ok a) o d old new = EntriesMove o d (view a) old new
+EntriesAnswer view (Err f) o d old new = EntriesRefuse (fault_view f) o d old new
 
 -- What a table answers to a request on the dialogue of an identifier, which is this one if it stands; else
 -- it is unknown, and nothing changes (own).
-abbrev pub AnswersInTable : {A : Type 0} → Result (Asked A) Fault → (Dialogue → Outcome) → ℕ → Option Dialogue → List TableEntry → List TableEntry → Type 0
-AnswersInTable result says d None old new = (result ≡ Err fault.UnknownDialogue) × (new ≡ old)
-AnswersInTable result says d (Some dialogue) old new = EntriesAnswer result (says dialogue) d old new
+abbrev pub AnswersInTable : {T : Type 0} → (T → Answer) → Result T Fault → (Dialogue → Outcome) → ℕ → Option Dialogue → List TableEntry → List TableEntry → Type 0
+AnswersInTable view result says d None old new = (result ≡ Err fault.UnknownDialogue) × (new ≡ old)
+AnswersInTable view result says d (Some dialogue) old new = EntriesAnswer view result (says dialogue) d old new
 
 -- What a table gives where a message reaches one of its dialogues, which stands; where memory was refused
 -- nothing changes (own).

@@ -1,16 +1,18 @@
 -- What a call of the engine answers, beside what the engine's move says.
-use Rattle.std.specs.Prelude.{◌≡◌, ℕ, Result, Ok, Err, IsTrue}
+use Rattle.std.specs.Prelude.{◌≡◌, ℕ, List, Result, Ok, Err, IsTrue}
 use Rattle.ber_core.specs.declared.fault.OutOfMemory.{OutOfMemory}
 use Rattle.tcap_primitives.specs.declared.fault.Fault.{Fault}
 use Rattle.tcap_dialogue.specs.RequestForm.{takes_memory}
 use Rattle.tcap_primitives.specs.FaultViews.{fault_view}
 use Rattle.tcap_primitives.specs.declared.output.Output.{Output}
 use Rattle.tcap_primitives.specs.OutputViews.{all_shown}
+use Rattle.tcap_primitives.specs.SinkViews.{KeepsOutputs, told_since}
 use Rattle.std.specs.declared.vec.Vec.{Vec}
 use Rattle.tcap_model.specs.Table.EngineMove.{EngineMoved}
 use Rattle.tcap_model.specs.Table.World.{World}
 use Rattle.tcap_model.specs.Words.Answer.{Answer}
 use Rattle.tcap_model.specs.Words.Fault as model
+use Rattle.tcap_model.specs.Words.Output as told
 
 -- The answer and the engine are those of the move (own).
 abbrev pub Moves : EngineMoved → Answer → World → Type 0
@@ -35,7 +37,17 @@ birth_answer dialogue = Answer.new_dialogue dialogue
 abbrev pub outputs_answer : {A : Type 0} → Vec (Output A) A → Answer
 outputs_answer told = Answer.outputs (all_shown told.items)
 
+-- What was told since these outputs (own).
+abbrev pub since_answer : {T : Type 0} → List told.Output → List told.Output → T → Answer
+since_answer before after _ = Answer.outputs (told_since before after)
+
 -- What bytes are answered is what the move says; where memory was refused the engine is as it was (own).
 abbrev pub EngineReceives : {T : Type 0} → (T → Answer) → Result T OutOfMemory → EngineMoved → World → World → Type 0
 EngineReceives view (Ok x) m old new = Moves m (view x) new
 EngineReceives view (Err refused) m old new = new ≡ old
+
+-- What was appended to the outputs is what the move answers, and the engine is what it says; where memory was refused
+-- nothing was appended, and the engine is as it was (own).
+abbrev pub ReceivesInto : {T : Type 0} → List told.Output → List told.Output → Result T OutOfMemory → EngineMoved → World → World → Type 0
+ReceivesInto before after (Ok x) m old new = KeepsOutputs before after × Moves m (Answer.outputs (told_since before after)) new
+ReceivesInto before after (Err refused) m old new = (after ≡ before) × (new ≡ old)

@@ -10,6 +10,7 @@ pub(crate) mod faulty_message;
 pub(crate) mod getters;
 pub(crate) mod idle;
 pub(crate) mod moment;
+pub(crate) mod outbox_calls;
 pub(crate) mod receive;
 pub(crate) mod request_answers;
 pub(crate) mod request_in_table;

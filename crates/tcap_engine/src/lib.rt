@@ -19,6 +19,6 @@ pub use limits::Limits;
 pub use runs::run;
 pub use tcap_dialogue::{
     AbortRequest, AbortWhy, Address, Asked, BeginRequest, By, CancelRequest, ContinueRequest,
-    DropWhy, EndRequest, Ending, ErrorRequest, Fault, InvokeRequest, Output, RejectRequest,
-    Request, ResultRequest, State, UniRequest, Why,
+    DropWhy, EndRequest, Ending, ErrorRequest, Fault, Indication, InvokeRequest, Outbox, Output,
+    OutputRef, RejectRequest, Request, ResultRequest, State, UniRequest, Why,
 };

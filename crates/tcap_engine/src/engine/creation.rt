@@ -1,12 +1,12 @@
 //! Dialogues that are created.
 
-ghost use Rattle.std.specs.Prelude.{◌≡◌, ◌<◌, ◌+◌, None, OnErr, OnOk, IfOk, IfSome};
+ghost use Rattle.std.specs.Prelude.{◌≡◌, ◌<◌, ◌+◌, None, OnErr, OnOk, IfSome};
 ghost use Rattle.std.specs.Option.{option_map};
 ghost use Rattle.ber_core.specs.ObjectIdentifier.{IsObjectIdentifier};
 ghost use Rattle.tcap_reception.specs.PortionParts.{context_of_portion, info_of_portion};
 ghost use Rattle.tcap_primitives.specs.FaultViews.{fault_view};
 ghost use Rattle.tcap_model.specs.Table.Dialogue.{fresh_dialogue};
-ghost use Rattle.tcap_engine.specs.StepForm.{EngineAnswers, Moves, birth_answer, outputs_answer};
+ghost use Rattle.tcap_engine.specs.StepForm.{EngineAnswers, ReceivesInto, birth_answer};
 ghost use Rattle.tcap_engine.specs.HistoryForm.{Stands};
 ghost use Rattle.tcap_engine.specs.DialogueEntries.{IsWithin, with_created};
 ghost use Rattle.tcap_engine.specs.Lapsing.{timer_of};
@@ -18,7 +18,7 @@ ghost use Rattle.tcap_model.specs.Words.Identifiers.{last_dialogue};
 use super::Engine;
 use ber_core::OutOfMemory;
 use std::alloc::Allocator;
-use tcap_dialogue::{Address, Dialogue, Fault, Output};
+use tcap_dialogue::{Address, Dialogue, Fault, Sink, SinkKind};
 use tcap_pdu::TransId;
 use tcap_reception::AarqParts;
 
@@ -50,32 +50,37 @@ impl<A: Allocator + Copy> Engine<A> {
     }
 
     /// A Begin creates a dialogue: what is told (Q.774, Dialogue begin).
-    pub(super) fn accept_begin<'m>(
+    pub(super) fn accept_begin<'m, K: SinkKind>(
         &mut self,
         from: &Address,
         origin: &TransId,
         request: AarqParts<'m>,
         components: &'m [u8],
-    ) -> Result<Vec<Output<'m, A>, A>, OutOfMemory>
+        sink: &mut Sink<'m, A, K>,
+    ) -> Result<(), OutOfMemory>
         requires free { birth_fault_in self.old ≡ None }
         requires named { IfSome request (λ r. IsObjectIdentifier r.0.now) }
-        ensures ok { IfOk result (λ os. Moves (begun_in self.old
-            (born (setting_in self.old) self.old.next_dialogue self.old.reject_ms self.old.idle_ms from.now origin.now
-            (context_of_portion request.entry) (info_of_portion request.entry) components.now))
-            (outputs_answer os) self.new) }
-        ensures err { OnErr result (self.new ≡ self.old) }
+        ensures { ReceivesInto sink.old.outputs sink.new.outputs result
+            (begun_in self.old (born (setting_in self.old) self.old.next_dialogue self.old.reject_ms self.old.idle_ms
+            from.now origin.now (context_of_portion request.entry) (info_of_portion request.entry) components.now))
+            self.old self.new }
     {
+        let count = sink.count();
         let mut dialogue = self.fresh();
-        let outputs = dialogue.receive_begin_with(
+        dialogue.receive_begin_with(
             &mut self.table.spares,
             from,
             origin,
             request,
             components,
             self.clock,
+            sink,
         )?;
-        self.keep(dialogue)?;
-        Ok(outputs)
+        if self.keep(dialogue).is_err() {
+            sink.truncate(count);
+            return Err(OutOfMemory);
+        }
+        Ok(())
     }
 
     /// A dialogue under the next identifier, in which nothing has happened.

@@ -1,14 +1,14 @@
 //! Bytes that are no message that can be read.
 
 ghost use Rattle.std.specs.Prelude.{◌≡◌};
-ghost use Rattle.tcap_engine.specs.StepForm.{EngineReceives, outputs_answer};
+ghost use Rattle.tcap_engine.specs.StepForm.{ReceivesInto};
 ghost use Rattle.tcap_model.specs.Procedures.Reception.{aborted_or_dropped, fault_abort, faulty};
 ghost use Rattle.tcap_model.specs.Table.EngineMove.{is_live_in, received_in};
 
 use super::Engine;
 use ber_core::OutOfMemory;
 use std::alloc::Allocator;
-use tcap_dialogue::{Address, Cause, DropWhy, Output};
+use tcap_dialogue::{Address, Cause, DropWhy, Sink, SinkKind};
 use tcap_pdu::tag::{ABORT, CONTINUE, END, UNIDIRECTIONAL};
 use tcap_pdu::{FrameFault, TransId, front_ids};
 
@@ -18,13 +18,14 @@ impl<A: Allocator + Copy> Engine<A> {
     /// (Q.774, Abnormal procedures; the choice by the first octet is our own).
     // It is rare, and kept out of what a good message runs through.
     #[inline(never)]
-    pub(super) fn take_faulty<'m>(
+    pub(super) fn take_faulty<'m, K: SinkKind>(
         &mut self,
         from: &Address,
         bytes: &'m [u8],
         fault: FrameFault,
-    ) -> Result<Vec<Output<'m, A>, A>, OutOfMemory>
-        ensures { EngineReceives outputs_answer result (received_in self.old from.now
+        sink: &mut Sink<'m, A, K>,
+    ) -> Result<(), OutOfMemory>
+        ensures { ReceivesInto sink.old.outputs sink.new.outputs result (received_in self.old from.now
             (faulty (is_live_in self.old.dialogues) bytes.now fault)) self.old self.new }
     {
         let (origin, named) = front_ids(bytes);
@@ -33,29 +34,34 @@ impl<A: Allocator + Copy> Engine<A> {
             None => None,
         };
         match (bytes, live) {
-            ([END | ABORT, ..], Some(dialogue)) => self.abort_by_fault(dialogue, from, None, fault),
-            ([CONTINUE, ..], Some(dialogue)) => self.abort_by_fault(dialogue, from, origin, fault),
+            ([END | ABORT, ..], Some(dialogue)) => self.abort_by_fault(
+                dialogue, from, None, fault, sink,
+            ),
+            ([CONTINUE, ..], Some(dialogue)) => self.abort_by_fault(
+                dialogue, from, origin, fault, sink,
+            ),
             ([UNIDIRECTIONAL | END | ABORT, ..] | [], _) => {
-                self.tell(Output::Dropped(DropWhy::BadMessage))
+                self.drop_message(DropWhy::BadMessage, sink)
             }
-            ([_, ..], _) => self.abort_or_drop(from, origin, fault),
+            ([_, ..], _) => self.abort_or_drop(from, origin, fault, sink),
         }
     }
 
     /// An Abort with the fault's cause goes to the originator, or the message is dropped where that isn't known
     /// (Q.774, Abnormal procedures).
-    fn abort_or_drop<'m>(
+    fn abort_or_drop<'m, K: SinkKind>(
         &mut self,
         from: &Address,
         origin: Option<TransId>,
         fault: FrameFault,
-    ) -> Result<Vec<Output<'m, A>, A>, OutOfMemory>
-        ensures { EngineReceives outputs_answer result
+        sink: &mut Sink<'m, A, K>,
+    ) -> Result<(), OutOfMemory>
+        ensures { ReceivesInto sink.old.outputs sink.new.outputs result
             (received_in self.old from.now (aborted_or_dropped (fault_abort fault origin))) self.old self.new }
     {
         match origin {
-            Some(origin) => self.abort_by_cause(from, &origin, Cause::Faulty(fault)),
-            None => self.tell(Output::Dropped(DropWhy::BadMessage)),
+            Some(origin) => self.abort_by_cause(from, &origin, Cause::Faulty(fault), sink),
+            None => self.drop_message(DropWhy::BadMessage, sink),
         }
     }
 }

@@ -1,7 +1,6 @@
 //! What lapses at a moment in all dialogues, and which of them have been idle too long.
 
-ghost use Rattle.std.specs.Prelude.{◌≡◌, ◌≢◌, ◌≤◌, ◌+◌, ◌++◌, [], length, vec_len, vec_capacity, ℕ, IfSome, IfNone, Some, MatchOption};
-ghost use Rattle.tcap_primitives.specs.OutputViews.{all_shown};
+ghost use Rattle.std.specs.Prelude.{◌≡◌, ◌≢◌, ◌≤◌, ◌+◌, ◌++◌, [], length, vec_capacity, ℕ, IfSome, IfNone, Some, MatchOption};
 ghost use Rattle.tcap_engine.specs.IdleDialogues.{ends_in, idle_ids, left_by};
 ghost use Rattle.tcap_engine.specs.Lapsing.{IsFirstTimer, IsExpired, IsExpiredIn, IsQuiet, timer_of};
 ghost use Rattle.tcap_engine.specs.DialogueEntries.{AreFrom, dialogues_of};
@@ -10,7 +9,7 @@ ghost use Rattle.tcap_model.specs.Table.DueLapses.{all_told};
 
 use crate::dialogues::Dialogues;
 use std::alloc::Allocator;
-use tcap_dialogue::{Dialogue, Output};
+use tcap_dialogue::{Dialogue, Indication, Sink, SinkKind};
 use tcap_invocation::Lapse;
 
 /// What became of a dialogue whose first timer ran out.
@@ -87,20 +86,21 @@ fn expire_first<A: Allocator + Copy>(
 
 /// Tells what lapses, earliest first, frees each identifier whose wait is over, and postpones the end of each
 /// dialogue that has been idle too long: these are the identifiers, earliest first. There is room for all.
-pub(super) fn tell_due<'m, A: Allocator + Copy>(
+pub(super) fn tell_due<'m, A: Allocator + Copy, K: SinkKind>(
     table: &mut Dialogues<A>,
     now: u64,
-    outputs: &mut Vec<Output<'m, A>, A>,
+    sink: &mut Sink<'m, A, K>,
     idle: &mut Vec<u32, A>,
 )
     requires from { AreFrom 0 table.old }
     requires late { now ≤ moment_limit }
-    requires room { vec_len outputs.old + length (all_told now (dialogues_of table.old)) ≤ vec_capacity outputs.old }
+    requires places { length (all_told now (dialogues_of table.old)) ≤ sink.old.places }
     requires empty { idle.old.items ≡ [] }
     requires space { length (idle_ids now table.old) ≤ vec_capacity idle.old }
-    ensures told { all_shown outputs.new.items ≡ all_shown outputs.old.items
+    ensures told { sink.new.outputs ≡ sink.old.outputs
         ++ all_told now (dialogues_of table.old) }
-    ensures room { vec_capacity outputs.new ≡ vec_capacity outputs.old }
+    ensures places { sink.old.places ≤ sink.new.places
+        + length (all_told now (dialogues_of table.old)) }
     ensures idle { idle.new.items ≡ idle_ids now table.old }
     ensures ends { (id : ℕ) → ends_in now table.new id ≡ ends_in now table.old id }
     ensures left { left_by now (idle_ids now table.old) table.new ≡ left_by now (idle_ids now table.old) table.old }
@@ -109,7 +109,7 @@ pub(super) fn tell_due<'m, A: Allocator + Copy>(
 {
     while let Some((time, identifier)) = first_timer_by(table, now) {
         match expire_first(table, now, time, identifier) {
-            Expiry::Lapsed(lapse) => outputs.push_reserved(Output::Lapsed {
+            Expiry::Lapsed(lapse) => sink.tell(Indication::Lapsed {
                 dialogue: identifier,
                 number: lapse.number,
                 id: lapse.id,

@@ -1,10 +1,10 @@
 //! `Engine::receive`: bytes are read, and by what they are they are told, create a dialogue, reach the one that they
 //! name, or are aborted or dropped.
 
-ghost use Rattle.std.specs.Prelude.{◌≡◌, ◌∷◌, [], None, is_some, option_copied, true, IfOk, IfSome};
+ghost use Rattle.std.specs.Prelude.{◌≡◌, ◌++◌, ◌∷◌, [], None, is_some, option_copied, true, IfSome, OnOk, OnErr};
 ghost use Rattle.tcap_primitives.specs.AbortViews.{CanWriteAbort, abort_sent, cause_number};
-ghost use Rattle.tcap_primitives.specs.OutputViews.{all_shown, shown};
-ghost use Rattle.tcap_engine.specs.StepForm.{EngineReceives, outputs_answer};
+ghost use Rattle.tcap_primitives.specs.OutputViews.{drop_view};
+ghost use Rattle.tcap_engine.specs.StepForm.{EngineReceives, ReceivesInto, outputs_answer, since_answer};
 ghost use Rattle.tcap_engine.specs.HistoryForm.{StandsReceived};
 ghost use Rattle.tcap_engine.specs.StateOf.{state_in};
 ghost use Rattle.tcap_model.specs.Procedures.AbortRules.{abort_with, message_sent};
@@ -13,14 +13,15 @@ ghost use Rattle.tcap_model.specs.Procedures.Reception.{addressed, begin_by, mes
 ghost use Rattle.tcap_model.specs.Table.EngineMove.{birth_fault_in, engine_move, is_live_in, received_in};
 ghost use Rattle.tcap_model.specs.Words.Address.{Address};
 ghost use Rattle.tcap_model.specs.Words.Event.{Event};
+ghost use Rattle.tcap_model.specs.Words.Output as model;
 ghost use Rattle.tcap_pdu.specs.FrameViews.{message};
 
 use super::Engine;
 use ber_core::OutOfMemory;
 use std::alloc::Allocator;
 use tcap_dialogue::{
-    Abort, Address, BeginVerdict, Cause, DropWhy, Output, PortionVerdict, State, judge_begin,
-    judge_uni, take_uni, write_abort,
+    Abort, Address, BeginVerdict, Cause, DropWhy, Indication, Output, PortionVerdict, Sink,
+    SinkKind, State, judge_begin, judge_uni, take_uni_into,
 };
 use tcap_pdu::{Frame, MAX_MESSAGE, TransId, read_frame};
 use tcap_primitives::ranges;
@@ -29,7 +30,6 @@ impl<A: Allocator + Copy> Engine<A> {
     /// Bytes were received from an address: what is sent and told (Q.774, Transaction sublayer procedures). They
     /// are never refused, and something is always told of them; those above 65,535 are dropped. The only error
     /// is that memory was refused, and then nothing has changed.
-    #[tactic(auto, using(crate::proofs::StandingLemmas::stands_heard))]
     pub fn receive<'m>(
         &mut self,
         from: &Address,
@@ -40,37 +40,57 @@ impl<A: Allocator + Copy> Engine<A> {
         // Whatever legal history the engine stood at: the reply, and the history that it stands at then.
         ensures stands { StandsReceived outputs_answer result (Event.received from.now bytes.now) self.old self.new }
     {
-        ranges::address(from);
-        ranges::octets(bytes);
-        self.receive_any(from, bytes)
+        let mut sink = Sink::vector(self.table.allocator());
+        self.receive_with(from, bytes, &mut sink)?;
+        Ok(sink.into_vector())
     }
 
-    /// `receive`, by the engine's move.
-    #[tactic(auto, unfolding(tcap_model::specs::Table::EngineMove::engine_move))]
-    fn receive_any<'m>(
+    /// `receive`, whose outputs are appended to what a sink holds.
+    #[tactic(auto, using(crate::proofs::StandingLemmas::stands_heard))]
+    pub(super) fn receive_with<'m, K: SinkKind>(
         &mut self,
         from: &Address,
         bytes: &'m [u8],
-    ) -> Result<Vec<Output<'m, A>, A>, OutOfMemory>
-        ensures { EngineReceives outputs_answer result
+        sink: &mut Sink<'m, A, K>,
+    ) -> Result<(), OutOfMemory>
+        ensures moves { ReceivesInto sink.old.outputs sink.new.outputs result
+            (engine_move self.old (Event.received from.now bytes.now)) self.old self.new }
+        ensures stands { StandsReceived (since_answer sink.old.outputs sink.new.outputs)
+            result (Event.received from.now bytes.now) self.old self.new }
+    {
+        ranges::address(from);
+        ranges::octets(bytes);
+        self.receive_any(from, bytes, sink)
+    }
+
+    /// `receive_with`, by the engine's move.
+    #[tactic(auto, unfolding(tcap_model::specs::Table::EngineMove::engine_move))]
+    fn receive_any<'m, K: SinkKind>(
+        &mut self,
+        from: &Address,
+        bytes: &'m [u8],
+        sink: &mut Sink<'m, A, K>,
+    ) -> Result<(), OutOfMemory>
+        ensures { ReceivesInto sink.old.outputs sink.new.outputs result
             (engine_move self.old (Event.received from.now bytes.now)) self.old self.new }
     {
         if bytes.len() > MAX_MESSAGE {
-            return self.tell(Output::Dropped(DropWhy::TooLong));
+            return self.drop_message(DropWhy::TooLong, sink);
         }
         match read_frame(bytes) {
-            Ok(frame) => self.take_message(from, &frame),
-            Err(fault) => self.take_faulty(from, bytes, fault),
+            Ok(frame) => self.take_message(from, &frame, sink),
+            Err(fault) => self.take_faulty(from, bytes, fault, sink),
         }
     }
 
     /// A message that can be read (Q.774, Transaction sublayer procedures).
-    fn take_message<'m>(
+    fn take_message<'m, K: SinkKind>(
         &mut self,
         from: &Address,
         frame: &Frame<'m>,
-    ) -> Result<Vec<Output<'m, A>, A>, OutOfMemory>
-        ensures { EngineReceives outputs_answer result (received_in self.old from.now
+        sink: &mut Sink<'m, A, K>,
+    ) -> Result<(), OutOfMemory>
+        ensures { ReceivesInto sink.old.outputs sink.new.outputs result (received_in self.old from.now
             (message_by (is_live_in self.old.dialogues) (is_some (birth_fault_in self.old)) (message frame.now)))
             self.old self.new }
     {
@@ -78,35 +98,36 @@ impl<A: Allocator + Copy> Engine<A> {
             Frame::Uni {
                 dialogue,
                 components,
-            } => self.take_unidirectional(*dialogue, components),
+            } => self.take_unidirectional(*dialogue, components, sink),
             Frame::Begin {
                 otid,
                 dialogue,
                 components,
             } => {
                 if self.birth_fault().is_some() {
-                    return self.abort_by_cause(from, otid, Cause::ResourceLimitation);
+                    return self.abort_by_cause(from, otid, Cause::ResourceLimitation, sink);
                 }
-                self.take_begin(from, otid, *dialogue, components)
+                self.take_begin(from, otid, *dialogue, components, sink)
             }
             Frame::Continue { otid, dtid, .. } => match self.live_named(dtid) {
-                Some(dialogue) => self.deliver(dialogue, from, frame),
-                None => self.abort_by_cause(from, otid, Cause::UnrecognizedId),
+                Some(dialogue) => self.deliver(dialogue, from, frame, sink),
+                None => self.abort_by_cause(from, otid, Cause::UnrecognizedId, sink),
             },
             Frame::End { dtid, .. } | Frame::Abort { dtid, .. } => match self.live_named(dtid) {
-                Some(dialogue) => self.deliver(dialogue, from, frame),
-                None => self.tell(Output::Dropped(DropWhy::NoDialogue)),
+                Some(dialogue) => self.deliver(dialogue, from, frame, sink),
+                None => self.drop_message(DropWhy::NoDialogue, sink),
             },
         }
     }
 
     /// A Unidirectional is told or dropped, by its dialogue portion (Q.774, Unstructured dialogue).
-    fn take_unidirectional<'m>(
+    fn take_unidirectional<'m, K: SinkKind>(
         &mut self,
         dialogue: Option<&'m [u8]>,
         components: &'m [u8],
-    ) -> Result<Vec<Output<'m, A>, A>, OutOfMemory>
-        ensures { (from : Address) → EngineReceives outputs_answer result (received_in self.old from
+        sink: &mut Sink<'m, A, K>,
+    ) -> Result<(), OutOfMemory>
+        ensures { (from : Address) → ReceivesInto sink.old.outputs sink.new.outputs result (received_in self.old from
             (uni_by (uni_verdict (option_copied dialogue.entry)) components.now)) self.old self.new }
     {
         let request = match judge_uni(dialogue) {
@@ -115,36 +136,37 @@ impl<A: Allocator + Copy> Engine<A> {
                 info,
             } => Some((context, info)),
             PortionVerdict::Normal { context: None, .. } => None,
-            PortionVerdict::Abnormal => return self.tell(Output::Dropped(DropWhy::BadDialogue)),
+            PortionVerdict::Abnormal => return self.drop_message(DropWhy::BadDialogue, sink),
         };
-        take_uni(self.table.allocator(), request, components)
+        take_uni_into(request, components, sink)
     }
 
     /// A Begin where a dialogue can be created: it is accepted or aborted, by its dialogue portion
     /// (Q.774, Dialogue begin).
-    fn take_begin<'m>(
+    fn take_begin<'m, K: SinkKind>(
         &mut self,
         from: &Address,
         origin: &TransId,
         dialogue: Option<&'m [u8]>,
         components: &'m [u8],
-    ) -> Result<Vec<Output<'m, A>, A>, OutOfMemory>
+        sink: &mut Sink<'m, A, K>,
+    ) -> Result<(), OutOfMemory>
         requires free { birth_fault_in self.old ≡ None }
-        ensures { EngineReceives outputs_answer result (received_in self.old from.now
+        ensures { ReceivesInto sink.old.outputs sink.new.outputs result (received_in self.old from.now
             (begin_by (begin_verdict (option_copied dialogue.entry)) origin.now components.now)) self.old self.new }
     {
         match judge_begin(dialogue) {
-            BeginVerdict::Plain => self.accept_begin(from, origin, None, components),
+            BeginVerdict::Plain => self.accept_begin(from, origin, None, components, sink),
             BeginVerdict::Context { context, info } => {
-                self.accept_begin(from, origin, Some((context, info)), components)
+                self.accept_begin(from, origin, Some((context, info)), components, sink)
             }
             BeginVerdict::WrongVersion { context } => {
                 let peer = origin.copied();
-                self.abort(from, &Abort::WrongVersion { peer, context })
+                self.abort(from, &Abort::WrongVersion { peer, context }, sink)
             }
             BeginVerdict::Abnormal => {
                 let peer = origin.copied();
-                self.abort(from, &Abort::Abnormal { peer })
+                self.abort(from, &Abort::Abnormal { peer }, sink)
             }
         }
     }
@@ -183,43 +205,51 @@ impl<A: Allocator + Copy> Engine<A> {
         self.table.find_state(dialogue)
     }
 
-    /// One output is told.
-    pub(super) fn tell<'m>(
+    /// A message is dropped, which is told.
+    pub(super) fn drop_message<'m, K: SinkKind>(
         &self,
-        output: Output<'m, A>,
-    ) -> Result<Vec<Output<'m, A>, A>, OutOfMemory>
-        ensures { IfOk result (λ os. all_shown os.items ≡ shown output.entry ∷ []) }
+        why: DropWhy,
+        sink: &mut Sink<'m, A, K>,
+    ) -> Result<(), OutOfMemory>
+        ensures ok { OnOk result (sink.new.outputs ≡ sink.old.outputs
+            ++ model.Output.dropped (drop_view why) ∷ []) }
+        ensures still { OnErr result (sink.new.outputs ≡ sink.old.outputs) }
     {
-        let mut outputs = Vec::with_capacity(self.table.allocator(), 1)?;
-        outputs.push_reserved(output);
-        Ok(outputs)
+        sink.reserve(1, 0)?;
+        sink.tell(Indication::Dropped(why));
+        Ok(())
     }
 
     /// An Abort of the provider goes to this address.
-    pub(super) fn abort<'m>(
+    pub(super) fn abort<'m, K: SinkKind>(
         &self,
         to: &Address,
         abort: &Abort<'_>,
-    ) -> Result<Vec<Output<'m, A>, A>, OutOfMemory>
+        sink: &mut Sink<'m, A, K>,
+    ) -> Result<(), OutOfMemory>
         requires { CanWriteAbort abort.now }
-        ensures { IfOk result (λ os. all_shown os.items ≡ message_sent to.now (abort_sent abort.now) ∷ []) }
+        ensures ok { OnOk result (sink.new.outputs ≡ sink.old.outputs
+            ++ message_sent to.now (abort_sent abort.now) ∷ []) }
+        ensures still { OnErr result (sink.new.outputs ≡ sink.old.outputs) }
     {
-        let bytes = write_abort(self.table.allocator(), abort)?;
-        let to = to.copied();
-        self.tell(Output::Send { to, bytes })
+        sink.reserve(1, 0)?;
+        sink.send(to.octets(), &abort.outgoing())?;
+        Ok(())
     }
 
     /// An Abort with a P-Abort cause goes to this address.
-    pub(super) fn abort_by_cause<'m>(
+    pub(super) fn abort_by_cause<'m, K: SinkKind>(
         &self,
         to: &Address,
         peer: &TransId,
         cause: Cause,
-    ) -> Result<Vec<Output<'m, A>, A>, OutOfMemory>
-        ensures { IfOk result (λ os. all_shown os.items
-            ≡ message_sent to.now (abort_with (cause_number cause) peer.now) ∷ []) }
+        sink: &mut Sink<'m, A, K>,
+    ) -> Result<(), OutOfMemory>
+        ensures ok { OnOk result (sink.new.outputs ≡ sink.old.outputs
+            ++ message_sent to.now (abort_with (cause_number cause) peer.now) ∷ []) }
+        ensures still { OnErr result (sink.new.outputs ≡ sink.old.outputs) }
     {
         let peer = peer.copied();
-        self.abort(to, &Abort::Cause { peer, cause })
+        self.abort(to, &Abort::Cause { peer, cause }, sink)
     }
 }

@@ -2,19 +2,22 @@
 
 // In each named call the kind of answer is known: inlined, the match on it folds away.
 
-ghost use Rattle.std.specs.Prelude.{◌≡◌, IfOk, OnErr};
+ghost use Rattle.std.specs.Prelude.{◌≡◌, List, IfOk, OnErr};
+ghost use Rattle.tcap_dialogue.specs.AskViews.{Appends};
 ghost use Rattle.tcap_dialogue.specs.RequestForm.{numbered, queued_done, gave_up};
-ghost use Rattle.tcap_engine.specs.StepForm.{EngineAnswers, outputs_answer};
+ghost use Rattle.tcap_engine.specs.StepForm.{EngineAnswers, outputs_answer, since_answer};
 ghost use Rattle.tcap_engine.specs.AnswerKinds.{AnswerKind, MayAnswer};
-ghost use Rattle.tcap_engine.specs.RequestInTable.{asked_answer};
+ghost use Rattle.tcap_engine.specs.RequestInTable.{accepted_answer, asked_answer};
 ghost use Rattle.tcap_engine.specs.HistoryForm.{StandsAfter};
 ghost use Rattle.tcap_model.specs.Histories.History.{History};
 ghost use Rattle.tcap_model.specs.Table.EngineMove.{EngineMoved};
 ghost use Rattle.tcap_model.specs.Table.World.{World};
 ghost use Rattle.tcap_model.specs.Words.Event.{Event};
+ghost use Rattle.tcap_model.specs.Words.Output.{Output};
+ghost use Rattle.tcap_primitives.specs.SinkViews.{KeepsOutputs, told_since};
 
 use std::alloc::Allocator;
-use tcap_dialogue::{Asked, Fault, Output};
+use tcap_dialogue::{Accepted, Asked, Fault, Output};
 
 /// The number of a new invocation.
 #[inline(always)]
@@ -86,4 +89,23 @@ pub(super) fn outputs_of<'m, A: Allocator + Copy>(
         Asked::Step(step) => Ok(step.outputs),
         Asked::Number(_) | Asked::Done | Asked::GivenUp(_) => unreachable!(),
     }
+}
+
+/// What is sent and told was appended.
+#[inline(always)]
+pub(super) fn told(accepted: Result<Accepted, Fault>) -> Result<(), Fault>
+    requires { IfOk accepted (λ a. (told : List Output) → MayAnswer AnswerKind.outputs (accepted_answer told a)) }
+    ensures moves { (before after : List Output) (m : EngineMoved) (old new : World)
+        → EngineAnswers (accepted_answer (told_since before after)) accepted m old new
+        → EngineAnswers (since_answer before after) result m old new }
+    ensures stands { (before after : List Output) (h : History) (event : Event) (new : World)
+        → StandsAfter (accepted_answer (told_since before after)) accepted h event new
+        → StandsAfter (since_answer before after) result h event new }
+    ensures kept { (before after : List Output) → IfOk accepted (λ a. Appends a before after)
+        → OnErr accepted (after ≡ before) → KeepsOutputs before after }
+    ensures err { (old new : World) → OnErr accepted (new ≡ old) → OnErr result (new ≡ old) }
+    ensures still { (before after : List Output) → OnErr accepted (after ≡ before) → OnErr result (after ≡ before) }
+{
+    accepted?;
+    Ok(())
 }

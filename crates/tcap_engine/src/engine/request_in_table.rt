@@ -1,27 +1,28 @@
 //! Requests on the dialogue of an identifier.
 
-ghost use Rattle.std.specs.Prelude.{◌≡◌, ◌≤◌, nat_eq, IfSome};
+ghost use Rattle.std.specs.Prelude.{◌≡◌, ◌≤◌, nat_eq, IfOk, IfSome, OnErr};
 ghost use Rattle.std.specs.Map.{lookup};
-ghost use Rattle.tcap_dialogue.specs.AskViews.{Asks};
+ghost use Rattle.tcap_dialogue.specs.AskViews.{Appends, AsksInto};
 ghost use Rattle.tcap_primitives.specs.RequestViews.{request_view};
+ghost use Rattle.tcap_primitives.specs.SinkViews.{told_since};
 ghost use Rattle.tcap_dialogue.specs.StepViews.{asked, outcome};
 ghost use Rattle.tcap_engine.specs.DialogueEntries.{IsWithin};
-ghost use Rattle.tcap_engine.specs.RequestInTable.{AnswersInTable, ends_dialogue, keeps_timer};
+ghost use Rattle.tcap_engine.specs.RequestInTable.{AnswersInTable, accepted_answer, ends_dialogue, keeps_timer};
 ghost use Rattle.tcap_invocation.specs.Invocations.{AllBelow};
 ghost use Rattle.tcap_invocation.specs.Stage.{moment_limit};
 ghost use Rattle.tcap_model.specs.Table.TableMove.{DialogueEvent, table_move};
 
 use crate::dialogues::{Dialogues, settle};
 use std::alloc::Allocator;
-use tcap_dialogue::{Asked, Dialogue, Fault, Request, Spares};
+use tcap_dialogue::{Accepted, Dialogue, Fault, Request, Sink, SinkKind, Spares};
 
 /// Whether the dialogue is over.
-fn ends_dialogue<A: Allocator + Copy>(asked: &Asked<'_, A>) -> bool
-    ensures { result ≡ ends_dialogue asked.now }
+fn ends_dialogue(accepted: Accepted) -> bool
+    ensures { result ≡ ends_dialogue accepted }
 {
-    match asked {
-        Asked::Number(_) | Asked::Done | Asked::GivenUp(_) => false,
-        Asked::Step(step) => step.over,
+    match accepted {
+        Accepted::Number(_) | Accepted::Done | Accepted::GivenUp(_) => false,
+        Accepted::Step(over) => over,
     }
 }
 
@@ -48,20 +49,22 @@ fn keeps_timer(request: &Request<'_>) -> bool
 /// Any request on a dialogue, where `number` is what an Invoke gets; the greatest one is never drawn.
 // A part of `ask_in`, for the same reason.
 #[inline(always)]
-fn ask_one<'m, A: Allocator + Copy>(
+fn ask_one<'m, A: Allocator + Copy, K: SinkKind>(
     dialogue: &mut Dialogue<A>,
     spares: &mut Spares<A>,
     reject_ms: u64,
     clock: u64,
     number: u64,
     request: &Request<'_>,
-) -> Result<Asked<'m, A>, Fault>
+    sink: &mut Sink<'m, A, K>,
+) -> Result<Accepted, Fault>
     requires wait { dialogue.old.invocations.reject_ms ≡ reject_ms }
     requires limited { reject_ms ≤ moment_limit }
     requires clock { clock ≤ moment_limit }
     requires number { AllBelow number dialogue.old.invocations.rows }
-    ensures answer { Asks result (outcome (table_move (asked clock number) dialogue.old
-        (DialogueEvent.request (request_view request.now)))) dialogue.old dialogue.new }
+    ensures answer { AsksInto sink.old.outputs sink.new.outputs result
+        (outcome (table_move (asked clock number) dialogue.old (DialogueEvent.request (request_view request.now))))
+        dialogue.old dialogue.new }
     ensures kept { dialogue.new.standing.identifier ≡ dialogue.old.standing.identifier }
 {
     if number == u64::MAX {
@@ -75,35 +78,40 @@ fn ask_one<'m, A: Allocator + Copy>(
             return Err(fault.unwrap_or(Fault::NumbersSpent));
         }
     }
-    dialogue.ask_with(spares, reject_ms, clock, number, request)
+    dialogue.ask_with(spares, reject_ms, clock, number, request, sink)
 }
 
 /// A request on the dialogue of an identifier, which is taken out where it is over.
 // Each named call of the engine has its own copy, in which the request is known and the match on it folds away.
 #[inline(always)]
-pub(super) fn ask_in<'m, A: Allocator + Copy>(
+pub(super) fn ask_in<'m, A: Allocator + Copy, K: SinkKind>(
     table: &mut Dialogues<A>,
     identifier: u32,
     reject_ms: u64,
     clock: u64,
     number: u64,
     request: &Request<'_>,
-) -> Result<Asked<'m, A>, Fault>
+    sink: &mut Sink<'m, A, K>,
+) -> Result<Accepted, Fault>
     requires limited { reject_ms ≤ moment_limit }
     requires clock { clock ≤ moment_limit }
     requires within { IfSome (lookup (nat_eq identifier) table.old) (IsWithin reject_ms number) }
-    ensures { AnswersInTable result (λ x. outcome (table_move (asked clock number) x (DialogueEvent.request
-        (request_view request.now)))) identifier (lookup (nat_eq identifier) table.old) table.old table.new }
+    ensures answer { AnswersInTable (accepted_answer
+        (told_since sink.old.outputs sink.new.outputs)) result
+        (λ x. outcome (table_move (asked clock number) x (DialogueEvent.request (request_view request.now))))
+        identifier (lookup (nat_eq identifier) table.old) table.old table.new }
+    ensures appends { IfOk result (λ a. Appends a sink.old.outputs sink.new.outputs) }
+    ensures still { OnErr result (sink.new.outputs ≡ sink.old.outputs) }
 {
     let Some(dialogue) = table.rows.get_mut(identifier) else {
         return Err(Fault::UnknownDialogue);
     };
     let spares = &mut table.spares;
-    let asked = ask_one(dialogue, spares, reject_ms, clock, number, request)?;
+    let accepted = ask_one(dialogue, spares, reject_ms, clock, number, request, sink)?;
     if keeps_timer(request) {
-        return Ok(asked);
+        return Ok(accepted);
     }
-    let (is_over, timer) = (ends_dialogue(&asked), dialogue.next_timer());
+    let (is_over, timer) = (ends_dialogue(accepted), dialogue.next_timer());
     settle(
         &mut table.rows,
         &mut table.spares,
@@ -111,5 +119,5 @@ pub(super) fn ask_in<'m, A: Allocator + Copy>(
         is_over,
         timer,
     );
-    Ok(asked)
+    Ok(accepted)
 }

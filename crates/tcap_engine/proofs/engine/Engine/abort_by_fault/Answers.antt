@@ -1,12 +1,13 @@
-use Rattle.std.proofs.Common.{◌≡◌, ◌∙◌, ap, true, []}
-use Rattle.tcap_primitives.specs.OutputViews.{all_shown}
+use Rattle.std.proofs.Common.{◌≡◌, ◌++◌, ◌∙◌, ap, true}
 use Rattle.tcap_dialogue.specs.StepViews.{at_clock}
-use Rattle.tcap_model.specs.Procedures.AbortRules.{fault_cause}
+use Rattle.tcap_model.specs.Procedures.AbortRules.{fault_cause, sent_if_any}
+use Rattle.tcap_model.specs.Procedures.Reception.{fault_abort}
 use Rattle.tcap_model.specs.Table.EngineMove.{is_live_in}
 use Rattle.tcap_model.specs.Table.TableMove.{DialogueEvent, table_move}
 use Rattle.tcap_model.specs.Table.World.{World}
+use Rattle.tcap_primitives.specs.SinkViews.{told_since}
 use Rattle.tcap_engine.specs.DialogueEntries.{dialogues_of}
-use Rattle.tcap_engine.proofs.ReachedEngine.{fault-alike, kept-fault, live-found, sound-reached, reached-sending}
+use Rattle.tcap_engine.proofs.ReachedEngine.{fault-alike, kept-fault, live-found, sound-reached, receives-sending}
 use Rattle.tcap_engine.proofs.engine.Engine.abort_by_fault.Goals as goal
 
 pub abort_in-requires : goal.abort_in-requires
@@ -21,13 +22,13 @@ invariant_of-self g c =
     let cause = fault_cause c.args.fault in
     sound-reached s.limits s.next_dialogue s.next_number s.clock c.args.identifier s.table c.self.invariant (DialogueEvent.fault cause)
     (λ x. table_move (at_clock 0) x (DialogueEvent.fault cause)) (λ x. fault-alike s.clock s.next_number x cause) (λ x h. kept-fault s.limits.reject_ms s.next_number x cause h)
-    (λ os. all_shown os.items) c.abort_in.result c.abort_in.new.table c.abort_in.ensures.reached
+    (λ _. told_since (c.args.sink.now.outputs ++ sent_if_any c.args.from.now (fault_abort c.args.fault c.args.origin)) c.abort_in.new.sink.outputs) c.abort_in.result c.abort_in.new.table c.abort_in.ensures.reached
 
-pub returns-in-None-clause-ok : goal.returns-in-None-clause-ok
-returns-in-None-clause-ok g c =
+pub returns : goal.returns
+returns g c =
     let s = c.self.inside in
     let cause = fault_cause c.args.fault in
-    rw (c.in-None.is, ← c.self.view_is)
-    (reached-sending s.limits s.next_dialogue s.next_number s.clock c.args.identifier s.table c.self.invariant (DialogueEvent.fault cause)
+    rw (← c.self.view_is)
+    (receives-sending s.limits s.next_dialogue s.next_number s.clock c.args.identifier s.table c.self.invariant (DialogueEvent.fault cause)
     (λ x. table_move (at_clock 0) x (DialogueEvent.fault cause)) (λ x. fault-alike s.clock s.next_number x cause) (λ x h. kept-fault s.limits.reject_ms s.next_number x cause h)
-    (λ os. all_shown os.items) [] c.abort_in.result c.abort_in.new.table c.abort_in.ensures.reached)
+    c.args.sink.now.outputs c.abort_in.new.sink.outputs (sent_if_any c.args.from.now (fault_abort c.args.fault c.args.origin)) c.abort_in.result c.abort_in.new.table c.abort_in.ensures.reached c.abort_in.ensures.kept c.abort_in.ensures.still)

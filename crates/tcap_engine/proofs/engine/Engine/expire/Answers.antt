@@ -1,10 +1,9 @@
-use Rattle.std.proofs.Common.{rules, arith, sym, ap, refl, subst, ◌≡◌, ◌∙◌, ◌<◌, List, [], ◌++◌, ℕ, length, map, filter_map, inl, inr}
-use Rattle.std.proofs.lemmas.List.{length-map}
+use Rattle.std.proofs.Common.{rules, arith, append_assoc, sym, ap, refl, subst, ◌≡◌, ◌∙◌, ◌<◌, List, [], ◌++◌, ℕ, length, map, filter_map, inl, inr}
 use Rattle.std.proofs.lemmas.Result.{err_from_is_err_and}
 use Rattle.std.specs.List.{flat_map}
 use Rattle.std.specs.Prelude.{IsTrue}
 use Rattle.tcap_dialogue.specs.RequestForm.{takes_memory}
-use Rattle.tcap_primitives.specs.OutputViews.{all_shown, shown}
+use Rattle.tcap_primitives.proofs.SinkLemmas.{keeps, since-is}
 use Rattle.tcap_engine.specs.IdleDialogues.{AreDistinct, idle_ids, left_by, idle_end_in, entry_at, without_all}
 use Rattle.tcap_engine.specs.DialogueEntries.{TableEntry, dialogues_of}
 use Rattle.tcap_engine.proofs.EndLemmas.{ends-all, left-all}
@@ -40,8 +39,8 @@ end_all-requires-clause-apart g c =
     let ps : List TableEntry = c.self.inside.table in
     subst AreDistinct (sym (c.deref.ensures.value ∙ c.tell_due.ensures.idle)) (idle-distinct c.args.now ps c.self.invariant.from)
 
-pub end_all-requires-clause-room : goal.end_all-requires-clause-room
-end_all-requires-clause-room g c =
+pub end_all-requires-clause-places : goal.end_all-requires-clause-places
+end_all-requires-clause-places g c =
     let now = c.args.now in
     let ps : List TableEntry = c.self.inside.table in
     let after : List TableEntry = c.tell_due.new.table in
@@ -50,16 +49,12 @@ end_all-requires-clause-room g c =
     let over : flat_map (idle_end_in after) ids ≡ all_idle_told now (dialogues_of ps) =
     ap (flat_map (idle_end_in after)) are ∙ over-all now (idle_ids now ps) after ps c.tell_due.ensures.quiet.rest c.tell_due.ensures.ends ∙ ends-all now ps c.self.invariant.from in
     let ends = ap (λ (os : List Output). length os) over in
-    let empty : c.in_ok-outputs.outputs.items ≡ [] = search rules in
-    let told : all_shown c.tell_due.new.outputs.items ≡ all_told now (dialogues_of ps) = c.tell_due.ensures.told ∙ ap (λ xs. all_shown xs ++ all_told now (dialogues_of ps)) empty in
-    let lapses = ap (λ (os : List Output). length os) told in
-    let counted = length-map c.tell_due.new.outputs.items shown in
-    let small = c.in_ok-outputs.outputs.small in
-    let exact = c.in_ok-outputs.ensures.exact in
-    let same = c.tell_due.ensures.room in
+    let count = c.in_ok-reserve.ensures.count in
+    let within = c.in_ok-reserve.ensures.within.0 in
+    let places = c.tell_due.ensures.places in
     elim c.capacity_at-room.ensures.enough [
-      | inl enough ↦ omega (arith, enough, ends, lapses, counted, exact, same)
-      | inr most ↦ absurd (omega (arith, most, small, exact))
+      | inl enough ↦ omega (arith, enough, ends, count, places)
+      | inr most ↦ absurd (omega (arith, most, within))
     ]
 
 pub invariant_of-self : goal.invariant_of-self
@@ -81,10 +76,12 @@ returns-clause-moves g c =
     let are : c.deref.result.now ≡ idle_ids now ps = c.deref.ensures.value ∙ c.tell_due.ensures.idle in
     let over : flat_map (idle_end_in after) c.deref.result.now ≡ all_idle_told now (dialogues_of ps) =
     ap (flat_map (idle_end_in after)) are ∙ over-all now (idle_ids now ps) after ps c.tell_due.ensures.quiet.rest c.tell_due.ensures.ends ∙ ends-all now ps c.self.invariant.from in
-    let empty : c.in_ok-outputs.outputs.items ≡ [] = search rules in
-    let lapses : all_shown c.tell_due.new.outputs.items ≡ all_told now (dialogues_of ps) = c.tell_due.ensures.told ∙ ap (λ xs. all_shown xs ++ all_told now (dialogues_of ps)) empty in
-    let told : all_shown c.end_all.new.outputs.items ≡ all_told now (dialogues_of ps) ++ all_idle_told now (dialogues_of ps) =
-    c.end_all.ensures.told ∙ ap (λ os. os ++ flat_map (idle_end_in after) c.deref.result.now) lapses ∙ ap (λ os. all_told now (dialogues_of ps) ++ os) over in
+    let before = c.args.sink.now.outputs in
+    let lapses : c.tell_due.new.sink.outputs ≡ before ++ all_told now (dialogues_of ps) = c.tell_due.ensures.told ∙ ap (λ os. os ++ all_told now (dialogues_of ps)) c.reserve.ensures.same in
+    let all : c.end_all.new.sink.outputs ≡ before ++ (all_told now (dialogues_of ps) ++ all_idle_told now (dialogues_of ps)) =
+    c.end_all.ensures.told ∙ ap (λ os. os ++ flat_map (idle_end_in after) c.deref.result.now) lapses ∙ ap (λ os. (before ++ all_told now (dialogues_of ps)) ++ os) over
+    ∙ append_assoc before (all_told now (dialogues_of ps)) (all_idle_told now (dialogues_of ps)) in
+    let told = since-is before c.end_all.new.sink.outputs _ all in
     let left : c.end_all.new.table ≡ left_by now (idle_ids now ps) ps =
     c.end_all.ensures.table ∙ ap (λ l. without_all l after) are ∙ ap (without_all (idle_ids now ps)) (sym c.tell_due.ensures.quiet.rest) ∙ c.tell_due.ensures.left in
     let table : dialogues_of c.end_all.new.table ≡ filter_map (left_at now) (dialogues_of ps) = ap dialogues_of left ∙ left-all now ps c.self.invariant.from in
@@ -92,3 +89,12 @@ returns-clause-moves g c =
       ap Answer.outputs told ∙ ap (λ (w : World). (advanced w now).answer) c.self.view_is,
       ap whole table ∙ ap (λ (w : World). (advanced w now).after) c.self.view_is,
     )
+
+pub returns-clause-kept : goal.returns-clause-kept
+returns-clause-kept g c =
+    let now = c.args.now in
+    let ps : List TableEntry = c.self.inside.table in
+    let before = c.args.sink.now.outputs in
+    keeps before c.end_all.new.sink.outputs (all_told now (dialogues_of ps) ++ flat_map (idle_end_in c.tell_due.new.table) c.deref.result.now)
+    (c.end_all.ensures.told ∙ ap (λ os. os ++ flat_map (idle_end_in c.tell_due.new.table) c.deref.result.now) (c.tell_due.ensures.told ∙ ap (λ os. os ++ all_told now (dialogues_of ps)) c.reserve.ensures.same)
+    ∙ append_assoc before (all_told now (dialogues_of ps)) (flat_map (idle_end_in c.tell_due.new.table) c.deref.result.now))

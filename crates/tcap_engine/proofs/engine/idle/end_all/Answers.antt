@@ -1,9 +1,7 @@
 use Rattle.std.proofs.Common.{rules, arith, ◌≡◌, ◌+◌, ◌∙◌, ◌++◌, ap, sym, nat_eq, List, ℕ, [], drop, get_or, length, append_assoc, length-append}
-use Rattle.std.proofs.lemmas.List.{length-map}
 use Rattle.std.proofs.Math.ListN.{drop_of_length-le}
 use Rattle.std.specs.List.{flat_map}
 use Rattle.std.specs.Map.{remove_entry}
-use Rattle.tcap_primitives.specs.OutputViews.{all_shown, shown}
 use Rattle.tcap_engine.specs.IdleDialogues.{idle_end_in, without_all}
 use Rattle.tcap_engine.proofs.OverLemmas.{OverStep, over-step, none-without}
 use Rattle.tcap_engine.proofs.engine.idle.end_all.Goals as goal
@@ -15,24 +13,18 @@ loop-identifier-preserved g c =
     let inv = c.loop-identifier.invariant in
     let ps = c.loop-identifier.table in
     let new = c.end_one.new.table in
-    let before = all_shown c.loop-identifier.outputs.items in
+    let before = c.loop-identifier.sink.outputs in
     let d = get_or ids i 0 in
     let step : OverStep (drop i ids) (drop (i + 1) ids) d ps = over-step i ids ps c.loop-identifier-test.true inv.from inv.apart in
     let gone : new ≡ remove_entry (nat_eq d) ps = c.end_one.ensures.table in
     let rest = flat_map (idle_end_in new) (drop (i + 1) ids) in
-    let told : all_shown c.end_one.new.outputs.items ≡ before ++ idle_end_in ps d = c.end_one.ensures.told in
+    let told : c.end_one.new.sink.outputs ≡ before ++ idle_end_in ps d = c.end_one.ensures.told in
     let all : flat_map (idle_end_in ps) (drop i ids) ≡ idle_end_in ps d ++ rest = step.told ∙ ap (λ qs. idle_end_in ps d ++ flat_map (idle_end_in qs) (drop (i + 1) ids)) (sym gone) in
     let long = ap length all in
     let parts = length-append (idle_end_in ps d) rest in
-    let shown_length : length (all_shown c.end_one.new.outputs.items) ≡ length before + length (idle_end_in ps d) = ap length told ∙ length-append before (idle_end_in ps d) in
     record {
       told = ap (λ os. os ++ rest) told ∙ append_assoc before (idle_end_in ps d) rest ∙ ap (λ os. before ++ os) (sym all) ∙ inv.told;
-      room =
-          let inside = inv.room in
-          let whole = c.end_one.ensures.room in
-          let counted = length-map c.end_one.new.outputs.items shown in
-          let before_counted = length-map c.loop-identifier.outputs.items shown in
-          omega (arith, inside, whole, shown_length, long, parts, counted, before_counted);
+      room = omega (arith, inv.room, c.end_one.ensures.places, long, parts);
       left = ap (without_all (drop (i + 1) ids)) gone ∙ step.left ∙ inv.left;
       from = rw gone step.from;
       apart = step.apart;

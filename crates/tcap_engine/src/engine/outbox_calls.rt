@@ -1,0 +1,218 @@
+//! The calls whose outputs are appended to an outbox: each does what the call of its name without `_into` does.
+
+ghost use Rattle.std.specs.Prelude.{◌≡◌, option_copied, OnErr};
+ghost use Rattle.tcap_engine.specs.AnswerKinds.{AnswerKind, kind_of};
+ghost use Rattle.tcap_engine.specs.StepForm.{EngineAnswers, EngineReceives, since_answer};
+ghost use Rattle.tcap_engine.specs.HistoryForm.{Stands, StandsReceived};
+ghost use Rattle.tcap_model.specs.Table.EngineMove.{engine_move};
+ghost use Rattle.tcap_model.specs.Words.Event.{Event};
+ghost use Rattle.tcap_model.specs.Words.Request as model;
+ghost use Rattle.tcap_model.specs.Words.Request.{DialogueRequest};
+ghost use Rattle.tcap_primitives.specs.RequestViews.{ending_view, reason_view, request_view};
+ghost use Rattle.tcap_primitives.specs.SinkViews.{KeepsOutputs};
+
+use super::Engine;
+use super::request_answers::told;
+use ber_core::OutOfMemory;
+use std::alloc::Allocator;
+use std::mem;
+use tcap_dialogue::{
+    AbortRequest, AbortWhy, Address, BeginRequest, ContinueRequest, EndRequest, Ending, Fault,
+    Outbox, Request, Sink, UniRequest,
+};
+
+/// In all of these what was in the outbox before stays, and where a call is refused nothing is appended, and the
+/// engine is as it was. An outbox that has room takes no memory.
+impl<A: Allocator + Copy> Engine<A> {
+    /// `receive`, into an outbox.
+    pub fn receive_into(
+        &mut self,
+        from: &Address,
+        bytes: &[u8],
+        outbox: &mut Outbox<A>,
+    ) -> Result<(), OutOfMemory>
+        ensures moves { EngineReceives (since_answer outbox.old.outputs outbox.new.outputs) result
+            (engine_move self.old (Event.received from.now bytes.now)) self.old self.new }
+        ensures kept { KeepsOutputs outbox.old.outputs outbox.new.outputs }
+        ensures still { OnErr result (outbox.new.outputs ≡ outbox.old.outputs) }
+        // Whatever legal history the engine stood at: the reply, and the history that it stands at then.
+        ensures stands { StandsReceived (since_answer outbox.old.outputs outbox.new.outputs) result
+            (Event.received from.now bytes.now) self.old self.new }
+    {
+        let alloc = self.table.allocator();
+        let mut sink = Sink::outbox(alloc, mem::replace(outbox, Outbox::new(alloc)));
+        let received = self.receive_with(from, bytes, &mut sink);
+        *outbox = sink.into_outbox();
+        received
+    }
+
+    /// `advance`, into an outbox.
+    pub fn advance_into(&mut self, now: u64, outbox: &mut Outbox<A>) -> Result<(), Fault>
+        ensures moves { EngineAnswers (since_answer outbox.old.outputs outbox.new.outputs) result
+            (engine_move self.old (Event.moment now)) self.old self.new }
+        ensures kept { KeepsOutputs outbox.old.outputs outbox.new.outputs }
+        ensures still { OnErr result (outbox.new.outputs ≡ outbox.old.outputs) }
+        ensures err { OnErr result (self.new ≡ self.old) }
+        ensures stands { Stands (since_answer outbox.old.outputs outbox.new.outputs) result (Event.moment now)
+            self.old self.new }
+    {
+        let alloc = self.table.allocator();
+        let mut sink = Sink::outbox(alloc, mem::replace(outbox, Outbox::new(alloc)));
+        let advanced = self.advance_with(now, &mut sink);
+        *outbox = sink.into_outbox();
+        advanced
+    }
+
+    /// `uni`, into an outbox.
+    pub fn uni_into(
+        &mut self,
+        dialogue: u32,
+        to: &Address,
+        context: Option<&[u8]>,
+        info: &[u8],
+        outbox: &mut Outbox<A>,
+    ) -> Result<(), Fault>
+        ensures moves { EngineAnswers (since_answer outbox.old.outputs outbox.new.outputs) result
+            (engine_move self.old (Event.on_dialogue dialogue (model.Request.dialogue
+            (DialogueRequest.uni to.now (option_copied context.entry) info.now)))) self.old self.new }
+        ensures kept { KeepsOutputs outbox.old.outputs outbox.new.outputs }
+        ensures still { OnErr result (outbox.new.outputs ≡ outbox.old.outputs) }
+        ensures err { OnErr result (self.new ≡ self.old) }
+        ensures stands { Stands (since_answer outbox.old.outputs outbox.new.outputs) result
+            (Event.on_dialogue dialogue (model.Request.dialogue
+            (DialogueRequest.uni to.now (option_copied context.entry) info.now))) self.old self.new }
+    {
+        self.request_into(
+            dialogue,
+            &Request::Uni(UniRequest { to, context, info }),
+            outbox,
+        )
+    }
+
+    /// `begin`, into an outbox.
+    pub fn begin_into(
+        &mut self,
+        dialogue: u32,
+        to: &Address,
+        context: Option<&[u8]>,
+        info: &[u8],
+        outbox: &mut Outbox<A>,
+    ) -> Result<(), Fault>
+        ensures moves { EngineAnswers (since_answer outbox.old.outputs outbox.new.outputs) result
+            (engine_move self.old (Event.on_dialogue dialogue (model.Request.dialogue
+            (DialogueRequest.begin to.now (option_copied context.entry) info.now)))) self.old self.new }
+        ensures kept { KeepsOutputs outbox.old.outputs outbox.new.outputs }
+        ensures still { OnErr result (outbox.new.outputs ≡ outbox.old.outputs) }
+        ensures err { OnErr result (self.new ≡ self.old) }
+        ensures stands { Stands (since_answer outbox.old.outputs outbox.new.outputs) result
+            (Event.on_dialogue dialogue (model.Request.dialogue
+            (DialogueRequest.begin to.now (option_copied context.entry) info.now))) self.old self.new }
+    {
+        self.request_into(
+            dialogue,
+            &Request::Begin(BeginRequest { to, context, info }),
+            outbox,
+        )
+    }
+
+    /// `go_on`, into an outbox.
+    pub fn go_on_into(
+        &mut self,
+        dialogue: u32,
+        context: Option<&[u8]>,
+        info: &[u8],
+        outbox: &mut Outbox<A>,
+    ) -> Result<(), Fault>
+        ensures moves { EngineAnswers (since_answer outbox.old.outputs outbox.new.outputs) result
+            (engine_move self.old (Event.on_dialogue dialogue (model.Request.dialogue
+            (DialogueRequest.go_on (option_copied context.entry) info.now)))) self.old self.new }
+        ensures kept { KeepsOutputs outbox.old.outputs outbox.new.outputs }
+        ensures still { OnErr result (outbox.new.outputs ≡ outbox.old.outputs) }
+        ensures err { OnErr result (self.new ≡ self.old) }
+        ensures stands { Stands (since_answer outbox.old.outputs outbox.new.outputs) result
+            (Event.on_dialogue dialogue (model.Request.dialogue
+            (DialogueRequest.go_on (option_copied context.entry) info.now))) self.old self.new }
+    {
+        self.request_into(
+            dialogue,
+            &Request::Continue(ContinueRequest { context, info }),
+            outbox,
+        )
+    }
+
+    /// `finish`, into an outbox.
+    pub fn finish_into(
+        &mut self,
+        dialogue: u32,
+        ending: Ending,
+        context: Option<&[u8]>,
+        info: &[u8],
+        outbox: &mut Outbox<A>,
+    ) -> Result<(), Fault>
+        ensures moves { EngineAnswers (since_answer outbox.old.outputs outbox.new.outputs) result
+            (engine_move self.old (Event.on_dialogue dialogue (model.Request.dialogue
+            (DialogueRequest.finish (ending_view ending) (option_copied context.entry) info.now)))) self.old self.new }
+        ensures kept { KeepsOutputs outbox.old.outputs outbox.new.outputs }
+        ensures still { OnErr result (outbox.new.outputs ≡ outbox.old.outputs) }
+        ensures err { OnErr result (self.new ≡ self.old) }
+        ensures stands { Stands (since_answer outbox.old.outputs outbox.new.outputs) result
+            (Event.on_dialogue dialogue (model.Request.dialogue
+            (DialogueRequest.finish (ending_view ending) (option_copied context.entry) info.now))) self.old self.new }
+    {
+        let end = EndRequest {
+            ending,
+            context,
+            info,
+        };
+        self.request_into(dialogue, &Request::End(end), outbox)
+    }
+
+    /// `u_abort`, into an outbox.
+    pub fn u_abort_into(
+        &mut self,
+        dialogue: u32,
+        why: AbortWhy,
+        info: &[u8],
+        outbox: &mut Outbox<A>,
+    ) -> Result<(), Fault>
+        ensures moves { EngineAnswers (since_answer outbox.old.outputs outbox.new.outputs) result
+            (engine_move self.old (Event.on_dialogue dialogue
+            (model.Request.dialogue (DialogueRequest.u_abort (reason_view why) info.now)))) self.old self.new }
+        ensures kept { KeepsOutputs outbox.old.outputs outbox.new.outputs }
+        ensures still { OnErr result (outbox.new.outputs ≡ outbox.old.outputs) }
+        ensures err { OnErr result (self.new ≡ self.old) }
+        ensures stands { Stands (since_answer outbox.old.outputs outbox.new.outputs) result
+            (Event.on_dialogue dialogue (model.Request.dialogue (DialogueRequest.u_abort (reason_view why) info.now)))
+            self.old self.new }
+    {
+        self.request_into(
+            dialogue,
+            &Request::Abort(AbortRequest { why, info }),
+            outbox,
+        )
+    }
+
+    /// A request of dialogue handling, into an outbox.
+    #[inline(always)]
+    fn request_into(
+        &mut self,
+        dialogue: u32,
+        request: &Request<'_>,
+        outbox: &mut Outbox<A>,
+    ) -> Result<(), Fault>
+        requires { kind_of (request_view request.now) ≡ AnswerKind.outputs }
+        ensures moves { EngineAnswers (since_answer outbox.old.outputs outbox.new.outputs) result
+            (engine_move self.old (Event.on_dialogue dialogue (request_view request.now))) self.old self.new }
+        ensures kept { KeepsOutputs outbox.old.outputs outbox.new.outputs }
+        ensures still { OnErr result (outbox.new.outputs ≡ outbox.old.outputs) }
+        ensures err { OnErr result (self.new ≡ self.old) }
+        ensures stands { Stands (since_answer outbox.old.outputs outbox.new.outputs) result
+            (Event.on_dialogue dialogue (request_view request.now)) self.old self.new }
+    {
+        let alloc = self.table.allocator();
+        let mut sink = Sink::outbox(alloc, mem::replace(outbox, Outbox::new(alloc)));
+        let accepted = self.request_with(dialogue, request, &mut sink);
+        *outbox = sink.into_outbox();
+        told(accepted)
+    }
+}
