@@ -1,2 +1,3 @@
 pub mod BothLemmas
+pub mod OutboxCalls
 pub mod TwoCalls

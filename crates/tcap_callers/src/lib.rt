@@ -5,8 +5,10 @@
 
 mod engine_callers;
 mod operation;
+mod outbox_callers;
 mod two_engines;
 
 pub use engine_callers::{clock_after, hear_at};
 pub use operation::{first_operation, local_number};
+pub use outbox_callers::hear_again;
 pub use two_engines::operate;

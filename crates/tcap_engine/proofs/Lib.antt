@@ -30,3 +30,4 @@ pub mod TableLemmas
 pub mod TimedLemmas
 pub mod TimerLemmas
 pub mod TwoEndsLemmas
+pub mod VectorLemmas

@@ -21,7 +21,7 @@ use Rattle.tcap_model.specs.Words.Address.{Address}
 use Rattle.tcap_model.specs.Words.Answer.{Answer}
 use Rattle.tcap_model.specs.Words.Output.{Output}
 use Rattle.tcap_pdu.specs.FrameSpelling.{Message}
-use Rattle.tcap_primitives.proofs.SinkLemmas.{keeps, since-is}
+use Rattle.tcap_primitives.proofs.SinkLemmas as sink
 use Rattle.tcap_primitives.specs.SinkViews.{KeepsOutputs, told_since}
 
 -- ---- a message draws no number
@@ -131,7 +131,7 @@ module _ (limits : Limits) (next_dialogue number clock d : ℕ) (ps : List Table
       let told = told_since (before ++ sent) after in
       let all : after ≡ before ++ (sent ++ told) = kept ∙ append_assoc before sent told in
       let m = reached-sending (λ (x : T). told) sent (Ok t) qs h in
-      (keeps before after (sent ++ told) all, (ap Answer.outputs (since-is before after (sent ++ told) all) ∙ m.0, m.1))
+      (sink.keeps before after (sent ++ told) all, (ap Answer.outputs (sink.since-is before after (sent ++ told) all) ∙ m.0, m.1))
 
   -- The same where nothing is sent first.
   pub receives-told : {T : Type 0} (before after : List Output) (result : Result T OutOfMemory) (qs : List TableEntry)

@@ -1,5 +1,5 @@
 -- From the engine's move to any history at which the engine stands.
-use Rattle.std.proofs.Common.{sym, subst, ◌∙◌, Result, Ok, Err}
+use Rattle.std.proofs.Common.{List, sym, subst, ◌∙◌, Result, Ok, Err}
 use Rattle.ber_core.specs.declared.fault.OutOfMemory.{OutOfMemory}
 use Rattle.tcap_primitives.specs.declared.fault.Fault.{Fault}
 use Rattle.tcap_primitives.specs.FaultViews.{fault_view}
@@ -7,13 +7,16 @@ use Rattle.tcap_laws.proofs.CallerLemmas.{moves-alike, closings_are, outcome_tol
 use Rattle.tcap_model.specs.Histories.History.{History}
 use Rattle.tcap_model.specs.Replies.Legal.{IsLegal}
 use Rattle.tcap_model.specs.Statements.EngineMoves.{MovesAlike, with_pair}
-use Rattle.tcap_model.specs.Table.EngineMove.{engine_move}
+use Rattle.tcap_model.specs.Table.EngineMove.{EngineMoved, engine_move}
 use Rattle.tcap_model.specs.Table.World.{World, StandsAt}
 use Rattle.tcap_model.specs.Words.Answer.{Answer}
 use Rattle.tcap_model.specs.Words.Event.{Event}
 use Rattle.tcap_model.specs.Words.Fault as model
 use Rattle.tcap_model.specs.Words.InRange.{InRange}
-use Rattle.tcap_engine.specs.StepForm.{Moves, EngineRefuses, EngineAnswers, EngineReceives}
+use Rattle.tcap_model.specs.Words.Output.{Output}
+use Rattle.tcap_primitives.proofs.SinkLemmas.{keeps-same}
+use Rattle.tcap_primitives.specs.SinkViews.{KeepsOutputs}
+use Rattle.tcap_engine.specs.StepForm.{Moves, EngineRefuses, EngineAnswers, EngineReceives, ReceivesInto, since_answer}
 use Rattle.tcap_engine.specs.HistoryForm.{Headline, StandsOn, StandsRefused, Stands, StandsReceived}
 
 -- The headline holds at every legal history.
@@ -66,3 +69,15 @@ pub stands_heard : {T : Type 0} → (view : T → Answer) (result : Result T Out
     → EngineReceives view result (engine_move old event) old new → StandsReceived view result event old new
 stands_heard view (Ok x) event old new within hears = λ h at. moved h event old new (view x) within at hears
 stands_heard view (Err refused) event old new within hears = λ h at. subst (StandsAt h) (sym hears) at
+
+-- The same of bytes whose outputs are appended.
+pub stands_into : {T : Type 0} → (before after : List Output) (result : Result T OutOfMemory) (event : Event) (old new : World) → InRange event
+    → ReceivesInto before after result (engine_move old event) old new → StandsReceived (since_answer before after) result event old new
+stands_into before after (Ok x) event old new within heard = stands_heard (since_answer before after) (Ok x) event old new within heard.1
+stands_into before after (Err refused) event old new within heard = stands_heard (since_answer before after) (Err refused) event old new within heard.1
+
+-- What was there before stays.
+pub kept_into : {T : Type 0} → (before after : List Output) (result : Result T OutOfMemory) (m : EngineMoved) (old new : World)
+    → ReceivesInto before after result m old new → KeepsOutputs before after
+kept_into before after (Ok x) m old new heard = heard.0
+kept_into before after (Err refused) m old new heard = keeps-same before after heard.0

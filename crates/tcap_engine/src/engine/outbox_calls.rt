@@ -25,6 +25,7 @@ use tcap_dialogue::{
 /// engine is as it was. An outbox that has room takes no memory.
 impl<A: Allocator + Copy> Engine<A> {
     /// `receive`, into an outbox.
+    #[tactic(auto, using(crate::proofs::StandingLemmas::kept_into))]
     pub fn receive_into(
         &mut self,
         from: &Address,

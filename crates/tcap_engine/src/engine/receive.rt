@@ -46,7 +46,7 @@ impl<A: Allocator + Copy> Engine<A> {
     }
 
     /// `receive`, whose outputs are appended to what a sink holds.
-    #[tactic(auto, using(crate::proofs::StandingLemmas::stands_heard))]
+    #[tactic(auto, using(crate::proofs::StandingLemmas::stands_into))]
     pub(super) fn receive_with<'m, K: SinkKind>(
         &mut self,
         from: &Address,

@@ -13,7 +13,7 @@ ghost use Rattle.tcap_model.specs.Histories.History.{History};
 ghost use Rattle.tcap_model.specs.Table.EngineMove.{EngineMoved};
 ghost use Rattle.tcap_model.specs.Table.World.{World};
 ghost use Rattle.tcap_model.specs.Words.Event.{Event};
-ghost use Rattle.tcap_model.specs.Words.Output.{Output};
+ghost use Rattle.tcap_model.specs.Words.Output as model;
 ghost use Rattle.tcap_primitives.specs.SinkViews.{KeepsOutputs, told_since};
 
 use std::alloc::Allocator;
@@ -94,17 +94,17 @@ pub(super) fn outputs_of<'m, A: Allocator + Copy>(
 /// What is sent and told was appended.
 #[inline(always)]
 pub(super) fn told(accepted: Result<Accepted, Fault>) -> Result<(), Fault>
-    requires { IfOk accepted (λ a. (told : List Output) → MayAnswer AnswerKind.outputs (accepted_answer told a)) }
-    ensures moves { (before after : List Output) (m : EngineMoved) (old new : World)
+    requires { IfOk accepted (λ a. (told : List model.Output) → MayAnswer AnswerKind.outputs (accepted_answer told a)) }
+    ensures moves { (before after : List model.Output) (m : EngineMoved) (old new : World)
         → EngineAnswers (accepted_answer (told_since before after)) accepted m old new
         → EngineAnswers (since_answer before after) result m old new }
-    ensures stands { (before after : List Output) (h : History) (event : Event) (new : World)
+    ensures stands { (before after : List model.Output) (h : History) (event : Event) (new : World)
         → StandsAfter (accepted_answer (told_since before after)) accepted h event new
         → StandsAfter (since_answer before after) result h event new }
-    ensures kept { (before after : List Output) → IfOk accepted (λ a. Appends a before after)
+    ensures kept { (before after : List model.Output) → IfOk accepted (λ a. Appends a before after)
         → OnErr accepted (after ≡ before) → KeepsOutputs before after }
     ensures err { (old new : World) → OnErr accepted (new ≡ old) → OnErr result (new ≡ old) }
-    ensures still { (before after : List Output) → OnErr accepted (after ≡ before) → OnErr result (after ≡ before) }
+    ensures still { (before after : List model.Output) → OnErr accepted (after ≡ before) → OnErr result (after ≡ before) }
 {
     accepted?;
     Ok(())

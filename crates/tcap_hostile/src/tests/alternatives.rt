@@ -17,7 +17,7 @@ use ber_core::is_oid;
 use std::alloc::Global;
 use std::fmt::Debug;
 use tcap_component::{Component, write_component};
-use tcap_dialogue::{BeginVerdict, Dialogue, Spares, judge_begin};
+use tcap_dialogue::{BeginVerdict, Dialogue, Sink, Spares, judge_begin};
 use tcap_pdu::{
     AbortPart, DialoguePdu, Frame, PduFault, TransId, is_user_information, read_frame,
     write_dialogue, write_frame,
@@ -25,7 +25,7 @@ use tcap_pdu::{
 use tcap_primitives::{MessageParts, Queue, Sending, begin_pdu, uni_pdu};
 
 /// Whether both print the same for debugging.
-fn are_alike<T: Debug, U: Debug>(alloc: Global, one: &T, other: &U) -> Option<bool> {
+pub(super) fn are_alike<T: Debug, U: Debug>(alloc: Global, one: &T, other: &U) -> Option<bool> {
     let one = format!(in alloc; "{one:?}").ok()?;
     let other = format!(in alloc; "{other:?}").ok()?;
     Some(one.as_str() == other.as_str())
@@ -51,9 +51,11 @@ fn add_accepted(
     };
     let mut other = Dialogue::fresh(alloc, 1, 1000, 0);
     let mut spares = Spares::new(alloc);
-    let heard = other
-        .receive_begin_with(&mut spares, &from, otid, aarq, components, 0)
+    let mut sink = Sink::vector(alloc);
+    other
+        .receive_begin_with(&mut spares, &from, otid, aarq, components, 0, &mut sink)
         .ok()?;
+    let heard = sink.into_vector();
     if !are_alike(alloc, &dialogue, &other)? || !are_alike(alloc, &outputs, &heard)? {
         return None;
     }

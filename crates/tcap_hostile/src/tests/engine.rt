@@ -154,7 +154,7 @@ fn receive<A: Allocator + Copy>(
 }
 
 /// What an engine tells of an event.
-fn take<A: Allocator + Copy>(
+pub(super) fn take<A: Allocator + Copy>(
     alloc: Global,
     engine: &mut Engine<A>,
     event: Event<'_>,

@@ -38,6 +38,8 @@ fn behind_title(part: &str) -> Option<&str> {
 enum Way {
     /// Line by line, also with the first growth of each call refused.
     Told,
+    /// The same, of an engine that is called with an outbox.
+    Appended,
     /// Its events by `run`.
     Handed,
 }
@@ -51,9 +53,10 @@ fn growths_by(alloc: Global, heap: Heap<'_>, way: Way, example: &str) -> Option<
         alloc,
         heap,
         refusal: Refusal::FirstOfEachCall,
+        has_outbox: matches!(way, Way::Appended),
     };
     play(player, example)?;
-    growths(alloc, heap, example)
+    growths(player, example)
 }
 
 /// Plays the examples of a text, or tells the first that doesn't come out as it stands.
@@ -104,6 +107,18 @@ fn examples_with_each_growth_refused(rt: HostRuntime) -> Result<(), Fail> {
     let Total { examples, growths } = total_of(alloc, Way::Told, texts.as_slice())?;
     assert!(rt;
         examples == 98 && growths > 900,
+        "{examples} examples, {growths} growths"
+    );
+    Ok(())
+}
+
+#[test]
+fn outboxes_with_each_growth_refused(rt: HostRuntime) -> Result<(), Fail> {
+    let alloc = rt.alloc();
+    let texts = [MESSAGES, OUTCOMES, REQUESTS, IDLE, ADDRESSES];
+    let Total { examples, growths } = total_of(alloc, Way::Appended, texts.as_slice())?;
+    assert!(rt;
+        examples == 53 && growths > 400,
         "{examples} examples, {growths} growths"
     );
     Ok(())

@@ -21,6 +21,8 @@ pub(super) struct Player<'h> {
     pub(super) alloc: Global,
     pub(super) heap: Heap<'h>,
     pub(super) refusal: Refusal,
+    /// Whether an engine is called with an outbox.
+    pub(super) has_outbox: bool,
 }
 
 /// Tells a line: how it was taken, and whether memory was refused.
@@ -76,29 +78,31 @@ impl Unanswered {
 }
 
 /// Whether a growth may be refused here with no answer: an engine makes places for the memory that a dialogue leaves
-/// whose queue this call sends, or which it ends. The first growth of a call is of its outputs or its message, but in
-/// a prearranged end.
+/// whose queue this call sends, or which it ends. The first growth of a call without an outbox is of its outputs or its
+/// message, but in a prearranged end.
 fn may_leave_memory(player: Player<'_>, subject: &Subject<'_>, words: &[Word<'_>]) -> bool {
-    if !matches!(subject, Subject::Engine(_)) {
-        return false;
-    }
     let word = text(words, 0);
-    match player.refusal {
-        Refusal::AsTold => matches!(
-            word,
-            "raw"
-                | "rawfrom"
-                | "uni"
-                | "unito"
-                | "begin"
-                | "beginto"
-                | "continue"
-                | "end"
-                | "prearranged"
-                | "abort"
-        ),
-        Refusal::FirstOfEachCall => word == "prearranged",
+    let is_first_of_outputs = match subject {
+        Subject::Engine(_) => matches!(player.refusal, Refusal::FirstOfEachCall),
+        Subject::Station(_) => false,
+        _ => return false,
+    };
+    if is_first_of_outputs {
+        return word == "prearranged";
     }
+    matches!(
+        word,
+        "raw"
+            | "rawfrom"
+            | "uni"
+            | "unito"
+            | "begin"
+            | "beginto"
+            | "continue"
+            | "end"
+            | "prearranged"
+            | "abort"
+    )
 }
 
 /// Tells a line to a subject that printed this before, and again where memory was refused, and counts how often
@@ -173,7 +177,12 @@ fn add_played_to(
     example: &str,
     told: &mut String,
 ) -> Option<u64> {
-    let mut subject = Subject::new(player.heap, first);
+    let subject = Subject::new(player.heap, first);
+    let mut subject = if player.has_outbox {
+        subject.with_outbox(player.heap)
+    } else {
+        subject
+    };
     tell_lines(player, &mut subject, example, told)
 }
 
@@ -197,11 +206,11 @@ pub(super) fn play(player: Player<'_>, example: &str) -> Option<u64> {
 
 /// How many growths an example has, where each of them that is refused in turn is answered by want of memory, once,
 /// but for those of places, and leaves all other answers those of the example.
-pub(super) fn growths(alloc: Global, heap: Heap<'_>, example: &str) -> Option<u64> {
+pub(super) fn growths(player: Player<'_>, example: &str) -> Option<u64> {
+    let heap = player.heap;
     let player = Player {
-        alloc,
-        heap,
         refusal: Refusal::AsTold,
+        ..player
     };
     let mut unanswered = Unanswered::default();
     for number in 1..1_000u64 {

@@ -1,12 +1,13 @@
 //! What an example's lines are told to.
 
 use super::words::{Word, number, text};
-use super::{alternatives, codec, dialogue, engine, invocations};
+use super::outbox::Station;
+use super::{alternatives, codec, dialogue, engine, invocations, outbox};
 use ber_core::Feed;
 use refusing::Refusing;
 use std::alloc::Global;
 use tcap_dialogue::Dialogue;
-use tcap_engine::Engine;
+use tcap_engine::{Engine, Outbox};
 use tcap_invocation::Invocations;
 
 /// The memory of a subject.
@@ -30,6 +31,8 @@ pub(super) enum Subject<'h> {
     /// idle for 500 milliseconds; `engine from DIALOGUE NUMBER`, by its counters. It waits 1,000 milliseconds
     /// for a Reject.
     Engine(Engine<Heap<'h>>),
+    /// `engine` too, where it is called with an outbox.
+    Station(Station<'h>),
     /// `dialogue`, of the identifier 1.
     Dialogue(Dialogue<Heap<'h>>),
     /// `invocations`, which wait 1,000 milliseconds for a Reject.
@@ -83,6 +86,17 @@ impl<'h> Subject<'h> {
         }
     }
 
+    /// The same, where an engine is called with an outbox.
+    pub(super) fn with_outbox(self, heap: Heap<'h>) -> Subject<'h> {
+        match self {
+            Subject::Engine(engine) => Subject::Station(Station {
+                engine,
+                outbox: Outbox::new(heap),
+            }),
+            other => other,
+        }
+    }
+
     /// Tells it a line, and adds the lines of its answer; nothing where it doesn't know the line, or
     /// where memory for the lines is refused.
     pub(super) fn tell(
@@ -94,6 +108,7 @@ impl<'h> Subject<'h> {
     ) -> Option<Told> {
         match self {
             Subject::Engine(engine) => engine::tell(alloc, engine, words, told),
+            Subject::Station(station) => outbox::tell(alloc, station, words, told),
             Subject::Dialogue(dialogue) => dialogue::tell(alloc, heap, dialogue, words, told),
             Subject::Invocations(list) => invocations::tell(list, words, told),
             Subject::Feed(feed) => codec::push(alloc, feed, words, told),

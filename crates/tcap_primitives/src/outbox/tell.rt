@@ -47,7 +47,9 @@ impl<A: Allocator + Copy> Outbox<A> {
     }
 
     /// Writes a message that goes to this address; there is a place for it.
-    #[inline(always)]
+    // Called: inlined it made each sender so large that the toolchain inlined none of them where the message is known,
+    // which took 110 instructions a step of the calls with a vector, and saved those with an outbox none.
+    #[inline(never)]
     pub(crate) fn send(&mut self, to: &[u8], message: &Outgoing<'_>) -> Result<(), AllocError>
         requires to { length to.now ≤ 255 }
         requires place { 1 ≤ self.old.places }

@@ -1,8 +1,9 @@
 //! The worked callers, run.
 
 use std::test::Fail;
-use tcap_callers::{clock_after, first_operation, hear_at, operate};
-use tcap_engine::{Address, DropWhy, Engine, Fault, Limits, Output};
+use std::alloc::Global;
+use tcap_callers::{clock_after, first_operation, hear_again, hear_at, operate};
+use tcap_engine::{Address, DropWhy, Engine, Fault, Indication, Limits, Outbox, Output, OutputRef};
 
 #[test]
 fn operations_of_messages(rt: HostRuntime) -> Result<(), Fail> {
@@ -36,6 +37,15 @@ fn hears_nothing(engine: &mut Engine, from: &Address) -> Option<bool> {
     Some(is_dropped && lapsed.ok()?.is_empty())
 }
 
+/// Whether no bytes are dropped, twice, and only the second is told of then.
+fn hears_nothing_again(alloc: Global, engine: &mut Engine, from: &Address) -> Option<bool> {
+    let mut outbox = Outbox::new(alloc);
+    hear_again(engine, from, &[], &mut outbox).ok()?;
+    hear_again(engine, from, &[], &mut outbox).ok()?;
+    let dropped = OutputRef::Indication(Indication::Dropped(DropWhy::BadMessage));
+    Some(outbox.len() == 1 && outbox.get(0) == Some(dropped))
+}
+
 #[test]
 fn clocks_and_histories_of_an_engine(rt: HostRuntime) -> Result<(), Fail> {
     let limits = Limits {
@@ -47,6 +57,7 @@ fn clocks_and_histories_of_an_engine(rt: HostRuntime) -> Result<(), Fail> {
     assert!(rt; has_clocks(&mut engine));
     let from = Address::new(&[0x01]).ok_or("one octet")?;
     assert!(rt; hears_nothing(&mut engine, &from) == Some(true));
+    assert!(rt; hears_nothing_again(rt.alloc(), &mut engine, &from) == Some(true));
     assert!(rt; engine.now() == 7);
     Ok(())
 }

@@ -16,7 +16,7 @@ keep-requires-clause-within g c =
     let m : Moved = born (at_clock s.clock) s.next_dialogue s.limits.reject_ms s.limits.idle_ms c.args.from.now c.args.origin.now context info c.args.components.now in
     let new : c.receive_begin_with.new.self ≡ m.after =
     begun-is s.clock _ s.next_dialogue s.limits.reject_ms s.limits.idle_ms c.args.from.now c.args.origin.now context info c.args.components.now c.fresh-dialogue.result c.receive_begin_with.new.self
-    _ (ap (λ e. e.clock) c.self-inside.view_is) fresh c.receive_begin_with.ensures.ok.1 in
+    _ (ap (λ e. e.clock) c.self-inside.view_is) fresh c.in_ok-receive_begin_with.ensures.ok.1 in
     let kept = kept_born (at_clock s.clock) s.next_dialogue s.limits.reject_ms s.limits.idle_ms s.next_number c.args.from.now c.args.origin.now context info c.args.components.now in
     let within : IsWithin s.limits.reject_ms s.next_number c.receive_begin_with.new.self = rw new kept.1 in
     rw (sym c.self-inside.view_is) at within
@@ -30,5 +30,5 @@ keep-requires-clause-untimed g c =
     let m : Moved = born (at_clock s.clock) s.next_dialogue s.limits.reject_ms s.limits.idle_ms c.args.from.now c.args.origin.now context info c.args.components.now in
     let new : c.receive_begin_with.new.self ≡ m.after =
     begun-is s.clock _ s.next_dialogue s.limits.reject_ms s.limits.idle_ms c.args.from.now c.args.origin.now context info c.args.components.now c.fresh-dialogue.result c.receive_begin_with.new.self
-    _ (ap (λ e. e.clock) c.self-inside.view_is) fresh c.receive_begin_with.ensures.ok.1 in
+    _ (ap (λ e. e.clock) c.self-inside.view_is) fresh c.in_ok-receive_begin_with.ensures.ok.1 in
     rw new (untimed_born (at_clock s.clock) s.next_dialogue s.limits.reject_ms s.limits.idle_ms c.args.from.now c.args.origin.now context info c.args.components.now)

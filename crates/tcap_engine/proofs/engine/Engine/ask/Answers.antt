@@ -15,7 +15,7 @@ ask_in-requires-clause-within g c = found-fit c.args.dialogue c.self.inside.limi
 pub invariant_of-self : goal.invariant_of-self
 invariant_of-self g c =
     let s = c.self.inside in
-    sound-err s.limits s.next_dialogue s.next_number s.clock c.args.dialogue s.table (request_view c.args.request.now) c.self.invariant _ (accepted_answer (told_since c.args.sink.now.outputs c.ask_in.new.sink.outputs)) c.in_err-accepted.field-0.0 c.ask_in.new.table c.in_err-accepted.ensures
+    sound-err s.limits s.next_dialogue s.next_number s.clock c.args.dialogue s.table (request_view c.args.request.now) c.self.invariant _ (accepted_answer (told_since c.args.sink.now.outputs c.ask_in.new.sink.outputs)) c.in_err-accepted.field-0.0 c.ask_in.new.table c.in_err-accepted.ensures.answer
 
 pub returns-in_err-accepted-clause-moves : goal.returns-in_err-accepted-clause-moves
 returns-in_err-accepted-clause-moves g c =

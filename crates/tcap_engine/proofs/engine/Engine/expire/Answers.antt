@@ -31,7 +31,7 @@ returns-in_err-idle-clause-moves g c =
     let told : IsTrue (takes_memory (advanced c.args.self.now now).answer) =
     rw (sym c.self.view_is) (takes-some (all_told now (dialogues_of ps) ++ all_idle_told now (dialogues_of ps))
     (is-long (all_told now (dialogues_of ps)) (all_idle_told now (dialogues_of ps)) (omega (arith, ends)))) in
-    let p = err_from_is_err_and c.from_residual-in_err-idle.result c.from_residual-in_err-idle.ensures.1 in
+    let p = err_from_is_err_and c.from_residual.result c.from_residual.ensures.1 in
     rw (p.1, p.2) (refl, told)
 
 pub end_all-requires-clause-apart : goal.end_all-requires-clause-apart

@@ -34,7 +34,7 @@ returns-in_err-take_faulty-clause-reached g c =
 pub invariant_of-table-2 : goal.invariant_of-table-2
 invariant_of-table-2 g c =
     let new = c.take_faulty.new.self in
-    rw (c.settle.ensures.rows, (c.get_mut.follows.holds new).rows, c.next_timer-timer.ensures) (timed-settled true c.args.identifier new c.table.inside.rows c.table.invariant)
+    rw (c.settle.ensures.rows, (c.get_mut.follows.holds new).rows) (timed-settled true c.args.identifier new c.table.inside.rows c.table.invariant)
 
 pub returns-clause-reached : goal.returns-clause-reached
 returns-clause-reached g c =
@@ -44,5 +44,8 @@ returns-clause-reached g c =
     let found : lookup (nat_eq c.args.identifier) ps ≡ Some old = search rules in
     let o : Outcome = outcome (table_move (at_clock 0) old (DialogueEvent.fault (fault_cause c.args.fault))) in
     rw (← c.table.view_is, found)
-    (settled-placed (told_since (c.args.sink.now.outputs ++ sent_if_any c.args.from.now (fault_abort c.args.fault c.args.origin)) c.take_faulty.new.sink.outputs) new c.args.identifier ps true (accepted.Step true) o (entries_of c.settle.new.rows) (c.take_faulty.ensures.ok (at_clock 0)).1 refl
+    (settled-placed (told_since (c.args.sink.now.outputs ++ sent_if_any c.args.from.now (fault_abort c.args.fault c.args.origin)) c.take_faulty.new.sink.outputs) new c.args.identifier ps true (accepted.Step true) o (entries_of c.settle.new.rows) (c.in_ok-take_faulty.ensures.ok (at_clock 0)).1 refl
     (rw (c.get_mut.follows.holds new).entries at c.settle.ensures.entries))
+
+pub returns-clause-kept : goal.returns-clause-kept
+returns-clause-kept g c = (c.in_ok-take_faulty.ensures.ok (at_clock 0)).0
