@@ -73,8 +73,8 @@ stands_heard view (Err refused) event old new within hears = λ h at. subst (Sta
 -- The same of bytes whose outputs are appended.
 pub stands_into : {T : Type 0} → (before after : List Output) (result : Result T OutOfMemory) (event : Event) (old new : World) → InRange event
     → ReceivesInto before after result (engine_move old event) old new → StandsReceived (since_answer before after) result event old new
-stands_into before after (Ok x) event old new within heard = stands_heard (since_answer before after) (Ok x) event old new within heard.1
-stands_into before after (Err refused) event old new within heard = stands_heard (since_answer before after) (Err refused) event old new within heard.1
+stands_into {T} before after (Ok x) event old new within heard = stands_heard {T = T} (since_answer before after) (Ok x) event old new within heard.1
+stands_into {T} before after (Err refused) event old new within heard = stands_heard {T = T} (since_answer before after) (Err refused) event old new within heard.1
 
 -- What was there before stays.
 pub kept_into : {T : Type 0} → (before after : List Output) (result : Result T OutOfMemory) (m : EngineMoved) (old new : World)

@@ -18,6 +18,7 @@ use digest::Digest;
 use std::alloc::Global;
 use std::env;
 use std::process::ExitCode;
+use tcap_engine::Outbox;
 
 /// The jobs by their names.
 const JOBS: [&str; 5] = ["register", "client", "calls", "monitor", "scripts"];
@@ -25,7 +26,8 @@ const JOBS: [&str; 5] = ["register", "client", "calls", "monitor", "scripts"];
 /// The digest of a job of so many turns; nothing where there is no such job, or memory runs out.
 fn digest_of(alloc: Global, job: &str, seed: u32, turns: u32) -> Option<u64> {
     match job {
-        "register" => register::run(alloc, seed, turns),
+        "register" => register::run(alloc, seed, turns, None),
+        "outbox" => register::run(alloc, seed, turns, Some(Outbox::new(alloc))),
         "client" => client::run(alloc, seed, turns),
         "calls" => calls::run(alloc, seed, turns),
         "monitor" => monitor::run(alloc, seed, turns),

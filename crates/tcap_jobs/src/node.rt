@@ -7,7 +7,9 @@ use crate::lot::Lot;
 use crate::network::{Way, addresses, draw_way};
 use crate::octets::spoil;
 use std::alloc::Global;
-use tcap_engine::{Address, Engine, Fault, Limits, Output};
+use tcap_engine::{
+    Address, Ending, Engine, Fault, Indication, Limits, Outbox, Output, OutputRef,
+};
 
 /// How many peers there are.
 const PEERS: usize = 300;
@@ -18,6 +20,8 @@ pub(crate) struct Node {
     pub(crate) engine: Engine,
     pub(crate) lot: Lot,
     pub(crate) digest: Digest,
+    /// Where the answers of the calls go that can append to one; else each has a vector of its own.
+    outbox: Option<Outbox>,
     peers: Vec<Address>,
     /// The message that was late last: it comes where the next one is late.
     late: Vec<u8>,
@@ -34,9 +38,15 @@ impl Node {
             engine: Engine::new(alloc, limits),
             lot,
             digest: Digest::new(),
+            outbox: None,
             peers,
             late: Vec::new(alloc),
         })
+    }
+
+    /// From now on the answers go to an outbox.
+    pub(crate) fn take_outbox(&mut self, outbox: Outbox) {
+        self.outbox = Some(outbox);
     }
 
     /// A peer drawn by lot.
@@ -51,7 +61,14 @@ impl Node {
     /// A message comes: the dialogue that it begins, 0 where it begins none.
     pub(crate) fn hear(&mut self, octets: &[u8]) -> Option<u32> {
         let at = self.lot.index(self.peers.len());
-        let told = self.engine.receive(self.peers.get(at)?, octets).ok()?;
+        let peer = self.peers.get(at)?;
+        if let Some(outbox) = &mut self.outbox {
+            outbox.clear();
+            self.engine.receive_into(peer, octets, outbox).ok()?;
+            self.digest.outbox(outbox);
+            return Some(begun_in(outbox));
+        }
+        let told = self.engine.receive(peer, octets).ok()?;
         self.digest.outputs(&told);
         Some(begun(&told))
     }
@@ -100,9 +117,35 @@ impl Node {
         }
     }
 
+    /// What a request that sends into the outbox was answered.
+    fn appended(&mut self, answer: Result<(), Fault>) {
+        match (answer, &self.outbox) {
+            (Ok(()), Some(outbox)) => self.digest.outbox(outbox),
+            (Ok(()), None) => {}
+            (Err(fault), _) => self.digest.fault(fault),
+        }
+    }
+
+    /// A basic end of a dialogue.
+    pub(crate) fn finish(&mut self, dialogue: u32, context: &[u8]) {
+        let (basic, context) = (Ending::Basic, Some(context));
+        if let Some(outbox) = &mut self.outbox {
+            outbox.clear();
+            let ended = self.engine.finish_into(dialogue, basic, context, &[], outbox);
+            return self.appended(ended);
+        }
+        let ended = self.engine.finish(dialogue, basic, context, &[]);
+        self.answered(ended);
+    }
+
     /// A millisecond passes.
     pub(crate) fn pass(&mut self) {
         let moment = self.engine.now().saturating_add(1);
+        if let Some(outbox) = &mut self.outbox {
+            outbox.clear();
+            let told = self.engine.advance_into(moment, outbox);
+            return self.appended(told);
+        }
         let told = self.engine.advance(moment);
         self.answered(told);
     }
@@ -112,6 +155,14 @@ impl Node {
 pub(crate) fn begun(told: &[Output<'_>]) -> u32 {
     match told.first() {
         Some(Output::Begin { dialogue, .. }) => *dialogue,
+        _ => 0,
+    }
+}
+
+/// The same of an outbox.
+fn begun_in(outbox: &Outbox) -> u32 {
+    match outbox.get(0) {
+        Some(OutputRef::Indication(Indication::Begin { dialogue, .. })) => dialogue,
         _ => 0,
     }
 }

@@ -5,7 +5,7 @@ use crate::node::Node;
 use crate::octets::{context, invoke_len, put, put_drawn, put_head, put_invoke, request, whole};
 use std::alloc::Global;
 use tcap_component::{Body, Code};
-use tcap_engine::{Ending, Limits};
+use tcap_engine::{Limits, Outbox};
 
 /// At so many places a dialogue stands or is about to be begun: some 20,000 stand at a time.
 const PLACES: usize = 40_000;
@@ -48,10 +48,7 @@ fn answer(node: &mut Node, dialogue: u32, parameter: &mut Vec<u8>) -> Option<()>
     let queued = node.engine.result_last(dialogue, 1, Some(body));
     node.queued(queued);
     let context = context(node.lot.octet());
-    let ended = node
-        .engine
-        .finish(dialogue, Ending::Basic, Some(&context), &[]);
-    node.answered(ended);
+    node.finish(dialogue, &context);
     Some(())
 }
 
@@ -71,14 +68,18 @@ fn turn(node: &mut Node, places: &mut [u32], octets: &mut Vec<u8>) -> Option<()>
     Some(())
 }
 
-/// So many turns: the digest of all that was answered; nothing where memory runs out.
-pub(crate) fn run(alloc: Global, seed: u32, turns: u32) -> Option<u64> {
+/// So many turns, with the answers in an outbox if one is given: the digest of all that was answered; nothing where
+/// memory runs out.
+pub(crate) fn run(alloc: Global, seed: u32, turns: u32, outbox: Option<Outbox>) -> Option<u64> {
     let limits = Limits {
         max_dialogues: 65_535,
         reject_ms: 1_000,
         idle_ms: 0,
     };
     let mut node = Node::new(alloc, seed, limits)?;
+    if let Some(outbox) = outbox {
+        node.take_outbox(outbox);
+    }
     let mut places = vec![in alloc; 0u32; PLACES].ok()?;
     let mut octets = Vec::new(alloc);
     for _ in 0..turns {

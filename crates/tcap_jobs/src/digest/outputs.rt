@@ -1,7 +1,8 @@
 //! All that an engine sends and tells, field by field.
 
 use super::Digest;
-use tcap_engine::Output;
+use std::alloc::Global;
+use tcap_engine::{Outbox, Output, OutputRef};
 
 impl Digest {
     /// Adds what is sent, and what is told of a dialogue.
@@ -136,12 +137,34 @@ impl Digest {
         }
     }
 
+    /// Adds what is sent or told.
+    fn output(&mut self, output: &Output<'_>) {
+        if !self.dialogue_output(output) && !self.component_output(output) {
+            self.closing_output(output);
+        }
+    }
+
+    /// Adds all that an outbox holds, as `outputs` does.
+    pub(crate) fn outbox(&mut self, outbox: &Outbox) {
+        for output in outbox {
+            match output {
+                OutputRef::Send { to, bytes } => {
+                    self.octets(to);
+                    self.octets(bytes);
+                }
+                OutputRef::Indication(indication) => {
+                    let output: Output<'_, Global> = indication.output();
+                    self.output(&output);
+                }
+            }
+        }
+        self.number(outbox.len() as u64);
+    }
+
     /// Adds all that an engine sends and tells.
     pub(crate) fn outputs(&mut self, outputs: &[Output<'_>]) {
         for output in outputs {
-            if !self.dialogue_output(output) && !self.component_output(output) {
-                self.closing_output(output);
-            }
+            self.output(output);
         }
         self.number(outputs.len() as u64);
     }

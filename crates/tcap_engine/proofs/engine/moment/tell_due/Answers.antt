@@ -1,4 +1,6 @@
 use Rattle.std.proofs.Common.{rules, arith, ◌≡◌, ◌∷◌, [], ◌++◌, ◌∙◌, ap, sym, subst, true, length, append_assoc}
+use Rattle.tcap_model.specs.Table.DueLapses.{all_told}
+use Rattle.tcap_engine.specs.DialogueEntries.{dialogues_of}
 use Rattle.tcap_engine.specs.IdleDialogues.{idle_ids, is_among}
 use Rattle.tcap_engine.proofs.IdleLemmas.{among-here}
 use Rattle.tcap_engine.proofs.engine.moment.tell_due.Goals as goal
@@ -13,11 +15,12 @@ loop-time-preserved-in-Idle g c =
     let first : idle_ids c.args.now c.loop-time.table ≡ d ∷ rest = search rules in
     let whole : idle_before ++ (d ∷ rest) ≡ idle_ids c.args.now c.args.table.now = ap (λ ids. idle_before ++ ids) (sym first) ∙ inv.idle in
     let long = ap length first in
+    let same : all_told c.args.now (dialogues_of c.expire_first.new.table) ≡ all_told c.args.now (dialogues_of c.loop-time.table) = search rules in
     let among : is_among (idle_ids c.args.now c.args.table.now) d ≡ true = subst (λ ids. is_among ids d ≡ true) whole (among-here idle_before rest d) in
     record {
       from = search rules;
       room = search rules;
-      whole = inv.whole;
+      whole = rw same inv.whole;
       space = search (rules, arith, long);
       told = search rules;
       idle = ap (λ ids. ids ++ rest) pushed ∙ append_assoc idle_before (d ∷ []) rest ∙ whole;
