@@ -1,0 +1,12 @@
+pub mod Choice
+pub mod ComponentTable
+pub mod EncodingPlace
+pub mod Explaining
+pub mod ListTable
+pub mod MessageTable
+pub mod Octets
+pub mod PduTable
+pub mod PortionTable
+pub mod Table
+pub mod Unmet
+pub mod Walk

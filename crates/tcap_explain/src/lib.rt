@@ -1,0 +1,19 @@
+//! Where the fault of a message is, and what was expected there: the place of an octet, and the line of the
+//! tables of Q.773 that wasn't met.
+//!
+//! Stands on `tcap_words` for the verdict, and on the codec. Begin at `explain`; what the place of a fault is
+//! stands in specs/FaultAt.antt, the tables in specs/Table.antt. `explain` takes no memory.
+#![tactic(auto)]
+
+mod by_verdict;
+mod component_tag;
+mod contents;
+mod encoding;
+mod line;
+mod table;
+mod walk;
+mod way;
+
+pub use by_verdict::explain;
+pub use contents::Contents;
+pub use line::{ComponentLine, Explained, Line, ListLine, MessageLine, PduLine, PortionLine, Rule};

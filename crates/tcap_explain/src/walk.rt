@@ -1,0 +1,146 @@
+//! Contents held against the tables, element by element.
+
+ghost use Rattle.std.specs.Prelude.{◌≡◌, ◌+◌, ◌^◌, ◌<◌, ◌≤◌, length, option_map, IfSome, IfErr, IfOk};
+ghost use Rattle.ber_core.specs.Results.{Gives};
+ghost use Rattle.tcap_explain.specs.Walk.{Walk, further, first_of, inside_by, ended, step, walk};
+
+use crate::contents::{Contents, is_met};
+use crate::encoding::told_place;
+use crate::line::{Explained, Line, Rule};
+use crate::table::{Inside, may_end, next};
+use crate::way::head_len;
+use ber_core::read_element;
+
+/// What is not met, so many octets further on.
+pub(crate) fn further_on(octets: usize, found: Explained) -> Explained
+    requires place { octets + found.place < 2 ^ 64 }
+    requires element { octets + found.element < 2 ^ 64 }
+    ensures { result ≡ further octets found }
+{
+    Explained {
+        place: octets + found.place,
+        element: octets + found.element,
+        rule: found.rule,
+    }
+}
+
+/// What is not met in contents octets that are no elements, behind a head of so many octets.
+fn octets_fault(head: usize, contents: Contents, content: &[u8]) -> Option<Explained>
+    ensures value { (walk : Walk) → result ≡ inside_by walk head (Inside.Octets contents) content.now }
+    ensures within { IfSome result (λ x. (x.place ≡ head) × (x.element ≡ 0)) }
+{
+    if is_met(contents, content) {
+        return None;
+    }
+    Some(Explained {
+        place: head,
+        element: 0,
+        rule: Rule::Octets(contents, content.len()),
+    })
+}
+
+/// What is not met in elements, behind a head of so many octets.
+#[cycle(walk)]
+fn elements_fault(head: usize, line: Line, content: &[u8]) -> Option<Explained>
+    requires { head + length content.now < 2 ^ 64 }
+    ensures value { result ≡ option_map (further head) (walk line content.now) }
+    ensures within { IfSome result (λ x. (x.place ≤ head + length content.now) × (x.element ≤ head + length content.now)) }
+{
+    match walk(line, content) {
+        Some(found) => Some(further_on(head, found)),
+        None => None,
+    }
+}
+
+/// What is not met in elements that are held against two lines, behind a head of so many octets.
+#[cycle(walk)]
+fn listed_fault(head: usize, first: Line, second: Line, content: &[u8]) -> Option<Explained>
+    requires { head + length content.now < 2 ^ 64 }
+    ensures value { result ≡ option_map (further head) (first_of (walk first content.now) (walk second content.now)) }
+    ensures within { IfSome result (λ x. (x.place ≤ head + length content.now) × (x.element ≤ head + length content.now)) }
+{
+    match elements_fault(head, first, content) {
+        Some(found) => Some(found),
+        None => elements_fault(head, second, content),
+    }
+}
+
+/// What is not met in the content of an element, behind a head of so many octets.
+#[cycle(walk)]
+fn inside_fault(head: usize, inside: Inside, content: &[u8]) -> Option<Explained>
+    requires { head + length content.now < 2 ^ 64 }
+    ensures value { result ≡ inside_by walk head inside content.now }
+    ensures within { IfSome result (λ x. (x.place ≤ head + length content.now) × (x.element ≤ head + length content.now)) }
+{
+    match inside {
+        Inside::Octets(contents) => octets_fault(head, contents, content),
+        Inside::Elements(line) => elements_fault(head, line, content),
+        Inside::Listed(first, second) => listed_fault(head, first, second, content),
+    }
+}
+
+/// The first element, held against the line: the next line and what is left, or what is not met.
+#[cycle(walk)]
+#[tactic(auto, unfolding(crate::specs::Walk::step))]
+fn take_step(line: Line, bytes: &[u8]) -> Result<(Line, &[u8]), Explained>
+    ensures value { Gives (λ s. (s.0, s.1.now)) result (step line bytes.now) }
+    ensures shorter { IfOk result (λ s. length s.1.now < length bytes.now) }
+    ensures within { IfErr result (λ x. (x.place ≤ length bytes.now) × (x.element ≤ length bytes.now)) }
+{
+    let (element, rest) = match read_element(bytes) {
+        Ok(read) => read,
+        Err(fault) => {
+            return Err(Explained {
+                place: told_place(bytes),
+                element: 0,
+                rule: Rule::Encoding(fault),
+            });
+        }
+    };
+    let Some((inside, then)) = next(line, element.tag, element.content) else {
+        return Err(Explained {
+            place: 0,
+            element: 0,
+            rule: Rule::Other(line),
+        });
+    };
+    match inside_fault(head_len(bytes), inside, element.content) {
+        Some(found) => Err(found),
+        None => Ok((then, rest)),
+    }
+}
+
+/// What is not met where contents end at a line: its element, if it has to be there.
+fn end_fault(line: Line, len: usize) -> Option<Explained>
+    ensures value { result ≡ option_map (further len) (ended line) }
+    ensures within { IfSome result (λ x. (x.place ≡ len) × (x.element ≡ len)) }
+{
+    if may_end(line) {
+        return None;
+    }
+    Some(Explained {
+        place: len,
+        element: len,
+        rule: Rule::Missing(line),
+    })
+}
+
+/// What is not met first in contents that are to be those of a table from a line on, if anything.
+#[cycle(walk)]
+pub(crate) fn walk(line: Line, bytes: &[u8]) -> Option<Explained>
+    ensures value { result ≡ walk line bytes.now }
+    ensures within { IfSome result (λ x. (x.place ≤ length bytes.now) × (x.element ≤ length bytes.now)) }
+{
+    let mut line = line;
+    let mut rest = bytes;
+    while !rest.is_empty() {
+        match take_step(line, rest) {
+            Err(found) => return Some(further_on(bytes.len() - rest.len(), found)),
+            Ok((then, after)) => {
+                line = then;
+                rest = after;
+            }
+        }
+    }
+    end_fault(line, bytes.len())
+}
