@@ -176,17 +176,22 @@ message-stands bytes (begins l t held e rest i n h s) =
     let fifth = only 0x67 e.tag (inner abort_line) nothing_more in
     let fourth = either (only 0x65 e.tag (inner continue_line) nothing_more) fifth in
     let third = either (only 0x64 e.tag (inner end_line) nothing_more) fourth in
-    let second = either (only 0x62 e.tag (inner begin_line) nothing_more) third in
-    (e, rest, i, refl, elim (either-some (only 0x61 e.tag (inner uni_line) nothing_more) second (leads held t) n) [
-      | inl n ↦ let k = only-takes 0x61 held (inner uni_line) nothing_more t e rest n h s in framed 0x61 e k.0 (uni e.content (elements-stand uni_line e.content k.1))
-      | inr n ↦ elim (either-some (only 0x62 e.tag (inner begin_line) nothing_more) third (leads held t) n) [
-        | inl n ↦ let k = only-takes 0x62 held (inner begin_line) nothing_more t e rest n h s in framed 0x62 e k.0 (begin-contents e.content (elements-stand begin_line e.content k.1))
-        | inr n ↦ elim (either-some (only 0x64 e.tag (inner end_line) nothing_more) fourth (leads held t) n) [
-          | inl n ↦ let k = only-takes 0x64 held (inner end_line) nothing_more t e rest n h s in framed 0x64 e k.0 (end-contents e.content (elements-stand end_line e.content k.1))
-          | inr n ↦ elim (either-some (only 0x65 e.tag (inner continue_line) nothing_more) fifth (leads held t) n) [
-            | inl n ↦ let k = only-takes 0x65 held (inner continue_line) nothing_more t e rest n h s in framed 0x65 e k.0 (continue-contents e.content (elements-stand continue_line e.content k.1))
-            | inr n ↦ let k = only-takes 0x67 held (inner abort_line) nothing_more t e rest n h s in framed 0x67 e k.0 (abort-contents e.content (elements-stand abort_line e.content k.1))
+    let second = either (only 0x62 e.tag (inner begin_line) nothing_more) third in (
+      e,
+      rest,
+      i,
+      refl,
+      elim (either-some (only 0x61 e.tag (inner uni_line) nothing_more) second (leads held t) n) [
+        | inl n ↦ let k = only-takes 0x61 held (inner uni_line) nothing_more t e rest n h s in framed 0x61 e k.0 (uni e.content (elements-stand uni_line e.content k.1))
+        | inr n ↦ elim (either-some (only 0x62 e.tag (inner begin_line) nothing_more) third (leads held t) n) [
+          | inl n ↦ let k = only-takes 0x62 held (inner begin_line) nothing_more t e rest n h s in framed 0x62 e k.0 (begin-contents e.content (elements-stand begin_line e.content k.1))
+          | inr n ↦ elim (either-some (only 0x64 e.tag (inner end_line) nothing_more) fourth (leads held t) n) [
+            | inl n ↦ let k = only-takes 0x64 held (inner end_line) nothing_more t e rest n h s in framed 0x64 e k.0 (end-contents e.content (elements-stand end_line e.content k.1))
+            | inr n ↦ elim (either-some (only 0x65 e.tag (inner continue_line) nothing_more) fifth (leads held t) n) [
+              | inl n ↦ let k = only-takes 0x65 held (inner continue_line) nothing_more t e rest n h s in framed 0x65 e k.0 (continue-contents e.content (elements-stand continue_line e.content k.1))
+              | inr n ↦ let k = only-takes 0x67 held (inner abort_line) nothing_more t e rest n h s in framed 0x67 e k.0 (abort-contents e.content (elements-stand abort_line e.content k.1))
+            ]
           ]
         ]
-      ]
-    ])
+      ],
+    )

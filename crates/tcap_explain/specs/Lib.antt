@@ -2,6 +2,7 @@ pub mod Choice
 pub mod ComponentTable
 pub mod EncodingPlace
 pub mod Explaining
+pub mod ExplainText
 pub mod ListTable
 pub mod MessageTable
 pub mod Octets
@@ -10,3 +11,4 @@ pub mod PortionTable
 pub mod Table
 pub mod Unmet
 pub mod Walk
+pub mod Words

@@ -9,11 +9,14 @@ mod by_verdict;
 mod component_tag;
 mod contents;
 mod encoding;
+mod fault_text;
 mod line;
 mod table;
 mod walk;
 mod way;
+mod words;
 
 pub use by_verdict::explain;
 pub use contents::Contents;
+pub use fault_text::explain_text;
 pub use line::{ComponentLine, Explained, Line, ListLine, MessageLine, PduLine, PortionLine, Rule};

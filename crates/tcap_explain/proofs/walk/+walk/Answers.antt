@@ -44,10 +44,11 @@ walk-loop-rest-preserved t c =
     let on = walk c.in-Ok.then after in
     let here : walk c.loop-rest.line rest ≡ option_map (further passed) on = walk-next c.loop-rest.line rest filled ∙ ap (behind walk (length rest)) c.in-Ok.ensures.value in
     let lt = c.in-Ok.ensures.shorter in
-    let sum : length c.args.bytes.now - length after ≡ skipped + passed = omega (arith, lt, c.loop-rest.invariant.0) in
-    (omega (arith, lt, c.loop-rest.invariant.0),
-        ap (λ (n : ℕ). option_map (further n) on) sum
-        ∙ (sym (further-further skipped passed on) ∙ (ap (option_map (further skipped)) (sym here) ∙ c.loop-rest.invariant.1)))
+    let sum : length c.args.bytes.now - length after ≡ skipped + passed = omega (arith, lt, c.loop-rest.invariant.0) in (
+      omega (arith, lt, c.loop-rest.invariant.0),
+      ap (λ (n : ℕ). option_map (further n) on) sum
+          ∙ (sym (further-further skipped passed on) ∙ (ap (option_map (further skipped)) (sym here) ∙ c.loop-rest.invariant.1)),
+    )
 
 pub walk-returns-clause-value : goal.walk-returns-clause-value
 walk-returns-clause-value t c =

@@ -23,7 +23,7 @@ returns-then-is_tag-clause-value c =
     let tagged : is_tag c.args.tag c.in-Ok.element.tag.now ≡ true = search rules in
     let found = inside-here c.args.tag rest c.in-Ok.after.now (parts c.in-Ok.element) c.in-Ok.ensures.exact tagged in
     let here : at_place (skipped + c.head_len.result) c.in-Ok.element.content.now ≡ further skipped (at_place (head_length rest) c.in-Ok.element.content.now) =
-        ap (λ (n : ℕ). at_place (skipped + n) c.in-Ok.element.content.now) c.head_len.ensures.value in
+    ap (λ (n : ℕ). at_place (skipped + n) c.in-Ok.element.content.now) c.head_len.ensures.value in
     here ∙ (ap (further skipped) (sym found) ∙ c.loop-rest.invariant.1)
 
 pub returns-then-is_tag-clause-within : goal.returns-then-is_tag-clause-within
@@ -41,11 +41,12 @@ loop-rest-preserved c =
     let lt = (content_within rest after (parts c.in-Ok.element) c.in-Ok.ensures.exact).2 in
     let other : is_tag c.args.tag c.in-Ok.element.tag.now ≡ false = search rules in
     let on = inside-behind c.args.tag rest after (parts c.in-Ok.element) c.in-Ok.ensures.exact other in
-    let sum : length c.args.bytes.now - length after ≡ (length c.args.bytes.now - length rest) + (length rest - length after) = omega (arith, lt, c.loop-rest.invariant.0) in
-    (omega (arith, lt, c.loop-rest.invariant.0),
-        ap (λ (n : ℕ). further n (inside c.args.tag after)) sum
-        ∙ (sym (further-then (length c.args.bytes.now - length rest) (length rest - length after) (inside c.args.tag after))
-        ∙ (ap (further (length c.args.bytes.now - length rest)) (sym on) ∙ c.loop-rest.invariant.1)))
+    let sum : length c.args.bytes.now - length after ≡ (length c.args.bytes.now - length rest) + (length rest - length after) = omega (arith, lt, c.loop-rest.invariant.0) in (
+      omega (arith, lt, c.loop-rest.invariant.0),
+      ap (λ (n : ℕ). further n (inside c.args.tag after)) sum
+          ∙ (sym (further-then (length c.args.bytes.now - length rest) (length rest - length after) (inside c.args.tag after))
+          ∙ (ap (further (length c.args.bytes.now - length rest)) (sym on) ∙ c.loop-rest.invariant.1)),
+    )
 
 pub returns-clause-value : goal.returns-clause-value
 returns-clause-value c =

@@ -1,0 +1,74 @@
+-- The text of `explain`: the verdict, and where its fault is.
+use Rattle.std.specs.Prelude.{ℕ, List, [], ◌++◌, codes, length, take, drop, Option, Some, None, ◌==◌, if◌then◌else◌}
+use Rattle.std.specs.Fmt.{decimal}
+use Rattle.hex.specs.Hex.{encode_lower}
+use Rattle.ber_core.specs.declared.fault.BerFault.{BerFault}
+use Rattle.ber_core.specs.declared.fault.BerFault.TheVariants as ber
+use Rattle.tcap_words.specs.Text.{line}
+use Rattle.tcap_words.specs.Verdict.{verdict_of, verdict_words}
+use Rattle.tcap_explain.specs.declared.line.Rule.{Rule}
+use Rattle.tcap_explain.specs.declared.line.Rule.TheVariants as rule
+use Rattle.tcap_explain.specs.declared.line.Explained.{Explained}
+use Rattle.tcap_explain.specs.Explaining.{explained_at}
+use Rattle.tcap_explain.specs.Words.{expected_words}
+
+-- A name and a number (own).
+abbrev pub named : List ℕ → ℕ → List ℕ
+named name number = name ++ decimal number
+
+-- The place of a fault, and the first octet of its element (own).
+abbrev pub position_words : Explained → List ℕ
+position_words x = named (codes "place ") x.place ++ named (codes " element ") x.element
+
+-- The octet at a place, in hexadecimal (own).
+abbrev pub octet_words : List ℕ → ℕ → List ℕ
+octet_words bytes place = codes "0x" ++ encode_lower (take 1 (drop place bytes))
+
+-- The word for so many octets (own).
+abbrev pub unit_words : ℕ → List ℕ
+unit_words count = if count == 1 then codes " octet" else codes " octets"
+
+-- How many octets there are (own).
+abbrev pub count_words : ℕ → List ℕ
+count_words count = decimal count ++ unit_words count
+
+-- How many contents octets there are, and the first of them (own).
+abbrev pub contents_found : List ℕ → ℕ → ℕ → List ℕ
+contents_found bytes place count = if count == 0 then count_words count else count_words count ++ (codes " from " ++ octet_words bytes place)
+
+-- What stands where an encoding has a fault: the octet, or the end where octets are missing (own).
+abbrev pub encoding_found : BerFault → List ℕ → ℕ → List ℕ
+encoding_found ber.Short bytes place = codes "the end"
+encoding_found ber.BadTag bytes place = octet_words bytes place
+encoding_found ber.BadLength bytes place = octet_words bytes place
+encoding_found ber.IndefinitePrimitive bytes place = octet_words bytes place
+encoding_found ber.TooDeep bytes place = octet_words bytes place
+
+-- What stands at the place, by the rule that is not met there (own).
+abbrev pub found_words : List ℕ → ℕ → Rule → List ℕ
+found_words bytes place rule.MessageLength = count_words (length bytes)
+found_words bytes place (rule.Encoding fault) = encoding_found fault bytes place
+found_words bytes place (rule.Other l) = octet_words bytes place
+found_words bytes place (rule.Missing l) = codes "the end"
+found_words bytes place (rule.Octets kind count) = contents_found bytes place count
+
+-- What was expected (own).
+abbrev pub expectation_words : Rule → List ℕ
+expectation_words rule = codes ": expected " ++ expected_words rule
+
+-- What was expected, and what was found (own).
+abbrev pub rule_words : List ℕ → ℕ → Rule → List ℕ
+rule_words bytes place rule = expectation_words rule ++ (codes ", found " ++ found_words bytes place rule)
+
+-- The words for a fault (own).
+abbrev pub explained_words : List ℕ → Explained → List ℕ
+explained_words bytes x = position_words x ++ rule_words bytes x.place x.rule
+
+-- The line for a fault, if there is one (own).
+abbrev pub explained_lines : List ℕ → Option Explained → List ℕ
+explained_lines bytes None = []
+explained_lines bytes (Some x) = line (explained_words bytes x)
+
+-- The text of `explain`: the line of the verdict, and one for the fault where it isn't good (own).
+abbrev pub explain_text_of : List ℕ → List ℕ
+explain_text_of bytes = line (verdict_words (verdict_of bytes)) ++ explained_lines bytes (explained_at bytes)
