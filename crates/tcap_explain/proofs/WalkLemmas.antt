@@ -1,5 +1,6 @@
 -- Contents held against a table: what a walk over them finds, element by element.
 use Rattle.std.proofs.Common.{◌≡◌, ℕ, zero, suc, ◌+◌, ◌-◌, ◌<◌, ◌≤◌, List, [], ◌∷◌, ◌++◌, length, Option, Some, None, option_map, Ok, Err, Result, refl, sym, ap, subst, ◌∙◌, arith, inl, inr}
+use Rattle.std.proofs.lemmas.Bool.{cases_Bool}
 use Rattle.std.proofs.lemmas.List.{length-append}
 use Rattle.ber_core.specs.declared.fault.BerFault.{BerFault}
 use Rattle.ber_core.specs.Tag.{IsTag, is_constructor}
@@ -10,11 +11,12 @@ use Rattle.ber_core.specs.Place.{head_length}
 use Rattle.ber_core.proofs.CallerLemmas.{HeadRead, head_again-definite, head_again-indefinite, by_result, by_option, element_takes, IsElement-longer, head_length-whole}
 use Rattle.tcap_explain.specs.declared.line.Line.{Line}
 use Rattle.tcap_explain.specs.declared.line.Rule.{Rule}
+use Rattle.tcap_explain.specs.declared.line.Rule.TheVariants as rule
 use Rattle.tcap_explain.specs.declared.line.Explained.{Explained}
 use Rattle.tcap_explain.specs.declared.table.Inside.{Inside}
 use Rattle.tcap_explain.specs.declared.table.Inside.TheVariants as inside
 use Rattle.tcap_explain.specs.Choice.{Choice}
-use Rattle.tcap_explain.specs.Table.{next}
+use Rattle.tcap_explain.specs.Table.{next, is_over}
 use Rattle.tcap_explain.specs.Walk.{unmet, further, Walk, first_of, inside_by, passed, chosen_by, step_from, step_by, ended, behind, walk_by, walk, step}
 
 -- ---- the content of an element within its whole
@@ -92,17 +94,23 @@ same_chosen w v line bytes r (Some choice) h = ap (λ (x : Option Explained). pa
 abbrev Agree : Walk → Walk → List ℕ → Type 0
 Agree w v bytes = (l : Line) (c : List ℕ) → length c < length bytes → w l c ≡ v l c
 
-same_step : (w v : Walk) (line : Line) (bytes : List ℕ) → Agree w v bytes → step_by w line bytes ≡ step_by v line bytes
-same_step w v line bytes h = elim (by_result (element_at 32 bytes)) [
+same_step_from : (w v : Walk) (line : Line) (bytes : List ℕ) → Agree w v bytes → step_from w line bytes (element_at 32 bytes) ≡ step_from v line bytes (element_at 32 bytes)
+same_step_from w v line bytes h = elim (by_result (element_at 32 bytes)) [
   | inl f ↦ rw f.1 refl
   | inr p ↦ rw p.1 (same_chosen w v line bytes p.0 (next line p.0.0.tag p.0.0.content) (λ l. h l p.0.0.content (content_within bytes p.0.1 p.0.0 p.1).1))
+]
+
+same_step : (w v : Walk) (line : Line) (bytes : List ℕ) → Agree w v bytes → step_by w line bytes ≡ step_by v line bytes
+same_step w v line bytes h = elim (cases_Bool (is_over line)) [
+  | inl y ↦ rw y refl
+  | inr n ↦ rw n (same_step_from w v line bytes h)
 ]
 
 abbrev Step : Type 0
 Step = Result (Line × List ℕ) Explained
 
-abbrev on : Line × List ℕ → Step
-on s = Ok s
+abbrev refused : Explained → Step
+refused x = Err x
 
 passed-rest : (o : Option Explained) (line : Line) (rest : List ℕ) (s : Line × List ℕ) → passed o line rest ≡ Ok s → rest ≡ s.1
 passed-rest None line rest s e = let same : (line, rest) ≡ s = cc in ap (λ (p : Line × List ℕ). p.1) same
@@ -112,14 +120,20 @@ chosen-rest : (w : Walk) (line : Line) (bytes : List ℕ) (r : Parts × List ℕ
 chosen-rest w line bytes r None s e = absurd cc
 chosen-rest w line bytes r (Some choice) s e = passed-rest (inside_by w (head_length bytes) choice.0 r.0.content) choice.1 r.1 s e
 
-pub step-shorter : (w : Walk) (line : Line) (bytes : List ℕ) (s : Line × List ℕ) → step_by w line bytes ≡ Ok s → length s.1 < length bytes
-step-shorter w line bytes s e = elim (by_result (element_at 32 bytes)) [
+step_from-shorter : (w : Walk) (line : Line) (bytes : List ℕ) (s : Line × List ℕ) → step_from w line bytes (element_at 32 bytes) ≡ Ok s → length s.1 < length bytes
+step_from-shorter w line bytes s e = elim (by_result (element_at 32 bytes)) [
   | inl f ↦ let e = e in let no : step_from w line bytes (Err f.0) ≡ Ok s = rw f.1 at e in absurd cc
   | inr p ↦
       let e = e in
       let is : chosen_by w line bytes p.0 (next line p.0.0.tag p.0.0.content) ≡ Ok s = rw p.1 at e in
       let same = chosen-rest w line bytes p.0 (next line p.0.0.tag p.0.0.content) s is in
       subst (λ (w : List ℕ). length w < length bytes) same (content_within bytes p.0.1 p.0.0 p.1).2
+]
+
+pub step-shorter : (w : Walk) (line : Line) (bytes : List ℕ) (s : Line × List ℕ) → step_by w line bytes ≡ Ok s → length s.1 < length bytes
+step-shorter w line bytes s e = elim (cases_Bool (is_over line)) [
+  | inl y ↦ let e = e in let no : refused (unmet 0 0 (rule.Other line)) ≡ Ok s = rw y at e in absurd cc
+  | inr n ↦ let e = e in step_from-shorter w line bytes s (rw n at e)
 ]
 
 same_behind : (w v : Walk) (len : ℕ) (r : Step) → ((s : Line × List ℕ) → r ≡ Ok s → w s.0 s.1 ≡ v s.0 s.1) → behind w len r ≡ behind v len r

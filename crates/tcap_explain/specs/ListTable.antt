@@ -23,3 +23,10 @@ list_may_end list.OneElement = false
 list_may_end list.OneConstructed = false
 list_may_end list.Elements = true
 list_may_end list.End = true
+
+-- Whether nothing may follow at the line (Q.773, tables of information elements).
+abbrev pub list_is_over : ListLine → Bool
+list_is_over list.OneElement = false
+list_is_over list.OneConstructed = false
+list_is_over list.Elements = false
+list_is_over list.End = true

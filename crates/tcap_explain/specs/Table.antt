@@ -1,9 +1,9 @@
 -- The tables of Q.773 as one: which elements may stand at a line.
-use Rattle.std.specs.Prelude.{ℕ, Bool, List, Option}
+use Rattle.std.specs.Prelude.{ℕ, Bool, false, List, Option}
 use Rattle.tcap_explain.specs.declared.line.Line.{Line}
 use Rattle.tcap_explain.specs.declared.line.Line.TheVariants as line
 use Rattle.tcap_explain.specs.Choice.{Choice}
-use Rattle.tcap_explain.specs.ListTable.{list_next, list_may_end}
+use Rattle.tcap_explain.specs.ListTable.{list_next, list_may_end, list_is_over}
 use Rattle.tcap_explain.specs.MessageTable.{message_next, message_may_end}
 use Rattle.tcap_explain.specs.PortionTable.{portion_next, portion_may_end}
 use Rattle.tcap_explain.specs.PduTable.{pdu_next, pdu_may_end}
@@ -26,3 +26,11 @@ may_end (line.Message l) = message_may_end l
 may_end (line.Portion l) = portion_may_end l
 may_end (line.Pdu l) = pdu_may_end l
 may_end (line.Component l) = component_may_end l
+
+-- Whether nothing may follow at the line (Q.773, tables of information elements).
+unfoldable pub is_over : Line → Bool
+is_over (line.List l) = list_is_over l
+is_over (line.Message l) = false
+is_over (line.Portion l) = false
+is_over (line.Pdu l) = false
+is_over (line.Component l) = false

@@ -14,7 +14,7 @@ use Rattle.tcap_explain.specs.declared.table.Inside.TheVariants as inside
 use Rattle.tcap_explain.specs.Choice.{leads}
 use Rattle.tcap_explain.specs.EncodingPlace.{IsToldAt}
 use Rattle.tcap_explain.specs.Octets.{fits}
-use Rattle.tcap_explain.specs.Table.{next, may_end}
+use Rattle.tcap_explain.specs.Table.{next, may_end, is_over}
 use Rattle.tcap_explain.specs.Walk.{unmet, further}
 
 mutual
@@ -45,8 +45,10 @@ mutual
   pub data Unmet : Line → List ℕ → Explained → Type 0 where
     -- Nothing is left, and the line has an element that has to be there: the place is the end.
     missing : (line : Line) → may_end line ≡ false → Unmet line [] (unmet 0 0 (rule.Missing line))
+    -- Something is left where nothing may follow: the place is its first octet.
+    more : (line : Line) (bytes : List ℕ) → bytes ≢ [] → is_over line ≡ true → Unmet line bytes (unmet 0 0 (rule.Other line))
     -- No element can be read: the place is the octet at which its fault is told.
-    unreadable : (line : Line) (bytes : List ℕ) (place : ℕ) (f : BerFault) → bytes ≢ [] → ElementFault depth_limit bytes f → IsToldAt place bytes → Unmet line bytes (unmet place 0 (rule.Encoding f))
+    unreadable : (line : Line) (bytes : List ℕ) (place : ℕ) (f : BerFault) → bytes ≢ [] → is_over line ≡ false → ElementFault depth_limit bytes f → IsToldAt place bytes → Unmet line bytes (unmet place 0 (rule.Encoding f))
     -- The element isn't one that the line has: the place is its first octet.
     other : (line : Line) (e : Parts) (rest : List ℕ) → IsElement depth_limit e → next line e.tag e.content ≡ None → Unmet line (e.whole ++ rest) (unmet 0 0 (rule.Other line))
     -- It is, and something is not met inside.

@@ -14,7 +14,7 @@ use Rattle.tcap_explain.specs.declared.table.Inside.TheVariants as inside
 use Rattle.tcap_explain.specs.Choice.{Choice}
 use Rattle.tcap_explain.specs.EncodingPlace.{told_at}
 use Rattle.tcap_explain.specs.Octets.{fits}
-use Rattle.tcap_explain.specs.Table.{next, may_end}
+use Rattle.tcap_explain.specs.Table.{next, may_end, is_over}
 
 -- The rule that is not met at an octet, in the element that begins at another (own).
 abbrev pub unmet : ℕ → ℕ → Rule → Explained
@@ -63,10 +63,10 @@ abbrev pub step_from : Walk → Line → List ℕ → Result (Parts × List ℕ)
 step_from walk line bytes (Err f) = Err (badly_encoded bytes f)
 step_from walk line bytes (Ok r) = chosen_by walk line bytes r (next line r.0.tag r.0.content)
 
--- The first element of the bytes, held against the line: the next line and what is left, or what is not met
--- (Q.773, tables of information elements).
+-- The first element of the bytes, held against the line: the next line and what is left, or what is not met.
+-- Where nothing may follow, nothing is read (Q.773, tables of information elements).
 abbrev pub step_by : Walk → Line → List ℕ → Result (Line × List ℕ) Explained
-step_by walk line bytes = step_from walk line bytes (element_at depth_limit bytes)
+step_by walk line bytes = if is_over line then Err (unmet 0 0 (rule.Other line)) else step_from walk line bytes (element_at depth_limit bytes)
 
 -- Contents that end at a line: its element is missing, if it has to be there
 -- (Q.773, tables of information elements).

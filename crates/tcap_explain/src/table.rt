@@ -2,8 +2,8 @@
 
 ghost use Rattle.std.specs.Prelude.{◌≡◌};
 ghost use Rattle.tcap_explain.specs.Choice.{only, either};
-ghost use Rattle.tcap_explain.specs.ListTable.{list_next, list_may_end};
-ghost use Rattle.tcap_explain.specs.Table.{next, may_end};
+ghost use Rattle.tcap_explain.specs.ListTable.{list_next, list_may_end, list_is_over};
+ghost use Rattle.tcap_explain.specs.Table.{next, may_end, is_over};
 
 mod component;
 mod message;
@@ -137,5 +137,26 @@ pub(crate) fn may_end(line: Line) -> bool
         Line::Portion(line) => portion_may_end(line),
         Line::Pdu(line) => pdu_may_end(line),
         Line::Component(line) => component_may_end(line),
+    }
+}
+
+/// Whether nothing may follow in a list.
+fn list_is_over(line: ListLine) -> bool
+    ensures { result ≡ list_is_over line }
+{
+    match line {
+        ListLine::OneElement | ListLine::OneConstructed | ListLine::Elements => false,
+        ListLine::End => true,
+    }
+}
+
+/// Whether nothing may follow at this line.
+#[tactic(auto, unfolding(crate::specs::Table::is_over))]
+pub(crate) fn is_over(line: Line) -> bool
+    ensures { result ≡ is_over line }
+{
+    match line {
+        Line::List(line) => list_is_over(line),
+        Line::Message(_) | Line::Portion(_) | Line::Pdu(_) | Line::Component(_) => false,
     }
 }

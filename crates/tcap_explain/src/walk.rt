@@ -7,7 +7,7 @@ ghost use Rattle.tcap_explain.specs.Walk.{Walk, further, first_of, inside_by, en
 use crate::contents::{Contents, is_met};
 use crate::encoding::told_place;
 use crate::line::{Explained, Line, Rule};
-use crate::table::{Inside, may_end, next};
+use crate::table::{Inside, is_over, may_end, next};
 use crate::way::head_len;
 use ber_core::read_element;
 
@@ -87,6 +87,13 @@ fn take_step(line: Line, bytes: &[u8]) -> Result<(Line, &[u8]), Explained>
     ensures shorter { IfOk result (λ s. length s.1.now < length bytes.now) }
     ensures within { IfErr result (λ x. (x.place ≤ length bytes.now) × (x.element ≤ length bytes.now)) }
 {
+    if is_over(line) {
+        return Err(Explained {
+            place: 0,
+            element: 0,
+            rule: Rule::Other(line),
+        });
+    }
     let (element, rest) = match read_element(bytes) {
         Ok(read) => read,
         Err(fault) => {
