@@ -1,8 +1,11 @@
 pub mod BerCoreLemmas
 pub mod EncodingLemmas
+pub mod FaultAtLemmas
+pub mod FaultThere
 pub mod MessageStands
 pub mod StandsLemmas
 pub mod UnmetLemmas
 pub mod UnmetOnly
+pub mod VerdictLemmas
 pub mod WalkLemmas
 pub mod WayLemmas

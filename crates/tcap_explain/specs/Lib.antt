@@ -3,6 +3,7 @@ pub mod ComponentTable
 pub mod EncodingPlace
 pub mod Explaining
 pub mod ExplainText
+pub mod FaultAt
 pub mod ListTable
 pub mod MessageTable
 pub mod Octets
