@@ -1,10 +1,10 @@
 -- Where the fault of an element's encoding is told: the fronts that are open, and those that aren't.
-use Rattle.std.proofs.Common.{◌≡◌, ℕ, zero, suc, ◌<◌, ◌≤◌, true, false, Bool, eqb, List, [], ◌∷◌, ◌++◌, length, take, drop, Ok, Err, Result, refl, sym, ap, subst, ◌∙◌, arith, inl, inr, append_assoc}
+use Rattle.std.proofs.Common.{◌≡◌, ℕ, zero, suc, ◌<◌, ◌≤◌, true, false, eqb, List, ◌++◌, length, take, drop, Ok, Err, Result, refl, sym, ap, subst, ◌∙◌, arith, inl, inr, append_assoc}
 use Rattle.std.proofs.lemmas.Bool.{cases_Bool, eqb-true, eqb-false}
 use Rattle.std.proofs.lemmas.List.{take-append-drop, take-take}
 use Rattle.ber_core.specs.declared.fault.BerFault.{BerFault}
 use Rattle.ber_core.specs.declared.fault.BerFault.TheVariants.{Short, BadTag, BadLength, IndefinitePrimitive, TooDeep}
-use Rattle.ber_core.specs.Element.{Parts, IsElement}
+use Rattle.ber_core.specs.Element.{Parts}
 use Rattle.ber_core.specs.Fault.{ElementFault}
 use Rattle.ber_core.specs.HeadReading.{head_at, tag_at}
 use Rattle.ber_core.specs.ElementReading.{element_at}

@@ -1,7 +1,7 @@
 -- What is explained is where the fault is, and nothing else is.
-use Rattle.std.proofs.Common.{◌≡◌, ◌≢◌, ℕ, ◌+◌, ◌-◌, true, false, List, [], ◌∷◌, ◌++◌, length, Option, Some, None, option_map, Ok, Err, Result, refl, sym, ap, subst, ◌∙◌, arith, ◌⊎◌, inl, inr, append_assoc}
+use Rattle.std.proofs.Common.{◌≡◌, ℕ, ◌+◌, ◌-◌, List, [], ◌∷◌, ◌++◌, length, Option, Some, None, option_map, IfSome, Ok, Err, Result, refl, sym, ap, subst, ◌∙◌, arith, ◌⊎◌, inl, inr, append_assoc}
 use Rattle.std.proofs.lemmas.List.{length-append}
-use Rattle.ber_core.proofs.CallerLemmas.{some_is, not_some, by_option, by_result}
+use Rattle.ber_core.proofs.CallerLemmas.{some_is, not_some}
 use Rattle.tcap_pdu.specs.FrameSpelling.{Message}
 use Rattle.tcap_pdu.specs.FrameLength.{dialogue_of}
 use Rattle.tcap_pdu.specs.FramePortions.{components_in}
@@ -20,7 +20,6 @@ use Rattle.tcap_explain.specs.declared.line.ComponentLine.TheVariants as compone
 use Rattle.tcap_explain.specs.declared.line.Explained.{Explained}
 use Rattle.tcap_explain.specs.Explaining.{external_line, portion_place, dialogue_fault, left_of, faulty_component, component_fault, in_message, explained_by, explained_at}
 use Rattle.tcap_explain.specs.FaultAt.{InDialogue, InComponent, InFormat, FaultBy, FaultAt}
-use Rattle.tcap_explain.specs.Unmet.{Stands, Unmet}
 use Rattle.tcap_explain.specs.Walk.{further, first_of, walk}
 use Rattle.tcap_explain.proofs.UnmetLemmas.{walk-unmet, walk-stands}
 use Rattle.tcap_explain.proofs.UnmetOnly.{unmet-some, stands-none}
@@ -94,10 +93,10 @@ first-left cs f content h =
     let len : length content ≡ length h.front + length h.rest = ap length h.is_content ∙ length-append h.front h.rest in
     (left, omega (arith, ap length left, len))
 
-abbrev component_line : Line
+abbrev pub component_line : Line
 component_line = line.Component component.ComponentType
 
-faulty-is : (cs : List ComponentParts) (f : FaultParts) (content : List ℕ) (h : FirstFault cs (Some f) content) → faulty_component content ≡ option_map (further (length h.front)) (walk component_line h.rest)
+pub faulty-is : (cs : List ComponentParts) (f : FaultParts) (content : List ℕ) (h : FirstFault cs (Some f) content) → faulty_component content ≡ option_map (further (length h.front)) (walk component_line h.rest)
 faulty-is cs f content h =
     let l = first-left cs f content h in
     ap (λ (n : ℕ). option_map (further n) (walk component_line (left_of content))) l.1
@@ -127,7 +126,7 @@ component-told : (number : ℕ) (bytes : List ℕ) (x : Explained) → InCompone
 component-told number bytes x h =
     let place = portion_place 0x6c h.message bytes in
     let inner : faulty_component (components_in h.message) ≡ Some (further (length h.is_first.front) h.inner) =
-        faulty-is h.before h.fault (components_in h.message) h.is_first ∙ ap (option_map (further (length h.is_first.front))) (unmet-some component_line h.is_first.rest h.inner h.not_met) in
+    faulty-is h.before h.fault (components_in h.message) h.is_first ∙ ap (option_map (further (length h.is_first.front))) (unmet-some component_line h.is_first.rest h.inner h.not_met) in
     rw h.is_message (ap (option_map (further place)) inner ∙ ap some (sym h.is_place))
 
 -- ---- both sides
@@ -160,3 +159,7 @@ explained-told bytes x h = by-told (verdict_of bytes) bytes x h
 
 pub one_place : (bytes : List ℕ) (x y : Explained) → FaultAt bytes x → FaultAt bytes y → x ≡ y
 one_place bytes x y h i = some_is x y (sym (explained-told bytes x h) ∙ explained-told bytes y i)
+
+pub found-is : (bytes : List ℕ) (o : Option Explained) → o ≡ explained_at bytes → IfSome o (λ x. FaultAt bytes x)
+found-is bytes None e = tt
+found-is bytes (Some x) e = explained-is bytes x (sym e)

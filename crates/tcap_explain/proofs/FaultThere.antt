@@ -1,39 +1,27 @@
 -- Each message with a fault has a place: where a walk finds nothing the elements are a message, and there is no fault.
-use Rattle.std.proofs.Common.{◌≡◌, ℕ, true, false, List, [], ◌∷◌, ◌++◌, Option, Some, None, Ok, Err, Result, refl, sym, ap, subst, ◌∙◌, inl, inr}
+use Rattle.std.proofs.Common.{◌≡◌, ℕ, List, [], Some, refl, sym, ap, subst, ◌∙◌, inl, inr}
 use Rattle.std.proofs.lemmas.List.{append-nil}
-use Rattle.ber_core.specs.Element.{Parts, IsElement}
-use Rattle.ber_core.specs.ElementReading.{element_at}
-use Rattle.ber_core.proofs.CallerLemmas.{by_option, read_is, element_again}
-use Rattle.tcap_pdu.specs.FrameSpelling.{Message, IsFrame}
+use Rattle.ber_core.specs.Element.{Parts}
+use Rattle.ber_core.proofs.CallerLemmas.{by_option}
+use Rattle.tcap_pdu.specs.FrameSpelling.{IsFrame}
 use Rattle.tcap_pdu.specs.FrameFaults.{IsFrameFault}
 use Rattle.tcap_pdu.specs.FrameFaults.IsFrameFault.{no_element, no_message, no_list, no_sequence}
 use Rattle.tcap_pdu.specs.declared.fault.FrameFault.TheVariants as fault
 use Rattle.tcap_pdu.proofs.CallerLemmas.{frame_fails}
 use Rattle.tcap_words.specs.declared.verdict.Verdict.{Verdict}
 use Rattle.tcap_words.specs.declared.verdict.Verdict.TheVariants as verdict
-use Rattle.tcap_words.specs.Verdict.{verdict_of, is_good}
-use Rattle.tcap_explain.specs.declared.line.Line.{Line}
+use Rattle.tcap_words.specs.Verdict.{verdict_of}
 use Rattle.tcap_explain.specs.declared.line.Line.TheVariants as line
 use Rattle.tcap_explain.specs.declared.line.ListLine.TheVariants as list
 use Rattle.tcap_explain.specs.declared.line.MessageLine.TheVariants as message
 use Rattle.tcap_explain.specs.declared.line.Explained.{Explained}
 use Rattle.tcap_explain.specs.Explaining.{explained_by}
 use Rattle.tcap_explain.specs.Unmet.{Stands}
-use Rattle.tcap_explain.specs.Walk.{first_of, walk}
+use Rattle.tcap_explain.specs.Walk.{walk}
 use Rattle.tcap_explain.proofs.MessageStands.{message-stands}
-use Rattle.tcap_explain.proofs.StandsLemmas.{AreListed, one-stands, constructed-stands}
+use Rattle.tcap_explain.proofs.StandsLemmas.{AreListed, same_element, one-stands, constructed-stands}
 use Rattle.tcap_explain.proofs.UnmetLemmas.{walk-stands}
 use Rattle.tcap_explain.proofs.VerdictLemmas.{says-unknown, says-format, says-incorrect}
-
-abbrev Read : Type 0
-Read = Parts × List ℕ
-
--- the same octets begin with one element
-pub same_element : (e f : Parts) (rest : List ℕ) → IsElement 32 e → IsElement 32 f → e.whole ≡ f.whole ++ rest → e ≡ f
-same_element e f rest i j is =
-    let first : element_at 32 (e.whole ++ []) ≡ Ok (e, []) = element_again 32 e [] i in
-    let again : element_at 32 (e.whole ++ []) ≡ Ok (f, rest) = ap (element_at 32) (append-nil e.whole ∙ is) ∙ element_again 32 f rest j in
-    ap (λ (r : Read). r.0) (read_is (e, []) (f, rest) (sym first ∙ again))
 
 not_unknown : (bytes : List ℕ) → IsFrameFault bytes fault.Unknown → Stands (line.Message message.MessageType) bytes → ⊥
 not_unknown bytes (no_message e i none) s =

@@ -1,8 +1,12 @@
 pub mod BerCoreLemmas
+pub mod ComponentStands
 pub mod EncodingLemmas
 pub mod FaultAtLemmas
 pub mod FaultThere
 pub mod MessageStands
+pub mod PduStands
+pub mod PortionStands
+pub mod PortionThere
 pub mod StandsLemmas
 pub mod UnmetLemmas
 pub mod UnmetOnly

@@ -1,9 +1,9 @@
 -- Elements that stand in a table of messages are a message.
-use Rattle.std.proofs.Common.{◌≡◌, ℕ, ◌<◌, ◌≤◌, true, false, Bool, eqb, leb, List, [], ◌∷◌, ◌++◌, length, Option, Some, None, refl, sym, ap, subst, ◌∙◌, arith, inl, inr}
+use Rattle.std.proofs.Common.{◌≡◌, ℕ, ◌≤◌, true, false, eqb, leb, List, [], ◌∷◌, ◌++◌, length, Option, Some, None, refl, sym, ap, ◌∙◌, arith, inl, inr}
 use Rattle.std.proofs.lemmas.Bool.{cases_Bool, eqb-false}
 use Rattle.std.proofs.lemmas.Bool.Decides.{nat_tests}
 use Rattle.ber_core.specs.Element.{Parts, IsElement}
-use Rattle.ber_core.specs.Sequence.{Field, SpellsSequence}
+use Rattle.ber_core.specs.Sequence.{SpellsSequence}
 use Rattle.ber_core.specs.Sequence.Field.{must, may, filled}
 use Rattle.tcap_pdu.specs.TransId.{IsTransId}
 use Rattle.tcap_pdu.specs.FrameSpelling.{Reason, Message, message_tag, fields, reason_fields, IsReason, HasIds, HasCause, IsFrame}
@@ -17,11 +17,11 @@ use Rattle.tcap_explain.specs.declared.line.MessageLine.TheVariants as message
 use Rattle.tcap_explain.specs.declared.table.Inside.{Inside}
 use Rattle.tcap_explain.specs.declared.table.Inside.TheVariants as inside
 use Rattle.tcap_explain.specs.Choice.{leads, only, either}
-use Rattle.tcap_explain.specs.Octets.{is_within, fits}
+use Rattle.tcap_explain.specs.Octets.{fits}
 use Rattle.tcap_explain.specs.Table.{next, may_end}
-use Rattle.tcap_explain.specs.Unmet.{Holds, Stands}
+use Rattle.tcap_explain.specs.Unmet.{Stands}
 use Rattle.tcap_explain.specs.Unmet.Stands.{ends, begins}
-use Rattle.tcap_explain.proofs.StandsLemmas.{octets-fit, elements-stand, either-some, only-takes, without, with_it, no_elements, end-stands, end-empty}
+use Rattle.tcap_explain.proofs.StandsLemmas.{octets-fit, elements-stand, either-some, only-takes, without, with_it, no_elements, end-stands}
 
 abbrev whatever : Inside
 whatever = inside.Octets contents.Any

@@ -1,12 +1,12 @@
 -- Elements that stand in a table, line by line.
-use Rattle.std.proofs.Common.{◌≡◌, ℕ, true, false, Bool, List, [], ◌∷◌, ◌++◌, Option, Some, None, refl, sym, ap, subst, ◌∙◌, ◌⊎◌, inl, inr}
+use Rattle.std.proofs.Common.{◌≡◌, ℕ, true, List, [], ◌∷◌, ◌++◌, Option, Some, None, refl, sym, ap, subst, ◌∙◌, ◌⊎◌, inl, inr}
 use Rattle.std.proofs.lemmas.List.{append-nil}
 use Rattle.ber_core.specs.Element.{Parts, IsElement}
 use Rattle.ber_core.specs.ElementList.{IsList}
-use Rattle.ber_core.specs.Sequence.{Field, StandsAs, IsLeftOut, InOrder, SpellsSequence, IsOnly}
-use Rattle.ber_core.specs.Sequence.Field.{must, may, filled, any}
+use Rattle.ber_core.specs.ElementReading.{element_at}
+use Rattle.ber_core.specs.Sequence.{Field, StandsAs, IsLeftOut, InOrder, SpellsSequence}
 use Rattle.ber_core.specs.SequenceReading.{is_tag}
-use Rattle.ber_core.proofs.CallerLemmas.{test_some, some_is, not_some, is_tag-is, list_from}
+use Rattle.ber_core.proofs.CallerLemmas.{test_some, some_is, not_some, is_tag-is, is_tag-one, list_from, element_again, read_is}
 use Rattle.tcap_explain.specs.declared.contents.Contents.{Contents}
 use Rattle.tcap_explain.specs.declared.contents.Contents.TheVariants as contents
 use Rattle.tcap_explain.specs.declared.line.Line.{Line}
@@ -42,6 +42,16 @@ pub either-some : (a b : Option Choice) (x : Choice) → either a b ≡ Some x �
 either-some None b x e = inr e
 either-some (Some a) b x e = inl e
 
+pub either-other : (a b : Option Choice) (x : Choice) → either a b ≡ Some x → (a ≡ Some x) ⊎ ((a ≡ None) × (b ≡ Some x))
+either-other None b x e = inr (refl, e)
+either-other (Some a) b x e = inl e
+
+pub only-other : (octet : ℕ) (tag : List ℕ) (want : Inside) (line : Line) → only octet tag want line ≡ None → tag ≡ octet ∷ [] → ⊥
+only-other octet tag want line n t =
+    let n = n in
+    let no : Some (leads want line) ≡ None = rw (is_tag-one octet tag t) at n in
+    cc
+
 pub only-takes : (octet : ℕ) (held want : Inside) (line then : Line) (e : Parts) (rest : List ℕ) → only octet e.tag want line ≡ Some (leads held then) → Holds held e.content → Stands then rest → Takes octet want line e rest
 only-takes octet held want line then e rest n h s =
     let t = test_some (is_tag octet e.tag) (let x : Option Choice = Some (leads want line) in x) (leads held then) n in
@@ -49,6 +59,12 @@ only-takes octet held want line then e rest n h s =
     let held_is : held ≡ want = ap (λ (c : Choice). c.0) (sym same) in
     let then_is : then ≡ line = ap (λ (c : Choice). c.1) (sym same) in
     (is_tag-is octet e.tag t.0, subst (λ (i : Inside). Holds i e.content) held_is h, subst (λ (l : Line). Stands l rest) then_is s)
+
+-- which choice was taken, where there is one
+pub only-chooses : (octet : ℕ) (tag : List ℕ) (held want : Inside) (line then : Line) → only octet tag want line ≡ Some (leads held then) → (tag ≡ octet ∷ []) × (then ≡ line)
+only-chooses octet tag held want line then n =
+    let t = test_some (is_tag octet tag) (let x : Option Choice = Some (leads want line) in x) (leads held then) n in
+    (is_tag-is octet tag t.0, ap (λ (c : Choice). c.1) (sym (some_is (leads want line) (leads held then) t.1)))
 
 -- ---- listed sequences
 
@@ -83,6 +99,19 @@ pub end-empty : (bytes : List ℕ) → Stands (line.List list.End) bytes → byt
 unfolding next
 end-empty bytes (ends l m) = refl
 end-empty bytes (begins l t held e rest i n h s) = absurd (not_some (leads held t) n)
+
+-- ---- elements
+
+abbrev Read : Type 0
+Read = Parts × List ℕ
+
+-- the same octets begin with one element
+pub same_begin : (e f : Parts) (x y : List ℕ) → IsElement 32 e → IsElement 32 f → e.whole ++ x ≡ f.whole ++ y → e ≡ f
+same_begin e f x y i j is =
+    ap (λ (r : Read). r.0) (read_is (e, x) (f, y) (sym (element_again 32 e x i) ∙ (ap (element_at 32) is ∙ element_again 32 f y j)))
+
+pub same_element : (e f : Parts) (rest : List ℕ) → IsElement 32 e → IsElement 32 f → e.whole ≡ f.whole ++ rest → e ≡ f
+same_element e f rest i j is = same_begin e f [] rest i j (append-nil e.whole ∙ is)
 
 -- ---- lists of elements
 

@@ -1,29 +1,28 @@
 -- A walk finds exactly what is not met first, and nothing exactly where all stands in the table.
-use Rattle.std.proofs.Common.{◌≡◌, ◌≢◌, ℕ, zero, suc, ◌+◌, ◌-◌, ◌<◌, ◌≤◌, true, false, List, [], ◌∷◌, ◌++◌, length, Option, Some, None, option_map, Ok, Err, Result, refl, sym, ap, subst, ◌∙◌, arith, inl, inr}
+use Rattle.std.proofs.Common.{◌≡◌, ◌≢◌, ℕ, zero, suc, ◌-◌, ◌<◌, ◌≤◌, false, List, [], ◌∷◌, ◌++◌, length, Option, Some, None, option_map, Ok, refl, sym, ap, subst, ◌∙◌, arith, inl, inr}
 use Rattle.std.proofs.lemmas.Bool.{cases_Bool}
 use Rattle.std.proofs.lemmas.List.{length-append}
-use Rattle.ber_core.specs.declared.fault.BerFault.{BerFault}
 use Rattle.ber_core.specs.Element.{Parts, IsElement}
 use Rattle.ber_core.specs.ElementReading.{element_at}
 use Rattle.ber_core.specs.Place.{head_length}
-use Rattle.ber_core.proofs.CallerLemmas.{by_result, by_option, element_takes, element_again, IsElement-longer, head_length-whole}
+use Rattle.ber_core.proofs.CallerLemmas.{by_result, element_takes, head_length-whole}
 use Rattle.tcap_explain.specs.declared.line.Line.{Line}
 use Rattle.tcap_explain.specs.declared.line.Rule.TheVariants as rule
 use Rattle.tcap_explain.specs.declared.line.Explained.{Explained}
 use Rattle.tcap_explain.specs.declared.table.Inside.{Inside}
 use Rattle.tcap_explain.specs.declared.table.Inside.TheVariants as inside
 use Rattle.tcap_explain.specs.Choice.{Choice, leads}
-use Rattle.tcap_explain.specs.EncodingPlace.{IsToldAt, told_at}
+use Rattle.tcap_explain.specs.EncodingPlace.{told_at}
 use Rattle.tcap_explain.specs.Octets.{fits}
 use Rattle.tcap_explain.specs.Table.{next, may_end, is_over}
-use Rattle.tcap_explain.specs.Walk.{unmet, further, first_of, badly_encoded, bad_octets, inside_by, passed, chosen_by, step_from, step_by, ended, behind, walk_by, walk, step}
+use Rattle.tcap_explain.specs.Walk.{unmet, further, first_of, inside_by, passed, chosen_by, step_from, ended, behind, walk, step}
 use Rattle.tcap_explain.specs.Unmet.{Holds, Stands, UnmetInside, Unmet}
 use Rattle.tcap_explain.specs.Unmet.Holds.{octets, elements, listed}
 use Rattle.tcap_explain.specs.Unmet.Stands.{ends, begins}
 use Rattle.tcap_explain.specs.Unmet.UnmetInside.{bad_octets as wrong_octets, bad_elements, not_first, not_second}
 use Rattle.tcap_explain.specs.Unmet.Unmet.{missing, more, unreadable, other, inside_it, behind_it}
 use Rattle.tcap_explain.proofs.BerCoreLemmas.{element_fails}
-use Rattle.tcap_explain.proofs.EncodingLemmas.{told_at-is, told_at-only, element_told}
+use Rattle.tcap_explain.proofs.EncodingLemmas.{told_at-is}
 use Rattle.tcap_explain.proofs.WalkLemmas.{some, content_within, walk-empty, walk-next}
 
 -- what a walk finds is what is not met, and nothing where all stands

@@ -1,23 +1,21 @@
 -- What is not met first is what a walk finds, and where all stands in the table it finds nothing: so there is one.
-use Rattle.std.proofs.Common.{◌≡◌, ◌≢◌, ℕ, zero, suc, ◌+◌, ◌-◌, ◌<◌, ◌≤◌, true, false, List, [], ◌∷◌, ◌++◌, length, Option, Some, None, option_map, Ok, Err, Result, refl, sym, ap, subst, ◌∙◌, arith, inl, inr}
+use Rattle.std.proofs.Common.{◌≡◌, ◌≢◌, ℕ, ◌-◌, ◌<◌, true, false, List, [], ◌∷◌, ◌++◌, length, Option, Some, None, option_map, Err, Result, refl, sym, ap, ◌∙◌, arith, inl, inr}
 use Rattle.std.proofs.lemmas.Bool.{cases_Bool}
 use Rattle.std.proofs.lemmas.List.{length-append}
 use Rattle.ber_core.specs.declared.fault.BerFault.{BerFault}
 use Rattle.ber_core.specs.Element.{Parts, IsElement}
 use Rattle.ber_core.specs.ElementReading.{element_at}
 use Rattle.ber_core.specs.Place.{head_length}
-use Rattle.ber_core.proofs.CallerLemmas.{element_again, IsElement-longer, head_length-whole}
+use Rattle.ber_core.proofs.CallerLemmas.{some_is, not_some, element_again, IsElement-longer, head_length-whole}
 use Rattle.tcap_explain.specs.declared.line.Line.{Line}
 use Rattle.tcap_explain.specs.declared.line.Line.TheVariants as line
 use Rattle.tcap_explain.specs.declared.line.ListLine.TheVariants as list
 use Rattle.tcap_explain.specs.declared.line.Rule.TheVariants as rule
 use Rattle.tcap_explain.specs.declared.line.Explained.{Explained}
 use Rattle.tcap_explain.specs.declared.table.Inside.{Inside}
-use Rattle.tcap_explain.specs.declared.table.Inside.TheVariants as inside
 use Rattle.tcap_explain.specs.Choice.{Choice, leads}
-use Rattle.tcap_explain.specs.EncodingPlace.{told_at}
-use Rattle.tcap_explain.specs.Table.{next, may_end, is_over}
-use Rattle.tcap_explain.specs.Walk.{unmet, further, badly_encoded, inside_by, passed, chosen_by, step_from, step_by, ended, behind, walk, step}
+use Rattle.tcap_explain.specs.Table.{next, is_over}
+use Rattle.tcap_explain.specs.Walk.{unmet, further, badly_encoded, inside_by, passed, behind, walk, step}
 use Rattle.tcap_explain.specs.Unmet.{Holds, Stands, UnmetInside, Unmet}
 use Rattle.tcap_explain.specs.Unmet.Holds.{octets, elements, listed}
 use Rattle.tcap_explain.specs.Unmet.Stands.{ends, begins}
@@ -111,3 +109,9 @@ mutual
   inside-some head held content x (bad_elements d k c y u) = rw (unmet-some k c y u) refl
   inside-some head held content x (not_first d a b c y u) = rw (unmet-some a c y u) refl
   inside-some head held content x (not_second d a b c y s u) = rw (stands-none a c s, unmet-some b c y u) refl
+
+pub one_unmet : (l : Line) (bytes : List ℕ) (x y : Explained) → Unmet l bytes x → Unmet l bytes y → x ≡ y
+one_unmet l bytes x y h i = some_is x y (sym (unmet-some l bytes x h) ∙ unmet-some l bytes y i)
+
+pub stands_met : (l : Line) (bytes : List ℕ) (x : Explained) → Stands l bytes → Unmet l bytes x → ⊥
+stands_met l bytes x s h = not_some x (sym (stands-none l bytes s) ∙ unmet-some l bytes x h)

@@ -1,13 +1,11 @@
 -- What a verdict says of the bytes.
-use Rattle.std.proofs.Common.{◌≡◌, ℕ, zero, suc, ◌+◌, true, false, Bool, List, [], ◌∷◌, ◌++◌, length, Option, Some, None, option_map, is_err, Ok, Err, Result, refl, sym, ap, subst, ◌∙◌, arith, ◌⊎◌, inl, inr}
+use Rattle.std.proofs.Common.{◌≡◌, ℕ, ◌+◌, List, [], ◌∷◌, length, Option, Some, None, is_err, Ok, Err, Result, refl, sym, ap, subst, ◌∙◌, arith, ◌⊎◌, inl, inr}
 use Rattle.std.specs.Prelude.{nat_lt}
 use Rattle.std.specs.List.{position_from}
 use Rattle.std.proofs.lemmas.Bool.{cases_Bool}
-use Rattle.ber_core.proofs.CallerLemmas.{by_result, by_option}
+use Rattle.ber_core.proofs.CallerLemmas.{by_result}
 use Rattle.tcap_pdu.specs.FrameSpelling.{Reason, Message}
-use Rattle.tcap_pdu.specs.FrameSpelling.Reason.{nothing, cause, portion}
 use Rattle.tcap_pdu.specs.FrameSpelling.Message.{unidirectional, begin, end, go_on, abort}
-use Rattle.tcap_pdu.specs.FrameLength.{dialogue_of}
 use Rattle.tcap_pdu.specs.FramePortions.{components_in}
 use Rattle.tcap_pdu.specs.FrameReading.{frame_at}
 use Rattle.tcap_pdu.specs.declared.fault.FrameFault.{FrameFault}
@@ -19,7 +17,7 @@ use Rattle.tcap_component.specs.ComponentReading.{components_of}
 use Rattle.tcap_component.proofs.CallerLemmas.{first_fault_is}
 use Rattle.tcap_words.specs.declared.verdict.Verdict.{Verdict}
 use Rattle.tcap_words.specs.declared.verdict.Verdict.TheVariants.{TooLong, UnknownType, BadlyFormatted, Incorrect, Dialogue, Component, Good}
-use Rattle.tcap_words.specs.Verdict.{verdict_of_fault, message_by, message_of, is_good_portion, is_good_reason, verdict_by_place, components_verdict, portions_verdict, message_verdict, verdict_by, verdict_of, is_good}
+use Rattle.tcap_words.specs.Verdict.{verdict_of_fault, message_of, is_good_portion, is_good_reason, verdict_by_place, components_verdict, portions_verdict, message_verdict, verdict_of}
 
 -- ---- verdicts on messages that were read
 

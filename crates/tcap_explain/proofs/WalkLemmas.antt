@@ -1,14 +1,13 @@
 -- Contents held against a table: what a walk over them finds, element by element.
-use Rattle.std.proofs.Common.{◌≡◌, ℕ, zero, suc, ◌+◌, ◌-◌, ◌<◌, ◌≤◌, List, [], ◌∷◌, ◌++◌, length, Option, Some, None, option_map, Ok, Err, Result, refl, sym, ap, subst, ◌∙◌, arith, inl, inr}
+use Rattle.std.proofs.Common.{◌≡◌, ℕ, zero, suc, ◌+◌, ◌-◌, ◌<◌, ◌≤◌, List, [], ◌∷◌, ◌++◌, length, Option, Some, None, option_map, Ok, Err, Result, refl, ap, subst, ◌∙◌, arith, inl, inr}
 use Rattle.std.proofs.lemmas.Bool.{cases_Bool}
 use Rattle.std.proofs.lemmas.List.{length-append}
-use Rattle.ber_core.specs.declared.fault.BerFault.{BerFault}
 use Rattle.ber_core.specs.Tag.{IsTag, is_constructor}
 use Rattle.ber_core.specs.Element.{Parts, IsElement, IsDefinite, IsIndefinite}
 use Rattle.ber_core.specs.HeadReading.{head_at}
 use Rattle.ber_core.specs.ElementReading.{element_at}
 use Rattle.ber_core.specs.Place.{head_length}
-use Rattle.ber_core.proofs.CallerLemmas.{HeadRead, head_again-definite, head_again-indefinite, by_result, by_option, element_takes, IsElement-longer, head_length-whole}
+use Rattle.ber_core.proofs.CallerLemmas.{HeadRead, head_again-definite, head_again-indefinite, by_result, element_takes, IsElement-longer, head_length-whole}
 use Rattle.tcap_explain.specs.declared.line.Line.{Line}
 use Rattle.tcap_explain.specs.declared.line.Rule.{Rule}
 use Rattle.tcap_explain.specs.declared.line.Rule.TheVariants as rule
@@ -17,7 +16,7 @@ use Rattle.tcap_explain.specs.declared.table.Inside.{Inside}
 use Rattle.tcap_explain.specs.declared.table.Inside.TheVariants as inside
 use Rattle.tcap_explain.specs.Choice.{Choice}
 use Rattle.tcap_explain.specs.Table.{next, is_over}
-use Rattle.tcap_explain.specs.Walk.{unmet, further, Walk, first_of, inside_by, passed, chosen_by, step_from, step_by, ended, behind, walk_by, walk, step}
+use Rattle.tcap_explain.specs.Walk.{unmet, further, Walk, inside_by, passed, chosen_by, step_from, step_by, ended, behind, walk_by, walk, step}
 
 -- ---- the content of an element within its whole
 

@@ -1,15 +1,14 @@
 -- Where the content that a tag leads to begins, element by element; and what is left behind components.
-use Rattle.std.proofs.Common.{◌≡◌, ℕ, zero, suc, ◌+◌, ◌-◌, ◌<◌, ◌≤◌, true, false, List, [], ◌∷◌, ◌++◌, length, Option, Ok, Err, Result, refl, sym, ap, subst, ◌∙◌, arith, inl, inr}
+use Rattle.std.proofs.Common.{◌≡◌, ℕ, zero, suc, ◌+◌, ◌-◌, ◌<◌, ◌≤◌, true, false, List, [], ◌∷◌, ◌++◌, length, Ok, Err, Result, refl, sym, ap, ◌∙◌, arith}
 use Rattle.std.proofs.lemmas.List.{length-append}
 use Rattle.ber_core.specs.declared.fault.BerFault.{BerFault}
-use Rattle.ber_core.specs.Element.{Parts, IsElement}
+use Rattle.ber_core.specs.Element.{Parts}
 use Rattle.ber_core.specs.ElementReading.{element_at}
-use Rattle.ber_core.specs.ListReading.{items_of}
 use Rattle.ber_core.specs.Place.{head_length}
 use Rattle.ber_core.specs.SequenceReading.{is_tag}
 use Rattle.ber_core.specs.Way.{further, inside, inside_items}
-use Rattle.ber_core.proofs.CallerLemmas.{by_result, element_takes, IsElement-longer, items_of-none, items_of-next, items_of-fault, head_length-whole}
-use Rattle.tcap_component.specs.Component.{ComponentParts, SpellsComponent}
+use Rattle.ber_core.proofs.CallerLemmas.{element_takes, IsElement-longer, items_of-none, items_of-next, items_of-fault, head_length-whole}
+use Rattle.tcap_component.specs.Component.{ComponentParts}
 use Rattle.tcap_component.specs.ComponentFault.{FaultParts}
 use Rattle.tcap_component.specs.ComponentReading.{component_at}
 use Rattle.tcap_component.proofs.CallerLemmas.{component_takes}

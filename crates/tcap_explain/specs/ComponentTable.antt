@@ -1,12 +1,10 @@
 -- The tables of components (Q.773, Component portion).
-use Rattle.std.specs.Prelude.{ℕ, Bool, true, false, List, Option, Some, None}
+use Rattle.std.specs.Prelude.{ℕ, Bool, true, false, List, Option, Some}
 use Rattle.tcap_explain.specs.declared.contents.Contents.TheVariants as contents
-use Rattle.tcap_explain.specs.declared.line.Line.{Line}
 use Rattle.tcap_explain.specs.declared.line.Line.TheVariants as line
 use Rattle.tcap_explain.specs.declared.line.ListLine.TheVariants as list
 use Rattle.tcap_explain.specs.declared.line.ComponentLine.{ComponentLine}
 use Rattle.tcap_explain.specs.declared.line.ComponentLine.TheVariants as component
-use Rattle.tcap_explain.specs.declared.table.Inside.{Inside}
 use Rattle.tcap_explain.specs.declared.table.Inside.TheVariants as inside
 use Rattle.tcap_explain.specs.Choice.{Choice, leads, only, either}
 

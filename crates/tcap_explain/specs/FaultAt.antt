@@ -1,5 +1,5 @@
 -- Where the fault of a message is: the relation, by the verdict on the message.
-use Rattle.std.specs.Prelude.{◌≡◌, ℕ, ◌+◌, ◌⊎◌, false, List, length, Some, Ok}
+use Rattle.std.specs.Prelude.{◌≡◌, ℕ, ◌+◌, ◌⊎◌, List, length, Some, Ok}
 use Rattle.tcap_pdu.specs.FrameSpelling.{Message}
 use Rattle.tcap_pdu.specs.FrameLength.{dialogue_of}
 use Rattle.tcap_pdu.specs.FramePortions.{components_in}
@@ -8,7 +8,7 @@ use Rattle.tcap_component.specs.ComponentFault.{FaultParts}
 use Rattle.tcap_component.specs.ComponentList.{FirstFault}
 use Rattle.tcap_words.specs.declared.verdict.Verdict.{Verdict}
 use Rattle.tcap_words.specs.declared.verdict.Verdict.TheVariants as verdict
-use Rattle.tcap_words.specs.Verdict.{message_limit, message_of, verdict_of, is_good}
+use Rattle.tcap_words.specs.Verdict.{message_limit, message_of, verdict_of}
 use Rattle.tcap_explain.specs.declared.line.Line.TheVariants as line
 use Rattle.tcap_explain.specs.declared.line.ListLine.TheVariants as list
 use Rattle.tcap_explain.specs.declared.line.MessageLine.TheVariants as message

@@ -1,11 +1,9 @@
 -- Lists of elements, as tables of one line.
-use Rattle.std.specs.Prelude.{ℕ, Bool, true, false, List, Option, Some, None}
+use Rattle.std.specs.Prelude.{Bool, true, false, Option, Some, None}
 use Rattle.tcap_explain.specs.declared.contents.Contents.TheVariants as contents
-use Rattle.tcap_explain.specs.declared.line.Line.{Line}
 use Rattle.tcap_explain.specs.declared.line.Line.TheVariants as line
 use Rattle.tcap_explain.specs.declared.line.ListLine.{ListLine}
 use Rattle.tcap_explain.specs.declared.line.ListLine.TheVariants as list
-use Rattle.tcap_explain.specs.declared.table.Inside.{Inside}
 use Rattle.tcap_explain.specs.declared.table.Inside.TheVariants as inside
 use Rattle.tcap_explain.specs.Choice.{Choice, leads}
 

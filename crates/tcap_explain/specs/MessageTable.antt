@@ -1,12 +1,10 @@
 -- The tables of messages: which elements may stand at each line (Q.773, Structure of TC messages).
-use Rattle.std.specs.Prelude.{ℕ, Bool, true, false, List, Option, Some, None}
+use Rattle.std.specs.Prelude.{ℕ, Bool, true, false, List, Option}
 use Rattle.tcap_explain.specs.declared.contents.Contents.TheVariants as contents
-use Rattle.tcap_explain.specs.declared.line.Line.{Line}
 use Rattle.tcap_explain.specs.declared.line.Line.TheVariants as line
 use Rattle.tcap_explain.specs.declared.line.ListLine.TheVariants as list
 use Rattle.tcap_explain.specs.declared.line.MessageLine.{MessageLine}
 use Rattle.tcap_explain.specs.declared.line.MessageLine.TheVariants as message
-use Rattle.tcap_explain.specs.declared.table.Inside.{Inside}
 use Rattle.tcap_explain.specs.declared.table.Inside.TheVariants as inside
 use Rattle.tcap_explain.specs.Choice.{Choice, only, either}
 

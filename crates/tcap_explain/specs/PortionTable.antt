@@ -1,5 +1,5 @@
 -- The tables of the dialogue portion, down to its PDU (Q.773, Dialogue portion).
-use Rattle.std.specs.Prelude.{ℕ, Bool, true, false, List, Option, Some, None, if◌then◌else◌}
+use Rattle.std.specs.Prelude.{ℕ, Bool, false, List, Option, if◌then◌else◌}
 use Rattle.std.specs.Str.{bytes_eq}
 use Rattle.tcap_pdu.specs.DialogueSpelling.{structured_syntax, unstructured_syntax}
 use Rattle.tcap_explain.specs.declared.contents.Contents.TheVariants as contents
@@ -9,7 +9,6 @@ use Rattle.tcap_explain.specs.declared.line.ListLine.TheVariants as list
 use Rattle.tcap_explain.specs.declared.line.PortionLine.{PortionLine}
 use Rattle.tcap_explain.specs.declared.line.PortionLine.TheVariants as portion
 use Rattle.tcap_explain.specs.declared.line.PduLine.TheVariants as pdu
-use Rattle.tcap_explain.specs.declared.table.Inside.{Inside}
 use Rattle.tcap_explain.specs.declared.table.Inside.TheVariants as inside
 use Rattle.tcap_explain.specs.Choice.{Choice, only, either}
 

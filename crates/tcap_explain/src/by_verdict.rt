@@ -1,12 +1,14 @@
 //! Where the fault of a message is, by the verdict on it.
 
-ghost use Rattle.std.specs.Prelude.{◌≡◌, ◌+◌, ◌^◌, ◌<◌, ◌≤◌, length, option_map, option_copied, IfSome, Ok};
+ghost use Rattle.std.specs.Prelude.{◌≡◌, ◌+◌, ◌^◌, ◌<◌, ◌≤◌, length, option_map, option_copied, true, IfSome, Some, None};
 ghost use Rattle.tcap_pdu.specs.FrameSpelling.{message_tag};
 ghost use Rattle.tcap_pdu.specs.FrameLength.{dialogue_of};
 ghost use Rattle.tcap_pdu.specs.FramePortions.{components_in};
 ghost use Rattle.tcap_pdu.specs.FrameViews.{message};
-ghost use Rattle.tcap_words.specs.Verdict.{verdict_of, message_of};
+ghost use Rattle.tcap_words.specs.Verdict.{is_good, verdict_of, message_of};
 ghost use Rattle.tcap_explain.specs.Walk.{further, first_of, walk};
+ghost use Rattle.tcap_explain.specs.declared.line.Explained.{Explained};
+ghost use Rattle.tcap_explain.specs.FaultAt.{FaultAt};
 ghost use Rattle.tcap_explain.specs.Explaining.{external_line, portion_place, dialogue_fault, left_of, faulty_component, component_fault, in_message, explained_by, explained_at};
 
 use crate::line::{ComponentLine, Explained, Line, ListLine, MessageLine, PortionLine, Rule};
@@ -186,12 +188,25 @@ fn explain_verdict(verdict: Verdict, bytes: &[u8]) -> Option<Explained>
     }
 }
 
+/// `explain`, in exact form.
+#[tactic(auto, unfolding(crate::specs::Explaining::explained_at))]
+fn explain_bytes(bytes: &[u8]) -> Option<Explained>
+    ensures { result ≡ explained_at bytes.now }
+{
+    explain_verdict(verdict_on(bytes), bytes)
+}
+
 /// Where the fault of a message is, and the rule that isn't met there; None where the verdict is good. It takes
 /// no memory.
-#[tactic(auto, unfolding(crate::specs::Explaining::explained_at))]
 pub fn explain(bytes: &[u8]) -> Option<Explained>
+    // What is told is where the fault is; and wherever the fault is, that is told.
+    ensures found { IfSome result (λ x. FaultAt bytes.now x) }
+    ensures only { (x : Explained) → FaultAt bytes.now x → result ≡ Some x }
+    // Nothing is told exactly of a good message.
+    ensures none { result ≡ None → is_good (verdict_of bytes.now) ≡ true }
+    ensures good { is_good (verdict_of bytes.now) ≡ true → result ≡ None }
     // The same, computed: what stands above cites it.
     ensures exact { result ≡ explained_at bytes.now }
 {
-    explain_verdict(verdict_on(bytes), bytes)
+    explain_bytes(bytes)
 }

@@ -10,6 +10,7 @@ mod component_tag;
 mod contents;
 mod encoding;
 mod fault_text;
+pub mod laws;
 mod line;
 mod table;
 mod walk;

@@ -1,5 +1,4 @@
 use Rattle.std.proofs.Common.{◌≡◌, length, sym, ◌∙◌, arith, rules}
-use Rattle.tcap_component.specs.Views.{component_parts}
 use Rattle.tcap_explain.proofs.WayLemmas.{component-shorter, left-none, left-next, left-fault}
 use Rattle.tcap_explain.proofs.by_verdict.skip_components.Goals as goal
 

@@ -1,4 +1,4 @@
-use Rattle.std.proofs.Common.{◌≡◌, ◌<◌, ◌≤◌, ◌-◌, ◌/◌, ℕ, false, length, take, sym, ◌∙◌, arith, rules}
+use Rattle.std.proofs.Common.{◌≡◌, ◌<◌, ◌≤◌, ◌-◌, ◌/◌, false, length, take, sym, arith, rules}
 use Rattle.tcap_explain.specs.EncodingPlace.{is_open, told_at}
 use Rattle.tcap_explain.proofs.EncodingLemmas.{nothing-open, closed-longer, open_by-is}
 use Rattle.tcap_explain.proofs.encoding.told_place.Goals as goal

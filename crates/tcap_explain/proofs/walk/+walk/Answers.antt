@@ -1,8 +1,7 @@
-use Rattle.std.proofs.Common.{◌≡◌, ◌+◌, ◌-◌, ◌<◌, ◌≤◌, ℕ, List, length, Option, Some, option_map, sym, ap, ◌∙◌, arith, rules}
+use Rattle.std.proofs.Common.{◌≡◌, ◌+◌, ◌-◌, ◌<◌, ℕ, length, option_map, sym, ap, ◌∙◌, arith, rules}
 use Rattle.ber_core.specs.Views.{parts}
 use Rattle.tcap_explain.specs.declared.table.Inside.{Inside}
-use Rattle.tcap_explain.specs.declared.line.Explained.{Explained}
-use Rattle.tcap_explain.specs.Walk.{further, inside_by, ended, behind, step, walk}
+use Rattle.tcap_explain.specs.Walk.{further, inside_by, ended, behind, walk}
 use Rattle.tcap_explain.proofs.WalkLemmas.{some, content_within, further-further, walk-empty, walk-next}
 use Rattle.tcap_explain.proofs.walk.+walk.Goals as goal
 

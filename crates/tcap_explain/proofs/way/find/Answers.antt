@@ -1,4 +1,4 @@
-use Rattle.std.proofs.Common.{◌≡◌, ◌+◌, ◌-◌, ◌<◌, ◌≤◌, ℕ, true, false, List, [], length, sym, ap, ◌∙◌, arith, rules}
+use Rattle.std.proofs.Common.{◌≡◌, ◌+◌, ◌-◌, ◌<◌, ℕ, true, false, [], length, sym, ap, ◌∙◌, arith, rules}
 use Rattle.ber_core.specs.Place.{head_length}
 use Rattle.ber_core.specs.SequenceReading.{is_tag}
 use Rattle.ber_core.specs.Way.{further, inside}
