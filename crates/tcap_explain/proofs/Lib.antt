@@ -1,4 +1,5 @@
 pub mod BerCoreLemmas
+pub mod ComponentParts
 pub mod ComponentStands
 pub mod EncodingLemmas
 pub mod FaultAtLemmas

@@ -23,7 +23,7 @@ use Rattle.tcap_explain.specs.Octets.{fits}
 use Rattle.tcap_explain.specs.Table.{next, may_end}
 use Rattle.tcap_explain.specs.Unmet.{Holds, Stands}
 use Rattle.tcap_explain.specs.Unmet.Stands.{ends, begins}
-use Rattle.tcap_explain.proofs.ComponentStands.{within-one}
+use Rattle.tcap_explain.proofs.ComponentParts.{within-one}
 use Rattle.tcap_explain.proofs.StandsLemmas.{octets-fit, elements-stand, either-some, only-takes, only-chooses, without, with_it, no_elements, end-stands}
 
 abbrev nothing_more : Line

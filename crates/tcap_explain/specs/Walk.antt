@@ -1,5 +1,5 @@
 -- Contents held against a table, element by element: the first that doesn't fit its line.
-use Rattle.std.specs.Prelude.{ℕ, zero, suc, ◌+◌, ◌-◌, List, [], ◌∷◌, length, Option, Some, None, option_map, Result, Ok, Err, if◌then◌else◌}
+use Rattle.std.specs.Prelude.{ℕ, zero, suc, ◌+◌, ◌-◌, ◌≤◌, List, [], ◌∷◌, length, Option, Some, None, option_map, Result, Ok, Err, if◌then◌else◌}
 use Rattle.ber_core.specs.declared.fault.BerFault.{BerFault}
 use Rattle.ber_core.specs.Element.{Parts, depth_limit}
 use Rattle.ber_core.specs.ElementReading.{element_at}
@@ -23,6 +23,10 @@ unmet place element rule = record { place = place; element = element; rule = rul
 -- The same, n octets further on (own).
 abbrev pub further : ℕ → Explained → Explained
 further n x = unmet (n + x.place) (n + x.element) x.rule
+
+-- The place and the element lie within so many octets, or at their end (own).
+abbrev pub IsWithin : ℕ → Explained → Type 0
+IsWithin len x = (x.place ≤ len) × (x.element ≤ len)
 
 -- An encoding with a fault: where it is told, in the element at the front (X.690, Structure of an encoding).
 abbrev pub badly_encoded : List ℕ → BerFault → Explained

@@ -6,7 +6,7 @@ ghost use Rattle.tcap_pdu.specs.FrameLength.{dialogue_of};
 ghost use Rattle.tcap_pdu.specs.FramePortions.{components_in};
 ghost use Rattle.tcap_pdu.specs.FrameViews.{message};
 ghost use Rattle.tcap_words.specs.Verdict.{is_good, verdict_of, message_of};
-ghost use Rattle.tcap_explain.specs.Walk.{further, first_of, walk};
+ghost use Rattle.tcap_explain.specs.Walk.{IsWithin, further, first_of, walk};
 ghost use Rattle.tcap_explain.specs.declared.line.Explained.{Explained};
 ghost use Rattle.tcap_explain.specs.FaultAt.{FaultAt};
 ghost use Rattle.tcap_explain.specs.Explaining.{external_line, portion_place, dialogue_fault, left_of, faulty_component, component_fault, in_message, explained_by, explained_at};
@@ -76,7 +76,7 @@ fn components_of<'a>(frame: &Frame<'a>) -> &'a [u8]
 fn walk_at(before: usize, line: Line, content: &[u8]) -> Option<Explained>
     requires { before + length content.now < 2 ^ 64 }
     ensures value { result ≡ option_map (further before) (walk line content.now) }
-    ensures within { IfSome result (λ x. (x.place ≤ before + length content.now) × (x.element ≤ before + length content.now)) }
+    ensures within { IfSome result (λ x. IsWithin (before + length content.now) x) }
 {
     match walk(line, content) {
         Some(found) => Some(further_on(before, found)),
@@ -115,7 +115,7 @@ fn skip_components(content: &[u8]) -> &[u8]
 /// What is not met in the first faulty component of a component portion.
 fn explain_components(content: &[u8]) -> Option<Explained>
     ensures value { result ≡ faulty_component content.now }
-    ensures within { IfSome result (λ x. (x.place ≤ length content.now) × (x.element ≤ length content.now)) }
+    ensures within { IfSome result (λ x. IsWithin (length content.now) x) }
 {
     let rest = skip_components(content);
     walk_at(
@@ -160,7 +160,8 @@ fn explain_component_verdict(bytes: &[u8]) -> Option<Explained>
 
 /// What is not met in bytes that are no element, or whose contents are no list of elements.
 fn explain_format(bytes: &[u8]) -> Option<Explained>
-    ensures { result ≡ first_of (walk (Line.List ListLine.OneElement) bytes.now) (walk (Line.List ListLine.OneConstructed) bytes.now) }
+    ensures { result ≡ first_of (walk (Line.List ListLine.OneElement) bytes.now)
+        (walk (Line.List ListLine.OneConstructed) bytes.now) }
 {
     match walk(Line::List(ListLine::OneElement), bytes) {
         Some(found) => Some(found),

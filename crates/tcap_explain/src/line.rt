@@ -134,7 +134,7 @@ pub enum ComponentLine {
     Problem,
     /// Return Result, before it is read: a list of elements, of which a 30 that stands second holds a list.
     ResultList,
-    /// The same, behind the first element.
+    /// The list of a Return Result, behind its first element.
     ResultListSecond,
 }
 

@@ -44,7 +44,7 @@ fn only(octet: u8, tag: &[u8], inside: Inside, line: Line) -> Option<(Inside, Li
     }
 }
 
-/// The same, of an element whose contents octets aren't elements.
+/// `only`, of an element whose contents octets aren't elements.
 pub(crate) fn octets(
     octet: u8,
     tag: &[u8],
@@ -56,14 +56,14 @@ pub(crate) fn octets(
     only(octet, tag, Inside::Octets(contents), line)
 }
 
-/// The same, of an element that holds elements.
+/// `only`, of an element that holds elements.
 pub(crate) fn elements(octet: u8, tag: &[u8], inner: Line, line: Line) -> Option<(Inside, Line)>
     ensures { result ≡ only octet tag.now (Inside.Elements inner) line }
 {
     only(octet, tag, Inside::Elements(inner), line)
 }
 
-/// The same, of an element that holds elements, looked at twice.
+/// `only`, of an element that holds elements, which are looked at twice.
 pub(crate) fn listed(
     octet: u8,
     tag: &[u8],

@@ -1,8 +1,8 @@
 //! Contents held against the tables, element by element.
 
-ghost use Rattle.std.specs.Prelude.{◌≡◌, ◌+◌, ◌^◌, ◌<◌, ◌≤◌, length, option_map, IfSome, IfErr, IfOk};
+ghost use Rattle.std.specs.Prelude.{◌≡◌, ◌+◌, ◌^◌, ◌<◌, length, option_map, IfSome, IfErr, IfOk};
 ghost use Rattle.ber_core.specs.Results.{Gives};
-ghost use Rattle.tcap_explain.specs.Walk.{Walk, further, first_of, inside_by, ended, step, walk};
+ghost use Rattle.tcap_explain.specs.Walk.{IsWithin, Walk, further, first_of, inside_by, ended, step, walk};
 
 use crate::contents::{Contents, is_met};
 use crate::encoding::told_place;
@@ -44,7 +44,7 @@ fn octets_fault(head: usize, contents: Contents, content: &[u8]) -> Option<Expla
 fn elements_fault(head: usize, line: Line, content: &[u8]) -> Option<Explained>
     requires { head + length content.now < 2 ^ 64 }
     ensures value { result ≡ option_map (further head) (walk line content.now) }
-    ensures within { IfSome result (λ x. (x.place ≤ head + length content.now) × (x.element ≤ head + length content.now)) }
+    ensures within { IfSome result (λ x. IsWithin (head + length content.now) x) }
 {
     match walk(line, content) {
         Some(found) => Some(further_on(head, found)),
@@ -57,7 +57,7 @@ fn elements_fault(head: usize, line: Line, content: &[u8]) -> Option<Explained>
 fn listed_fault(head: usize, first: Line, second: Line, content: &[u8]) -> Option<Explained>
     requires { head + length content.now < 2 ^ 64 }
     ensures value { result ≡ option_map (further head) (first_of (walk first content.now) (walk second content.now)) }
-    ensures within { IfSome result (λ x. (x.place ≤ head + length content.now) × (x.element ≤ head + length content.now)) }
+    ensures within { IfSome result (λ x. IsWithin (head + length content.now) x) }
 {
     match elements_fault(head, first, content) {
         Some(found) => Some(found),
@@ -70,7 +70,7 @@ fn listed_fault(head: usize, first: Line, second: Line, content: &[u8]) -> Optio
 fn inside_fault(head: usize, inside: Inside, content: &[u8]) -> Option<Explained>
     requires { head + length content.now < 2 ^ 64 }
     ensures value { result ≡ inside_by walk head inside content.now }
-    ensures within { IfSome result (λ x. (x.place ≤ head + length content.now) × (x.element ≤ head + length content.now)) }
+    ensures within { IfSome result (λ x. IsWithin (head + length content.now) x) }
 {
     match inside {
         Inside::Octets(contents) => octets_fault(head, contents, content),
@@ -85,7 +85,7 @@ fn inside_fault(head: usize, inside: Inside, content: &[u8]) -> Option<Explained
 fn take_step(line: Line, bytes: &[u8]) -> Result<(Line, &[u8]), Explained>
     ensures value { Gives (λ s. (s.0, s.1.now)) result (step line bytes.now) }
     ensures shorter { IfOk result (λ s. length s.1.now < length bytes.now) }
-    ensures within { IfErr result (λ x. (x.place ≤ length bytes.now) × (x.element ≤ length bytes.now)) }
+    ensures within { IfErr result (λ x. IsWithin (length bytes.now) x) }
 {
     if is_over(line) {
         return Err(Explained {
@@ -136,7 +136,7 @@ fn end_fault(line: Line, len: usize) -> Option<Explained>
 #[cycle(walk)]
 pub(crate) fn walk(line: Line, bytes: &[u8]) -> Option<Explained>
     ensures value { result ≡ walk line bytes.now }
-    ensures within { IfSome result (λ x. (x.place ≤ length bytes.now) × (x.element ≤ length bytes.now)) }
+    ensures within { IfSome result (λ x. IsWithin (length bytes.now) x) }
 {
     let mut line = line;
     let mut rest = bytes;

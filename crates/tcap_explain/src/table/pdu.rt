@@ -6,110 +6,121 @@ ghost use Rattle.tcap_explain.specs.PduTable.{pdu_next, pdu_may_end};
 use crate::contents::Contents;
 use crate::line::{Line, PduLine};
 use crate::table::{END, Inside, either, elements, octets};
-use tcap_pdu::dialogue_tag;
+use tcap_pdu::dialogue_tag as tag;
 
-/// What the element is, of this tag, at a line of the tables of dialogue PDUs.
+const REQUEST_CONTEXT: Line = Line::Pdu(PduLine::RequestContext);
+
+const RESPONSE_CONTEXT: Line = Line::Pdu(PduLine::ResponseContext);
+
+const ASSOCIATE_RESULT: Line = Line::Pdu(PduLine::AssociateResult);
+
+const DIAGNOSTIC: Line = Line::Pdu(PduLine::Diagnostic);
+
+const USER_INFORMATION: Line = Line::Pdu(PduLine::UserInformation);
+
+const EXTERNALS: Line = Line::Pdu(PduLine::Externals);
+
+const CONTEXT_NAME: Line = Line::Pdu(PduLine::ContextName);
+
+const RESULT_NUMBER: Line = Line::Pdu(PduLine::ResultNumber);
+
+const DIAGNOSTIC_SOURCE: Line = Line::Pdu(PduLine::DiagnosticSource);
+
+const DIAGNOSTIC_NUMBER: Line = Line::Pdu(PduLine::DiagnosticNumber);
+
+/// AARQ and AUDT: [80], A1.
+fn request_version(tag: &[u8]) -> Option<(Inside, Line)>
+    ensures { result ≡ pdu_next PduLine.RequestVersion tag.now }
+{
+    either(
+        octets(
+            tag::PROTOCOL_VERSION,
+            tag,
+            Contents::ProtocolVersion,
+            REQUEST_CONTEXT,
+        ),
+        elements(
+            tag::APPLICATION_CONTEXT_NAME,
+            tag,
+            CONTEXT_NAME,
+            USER_INFORMATION,
+        ),
+    )
+}
+
+/// AARE: [80], A1.
+fn response_version(tag: &[u8]) -> Option<(Inside, Line)>
+    ensures { result ≡ pdu_next PduLine.ResponseVersion tag.now }
+{
+    either(
+        octets(
+            tag::PROTOCOL_VERSION,
+            tag,
+            Contents::ProtocolVersion,
+            RESPONSE_CONTEXT,
+        ),
+        elements(
+            tag::APPLICATION_CONTEXT_NAME,
+            tag,
+            CONTEXT_NAME,
+            ASSOCIATE_RESULT,
+        ),
+    )
+}
+
+/// A3 of an AARE: A1 or A2.
+fn diagnostic_source(tag: &[u8]) -> Option<(Inside, Line)>
+    ensures { result ≡ pdu_next PduLine.DiagnosticSource tag.now }
+{
+    either(
+        elements(tag::DIALOGUE_SERVICE_USER, tag, DIAGNOSTIC_NUMBER, END),
+        elements(tag::DIALOGUE_SERVICE_PROVIDER, tag, DIAGNOSTIC_NUMBER, END),
+    )
+}
+
+/// What an element with this tag holds at a line of the tables of dialogue PDUs, and which line follows it.
 pub(crate) fn pdu_next(line: PduLine, tag: &[u8]) -> Option<(Inside, Line)>
     ensures { result ≡ pdu_next line tag.now }
 {
     match line {
-        PduLine::RequestVersion => either(
-            octets(
-                dialogue_tag::PROTOCOL_VERSION,
-                tag,
-                Contents::ProtocolVersion,
-                Line::Pdu(PduLine::RequestContext),
-            ),
-            elements(
-                dialogue_tag::APPLICATION_CONTEXT_NAME,
-                tag,
-                Line::Pdu(PduLine::ContextName),
-                Line::Pdu(PduLine::UserInformation),
-            ),
-        ),
+        PduLine::RequestVersion => request_version(tag),
         PduLine::RequestContext => elements(
-            dialogue_tag::APPLICATION_CONTEXT_NAME,
+            tag::APPLICATION_CONTEXT_NAME,
             tag,
-            Line::Pdu(PduLine::ContextName),
-            Line::Pdu(PduLine::UserInformation),
+            CONTEXT_NAME,
+            USER_INFORMATION,
         ),
-        PduLine::ResponseVersion => either(
-            octets(
-                dialogue_tag::PROTOCOL_VERSION,
-                tag,
-                Contents::ProtocolVersion,
-                Line::Pdu(PduLine::ResponseContext),
-            ),
-            elements(
-                dialogue_tag::APPLICATION_CONTEXT_NAME,
-                tag,
-                Line::Pdu(PduLine::ContextName),
-                Line::Pdu(PduLine::AssociateResult),
-            ),
-        ),
+        PduLine::ResponseVersion => response_version(tag),
         PduLine::ResponseContext => elements(
-            dialogue_tag::APPLICATION_CONTEXT_NAME,
+            tag::APPLICATION_CONTEXT_NAME,
             tag,
-            Line::Pdu(PduLine::ContextName),
-            Line::Pdu(PduLine::AssociateResult),
+            CONTEXT_NAME,
+            ASSOCIATE_RESULT,
         ),
-        PduLine::AssociateResult => elements(
-            dialogue_tag::RESULT,
-            tag,
-            Line::Pdu(PduLine::ResultNumber),
-            Line::Pdu(PduLine::Diagnostic),
-        ),
+        PduLine::AssociateResult => elements(tag::RESULT, tag, RESULT_NUMBER, DIAGNOSTIC),
         PduLine::Diagnostic => elements(
-            dialogue_tag::RESULT_SOURCE_DIAGNOSTIC,
+            tag::RESULT_SOURCE_DIAGNOSTIC,
             tag,
-            Line::Pdu(PduLine::DiagnosticSource),
-            Line::Pdu(PduLine::UserInformation),
+            DIAGNOSTIC_SOURCE,
+            USER_INFORMATION,
         ),
         PduLine::AbortSource => octets(
-            dialogue_tag::ABORT_SOURCE,
+            tag::ABORT_SOURCE,
             tag,
             Contents::AbortSource,
-            Line::Pdu(PduLine::UserInformation),
+            USER_INFORMATION,
         ),
-        PduLine::UserInformation => elements(
-            dialogue_tag::USER_INFORMATION,
-            tag,
-            Line::Pdu(PduLine::Externals),
-            END,
-        ),
-        PduLine::Externals => octets(
-            dialogue_tag::EXTERNAL,
-            tag,
-            Contents::Any,
-            Line::Pdu(PduLine::Externals),
-        ),
+        PduLine::UserInformation => elements(tag::USER_INFORMATION, tag, EXTERNALS, END),
+        PduLine::Externals => octets(tag::EXTERNAL, tag, Contents::Any, EXTERNALS),
         PduLine::ContextName => octets(
-            dialogue_tag::OBJECT_IDENTIFIER,
+            tag::OBJECT_IDENTIFIER,
             tag,
             Contents::ObjectIdentifier,
             END,
         ),
-        PduLine::ResultNumber => octets(dialogue_tag::INTEGER, tag, Contents::ResultNumber, END),
-        PduLine::DiagnosticSource => either(
-            elements(
-                dialogue_tag::DIALOGUE_SERVICE_USER,
-                tag,
-                Line::Pdu(PduLine::DiagnosticNumber),
-                END,
-            ),
-            elements(
-                dialogue_tag::DIALOGUE_SERVICE_PROVIDER,
-                tag,
-                Line::Pdu(PduLine::DiagnosticNumber),
-                END,
-            ),
-        ),
-        PduLine::DiagnosticNumber => octets(
-            dialogue_tag::INTEGER,
-            tag,
-            Contents::DiagnosticNumber,
-            END,
-        ),
+        PduLine::ResultNumber => octets(tag::INTEGER, tag, Contents::ResultNumber, END),
+        PduLine::DiagnosticSource => diagnostic_source(tag),
+        PduLine::DiagnosticNumber => octets(tag::INTEGER, tag, Contents::DiagnosticNumber, END),
     }
 }
 
