@@ -1,9 +1,10 @@
 -- The text of `explain`: the verdict, and where its fault is.
-use Rattle.std.specs.Prelude.{ℕ, List, [], ◌++◌, codes, length, take, drop, Option, Some, None, ◌==◌, if◌then◌else◌}
+use Rattle.std.specs.Prelude.{ℕ, ◌-◌, Bool, List, [], ◌++◌, codes, length, take, drop, Option, Some, None, option_map, Result, Ok, Err, ◌==◌, if◌then◌else◌}
 use Rattle.std.specs.Fmt.{decimal}
 use Rattle.hex.specs.Hex.{encode_lower}
 use Rattle.ber_core.specs.declared.fault.BerFault.{BerFault}
 use Rattle.ber_core.specs.declared.fault.BerFault.TheVariants as ber
+use Rattle.ber_core.specs.HeadReading.{head_at}
 use Rattle.tcap_words.specs.Text.{line}
 use Rattle.tcap_words.specs.Verdict.{verdict_of, verdict_words}
 use Rattle.tcap_explain.specs.declared.line.Rule.{Rule}
@@ -52,17 +53,52 @@ found_words bytes place (rule.Other l) = octet_words bytes place
 found_words bytes place (rule.Missing l) = codes "the end"
 found_words bytes place (rule.Octets kind count) = contents_found bytes place count
 
+-- How many octets an element with this head wants beside those that are there, so many with its head; not known in
+-- the indefinite form, and where the head itself isn't whole (X.690, Length octets).
+abbrev pub wanted_of : List ℕ → ℕ → Result (List ℕ × Bool × Option ℕ × List ℕ) BerFault → Option ℕ
+wanted_of rest present (Ok h) = option_map (λ n. n - (present - (length rest - length h.3))) h.2
+wanted_of rest present (Err f) = None
+
+-- How many octets the element wants that is cut off at the place (own).
+unfoldable pub wanted : List ℕ → ℕ → ℕ → Option ℕ
+wanted bytes place element = wanted_of (drop element bytes) (place - element) (head_at (drop element bytes))
+
+-- The word for so many octets more (own).
+abbrev pub more_unit_words : ℕ → List ℕ
+more_unit_words count = if count == 1 then codes " more octet" else codes " more octets"
+
+-- The words for octets that are wanted (own).
+abbrev pub more_words : Option ℕ → List ℕ
+more_words None = codes "more octets"
+more_words (Some count) = decimal count ++ more_unit_words count
+
+-- What an encoding was expected to have (own).
+abbrev pub encoding_expected : List ℕ → Explained → BerFault → List ℕ
+encoding_expected bytes x ber.Short = more_words (wanted bytes x.place x.element)
+encoding_expected bytes x ber.BadTag = expected_words x.rule
+encoding_expected bytes x ber.BadLength = expected_words x.rule
+encoding_expected bytes x ber.IndefinitePrimitive = expected_words x.rule
+encoding_expected bytes x ber.TooDeep = expected_words x.rule
+
+-- What was expected, by the rule that is not met (own).
+abbrev pub wanted_words : List ℕ → Explained → Rule → List ℕ
+wanted_words bytes x rule.MessageLength = expected_words x.rule
+wanted_words bytes x (rule.Encoding fault) = encoding_expected bytes x fault
+wanted_words bytes x (rule.Other l) = expected_words x.rule
+wanted_words bytes x (rule.Missing l) = expected_words x.rule
+wanted_words bytes x (rule.Octets kind count) = expected_words x.rule
+
 -- What was expected (own).
-abbrev pub expectation_words : Rule → List ℕ
-expectation_words rule = codes ": expected " ++ expected_words rule
+abbrev pub expectation_words : List ℕ → Explained → List ℕ
+expectation_words bytes x = codes ": expected " ++ wanted_words bytes x x.rule
 
 -- What was expected, and what was found (own).
-abbrev pub rule_words : List ℕ → ℕ → Rule → List ℕ
-rule_words bytes place rule = expectation_words rule ++ (codes ", found " ++ found_words bytes place rule)
+abbrev pub rule_words : List ℕ → Explained → List ℕ
+rule_words bytes x = expectation_words bytes x ++ (codes ", found " ++ found_words bytes x.place x.rule)
 
 -- The words for a fault (own).
 abbrev pub explained_words : List ℕ → Explained → List ℕ
-explained_words bytes x = position_words x ++ rule_words bytes x.place x.rule
+explained_words bytes x = position_words x ++ rule_words bytes x
 
 -- The line for a fault, if there is one (own).
 abbrev pub explained_lines : List ℕ → Option Explained → List ℕ

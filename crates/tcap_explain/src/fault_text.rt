@@ -3,12 +3,12 @@
 ghost use Rattle.std.specs.Prelude.{◌≡◌, ◌++◌, take, drop, OnOk, IfOk, string_bytes};
 ghost use Rattle.tcap_words.specs.Verdict.{is_good, verdict_of};
 ghost use Rattle.tcap_explain.specs.Explaining.{explained_at};
-ghost use Rattle.tcap_explain.specs.ExplainText.{named, position_words, octet_words, unit_words, count_words, contents_found, encoding_found, found_words, expectation_words, rule_words, explained_words, explained_lines, explain_text_of};
+ghost use Rattle.tcap_explain.specs.ExplainText.{named, position_words, octet_words, unit_words, count_words, contents_found, encoding_found, found_words, wanted, more_unit_words, more_words, wanted_words, expectation_words, rule_words, explained_words, explained_lines, explain_text_of};
 
 use crate::by_verdict::explain;
 use crate::line::{Explained, Rule};
 use crate::words::expected_words;
-use ber_core::{BerFault, OutOfMemory};
+use ber_core::{BerFault, OutOfMemory, read_head};
 use std::alloc::Allocator;
 use tcap_words::{Shown, add_decimal, add_hex, add_verdict, verdict_on};
 
@@ -126,26 +126,103 @@ fn add_found<A: Allocator + Copy>(
     }
 }
 
+/// How many octets the element wants that is cut off at the place; None where its head doesn't say.
+#[tactic(auto, unfolding(crate::specs::ExplainText::wanted))]
+fn octets_wanted(bytes: &[u8], place: usize, element: usize) -> Option<usize>
+    ensures { result ≡ wanted bytes.now place element }
+{
+    let rest = if element < bytes.len() {
+        &bytes[element..]
+    } else {
+        &[]
+    };
+    let Ok(head) = read_head(rest) else {
+        return None;
+    };
+    let present = place
+        .saturating_sub(element)
+        .saturating_sub(rest.len() - head.rest.len());
+    match head.length {
+        Some(len) => Some(len.saturating_sub(present)),
+        None => None,
+    }
+}
+
+/// The word for so many octets more.
+fn more_unit(count: usize) -> &'static str
+    ensures { result.now ≡ more_unit_words count }
+{
+    if count == 1 {
+        " more octet"
+    } else {
+        " more octets"
+    }
+}
+
+/// Adds the words for octets that are wanted.
+fn add_more<A: Allocator + Copy>(
+    text: &mut String<A>,
+    wanted: Option<usize>,
+) -> Result<(), OutOfMemory>
+    ensures { OnOk result (string_bytes text.new ≡ string_bytes text.old ++ more_words wanted) }
+{
+    match wanted {
+        None => Ok(text.push_str("more octets")?),
+        Some(count) => {
+            add_decimal(text, count as u64)?;
+            Ok(text.push_str(more_unit(count))?)
+        }
+    }
+}
+
+/// Adds what was expected, by the rule.
+fn add_wanted<A: Allocator + Copy>(
+    text: &mut String<A>,
+    bytes: &[u8],
+    found: Explained,
+) -> Result<(), OutOfMemory>
+    ensures { OnOk result (string_bytes text.new ≡ string_bytes text.old ++ wanted_words bytes.now found found.rule) }
+{
+    match found.rule {
+        Rule::Encoding(BerFault::Short) => {
+            add_more(text, octets_wanted(bytes, found.place, found.element))
+        }
+        Rule::Encoding(
+            BerFault::BadTag
+            | BerFault::BadLength
+            | BerFault::IndefinitePrimitive
+            | BerFault::TooDeep,
+        )
+        | Rule::MessageLength
+        | Rule::Other(_)
+        | Rule::Missing(_)
+        | Rule::Octets(..) => Ok(text.push_str(expected_words(found.rule))?),
+    }
+}
+
 /// Adds what was expected.
-fn add_expectation<A: Allocator + Copy>(text: &mut String<A>, rule: Rule) -> Result<(), OutOfMemory>
-    ensures { OnOk result (string_bytes text.new ≡ string_bytes text.old ++ expectation_words rule) }
+fn add_expectation<A: Allocator + Copy>(
+    text: &mut String<A>,
+    bytes: &[u8],
+    found: Explained,
+) -> Result<(), OutOfMemory>
+    ensures { OnOk result (string_bytes text.new ≡ string_bytes text.old ++ expectation_words bytes.now found) }
 {
     text.push_str(": expected ")?;
-    Ok(text.push_str(expected_words(rule))?)
+    add_wanted(text, bytes, found)
 }
 
 /// Adds what was expected, and what was found.
 fn add_rule<A: Allocator + Copy>(
     text: &mut String<A>,
     bytes: &[u8],
-    place: usize,
-    rule: Rule,
+    found: Explained,
 ) -> Result<(), OutOfMemory>
-    ensures { OnOk result (string_bytes text.new ≡ string_bytes text.old ++ rule_words bytes.now place rule) }
+    ensures { OnOk result (string_bytes text.new ≡ string_bytes text.old ++ rule_words bytes.now found) }
 {
-    add_expectation(text, rule)?;
+    add_expectation(text, bytes, found)?;
     text.push_str(", found ")?;
-    add_found(text, bytes, place, rule)
+    add_found(text, bytes, found.place, found.rule)
 }
 
 /// Adds the words for a fault.
@@ -157,7 +234,7 @@ fn add_explained<A: Allocator + Copy>(
     ensures { OnOk result (string_bytes text.new ≡ string_bytes text.old ++ explained_words bytes.now found) }
 {
     add_position(text, found)?;
-    add_rule(text, bytes, found.place, found.rule)
+    add_rule(text, bytes, found)
 }
 
 /// Adds the line for a fault, if there is one.

@@ -119,7 +119,7 @@ const COMPONENTS: &[(&str, &str)] = &[
     ),
     (
         "62094801016c04a1050201",
-        "fault component 1\nplace 11 element 7: expected more octets, found the end\n",
+        "fault component 1\nplace 11 element 7: expected 3 more octets, found the end\n",
     ),
     (
         "620b4801016c06a18004000000",
