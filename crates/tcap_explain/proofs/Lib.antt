@@ -1,11 +1,15 @@
 pub mod BerCoreLemmas
+pub mod ComponentAgain
 pub mod ComponentParts
 pub mod ComponentStands
 pub mod EncodingLemmas
 pub mod FaultAtLemmas
 pub mod FaultThere
+pub mod MessageAgain
 pub mod MessageStands
+pub mod PduAgain
 pub mod PduStands
+pub mod PortionAgain
 pub mod PortionStands
 pub mod PortionThere
 pub mod StandsLemmas
