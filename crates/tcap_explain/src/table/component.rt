@@ -120,7 +120,7 @@ fn problem(tag: &[u8]) -> Option<(Inside, Line)>
     )
 }
 
-/// The same, behind the first element.
+/// The list of a Return Result, behind its first element.
 fn result_list_second(tag: &[u8]) -> Option<(Inside, Line)>
     ensures { result ≡ component_next ComponentLine.ResultListSecond tag.now }
 {
