@@ -125,6 +125,42 @@ const COMPONENTS: &[(&str, &str)] = &[
         "620b4801016c06a18004000000",
         "fault component 1\nplace 9 element 9: expected the invoke identifier 0x02, found 0x04\n",
     ),
+    (
+        "62114801016c0ca30a02010102010204000400",
+        "fault component 1\nplace 17 element 17: expected the end, found 0x04\n",
+    ),
+    (
+        "620d4801016c08a30606012a020101",
+        "fault component 1\nplace 9 element 9: expected the invoke identifier 0x02, found 0x06\n",
+    ),
+    (
+        "62074801016c02a700",
+        "fault component 1\nplace 9 element 9: expected the invoke identifier 0x02, found the end\n",
+    ),
+    (
+        "620a4801016c05a703040101",
+        "fault component 1\nplace 9 element 9: expected the invoke identifier 0x02, found 0x04\n",
+    ),
+    (
+        "620c4801016c07a7050201010400",
+        "fault component 1\nplace 12 element 12: expected the sequence 0x30 or the end, found 0x04\n",
+    ),
+    (
+        "620c4801016c07a7053000020101",
+        "fault component 1\nplace 9 element 9: expected the invoke identifier 0x02, found 0x30\n",
+    ),
+    (
+        "620c4801016c07a7050201013000",
+        "fault component 1\nplace 14 element 14: expected the local code 0x02 or the global code 0x06, found the end\n",
+    ),
+    (
+        "62114801016c0ca70a02010130030201023000",
+        "fault component 1\nplace 17 element 17: expected the end, found 0x30\n",
+    ),
+    (
+        "62812a4801016b8200152813060700118605010101a0086006a10406022a036c82000aa203020101a303020102",
+        "fault component 2\nplace 45 element 45: expected the local code 0x02 or the global code 0x06, found the end\n",
+    ),
 ];
 
 #[test]

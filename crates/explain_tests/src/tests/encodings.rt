@@ -73,6 +73,22 @@ const ENCODINGS: &[(&str, &str)] = &[
         "62804901010000",
         "fault incorrect\nplace 2 element 2: expected the originating transaction identifier 0x48, found 0x49\n",
     ),
+    (
+        "62054801014aff",
+        "fault badly formatted\nplace 6 element 5: expected a length of at most 65535, found 0xff\n",
+    ),
+    (
+        "62054801014280",
+        "fault badly formatted\nplace 6 element 5: expected a definite length behind a primitive tag, found 0x80\n",
+    ),
+    (
+        "62054801016c05",
+        "fault badly formatted\nplace 7 element 5: expected 5 more octets, found the end\n",
+    ),
+    (
+        "6245480101308030803080308030803080308030803080308030803080308030803080308030803080308030803080308030803080308030803080308030803080308030803080",
+        "fault badly formatted\nplace 70 element 5: expected at most 32 open elements of indefinite length, found 0x80\n",
+    ),
 ];
 
 #[test]

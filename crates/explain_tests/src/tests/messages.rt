@@ -117,6 +117,10 @@ const MESSAGES: &[(&str, &str)] = &[
         "67054901014a00",
         "fault incorrect\nplace 7 element 5: expected a P-Abort cause of one octet 0x00 to 0x7f, found 0 octets\n",
     ),
+    (
+        "62045f080101",
+        "fault incorrect\nplace 2 element 2: expected the originating transaction identifier 0x48, found 0x5f\n",
+    ),
     ("62054801016c00", "good\n"),
     ("64104904beef00026c08a406020101800109", "good\n"),
     ("6703490101", "good\n"),

@@ -169,6 +169,54 @@ const PORTIONS: &[(&str, &str)] = &[
         "670b4901016b06280406022a83",
         "fault dialogue\nplace 11 element 9: expected an object identifier, found 2 octets from 0x2a\n",
     ),
+    (
+        "62144801016b0f280da0026000060700118605010101",
+        "fault dialogue\nplace 9 element 9: expected the abstract syntax 0x06, found 0xa0\n",
+    ),
+    (
+        "62164801016b11280f060700118605010201a0046002a200",
+        "fault dialogue\nplace 22 element 22: expected the protocol version 0x80 or the application context name 0xa1, found 0xa2\n",
+    ),
+    (
+        "621e4801016b192817060700118605010201a00c600aa10406022a0380020780",
+        "fault dialogue\nplace 28 element 28: expected the user information 0xbe or the end, found 0x80\n",
+    ),
+    (
+        "621e4801016b192817060700118605010201a00c600aa10406022a03be00be00",
+        "fault dialogue\nplace 30 element 30: expected the end, found 0xbe\n",
+    ),
+    (
+        "62254801016b20281e060700118605010101a0136111a10406022a03a2020400a305a103020100",
+        "fault dialogue\nplace 30 element 30: expected the integer 0x02, found 0x04\n",
+    ),
+    (
+        "62284801016b232821060700118605010101a0166114a10406022a03a2050201000400a305a103020100",
+        "fault dialogue\nplace 33 element 33: expected the end, found 0x04\n",
+    ),
+    (
+        "62234801016b1e281c060700118605010101a011610fa10406022a03a203020100a302a100",
+        "fault dialogue\nplace 37 element 37: expected the integer 0x02, found the end\n",
+    ),
+    (
+        "62254801016b20281e060700118605010101a0136111a10406022a03a203020100a304a1020400",
+        "fault dialogue\nplace 37 element 37: expected the integer 0x02, found 0x04\n",
+    ),
+    (
+        "62284801016b232821060700118605010101a0166114a10406022a03a203020100a307a1050201000400",
+        "fault dialogue\nplace 40 element 40: expected the end, found 0x04\n",
+    ),
+    (
+        "622b4801016b262824060700118605010101a0196117a10406022a03a203020100a30aa103020100a203020100",
+        "fault dialogue\nplace 40 element 40: expected the end, found 0xa2\n",
+    ),
+    (
+        "62804801016b802880060700118605010101a080608000000000000000000000",
+        "fault dialogue\nplace 22 element 22: expected the protocol version 0x80 or the application context name 0xa1, found the end\n",
+    ),
+    (
+        "62194801016b142812060700118605010101a0076405be00800100",
+        "fault dialogue\nplace 22 element 22: expected the abort source 0x80, found 0xbe\n",
+    ),
 ];
 
 #[test]
