@@ -53,15 +53,16 @@ found_words bytes place (rule.Other l) = octet_words bytes place
 found_words bytes place (rule.Missing l) = codes "the end"
 found_words bytes place (rule.Octets kind count) = contents_found bytes place count
 
--- How many octets an element with this head wants beside those that are there, so many with its head; not known in
--- the indefinite form, and where the head itself isn't whole (X.690, Length octets).
-abbrev pub wanted_of : List ℕ → ℕ → Result (List ℕ × Bool × Option ℕ × List ℕ) BerFault → Option ℕ
-wanted_of rest present (Ok h) = option_map (λ n. n - (present - (length rest - length h.3))) h.2
-wanted_of rest present (Err f) = None
+-- How many octets an element with this head wants beside those that are there; not known in the indefinite form,
+-- and where the head itself isn't whole (X.690, Length octets).
+abbrev pub wanted_of : Result (List ℕ × Bool × Option ℕ × List ℕ) BerFault → Option ℕ
+wanted_of (Ok h) = option_map (λ n. n - length h.3) h.2
+wanted_of (Err f) = None
 
--- How many octets the element wants that is cut off at the place (own).
+-- How many octets the element wants that is cut off at the place: by its head, of which no octet stands behind the
+-- place (own).
 unfoldable pub wanted : List ℕ → ℕ → ℕ → Option ℕ
-wanted bytes place element = wanted_of (drop element bytes) (place - element) (head_at (drop element bytes))
+wanted bytes place element = wanted_of (head_at (take (place - element) (drop element bytes)))
 
 -- The word for so many octets more (own).
 abbrev pub more_unit_words : ℕ → List ℕ

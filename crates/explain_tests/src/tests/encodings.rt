@@ -86,6 +86,14 @@ const ENCODINGS: &[(&str, &str)] = &[
         "fault badly formatted\nplace 7 element 5: expected 5 more octets, found the end\n",
     ),
     (
+        "62094801016c04a1010200",
+        "fault component 1\nplace 10 element 9: expected more octets, found the end\n",
+    ),
+    (
+        "620a4801016c05a101021000",
+        "fault component 1\nplace 10 element 9: expected more octets, found the end\n",
+    ),
+    (
         "6245480101308030803080308030803080308030803080308030803080308030803080308030803080308030803080308030803080308030803080308030803080308030803080",
         "fault badly formatted\nplace 70 element 5: expected at most 32 open elements of indefinite length, found 0x80\n",
     ),
