@@ -1,6 +1,7 @@
 //! The tables of dialogue PDUs (Q.773, Dialogue portion).
 
 ghost use Rattle.std.specs.Prelude.{◌≡◌};
+ghost use Rattle.tcap_explain.specs.Choice.{only};
 ghost use Rattle.tcap_explain.specs.PduTable.{pdu_next, pdu_may_end};
 
 use crate::contents::Contents;
@@ -28,6 +29,13 @@ const DIAGNOSTIC_SOURCE: Line = Line::Pdu(PduLine::DiagnosticSource);
 
 const DIAGNOSTIC_NUMBER: Line = Line::Pdu(PduLine::DiagnosticNumber);
 
+/// The application context name: A1, which holds 06.
+fn application_context(tag: &[u8], line: Line) -> Option<(Inside, Line)>
+    ensures { result ≡ only 0xa1 tag.now (Inside.Elements (Line.Pdu PduLine.ContextName)) line }
+{
+    elements(tag::APPLICATION_CONTEXT_NAME, tag, CONTEXT_NAME, line)
+}
+
 /// AARQ and AUDT: [80], A1.
 fn request_version(tag: &[u8]) -> Option<(Inside, Line)>
     ensures { result ≡ pdu_next PduLine.RequestVersion tag.now }
@@ -39,12 +47,7 @@ fn request_version(tag: &[u8]) -> Option<(Inside, Line)>
             Contents::ProtocolVersion,
             REQUEST_CONTEXT,
         ),
-        elements(
-            tag::APPLICATION_CONTEXT_NAME,
-            tag,
-            CONTEXT_NAME,
-            USER_INFORMATION,
-        ),
+        application_context(tag, USER_INFORMATION),
     )
 }
 
@@ -59,12 +62,7 @@ fn response_version(tag: &[u8]) -> Option<(Inside, Line)>
             Contents::ProtocolVersion,
             RESPONSE_CONTEXT,
         ),
-        elements(
-            tag::APPLICATION_CONTEXT_NAME,
-            tag,
-            CONTEXT_NAME,
-            ASSOCIATE_RESULT,
-        ),
+        application_context(tag, ASSOCIATE_RESULT),
     )
 }
 
@@ -84,19 +82,9 @@ pub(crate) fn pdu_next(line: PduLine, tag: &[u8]) -> Option<(Inside, Line)>
 {
     match line {
         PduLine::RequestVersion => request_version(tag),
-        PduLine::RequestContext => elements(
-            tag::APPLICATION_CONTEXT_NAME,
-            tag,
-            CONTEXT_NAME,
-            USER_INFORMATION,
-        ),
+        PduLine::RequestContext => application_context(tag, USER_INFORMATION),
         PduLine::ResponseVersion => response_version(tag),
-        PduLine::ResponseContext => elements(
-            tag::APPLICATION_CONTEXT_NAME,
-            tag,
-            CONTEXT_NAME,
-            ASSOCIATE_RESULT,
-        ),
+        PduLine::ResponseContext => application_context(tag, ASSOCIATE_RESULT),
         PduLine::AssociateResult => elements(tag::RESULT, tag, RESULT_NUMBER, DIAGNOSTIC),
         PduLine::Diagnostic => elements(
             tag::RESULT_SOURCE_DIAGNOSTIC,
