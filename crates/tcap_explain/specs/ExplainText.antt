@@ -1,10 +1,11 @@
 -- The text of `explain`: the verdict, and where its fault is.
-use Rattle.std.specs.Prelude.{ℕ, ◌-◌, Bool, List, [], ◌++◌, codes, length, take, drop, Option, Some, None, option_map, Result, Ok, Err, ◌==◌, if◌then◌else◌}
+use Rattle.std.specs.Prelude.{ℕ, ◌-◌, Bool, List, [], ◌++◌, codes, length, take, drop, Option, Some, None, option_map, Result, Ok, Err, nat_lt, ◌&&◌, ◌==◌, if◌then◌else◌}
 use Rattle.std.specs.Fmt.{decimal}
 use Rattle.hex.specs.Hex.{encode_lower}
 use Rattle.ber_core.specs.declared.fault.BerFault.{BerFault}
 use Rattle.ber_core.specs.declared.fault.BerFault.TheVariants as ber
 use Rattle.ber_core.specs.HeadReading.{head_at}
+use Rattle.ber_core.specs.SequenceReading.{is_tag}
 use Rattle.tcap_words.specs.Text.{line}
 use Rattle.tcap_words.specs.Verdict.{verdict_of, verdict_words}
 use Rattle.tcap_explain.specs.declared.line.Rule.{Rule}
@@ -73,10 +74,19 @@ abbrev pub more_words : Option ℕ → List ℕ
 more_words None = codes "more octets"
 more_words (Some count) = decimal count ++ more_unit_words count
 
+-- Whether the octet before the place is a 00 of the element. Where no tag is at the place, that 00 is the first octet
+-- of an end-of-contents: each octet before others of a tag is above 00 (X.690, End-of-contents octets).
+abbrev pub is_in_end : List ℕ → ℕ → ℕ → Bool
+is_in_end bytes place element = nat_lt element place && is_tag 0 (take 1 (drop (place - 1) bytes))
+
+-- What was expected where no tag is (own).
+abbrev pub tag_words : List ℕ → ℕ → ℕ → List ℕ
+tag_words bytes place element = if is_in_end bytes place element then codes "the second 0x00 of an end-of-contents" else codes "a tag"
+
 -- What an encoding was expected to have (own).
 abbrev pub encoding_expected : List ℕ → Explained → BerFault → List ℕ
 encoding_expected bytes x ber.Short = more_words (wanted bytes x.place x.element)
-encoding_expected bytes x ber.BadTag = expected_words x.rule
+encoding_expected bytes x ber.BadTag = tag_words bytes x.place x.element
 encoding_expected bytes x ber.BadLength = expected_words x.rule
 encoding_expected bytes x ber.IndefinitePrimitive = expected_words x.rule
 encoding_expected bytes x ber.TooDeep = expected_words x.rule

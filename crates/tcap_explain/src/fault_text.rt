@@ -3,7 +3,7 @@
 ghost use Rattle.std.specs.Prelude.{◌≡◌, ◌++◌, ◌-◌, take, drop, OnOk, IfOk, string_bytes};
 ghost use Rattle.tcap_words.specs.Verdict.{is_good, verdict_of};
 ghost use Rattle.tcap_explain.specs.Explaining.{explained_at};
-ghost use Rattle.tcap_explain.specs.ExplainText.{named, position_words, octet_words, unit_words, count_words, contents_found, encoding_found, found_words, wanted, more_unit_words, more_words, wanted_words, expectation_words, rule_words, explained_words, explained_lines, explain_text_of};
+ghost use Rattle.tcap_explain.specs.ExplainText.{named, position_words, octet_words, unit_words, count_words, contents_found, encoding_found, found_words, wanted, more_unit_words, more_words, is_in_end, tag_words, wanted_words, expectation_words, rule_words, explained_words, explained_lines, explain_text_of};
 
 use crate::by_verdict::explain;
 use crate::line::{Explained, Rule};
@@ -184,6 +184,31 @@ fn add_more<A: Allocator + Copy>(
     }
 }
 
+/// Whether the place, where no tag is, is the second octet of an end-of-contents.
+fn is_in_end(bytes: &[u8], place: usize, element: usize) -> bool
+    ensures { result ≡ is_in_end bytes.now place element }
+{
+    if element < place {
+        match octet_at(bytes, place - 1) {
+            [octet] if *octet == 0 => true,
+            _ => false,
+        }
+    } else {
+        false
+    }
+}
+
+/// The words for what is expected where no tag is.
+fn tag_words(bytes: &[u8], place: usize, element: usize) -> &'static str
+    ensures { result.now ≡ tag_words bytes.now place element }
+{
+    if is_in_end(bytes, place, element) {
+        "the second 0x00 of an end-of-contents"
+    } else {
+        "a tag"
+    }
+}
+
 /// Adds what was expected, by the rule.
 fn add_wanted<A: Allocator + Copy>(
     text: &mut String<A>,
@@ -196,12 +221,10 @@ fn add_wanted<A: Allocator + Copy>(
         Rule::Encoding(BerFault::Short) => {
             add_more(text, octets_wanted(bytes, found.place, found.element))
         }
-        Rule::Encoding(
-            BerFault::BadTag
-            | BerFault::BadLength
-            | BerFault::IndefinitePrimitive
-            | BerFault::TooDeep,
-        )
+        Rule::Encoding(BerFault::BadTag) => {
+            Ok(text.push_str(tag_words(bytes, found.place, found.element))?)
+        }
+        Rule::Encoding(BerFault::BadLength | BerFault::IndefinitePrimitive | BerFault::TooDeep)
         | Rule::MessageLength
         | Rule::Other(_)
         | Rule::Missing(_)

@@ -43,7 +43,7 @@ const ENCODINGS: &[(&str, &str)] = &[
     ),
     (
         "62800001",
-        "fault badly formatted\nplace 3 element 0: expected a tag, found 0x01\n",
+        "fault badly formatted\nplace 3 element 0: expected the second 0x00 of an end-of-contents, found 0x01\n",
     ),
     (
         "628000",
@@ -60,6 +60,14 @@ const ENCODINGS: &[(&str, &str)] = &[
     (
         "62054801010080",
         "fault badly formatted\nplace 5 element 5: expected a tag, found 0x00\n",
+    ),
+    (
+        "62054801000080",
+        "fault badly formatted\nplace 5 element 5: expected a tag, found 0x00\n",
+    ),
+    (
+        "62804801010005",
+        "fault badly formatted\nplace 6 element 0: expected the second 0x00 of an end-of-contents, found 0x05\n",
     ),
     (
         "628048010142800000",
