@@ -119,8 +119,10 @@ pub fn append_message<A: Allocator + Copy>(
         (carrying (option_map pdu_value (option_copied pdu.entry)) (message frame.now)) }
     ensures capacity { vec_capacity out.old ≤ vec_capacity out.new }
 {
+    put_front(out, frame, len.contents);
     match pdu {
-        None => append_own(out, frame, len),
-        Some(pdu) => append_carrying(out, frame, pdu, len),
+        None => put_dialogue(out, frame.dialogue()),
+        Some(pdu) => put_carried(out, frame, pdu, len.dialogue),
     }
+    put_closing(out, frame);
 }
