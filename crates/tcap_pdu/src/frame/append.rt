@@ -62,44 +62,6 @@ fn put_carried<A: Allocator + Copy>(
     }
 }
 
-/// Appends the message as it stands, which is so long.
-#[inline(always)]
-pub(super) fn append_own<A: Allocator + Copy>(
-    out: &mut Vec<u8, A>,
-    frame: &Frame<'_>,
-    len: MessageLength,
-)
-    requires measured { IsMeasured len (message frame.now) None }
-    requires room { vec_len out.old + length (written_frame (message frame.now)) ≤ vec_capacity out.old }
-    ensures items { out.new.items ≡ out.old.items ++ written_frame (message frame.now) }
-    ensures capacity { vec_capacity out.old ≤ vec_capacity out.new }
-{
-    put_front(out, frame, len.contents);
-    put_dialogue(out, frame.dialogue());
-    put_closing(out, frame);
-}
-
-/// Appends the message with the dialogue portion of this PDU, with which it is so long.
-#[inline(always)]
-pub(super) fn append_carrying<A: Allocator + Copy>(
-    out: &mut Vec<u8, A>,
-    frame: &Frame<'_>,
-    pdu: &DialoguePdu<'_>,
-    len: MessageLength,
-)
-    requires good { content_fault (pdu_value pdu.now) ≡ None }
-    requires measured { IsMeasured len (message frame.now) (Some (pdu_value pdu.now)) }
-    requires room { vec_len out.old + length (written_frame (with_dialogue
-        (Some (written_dialogue (pdu_value pdu.now))) (message frame.now))) ≤ vec_capacity out.old }
-    ensures items { out.new.items ≡ out.old.items
-        ++ written_frame (with_dialogue (Some (written_dialogue (pdu_value pdu.now))) (message frame.now)) }
-    ensures capacity { vec_capacity out.old ≤ vec_capacity out.new }
-{
-    put_front(out, frame, len.contents);
-    put_carried(out, frame, pdu, len.dialogue);
-    put_closing(out, frame);
-}
-
 /// Appends the message that `message_length` measured, with the same PDU, for which there is room. No length
 /// is computed again but within the PDU, and no memory is taken (Q.773, Structure of TC messages; the shortest
 /// form is our own).

@@ -12,7 +12,7 @@ ghost use Rattle.tcap_pdu.specs.FrameViews.{message};
 ghost use Rattle.tcap_pdu.specs.FrameWritten.{IsWriteFault, message_limit, written_frame};
 
 use super::Frame;
-use super::append::append_carrying;
+use super::append::append_message;
 use super::measured::{MessageLength, carrying_length};
 use super::write::MAX_HEAD;
 use crate::dialogue_pdu::DialoguePdu;
@@ -35,7 +35,7 @@ fn spell_carrying<A: Allocator + Copy>(
         ≡ written_frame (with_dialogue (Some (written_dialogue (pdu_value pdu.now))) (message frame.now))) }
 {
     let mut out = Vec::with_capacity(alloc, len.contents + MAX_HEAD)?;
-    append_carrying(&mut out, frame, pdu, len);
+    append_message(&mut out, frame, Some(pdu), len);
     Ok(out)
 }
 

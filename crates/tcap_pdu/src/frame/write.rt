@@ -8,7 +8,7 @@ ghost use Rattle.tcap_pdu.specs.FrameWritten.{IsWriteFault, message_limit, writt
 ghost use Rattle.tcap_pdu.specs.FrameViews.{message};
 
 use super::Frame;
-use super::append::append_own;
+use super::append::append_message;
 use super::measured::{MessageLength, own_length};
 use crate::fault::PduFault;
 use ber_core::OutOfMemory;
@@ -28,7 +28,7 @@ fn spell_frame<A: Allocator + Copy>(
     ensures { IfOk result (λ bytes. bytes.items ≡ written_frame (message frame.now)) }
 {
     let mut out = Vec::with_capacity(alloc, len.contents + MAX_HEAD)?;
-    append_own(&mut out, frame, len);
+    append_message(&mut out, frame, None, len);
     Ok(out)
 }
 
