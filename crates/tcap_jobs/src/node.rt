@@ -7,9 +7,7 @@ use crate::lot::Lot;
 use crate::network::{Way, addresses, draw_way};
 use crate::octets::spoil;
 use std::alloc::Global;
-use tcap_engine::{
-    Address, Ending, Engine, Fault, Indication, Limits, Outbox, Output, OutputRef,
-};
+use tcap_engine::{Address, Ending, Engine, Fault, Indication, Limits, Outbox, Output, OutputRef};
 
 /// How many peers there are.
 const PEERS: usize = 300;
@@ -131,7 +129,9 @@ impl Node {
         let (basic, context) = (Ending::Basic, Some(context));
         if let Some(outbox) = &mut self.outbox {
             outbox.clear();
-            let ended = self.engine.finish_into(dialogue, basic, context, &[], outbox);
+            let ended = self
+                .engine
+                .finish_into(dialogue, basic, context, &[], outbox);
             return self.appended(ended);
         }
         let ended = self.engine.finish(dialogue, basic, context, &[]);

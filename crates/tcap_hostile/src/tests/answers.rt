@@ -5,7 +5,7 @@ use ber_core::OutOfMemory;
 use std::alloc::{Allocator, Global};
 use std::fmt::Debug;
 use tcap_component::Problem;
-use tcap_engine::{Address, By, DropWhy, Output, OutputRef, Why};
+use tcap_engine::{Address, By, DropWhy, Output, Why};
 use tcap_pdu::DialoguePdu;
 use tcap_text::{
     body_text, coded_text, identifier_text, octets_or_dash, optional_octets_or_dash, pdu_text,
@@ -87,7 +87,12 @@ fn add_indication(
 }
 
 /// Adds a message that is sent; where it goes, if it isn't the address 01.
-fn add_sent(alloc: Global, told: &mut String, to: &Address, octets: &[u8]) -> Option<()> {
+pub(super) fn add_sent(
+    alloc: Global,
+    told: &mut String,
+    to: &Address,
+    octets: &[u8],
+) -> Option<()> {
     add_words(told, "  send", octets_or_dash(alloc, octets))?;
     if *to == peer() {
         return Some(());
@@ -121,7 +126,7 @@ fn add_reject(alloc: Global, told: &mut String, problem: Problem, by: By) -> Opt
 }
 
 /// Adds what is sent, the indications of dialogue handling, and what `add_abort` does.
-fn add_output<A: Allocator>(
+pub(super) fn add_output<A: Allocator>(
     alloc: Global,
     told: &mut String,
     output: &Output<'_, A>,
@@ -281,17 +286,6 @@ pub(super) fn add_numbered(told: &mut String, word: &str, number: u64) -> Option
 /// Adds a line of a value, printed for debugging.
 pub(super) fn add_value<T: Debug>(told: &mut String, value: &T) -> Option<()> {
     write!(told, "  {value:?}\n").ok()
-}
-
-/// Adds an output that an outbox holds.
-pub(super) fn add_kept(alloc: Global, told: &mut String, output: OutputRef<'_>) -> Option<()> {
-    match output {
-        OutputRef::Send { to, bytes } => add_sent(alloc, told, &Address::new(to)?, bytes),
-        OutputRef::Indication(indication) => {
-            let output: Output<'_, Global> = indication.output();
-            add_output(alloc, told, &output)
-        }
-    }
 }
 
 /// Adds the lines of outputs.

@@ -1,7 +1,7 @@
 //! An engine that is called with an outbox: what a line of an example appends behind what is there. The calls without
 //! an outbox are those of engine.rt.
 
-use super::answers::add_kept;
+use super::answers::{add_output, add_sent};
 use super::dialogue::add_fault;
 use super::engine::take;
 use super::subject::{Heap, Told};
@@ -10,7 +10,7 @@ use refusing::Refusing;
 use std::alloc::{Allocator, Global};
 use std::test::Fail;
 use tcap_component::Code;
-use tcap_engine::{Address, Engine, Event, Fault, Indication, Limits, Outbox, OutputRef};
+use tcap_engine::{Address, Engine, Event, Fault, Indication, Limits, Outbox, Output, OutputRef};
 use tcap_invocation::Class;
 
 /// From so many outputs on the outbox is cleared behind a call.
@@ -43,6 +43,17 @@ fn call<A: Allocator + Copy>(
         Event::Abort(d, abort) => engine.u_abort_into(*d, abort.why, abort.info, outbox),
         _ => return None,
     })
+}
+
+/// Adds an output that an outbox holds.
+fn add_kept(alloc: Global, told: &mut String, output: OutputRef<'_>) -> Option<()> {
+    match output {
+        OutputRef::Send { to, bytes } => add_sent(alloc, told, &Address::new(to)?, bytes),
+        OutputRef::Indication(indication) => {
+            let output: Output<'_, Global> = indication.output();
+            add_output(alloc, told, &output)
+        }
+    }
 }
 
 /// Adds the outputs from this one on.

@@ -1,7 +1,7 @@
 //! What an example's lines are told to.
 
-use super::words::{Word, number, text};
 use super::outbox::Station;
+use super::words::{Word, number, text};
 use super::{alternatives, codec, dialogue, engine, invocations, outbox};
 use ber_core::Feed;
 use refusing::Refusing;

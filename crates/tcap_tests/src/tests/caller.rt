@@ -1,7 +1,7 @@
 //! The worked callers, run.
 
-use std::test::Fail;
 use std::alloc::Global;
+use std::test::Fail;
 use tcap_callers::{clock_after, first_operation, hear_again, hear_at, operate};
 use tcap_engine::{Address, DropWhy, Engine, Fault, Indication, Limits, Outbox, Output, OutputRef};
 
