@@ -1,14 +1,15 @@
 //! The text of a fault.
 
-ghost use Rattle.std.specs.Prelude.{◌≡◌, ◌++◌, ◌-◌, take, drop, OnOk, IfOk, string_bytes};
+ghost use Rattle.std.specs.Prelude.{◌≡◌, ◌++◌, take, drop, OnOk, IfOk, string_bytes};
 ghost use Rattle.tcap_words.specs.Verdict.{is_good, verdict_of};
 ghost use Rattle.tcap_explain.specs.Explaining.{explained_at};
-ghost use Rattle.tcap_explain.specs.ExplainText.{named, position_words, octet_words, unit_words, count_words, contents_found, encoding_found, found_words, wanted, more_unit_words, more_words, is_in_end, tag_words, wanted_words, expectation_words, rule_words, explained_words, explained_lines, explain_text_of};
+ghost use Rattle.tcap_explain.specs.ExplainText.{named, position_words, octet_words, unit_words, count_words, contents_found, encoding_found, found_words, more_unit_words, more_words, is_in_end, tag_words, wanted_words, expectation_words, rule_words, explained_words, explained_lines, explain_text_of};
 
 use crate::by_verdict::explain;
+use crate::cut_element::octets_wanted;
 use crate::line::{Explained, Rule};
 use crate::words::expected_words;
-use ber_core::{BerFault, OutOfMemory, read_head};
+use ber_core::{BerFault, OutOfMemory};
 use std::alloc::Allocator;
 use tcap_words::{Shown, add_decimal, add_hex, add_verdict, verdict_on};
 
@@ -123,37 +124,6 @@ fn add_found<A: Allocator + Copy>(
         Rule::Other(_) => add_octet(text, bytes, place),
         Rule::Missing(_) => Ok(text.push_str("the end")?),
         Rule::Octets(_, count) => add_contents(text, bytes, place, count),
-    }
-}
-
-/// The octets of the element that is cut off at the place.
-fn cut_octets(bytes: &[u8], place: usize, element: usize) -> &[u8]
-    ensures { result.now ≡ take (place - element) (drop element bytes.now) }
-{
-    let rest = if element < bytes.len() {
-        &bytes[element..]
-    } else {
-        &[]
-    };
-    let count = place.saturating_sub(element);
-    if count < rest.len() {
-        &rest[..count]
-    } else {
-        rest
-    }
-}
-
-/// How many octets the element wants that is cut off at the place; None where its head doesn't say, or isn't whole.
-#[tactic(auto, unfolding(crate::specs::ExplainText::wanted))]
-fn octets_wanted(bytes: &[u8], place: usize, element: usize) -> Option<usize>
-    ensures { result ≡ wanted bytes.now place element }
-{
-    let Ok(head) = read_head(cut_octets(bytes, place, element)) else {
-        return None;
-    };
-    match head.length {
-        Some(len) => Some(len.saturating_sub(head.rest.len())),
-        None => None,
     }
 }
 

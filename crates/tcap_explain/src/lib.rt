@@ -8,6 +8,7 @@
 mod by_verdict;
 mod component_tag;
 mod contents;
+mod cut_element;
 mod encoding;
 mod fault_text;
 pub mod laws;

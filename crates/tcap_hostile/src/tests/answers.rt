@@ -87,13 +87,8 @@ fn add_indication(
 }
 
 /// Adds a message that is sent; where it goes, if it isn't the address 01.
-pub(super) fn add_sent(
-    alloc: Global,
-    told: &mut String,
-    to: &Address,
-    octets: &[u8],
-) -> Option<()> {
-    add_words(told, "  send", octets_or_dash(alloc, octets))?;
+pub(super) fn add_sent(alloc: Global, told: &mut String, to: &Address, sent: &[u8]) -> Option<()> {
+    add_words(told, "  send", octets_or_dash(alloc, sent))?;
     if *to == peer() {
         return Some(());
     }
