@@ -159,7 +159,7 @@ pub(crate) fn begun(told: &[Output<'_>]) -> u32 {
     }
 }
 
-/// The same of an outbox.
+/// The dialogue that begins with what an outbox holds, 0 where none does.
 fn begun_in(outbox: &Outbox) -> u32 {
     match outbox.get(0) {
         Some(OutputRef::Indication(Indication::Begin { dialogue, .. })) => dialogue,

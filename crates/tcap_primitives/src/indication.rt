@@ -117,7 +117,7 @@ pub enum Indication<'m> {
 }
 
 impl<'m> Indication<'m> {
-    /// The same as an output.
+    /// It as an output.
     // Where the indication is known, the match on it folds away, and the output is built in its place.
     #[inline(always)]
     pub fn output<A: Allocator>(self) -> Output<'m, A>

@@ -55,10 +55,11 @@ pub enum Accepted {
 }
 
 impl Accepted {
-    /// The same with what is sent and told.
+    /// What `ask` answers, with what is sent and told.
     #[inline(always)]
     pub fn asked<'m, A: Allocator + Copy>(self, outputs: Vec<Output<'m, A>, A>) -> Asked<'m, A>
-        ensures { (d : model.Dialogue) → asked_view result d ≡ accepted_outcome (all_shown outputs.entry.items) self d }
+        ensures { (d : model.Dialogue)
+            → asked_view result d ≡ accepted_outcome (all_shown outputs.entry.items) self d }
     {
         match self {
             Accepted::Number(number) => Asked::Number(number),
@@ -127,7 +128,8 @@ impl<A: Allocator + Copy> Dialogue<A> {
 /// The answer to TC-INVOKE.
 #[inline(always)]
 fn of_number(answer: Result<u64, Fault>) -> Result<Accepted, Fault>
-    ensures { (outputs : List told.Output) (o : Outcome) (old new : model.Dialogue) → Answers numbered answer o old new
+    ensures { (outputs : List told.Output) (o : Outcome) (old new : model.Dialogue)
+        → Answers numbered answer o old new
         → AsksInto outputs outputs result o old new }
 {
     Ok(Accepted::Number(answer?))
@@ -136,7 +138,8 @@ fn of_number(answer: Result<u64, Fault>) -> Result<Accepted, Fault>
 /// The answer where a component is queued.
 #[inline(always)]
 fn of_queued(answer: Result<(), Fault>) -> Result<Accepted, Fault>
-    ensures { (outputs : List told.Output) (o : Outcome) (old new : model.Dialogue) → Answers queued_done answer o old new
+    ensures { (outputs : List told.Output) (o : Outcome) (old new : model.Dialogue)
+        → Answers queued_done answer o old new
         → AsksInto outputs outputs result o old new }
 {
     answer?;

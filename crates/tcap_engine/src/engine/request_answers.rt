@@ -94,7 +94,8 @@ pub(super) fn outputs_of<'m, A: Allocator + Copy>(
 /// What is sent and told was appended.
 #[inline(always)]
 pub(super) fn told(accepted: Result<Accepted, Fault>) -> Result<(), Fault>
-    requires { IfOk accepted (λ a. (told : List model.Output) → MayAnswer AnswerKind.outputs (accepted_answer told a)) }
+    requires { IfOk accepted (λ a. (told : List model.Output)
+        → MayAnswer AnswerKind.outputs (accepted_answer told a)) }
     ensures moves { (before after : List model.Output) (m : EngineMoved) (old new : World)
         → EngineAnswers (accepted_answer (told_since before after)) accepted m old new
         → EngineAnswers (since_answer before after) result m old new }
@@ -104,7 +105,8 @@ pub(super) fn told(accepted: Result<Accepted, Fault>) -> Result<(), Fault>
     ensures kept { (before after : List model.Output) → IfOk accepted (λ a. Appends a before after)
         → OnErr accepted (after ≡ before) → KeepsOutputs before after }
     ensures err { (old new : World) → OnErr accepted (new ≡ old) → OnErr result (new ≡ old) }
-    ensures still { (before after : List model.Output) → OnErr accepted (after ≡ before) → OnErr result (after ≡ before) }
+    ensures still { (before after : List model.Output) → OnErr accepted (after ≡ before)
+        → OnErr result (after ≡ before) }
 {
     accepted?;
     Ok(())

@@ -38,7 +38,7 @@ fn behind_title(part: &str) -> Option<&str> {
 enum Way {
     /// Line by line, also with the first growth of each call refused.
     Told,
-    /// The same, of an engine that is called with an outbox.
+    /// Line by line too, of an engine that is called with an outbox.
     Appended,
     /// Its events by `run`.
     Handed,

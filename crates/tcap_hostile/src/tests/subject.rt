@@ -86,7 +86,7 @@ impl<'h> Subject<'h> {
         }
     }
 
-    /// The same, where an engine is called with an outbox.
+    /// An engine is called with an outbox; any other subject stays as it is.
     pub(super) fn with_outbox(self, heap: Heap<'h>) -> Subject<'h> {
         match self {
             Subject::Engine(engine) => Subject::Station(Station {

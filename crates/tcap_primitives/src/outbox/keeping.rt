@@ -88,7 +88,8 @@ pub(super) fn keep_operation<A: Allocator + Copy>(
 ) -> BodyRecord
     requires { HasRoom (vec_capacity octets.old) (vec_len octets.old) (code_octets code + optional_octets parameter) }
     ensures items { octets.new.items ≡ octets.old.items ++ operation_named code.entry parameter.entry }
-    ensures len { vec_len octets.new ≡ vec_len octets.old + (code_octets code.entry + optional_octets parameter.entry) }
+    ensures len { vec_len octets.new
+        ≡ vec_len octets.old + (code_octets code.entry + optional_octets parameter.entry) }
     ensures capacity { vec_capacity octets.old ≤ vec_capacity octets.new }
     ensures fits { BodyFits octets.new.items result }
     ensures code { code_read octets.new.items result.code ≡ code_parts code.entry }

@@ -81,7 +81,8 @@ impl<A: Allocator + Copy> Outbox<A> {
 /// Appends the octets of a message, for which there is room.
 #[inline(always)]
 fn keep_message<A: Allocator + Copy>(octets: &mut Vec<u8, A>, message: &Outgoing<'_>) -> Span
-    requires { HasRoom (vec_capacity octets.old) (vec_len octets.old) (length (written_frame (sending_view message.now.sending))) }
+    requires { HasRoom (vec_capacity octets.old) (vec_len octets.old)
+        (length (written_frame (sending_view message.now.sending))) }
     ensures items { octets.new.items ≡ octets.old.items ++ written_frame (sending_view message.now.sending) }
     ensures within { vec_len octets.new ≤ most_octets }
     ensures capacity { vec_capacity octets.old ≤ vec_capacity octets.new }
