@@ -117,7 +117,7 @@ pub enum Indication<'m> {
 }
 
 impl<'m> Indication<'m> {
-    /// It as an output.
+    /// The output that tells it.
     // Where the indication is known, the match on it folds away, and the output is built in its place.
     #[inline(always)]
     pub fn output<A: Allocator>(self) -> Output<'m, A>
