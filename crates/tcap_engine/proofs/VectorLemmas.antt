@@ -7,7 +7,6 @@ use Rattle.tcap_dialogue.specs.declared.dialogue.requests.Asked.{Asked}
 use Rattle.tcap_dialogue.specs.declared.dialogue.requests.Asked.TheVariants as asked
 use Rattle.tcap_engine.specs.RequestInTable.{accepted_answer, asked_answer}
 use Rattle.tcap_model.specs.Table.Dialogue.{Dialogue, fresh_dialogue}
-use Rattle.tcap_model.specs.Words.Answer.{Answer}
 use Rattle.tcap_model.specs.Words.Output.{Output}
 use Rattle.tcap_primitives.specs.SinkViews.{told_since}
 

@@ -1,5 +1,5 @@
 -- What was told since the outputs that a sink held.
-use Rattle.std.proofs.Common.{◌≡◌, ℕ, List, [], ◌∷◌, ◌++◌, length, drop, take, refl, sym, ap, ◌∙◌}
+use Rattle.std.proofs.Common.{◌≡◌, List, [], ◌∷◌, ◌++◌, length, drop, refl, sym, ap, ◌∙◌}
 use Rattle.std.proofs.Math.Seq.{drop-append_seam}
 use Rattle.tcap_model.specs.Words.Output.{Output}
 use Rattle.tcap_primitives.specs.SinkViews.{KeepsOutputs, told_since}

@@ -1,4 +1,4 @@
-use Rattle.std.proofs.Common.{rules, ◌≡◌, ◌<◌, ◌≤◌, ◌+◌, Ok, Err, arith, refl, length}
+use Rattle.std.proofs.Common.{rules, ◌≡◌, ◌<◌, Ok, Err, arith, length}
 use Rattle.tcap_component.proofs.CallerLemmas.{components_of-next, components_of-fault}
 use Rattle.tcap_component.specs.ComponentReading.{component_at, components_by}
 use Rattle.tcap_component.specs.Views.{component_parts, fault_parts}

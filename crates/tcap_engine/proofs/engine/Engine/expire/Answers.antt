@@ -1,4 +1,4 @@
-use Rattle.std.proofs.Common.{rules, arith, append_assoc, sym, ap, refl, subst, ◌≡◌, ◌∙◌, ◌<◌, List, [], ◌++◌, ℕ, length, map, filter_map, inl, inr}
+use Rattle.std.proofs.Common.{arith, append_assoc, sym, ap, refl, subst, ◌≡◌, ◌∙◌, ◌<◌, List, ◌++◌, ℕ, length, map, filter_map, inl, inr}
 use Rattle.std.proofs.lemmas.Result.{err_from_is_err_and}
 use Rattle.std.specs.List.{flat_map}
 use Rattle.std.specs.Prelude.{IsTrue}

@@ -1,4 +1,4 @@
-use Rattle.std.proofs.Common.{◌≡◌, ◌∙◌, ap, sym, subst, map, take}
+use Rattle.std.proofs.Common.{◌∙◌, ap, sym, subst, map, take}
 use Rattle.std.proofs.lemmas.List.{take-map}
 use Rattle.tcap_primitives.specs.OutboxReading.{output_read}
 use Rattle.tcap_primitives.specs.OutboxSpans.{AllFit}

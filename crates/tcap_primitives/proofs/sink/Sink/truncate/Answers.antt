@@ -1,6 +1,5 @@
-use Rattle.std.proofs.Common.{◌≡◌, ◌∙◌, Bool, false, List, ap, sym, take}
+use Rattle.std.proofs.Common.{◌≡◌, ◌∙◌, Bool, false, ap, sym, take}
 use Rattle.std.proofs.lemmas.List.{take-map}
-use Rattle.tcap_model.specs.Words.Output.{Output}
 use Rattle.tcap_primitives.specs.OutputViews.{all_shown, shown}
 use Rattle.tcap_primitives.specs.SinkViews.{Filled, filled_by}
 use Rattle.tcap_primitives.proofs.sink.Sink.truncate.Goals as goal
