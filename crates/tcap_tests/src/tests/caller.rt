@@ -42,8 +42,11 @@ fn hears_nothing_again(alloc: Global, engine: &mut Engine, from: &Address) -> Op
     let mut outbox = Outbox::new(alloc);
     hear_again(engine, from, &[], &mut outbox).ok()?;
     hear_again(engine, from, &[], &mut outbox).ok()?;
-    let dropped = OutputRef::Indication(Indication::Dropped(DropWhy::BadMessage));
-    Some(outbox.len() == 1 && outbox.get(0) == Some(dropped))
+    let is_dropped = matches!(
+        outbox.get(0),
+        Some(OutputRef::Indication(Indication::Dropped(DropWhy::BadMessage)))
+    );
+    Some(is_dropped && outbox.len() == 1)
 }
 
 #[test]
