@@ -20,7 +20,7 @@ use std::env;
 use std::process::ExitCode;
 use tcap_engine::Outbox;
 
-/// The jobs by their names.
+/// The jobs of `each`; `outbox` would repeat `register`.
 const JOBS: [&str; 5] = ["register", "client", "calls", "monitor", "scripts"];
 
 /// The digest of a job of so many turns; nothing where there is no such job, or memory runs out.

@@ -87,9 +87,10 @@ fn take_into(
         return take(alloc, engine, event, told);
     };
     if let Err(fault) = called {
-        return (outbox.len() == first)
-            .then_some(())
-            .and_then(|()| add_fault(told, fault));
+        if outbox.len() != first {
+            return None;
+        }
+        return add_fault(told, fault);
     }
     let added = add_from(alloc, outbox, first, told)?;
     if outbox.len() >= MANY {
