@@ -1,9 +1,6 @@
 //! Calls with memory of their own, or with a sink, that no engine makes.
 
-ghost use Rattle.tcap_primitives.specs.AbortViews.{CanWriteAbort};
-
 use super::alternatives::are_alike;
-use ber_core::OutOfMemory;
 use std::alloc::Global;
 use std::test::Fail;
 use tcap_component::Code;
@@ -19,18 +16,7 @@ const ABORT: [u8; 11] = [0x67, 0x09, 0x49, 0x04, 0, 0, 0, 1, 0x4a, 1, 1];
 /// An Invoke of operation 5, and a component that can't be read.
 const COMPONENTS: [u8; 10] = [0xa1, 6, 2, 1, 1, 2, 1, 5, 0xa9, 0];
 
-/// The octets of an Abort, behind one that is there.
-fn appended(alloc: Global, abort: &Abort<'_>) -> Result<Vec<u8>, OutOfMemory>
-    requires { CanWriteAbort abort.now }
-{
-    let message = abort.outgoing();
-    let mut octets = Vec::with_capacity(alloc, message.len().saturating_add(1))?;
-    octets.push_reserved(0xff);
-    message.append(&mut octets);
-    Ok(octets)
-}
-
-/// Whether the Abort for a cause is written as it should be, by both calls.
+/// Whether the Abort for a cause is written as it should be.
 fn is_abort_written(alloc: Global) -> Option<bool> {
     let Frame::Begin { otid, .. } = read_frame(&BEGIN).ok()? else {
         return None;
@@ -40,11 +26,7 @@ fn is_abort_written(alloc: Global) -> Option<bool> {
         cause: Cause::UnrecognizedId,
     };
     let own = write_abort(alloc, &abort).ok()?;
-    let behind = appended(alloc, &abort).ok()?;
-    let Some((0xff, rest)) = behind.as_slice().split_first() else {
-        return Some(false);
-    };
-    Some(own.as_slice() == ABORT.as_slice() && rest == ABORT.as_slice())
+    Some(own.as_slice() == ABORT.as_slice())
 }
 
 /// Whether a Unidirectional is told as it should be, by both calls.
