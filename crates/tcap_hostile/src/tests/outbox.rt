@@ -63,8 +63,8 @@ fn add_from<A: Allocator + Copy>(
     first: usize,
     told: &mut String,
 ) -> Option<Told> {
-    for output in outbox.iter().skip(first) {
-        add_kept(alloc, told, output)?;
+    for index in first..outbox.len() {
+        add_kept(alloc, told, outbox.get(index)?)?;
         write!(told, "\n").ok()?;
     }
     Some(if outbox.len() == first {
@@ -160,8 +160,9 @@ fn step(station: &mut Station<'_>, id: u8) -> Option<bool> {
         .receive_into(&Address::empty(), &result_to(id), outbox)
         .ok()?;
     let operation = Code::Local(1);
+    let next = if id == 0 { 1 } else { 0 };
     engine
-        .invoke(1, 1 - id as i8, Class::One, operation, None, None, 1_000)
+        .invoke(1, next, Class::One, operation, None, None, 1_000)
         .ok()?;
     engine.go_on_into(1, None, &[], outbox).ok()?;
     Some(is_step(outbox))

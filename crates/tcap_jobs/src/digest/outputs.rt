@@ -146,16 +146,17 @@ impl Digest {
 
     /// Adds all that an outbox holds, as `outputs` does.
     pub(crate) fn outbox(&mut self, outbox: &Outbox) {
-        for output in outbox {
-            match output {
-                OutputRef::Send { to, bytes } => {
+        for index in 0..outbox.len() {
+            match outbox.get(index) {
+                Some(OutputRef::Send { to, bytes }) => {
                     self.octets(to);
                     self.octets(bytes);
                 }
-                OutputRef::Indication(indication) => {
+                Some(OutputRef::Indication(indication)) => {
                     let output: Output<'_, Global> = indication.output();
                     self.output(&output);
                 }
+                None => {}
             }
         }
         self.number(outbox.len() as u64);
