@@ -21,7 +21,7 @@ use Rattle.tcap_model.specs.Words.Address.{Address}
 use Rattle.tcap_model.specs.Words.Answer.{Answer}
 use Rattle.tcap_model.specs.Words.Output.{Output}
 use Rattle.tcap_pdu.specs.FrameSpelling.{Message}
-use Rattle.tcap_primitives.proofs.SinkLemmas as sink
+use Rattle.tcap_primitives.proofs.CallerLemmas as sink
 use Rattle.tcap_primitives.specs.SinkViews.{KeepsOutputs, told_since}
 
 -- ---- a message draws no number

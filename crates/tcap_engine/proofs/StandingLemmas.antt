@@ -14,7 +14,7 @@ use Rattle.tcap_model.specs.Words.Event.{Event}
 use Rattle.tcap_model.specs.Words.Fault as model
 use Rattle.tcap_model.specs.Words.InRange.{InRange}
 use Rattle.tcap_model.specs.Words.Output.{Output}
-use Rattle.tcap_primitives.proofs.SinkLemmas.{keeps-same}
+use Rattle.tcap_primitives.proofs.CallerLemmas.{keeps-same}
 use Rattle.tcap_primitives.specs.SinkViews.{KeepsOutputs}
 use Rattle.tcap_engine.specs.StepForm.{Moves, EngineRefuses, EngineAnswers, EngineReceives, ReceivesInto, since_answer}
 use Rattle.tcap_engine.specs.HistoryForm.{Headline, StandsOn, StandsRefused, Stands, StandsReceived}

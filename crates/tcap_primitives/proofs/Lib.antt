@@ -1,4 +1,5 @@
 pub mod AbortLemmas
+pub mod CallerLemmas
 pub mod CancelLemmas
 pub mod CutLemmas
 pub mod OutboxLemmas

@@ -69,6 +69,7 @@ impl<'m, A: Allocator + Copy> Sink<'m, A, ToVector> {
     pub fn vector(alloc: A) -> Self
         ensures outputs { result.outputs ≡ [] }
         ensures slices { result.slices ≡ [] }
+        ensures places { result.places ≡ 0 }
     {
         Sink {
             vector: Vec::new(alloc),
@@ -92,7 +93,10 @@ impl<'m, A: Allocator + Copy> Sink<'m, A, ToOutbox> {
     /// This outbox.
     #[inline(always)]
     pub fn outbox(alloc: A, outbox: Outbox<A>) -> Self
-        ensures { result.outputs ≡ outbox.outputs }
+        ensures outputs { result.outputs ≡ outbox.outputs }
+        ensures slices { result.slices ≡ [] }
+        ensures places { result.places ≡ outbox.places }
+        ensures octets { result.octets ≡ outbox.octets }
     {
         Sink {
             vector: Vec::new(alloc),
@@ -104,7 +108,9 @@ impl<'m, A: Allocator + Copy> Sink<'m, A, ToOutbox> {
     /// The outbox.
     #[inline(always)]
     pub fn into_outbox(self) -> Outbox<A>
-        ensures { result.outputs ≡ self.entry.outputs }
+        ensures outputs { result.outputs ≡ self.entry.outputs }
+        ensures places { result.places ≡ self.entry.places }
+        ensures octets { result.octets ≡ self.entry.octets }
     {
         self.outbox
     }
@@ -128,6 +134,7 @@ impl<'m, A: Allocator + Copy, K: SinkKind> Sink<'m, A, K> {
         if K::TO_OUTBOX {
             return self.outbox.reserve(count, octets);
         }
+        // No slice is so long. A vector needs no room for octets, and says so of all other numbers.
         if octets == usize::MAX {
             return Err(AllocError);
         }
@@ -190,7 +197,8 @@ impl<'m, A: Allocator + Copy, K: SinkKind> Sink<'m, A, K> {
 
     /// Takes back the outputs behind the first so many.
     pub fn truncate(&mut self, count: usize)
-        ensures { self.new.outputs ≡ take count self.old.outputs }
+        ensures outputs { self.new.outputs ≡ take count self.old.outputs }
+        ensures slices { self.new.slices ≡ take count self.old.slices }
     {
         if K::TO_OUTBOX {
             self.outbox.truncate(count);

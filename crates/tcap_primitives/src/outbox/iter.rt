@@ -5,7 +5,7 @@ use super::output_ref::OutputRef;
 use std::alloc::{Allocator, Global};
 
 /// The outputs of an outbox that are still to come, in order; `Outbox::iter` makes it.
-#[derive(Clone, Copy)]
+#[derive(Clone, Drop)]
 pub struct OutboxIter<'o, A: Allocator + Copy = Global> {
     outbox: &'o Outbox<A>,
     /// The index of the output that comes next; past the last where none does.

@@ -2,11 +2,8 @@
 
 ghost use Rattle.std.specs.Prelude.{◌≡◌, ◌+◌, ◌≤◌, ◌++◌, None, Some, IfSome, is_some, length, not, vec_len, vec_capacity};
 ghost use Rattle.tcap_model.specs.Procedures.Refusals.{passes_message};
-ghost use Rattle.tcap_pdu.specs.DialogueDue.{content_fault};
-ghost use Rattle.tcap_pdu.specs.DialogueViews.{pdu_value};
-ghost use Rattle.tcap_pdu.specs.DialogueWritten.{HasDiagnostic};
 ghost use Rattle.tcap_pdu.specs.FrameWritten.{written_frame};
-ghost use Rattle.tcap_primitives.specs.SendingViews.{CanGoOut, sending_view};
+ghost use Rattle.tcap_primitives.specs.SendingViews.{CanGoOut, IsGood, sending_view};
 
 use super::Sending;
 use std::alloc::Allocator;
@@ -26,7 +23,7 @@ impl<'a> Outgoing<'a> {
     /// A message, where the contents of its PDU are good; `None` above 65,535 octets. It takes no memory (our own).
     #[inline(always)]
     pub fn of(sending: Sending<'a>) -> Option<Outgoing<'a>>
-        requires { IfSome sending.pdu (λ p. HasDiagnostic (pdu_value p) × (content_fault (pdu_value p) ≡ None)) }
+        requires { IsGood sending.pdu }
         ensures same { IfSome result (λ m. m.sending ≡ sending.entry) }
         ensures passes { is_some result ≡ not (passes_message (Some (sending_view sending.entry))) }
     {

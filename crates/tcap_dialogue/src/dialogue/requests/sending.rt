@@ -13,10 +13,7 @@ ghost use Rattle.tcap_model.specs.Procedures.Refusals.{can_name, gives_any, is_f
 ghost use Rattle.tcap_model.specs.Procedures.RequestMessage.{answer_portion};
 ghost use Rattle.tcap_model.specs.Procedures.States.{is_asked};
 ghost use Rattle.tcap_model.specs.Table.TableMove.{gone_out};
-ghost use Rattle.tcap_pdu.specs.DialogueDue.{content_fault};
-ghost use Rattle.tcap_pdu.specs.DialogueViews.{pdu_value};
-ghost use Rattle.tcap_pdu.specs.DialogueWritten.{HasDiagnostic};
-ghost use Rattle.tcap_primitives.specs.SendingViews.{CanCarry, portion_view, sending_view};
+ghost use Rattle.tcap_primitives.specs.SendingViews.{CanCarry, IsGood, portion_view, sending_view};
 ghost use Rattle.tcap_primitives.specs.declared.fault.Fault.TheVariants as fault;
 ghost use Rattle.tcap_reception.specs.StateViews.{phase_view};
 
@@ -102,7 +99,7 @@ impl<A: Allocator + Copy> Dialogue<A> {
 // Each request knows which message it sends: in its own copy the match on that folds away, here and below.
 #[inline(always)]
 pub(super) fn within_limit(sending: Sending<'_>) -> Result<Outgoing<'_>, Fault>
-    requires { IfSome sending.pdu (λ p. HasDiagnostic (pdu_value p) × (content_fault (pdu_value p) ≡ None)) }
+    requires { IsGood sending.pdu }
     ensures ok { IfOk result (λ m. (m.sending ≡ sending.entry)
         × (passes_message (Some (sending_view sending.entry)) ≡ false)) }
     ensures err { IfErr result (λ f. (f ≡ fault.TooLong)
@@ -116,8 +113,7 @@ pub(super) fn within_limit(sending: Sending<'_>) -> Result<Outgoing<'_>, Fault>
 pub(super) fn within_limit_if_any(
     sending: Option<Sending<'_>>,
 ) -> Result<Option<Outgoing<'_>>, Fault>
-    requires { IfSome sending (λ s. IfSome s.pdu
-        (λ p. HasDiagnostic (pdu_value p) × (content_fault (pdu_value p) ≡ None))) }
+    requires { IfSome sending (λ s. IsGood s.pdu) }
     ensures ok { let m = option_map sending_view sending.entry in
         IfOk result (λ v. (outgoing_view v ≡ m) × (passes_message m ≡ false)) }
     ensures err { IfErr result (λ f. (f ≡ fault.TooLong)

@@ -3,7 +3,7 @@ use Rattle.std.proofs.lemmas.Result.{err_from_is_err_and}
 use Rattle.std.specs.List.{flat_map}
 use Rattle.std.specs.Prelude.{IsTrue}
 use Rattle.tcap_dialogue.specs.RequestForm.{takes_memory}
-use Rattle.tcap_primitives.proofs.SinkLemmas.{keeps, since-is}
+use Rattle.tcap_primitives.proofs.CallerLemmas.{keeps, since-is}
 use Rattle.tcap_engine.specs.IdleDialogues.{AreDistinct, idle_ids, left_by, idle_end_in, entry_at, without_all}
 use Rattle.tcap_engine.specs.DialogueEntries.{TableEntry, dialogues_of}
 use Rattle.tcap_engine.proofs.EndLemmas.{ends-all, left-all}

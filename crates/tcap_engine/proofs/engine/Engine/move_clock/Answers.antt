@@ -1,7 +1,7 @@
 use Rattle.std.proofs.Common.{rules, tests, sym, ◌≡◌}
 use Rattle.tcap_model.specs.Table.EngineMove.{engine_move}
 use Rattle.tcap_model.specs.Words.Event.{Event}
-use Rattle.tcap_primitives.proofs.SinkLemmas.{since-same}
+use Rattle.tcap_primitives.proofs.CallerLemmas.{since-same}
 use Rattle.tcap_engine.proofs.engine.Engine.move_clock.Goals as goal
 
 pub returns-then-now-self-clause-moves : goal.returns-then-now-self-clause-moves
