@@ -16,7 +16,8 @@ pub use dialogue::{Dialogue, Step};
 pub use tcap_address::Address;
 pub use tcap_primitives::{
     Abort, AbortRequest, AbortWhy, BeginRequest, By, CancelRequest, Cause, ContinueRequest,
-    DropWhy, EndRequest, Ending, ErrorRequest, Fault, Indication, InvokeRequest, Outbox, Output,
-    OutputRef, RejectRequest, Request, ResultRequest, Sink, SinkKind, UniRequest, Why, write_abort,
+    DropWhy, EndRequest, Ending, ErrorRequest, Fault, Indication, InvokeRequest, Outbox,
+    OutboxIter, Output, OutputRef, RejectRequest, Request, ResultRequest, Sink, SinkKind,
+    UniRequest, Why, write_abort,
 };
 pub use tcap_reception::{BeginVerdict, PortionVerdict, State, judge_begin, judge_uni};

@@ -246,7 +246,8 @@ pub(crate) struct Left<'m> {
 
 /// The first component of what is left: what it comes to. Behind a faulty one nothing is left
 /// (Q.774, Component handling).
-// Each handler tells by itself, so that an `Output`, which is 288 octets, is built in the vector and not moved there. The component is read here: an item of `Components` is copied five times more on its way, which took 40 to 95
+// Each handler tells by itself, so that an `Output`, which is 288 octets, is built in the vector and not moved there.
+// The component is read here: an item of `Components` is copied five times more on its way, which took 40 to 95
 // instructions a message.
 #[inline(always)]
 pub(crate) fn take_first<'m, A: Allocator + Copy, K: SinkKind>(

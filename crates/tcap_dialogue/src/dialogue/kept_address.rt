@@ -107,7 +107,7 @@ impl<A: Allocator + Copy> KeptAddress<A> {
         Ok(())
     }
 
-    /// The same address, for a message.
+    /// The address that is kept, for a message.
     #[inline(always)]
     pub(super) fn to_address(&self) -> Address
         ensures { result ≡ self.now }

@@ -25,9 +25,9 @@ use tcap_primitives::{Fault, Request, Sink, SinkKind};
 
 // What is asked of each request and each message stands in its own copy; what follows seldom is a call.
 impl<A: Allocator + Copy> Dialogue<A> {
-    /// `ask_into`, where a component takes memory that other dialogues left. `reject_ms` is what the dialogue was made
-    /// with. A queue that is empty afterwards leaves its memory to others, and so does an empty list of invocations
-    /// where an Invoke is refused.
+    /// `ask`, whose outputs are appended to what a sink holds, where a component takes memory that other dialogues
+    /// left. `reject_ms` is what the dialogue was made with. A queue that is empty afterwards leaves its memory to
+    /// others, and so does an empty list of invocations where an Invoke is refused.
     #[inline(always)]
     pub fn ask_with<'m, K: SinkKind>(
         &mut self,
@@ -103,9 +103,9 @@ impl<A: Allocator + Copy> Dialogue<A> {
         }
     }
 
-    /// The Begin that creates the dialogue, in which nothing has happened: what is told; the arguments are those
-    /// of `accept`, and it is appended to what a sink holds. The Rejects that answer its components take memory that other dialogues left
-    /// (Q.774, Dialogue begin).
+    /// The Begin that creates the dialogue, in which nothing has happened: what is told is appended to what a sink
+    /// holds. The arguments are those of `accept`. The Rejects that answer its components take memory that other
+    /// dialogues left (Q.774, Dialogue begin).
     #[inline(always)]
     pub fn receive_begin_with<'m, K: SinkKind>(
         &mut self,

@@ -93,9 +93,9 @@ impl<A: Allocator + Copy> Dialogue<A> {
 
     /// `ask`, whose outputs are appended to what a sink holds.
     // Where the request is known, the match on it folds away, and no `Request` and no `Accepted` is built in
-    // memory.
+    // memory. Each struct is copied out of it: by reference it took more instructions.
     #[inline(always)]
-    pub fn ask_into<'m, K: SinkKind>(
+    pub(super) fn ask_into<'m, K: SinkKind>(
         &mut self,
         clock: u64,
         number: u64,
