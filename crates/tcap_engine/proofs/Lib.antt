@@ -22,6 +22,7 @@ pub mod QueuedLemmas
 pub mod ReachedEngine
 pub mod RefusedEngine
 pub mod RoomLemmas
+pub mod RunIntoLemmas
 pub mod RunLemmas
 pub mod SpentLemmas
 pub mod StandingLemmas

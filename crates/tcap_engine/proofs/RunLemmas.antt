@@ -15,13 +15,13 @@ use Rattle.tcap_model.specs.Words.Event.{Event}
 -- ---- step form
 
 -- A run over events and then over others.
-abbrev joined : World → List Event → List Event → EngineRan
+abbrev pub joined : World → List Event → List Event → EngineRan
 joined w es fs = record {
   answers = (engine_run w es).answers ++ (engine_run (engine_run w es).after fs).answers;
   after = (engine_run (engine_run w es).after fs).after;
 }
 
-engine_run-append : (w : World) (es fs : List Event) → engine_run w (es ++ fs) ≡ joined w es fs
+pub engine_run-append : (w : World) (es fs : List Event) → engine_run w (es ++ fs) ≡ joined w es fs
 engine_run-append w [] fs = refl
 engine_run-append w (e ∷ es) fs = ap (λ (r : EngineRan). answered_first (engine_move w e).answer r) (engine_run-append (engine_move w e).after es fs)
 
@@ -43,11 +43,11 @@ runs-more w es fs middle new before between after a b =
 
 -- ---- history form
 
-after_events-append : (h : History) (es fs : List Event) → after_events h (es ++ fs) ≡ after_events (after_events h es) fs
+pub after_events-append : (h : History) (es fs : List Event) → after_events h (es ++ fs) ≡ after_events (after_events h es) fs
 after_events-append h [] fs = refl
 after_events-append h (e ∷ es) fs = after_events-append (with_pair h e) es fs
 
-replies-append : (h : History) (es fs : List Event) → replies h (es ++ fs) ≡ replies h es ++ replies (after_events h es) fs
+pub replies-append : (h : History) (es fs : List Event) → replies h (es ++ fs) ≡ replies h es ++ replies (after_events h es) fs
 replies-append h [] fs = refl
 replies-append h (e ∷ es) fs = ap (λ (xs : List Answer). reply h e ∷ xs) (replies-append (with_pair h e) es fs)
 

@@ -6,10 +6,13 @@ use Rattle.tcap_primitives.specs.RequestViews.{request_view}
 use Rattle.tcap_primitives.specs.declared.request.Request.TheVariants as request
 use Rattle.tcap_engine.specs.declared.event.Answer.{Answer}
 use Rattle.tcap_engine.specs.declared.event.Answer.TheVariants as answer
+use Rattle.tcap_engine.specs.declared.event.Answered.{Answered}
+use Rattle.tcap_engine.specs.declared.event.Answered.TheVariants as answered
 use Rattle.tcap_engine.specs.declared.event.Event.{Event}
 use Rattle.tcap_engine.specs.declared.event.Event.TheVariants as event
 use Rattle.tcap_model.specs.Words.Answer as model_answer
 use Rattle.tcap_model.specs.Words.Event as model
+use Rattle.tcap_model.specs.Words.Output as model_output
 
 -- What comes to an engine (own).
 abbrev pub event_view : Event → model.Event
@@ -44,3 +47,12 @@ answer_view (answer.Refused fault) = model_answer.Answer.refused (fault_view fau
 -- Answers, one after the other (own).
 abbrev pub answers_view : {A : Type 0} → List (Answer A) → List model_answer.Answer
 answers_view answers = map answer_view answers
+
+-- What an engine answers whose outputs, these, went to an outbox (own).
+abbrev pub answered_view : List model_output.Output → Answered → model_answer.Answer
+answered_view told (answered.NewDialogue dialogue) = model_answer.Answer.new_dialogue dialogue
+answered_view told (answered.Number number) = model_answer.Answer.number number
+answered_view told answered.Done = model_answer.Answer.done
+answered_view told (answered.GivenUp number) = model_answer.Answer.given_up number
+answered_view told answered.Outputs = model_answer.Answer.outputs told
+answered_view told (answered.Refused fault) = model_answer.Answer.refused (fault_view fault)

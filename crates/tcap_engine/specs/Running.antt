@@ -1,5 +1,5 @@
 -- What an engine answers to events, one after the other.
-use Rattle.std.specs.Prelude.{◌≡◌, ◌-◌, List, [], ◌∷◌, ◌++◌, length, take, drop, IsTrue}
+use Rattle.std.specs.Prelude.{◌≡◌, ◌-◌, List, [], ◌∷◌, ◌++◌, length, take, drop, flat_map, IsTrue}
 use Rattle.tcap_dialogue.specs.RequestForm.{takes_memory}
 use Rattle.tcap_engine.specs.HistoryForm.{Headline}
 use Rattle.tcap_model.specs.Histories.History.{History}
@@ -9,6 +9,7 @@ use Rattle.tcap_model.specs.Table.EngineMove.{engine_move}
 use Rattle.tcap_model.specs.Table.World.{World, StandsAt}
 use Rattle.tcap_model.specs.Words.Answer.{Answer}
 use Rattle.tcap_model.specs.Words.Event.{Event}
+use Rattle.tcap_model.specs.Words.Output.{Output}
 
 -- Memory may be refused where bytes are received, and else only where the answer takes memory (own).
 abbrev pub MayWant : Event → Answer → Type 0
@@ -24,6 +25,19 @@ done old new events = take (length new - length old) events
 -- The answers that were appended to some (own).
 abbrev pub new_answers : List Answer → List Answer → List Answer
 new_answers before after = drop (length before) after
+
+-- The outputs of an answer; an answer of any other kind has none (own).
+abbrev pub outputs_in : Answer → List Output
+outputs_in (Answer.new_dialogue dialogue) = []
+outputs_in (Answer.number number) = []
+outputs_in Answer.done = []
+outputs_in (Answer.given_up number) = []
+outputs_in (Answer.outputs outputs) = outputs
+outputs_in (Answer.refused fault) = []
+
+-- The outputs of answers, one after the other (own).
+abbrev pub all_outputs : List Answer → List Output
+all_outputs answers = flat_map outputs_in answers
 
 -- ---- step form
 
@@ -48,6 +62,12 @@ pub record Runs (old : World) (events : List Event) (new : World) (before after 
   pub answered : after ≡ before ++ (engine_run old events).answers
   pub moved : new ≡ (engine_run old events).after
 
+-- These events were done: what their answers tell stands behind what was there, and the engine is what it is after
+-- them (own).
+pub record RunsInto (old : World) (events : List Event) (new : World) (before after : List Output) : Type 0 where
+  pub told : after ≡ before ++ all_outputs (engine_run old events).answers
+  pub moved : new ≡ (engine_run old events).after
+
 -- ---- history form
 
 -- A history with events more, each with the answer that is due to it (own).
@@ -64,5 +84,12 @@ replies h (event ∷ events) = reply h event ∷ replies (with_pair h event) eve
 -- stands at the history with the events' pairs, and the headline holds there (own).
 pub record StandsThrough (h : History) (events : List Event) (new : World) (before after : List Answer) : Type 0 where
   pub are_replies : after ≡ before ++ replies h events
+  pub stands : StandsAt (after_events h events) new
+  pub headline : Headline (after_events h events)
+
+-- These events were done after a history: what is new is what the replies tell; the engine then stands at the
+-- history with the events' pairs, and the headline holds there (own).
+pub record StandsThroughInto (h : History) (events : List Event) (new : World) (before after : List Output) : Type 0 where
+  pub are_told : after ≡ before ++ all_outputs (replies h events)
   pub stands : StandsAt (after_events h events) new
   pub headline : Headline (after_events h events)

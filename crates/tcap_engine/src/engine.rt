@@ -11,6 +11,7 @@ pub(crate) mod getters;
 pub(crate) mod idle;
 pub(crate) mod moment;
 pub(crate) mod outbox_calls;
+mod outbox_events;
 pub(crate) mod receive;
 pub(crate) mod request_answers;
 pub(crate) mod request_in_table;

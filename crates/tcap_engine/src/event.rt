@@ -82,3 +82,20 @@ pub enum Answer<'m, A: Allocator = Global> {
     /// The request was refused for this cause, which is never `OutOfMemory`.
     Refused(Fault),
 }
+
+/// What the engine answers to an event whose outputs are appended to an outbox (own).
+#[derive(Clone, Copy, Debug, PartialEq, Eq)]
+pub enum Answered {
+    /// The identifier of a new dialogue.
+    NewDialogue(u32),
+    /// The number of a new invocation.
+    Number(u64),
+    /// A component was queued.
+    Done,
+    /// The invocation with this number was given up.
+    GivenUp(u64),
+    /// What is sent and told was appended, in this order.
+    Outputs,
+    /// The request was refused for this cause, which is never `OutOfMemory`.
+    Refused(Fault),
+}

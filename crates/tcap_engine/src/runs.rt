@@ -1,9 +1,9 @@
 //! Events, one after the other.
 
-ghost use Rattle.std.specs.Prelude.{◌≡◌, ◌<◌, ◌+◌, ◌∷◌, [], length, OnErr, OnOk};
+ghost use Rattle.std.specs.Prelude.{◌≡◌, ◌≤◌, ◌<◌, ◌+◌, ◌∷◌, [], length, take, OnErr, OnOk};
 ghost use Rattle.tcap_engine.specs.EventViews.{answers_view, event_view, events_view};
 ghost use Rattle.tcap_engine.specs.HistoryForm.{Headline};
-ghost use Rattle.tcap_engine.specs.Running.{Runs, StandsThrough, after_events, done};
+ghost use Rattle.tcap_engine.specs.Running.{Runs, RunsInto, StandsThrough, StandsThroughInto, after_events, done};
 ghost use Rattle.tcap_model.specs.Histories.History.{History};
 ghost use Rattle.tcap_model.specs.Table.World.{StandsAt};
 
@@ -11,6 +11,7 @@ use crate::engine::Engine;
 use crate::event::{Answer, Event};
 use ber_core::OutOfMemory;
 use std::alloc::Allocator;
+use tcap_dialogue::Outbox;
 
 /// Hands the events to the engine, one after the other, and appends their answers: one for each event,
 /// whose place is made before the event. At the first event to which memory was refused it ends, with the
@@ -78,4 +79,47 @@ fn answer_one<'m, A: Allocator + Copy>(
     let answer = engine.handle(event)?;
     answers.push_reserved(answer);
     Ok(())
+}
+
+/// Hands the events to the engine, one after the other, and appends what it sends and tells to an outbox: how many
+/// events were done. They are fewer than all only where memory was refused to the next one, and then the engine and
+/// the outbox are as they were before that one. What else is answered is dropped: `handle_into` gives it.
+pub fn run_into<A: Allocator + Copy>(
+    engine: &mut Engine<A>,
+    events: &[Event<'_>],
+    outbox: &mut Outbox<A>,
+) -> usize
+    ensures within { result ≤ length events.now }
+    ensures moves { RunsInto engine.old (take result (events_view events.now)) engine.new
+        outbox.old.outputs outbox.new.outputs }
+    // Whatever legal history the engine stood at: what the replies tell, and the history that it stands at then.
+    ensures stands { (h : History) → StandsAt h engine.old
+        → StandsThroughInto h (take result (events_view events.now)) engine.new
+        outbox.old.outputs outbox.new.outputs }
+    // And of every number the headline holds there, as `run` says it.
+    ensures headline { (h : History) → StandsAt h engine.old
+        → Headline (after_events h (take result (events_view events.now))) }
+{
+    run_each_into(engine, events, outbox)
+}
+
+/// `run_into`, event by event.
+fn run_each_into<A: Allocator + Copy>(
+    engine: &mut Engine<A>,
+    events: &[Event<'_>],
+    outbox: &mut Outbox<A>,
+) -> usize
+    ensures within { result ≤ length events.now }
+    ensures moves { RunsInto engine.old (take result (events_view events.now)) engine.new
+        outbox.old.outputs outbox.new.outputs }
+    ensures stands { (h : History) → StandsAt h engine.old
+        → StandsThroughInto h (take result (events_view events.now)) engine.new
+        outbox.old.outputs outbox.new.outputs }
+{
+    for (done, event) in events.iter().enumerate() {
+        if engine.handle_into(event, outbox).is_err() {
+            return done;
+        }
+    }
+    events.len()
 }

@@ -1,0 +1,56 @@
+-- Events that follow one another, whose outputs are appended.
+use Rattle.std.proofs.Common.{◌≡◌, ◌∙◌, refl, sym, ap, subst, List, [], ◌∷◌, ◌++◌}
+use Rattle.std.proofs.lemmas.List.{append-nil, flat_map_more}
+use Rattle.tcap_engine.proofs.RunLemmas.{after_events-append, engine_run-append, joined, replies-append}
+use Rattle.tcap_engine.proofs.StandingLemmas.{headline}
+use Rattle.tcap_engine.specs.HistoryForm.{Headline, StandsOn}
+use Rattle.tcap_engine.specs.Running.{EngineRan, RunsInto, StandsThroughInto, after_events, all_outputs, engine_run, outputs_in, replies}
+use Rattle.tcap_engine.specs.StepForm.{Moves}
+use Rattle.tcap_model.specs.Histories.History.{History}
+use Rattle.tcap_model.specs.Replies.Reply.{reply}
+use Rattle.tcap_model.specs.Table.EngineMove.{engine_move}
+use Rattle.tcap_model.specs.Table.World.{World, StandsAt}
+use Rattle.tcap_model.specs.Words.Answer.{Answer}
+use Rattle.tcap_model.specs.Words.Event.{Event}
+use Rattle.tcap_model.specs.Words.Output.{Output}
+use Rattle.tcap_primitives.specs.SinkViews.{KeepsOutputs, told_since}
+
+pub none-into : (w : World) (before : List Output) → RunsInto w [] w before before
+none-into w before = record { told = sym (append-nil before); moved = refl }
+
+pub none-through-into : (h : History) (w : World) (before : List Output) → StandsAt h w → StandsThroughInto h [] w before before
+none-through-into h w before at = record { are_told = sym (append-nil before); stands = at; headline = headline h at.is_legal }
+
+-- What an answer tells is appended to what earlier answers told.
+appended : (before between after : List Output) (answers : List Answer) (answer : Answer)
+    → between ≡ before ++ all_outputs answers → KeepsOutputs between after → told_since between after ≡ outputs_in answer
+    → after ≡ before ++ all_outputs (answers ++ answer ∷ [])
+appended before between after answers answer are kept told =
+    kept ∙ ap (λ (os : List Output). between ++ os) told
+    ∙ ap (λ (os : List Output). os ++ outputs_in answer) are
+    ∙ flat_map_more outputs_in before answers answer
+
+-- An event more.
+pub into-more : (w : World) (es : List Event) (e : Event) (middle new : World) (before between after : List Output) (answer : Answer)
+    → RunsInto w es middle before between → KeepsOutputs between after → told_since between after ≡ outputs_in answer
+    → Moves (engine_move middle e) answer new → RunsInto w (es ++ e ∷ []) new before after
+into-more w es e middle new before between after answer a kept told b =
+    let is : engine_run w (es ++ e ∷ []) ≡ joined w es (e ∷ []) = engine_run-append w es (e ∷ []) in
+    let same : answer ≡ (engine_move (engine_run w es).after e).answer = b.0 ∙ ap (λ (v : World). (engine_move v e).answer) a.moved in
+    record {
+      told =
+          appended before between after (engine_run w es).answers (engine_move (engine_run w es).after e).answer a.told kept (told ∙ ap outputs_in same)
+          ∙ ap (λ (r : EngineRan). before ++ all_outputs r.answers) (sym is);
+      moved = b.1 ∙ ap (λ (v : World). (engine_move v e).after) a.moved ∙ ap (λ (r : EngineRan). r.after) (sym is);
+    }
+
+pub through-into-more : (h : History) (es : List Event) (e : Event) (middle new : World) (before between after : List Output) (answer : Answer)
+    → StandsThroughInto h es middle before between → KeepsOutputs between after → told_since between after ≡ outputs_in answer
+    → StandsOn (after_events h es) e answer new → StandsThroughInto h (es ++ e ∷ []) new before after
+through-into-more h es e middle new before between after answer a kept told b = record {
+  are_told =
+      appended before between after (replies h es) (reply (after_events h es) e) a.are_told kept (told ∙ ap outputs_in b.is_reply)
+      ∙ ap (λ (answers : List Answer). before ++ all_outputs answers) (sym (replies-append h es (e ∷ [])));
+  stands = subst (λ (k : History). StandsAt k new) (sym (after_events-append h es (e ∷ []))) b.stands;
+  headline = subst Headline (sym (after_events-append h es (e ∷ []))) b.headline;
+}
