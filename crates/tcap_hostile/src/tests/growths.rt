@@ -1,12 +1,12 @@
 //! Each example with each growth refused in turn, at last with none, and with the first growth of each call
-//! refused; those of an engine by `run` too.
+//! refused; those of an engine by `run` and by `run_into` too.
 
 use super::examples::{
     ADDRESSES, ALTERNATIVES, CALLS, CODEC, DIALOGUES, FEEDS, IDLE, INVOCATIONS, MESSAGES, OUTCOMES,
     REQUESTS,
 };
 use super::played::{Player, Refusal, growths, play};
-use super::runs::run_growths;
+use super::runs::{Gathering, run_growths};
 use super::subject::Heap;
 use refusing::Refusing;
 use std::alloc::Global;
@@ -42,12 +42,16 @@ enum Way {
     Appended,
     /// Its events by `run`.
     Handed,
+    /// Its events by `run_into`.
+    HandedInto,
 }
 
 /// How many growths an example has; nothing where it doesn't come out as it stands.
 fn growths_by(alloc: Global, heap: Heap<'_>, way: Way, example: &str) -> Option<u64> {
-    if matches!(way, Way::Handed) {
-        return run_growths(alloc, heap, example);
+    match way {
+        Way::Handed => return run_growths(alloc, heap, Gathering::Answers, example),
+        Way::HandedInto => return run_growths(alloc, heap, Gathering::Outputs, example),
+        Way::Told | Way::Appended => {}
     }
     let player = Player {
         alloc,
@@ -131,6 +135,18 @@ fn runs_with_each_growth_refused(rt: HostRuntime) -> Result<(), Fail> {
     let Total { examples, growths } = total_of(alloc, Way::Handed, texts.as_slice())?;
     assert!(rt;
         examples == 53 && growths > 750,
+        "{examples} examples, {growths} growths"
+    );
+    Ok(())
+}
+
+#[test]
+fn outbox_runs_with_each_growth_refused(rt: HostRuntime) -> Result<(), Fail> {
+    let alloc = rt.alloc();
+    let texts = [MESSAGES, OUTCOMES, REQUESTS, IDLE, ADDRESSES];
+    let Total { examples, growths } = total_of(alloc, Way::HandedInto, texts.as_slice())?;
+    assert!(rt;
+        examples == 53 && growths > 400,
         "{examples} examples, {growths} growths"
     );
     Ok(())

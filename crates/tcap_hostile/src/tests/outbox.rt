@@ -1,16 +1,18 @@
 //! An engine that is called with an outbox: what a line of an example appends behind what is there. The calls without
 //! an outbox are those of engine.rt.
 
-use super::answers::{add_output, add_sent};
+use super::answers::{add_line, add_numbered, add_output, add_sent};
 use super::dialogue::add_fault;
-use super::engine::take;
 use super::subject::{Heap, Told};
 use super::words::{Word, event_of, peer, text};
 use refusing::Refusing;
 use std::alloc::{Allocator, Global};
 use std::test::Fail;
 use tcap_component::Code;
-use tcap_engine::{Address, Engine, Event, Fault, Indication, Limits, Outbox, Output, OutputRef};
+use tcap_engine::{
+    Address, Answered, Engine, Event, Fault, Indication, Limits, Outbox, Output, OutputRef,
+    run_into,
+};
 use tcap_invocation::Class;
 
 /// From so many outputs on the outbox is cleared behind a call.
@@ -57,7 +59,7 @@ fn add_kept(alloc: Global, told: &mut String, output: OutputRef<'_>) -> Option<(
 }
 
 /// Adds the outputs from this one on.
-fn add_from<A: Allocator + Copy>(
+pub(super) fn add_from<A: Allocator + Copy>(
     alloc: Global,
     outbox: &Outbox<A>,
     first: usize,
@@ -74,6 +76,35 @@ fn add_from<A: Allocator + Copy>(
     })
 }
 
+/// Adds what an event is answered whose call appends nothing.
+fn add_answered(told: &mut String, answered: Answered) -> Option<Told> {
+    match answered {
+        Answered::NewDialogue(dialogue) => add_numbered(told, "new", u64::from(dialogue))?,
+        Answered::Number(number) => add_numbered(told, "number", number)?,
+        Answered::Done => add_line(told, "done")?,
+        Answered::GivenUp(number) => {
+            add_numbered(told, "givenup", number)?;
+            return Some(Told::Small);
+        }
+        Answered::Refused(fault) => return add_fault(told, fault),
+        Answered::Outputs => return None,
+    }
+    Some(Told::Large)
+}
+
+/// What an event is answered whose call appends nothing.
+fn take_answered(station: &mut Station<'_>, event: &Event<'_>, told: &mut String) -> Option<Told> {
+    let Station { engine, outbox } = station;
+    let first = outbox.len();
+    let Ok(answered) = engine.handle_into(event, outbox) else {
+        return Some(Told::NoMemory);
+    };
+    if outbox.len() != first {
+        return None;
+    }
+    add_answered(told, answered)
+}
+
 /// What an event appends, or its refusal, which appends nothing.
 fn take_into(
     alloc: Global,
@@ -84,7 +115,7 @@ fn take_into(
     let Station { engine, outbox } = station;
     let first = outbox.len();
     let Some(called) = call(engine, &event, outbox) else {
-        return take(alloc, engine, event, told);
+        return take_answered(station, &event, told);
     };
     if let Err(fault) = called {
         if outbox.len() != first {
@@ -113,6 +144,37 @@ pub(super) fn tell(
             take_into(alloc, station, event_of(words, &peer)?, told)
         }
     }
+}
+
+// ---- runs
+
+/// Runs these events and, where memory was refused, once more those that are left: how often memory was refused.
+fn run_into_on<'h>(
+    engine: &mut Engine<Heap<'h>>,
+    events: &[Event<'_>],
+    outbox: &mut Outbox<Heap<'h>>,
+) -> Option<u64> {
+    let done = run_into(engine, events, outbox);
+    let rest = events.get(done..)?;
+    if rest.is_empty() {
+        return Some(0);
+    }
+    (run_into(engine, rest, outbox) == rest.len()).then_some(1)
+}
+
+/// Runs these events on an engine that has told nothing.
+pub(super) fn run_told_into<'h>(
+    alloc: Global,
+    heap: Heap<'h>,
+    engine: &mut Engine<Heap<'h>>,
+    events: &[Event<'_>],
+    wanted: &str,
+) -> Option<u64> {
+    let mut outbox = Outbox::new(heap);
+    let refusals = run_into_on(engine, events, &mut outbox)?;
+    let mut told = String::new(alloc);
+    add_from(alloc, &outbox, 0, &mut told)?;
+    (told.as_str() == wanted).then_some(refusals)
 }
 
 // ---- steps that take no memory

@@ -1,12 +1,34 @@
-//! The events of an example of an engine, handed to `run`.
+//! The events of an example of an engine, handed to `run` or to `run_into`.
 
 use super::answers::{add_line, add_numbered, add_outputs};
 use super::engine::new_engine;
+use super::outbox::run_told_into;
 use super::played::Unanswered;
 use super::subject::Heap;
 use super::words::{Word, event_of, peer, words_of};
 use std::alloc::Global;
 use tcap_engine::{Address, Answer, Engine, Event, run};
+
+/// What is gathered of a run.
+#[derive(Clone, Copy)]
+pub(super) enum Gathering {
+    /// The answers, by `run`.
+    Answers,
+    /// The outputs alone, by `run_into`.
+    Outputs,
+}
+
+impl Gathering {
+    /// Whether this line of an example is told.
+    fn tells(self, line: &str) -> bool {
+        let others = ["new ", "number ", "done", "givenup ", "refused "];
+        line.starts_with(' ')
+            && (matches!(self, Gathering::Answers)
+                || !others
+                    .iter()
+                    .any(|word| line.trim_start().starts_with(word)))
+    }
+}
 
 /// Adds the words of the lines that stand for events.
 fn add_event_lines<'e>(
@@ -73,11 +95,11 @@ fn add_answers(alloc: Global, told: &mut String, answers: &[Answer<'_, Heap<'_>>
     Some(())
 }
 
-/// The lines of the answers that an example has.
-fn wanted_of(alloc: Global, example: &str) -> Option<String> {
+/// The lines of an example that are told.
+fn wanted_of(alloc: Global, gathering: Gathering, example: &str) -> Option<String> {
     let mut text = String::new(alloc);
     for line in example.lines() {
-        if line.starts_with(' ') {
+        if gathering.tells(line) {
             write!(text, "{line}\n").ok()?;
         }
     }
@@ -147,17 +169,21 @@ fn run_answered<'h>(
     run_told(alloc, engine, events, &mut answers, wanted)
 }
 
-/// Runs these events on a new engine: how often memory was refused; nothing where its answers aren't those that
-/// are wanted.
+/// Runs these events on a new engine: how often memory was refused; nothing where what is gathered isn't what is
+/// wanted.
 fn run_new(
     alloc: Global,
     heap: Heap<'_>,
+    gathering: Gathering,
     kind: &str,
     events: &[Event<'_>],
     wanted: &str,
 ) -> Option<u64> {
     let mut engine = new_engine(heap, kind);
-    run_answered(alloc, heap, &mut engine, events, wanted)
+    match gathering {
+        Gathering::Answers => run_answered(alloc, heap, &mut engine, events, wanted),
+        Gathering::Outputs => run_told_into(alloc, heap, &mut engine, events, wanted),
+    }
 }
 
 /// How many growths the run of these events has, where each of them that is refused in turn ends the first run, but
@@ -165,6 +191,7 @@ fn run_new(
 fn growths_of(
     alloc: Global,
     heap: Heap<'_>,
+    gathering: Gathering,
     kind: &str,
     events: &[Event<'_>],
     wanted: &str,
@@ -172,7 +199,7 @@ fn growths_of(
     let mut unanswered = Unanswered::default();
     for number in 1..1_000u64 {
         heap.refuse(number);
-        let refusals = run_new(alloc, heap, kind, events, wanted)?;
+        let refusals = run_new(alloc, heap, gathering, kind, events, wanted)?;
         if heap.is_armed() {
             heap.refuse(0);
             return (refusals == 0 && unanswered.are_places()).then_some(number - 1);
@@ -197,36 +224,56 @@ fn kind_of(example: &str) -> &str {
 fn growths_from(
     alloc: Global,
     heap: Heap<'_>,
+    gathering: Gathering,
     kind: &str,
     lines: &[Vec<Word<'_>>],
     peer: &Address,
     wanted: &str,
 ) -> Option<u64> {
     let events = events_of(alloc, lines, peer)?;
-    growths_of(alloc, heap, kind, events.as_slice(), wanted)
+    growths_of(alloc, heap, gathering, kind, events.as_slice(), wanted)
 }
 
 /// How many growths the run of the events of these lines has, on an engine of this kind.
 fn growths_of_lines(
     alloc: Global,
     heap: Heap<'_>,
+    gathering: Gathering,
     kind: &str,
     lines: &[Vec<Word<'_>>],
     wanted: &str,
 ) -> Option<u64> {
     let peer = peer();
-    growths_from(alloc, heap, kind, lines, &peer, wanted)
+    growths_from(alloc, heap, gathering, kind, lines, &peer, wanted)
 }
 
 /// How many growths the run of an example has whose answers are those that are wanted.
-fn run_lines(alloc: Global, heap: Heap<'_>, example: &str, wanted: &str) -> Option<u64> {
+fn run_lines(
+    alloc: Global,
+    heap: Heap<'_>,
+    gathering: Gathering,
+    example: &str,
+    wanted: &str,
+) -> Option<u64> {
     let lines = event_lines(alloc, example)?;
-    growths_of_lines(alloc, heap, kind_of(example), lines.as_slice(), wanted)
+    growths_of_lines(
+        alloc,
+        heap,
+        gathering,
+        kind_of(example),
+        lines.as_slice(),
+        wanted,
+    )
 }
 
 /// How many growths the run of an example has, where each of them that is refused in turn ends the first
-/// run, and all answers are the example's.
-pub(super) fn run_growths(alloc: Global, heap: Heap<'_>, example: &str) -> Option<u64> {
-    let wanted = wanted_of(alloc, example)?;
-    run_lines(alloc, heap, example, wanted.as_str())
+/// run, and all that is gathered is the example's.
+pub(super) fn run_growths(
+    alloc: Global,
+    heap: Heap<'_>,
+    gathering: Gathering,
+    example: &str,
+) -> Option<u64> {
+    let wanted = wanted_of(alloc, gathering, example)?;
+    run_lines(alloc, heap, gathering, example, wanted.as_str())
 }
