@@ -21,9 +21,9 @@
  * stream4096, stream16, stream1: hands 1,000 of it to a new feed. MODE copy: takes memory for the message,
  * copies it there and gives the memory back.
  * MODE answer: reads that message, SIZE 1 the Continue, 2 the End. MODE engine1 to engine6: an engine
- * with SIZE dialogues open does COUNT laps of SIZE steps of that kind. MODE lapses1, lapses1000: an engine
- * with SIZE Active dialogues does COUNT laps, in which each lapses once, so many at a moment. MODE
- * invocations1 to invocations3: a dialogue with SIZE invocations Sent does COUNT laps of SIZE steps.
+ * with SIZE dialogues open does COUNT laps of SIZE steps of that kind; outbox1 to outbox6: by calls that append
+ * to one outbox. MODE lapses1, lapses1000: an engine with SIZE Active dialogues does COUNT laps, in which each
+ * lapses once, so many at a moment; outbox-lapses1, outbox-lapses1000: into one outbox. MODE invocations1 to invocations3: a dialogue with SIZE invocations Sent does COUNT laps of SIZE steps.
  */
 #include <stdint.h>
 #include <stdio.h>
@@ -201,7 +201,9 @@ static double nanoseconds(void) {
 /* Few steps of each kind; each stops where it gives other outputs. */
 static void test_steps(void) {
   static const char *const modes[] = {"engine1", "engine2", "engine3",    "engine4",      "engine5",      "engine6",
-                                      "lapses1", "lapses2", "lapses1000", "invocations1", "invocations2", "invocations3"};
+                                      "outbox1", "outbox2", "outbox3",    "outbox4",      "outbox5",      "outbox6",
+                                      "lapses1", "lapses2", "lapses1000", "invocations1", "invocations2", "invocations3",
+                                      "outbox-lapses1", "outbox-lapses2"};
   for (size_t i = 0; i < sizeof modes / sizeof *modes; i++) run_steps(modes[i], 3, 2);
 }
 

@@ -3,6 +3,7 @@
 
 A line of workloads.txt is NAME CRATE WORD..: the program crates/CRATE/out/CRATE with these words, in the folder bench/;
 SEED stands for a number below 2^32, and a last word <FILE for its standard input. Prints both medians and their ratio.
+A workload that OLD fails at once is timed in NEW alone: an older program may not know it.
 Status 1 where two outputs differ or a program fails; 2 where it can't be run.
 """
 import pathlib
@@ -27,8 +28,8 @@ def words_of(line, seed):
     return name, crate, words, given
 
 
-def timed(checkout, crate, words, given):
-    """The seconds that a run takes, and what it prints."""
+def timed(checkout, crate, words, given, may_fail=False):
+    """The seconds that a run takes, and what it prints; None where it fails and may do so."""
     bench = checkout / "bench"
     program = checkout / "crates" / crate / "out" / crate
     if not program.is_file():
@@ -37,6 +38,8 @@ def timed(checkout, crate, words, given):
         began = time.perf_counter()
         done = subprocess.run([program, *words], cwd=bench, stdin=stdin, stdout=subprocess.PIPE)
         took = time.perf_counter() - began
+    if done.returncode and may_fail:
+        return None
     if done.returncode:
         stop(f"{program} {' '.join(words)} ends with status {done.returncode}", 1)
     return took, done.stdout
@@ -53,16 +56,21 @@ def main():
     print(f"{'workload':<12}{'old':>8}{'new':>8}{'old/new':>9}  medians of {TURNS} turns, seconds, seed {seed}")
     for line in filter(str.strip, lines):
         name, crate, words, given = words_of(line, seed)
-        took, said = ([], []), set()
+        knows = timed(old, crate, words, given, may_fail=True) is not None
+        checkouts = (old, new) if knows else (new,)
+        took, said = tuple([] for _ in checkouts), set()
         for _ in range(TURNS):
-            for seconds, checkout in zip(took, (old, new)):
+            for seconds, checkout in zip(took, checkouts):
                 one, output = timed(checkout, crate, words, given)
                 seconds.append(one)
                 said.add(output)
             if len(said) > 1:
                 stop(f"the outputs of {name} differ", 1)
-        before, now = map(statistics.median, took)
-        print(f"{name:<12}{before:8.3f}{now:8.3f}{before / now:9.2f}", flush=True)
+        *before, now = map(statistics.median, took)
+        if before:
+            print(f"{name:<12}{before[0]:8.3f}{now:8.3f}{before[0] / now:9.2f}", flush=True)
+        else:
+            print(f"{name:<12}{'-':>8}{now:8.3f}{'-':>9}", flush=True)
 
 
 if __name__ == "__main__":

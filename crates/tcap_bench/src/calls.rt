@@ -108,6 +108,14 @@ pub extern "C" fn tcap_bench_engine(alloc: Global, step: u8, dialogues: u16, lap
     engine_steps::count_engine(alloc, step, dialogues, laps)
 }
 
+/// `tcap_bench_engine`, by calls that append their outputs to one outbox, which is cleared before each (own).
+#[unsafe(no_mangle)]
+pub extern "C" fn tcap_bench_outbox(alloc: Global, step: u8, dialogues: u16, laps: u32) -> u64
+    ensures { (laps ≡ 0) → (result ≡ 0) }
+{
+    engine_steps::count_outbox(alloc, step, dialogues, laps)
+}
+
 /// Makes an engine with so many Active dialogues, of which so many lapse at each moment from 1 on, and takes
 /// it so many laps far: in a lap each dialogue lapses once. After each moment each dialogue that lapsed goes
 /// on with another Invoke, whose timeout is as many moments as a lap has. It answers how many outputs the
@@ -118,6 +126,19 @@ pub extern "C" fn tcap_bench_lapses(alloc: Global, dialogues: u16, together: u16
     ensures { (laps ≡ 0) → (result ≡ 0) }
 {
     lapse_steps::count_lapses(alloc, dialogues, together, laps)
+}
+
+/// `tcap_bench_lapses`, by calls that append their outputs to one outbox (own).
+#[unsafe(no_mangle)]
+pub extern "C" fn tcap_bench_outbox_lapses(
+    alloc: Global,
+    dialogues: u16,
+    together: u16,
+    laps: u32,
+) -> u64
+    ensures { (laps ≡ 0) → (result ≡ 0) }
+{
+    lapse_steps::count_outbox_lapses(alloc, dialogues, together, laps)
 }
 
 /// Makes a dialogue with so many invocations Sent, and takes it so many laps far: in a lap as many steps

@@ -1,12 +1,10 @@
 //! An engine with many dialogues open, taken through one step over and over.
 
-ghost use Rattle.std.specs.Prelude.{◌≡◌, IfSome};
+ghost use Rattle.std.specs.Prelude.{◌≡◌, ◌≤◌, ◌^◌, IfSome};
 
-use crate::node::Node;
+use crate::invocation_steps::invoke;
+use crate::node::{Calls, Node, OutboxNode};
 use std::alloc::Global;
-use tcap_component::Code;
-use tcap_engine::{Ending, Output};
-use tcap_invocation::Class;
 
 /// A dialogue that stands, and the identifier of the invocation that is under way in it.
 #[derive(Clone, Copy)]
@@ -55,102 +53,78 @@ pub(crate) fn continue_to(dialogue: u32) -> [u8; 14] {
 }
 
 /// A dialogue is begun with an Invoke: the dialogue, and how many outputs that gives.
-fn begin_one(node: &mut Node) -> Option<(Open, u64)> {
-    let dialogue = node.engine.new_dialogue().ok()?;
-    let operation = Code::Local(10);
-    node.engine
-        .invoke(dialogue, 1, Class::One, operation, None, None, TIMEOUT_MS)
-        .ok()?;
-    let sent = node.engine.begin(dialogue, &node.peer, None, &[]).ok()?;
-    Some((Open { dialogue, id: 1 }, sent.len() as u64))
+fn begin_one<N: Calls>(node: &mut N) -> Option<(Open, u64)> {
+    let dialogue = node.engine().new_dialogue().ok()?;
+    invoke(node.engine(), dialogue, 1, TIMEOUT_MS)?;
+    let sent = node.begin(dialogue)?;
+    Some((Open { dialogue, id: 1 }, sent))
 }
 
 /// A Begin with an Invoke is received: the dialogue, and how many outputs that gives.
-fn receive_one(node: &mut Node) -> Option<(Open, u64)> {
-    let told = node.engine.receive(&node.peer, &BEGIN).ok()?;
-    let Output::Begin { dialogue, .. } = *told.first()? else {
-        return None;
-    };
-    Some((Open { dialogue, id: 1 }, told.len() as u64))
+fn receive_one<N: Calls>(node: &mut N) -> Option<(Open, u64)> {
+    let (dialogue, told) = node.receive_begin(&BEGIN)?;
+    Some((Open { dialogue, id: 1 }, told))
 }
 
 /// One dialogue is begun, and another one ended by the peer with its result.
-fn begin_and_end(node: &mut Node, open: &mut Open) -> Option<u64> {
+fn begin_and_end<N: Calls>(node: &mut N, open: &mut Open) -> Option<u64> {
     let (begun, sent) = begin_one(node)?;
-    let told = node
-        .engine
-        .receive(&node.peer, &end_to(open.dialogue, open.id))
-        .ok()?
-        .len() as u64;
+    let told = node.receive(&end_to(open.dialogue, open.id))?;
     *open = begun;
     Some(sent.saturating_add(told))
 }
 
 /// One dialogue is begun by the peer, and another one answered by a result and a basic end.
-fn receive_and_answer(node: &mut Node, open: &mut Open) -> Option<u64> {
+fn receive_and_answer<N: Calls>(node: &mut N, open: &mut Open) -> Option<u64> {
     let (begun, told) = receive_one(node)?;
-    node.engine.result_last(open.dialogue, open.id, None).ok()?;
-    let sent = node
-        .engine
-        .finish(open.dialogue, Ending::Basic, None, &[])
-        .ok()?
-        .len() as u64;
+    node.engine()
+        .result_last(open.dialogue, open.id, None)
+        .ok()?;
+    let sent = node.finish(open.dialogue)?;
     *open = begun;
     Some(told.saturating_add(sent))
 }
 
 /// The peer goes on with a result, and so does this side with the next invocation.
-fn go_on(node: &mut Node, open: &mut Open) -> Option<u64> {
-    let told = node
-        .engine
-        .receive(&node.peer, &result_to(open.dialogue, open.id))
-        .ok()?
-        .len() as u64;
+fn go_on<N: Calls>(node: &mut N, open: &mut Open) -> Option<u64> {
+    let told = node.receive(&result_to(open.dialogue, open.id))?;
     let id = open.id.wrapping_add(1);
-    let operation = Code::Local(10);
-    node.engine
-        .invoke(
-            open.dialogue,
-            id,
-            Class::One,
-            operation,
-            None,
-            None,
-            TIMEOUT_MS,
-        )
-        .ok()?;
-    let sent = node.engine.go_on(open.dialogue, None, &[]).ok()?.len() as u64;
+    invoke(node.engine(), open.dialogue, id, TIMEOUT_MS)?;
+    let sent = node.go_on(open.dialogue)?;
     open.id = id;
     Some(told.saturating_add(sent))
 }
 
 /// The clock moves on by one: how many outputs that gives, none where nothing is due.
-fn pass(node: &mut Node) -> Option<u64> {
-    let moment = node.engine.now().saturating_add(1);
-    Some(node.engine.advance(moment).ok()?.len() as u64)
+fn pass<N: Calls>(node: &mut N) -> Option<u64> {
+    let moment = node.engine().now().saturating_add(1);
+    node.advance(moment)
 }
 
 /// The clock moves on by one, and then the peer goes on: how many outputs that gives.
-fn touch(node: &mut Node, dialogue: u32) -> Option<u64> {
+fn touch<N: Calls>(node: &mut N, dialogue: u32) -> Option<u64> {
     let passed = pass(node)?;
-    let told = node
-        .engine
-        .receive(&node.peer, &continue_to(dialogue))
-        .ok()?
-        .len() as u64;
+    let told = node.receive(&continue_to(dialogue))?;
     Some(passed.saturating_add(told))
 }
 
 /// A dialogue is begun without components, and the peer goes on.
-fn begin_bare(node: &mut Node) -> Option<Open> {
-    let dialogue = node.engine.new_dialogue().ok()?;
-    node.engine.begin(dialogue, &node.peer, None, &[]).ok()?;
+fn begin_bare<N: Calls>(node: &mut N) -> Option<Open> {
+    let dialogue = node.engine().new_dialogue().ok()?;
+    node.begin(dialogue)?;
     touch(node, dialogue)?;
     Some(Open { dialogue, id: 1 })
 }
 
+/// The idle limit under which a kind of step is taken, 0 for none.
+fn idle_of(step: u8) -> u64
+    ensures { result ≤ 2 ^ 62 }
+{
+    if step == 5 { IDLE_MS } else { 0 }
+}
+
 /// One step on a dialogue: how many outputs it gives.
-fn step_once(node: &mut Node, step: u8, open: &mut Open) -> Option<u64> {
+fn step_once<N: Calls>(node: &mut N, step: u8, open: &mut Open) -> Option<u64> {
     match step {
         1 => begin_and_end(node, open),
         2 => receive_and_answer(node, open),
@@ -161,7 +135,7 @@ fn step_once(node: &mut Node, step: u8, open: &mut Open) -> Option<u64> {
 }
 
 /// A dialogue as the step finds it: for the third and from the fifth on it is Active.
-fn open_one(node: &mut Node, step: u8) -> Option<Open> {
+fn open_one<N: Calls>(node: &mut N, step: u8) -> Option<Open> {
     if step > 4 {
         return begin_bare(node);
     }
@@ -176,7 +150,7 @@ fn open_one(node: &mut Node, step: u8) -> Option<Open> {
 }
 
 /// Opens so many dialogues.
-fn open_all(node: &mut Node, step: u8, dialogues: u16, all: &mut Vec<Open>) -> Option<()> {
+fn open_all<N: Calls>(node: &mut N, step: u8, dialogues: u16, all: &mut Vec<Open>) -> Option<()> {
     for _ in 0..dialogues {
         all.push(open_one(node, step)?).ok()?;
     }
@@ -207,7 +181,7 @@ fn taken(all: &mut [Open], step: u8, turn: usize, seed: u32) -> Option<&mut Open
 /// As many steps as there are dialogues, each on one drawn by lot, but from the fifth kind on in turn; those
 /// of the third kind with a moment behind them, at which each identifier that waited is free: how many
 /// outputs the steps give.
-fn count_lap(node: &mut Node, step: u8, all: &mut [Open], seed: &mut u32) -> Option<u64> {
+fn count_lap<N: Calls>(node: &mut N, step: u8, all: &mut [Open], seed: &mut u32) -> Option<u64> {
     let mut count = 0u64;
     for turn in 0..all.len() {
         *seed = next_seed(*seed);
@@ -221,7 +195,7 @@ fn count_lap(node: &mut Node, step: u8, all: &mut [Open], seed: &mut u32) -> Opt
 }
 
 /// So many laps over these dialogues: how many outputs the steps give.
-fn count_laps(node: &mut Node, step: u8, all: &mut [Open], laps: u32) -> Option<u64>
+fn count_laps<N: Calls>(node: &mut N, step: u8, all: &mut [Open], laps: u32) -> Option<u64>
     ensures { (laps ≡ 0) → IfSome result (λ count. count ≡ 0) }
 {
     let mut seed = 1u32;
@@ -234,8 +208,8 @@ fn count_laps(node: &mut Node, step: u8, all: &mut [Open], laps: u32) -> Option<
 }
 
 /// So many dialogues are opened, and then taken through so many laps: how many outputs the laps give.
-fn open_and_count(
-    node: &mut Node,
+fn open_and_count<N: Calls>(
+    node: &mut N,
     all: &mut Vec<Open>,
     step: u8,
     dialogues: u16,
@@ -251,7 +225,20 @@ fn open_and_count(
 pub fn count_engine(alloc: Global, step: u8, dialogues: u16, laps: u32) -> u64
     ensures { (laps ≡ 0) → (result ≡ 0) }
 {
-    let mut node = Node::new(alloc, if step == 5 { IDLE_MS } else { 0 });
+    let mut node = Node::new(alloc, idle_of(step));
+    let mut all = Vec::new(alloc);
+    match open_and_count(&mut node, &mut all, step, dialogues, laps) {
+        Some(count) => count,
+        None => 0,
+    }
+}
+
+/// `count_engine`, by calls that append their outputs to one outbox: how many outputs the laps give; 0 where memory
+/// runs out.
+pub fn count_outbox(alloc: Global, step: u8, dialogues: u16, laps: u32) -> u64
+    ensures { (laps ≡ 0) → (result ≡ 0) }
+{
+    let mut node = OutboxNode::new(alloc, idle_of(step));
     let mut all = Vec::new(alloc);
     match open_and_count(&mut node, &mut all, step, dialogues, laps) {
         Some(count) => count,

@@ -45,12 +45,7 @@ fn open_dialogue(node: &mut Node, step: u8, invocations: u16) -> Option<u32> {
 }
 
 /// The invocation of this identifier lapsed or got its result and is free: it is made again.
-pub(crate) fn invoke_again(
-    engine: &mut Engine,
-    dialogue: u32,
-    id: i8,
-    timeout_ms: u64,
-) -> Option<u64> {
+fn invoke_again(engine: &mut Engine, dialogue: u32, id: i8, timeout_ms: u64) -> Option<u64> {
     invoke(engine, dialogue, id, timeout_ms)?;
     let sent = engine.go_on(dialogue, None, &[]).ok()?;
     Some(sent.len() as u64)

@@ -21,7 +21,8 @@ mod written;
 
 pub use calls::{
     tcap_bench_dialogue, tcap_bench_element, tcap_bench_engine, tcap_bench_feed,
-    tcap_bench_invocations, tcap_bench_lapses, tcap_bench_read, tcap_bench_rewrite,
-    tcap_bench_traffic, tcap_bench_write_begin, tcap_bench_write_continue,
+    tcap_bench_invocations, tcap_bench_lapses, tcap_bench_outbox, tcap_bench_outbox_lapses,
+    tcap_bench_read, tcap_bench_rewrite, tcap_bench_traffic, tcap_bench_write_begin,
+    tcap_bench_write_continue,
 };
 pub use values::Invocation;
