@@ -1,6 +1,6 @@
 //! `Engine::handle_into`: an event as a value, whose outputs are appended to an outbox (own).
 
-ghost use Rattle.std.specs.Prelude.{◌≡◌, List, IfOk, IsTrue, OnErr};
+ghost use Rattle.std.specs.Prelude.{◌≡◌, [], List, IfOk, IsTrue, OnErr};
 ghost use Rattle.tcap_dialogue.specs.AskViews.{Appends};
 ghost use Rattle.tcap_dialogue.specs.RequestForm.{takes_memory};
 ghost use Rattle.tcap_engine.specs.EventViews.{answered_view, event_view};
