@@ -5,6 +5,7 @@ pub mod ComponentRefusals
 pub mod FirstComponent
 pub mod HandledViews
 pub mod KeptOctets
+pub mod MessageLength
 pub mod RequestForm
 pub mod RequestMessages
 pub mod StepViews

@@ -6,6 +6,7 @@ pub(crate) mod ending;
 pub(crate) mod getters;
 pub(crate) mod kept_address;
 pub(crate) mod lending;
+pub(crate) mod message_length;
 pub(crate) mod messages;
 pub(crate) mod requests;
 pub(crate) mod spares;

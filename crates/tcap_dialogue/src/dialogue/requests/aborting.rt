@@ -109,7 +109,7 @@ impl<A: Allocator + Copy> Dialogue<A> {
 
     /// The Abort, if one is sent, or the first due fault of its request.
     #[inline(always)]
-    fn abort_message<'a>(
+    pub(crate) fn abort_message<'a>(
         &'a self,
         request: &AbortRequest<'a>,
     ) -> Result<Option<Outgoing<'a>>, Fault>

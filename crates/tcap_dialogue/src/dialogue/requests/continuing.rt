@@ -88,7 +88,7 @@ impl<A: Allocator + Copy> Dialogue<A> {
 
     /// The Continue, or the first due fault of its request.
     #[inline(always)]
-    fn continue_message<'a>(
+    pub(crate) fn continue_message<'a>(
         &'a self,
         request: &ContinueRequest<'a>,
     ) -> Result<Option<Outgoing<'a>>, Fault>

@@ -89,7 +89,7 @@ impl<A: Allocator + Copy> Dialogue<A> {
 
     /// The Begin, or the first due fault of its request.
     #[inline(always)]
-    fn begin_message<'a>(
+    pub(crate) fn begin_message<'a>(
         &'a self,
         request: &BeginRequest<'a>,
     ) -> Result<Option<Outgoing<'a>>, Fault>
