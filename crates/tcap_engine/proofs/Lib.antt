@@ -10,7 +10,9 @@ pub mod IdleLemmas
 pub mod KeptLemmas
 pub mod KindLemmas
 pub mod LeastLemmas
+pub mod MessageLengthLemmas
 pub mod MomentLemmas
+pub mod MomentTellsLemmas
 pub mod NextTimerLemmas
 pub mod NumberLemmas
 pub mod OrderLemmas

@@ -6,6 +6,7 @@ pub mod IdleDialogues
 pub mod IsolationForm
 pub mod Lapsing
 pub mod Limits
+pub mod MessageLength
 pub mod NextTimer
 pub mod RequestInTable
 pub mod Running

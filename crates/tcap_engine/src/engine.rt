@@ -2,6 +2,7 @@
 
 pub(crate) mod advance;
 pub(crate) mod component_requests;
+pub(crate) mod counts;
 pub(crate) mod creation;
 pub(crate) mod delivery;
 pub(crate) mod dialogue_requests;
@@ -9,6 +10,7 @@ pub(crate) mod events;
 pub(crate) mod faulty_message;
 pub(crate) mod getters;
 pub(crate) mod idle;
+pub(crate) mod message_length;
 pub(crate) mod moment;
 pub(crate) mod outbox_calls;
 mod outbox_events;

@@ -195,7 +195,7 @@ impl<A: Allocator + Copy> Engine<A> {
 
     /// A request of dialogue handling, into an outbox.
     #[inline(always)]
-    fn request_into(
+    pub fn request_into(
         &mut self,
         dialogue: u32,
         request: &Request<'_>,
