@@ -1,5 +1,5 @@
 -- How long the message of a request would be, and the message that the engine's move sends.
-use Rattle.std.proofs.Common.{◌≡◌, ℕ, ℤ, ◌+◌, Bool, true, false, if◌then◌else◌, List, [], ◌∷◌, ◌++◌, map, Option, Some, None, Result, Ok, Err, refl, sym, ap, ◌∙◌, arith, length}
+use Rattle.std.proofs.Common.{◌≡◌, ℕ, ℤ, ◌+◌, true, if◌then◌else◌, List, [], ◌∷◌, ◌++◌, map, Option, Some, None, Result, Ok, Err, refl, sym, ap, ◌∙◌, arith, length}
 use Rattle.std.proofs.lemmas.List.{length-map}
 use Rattle.std.specs.Prelude.{IfOk, IfErr, OnOk}
 use Rattle.tcap_dialogue.specs.MessageLength.{IsJudged, dialogue_fault, octets_of}
@@ -11,10 +11,10 @@ use Rattle.tcap_invocation.specs.Closing.{ended_at, given_up_at}
 use Rattle.tcap_invocation.specs.Invocations.{InvocationList}
 use Rattle.tcap_model.specs.Procedures.AbortRules.{sent_if_any}
 use Rattle.tcap_model.specs.Procedures.Refusals.{due_on}
-use Rattle.tcap_model.specs.Procedures.RequestMessage.{message_of, request_address}
+use Rattle.tcap_model.specs.Procedures.RequestMessage.{message_of}
 use Rattle.tcap_model.specs.Table.Dialogue.{Dialogue}
 use Rattle.tcap_model.specs.Table.EngineMove.{engine_move, dialogue_in, requested_in, setting_in}
-use Rattle.tcap_model.specs.Table.TableMove.{DialogueEvent, Setting, accepted, ended_told, giving_up, requested_by, situation, table_move}
+use Rattle.tcap_model.specs.Table.TableMove.{Setting, accepted, ended_told, giving_up, requested_by, situation, table_move}
 use Rattle.tcap_model.specs.Table.World.{World}
 use Rattle.tcap_model.specs.Words.Address.{Address}
 use Rattle.tcap_model.specs.Words.Answer.{Answer, is_accepted}

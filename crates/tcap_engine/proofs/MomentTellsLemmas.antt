@@ -1,5 +1,5 @@
 -- What a moment tells, where the clock goes to it and where it doesn't.
-use Rattle.std.proofs.Common.{◌≡◌, ◌≢◌, ◌⊎◌, inl, inr, ℕ, ◌+◌, ◌-◌, ◌^◌, ◌<◌, ◌≤◌, Bool, true, false, nat_lt, List, [], ◌++◌, length, Option, Some, None, refl, sym, ap, ◌∙◌, arith, tests}
+use Rattle.std.proofs.Common.{◌≡◌, ◌≢◌, ◌⊎◌, inl, inr, ℕ, ◌+◌, ◌-◌, ◌^◌, ◌<◌, ◌≤◌, true, false, nat_lt, List, [], ◌++◌, length, Option, Some, None, refl, sym, ap, ◌∙◌, arith, tests}
 use Rattle.std.proofs.lemmas.List.{length-append}
 use Rattle.tcap_engine.specs.Running.{outputs_in}
 use Rattle.tcap_invocation.specs.Stage.{moment_limit}

@@ -1,11 +1,15 @@
 -- Events that follow one another, whose outputs are appended.
-use Rattle.std.proofs.Common.{◌≡◌, ◌∙◌, refl, sym, ap, subst, List, [], ◌∷◌, ◌++◌}
+use Rattle.std.proofs.Common.{◌≡◌, ◌∙◌, refl, sym, ap, subst, false, List, [], ◌∷◌, ◌++◌, Result, Ok, Err, IfOk}
+use Rattle.std.specs.Result.{is_err}
+use Rattle.ber_core.specs.declared.fault.OutOfMemory.{OutOfMemory}
 use Rattle.std.proofs.lemmas.List.{append-nil, flat_map_more}
 use Rattle.tcap_engine.proofs.RunLemmas.{after_events-append, engine_run-append, joined, replies-append}
 use Rattle.tcap_engine.proofs.StandingLemmas.{headline}
-use Rattle.tcap_engine.specs.HistoryForm.{Headline, StandsOn}
+use Rattle.tcap_engine.specs.EventViews.{answered_view}
+use Rattle.tcap_engine.specs.HistoryForm.{Headline, ReceivedOn, StandsOn}
 use Rattle.tcap_engine.specs.Running.{EngineRan, RunsInto, StandsThroughInto, after_events, all_outputs, engine_run, outputs_in, replies}
-use Rattle.tcap_engine.specs.StepForm.{Moves}
+use Rattle.tcap_engine.specs.StepForm.{EngineReceives, Moves}
+use Rattle.tcap_engine.specs.declared.event.Answered.{Answered}
 use Rattle.tcap_model.specs.Histories.History.{History}
 use Rattle.tcap_model.specs.Replies.Reply.{reply}
 use Rattle.tcap_model.specs.Table.EngineMove.{engine_move}
@@ -54,3 +58,20 @@ through-into-more h es e middle new before between after answer a kept told b = 
   stands = subst (λ (k : History). StandsAt k new) (sym (after_events-append h es (e ∷ []))) b.stands;
   headline = subst Headline (sym (after_events-append h es (e ∷ []))) b.headline;
 }
+
+-- What an answer tells is what was appended.
+abbrev pub Tells : List Output → Answered → Type 0
+Tells told a = told ≡ outputs_in (answered_view told a)
+
+-- An event more was not refused.
+pub into-next : (w : World) (es : List Event) (e : Event) (middle new : World) (before between after : List Output) (r : Result Answered OutOfMemory)
+    → is_err r ≡ false → RunsInto w es middle before between → KeepsOutputs between after → IfOk r (Tells (told_since between after))
+    → EngineReceives (answered_view (told_since between after)) r (engine_move middle e) middle new → RunsInto w (es ++ e ∷ []) new before after
+into-next w es e middle new before between after (Ok a) ok ran kept told moves = into-more w es e middle new before between after (answered_view (told_since between after) a) ran kept told moves
+into-next w es e middle new before between after (Err refused) ok ran kept told moves = absurd cc
+
+pub through-into-next : (h : History) (es : List Event) (e : Event) (middle new : World) (before between after : List Output) (r : Result Answered OutOfMemory)
+    → is_err r ≡ false → StandsThroughInto h es middle before between → KeepsOutputs between after → IfOk r (Tells (told_since between after))
+    → ReceivedOn (answered_view (told_since between after)) r (after_events h es) e new → StandsThroughInto h (es ++ e ∷ []) new before after
+through-into-next h es e middle new before between after (Ok a) ok through kept told stands = through-into-more h es e middle new before between after (answered_view (told_since between after) a) through kept told stands
+through-into-next h es e middle new before between after (Err refused) ok through kept told stands = absurd cc

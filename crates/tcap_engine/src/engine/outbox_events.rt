@@ -59,17 +59,22 @@ fn created(identifier: Result<u32, Fault>) -> Result<Answered, OutOfMemory>
 
 /// The answer to a request on a dialogue.
 fn answered(accepted: Result<Accepted, Fault>) -> Result<Answered, OutOfMemory>
-    ensures moves { (told : List Output) (m : EngineMoved) (old new : World)
-        → EngineAnswers (accepted_answer told) accepted m old new
-        → EngineReceives (answered_view told) result m old new }
-    ensures memory { (told : List Output) (m : EngineMoved) (old new : World)
-        → EngineAnswers (accepted_answer told) accepted m old new → OnErr result (IsTrue (takes_memory m.answer)) }
-    ensures stands { (told : List Output) (h : History) (event : model.Event) (new : World)
-        → StandsAfter (accepted_answer told) accepted h event new
-        → ReceivedOn (answered_view told) result h event new }
+    ensures moves { (before after : List Output) (m : EngineMoved) (old new : World)
+        → EngineAnswers (accepted_answer (told_since before after)) accepted m old new
+        → EngineReceives (answered_view (told_since before after)) result m old new }
+    ensures memory { (before after : List Output) (m : EngineMoved) (old new : World)
+        → EngineAnswers (accepted_answer (told_since before after)) accepted m old new
+        → OnErr result (IsTrue (takes_memory m.answer)) }
+    ensures stands { (before after : List Output) (h : History) (event : model.Event) (new : World)
+        → StandsAfter (accepted_answer (told_since before after)) accepted h event new
+        → ReceivedOn (answered_view (told_since before after)) result h event new }
     ensures told { (before after : List Output) → IfOk accepted (λ a. Appends a before after)
         → OnErr accepted (after ≡ before)
         → IfOk result (λ a. told_since before after ≡ outputs_in (answered_view (told_since before after) a)) }
+    ensures kept { (before after : List Output) → IfOk accepted (λ a. Appends a before after)
+        → OnErr accepted (after ≡ before) → KeepsOutputs before after }
+    ensures still { (before after : List Output) → OnErr accepted (after ≡ before)
+        → OnErr result (after ≡ before) }
 {
     match accepted {
         Ok(Accepted::Number(number)) => Ok(Answered::Number(number)),
@@ -93,6 +98,8 @@ fn passed(advanced: Result<(), Fault>) -> Result<Answered, OutOfMemory>
         → ReceivedOn (answered_view (told_since before after)) result h event new }
     ensures told { (before after : List Output) → OnErr advanced (after ≡ before)
         → IfOk result (λ a. told_since before after ≡ outputs_in (answered_view (told_since before after) a)) }
+    ensures still { (before after : List Output) → OnErr advanced (after ≡ before)
+        → OnErr result (after ≡ before) }
 {
     match advanced {
         Ok(()) => Ok(Answered::Outputs),

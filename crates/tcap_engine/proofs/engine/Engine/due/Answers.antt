@@ -1,5 +1,4 @@
-use Rattle.std.proofs.Common.{◌≡◌, ◌≤◌, [], ap, arith, inl, length, List}
-use Rattle.tcap_invocation.specs.Stage.{moment_limit}
+use Rattle.std.proofs.Common.{◌≡◌, [], ap, arith, inl, length, List}
 use Rattle.tcap_model.specs.Table.World.{World}
 use Rattle.tcap_model.specs.Words.Output.{Output}
 use Rattle.tcap_engine.proofs.MomentTellsLemmas.{early-tells-none, late-tells-none, room-is-enough, tells-some, told_at}

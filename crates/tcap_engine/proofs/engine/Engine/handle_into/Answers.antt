@@ -98,3 +98,9 @@ returns-in-Abort-clause-memory g c = rw c.in-Abort.is c.answer_into-in-Abort.ens
 
 pub returns-in-Abort-clause-stands : goal.returns-in-Abort-clause-stands
 returns-in-Abort-clause-stands g c = λ h at. rw c.in-Abort.is (c.answer_into-in-Abort.ensures.stands h at)
+
+pub returns-in-NewDialogue-clause-moves : goal.returns-in-NewDialogue-clause-moves
+returns-in-NewDialogue-clause-moves g c = rw c.in-NewDialogue.is (c.created.ensures.moves _ _ _ _ c.new_dialogue.ensures.moves)
+
+pub returns-in-NewDialogue-clause-stands : goal.returns-in-NewDialogue-clause-stands
+returns-in-NewDialogue-clause-stands g c = λ h at. rw c.in-NewDialogue.is (c.created.ensures.stands _ h _ _ (c.new_dialogue.ensures.stands h at))

@@ -1,5 +1,5 @@
 use Rattle.tcap_primitives.specs.RequestViews.{request_view}
-use Rattle.tcap_engine.proofs.MessageLengthLemmas.{accepted-is, length-is, refused-is, unknown-refused, ended-told}
+use Rattle.tcap_engine.proofs.MessageLengthLemmas.{accepted-is, length-is, refused-is, unknown-refused}
 use Rattle.tcap_engine.proofs.engine.Engine.message_length.Goals as goal
 
 pub returns-in-None-clause-err : goal.returns-in-None-clause-err

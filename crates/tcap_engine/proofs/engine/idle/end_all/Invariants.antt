@@ -1,4 +1,4 @@
-use Rattle.std.proofs.Common.{◌≡◌, ◌+◌, ◌≤◌, ◌++◌, drop, length}
+use Rattle.std.proofs.Common.{◌≡◌, ◌≤◌, ◌++◌, drop, length}
 use Rattle.std.specs.List.{flat_map}
 use Rattle.tcap_engine.specs.IdleDialogues.{AreDistinct, idle_end_in, without_all}
 use Rattle.tcap_engine.specs.DialogueEntries.{AreFrom}
