@@ -1,0 +1,5 @@
+pub mod HistoryLemmas
+pub mod MarkLemmas
+pub mod OutboxLemmas
+pub mod RunLemmas
+pub mod TakeLemmas

@@ -1,0 +1,36 @@
+-- The events of which outputs wait.
+use Rattle.std.specs.Prelude.{◌≡◌, ℕ, ◌<◌, ◌≤◌, zero, suc, List, [], ◌∷◌, ◌++◌, length, take, drop}
+use Rattle.tcap_model.specs.Words.Output.{Output}
+use Rattle.tcap_station.specs.WaitingOutput.{WaitingOutput, numbered_outputs}
+use Rattle.tcap_station.specs.declared.line.marks.Mark.{Mark}
+
+-- The outputs that wait, where events have so many of them, one event after the other (own).
+abbrev pub marked : List Mark → List Output → List WaitingOutput
+marked [] outputs = []
+marked (m ∷ ms) outputs = numbered_outputs m.event (take m.left outputs) ++ marked ms (drop m.left outputs)
+
+-- An event has one output at least, and no more than there are (own).
+pub record IsMarked (m : Mark) (outputs : List Output) : Type 0 where
+  pub some : 0 < m.left
+  pub within : m.left ≤ length outputs
+
+-- The events have all outputs, one event after the other (own).
+abbrev pub AreMarked : List Mark → List Output → Type 0
+AreMarked [] outputs = outputs ≡ []
+AreMarked (m ∷ ms) outputs = IsMarked m outputs × AreMarked ms (drop m.left outputs)
+
+-- An event more, where it has outputs (own).
+abbrev pub with_mark : List Mark → ℕ → ℕ → List Mark
+with_mark ms event zero = ms
+with_mark ms event (suc count) = ms ++ record { event = event; left = suc count } ∷ []
+
+-- An event of which so many outputs are left has one less; without outputs it goes (own).
+abbrev pub one_less : ℕ → ℕ → List Mark → List Mark
+one_less event zero ms = ms
+one_less event (suc zero) ms = ms
+one_less event (suc (suc left)) ms = record { event = event; left = suc left } ∷ ms
+
+-- The first event has an output less (own).
+abbrev pub less_one : List Mark → List Mark
+less_one [] = []
+less_one (m ∷ ms) = one_less m.event m.left ms

@@ -1,0 +1,8 @@
+-- An output that waits, as a contract sees it.
+use Rattle.tcap_primitives.specs.OutboxViews.{output_ref_view}
+use Rattle.tcap_station.specs.WaitingOutput.{WaitingOutput}
+use Rattle.tcap_station.specs.declared.waiting.Waiting.{Waiting}
+
+-- An output that waits, by what its slices hold (own).
+abbrev pub waiting_view : Waiting → WaitingOutput
+waiting_view w = record { output = output_ref_view w.output; event = w.event; is_last = w.is_last }

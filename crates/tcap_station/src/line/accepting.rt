@@ -1,0 +1,48 @@
+//! An event is accepted: it is counted, and what it sends and tells is marked with its number.
+
+ghost use Rattle.std.specs.Prelude.{◌≡◌, ◌<◌, ◌-◌, OnOk, OnErr, IsOk, length, Result};
+ghost use Rattle.std.specs.VecDeque.{deque_capacity, deque_len};
+ghost use Rattle.tcap_station.specs.Marks.{with_mark};
+ghost use Rattle.tcap_station.specs.Station.{following};
+
+use super::marks::{Mark, add_mark};
+use super::outboxes::count_since;
+use std::alloc::Allocator;
+use std::collections::VecDeque;
+use tcap_engine::Outbox;
+
+/// An event that sends and tells nothing is counted, if it was accepted.
+#[inline(always)]
+pub(crate) fn count_event<T, E>(events: &mut u64, answer: Result<T, E>) -> Result<T, E>
+    ensures answer { result ≡ answer }
+    ensures ok { OnOk answer (events.new ≡ following events.old) }
+    ensures err { OnErr answer (events.new ≡ events.old) }
+{
+    *events = events.saturating_add(u64::from(answer.is_ok()));
+    answer
+}
+
+/// An event is counted, if it was accepted; its outputs are those behind the first so many of the outbox, and are
+/// marked with its number. There is a place for it, if it has any.
+#[inline(always)]
+pub(crate) fn mark_event<A: Allocator + Copy, E>(
+    events: &mut u64,
+    marks: &mut VecDeque<Mark, A>,
+    outbox: &Outbox<A>,
+    before: usize,
+    answer: Result<(), E>,
+) -> Result<(), E>
+    requires { OnOk answer (0 < length outbox.now.outputs - before
+        → deque_len marks.old < deque_capacity marks.old) }
+    ensures answer { result ≡ answer }
+    ensures events { OnOk answer (events.new ≡ following events.old) }
+    ensures marks { OnOk answer (marks.new.items ≡ with_mark marks.old.items events.new
+        (length outbox.now.outputs - before)) }
+    ensures err { OnErr answer ((events.new ≡ events.old) × (marks.new.items ≡ marks.old.items)) }
+{
+    let answer = count_event(events, answer);
+    if answer.is_ok() {
+        add_mark(marks, *events, count_since(outbox, before));
+    }
+    answer
+}

@@ -1,0 +1,134 @@
+//! The requests of component handling (Q.771, Component handling).
+
+ghost use Rattle.std.specs.Prelude.{◌≡◌, option_copied, OnErr};
+ghost use Rattle.std.specs.Option.{option_map};
+ghost use Rattle.tcap_component.specs.Views.{body_parts, code_parts, problem_parts};
+ghost use Rattle.tcap_dialogue.specs.RequestForm.{gave_up, numbered, queued_done};
+ghost use Rattle.tcap_model.specs.Table.EngineMove.{engine_move};
+ghost use Rattle.tcap_model.specs.Words.Event.{Event};
+ghost use Rattle.tcap_model.specs.Words.Request as model;
+ghost use Rattle.tcap_model.specs.Words.Request.{ComponentRequest};
+ghost use Rattle.tcap_station.specs.HistoryForm.{StandsTaken};
+ghost use Rattle.tcap_station.specs.StepForm.{Takes};
+
+use super::Station;
+use crate::line::accepting::count_event;
+use std::alloc::Allocator;
+use tcap_component::{Body, Code, Problem};
+use tcap_engine::Fault;
+use tcap_invocation::Class;
+
+impl<A: Allocator + Copy> Station<A> {
+    /// TC-INVOKE request: an invocation is queued, and its number answered. `id` and `linked` are -128 to
+    /// 127, `parameter` is the octets of one element, `timeout_ms` is 1 to 2^62 milliseconds. Faults:
+    /// `UnknownDialogue`, `BadTimeout`, `BadOid`, `BadParameter`, `InvokeIdInUse`, `NumbersSpent`,
+    /// `TooLong`, `OutOfMemory`.
+    pub fn invoke(
+        &mut self,
+        dialogue: u32,
+        id: i8,
+        class: Class,
+        code: Code<'_>,
+        parameter: Option<&[u8]>,
+        linked: Option<i8>,
+        timeout_ms: u64,
+    ) -> Result<u64, Fault>
+        ensures moves { Takes numbered result
+            (engine_move self.old.engine (Event.on_dialogue dialogue (model.Request.component (ComponentRequest.invoke id class
+            (code_parts code.entry) (option_copied parameter.entry) linked timeout_ms)))) self.old self.new }
+        ensures stands { StandsTaken numbered result
+            (Event.on_dialogue dialogue (model.Request.component (ComponentRequest.invoke id class
+            (code_parts code.entry) (option_copied parameter.entry) linked timeout_ms))) self.old self.new }
+        ensures err { OnErr result (self.new ≡ self.old) }
+    {
+        let invoked = self
+            .engine
+            .invoke(dialogue, id, class, code, parameter, linked, timeout_ms);
+        count_event(&mut self.events, invoked)
+    }
+
+    /// TC-RESULT-L request: the last or only result of an invocation of the peer, -128 to 127, is queued.
+    /// Faults: `UnknownDialogue`, `WrongState`, `BadOid`, `BadParameter`, `TooLong`, `OutOfMemory`.
+    pub fn result_last(
+        &mut self,
+        dialogue: u32,
+        id: i8,
+        body: Option<Body<'_>>,
+    ) -> Result<(), Fault>
+        ensures moves { Takes queued_done result
+            (engine_move self.old.engine (Event.on_dialogue dialogue (model.Request.component
+            (ComponentRequest.result_last id (option_map body_parts body.entry))))) self.old self.new }
+        ensures stands { StandsTaken queued_done result (Event.on_dialogue dialogue (model.Request.component
+            (ComponentRequest.result_last id (option_map body_parts body.entry)))) self.old self.new }
+        ensures err { OnErr result (self.new ≡ self.old) }
+    {
+        let queued = self.engine.result_last(dialogue, id, body);
+        count_event(&mut self.events, queued)
+    }
+
+    /// TC-RESULT-NL request: a result of an invocation of the peer, -128 to 127, that others follow is
+    /// queued. Faults: as of `result_last`.
+    pub fn result_more(
+        &mut self,
+        dialogue: u32,
+        id: i8,
+        body: Option<Body<'_>>,
+    ) -> Result<(), Fault>
+        ensures moves { Takes queued_done result
+            (engine_move self.old.engine (Event.on_dialogue dialogue (model.Request.component
+            (ComponentRequest.result_more id (option_map body_parts body.entry))))) self.old self.new }
+        ensures stands { StandsTaken queued_done result (Event.on_dialogue dialogue (model.Request.component
+            (ComponentRequest.result_more id (option_map body_parts body.entry)))) self.old self.new }
+        ensures err { OnErr result (self.new ≡ self.old) }
+    {
+        let queued = self.engine.result_more(dialogue, id, body);
+        count_event(&mut self.events, queued)
+    }
+
+    /// TC-U-ERROR request: the error of an invocation of the peer, -128 to 127, is queued; `parameter` is
+    /// the octets of one element. Faults: as of `result_last`.
+    pub fn error_back(
+        &mut self,
+        dialogue: u32,
+        id: i8,
+        code: Code<'_>,
+        parameter: Option<&[u8]>,
+    ) -> Result<(), Fault>
+        ensures moves { Takes queued_done result
+            (engine_move self.old.engine (Event.on_dialogue dialogue (model.Request.component (ComponentRequest.error_back id
+            (code_parts code.entry) (option_copied parameter.entry))))) self.old self.new }
+        ensures stands { StandsTaken queued_done result
+            (Event.on_dialogue dialogue (model.Request.component (ComponentRequest.error_back id
+            (code_parts code.entry) (option_copied parameter.entry)))) self.old self.new }
+        ensures err { OnErr result (self.new ≡ self.old) }
+    {
+        let queued = self.engine.error_back(dialogue, id, code, parameter);
+        count_event(&mut self.events, queued)
+    }
+
+    /// TC-U-REJECT request: a Reject is queued, of the component with this identifier, -128 to 127, if it
+    /// is known. Faults: `UnknownDialogue`, `WrongState`, `TooLong`, `OutOfMemory`.
+    pub fn u_reject(&mut self, dialogue: u32, id: Option<i8>, problem: Problem) -> Result<(), Fault>
+        ensures moves { Takes queued_done result (engine_move self.old.engine (Event.on_dialogue dialogue
+            (model.Request.component (ComponentRequest.u_reject id (problem_parts problem))))) self.old self.new }
+        ensures stands { StandsTaken queued_done result (Event.on_dialogue dialogue
+            (model.Request.component (ComponentRequest.u_reject id (problem_parts problem)))) self.old self.new }
+        ensures err { OnErr result (self.new ≡ self.old) }
+    {
+        let queued = self.engine.u_reject(dialogue, id, problem);
+        count_event(&mut self.events, queued)
+    }
+
+    /// TC-U-CANCEL request: the Queued or Sent invocation with this identifier, -128 to 127, is given up,
+    /// and its number answered. Takes no memory. Faults: `UnknownDialogue`, `NoSuchInvocation`.
+    pub fn u_cancel(&mut self, dialogue: u32, id: i8) -> Result<u64, Fault>
+        ensures moves { Takes gave_up result (engine_move self.old.engine
+            (Event.on_dialogue dialogue (model.Request.component (ComponentRequest.u_cancel id)))) self.old self.new }
+        ensures stands { StandsTaken gave_up result
+            (Event.on_dialogue dialogue (model.Request.component (ComponentRequest.u_cancel id))) self.old self.new }
+        ensures err { OnErr result (self.new ≡ self.old) }
+    {
+        let given_up = self.engine.u_cancel(dialogue, id);
+        count_event(&mut self.events, given_up)
+    }
+}

@@ -1,0 +1,93 @@
+//! Events that are no request on a dialogue: bytes, moments, and dialogues that are created.
+
+ghost use Rattle.std.specs.Prelude.{◌≡◌, ◌≢◌, ◌<◌, [], IfErr, OnErr, OnOk};
+ghost use Rattle.std.specs.VecDeque.{deque_capacity, deque_len};
+ghost use Rattle.tcap_engine.specs.Running.{outputs_in};
+ghost use Rattle.tcap_engine.specs.StepForm.{birth_answer};
+ghost use Rattle.tcap_model.specs.Table.EngineMove.{engine_move};
+ghost use Rattle.tcap_model.specs.Words.Event.{Event};
+ghost use Rattle.tcap_primitives.specs.FaultViews.{fault_view};
+ghost use Rattle.tcap_station.specs.HistoryForm.{StandsTaken, StandsTold};
+ghost use Rattle.tcap_station.specs.StepForm.{IsRefusal, Takes, TakesReceived, outputs_of};
+
+use super::Station;
+use crate::line::accepting::{count_event, mark_event};
+use crate::line::marks::{Mark, find_place, has_place, make_place};
+use ber_core::OutOfMemory;
+use std::alloc::Allocator;
+use std::collections::VecDeque;
+use tcap_engine::{Address, Engine, Fault};
+
+impl<A: Allocator + Copy> Station<A> {
+    /// Bytes were received from an address (Q.774, Transaction sublayer procedures). They are never refused, and
+    /// something is always told of them; those above 65,535 are dropped. The only error is that memory was refused.
+    pub fn receive(&mut self, from: &Address, message: &[u8]) -> Result<(), OutOfMemory>
+        ensures moves { TakesReceived result
+            (engine_move self.old.engine (Event.received from.now message.now)) self.old self.new }
+        ensures err { OnErr result (self.new ≡ self.old) }
+        // Whatever legal history the engine stood at: the reply, and the history that it stands at then.
+        ensures stands { StandsTold result (Event.received from.now message.now) self.old self.new }
+    {
+        // Something is always told.
+        find_place(&mut self.line.marks)?;
+        let before = self.line.back.len();
+        let received = self.engine.receive_into(from, message, &mut self.line.back);
+        mark_event(
+            &mut self.events,
+            &mut self.line.marks,
+            &self.line.back,
+            before,
+            received,
+        )
+    }
+
+    /// The clock is at this moment, in milliseconds, at most 2^62: what is due lapses or ends (Q.774, Invocation
+    /// timer; Q.774, Reject timer). A moment below the clock does nothing. Faults: `MomentTooLate`, `OutOfMemory`.
+    pub fn advance(&mut self, now: u64) -> Result<(), Fault>
+        ensures moves { let m = engine_move self.old.engine (Event.moment now) in
+            Takes (outputs_of m) result m self.old self.new }
+        ensures err { OnErr result (self.new ≡ self.old) }
+        ensures stands { StandsTold result (Event.moment now) self.old self.new }
+    {
+        prepare_moment(&self.engine, &mut self.line.marks, now)?;
+        let before = self.line.back.len();
+        let advanced = self.engine.advance_into(now, &mut self.line.back);
+        mark_event(
+            &mut self.events,
+            &mut self.line.marks,
+            &self.line.back,
+            before,
+            advanced,
+        )
+    }
+
+    /// A new dialogue, in which nothing has happened: its identifier. Faults: `DialoguesFull`, `DialogueIdsSpent`,
+    /// `OutOfMemory` (Q.774, Transaction state machine).
+    pub fn new_dialogue(&mut self) -> Result<u32, Fault>
+        ensures moves { Takes birth_answer result (engine_move self.old.engine Event.new_dialogue) self.old self.new }
+        ensures err { OnErr result (self.new ≡ self.old) }
+        ensures stands { StandsTaken birth_answer result Event.new_dialogue self.old self.new }
+    {
+        let created = self.engine.new_dialogue();
+        count_event(&mut self.events, created)
+    }
+}
+
+/// Makes a place for a moment at which anything is told.
+#[inline(always)]
+fn prepare_moment<A: Allocator + Copy>(
+    engine: &Engine<A>,
+    marks: &mut VecDeque<Mark, A>,
+    now: u64,
+) -> Result<(), Fault>
+    ensures items { marks.new.items ≡ marks.old.items }
+    ensures place { let a = (engine_move engine.now (Event.moment now)).answer in
+        OnOk result (outputs_in a ≢ [] → deque_len marks.new < deque_capacity marks.new) }
+    ensures err { let a = (engine_move engine.now (Event.moment now)).answer in
+        IfErr result (λ f. IsRefusal (fault_view f) a) }
+{
+    if !has_place(marks) && engine.due(now) > 0 {
+        make_place(marks)?;
+    }
+    Ok(())
+}
