@@ -241,7 +241,8 @@ TCAP_MUST_CHECK tcap_status tcap_u_reject(tcap *engine, uint32_t dialogue, int i
                                           int problem);
 
 /* TC-U-CANCEL request: an invocation of this side is given up: its number. This closes it, so no
- * output names it any more. TCAP_UNKNOWN_DIALOGUE, TCAP_NO_SUCH_INVOCATION, no others. */
+ * output closes it, and none names it but a TC-RESULT-NL that waits already.
+ * TCAP_UNKNOWN_DIALOGUE, TCAP_NO_SUCH_INVOCATION, no others. */
 TCAP_MUST_CHECK tcap_status tcap_u_cancel(tcap *engine, uint32_t dialogue, int invoke_id,
                                           uint64_t *number);
 
