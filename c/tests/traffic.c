@@ -5,7 +5,7 @@
  * than once in a thousand turns. */
 #include "common.h"
 
-enum { CALLS = 25, STATUSES = 17, KINDS = 18, DIALOGUES = 8, INVOKES = 16, IN_FLIGHT = 48, NUMBERS = 1 << 14, CLOSED = 1, GIVEN_UP = 2 };
+enum { CALLS = 25, STATUSES = 17, KINDS = 18, DIALOGUES = 8, INVOKES = 32, IN_FLIGHT = 48, NUMBERS = 1 << 14, CLOSED = 1, GIVEN_UP = 2 };
 enum call {
   SET_MEMORY, VERSION, STATUS_TEXT, OPEN, CLOSE, RECEIVE, ADVANCE, NEXT_TIMER, NEW_DIALOGUE, INVOKE,
   RESULT_L, RESULT_NL, U_ERROR, U_REJECT, U_CANCEL, UNI, BEGIN, CONTINUE, END, U_ABORT, NEXT,
@@ -190,9 +190,9 @@ static uint32_t a_dialogue(struct side *s) {
 /* ---- a request by lot */
 static tcap_status invoke(struct side *s, uint32_t dialogue) {
   static const int classes[] = {1, 1, 1, 1, 2, 3};
-  uint64_t number = 0, timeout = lot(30) ? 1 + lot(lot(3) ? 5000 : 60) : 0;
-  int linked = lot(12) ? TCAP_NO_ID : an_id();
-  int op_class = dialogue % 4 == 0 ? 4 : classes[lot(6)]; /* some dialogues may be of class 4 alone */
+  uint64_t number = 0, timeout = lot(30) ? 1 + lot(lot(6) ? 5000 : 60) : 0;
+  int linked = lot(20) ? TCAP_NO_ID : an_id();
+  int op_class = dialogue % 8 == 0 ? 4 : classes[lot(6)]; /* some dialogues may be of class 4 alone */
   if (s->drawn == NUMBERS) return TCAP_OK;
   tcap_status status = tcap_invoke(s->engine, dialogue, an_id(), linked, lot(199) ? op_class : 7,
                                    a_code(), a_parameter(), timeout, &number);
@@ -267,7 +267,7 @@ static enum call choose(struct side *s, uint32_t dialogue) {
   if (lot(3) == 0) return RECEIVE;
   switch (tcap_state_of(s->engine, dialogue)) {
   case TCAP_UNKNOWN: return lot(3) ? RECEIVE : NEW_DIALOGUE;
-  case TCAP_IDLE: return dialogue % 4 == 0 && lot(2) ? UNI : idle[lot(sizeof idle / sizeof *idle)];
+  case TCAP_IDLE: return dialogue % 8 == 0 && lot(4) ? UNI : idle[lot(sizeof idle / sizeof *idle)];
   case TCAP_INITIATION_SENT: return sent[lot(sizeof sent / sizeof *sent)];
   default: return active[lot(sizeof active / sizeof *active)];
   }
@@ -278,7 +278,7 @@ static bool find_invoke(struct side *s, uint32_t *dialogue, int *id) {
   for (int i = 0; i < INVOKES; i++, at = (at + 1) % INVOKES)
     if (s->invokes[at].dialogue == *dialogue || (i == 0 && lot(99) == 0)) {
       *dialogue = s->invokes[at].dialogue, *id = s->invokes[at].id;
-      if (lot(4)) s->invokes[at].dialogue = 0;
+      if (lot(8)) s->invokes[at].dialogue = 0;
       return true;
     }
   return false;
