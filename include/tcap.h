@@ -251,8 +251,8 @@ TCAP_MUST_CHECK tcap_status tcap_u_cancel(tcap *engine, uint32_t dialogue, int i
  * context), TCAP_BAD_PARAMETER (of user information), TCAP_NO_CONTEXT, TCAP_TOO_LONG and
  * TCAP_OUT_OF_MEMORY, beside what it names. */
 
-/* TC-UNI request: a Unidirectional to an address, 0 to 255 octets, and the dialogue is over.
- * TCAP_NOT_CLASS_FOUR. */
+/* TC-UNI request: a Unidirectional to an address, 0 to 255 octets, and the dialogue is over: each
+ * Invoke that it carries is told by TCAP_CLOSED_IND. TCAP_NOT_CLASS_FOUR. */
 TCAP_MUST_CHECK tcap_status tcap_uni(tcap *engine, uint64_t now_ms, uint32_t dialogue,
                                      tcap_octets to, const tcap_portion *portion);
 
@@ -319,7 +319,9 @@ typedef enum {
   TCAP_DROP_BAD_DIALOGUE = 3 /* it is a Unidirectional whose dialogue portion is abnormal */
 } tcap_drop_cause;
 
-/* The dialogue PDU of an Abort by the user. Beside each: what it sets (Q.773, Dialogue portion). */
+/* The dialogue PDU of an Abort by the user. Beside each: what it sets (Q.773, Dialogue portion). An
+ * Abort with an AARQ, an AUDT, an AARE that accepts or an ABRT by the provider is abnormal today, and
+ * told as TCAP_P_ABORT_IND. */
 typedef enum {
   TCAP_PDU_NONE = 0,   /* the Abort has none */
   TCAP_PDU_AARQ = 1,   /* portion, is_version1 */
