@@ -179,6 +179,9 @@ static void test_answers(void) {
   OK(tcap_receive(engine, 0, NOTHING, hex("612A" "6B1E281C" UNI_AS "A011600F" VERSION_1 NAME "6C08" "A106020103020105")));
   told(engine, "UNI context=" CONTEXT);
   told(engine, "INVOKE id=3 local=5 last");
+  OK(tcap_receive(engine, 0, NOTHING, hex("6218" "48010D" "6C13" "A111" "020101" "0607" CONTEXT "30030401AA")));
+  told(engine, "BEGIN dialogue=5");
+  told(engine, "INVOKE dialogue=5 id=1 global=" CONTEXT " parameter=30030401AA last");
   OK(tcap_receive(engine, 0, NOTHING, hex("6403490163")));
   told(engine, "DROPPED cause=2 last");
   told(engine, "nothing");
