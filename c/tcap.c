@@ -140,7 +140,7 @@ uint64_t tcap_next_timer(const tcap *t) {
   return t && !tcap_c_next_timer(HANDLE, &at) ? at : TCAP_NEVER;
 }
 tcap_state tcap_state_of(const tcap *t, uint32_t d) { return (tcap_state)(t ? tcap_c_state_of(HANDLE, d) : 0); }
-uint32_t tcap_dialogues(const tcap *t) { return t ? tcap_c_dialogues(HANDLE) : 0; }
+size_t tcap_dialogues(const tcap *t) { return t ? tcap_c_dialogues(HANDLE) : 0; }
 size_t tcap_due(const tcap *t, uint64_t now) {
   size_t count = 0;
   return t && !tcap_c_due(HANDLE, now, &count) ? count : 0;

@@ -127,7 +127,7 @@ uint8_t tcap_c_next(tcap_c_handle *, tcap_c_out *, uint8_t *room, size_t room_le
 /* ---- getters: take no memory and change nothing */
 uint8_t tcap_c_next_timer(tcap_c_handle *, uint64_t *at);
 uint8_t tcap_c_state_of(tcap_c_handle *, uint32_t dialogue); /* 0 unknown to 4 active */
-uint32_t tcap_c_dialogues(tcap_c_handle *);                  /* 0 of a closed one */
+size_t tcap_c_dialogues(tcap_c_handle *);                    /* 0 of a closed one */
 uint8_t tcap_c_next_identifiers(tcap_c_handle *, uint32_t *dialogue, uint64_t *number);
 uint8_t tcap_c_due(tcap_c_handle *, uint64_t now, size_t *count);
 

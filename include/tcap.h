@@ -377,7 +377,7 @@ const tcap_output *tcap_next(tcap *engine);
 tcap_state tcap_state_of(const tcap *engine, uint32_t dialogue);
 
 /* How many dialogues stand. */
-uint32_t tcap_dialogues(const tcap *engine);
+size_t tcap_dialogues(const tcap *engine);
 
 /* For how many outputs tcap_advance finds room at this moment: 0 where it tells nothing, and else
  * at least as many as it tells. */

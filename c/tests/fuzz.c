@@ -96,7 +96,7 @@ static tcap_code a_code(void) {
   if (code.kind == TCAP_GLOBAL) code.global = some(map, sizeof map);
   return code;
 }
-struct seen { uint64_t number, timer; uint32_t next, count; tcap_state state; };
+struct seen { uint64_t number, timer; size_t count; uint32_t next; tcap_state state; };
 static struct seen see(tcap *engine, uint32_t dialogue) {
   struct seen s;
   memset(&s, 0, sizeof s);

@@ -49,7 +49,7 @@ static void take_all(int who) {
 }
 
 /* ---- a call, and again where memory was refused */
-struct seen { uint64_t number, timer; uint32_t next, count; int states[40]; };
+struct seen { uint64_t number, timer; size_t count; uint32_t next; int states[40]; };
 static struct seen see(int who) {
   struct seen s;
   memset(&s, 0, sizeof s);

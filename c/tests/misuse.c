@@ -11,7 +11,7 @@ static const uint8_t byte[300] = {0x30, 0x03, 0x04, 0x01, 0xAA};
 static const tcap_octets no = {NULL, 0}, parameter = {byte, 5}, untrue = {NULL, 5}, map = {(const uint8_t *)"\x04\x00\x00\x01\x00\x01\x03", 7};
 
 /* What of an engine can be seen to change. */
-struct seen { uint64_t number, timer; uint32_t next, count; int idle, sent; };
+struct seen { uint64_t number, timer; size_t count; uint32_t next; int idle, sent; };
 static struct seen see(void) {
   struct seen s;
   memset(&s, 0, sizeof s);

@@ -133,7 +133,7 @@ static void take_all(struct side *s) {
 }
 
 /* ---- what is seen of an engine, to tell whether anything has changed */
-struct seen { uint64_t number, timer; uint32_t next, count; tcap_state state; };
+struct seen { uint64_t number, timer; size_t count; uint32_t next; tcap_state state; };
 static struct seen see(struct side *s, uint32_t dialogue) {
   struct seen seen;
   memset(&seen, 0, sizeof seen);

@@ -82,7 +82,7 @@ int main(void) {
   lost = sent + 3; /* the End with the result */
   vlr_ask(UPDATE_LOCATION, 0xAC);
   run_until(60000);
-  printf("%u dialogues stand at the VLR, %u at the HLR\n", tcap_dialogues(vlr.engine), tcap_dialogues(hlr.engine));
+  printf("%zu dialogues stand at the VLR, %zu at the HLR\n", tcap_dialogues(vlr.engine), tcap_dialogues(hlr.engine));
   node_close(&vlr);
   node_close(&hlr);
   return 0;
