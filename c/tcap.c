@@ -9,7 +9,8 @@
 
 struct tcap {
   tcap_c_handle handle;
-  tcap_output output;        /* that tcap_next answered last */
+  tcap_c_out numbers;        /* of the output that tcap_next answered last */
+  tcap_output output;        /* that output */
   uint8_t room[65535 + 255]; /* its octets: a message and an address are the most */
 };
 
@@ -117,19 +118,18 @@ tcap_status tcap_u_abort(tcap *t, uint64_t now, uint32_t d, tcap_abort_reason re
 /* ---- what waits */
 static tcap_octets part(const uint8_t **at, size_t len) { return *at += len, (tcap_octets){*at - len, len}; }
 const tcap_output *tcap_next(tcap *t) {
-  tcap_c_out c = {0};
-  if (!t || tcap_c_next(&t->handle, &c, t->room, sizeof t->room)) return NULL;
+  if (!t || tcap_c_next(&t->handle, &t->numbers, t->room, sizeof t->room)) return NULL;
+  const tcap_c_out *c = &t->numbers;
   const uint8_t *at = t->room;
   tcap_output *o = &t->output;
-  o->event = c.event, o->number = c.number, o->dialogue = c.dialogue, o->invoke_id = c.invoke_id;
-  o->linked_id = c.linked_id, o->problem = c.problem, o->cause = c.cause, o->diagnostic = c.diagnostic;
-  o->kind = c.kind, o->pdu = c.pdu, o->closes = c.closes, o->is_last = c.is_last;
-  o->has_context = c.has_context, o->has_parameter = c.has_parameter, o->is_version1 = c.is_version1;
-  o->is_accepted = c.is_accepted, o->is_by_provider = c.is_by_provider;
-  o->code.kind = (tcap_code_kind)c.code_kind, o->code.local = c.local;
-  o->address = part(&at, c.address_len), o->message = part(&at, c.message_len);
-  o->portion.context = part(&at, c.context_len), o->portion.info = part(&at, c.info_len);
-  o->code.global = part(&at, c.global_len), o->parameter = part(&at, c.parameter_len);
+  o->event = c->event, o->number = c->number, o->dialogue = c->dialogue, o->invoke_id = c->invoke_id;
+  o->linked_id = c->linked_id, o->problem = c->problem, o->cause = c->cause, o->diagnostic = c->diagnostic;
+  o->kind = c->kind, o->pdu = c->pdu, o->closes = c->closes, o->is_last = c->is_last, o->is_version1 = c->is_version1;
+  o->code.kind = (tcap_code_kind)c->code_kind, o->has_context = c->has_context, o->has_parameter = c->has_parameter;
+  o->is_accepted = c->is_accepted, o->is_by_provider = c->is_by_provider, o->code.local = c->local;
+  o->address = part(&at, c->address_len), o->message = part(&at, c->message_len);
+  o->portion.context = part(&at, c->context_len), o->portion.info = part(&at, c->info_len);
+  o->code.global = part(&at, c->global_len), o->parameter = part(&at, c->parameter_len);
   return o;
 }
 
