@@ -153,8 +153,8 @@ typedef struct {
   size_t size;            /* sizeof(tcap_limits) of your compilation */
   uint32_t max_dialogues; /* how many dialogues may stand, 1 to 65,535 */
   uint32_t max_message;   /* how many octets the layer below carries, 1 to 65,535: a request whose
-                           * message is longer is refused. (An Abort that answers a message may be
-                           * longer still: some 70 octets) */
+                           * message is longer is refused. An Abort that the engine answers to a
+                           * message goes out all the same: up to 350 octets, by its context */
   uint64_t reject_ms;     /* how long an invoke identifier waits for a Reject, at most 2^62 */
   uint64_t idle_ms;       /* how long a dialogue may stand still, at most 2^62; 0: for ever */
   uint32_t first_dialogue; /* the identifier of the first dialogue, not 0: another range for each

@@ -27,11 +27,15 @@ void network_send(struct node *from, tcap_octets to, tcap_octets message) {
   say(from, "-> %s: %s of %zu octets%s", node->name, type < 7 ? types[type] : "?", message.len,
       sent == lost ? ", lost" : "");
   if (sent++ == lost) return;
+  if (message.len > sizeof messages->octets) { /* as an Abort may be by which an engine answers */
+    say(from, "too long for the network");
+    return;
+  }
   for (int i = 0; i < MESSAGES; i++)
     if (!messages[i].len) {
       messages[i].to = node, messages[i].from = from->name;
       messages[i].at = now + DELAY, messages[i].len = message.len;
-      memcpy(messages[i].octets, message.at, message.len); /* at most max_message */
+      memcpy(messages[i].octets, message.at, message.len);
       return;
     }
   say(from, "the network is full");
