@@ -12,7 +12,7 @@
  * Refusals. A call that answers another status than TCAP_OK has changed nothing, and wrote nothing.
  *   But a call that takes `now_ms` is two events, the moment and then the call: where the call is
  *   refused, the clock may stand at that moment, and what was due then waits, as by tcap_advance.
- *   TCAP_OUT_OF_MEMORY is such a refusal: make the same call again later.
+ *   TCAP_OUT_OF_MEMORY is such a refusal: the same call may be made again, now or later.
  * Octets. What you pass is copied during the call. What tcap_next answers, and all it points to, is
  *   valid until the next tcap_next or tcap_close of that engine, whatever other calls you make.
  * Time. Milliseconds by any clock that doesn't go back, at most 2^62. A moment before the last one
@@ -203,13 +203,13 @@ TCAP_MUST_CHECK tcap_status tcap_advance(tcap *engine, uint64_t now_ms);
 /* The moment for the next tcap_advance; TCAP_NEVER where no timer runs. */
 uint64_t tcap_next_timer(const tcap *engine);
 
-/* ---- component handling (Q.771): a component is queued, and the next request of dialogue handling
- * sends it. `parameter`: the octets of one BER element, or absent. Each may be refused by
- * TCAP_UNKNOWN_DIALOGUE, TCAP_TOO_LONG and TCAP_OUT_OF_MEMORY, beside what it names. */
-
 /* A new dialogue, in which nothing has happened: its identifier, never 0.
  * TCAP_DIALOGUES_FULL, TCAP_DIALOGUE_IDS_SPENT, TCAP_OUT_OF_MEMORY. */
 TCAP_MUST_CHECK tcap_status tcap_new_dialogue(tcap *engine, uint32_t *dialogue);
+
+/* ---- component handling (Q.771): a component is queued, and the next request of dialogue handling
+ * sends it. `parameter`: the octets of one BER element, or absent. Each may be refused by
+ * TCAP_UNKNOWN_DIALOGUE, TCAP_TOO_LONG and TCAP_OUT_OF_MEMORY, beside what it names. */
 
 /* TC-INVOKE request: its number, never 0, by which outputs name the invocation. `invoke_id`: -128
  * to 127; `linked_id`: the same, or TCAP_NO_ID; `op_class`: 1 to 4; `timeout_ms`: 1 to 2^62, from
@@ -247,8 +247,8 @@ TCAP_MUST_CHECK tcap_status tcap_u_cancel(tcap *engine, uint32_t dialogue, int i
                                           uint64_t *number);
 
 /* ---- dialogue handling (Q.771): sends what is queued. `portion`: NULL where there is none. Each
- * may be refused by TCAP_MOMENT_TOO_LATE, TCAP_UNKNOWN_DIALOGUE, TCAP_WRONG_STATE, TCAP_BAD_OID (of a
- * context), TCAP_BAD_PARAMETER (of user information), TCAP_NO_CONTEXT, TCAP_TOO_LONG and
+ * may be refused by TCAP_MOMENT_TOO_LATE, TCAP_UNKNOWN_DIALOGUE, TCAP_WRONG_STATE, TCAP_BAD_OID (of
+ * a context), TCAP_BAD_PARAMETER (of user information), TCAP_NO_CONTEXT, TCAP_TOO_LONG and
  * TCAP_OUT_OF_MEMORY, beside what it names. */
 
 /* TC-UNI request: a Unidirectional to an address, 0 to 255 octets, and the dialogue is over: each
@@ -277,7 +277,8 @@ TCAP_MUST_CHECK tcap_status tcap_u_abort(tcap *engine, uint64_t now_ms, uint32_t
 
 /* ---- what is to be sent and told */
 
-/* What an output is. Beside each: the fields that it sets, besides `event` and `is_last`. */
+/* What an output is. Beside each: the fields that it sets, besides `event` and `is_last`; (own): no
+ * primitive of Q.771. */
 typedef enum {
   TCAP_SEND = 1,           /* address, message: to be sent there, an N-UNITDATA request */
   TCAP_UNI_IND = 2,        /* TC-UNI: portion */
@@ -320,8 +321,8 @@ typedef enum {
 } tcap_drop_cause;
 
 /* The dialogue PDU of an Abort by the user. Beside each: what it sets (Q.773, Dialogue portion). An
- * Abort with an AARQ, an AUDT, an AARE that accepts or an ABRT by the provider is abnormal today, and
- * told as TCAP_P_ABORT_IND. */
+ * Abort with an AARQ, an AUDT, an AARE that accepts or an ABRT by the provider is abnormal today,
+ * and told as TCAP_P_ABORT_IND. */
 typedef enum {
   TCAP_PDU_NONE = 0,   /* the Abort has none */
   TCAP_PDU_AARQ = 1,   /* portion, is_version1 */

@@ -256,12 +256,49 @@ static void test_moments(void) {
     tcap_close(engine);
   }
 }
+
+/* An element of so many octets, at least 4: its tag, and its length in two octets behind 82. */
+static tcap_octets element(uint8_t *room, uint8_t tag, size_t len) {
+  room[0] = tag, room[1] = 0x82, room[2] = (uint8_t)((len - 4) >> 8), room[3] = (uint8_t)(len - 4);
+  return octets(room, len);
+}
+/* A message of 65,535 octets goes to an address of 255: an output has no more. One octet more is too long. */
+static void test_largest(void) {
+  static uint8_t parameter[60000], info[6000], address[255], message[65535];
+  tcap *engine = open_engine(1, 1), *other = open_engine(1, 1);
+  size_t len = 0, info_len = 5000;
+  tcap_status status = TCAP_OK;
+  memset(parameter + 4, 0x5A, sizeof parameter - 4), memset(address, 0x0B, sizeof address);
+  while (status == TCAP_OK) {
+    uint32_t d;
+    uint64_t number;
+    tcap_portion portion = {hex(CONTEXT), element(info, 0x28, ++info_len)};
+    element(info + 4, 0x04, info_len - 4);
+    NEED(info_len < sizeof info);
+    OK(tcap_new_dialogue(engine, &d));
+    OK(tcap_invoke(engine, d, 1, TCAP_NO_ID, 4, local_code(2), element(parameter, 0x04, 59900), 9, &number));
+    status = tcap_begin(engine, 0, d, octets(address, 255), &portion);
+    if (status) continue;
+    const tcap_output *o = tcap_next(engine);
+    NEED(o && o->kind == TCAP_SEND && o->address.len == 255 && memcmp(o->address.at, address, 255) == 0);
+    memcpy(message, o->message.at, len = o->message.len);
+  }
+  NEED(status == TCAP_TOO_LONG && len == 65535);
+  OK(tcap_receive(other, 0, octets(address, 255), octets(message, len)));
+  const tcap_output *o = tcap_next(other);
+  NEED(o && o->kind == TCAP_BEGIN_IND && o->portion.info.len == info_len - 1 && o->portion.info.at[0] == 0x28);
+  o = tcap_next(other);
+  NEED(o && o->kind == TCAP_INVOKE_IND && o->parameter.len == 59900 && memcmp(o->parameter.at, parameter, 59900) == 0);
+  rows += 3;
+  tcap_close(engine), tcap_close(other);
+}
 int main(void) {
   NEED(tcap_set_memory(take_counted, grow_counted, give_back_counted) == TCAP_OK);
   test_requests();
   test_answers();
   test_aborts();
   test_moments();
+  test_largest();
   NEED(blocks_held == 0);
   printf("%d outputs, %d other than wanted\n", rows, failures);
   return failures != 0;
