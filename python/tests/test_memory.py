@@ -1,0 +1,71 @@
+"""Memory that is refused: OutOfMemory, nothing has changed, and the same call again succeeds."""
+from __future__ import annotations
+
+import ctypes
+import pathlib
+import subprocess
+import sys
+
+import pytest
+
+import tcap
+from tcap import Local
+
+STORY = """
+import sys
+sys.path.insert(0, sys.argv[1])
+from refusing import Memory
+memory = Memory()
+from test_memory import story
+memory.refuse_from(None)
+asked = memory.count(story)
+for nth in range(asked):  # a refusal that the library can do without isn't told
+    told = story(memory, nth)
+    print(nth, memory.asked(), told)
+"""
+
+
+def story(memory: object = None, nth: int = -1) -> bool:
+    """A dialogue; the nth request for memory is refused, and the call that was refused made again. Whether one was."""
+    refused = False
+
+    def again(call: object) -> object:
+        nonlocal refused
+        try:
+            return call()  # type: ignore[operator]
+        except tcap.OutOfMemory:
+            assert not refused
+            refused = True
+            return call()  # type: ignore[operator]
+
+    if memory is not None:
+        memory.refuse_from(nth)  # type: ignore[attr-defined]
+    engine = again(lambda: tcap.Engine())
+    assert isinstance(engine, tcap.Engine)
+    dialogue = again(engine.dialogue)
+    assert isinstance(dialogue, tcap.Dialogue)
+    assert again(lambda: dialogue.invoke(1, Local(2), b"\x04\x01\xaa", timeout_ms=5000)) == 1
+    again(lambda: dialogue.begin(0, b"hlr", context=bytes.fromhex("04000001000103")))
+    again(lambda: engine.receive(1, b"hlr", bytes.fromhex("67064904") + dialogue.id.to_bytes(4, "big")))
+    assert [type(output) for output in engine] == [tcap.Send, tcap.UAbortInd, tcap.ClosedInd]
+    engine.close()
+    return refused
+
+
+def test_each_request_refused_once() -> None:
+    here = pathlib.Path(__file__).parent
+    ran = subprocess.run([sys.executable, "-c", STORY, str(here)], capture_output=True, text=True, cwd=here.parent)
+    assert ran.returncode == 0, ran.stderr
+    told = [line.split()[2] == "True" for line in ran.stdout.splitlines()]
+    assert len(told) > 10 and told.count(True) > len(told) // 2
+
+
+def test_out_of_memory_is_a_memory_error() -> None:
+    assert issubclass(tcap.OutOfMemory, MemoryError)
+    with pytest.raises(tcap.BadArgument):
+        from tcap import _c
+        from tcap.errors import refusal
+
+        status = _c.LIBRARY.tcap_set_memory(None, None, None)
+        raise refusal(status, tcap.status_text(status))
+    assert ctypes.sizeof(_c.Output) == 144 and ctypes.sizeof(_c.Limits) == 48
