@@ -1,0 +1,148 @@
+//! What the crate adds to the library: outputs as an enum, errors as one, threads, octets that are absent.
+
+use tcap::{
+    abort_cause, diagnostic, problem, AbortReason, Class, Code, DropCause, Engine, Error, Invoke, Limits, Output, Pdu,
+    Portion, State, Termination, Waiting,
+};
+
+const CONTEXT: &[u8] = &[0x04, 0x00, 0x00, 0x01, 0x00, 0x01, 0x03];
+
+fn engine(first_dialogue: u32) -> Engine {
+    Engine::open(&Limits { first_dialogue, ..Limits::default() }).unwrap()
+}
+
+/// Carries what waits at one to the other, and returns what was told, as text.
+fn carry(from: &mut Engine, to: &Engine) -> Vec<String> {
+    let mut told = Vec::new();
+    while let Some(Waiting { output, closes, .. }) = from.next_output() {
+        match output {
+            Output::Send { message, .. } => to.receive(0, b"peer", message).unwrap(),
+            other => told.push(format!("{:?}{}", other, if closes { " closes" } else { "" })),
+        }
+    }
+    told
+}
+
+#[test]
+fn results_errors_and_rejects_are_told() {
+    let (mut a, mut b) = (engine(1), engine(7));
+    let d = a.new_dialogue().unwrap();
+    let numbers: Vec<u64> =
+        (1..=4).map(|id| a.invoke(d, &Invoke::new(id, Code::Global(&[0x2a, 3]), 9)).unwrap()).collect();
+    assert_eq!(numbers, [1, 2, 3, 4]);
+    a.begin(0, d, b"b", Portion::of(CONTEXT)).unwrap();
+    assert!(carry(&mut a, &b).is_empty());
+    let mut asked = 0;
+    while let Some(Waiting { engine, output, .. }) = b.next_output() {
+        match output {
+            Output::BeginInd { dialogue: 7, portion } => assert_eq!(portion, Portion::of(CONTEXT)),
+            Output::InvokeInd { dialogue: Some(7), invoke_id, linked_id: None, code, parameter: None } => {
+                asked += 1;
+                match invoke_id {
+                    1 => engine.result_nl(7, 1, Some(code), Some(&[4, 0])).unwrap(),
+                    2 => engine.u_error(7, 2, Code::Local(-1), None).unwrap(),
+                    3 => engine.u_reject(7, Some(3), problem::INVOKE_MISTYPED_PARAMETER).unwrap(),
+                    _ => engine.result_l(7, 4, None, None).unwrap(),
+                }
+            }
+            other => panic!("{:?}", other),
+        }
+    }
+    assert_eq!((asked, b.state_of(7)), (4, State::InitiationReceived));
+    b.go_on(0, 7, Portion::default()).unwrap();
+    assert!(carry(&mut b, &a).is_empty());
+    let of = |id: u8| format!("dialogue: 1, number: {}, invoke_id: {}", id, id);
+    assert_eq!(
+        carry(&mut a, &b),
+        [
+            format!("ContinueInd {{ dialogue: 1, portion: {:?} }}", Portion::of(CONTEXT)),
+            format!("ResultNLInd {{ {}, code: Some(Global([42, 3])), parameter: Some([4, 0]) }}", of(1)),
+            format!("UErrorInd {{ {}, code: Local(-1), parameter: None }} closes", of(2)),
+            "URejectInd { dialogue: Some(1), invoke_id: Some(3), problem: 258, number: Some(3) } closes".to_string(),
+            format!("ResultLInd {{ {}, code: None, parameter: None }} closes", of(4)),
+        ]
+    );
+}
+
+#[test]
+fn aborts_drops_and_timers_are_told() {
+    let (mut a, mut b) = (engine(1), engine(7));
+    let d = a.new_dialogue().unwrap();
+    a.invoke(d, &Invoke { class: Class::Two, ..Invoke::new(-128, Code::Local(1), 50) }).unwrap();
+    a.begin(0, d, b"b", Portion::of(CONTEXT)).unwrap();
+    carry(&mut a, &b);
+    assert_eq!((a.next_timer(), a.due(49)), (Some(50), 0));
+    while b.next_output().is_some() {}
+    b.u_abort(0, 7, AbortReason::ContextNotSupported, &[]).unwrap();
+    carry(&mut b, &a);
+    {
+        let Waiting { output, is_last, .. } = a.next_output().unwrap();
+        let pdu = match output {
+            Output::UAbortInd { dialogue: 1, pdu } => pdu,
+            other => panic!("{:?}", other),
+        };
+        let diagnostic = diagnostic::USER_CONTEXT_NOT_SUPPORTED;
+        let portion = Portion::of(CONTEXT);
+        assert_eq!(pdu, Some(Pdu::Aare { portion, is_version1: true, is_accepted: false, diagnostic }));
+        assert!(!is_last);
+    }
+    let closed = a.next_output().unwrap();
+    assert_eq!(closed.output, Output::ClosedInd { dialogue: 1, number: 1, invoke_id: -128 });
+    assert!(closed.closes && closed.is_last);
+    a.receive(0, b"", &[0xff, 0xff]).unwrap();
+    assert_eq!(a.next_output().unwrap().output, Output::Dropped { cause: DropCause::BadMessage });
+    let d = a.new_dialogue().unwrap();
+    a.begin(0, d, b"b", Portion::default()).unwrap();
+    a.advance(600_000).unwrap();
+    a.next_output().unwrap();
+    assert_eq!(a.next_output().unwrap().output, Output::PAbortInd { dialogue: d, cause: abort_cause::IDLE });
+    assert!(a.next_output().is_none());
+}
+
+#[test]
+fn refusals_are_errors_with_their_status() {
+    let a = engine(1);
+    let d = a.new_dialogue().unwrap();
+    let invoke = Invoke::new(1, Code::Local(1), 1);
+    let rows: [(Result<u64, Error>, Error, i32); 8] = [
+        (a.invoke(9, &invoke), Error::UnknownDialogue, 2),
+        (a.go_on(0, d, Portion::default()).map(|()| 0), Error::WrongState, 3),
+        (a.u_cancel(d, 1), Error::NoSuchInvocation, 5),
+        (a.invoke(d, &Invoke { timeout_ms: 0, ..invoke }), Error::BadTimeout, 6),
+        (a.invoke(d, &Invoke { operation: Code::Global(&[0x80]), ..invoke }), Error::BadOid, 11),
+        (a.invoke(d, &invoke.with(&[4])), Error::BadParameter, 12),
+        (a.finish(u64::MAX, d, Termination::Prearranged, Portion::default()).map(|()| 0), Error::MomentTooLate, 14),
+        (a.u_reject(d, None, 0x400).map(|()| 0), Error::BadArgument, 16),
+    ];
+    for (answered, error, status) in rows {
+        assert_eq!((answered, error.status()), (Err(error), status));
+        assert!(!error.to_string().is_empty());
+    }
+    assert_eq!(a.next_identifiers(), (2, 1));
+}
+
+#[test]
+fn octets_that_may_be_absent_are_not_empty() {
+    let a = engine(1);
+    let d = a.new_dialogue().unwrap();
+    assert_eq!(a.invoke(d, &Invoke::new(1, Code::Local(1), 1).with(&[])), Err(Error::BadArgument));
+    assert_eq!(a.begin(0, d, &[], Portion::of(&[])), Err(Error::BadArgument));
+    assert_eq!(a.begin(0, d, &[], Portion::default()), Ok(()));
+}
+
+#[test]
+fn an_engine_goes_to_another_thread() {
+    let a = engine(1);
+    let d = a.new_dialogue().unwrap();
+    let a = std::thread::spawn(move || {
+        a.begin(0, d, b"b", Portion::default()).unwrap();
+        a
+    });
+    let mut a = a.join().unwrap();
+    assert!(matches!(a.next_output().unwrap().output, Output::Send { address: b"b", .. }));
+}
+
+#[test]
+fn the_library_is_of_this_version() {
+    assert!(tcap::library_version() >= (0, 1, 0));
+}
