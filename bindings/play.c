@@ -1,0 +1,417 @@
+/* Plays a script (docs/FORMATS.md, play) by two engines of libtcap, and prints its text:
+ *
+ *   play SCRIPT [SEEN]    status 1 where a line is bad; SEEN: how often each status was answered and each kind of output
+ *                         told is written to this file
+ *
+ * Three lines more than there: `memory refused` and `memory given`, from where on the library gets none, or some again;
+ * `S open DIALOGUES MESSAGE DIALOGUE NUMBER`, another engine in place of S's, with these limits and first identifiers; and a
+ * `reject` may have a code to 255. */
+#include <inttypes.h>
+#include <stdbool.h>
+#include <stdio.h>
+#include <stdlib.h>
+#include <string.h>
+
+#include <tcap.h>
+
+enum { WORDS = 9, LONGEST = 1 << 16, MESSAGES = 256, KINDS = 18, STATUSES = 17 };
+
+struct message { uint8_t *octets; size_t len; bool is_to_peer; enum { WAITS, RECEIVED, LOST } fate; };
+struct side { char letter; uint8_t address; tcap *engine; struct message sent[MESSAGES]; size_t count; };
+
+static struct side sides[2] = {{.letter = 'A', .address = 0x41}, {.letter = 'B', .address = 0x42}};
+static uint64_t now, idle;
+static bool is_open, is_refused;
+static unsigned long statuses[STATUSES], kinds[KINDS];
+
+/* ---- memory */
+static void *take(size_t size) { return is_refused ? NULL : malloc(size); }
+static void *grow(void *block, size_t size) { return is_refused ? NULL : realloc(block, size); }
+
+static struct side *other(struct side *of) { return of == &sides[0] ? &sides[1] : &sides[0]; }
+
+/* ---- the text of outputs */
+static void print_hex(tcap_octets of) {
+  for (size_t i = 0; i < of.len; i++) printf("%02x", of.at[i]);
+  if (!of.len) printf("-");
+}
+static void print_id(int id) {
+  if (id == TCAP_NO_ID) printf("-");
+  else printf("%d", id);
+}
+static void print_portion(const tcap_output *o) {
+  printf("context ");
+  print_hex(o->portion.context);
+  printf(" info ");
+  print_hex(o->portion.info);
+}
+/* ` op CODE param P`, or `code` for `op`; of a result without a body `-` for the code. */
+static void print_coded(const char *name, const tcap_output *o) {
+  printf(" %s ", name);
+  if (o->code.kind == TCAP_LOCAL) printf("local %" PRId32, o->code.local);
+  else if (o->code.kind == TCAP_GLOBAL) printf("global "), print_hex(o->code.global);
+  else printf("-");
+  printf(" param ");
+  print_hex(o->parameter);
+}
+static void print_problem(const tcap_output *o) {
+  static const char *const names[] = {"general", "invoke", "result", "error"};
+  printf(" %s %d", names[o->problem >> 8 & 3], o->problem & 255);
+}
+static void print_pdu(const tcap_output *o) {
+  switch (o->pdu) {
+  case TCAP_PDU_AARQ:
+  case TCAP_PDU_AUDT:
+    printf("%s version %s ", o->pdu == TCAP_PDU_AARQ ? "aarq" : "audt", o->is_version1 ? "yes" : "no");
+    print_portion(o);
+    break;
+  case TCAP_PDU_AARE:
+    printf("aare version %s context ", o->is_version1 ? "yes" : "no");
+    print_hex(o->portion.context);
+    printf(" result %d %s %d info ", !o->is_accepted, o->diagnostic < 256 ? "user" : "provider", o->diagnostic & 255);
+    print_hex(o->portion.info);
+    break;
+  case TCAP_PDU_ABRT:
+    printf("abrt %s info ", o->is_by_provider ? "provider" : "user");
+    print_hex(o->portion.info);
+    break;
+  case TCAP_PDU_FOREIGN:
+    printf("foreign ");
+    print_hex(o->portion.info);
+    break;
+  default:
+    printf("-");
+  }
+}
+static void print_cause(unsigned cause) {
+  if (cause == TCAP_P_ABNORMAL_DIALOGUE) printf(" abnormal");
+  else if (cause == TCAP_P_NO_COMMON_DIALOGUE) printf(" nocommon");
+  else if (cause == TCAP_P_IDLE) printf(" idle");
+  else printf(" cause %u", cause);
+}
+static void print_invocation(const char *name, const tcap_output *o) {
+  printf("%s %" PRIu32 " id %d number %" PRIu64, name, o->dialogue, o->invoke_id, o->number);
+}
+/* A Reject: of an invocation that it closes, or of none. */
+static void print_reject(const tcap_output *o, const char *by) {
+  bool is_local = o->kind == TCAP_L_REJECT_IND;
+  if (o->closes) {
+    print_invocation("rejected", o);
+  } else {
+    printf(is_local ? "localreject " : "remotereject ");
+    if (o->dialogue) printf("%" PRIu32, o->dialogue);
+    else printf("-");
+    printf(" id ");
+    print_id(o->invoke_id);
+  }
+  print_problem(o);
+  if (o->closes || !is_local) printf(" by %s", by);
+}
+static void print_send(struct side *s, const tcap_output *o) {
+  struct message *m = &s->sent[s->count++];
+  m->octets = malloc(o->message.len + 1), m->len = o->message.len, m->fate = WAITS;
+  if (!m->octets || s->count == MESSAGES) abort();
+  memcpy(m->octets, o->message.at, m->len);
+  m->is_to_peer = o->address.len == 1 && *o->address.at == other(s)->address;
+  printf("send %c%zu ", s->letter, s->count);
+  print_hex(o->message);
+  if (!m->is_to_peer) printf(" to "), print_hex(o->address);
+}
+static void print_output(struct side *s, const tcap_output *o) {
+  static const char *const names[KINDS] = {[TCAP_BEGIN_IND] = "begin", [TCAP_CONTINUE_IND] = "continue", [TCAP_END_IND] = "end"};
+  static const char *const drops[] = {"toolong", "badmessage", "nodialogue", "baddialogue"};
+  switch (o->kind) {
+  case TCAP_SEND: print_send(s, o); break;
+  case TCAP_UNI_IND: printf("uni "), print_portion(o); break;
+  case TCAP_BEGIN_IND:
+  case TCAP_CONTINUE_IND:
+  case TCAP_END_IND: printf("%s %" PRIu32 " ", names[o->kind], o->dialogue), print_portion(o); break;
+  case TCAP_U_ABORT_IND: printf("uabort %" PRIu32 " ", o->dialogue), print_pdu(o); break;
+  case TCAP_P_ABORT_IND: printf("pabort %" PRIu32, o->dialogue), print_cause(o->cause); break;
+  case TCAP_INVOKE_IND:
+    if (o->dialogue) printf("invoked %" PRIu32 " id %d linked ", o->dialogue, o->invoke_id);
+    else printf("invoked - id %d linked ", o->invoke_id);
+    print_id(o->linked_id), print_coded("op", o);
+    break;
+  case TCAP_RESULT_L_IND: print_invocation("last", o), print_coded("op", o); break;
+  case TCAP_RESULT_NL_IND: print_invocation("more", o), print_coded("op", o); break;
+  case TCAP_U_ERROR_IND: print_invocation("error", o), print_coded("code", o); break;
+  case TCAP_L_CANCEL_IND: print_invocation("lapsed", o); break;
+  case TCAP_CLOSED_IND: print_invocation("ended", o); break;
+  case TCAP_L_REJECT_IND: print_reject(o, "local"); break;
+  case TCAP_R_REJECT_IND: print_reject(o, "provider"); break;
+  case TCAP_U_REJECT_IND: print_reject(o, "user"); break;
+  case TCAP_DROPPED: printf("dropped %s", drops[o->cause & 3]); break;
+  default: printf("kind %d", o->kind);
+  }
+}
+
+/* What a call answered: a refusal, or `name` and a number if there is one; and all that it told. */
+static void answered(struct side *s, tcap_status status, const char *name, uint64_t value) {
+  statuses[status]++;
+  if (status) printf("%c refused %d\n", s->letter, (int)status);
+  else if (name && value) printf("%c %s %" PRIu64 "\n", s->letter, name, value);
+  else if (name) printf("%c %s\n", s->letter, name);
+  const tcap_output *o;
+  while ((o = tcap_next(s->engine)) != NULL) {
+    kinds[o->kind]++;
+    printf("%c ", s->letter);
+    print_output(s, o);
+    printf("\n");
+  }
+}
+
+/* ---- words */
+static bool is(const char *word, const char *name) { return strcmp(word, name) == 0; }
+/* A decimal number of at most this, without leading zeros. */
+static bool natural(const char *word, uint64_t most, uint64_t *value) {
+  uint64_t n = 0;
+  if (!*word || (*word == '0' && word[1])) return false;
+  for (; *word; word++) {
+    if (*word < '0' || *word > '9') return false;
+    uint64_t digit = (uint64_t)(*word - '0');
+    if (n > (most - digit) / 10) return false;
+    n = 10 * n + digit;
+  }
+  *value = n;
+  return true;
+}
+static bool integer(const char *word, int64_t low, int64_t high, int64_t *value) {
+  uint64_t n;
+  if (*word == '-') {
+    if (!natural(word + 1, (uint64_t)-low, &n) || !n) return false;
+    *value = -(int64_t)n;
+    return true;
+  }
+  if (!natural(word, (uint64_t)high, &n)) return false;
+  *value = (int64_t)n;
+  return true;
+}
+static bool identifier(const char *word, bool may_be_absent, int *id) {
+  int64_t n = TCAP_NO_ID;
+  bool is_good = (may_be_absent && is(word, "-")) || integer(word, -128, 127, &n);
+  *id = (int)n;
+  return is_good;
+}
+static bool dialogue_named(const char *word, uint32_t *dialogue) {
+  uint64_t n = 0;
+  bool is_good = natural(word, UINT32_MAX, &n);
+  *dialogue = (uint32_t)n;
+  return is_good;
+}
+/* Hexadecimal, or `-` for none, into one of four rooms. */
+static bool hex(const char *word, int room, tcap_octets *of) {
+  static uint8_t rooms[4][LONGEST];
+  size_t len = strlen(word);
+  *of = (tcap_octets){rooms[room], 0};
+  if (is(word, "-")) return true;
+  if (!len || len % 2 || len / 2 > LONGEST || strspn(word, "0123456789abcdefABCDEF") != len) return false;
+  for (; of->len < len / 2; of->len++) {
+    const char digits[3] = {word[2 * of->len], word[2 * of->len + 1], 0};
+    rooms[room][of->len] = (uint8_t)strtoul(digits, NULL, 16);
+  }
+  return true;
+}
+static bool code_named(const char *word, tcap_code *code) {
+  int64_t n = 0;
+  bool is_good = integer(word, INT32_MIN, INT32_MAX, &n);
+  *code = (tcap_code){TCAP_LOCAL, (int32_t)n, {NULL, 0}};
+  return is_good;
+}
+static struct side *side_named(const char *word) {
+  return is(word, "A") ? &sides[0] : is(word, "B") ? &sides[1] : NULL;
+}
+
+/* ---- lines, by the number of their words */
+static void open_engine(struct side *s, tcap_limits limits) {
+  tcap_close(s->engine);
+  s->engine = NULL;
+  if (tcap_open(&s->engine, &limits)) abort();
+}
+static tcap_limits limits_of_a_play(void) {
+  tcap_limits limits = TCAP_LIMITS;
+  limits.max_dialogues = 16, limits.reject_ms = 1000, limits.idle_ms = idle;
+  return limits;
+}
+static bool both_advance(uint64_t at) {
+  if (at > now && at <= UINT64_C(1) << 62) now = at;
+  for (struct side *s = sides; s < sides + 2; s++) answered(s, tcap_advance(s->engine, at), NULL, 0);
+  return true;
+}
+/* `deliver M`, `again M`, `lose M`. */
+static bool carry(const char *verb, const char *name) {
+  uint64_t number;
+  const char letter[2] = {name[0], 0};
+  struct side *from = side_named(letter);
+  if (!from || !natural(name + 1, MESSAGES, &number) || number < 1 || number > from->count) return false;
+  struct message *m = &from->sent[number - 1];
+  if (is(verb, "lose")) {
+    if (m->fate != WAITS) return false;
+    m->fate = LOST;
+    return true;
+  }
+  if (m->fate != (is(verb, "again") ? RECEIVED : WAITS) || !m->is_to_peer) return false;
+  m->fate = RECEIVED;
+  struct side *to = other(from);
+  tcap_octets message = {m->octets, m->len}, address = {&from->address, 1};
+  answered(to, tcap_receive(to->engine, now, address, message), NULL, 0);
+  return true;
+}
+static bool two(char **w) {
+  uint64_t n;
+  if (is(w[0], "deliver") || is(w[0], "again") || is(w[0], "lose")) return carry(w[0], w[1]);
+  if (is(w[0], "advance")) return natural(w[1], UINT64_MAX, &n) && both_advance(n);
+  if (is(w[0], "memory")) return is_refused = is(w[1], "refused"), is_refused || is(w[1], "given");
+  struct side *s = side_named(w[0]);
+  if (!s || !is(w[1], "new")) return false;
+  uint32_t dialogue = 0;
+  tcap_status status = tcap_new_dialogue(s->engine, &dialogue);
+  answered(s, status, "new", dialogue);
+  return true;
+}
+static bool receive(struct side *s, tcap_octets from, const char *word) {
+  tcap_octets message;
+  if (!hex(word, 1, &message)) return false;
+  answered(s, tcap_receive(s->engine, now, from, message), NULL, 0);
+  return true;
+}
+static bool three(struct side *s, char **w) {
+  uint32_t d;
+  if (is(w[1], "raw")) return receive(s, (tcap_octets){&other(s)->address, 1}, w[2]);
+  if (!is(w[1], "prearranged") || !dialogue_named(w[2], &d)) return false;
+  answered(s, tcap_end(s->engine, now, d, TCAP_PREARRANGED, NULL), NULL, 0);
+  return true;
+}
+static bool four(struct side *s, char **w) {
+  uint32_t d;
+  int id;
+  uint64_t number = 0;
+  tcap_octets from;
+  if (is(w[1], "rawfrom")) return hex(w[2], 0, &from) && from.len <= 255 && receive(s, from, w[3]);
+  if (!is(w[1], "cancel") || !dialogue_named(w[2], &d) || !identifier(w[3], false, &id)) return false;
+  tcap_status status = tcap_u_cancel(s->engine, d, id, &number);
+  answered(s, status, "givenup", number);
+  return true;
+}
+static bool five(struct side *s, char **w) {
+  uint32_t d;
+  tcap_portion portion;
+  tcap_octets to = {&other(s)->address, 1};
+  if (!dialogue_named(w[2], &d) || !hex(w[4], 1, &portion.info)) return false;
+  if (is(w[1], "abort")) {
+    if (!is(w[3], "user") && !is(w[3], "unsupported")) return false;
+    tcap_abort_reason reason = is(w[3], "user") ? TCAP_USER_SPECIFIC : TCAP_CONTEXT_NOT_SUPPORTED;
+    answered(s, tcap_u_abort(s->engine, now, d, reason, portion.info), NULL, 0);
+    return true;
+  }
+  if (!hex(w[3], 0, &portion.context)) return false;
+  if (is(w[1], "uni")) answered(s, tcap_uni(s->engine, now, d, to, &portion), NULL, 0);
+  else if (is(w[1], "begin")) answered(s, tcap_begin(s->engine, now, d, to, &portion), NULL, 0);
+  else if (is(w[1], "continue")) answered(s, tcap_continue(s->engine, now, d, &portion), NULL, 0);
+  else if (is(w[1], "end")) answered(s, tcap_end(s->engine, now, d, TCAP_BASIC, &portion), NULL, 0);
+  else return false;
+  return true;
+}
+/* `S open DIALOGUES MESSAGE DIALOGUE NUMBER` */
+static bool another(struct side *s, char **w) {
+  uint64_t n[4];
+  for (int i = 0; i < 4; i++)
+    if (!natural(w[2 + i], i < 3 ? UINT32_MAX : UINT64_MAX, &n[i])) return false;
+  tcap_limits limits = limits_of_a_play();
+  limits.max_dialogues = (uint32_t)n[0], limits.max_message = (uint32_t)n[1];
+  limits.first_dialogue = (uint32_t)n[2], limits.first_number = n[3];
+  open_engine(s, limits);
+  return true;
+}
+static bool reject(struct side *s, uint32_t d, char **w) {
+  static const char *const names[] = {"general", "invoke", "result", "error"};
+  uint64_t code;
+  int id, kind = 0;
+  while (kind < 4 && !is(w[4], names[kind])) kind++;
+  if (!identifier(w[3], true, &id) || kind == 4 || !natural(w[5], 255, &code)) return false;
+  answered(s, tcap_u_reject(s->engine, d, id, 256 * kind + (int)code), "done", 0);
+  return true;
+}
+static bool six(struct side *s, char **w) {
+  uint32_t d;
+  int id;
+  tcap_octets parameter, to;
+  tcap_portion portion;
+  tcap_code code = {TCAP_NO_CODE, 0, {NULL, 0}};
+  if (is(w[1], "open")) return another(s, w);
+  if (!dialogue_named(w[2], &d)) return false;
+  if (is(w[1], "reject")) return reject(s, d, w);
+  if (is(w[1], "beginto")) {
+    if (!hex(w[3], 2, &to) || to.len > 255 || !hex(w[4], 0, &portion.context) || !hex(w[5], 1, &portion.info)) return false;
+    answered(s, tcap_begin(s->engine, now, d, to, &portion), NULL, 0);
+    return true;
+  }
+  bool has_body = !is(w[4], "-") || is(w[1], "error");
+  if (!identifier(w[3], false, &id) || (has_body && !code_named(w[4], &code)) || !hex(w[5], 0, &parameter)) return false;
+  if (!has_body && parameter.len) return false;
+  if (is(w[1], "last")) answered(s, tcap_result_l(s->engine, d, id, code, parameter), "done", 0);
+  else if (is(w[1], "more")) answered(s, tcap_result_nl(s->engine, d, id, code, parameter), "done", 0);
+  else if (is(w[1], "error")) answered(s, tcap_u_error(s->engine, d, id, code, parameter), "done", 0);
+  else return false;
+  return true;
+}
+/* `S invoke D ID CLASS CODE TIMEOUT LINKED PARAM` */
+static bool nine(struct side *s, char **w) {
+  uint32_t d;
+  int id, linked;
+  uint64_t op_class, timeout, number = 0;
+  tcap_code code;
+  tcap_octets parameter;
+  if (!is(w[1], "invoke") || !dialogue_named(w[2], &d) || !identifier(w[3], false, &id)) return false;
+  if (!natural(w[4], 4, &op_class) || !op_class || !code_named(w[5], &code) || !natural(w[6], UINT64_MAX, &timeout)) return false;
+  if (!identifier(w[7], true, &linked) || !hex(w[8], 0, &parameter)) return false;
+  tcap_status status = tcap_invoke(s->engine, d, id, linked, (int)op_class, code, parameter, timeout, &number);
+  answered(s, status, "number", number);
+  return true;
+}
+static bool line_is_done(char *line) {
+  char *w[WORDS + 1];
+  int count = 0;
+  for (char *at = line; at && count <= WORDS; w[count - 1] = at, at = strchr(at, ' '), at = at ? (*at = 0, at + 1) : NULL) count++;
+  if (!is_open) {
+    bool is_idle = count == 2 && is(w[0], "idle");
+    if (is_idle && !natural(w[1], UINT64_C(1) << 62, &idle)) return false;
+    open_engine(&sides[0], limits_of_a_play()), open_engine(&sides[1], limits_of_a_play());
+    is_open = true;
+    if (is_idle) return true;
+  }
+  struct side *s = side_named(w[0]);
+  if (count == 2) return two(w);
+  if (!s) return false;
+  return count == 3 ? three(s, w) : count == 4 ? four(s, w) : count == 5 ? five(s, w) : count == 6 ? six(s, w) : count == 9 && nine(s, w);
+}
+
+static bool is_played(FILE *script) {
+  static char line[4 * LONGEST];
+  for (int number = 1; fgets(line, sizeof line, script); number++) {
+    line[strcspn(line, "\n")] = 0;
+    if (!*line || *line == '#' || line_is_done(line)) continue;
+    printf("line %d bad\n", number);
+    return false;
+  }
+  return true;
+}
+static void write_seen(const char *name) {
+  FILE *file = fopen(name, "w");
+  if (!file) perror(name), exit(2);
+  for (int i = 0; i < STATUSES; i++) fprintf(file, "status %d %lu\n", i, statuses[i]);
+  for (int i = 1; i < KINDS; i++) fprintf(file, "kind %d %lu\n", i, kinds[i]);
+  fclose(file);
+}
+int main(int argc, char **argv) {
+  FILE *script = argc > 1 ? fopen(argv[1], "r") : NULL;
+  if (!script || tcap_set_memory(take, grow, free)) return fprintf(stderr, "play SCRIPT [SEEN]\n"), 2;
+  bool is_good = is_played(script);
+  fclose(script);
+  for (struct side *s = sides; s < sides + 2; s++) {
+    tcap_close(s->engine);
+    while (s->count) free(s->sent[--s->count].octets);
+  }
+  if (argc > 2) write_seen(argv[2]);
+  return !is_good;
+}

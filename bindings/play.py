@@ -1,0 +1,324 @@
+#!/usr/bin/env python3
+"""Plays a script (docs/FORMATS.md, play) by two engines of the package tcap, and prints its text.
+
+    play.py SCRIPT [SEEN]     status 1 where a line is bad; SEEN: how often each status was answered and each kind of
+                              output told is written to this file
+
+The three lines more that play.c names are played here too.
+"""
+from __future__ import annotations
+
+import collections
+import pathlib
+import re
+import sys
+from collections.abc import Callable
+from dataclasses import dataclass, field
+
+sys.path.insert(0, str(pathlib.Path(__file__).resolve().parent.parent / "python" / "tests"))
+
+import tcap
+from refusing import Memory
+from tcap import Dialogue, Engine, Local
+
+KINDS: tuple[type, ...] = (
+    tcap.Send, tcap.UniInd, tcap.BeginInd, tcap.ContinueInd, tcap.EndInd, tcap.UAbortInd, tcap.PAbortInd, tcap.InvokeInd,
+    tcap.ResultLInd, tcap.ResultNLInd, tcap.UErrorInd, tcap.LCancelInd, tcap.ClosedInd, tcap.LRejectInd,
+    tcap.RRejectInd, tcap.URejectInd, tcap.Dropped,
+)  # fmt: skip
+PROBLEMS = ("general", "invoke", "result", "error")
+DROPS = ("toolong", "badmessage", "nodialogue", "baddialogue")
+OWN_CAUSES = {256: "abnormal", 257: "nocommon", 258: "idle"}
+
+
+class Bad(Exception):
+    """A line is of no form."""
+
+
+# ---- the text of outputs
+
+
+def hexed(octets: bytes | None) -> str:
+    return octets.hex() if octets else "-"
+
+
+def dash(value: int | None) -> str:
+    return "-" if value is None else str(value)
+
+
+def place(dialogue: Dialogue | None) -> str:
+    return "-" if dialogue is None else str(dialogue.id)
+
+
+def coded(code: tcap.Code | None, parameter: bytes | None) -> str:
+    match code:
+        case Local(value):
+            return f"local {value} param {hexed(parameter)}"
+        case tcap.Global(octets):
+            return f"global {octets.hex()} param {hexed(parameter)}"
+    return f"- param {hexed(parameter)}"
+
+
+def pdu_text(pdu: tcap.Pdu | None) -> str:
+    def version(of: tcap.Aarq | tcap.Audt | tcap.Aare) -> str:
+        return f"version {'yes' if of.is_version1 else 'no'} context {hexed(of.context)}"
+
+    match pdu:
+        case tcap.Aarq(info=info):
+            return f"aarq {version(pdu)} info {hexed(info)}"
+        case tcap.Audt(info=info):
+            return f"audt {version(pdu)} info {hexed(info)}"
+        case tcap.Aare(info=info, is_accepted=accepted, diagnostic=number):
+            source = "user" if number < 256 else "provider"
+            return f"aare {version(pdu)} result {0 if accepted else 1} {source} {number % 256} info {hexed(info)}"
+        case tcap.Abrt(info, by_provider):
+            return f"abrt {'provider' if by_provider else 'user'} info {hexed(info)}"
+        case tcap.Foreign(external):
+            return f"foreign {external.hex()}"
+    return "-"
+
+
+def reject_text(o: tcap.LRejectInd | tcap.RRejectInd | tcap.URejectInd, by: str) -> str:
+    problem = f"{PROBLEMS[o.problem // 256]} {o.problem % 256}"
+    if o.number is not None:
+        return f"rejected {place(o.dialogue)} id {dash(o.invoke_id)} number {o.number} {problem} by {by}"
+    text = f"{place(o.dialogue)} id {dash(o.invoke_id)} {problem}"
+    return f"localreject {text}" if by == "local" else f"remotereject {text} by {by}"
+
+
+def text_of(o: tcap.Output) -> str:
+    """The words of an output, but of Send."""
+    match o:
+        case tcap.UniInd(context, info):
+            return f"uni context {hexed(context)} info {hexed(info)}"
+        case tcap.BeginInd(d, context, info):
+            return f"begin {d.id} context {hexed(context)} info {hexed(info)}"
+        case tcap.ContinueInd(d, context, info):
+            return f"continue {d.id} context {hexed(context)} info {hexed(info)}"
+        case tcap.EndInd(d, context, info):
+            return f"end {d.id} context {hexed(context)} info {hexed(info)}"
+        case tcap.UAbortInd(d, pdu):
+            return f"uabort {d.id} {pdu_text(pdu)}"
+        case tcap.PAbortInd(d, cause):
+            return f"pabort {d.id} {OWN_CAUSES.get(cause) or f'cause {int(cause)}'}"
+        case tcap.InvokeInd(d2, i, linked, code, p):
+            return f"invoked {place(d2)} id {i} linked {dash(linked)} op {coded(code, p)}"
+        case tcap.ResultLInd(d, n, i, result, p):
+            return f"last {d.id} id {i} number {n} op {coded(result, p)}"
+        case tcap.ResultNLInd(d, n, i, result, p):
+            return f"more {d.id} id {i} number {n} op {coded(result, p)}"
+        case tcap.UErrorInd(d, n, i, code, p):
+            return f"error {d.id} id {i} number {n} code {coded(code, p)}"
+        case tcap.LCancelInd(d, n, i):
+            return f"lapsed {d.id} id {i} number {n}"
+        case tcap.ClosedInd(d, n, i):
+            return f"ended {d.id} id {i} number {n}"
+        case tcap.LRejectInd():
+            return reject_text(o, "local")
+        case tcap.RRejectInd():
+            return reject_text(o, "provider")
+        case tcap.URejectInd():
+            return reject_text(o, "user")
+        case tcap.Dropped(cause):
+            return f"dropped {DROPS[cause]}"
+    return repr(o)
+
+
+# ---- words
+
+
+def integer(word: str, low: int, high: int) -> int:
+    if not re.fullmatch("0|-?[1-9][0-9]*", word) or not low <= int(word) <= high:
+        raise Bad
+    return int(word)
+
+
+def octets(word: str) -> bytes:
+    if word == "-":
+        return b""
+    if not re.fullmatch("([0-9a-fA-F]{2})+", word):
+        raise Bad
+    return bytes.fromhex(word)
+
+
+def identifier(word: str) -> int | None:
+    return None if word == "-" else integer(word, -128, 127)
+
+
+@dataclass
+class Side:
+    letter: str
+    address: bytes
+    engine: Engine
+    sent: list[tuple[bytes, bytes, str]] = field(default_factory=list)  # octets, where to, their fate
+
+
+class Play:
+    """Two engines, and the messages between them."""
+
+    def __init__(self, idle: int) -> None:
+        self.memory, self.idle, self.now = Memory(), idle, 0
+        self.statuses: collections.Counter[int] = collections.Counter()
+        self.kinds: collections.Counter[int] = collections.Counter()
+        self.sides = {
+            "A": Side("A", b"\x41", Engine(max_dialogues=16, idle_ms=idle)),
+            "B": Side("B", b"\x42", Engine(max_dialogues=16, idle_ms=idle)),
+        }
+
+    def side(self, word: str) -> Side:
+        if word not in self.sides:
+            raise Bad
+        return self.sides[word]
+
+    def other(self, side: Side) -> Side:
+        return self.sides["B" if side.letter == "A" else "A"]
+
+    def call(self, side: Side, make: Callable[[], object], name: str = "") -> None:
+        """Makes a call and prints what is answered, by this name, and told."""
+        try:
+            value = make()
+        except tcap.TcapError as error:
+            self.statuses[error.status] += 1
+            print(side.letter, "refused", int(error.status))
+        else:
+            self.statuses[0] += 1
+            if name:
+                print(side.letter, name, *([value.id if isinstance(value, Dialogue) else value] if value else []))
+        for output in side.engine:
+            self.kinds[1 + KINDS.index(type(output))] += 1
+            print(side.letter, self.send(side, output) if isinstance(output, tcap.Send) else text_of(output))
+
+    def send(self, side: Side, output: tcap.Send) -> str:
+        side.sent.append((output.message, output.address, "waits"))
+        text = f"send {side.letter}{len(side.sent)} {output.message.hex()}"
+        return text if output.address == self.other(side).address else f"{text} to {hexed(output.address)}"
+
+    def carry(self, verb: str, name: str) -> None:
+        """`deliver M`, `again M`, `lose M`."""
+        side = self.side(name[:1])
+        at = integer(name[1:], 1, max(1, len(side.sent))) - 1
+        message, address, fate = side.sent[at] if side.sent else (b"", b"", "")
+        to = self.other(side)
+        if fate != ("received" if verb == "again" else "waits") or (verb != "lose" and address != to.address):
+            raise Bad
+        side.sent[at] = message, address, "lost" if verb == "lose" else "received"
+        if verb != "lose":
+            self.call(to, lambda: to.engine.receive(self.now, side.address, message))
+
+    def advance(self, word: str) -> None:
+        at = integer(word, 0, 2**64 - 1)
+        self.now = max(self.now, at) if at <= 2**62 else self.now
+        for side in self.sides.values():
+            self.call(side, lambda: side.engine.advance(at))
+
+    def open(self, side: Side, dialogues: str, message: str, dialogue: str, number: str) -> None:
+        side.engine.close()
+        side.engine = Engine(
+            max_dialogues=int(dialogues),
+            max_message=int(message),
+            idle_ms=self.idle,
+            first_dialogue=int(dialogue),
+            first_number=int(number),
+        )
+
+    def line(self, words: list[str]) -> None:
+        """Does what a line asks for."""
+        match words:
+            case ["deliver" | "again" | "lose" as verb, name]:
+                self.carry(verb, name)
+            case ["advance", moment]:
+                self.advance(moment)
+            case ["memory", "refused" | "given" as word]:
+                self.memory.refuse_from(0 if word == "refused" else None, is_for_good=True)
+            case [letter, "new"]:
+                side = self.side(letter)
+                self.call(side, side.engine.dialogue, "new")
+            case [letter, "raw", message]:
+                self.receive(self.side(letter), self.other(self.side(letter)).address, octets(message))
+            case [letter, "rawfrom", address, message]:
+                self.receive(self.side(letter), octets(address), octets(message))
+            case [letter, "open", *limits] if len(limits) == 4:
+                self.open(self.side(letter), *limits)
+            case [letter, verb, dialogue, *rest]:
+                side = self.side(letter)
+                self.request(side, verb, side.engine.dialogue_of(integer(dialogue, 0, 2**32 - 1)), rest)
+            case _:
+                raise Bad
+
+    def receive(self, side: Side, address: bytes, message: bytes) -> None:
+        self.call(side, lambda: side.engine.receive(self.now, address, message))
+
+    def request(self, side: Side, verb: str, d: Dialogue, words: list[str]) -> None:
+        """A request on a dialogue."""
+        now, to = self.now, self.other(side).address
+        match [verb, *words]:
+            case ["uni" | "begin" | "continue" | "end", context, info]:
+                c, i = octets(context) or None, octets(info)
+                self.call(side, {
+                    "uni": lambda: d.uni(now, to, context=c, info=i),
+                    "begin": lambda: d.begin(now, to, context=c, info=i),
+                    "continue": lambda: d.go_on(now, context=c, info=i),
+                    "end": lambda: d.end(now, context=c, info=i),
+                }[verb])  # fmt: skip
+            case ["beginto", address, context, info]:
+                a, c, i = octets(address), octets(context) or None, octets(info)
+                self.call(side, lambda: d.begin(now, a, context=c, info=i))
+            case ["prearranged"]:
+                self.call(side, lambda: d.end(now, termination=tcap.Termination.PREARRANGED))
+            case ["abort", "user" | "unsupported" as why, info]:
+                i, reason = octets(info), tcap.AbortReason(0 if why == "user" else 1)
+                self.call(side, lambda: d.u_abort(now, reason, i))
+            case ["cancel", word]:
+                number = integer(word, -128, 127)
+                self.call(side, lambda: d.u_cancel(number), "givenup")
+            case ["reject", word, kind, code] if kind in PROBLEMS:
+                rejected, problem = identifier(word), 256 * PROBLEMS.index(kind) + integer(code, 0, 255)
+                self.call(side, lambda: d.u_reject(rejected, problem), "done")
+            case ["last" | "more" | "error", word, code, parameter]:
+                self.answer(side, verb, d, integer(word, -128, 127), code, octets(parameter) or None)
+            case ["invoke", word, op_class, code, timeout, linked, parameter]:
+                self.invoke(side, d, integer(word, -128, 127), op_class, code, timeout, linked, parameter)
+            case _:
+                raise Bad
+
+    def answer(self, side: Side, verb: str, d: Dialogue, i: int, word: str, p: bytes | None) -> None:
+        """`last`, `more`, `error`."""
+        if word == "-" and (verb == "error" or p):
+            raise Bad
+        code = None if word == "-" else Local(integer(word, -(2**31), 2**31 - 1))
+        if verb == "error" and code:
+            error = code
+            self.call(side, lambda: d.u_error(i, error, p), "done")
+        else:
+            self.call(side, lambda: (d.result_l if verb == "last" else d.result_nl)(i, code, p), "done")
+
+    def invoke(
+        self, side: Side, d: Dialogue, i: int, op_class: str, code: str, timeout: str, linked: str, parameter: str
+    ) -> None:
+        which, ms = Local(integer(code, -(2**31), 2**31 - 1)), integer(timeout, 0, 2**64 - 1)
+        of, link, p = integer(op_class, 1, 4), identifier(linked), octets(parameter) or None
+        self.call(side, lambda: d.invoke(i, which, p, timeout_ms=ms, op_class=of, linked_id=link), "number")
+
+
+def main(words: list[str]) -> int:
+    lines = pathlib.Path(words[0]).read_text().split("\n")
+    numbered = [(number, line) for number, line in enumerate(lines, 1) if line and not line.startswith("#")]
+    idle = 0
+    if numbered and re.fullmatch("idle [0-9]+", numbered[0][1]):
+        idle = int(numbered.pop(0)[1].split(" ")[1])
+    play = Play(idle)
+    try:
+        for number, line in numbered:
+            play.line(line.split(" "))
+    except Bad:
+        print("line", number, "bad")
+        return 1
+    if len(words) > 1:
+        seen = [f"status {at} {play.statuses[at]}" for at in range(17)]
+        seen += [f"kind {at} {play.kinds[at]}" for at in range(1, 18)]
+        pathlib.Path(words[1]).write_text("\n".join(seen) + "\n")
+    return 0
+
+
+if __name__ == "__main__":
+    sys.exit(main(sys.argv[1:]))

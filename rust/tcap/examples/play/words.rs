@@ -1,0 +1,43 @@
+//! What the words of a line stand for.
+
+use std::ops::RangeInclusive;
+
+/// A decimal number in a range, without leading zeros or a plus sign.
+pub fn number(word: &str, range: RangeInclusive<i128>) -> Option<i128> {
+    let digits = word.strip_prefix('-').unwrap_or(word);
+    let is_zero = word == "0";
+    let is_written = !digits.is_empty() && digits.bytes().all(|digit| digit.is_ascii_digit());
+    if !is_zero && (!is_written || digits.starts_with('0')) {
+        return None;
+    }
+    word.parse().ok().filter(|value| range.contains(value))
+}
+
+/// A number that the type holds.
+pub fn held<T: TryFrom<i128>>(word: &str) -> Option<T> {
+    number(word, i128::from(i64::MIN)..=i128::from(u64::MAX))?.try_into().ok()
+}
+
+/// Hexadecimal, or `-` for none.
+pub fn octets(word: &str) -> Option<Vec<u8>> {
+    if word == "-" {
+        return Some(Vec::new());
+    }
+    if word.is_empty() || word.len() % 2 != 0 || !word.bytes().all(|digit| digit.is_ascii_hexdigit()) {
+        return None;
+    }
+    (0..word.len()).step_by(2).map(|at| u8::from_str_radix(&word[at..at + 2], 16).ok()).collect()
+}
+
+/// A value, or `-` where it is absent.
+pub fn absent<T>(word: &str, read: impl Fn(&str) -> Option<T>) -> Option<Option<T>> {
+    match word {
+        "-" => Some(None),
+        word => read(word).map(Some),
+    }
+}
+
+/// Octets that are absent where they are empty.
+pub fn some(octets: &[u8]) -> Option<&[u8]> {
+    Some(octets).filter(|octets| !octets.is_empty())
+}
