@@ -12,7 +12,7 @@
 #include <stdlib.h>
 #include <string.h>
 
-#include <tcap.h>
+#include "play_text.h"
 
 enum { WORDS = 9, LONGEST = 1 << 16, MESSAGES = 256, KINDS = 18, STATUSES = 17 };
 
@@ -30,83 +30,6 @@ static void *grow(void *block, size_t size) { return is_refused ? NULL : realloc
 
 static struct side *other(struct side *of) { return of == &sides[0] ? &sides[1] : &sides[0]; }
 
-/* ---- the text of outputs */
-static void print_hex(tcap_octets of) {
-  for (size_t i = 0; i < of.len; i++) printf("%02x", of.at[i]);
-  if (!of.len) printf("-");
-}
-static void print_id(int id) {
-  if (id == TCAP_NO_ID) printf("-");
-  else printf("%d", id);
-}
-static void print_portion(const tcap_output *o) {
-  printf("context ");
-  print_hex(o->portion.context);
-  printf(" info ");
-  print_hex(o->portion.info);
-}
-/* ` op CODE param P`, or `code` for `op`; of a result without a body `-` for the code. */
-static void print_coded(const char *name, const tcap_output *o) {
-  printf(" %s ", name);
-  if (o->code.kind == TCAP_LOCAL) printf("local %" PRId32, o->code.local);
-  else if (o->code.kind == TCAP_GLOBAL) printf("global "), print_hex(o->code.global);
-  else printf("-");
-  printf(" param ");
-  print_hex(o->parameter);
-}
-static void print_problem(const tcap_output *o) {
-  static const char *const names[] = {"general", "invoke", "result", "error"};
-  printf(" %s %d", names[o->problem >> 8 & 3], o->problem & 255);
-}
-static void print_pdu(const tcap_output *o) {
-  switch (o->pdu) {
-  case TCAP_PDU_AARQ:
-  case TCAP_PDU_AUDT:
-    printf("%s version %s ", o->pdu == TCAP_PDU_AARQ ? "aarq" : "audt", o->is_version1 ? "yes" : "no");
-    print_portion(o);
-    break;
-  case TCAP_PDU_AARE:
-    printf("aare version %s context ", o->is_version1 ? "yes" : "no");
-    print_hex(o->portion.context);
-    printf(" result %d %s %d info ", !o->is_accepted, o->diagnostic < 256 ? "user" : "provider", o->diagnostic & 255);
-    print_hex(o->portion.info);
-    break;
-  case TCAP_PDU_ABRT:
-    printf("abrt %s info ", o->is_by_provider ? "provider" : "user");
-    print_hex(o->portion.info);
-    break;
-  case TCAP_PDU_FOREIGN:
-    printf("foreign ");
-    print_hex(o->portion.info);
-    break;
-  default:
-    printf("-");
-  }
-}
-static void print_cause(unsigned cause) {
-  if (cause == TCAP_P_ABNORMAL_DIALOGUE) printf(" abnormal");
-  else if (cause == TCAP_P_NO_COMMON_DIALOGUE) printf(" nocommon");
-  else if (cause == TCAP_P_IDLE) printf(" idle");
-  else printf(" cause %u", cause);
-}
-static void print_invocation(const char *name, const tcap_output *o) {
-  printf("%s %" PRIu32 " id %d number %" PRIu64, name, o->dialogue, o->invoke_id, o->number);
-}
-/* A Reject: of an invocation that it closes, or of none. */
-static void print_reject(const tcap_output *o, const char *by) {
-  bool is_local = o->kind == TCAP_L_REJECT_IND;
-  if (o->closes) {
-    print_invocation("rejected", o);
-  } else {
-    printf(is_local ? "localreject " : "remotereject ");
-    if (o->dialogue) printf("%" PRIu32, o->dialogue);
-    else printf("-");
-    printf(" id ");
-    print_id(o->invoke_id);
-  }
-  print_problem(o);
-  if (o->closes || !is_local) printf(" by %s", by);
-}
 static void print_send(struct side *s, const tcap_output *o) {
   struct message *m = &s->sent[s->count++];
   m->octets = malloc(o->message.len + 1), m->len = o->message.len, m->fate = WAITS;
@@ -117,35 +40,6 @@ static void print_send(struct side *s, const tcap_output *o) {
   print_hex(o->message);
   if (!m->is_to_peer) printf(" to "), print_hex(o->address);
 }
-static void print_output(struct side *s, const tcap_output *o) {
-  static const char *const names[KINDS] = {[TCAP_BEGIN_IND] = "begin", [TCAP_CONTINUE_IND] = "continue", [TCAP_END_IND] = "end"};
-  static const char *const drops[] = {"toolong", "badmessage", "nodialogue", "baddialogue"};
-  switch (o->kind) {
-  case TCAP_SEND: print_send(s, o); break;
-  case TCAP_UNI_IND: printf("uni "), print_portion(o); break;
-  case TCAP_BEGIN_IND:
-  case TCAP_CONTINUE_IND:
-  case TCAP_END_IND: printf("%s %" PRIu32 " ", names[o->kind], o->dialogue), print_portion(o); break;
-  case TCAP_U_ABORT_IND: printf("uabort %" PRIu32 " ", o->dialogue), print_pdu(o); break;
-  case TCAP_P_ABORT_IND: printf("pabort %" PRIu32, o->dialogue), print_cause(o->cause); break;
-  case TCAP_INVOKE_IND:
-    if (o->dialogue) printf("invoked %" PRIu32 " id %d linked ", o->dialogue, o->invoke_id);
-    else printf("invoked - id %d linked ", o->invoke_id);
-    print_id(o->linked_id), print_coded("op", o);
-    break;
-  case TCAP_RESULT_L_IND: print_invocation("last", o), print_coded("op", o); break;
-  case TCAP_RESULT_NL_IND: print_invocation("more", o), print_coded("op", o); break;
-  case TCAP_U_ERROR_IND: print_invocation("error", o), print_coded("code", o); break;
-  case TCAP_L_CANCEL_IND: print_invocation("lapsed", o); break;
-  case TCAP_CLOSED_IND: print_invocation("ended", o); break;
-  case TCAP_L_REJECT_IND: print_reject(o, "local"); break;
-  case TCAP_R_REJECT_IND: print_reject(o, "provider"); break;
-  case TCAP_U_REJECT_IND: print_reject(o, "user"); break;
-  case TCAP_DROPPED: printf("dropped %s", drops[o->cause & 3]); break;
-  default: printf("kind %d", o->kind);
-  }
-}
-
 /* What a call answered: a refusal, or `name` and a number if there is one; and all that it told. */
 static void answered(struct side *s, tcap_status status, const char *name, uint64_t value) {
   statuses[status]++;
@@ -156,7 +50,8 @@ static void answered(struct side *s, tcap_status status, const char *name, uint6
   while ((o = tcap_next(s->engine)) != NULL) {
     kinds[o->kind]++;
     printf("%c ", s->letter);
-    print_output(s, o);
+    if (o->kind == TCAP_SEND) print_send(s, o);
+    else print_output(o);
     printf("\n");
   }
 }
@@ -372,7 +267,11 @@ static bool nine(struct side *s, char **w) {
 static bool line_is_done(char *line) {
   char *w[WORDS + 1];
   int count = 0;
-  for (char *at = line; at && count <= WORDS; w[count - 1] = at, at = strchr(at, ' '), at = at ? (*at = 0, at + 1) : NULL) count++;
+  for (char *at = line; at && count <= WORDS; count++) {
+    w[count] = at;
+    at = strchr(at, ' ');
+    if (at) *at++ = 0;
+  }
   if (!is_open) {
     bool is_idle = count == 2 && is(w[0], "idle");
     if (is_idle && !natural(w[1], UINT64_C(1) << 62, &idle)) return false;
@@ -383,7 +282,14 @@ static bool line_is_done(char *line) {
   struct side *s = side_named(w[0]);
   if (count == 2) return two(w);
   if (!s) return false;
-  return count == 3 ? three(s, w) : count == 4 ? four(s, w) : count == 5 ? five(s, w) : count == 6 ? six(s, w) : count == 9 && nine(s, w);
+  switch (count) {
+  case 3: return three(s, w);
+  case 4: return four(s, w);
+  case 5: return five(s, w);
+  case 6: return six(s, w);
+  case 9: return nine(s, w);
+  default: return false;
+  }
 }
 
 static bool is_played(FILE *script) {

@@ -1,0 +1,82 @@
+# libtcap, for C and for all that calls C.
+#
+#   make                    out/libtcap.a and out/libtcap.so.VERSION
+#   make install            with headers, tcap.pc and the man page, below PREFIX (/usr/local), itself below DESTDIR
+#   make uninstall
+#   make check              the tests of C, Python and Rust that need no `rt`; those whose tools are missing are left out
+#   make dist               a tarball that needs no `rt`: out/libtcap-VERSION-MACHINE.tar.gz, and its checksum
+#   make clean
+#
+# The proved part is an archive, ARCHIVE. A released tarball has it; a clone builds it by `rt lib`, from the Rattle
+# toolchain. docs/RELEASES.md says how versions are counted and what may change.
+VERSION := $(shell sed -n 's/^VERSION = //p' c/Makefile)
+MACHINE := $(shell $(CC) -dumpmachine)
+NAME := libtcap-$(VERSION)-$(MACHINE)
+PREFIX ?= /usr/local
+INCLUDEDIR ?= $(PREFIX)/include
+LIBDIR ?= $(PREFIX)/lib
+MANDIR ?= $(PREFIX)/share/man
+INSTALL ?= install
+OUT := $(CURDIR)/out
+SHARED := libtcap.so.$(VERSION)
+SONAME := libtcap.so.0
+
+RELEASED := $(wildcard lib/libtcap_c.a)
+PROVED := crates/tcap_c/out/libtcap_c.a
+ARCHIVE ?= $(or $(RELEASED),$(PROVED))
+
+all: $(OUT)/libtcap.a $(OUT)/$(SHARED)
+
+# Where it isn't there: in a clone it is proved and built, which takes `rt` and some time.
+$(ARCHIVE):
+	@command -v rt > /dev/null || { \
+	  echo "make: $(ARCHIVE) isn't there: it is built by rt, from the Rattle toolchain, whose bin/ belongs into PATH." >&2; \
+	  echo "make: A released tarball (make dist) has it, and needs no rt." >&2; exit 1; }
+	cd crates/tcap_c && rt lib
+
+$(OUT)/libtcap.a $(OUT)/$(SONAME) &: $(ARCHIVE) c/tcap.c c/tcap_c.h c/tcap.map c/Makefile include/tcap.h
+	$(MAKE) -C c ARCHIVE=$(abspath $(ARCHIVE)) OUT=$(OUT) $(OUT)/libtcap.a $(OUT)/$(SONAME)
+	@touch $(OUT)/libtcap.a $(OUT)/$(SONAME)
+
+# The names by which a linker finds it, as they stand after the installation.
+$(OUT)/$(SHARED): $(OUT)/$(SONAME)
+	ln -sf $(SONAME) $@
+	ln -sf $(SONAME) $(OUT)/libtcap.so
+
+install: all
+	$(INSTALL) -d $(DESTDIR)$(INCLUDEDIR) $(DESTDIR)$(LIBDIR)/pkgconfig $(DESTDIR)$(MANDIR)/man3
+	$(INSTALL) -m 644 include/*.h $(DESTDIR)$(INCLUDEDIR)
+	$(INSTALL) -m 644 $(OUT)/libtcap.a $(DESTDIR)$(LIBDIR)
+	$(INSTALL) -m 755 $(OUT)/$(SONAME) $(DESTDIR)$(LIBDIR)/$(SHARED)
+	ln -sf $(SHARED) $(DESTDIR)$(LIBDIR)/$(SONAME)
+	ln -sf $(SONAME) $(DESTDIR)$(LIBDIR)/libtcap.so
+	sed 's|@PREFIX@|$(PREFIX)|; s|@VERSION@|$(VERSION)|; s|^libdir=.*|libdir=$(LIBDIR)|; s|^includedir=.*|includedir=$(INCLUDEDIR)|' \
+	  c/tcap.pc.in > $(OUT)/tcap.pc
+	$(INSTALL) -m 644 $(OUT)/tcap.pc $(DESTDIR)$(LIBDIR)/pkgconfig
+	$(INSTALL) -m 644 man/libtcap.3 $(DESTDIR)$(MANDIR)/man3
+
+uninstall:
+	rm -f $(addprefix $(DESTDIR)$(INCLUDEDIR)/,$(notdir $(wildcard include/*.h)))
+	rm -f $(addprefix $(DESTDIR)$(LIBDIR)/,libtcap.a libtcap.so $(SONAME) $(SHARED) pkgconfig/tcap.pc)
+	rm -f $(DESTDIR)$(MANDIR)/man3/libtcap.3
+
+check: all
+	bindings/check $(OUT)
+
+# What a tarball has, besides the archive: headers, the C side, man page, bindings, examples, and what checks them.
+DIST := Makefile README.md docs/RELEASES.md include c man python rust bindings examples
+dist: $(ARCHIVE)
+	rm -rf $(OUT)/dist && mkdir -p $(OUT)/dist/$(NAME)/lib
+	git ls-files -z $(DIST) | xargs -0 cp --parents -t $(OUT)/dist/$(NAME)
+	mv $(OUT)/dist/$(NAME)/bindings/INSTALL.md $(OUT)/dist/$(NAME)/README.md
+	cp $(ARCHIVE) $(OUT)/dist/$(NAME)/lib/libtcap_c.a
+	cd $(OUT)/dist/$(NAME) && find . -type f ! -name SHA256SUMS | LC_ALL=C sort | xargs sha256sum > SHA256SUMS
+	cd $(OUT)/dist && tar --sort=name --mtime=@$$(git -C $(CURDIR) log -1 --format=%ct) --owner=0 --group=0 \
+	  --numeric-owner --mode=go=rX,u+rw -cf - $(NAME) | gzip -9n > $(OUT)/$(NAME).tar.gz
+	cd $(OUT) && sha256sum $(NAME).tar.gz > $(NAME).tar.gz.sha256
+	rm -rf $(OUT)/dist
+
+clean:
+	rm -rf $(OUT)
+
+.PHONY: all install uninstall check dist clean

@@ -1,0 +1,94 @@
+#!/usr/bin/env python3
+"""Compares the names and numbers of tcap.h with those of the package tcap, the Rust crates and libtcap(3), and the
+layout of its structs (as `layout`, compiled from layout.c, prints it) with that of the package:
+
+    names.py LAYOUT     status 1 and a line for each difference
+"""
+import ctypes
+import pathlib
+import re
+import subprocess
+import sys
+
+import tcap
+from tcap import _c, values
+
+TOP = pathlib.Path(__file__).resolve().parent.parent
+HEADER = re.sub(r"/\*.*?\*/", "", (TOP / "include" / "tcap.h").read_text(), flags=re.S)
+ENUMS = {  # of tcap.h: that of the package, and how the names there begin
+    "tcap_status": (values.Status, "TCAP_"),
+    "tcap_state": (values.State, "TCAP_"),
+    "tcap_termination": (values.Termination, "TCAP_"),
+    "tcap_abort_reason": (values.AbortReason, "TCAP_"),
+    "tcap_problem": (values.Problem, "TCAP_"),
+    "tcap_abort_cause": (values.AbortCause, "TCAP_P_"),
+    "tcap_drop_cause": (values.DropCause, "TCAP_DROP_"),
+    "tcap_diagnostic": (values.Diagnostic, "TCAP_DIAGNOSTIC_"),
+}
+MODULES = {"tcap_problem": "problem", "tcap_abort_cause": "abort_cause", "tcap_diagnostic": "diagnostic"}
+differences: list[str] = []
+
+
+def compare(what: str, here: object, there: object) -> None:
+    if here != there:
+        differences.append(f"{what}: {here} in tcap.h, {there} there")
+
+
+def numbers_of(enum: str, prefix: str) -> dict[str, int]:
+    """The names and numbers of an enumeration of tcap.h."""
+    found = re.search(r"typedef enum \{([^}]*)\} " + enum + ";", HEADER)
+    assert found, enum
+    return {name[len(prefix) :]: int(value, 0) for name, value in re.findall(r"(\w+) = (\w+)", found.group(1))}
+
+
+def constants_of(module: str) -> dict[str, int]:
+    """The constants of a module of Rust."""
+    source = (TOP / "rust" / "tcap" / "src" / "values.rs").read_text()
+    found = re.search(r"pub mod " + module + r" \{(.*?)\n\}", source, re.S)
+    assert found, module
+    return {name: int(value, 0) for name, value in re.findall(r"const (\w+): u16 = (\w+);", found.group(1))}
+
+
+def compare_layouts(layout: str) -> None:
+    printed = subprocess.run([layout], capture_output=True, text=True, check=True).stdout.splitlines()
+    for struct, kind in (("tcap_output", _c.Output), ("tcap_limits", _c.Limits)):
+        lines = [f"{struct} {ctypes.sizeof(kind)}"]
+        for name, *_ in kind._fields_:
+            part = getattr(kind, name)
+            lines.append(f"{struct}.{name} {part.offset} {part.size}")
+        compare(struct, [line for line in printed if re.match(struct + r"\b", line)], lines)
+
+
+def main(layout: str) -> int:
+    calls = set(re.findall(r"\b(tcap_[a-z_]+)\(", HEADER))
+    rust = (TOP / "rust" / "tcap-sys" / "src" / "ffi.rs").read_text()
+    page = re.split(r"^\.SH DESCRIPTION", (TOP / "man" / "libtcap.3").read_text(), flags=re.M)[0]
+    compare("calls of the package", calls, set(_c.CALLS))
+    compare("calls of tcap-sys", calls, set(re.findall(r"pub fn (tcap_\w+)\(", rust)))
+    compare("calls of libtcap(3)", calls, set(re.findall(r"\b(tcap_[a-z_]+)\(", page)))
+    for enum, (kind, prefix) in ENUMS.items():
+        numbers = numbers_of(enum, prefix)
+        compare(enum, numbers, {member.name: int(member) for member in kind})
+        if enum in MODULES:
+            compare(f"{enum} of Rust", numbers, constants_of(MODULES[enum]))
+    compare_layouts(layout)
+    version = re.search(r"#define TCAP_VERSION 0x(\d\d)(\d\d)(\d\d)u", HEADER)
+    assert version
+    dotted = ".".join(str(int(part, 16)) for part in version.groups())
+    for file, pattern in (
+        ("c/Makefile", r"^VERSION = (\S+)"),
+        ("python/pyproject.toml", r'^version = "(.*)"'),
+        ("python/tcap/__init__.py", r'^__version__ = "(.*)"'),
+        ("rust/tcap/Cargo.toml", r'^version = "(.*)"'),
+        ("rust/tcap-sys/Cargo.toml", r'^version = "(.*)"'),
+        ("man/libtcap.3", r'"libtcap (\S+)"'),
+    ):
+        found = re.search(pattern, (TOP / file).read_text(), re.M)
+        compare(f"version of {file}", dotted, found and found.group(1))
+    compare("version of the library", dotted, ".".join(map(str, tcap.library_version())))
+    print("\n".join([*differences, f"names: {len(calls)} calls, {len(ENUMS)} enumerations, {len(differences)} differences"]))
+    return 1 if differences else 0
+
+
+if __name__ == "__main__":
+    sys.exit(main(sys.argv[1]))
