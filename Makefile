@@ -64,7 +64,7 @@ check: all
 	bindings/check $(OUT)
 
 # What a tarball has, besides the archive: headers, the C side, man page, bindings, examples, and what checks them.
-DIST := Makefile README.md docs/RELEASES.md include c man python rust bindings examples
+DIST := Makefile docs/RELEASES.md include c man python rust bindings examples
 dist: $(ARCHIVE)
 	rm -rf $(OUT)/dist && mkdir -p $(OUT)/dist/$(NAME)/lib
 	git ls-files -z $(DIST) | xargs -0 cp --parents -t $(OUT)/dist/$(NAME)

@@ -28,7 +28,7 @@ static unsigned long statuses[STATUSES], kinds[KINDS];
 static void *take(size_t size) { return is_refused ? NULL : malloc(size); }
 static void *grow(void *block, size_t size) { return is_refused ? NULL : realloc(block, size); }
 
-static struct side *other(struct side *of) { return of == &sides[0] ? &sides[1] : &sides[0]; }
+static struct side *other(const struct side *of) { return &sides[of == &sides[0]]; }
 
 static void print_send(struct side *s, const tcap_output *o) {
   struct message *m = &s->sent[s->count++];
@@ -267,10 +267,11 @@ static bool nine(struct side *s, char **w) {
 static bool line_is_done(char *line) {
   char *w[WORDS + 1];
   int count = 0;
-  for (char *at = line; at && count <= WORDS; count++) {
-    w[count] = at;
-    at = strchr(at, ' ');
-    if (at) *at++ = 0;
+  for (char *next = line; next && count <= WORDS; count++) {
+    w[count] = next;
+    char *space = strchr(next, ' ');
+    if (space) *space = 0;
+    next = space ? space + 1 : NULL;
   }
   if (!is_open) {
     bool is_idle = count == 2 && is(w[0], "idle");
@@ -305,15 +306,15 @@ static bool is_played(FILE *script) {
 static void write_seen(const char *name) {
   FILE *file = fopen(name, "w");
   if (!file) perror(name), exit(2);
-  for (int i = 0; i < STATUSES; i++) fprintf(file, "status %d %lu\n", i, statuses[i]);
-  for (int i = 1; i < KINDS; i++) fprintf(file, "kind %d %lu\n", i, kinds[i]);
-  fclose(file);
+  for (int i = 0; i < STATUSES; i++) (void)fprintf(file, "status %d %lu\n", i, statuses[i]);
+  for (int i = 1; i < KINDS; i++) (void)fprintf(file, "kind %d %lu\n", i, kinds[i]);
+  if (fclose(file)) perror(name), exit(2);
 }
 int main(int argc, char **argv) {
   FILE *script = argc > 1 ? fopen(argv[1], "r") : NULL;
   if (!script || tcap_set_memory(take, grow, free)) return fprintf(stderr, "play SCRIPT [SEEN]\n"), 2;
   bool is_good = is_played(script);
-  fclose(script);
+  (void)fclose(script);
   for (struct side *s = sides; s < sides + 2; s++) {
     tcap_close(s->engine);
     while (s->count) free(s->sent[--s->count].octets);

@@ -28,18 +28,19 @@ fn link_in(folder: &str, link: Option<&str>) {
 /// Links what pkg-config says.
 fn link_by_pkg_config(link: Option<&str>) {
     let tool = env::var("PKG_CONFIG").unwrap_or_else(|_| "pkg-config".into());
-    let ran = Command::new(&tool).args(["--atleast-version=0.1.0", "--libs-only-L", "--libs-only-l", "tcap"]).output();
+    let ran = Command::new(&tool).args(["--libs", "tcap >= 0.1.0"]).output();
     let words = match ran {
         Ok(ran) if ran.status.success() => String::from_utf8_lossy(&ran.stdout).into_owned(),
         Ok(ran) => fail(&format!("{}: {}", tool, String::from_utf8_lossy(&ran.stderr).trim())),
         Err(error) => fail(&format!("{}: {}", tool, error)),
     };
-    let has_static = words.split_whitespace().filter_map(|word| word.strip_prefix("-L")).any(|folder| {
+    let folders: Vec<&str> = words.split_whitespace().filter_map(|word| word.strip_prefix("-L")).collect();
+    for folder in &folders {
         println!("cargo:rustc-link-search=native={}", folder);
-        Path::new(folder).join("libtcap.a").exists()
-    });
+    }
+    let has_static = folders.iter().any(|folder| Path::new(folder).join("libtcap.a").exists());
     match link {
-        Some("static") if !has_static && words.contains("-L") => fail("pkg-config's folder has no libtcap.a"),
+        Some("static") if !has_static && !folders.is_empty() => fail("pkg-config's folder has no libtcap.a"),
         Some(kind) => println!("cargo:rustc-link-lib={}=tcap", kind),
         None => println!("cargo:rustc-link-lib=dylib=tcap"),
     }
