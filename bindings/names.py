@@ -59,6 +59,25 @@ def compare_layouts(layout: str) -> None:
         compare(struct, [line for line in printed if re.match(struct + r"\b", line)], lines)
 
 
+def compare_structs(rust: str) -> None:
+    """The fields of the structs of tcap-sys, by name and type, against those of the package."""
+    widths = {"usize": 8, "u64": 8, "u32": 4, "i32": 4, "c_int": 4, "u16": 2, "i16": 2, "u8": 1}
+    widths |= {"tcap_octets": 16, "tcap_portion": 32, "tcap_code": 24, "*const u8": 8}
+    for struct, kind in (
+        ("tcap_output", _c.Output),
+        ("tcap_limits", _c.Limits),
+        ("tcap_octets", _c.Octets),
+        ("tcap_code", _c.Code),
+        ("tcap_portion", _c.Portion),
+    ):
+        found = re.search(r"pub struct " + struct + r" \{(.*?)\n\}", rust, re.S)
+        assert found, struct
+        fields = [(name, widths[of]) for name, of in re.findall(r"pub (\w+): ([^,]+),", found.group(1))]
+        of_package = [(name.rstrip("_"), getattr(kind, name).size) for name, *_ in kind._fields_]
+        if fields != of_package:
+            differences.append(f"{struct}: {fields} in tcap-sys, {of_package} in the package")
+
+
 def main(layout: str) -> int:
     calls = set(re.findall(r"\b(tcap_[a-z_]+)\(", HEADER))
     rust = (TOP / "rust" / "tcap-sys" / "src" / "ffi.rs").read_text()
@@ -72,6 +91,7 @@ def main(layout: str) -> int:
         if enum in MODULES:
             compare(f"{enum} of Rust", numbers, constants_of(MODULES[enum]))
     compare_layouts(layout)
+    compare_structs(rust)
     version = re.search(r"#define TCAP_VERSION 0x(\d\d)(\d\d)(\d\d)u", HEADER)
     assert version
     dotted = ".".join(str(int(part, 16)) for part in version.groups())

@@ -7,6 +7,7 @@
 //! `tcap_close`, whatever other calls are made: so [`Handle::pop`] takes the handle by `&mut`, and all other calls by `&`,
 //! also [`Handle::popped`], which hands out what was popped.
 
+#![deny(unsafe_op_in_unsafe_fn)]
 #![warn(missing_docs)]
 
 pub mod ffi;
