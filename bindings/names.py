@@ -59,6 +59,49 @@ def compare_layouts(layout: str) -> None:
         compare(struct, [line for line in printed if re.match(struct + r"\b", line)], lines)
 
 
+def kind_of(declared: str) -> str:
+    """How a type of C, of ctypes or of Rust is passed."""
+    if "*" in declared or declared.startswith(("POINTER", "LP_", "Option<", "c_void_p", "c_char_p")):
+        return "pointer"
+    for names, kind in (
+        (("uint64_t", "size_t", "u64", "usize", "c_ulong"), "64"),
+        (("uint32_t", "u32", "c_uint"), "u32"),
+        (("int", "c_int", "tcap_status", "tcap_state", "tcap_termination", "tcap_abort_reason"), "int"),
+        (("tcap_octets", "Given"), "octets"),
+        (("tcap_code", "GivenCode"), "code"),
+        (("void", "NoneType", "()"), "nothing"),
+    ):
+        if declared in names:
+            return kind
+    return declared
+
+
+def c_signature(name: str) -> list[str]:
+    """How tcap.h passes the arguments of a call, and then its answer."""
+    header = re.sub(r"TCAP_MUST_CHECK|\s+", " ", HEADER)
+    found = re.search(r"(\w+) (\*?)" + name + r"\((.*?)\);", header)
+    assert found, name
+    parts = [part.strip() for part in re.split(r",(?![^()]*\))", found.group(3))]
+    passed = ["*" if "*" in part else part.removeprefix("const ").split(" ")[0] for part in parts if part != "void"]
+    return [kind_of(part) for part in [*passed, found.group(2) or found.group(1)]]
+
+
+def rust_signature(name: str, rust: str) -> list[str]:
+    """The same of tcap-sys."""
+    found = re.search(r"pub fn " + name + r"\((.*?)\)(?: -> (.*?))?;", rust, re.S)
+    assert found, name
+    passed = [part.split(":", 1)[1].strip() for part in found.group(1).split(",") if part.strip()]
+    return [kind_of(part) for part in [*passed, found.group(2) or "()"]]
+
+
+def compare_calls(rust: str) -> None:
+    """What each call takes and answers."""
+    for name, (answer, takes) in _c.CALLS.items():
+        of_python = [kind_of(getattr(of, "__name__", "")) for of in [*takes, type(None) if answer is None else answer]]
+        compare(f"{name} of the package", c_signature(name), of_python)
+        compare(f"{name} of tcap-sys", c_signature(name), rust_signature(name, rust))
+
+
 def compare_structs(rust: str) -> None:
     """The fields of the structs of tcap-sys, by name and type, against those of the package."""
     widths = {"usize": 8, "u64": 8, "u32": 4, "i32": 4, "c_int": 4, "u16": 2, "i16": 2, "u8": 1}
@@ -92,6 +135,7 @@ def main(layout: str) -> int:
             compare(f"{enum} of Rust", numbers, constants_of(MODULES[enum]))
     compare_layouts(layout)
     compare_structs(rust)
+    compare_calls(rust)
     version = re.search(r"#define TCAP_VERSION 0x(\d\d)(\d\d)(\d\d)u", HEADER)
     assert version
     dotted = ".".join(str(int(part, 16)) for part in version.groups())

@@ -120,7 +120,7 @@ CALLS: dict[str, tuple[object, list[object]]] = {
     "tcap_u_abort": (c_int, [_E, _MS, _D, c_int, Given]),
     "tcap_next": (POINTER(Output), [_E]),
     "tcap_state_of": (c_int, [_E, _D]),
-    "tcap_dialogues": (c_uint32, [_E]),
+    "tcap_dialogues": (c_size_t, [_E]),
     "tcap_due": (c_size_t, [_E, _MS]),
     "tcap_next_identifiers": (c_int, [_E, POINTER(c_uint32), POINTER(c_uint64)]),
 }

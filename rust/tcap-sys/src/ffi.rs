@@ -153,7 +153,7 @@ extern "C" {
     pub fn tcap_u_abort(engine: *mut tcap, now_ms: u64, dialogue: u32, reason: c_int, info: tcap_octets) -> c_int;
     pub fn tcap_next(engine: *mut tcap) -> *const tcap_output;
     pub fn tcap_state_of(engine: *const tcap, dialogue: u32) -> c_int;
-    pub fn tcap_dialogues(engine: *const tcap) -> u32;
+    pub fn tcap_dialogues(engine: *const tcap) -> usize;
     pub fn tcap_due(engine: *const tcap, now_ms: u64) -> usize;
     pub fn tcap_next_identifiers(engine: *const tcap, dialogue: *mut u32, number: *mut u64) -> c_int;
 }

@@ -273,7 +273,7 @@ impl Handle {
     }
 
     /// `tcap_dialogues`.
-    pub fn dialogues(&self) -> u32 {
+    pub fn dialogues(&self) -> usize {
         // SAFETY: see above.
         unsafe { ffi::tcap_dialogues(self.at()) }
     }

@@ -265,7 +265,7 @@ impl Engine {
     }
 
     /// How many dialogues stand.
-    pub fn dialogues(&self) -> u32 {
+    pub fn dialogues(&self) -> usize {
         self.handle.dialogues()
     }
 
