@@ -13,7 +13,7 @@ from . import _c, _given, _told
 from ._given import Octets
 from .errors import BadArgument, refusal
 from .outputs import Output
-from .values import AbortReason, Code, State, Status, Termination
+from .values import AbortReason, Code, State, Termination
 
 
 def status_text(status: int) -> str:
@@ -284,6 +284,3 @@ class Dialogue:
         sent if the peer knows the dialogue."""
         why = _given.choice("reason", reason, AbortReason)
         self._at("tcap_u_abort", now_ms, why, _given.octets("info", info))
-
-
-__all__ = ["Dialogue", "Engine", "Status", "library_version", "status_text"]
