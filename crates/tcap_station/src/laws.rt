@@ -7,7 +7,7 @@ ghost use Rattle.tcap_station.specs.Runs.{EachIsTakenAfter, EachIsTakenOnce};
 /// as last (our own).
 pub fn once_and_in_order()
     ensures run { EachIsTakenOnce }
-    // Whatever history the engine stood at first, these answers are the replies, and it stands at the history with these
-    // events.
+    // Whatever history the engine stood at first, these answers are the replies, and it stands at the history with
+    // these events.
     ensures history { EachIsTakenAfter }
 {}

@@ -34,8 +34,8 @@ impl<A: Allocator + Copy> Station<A> {
         timeout_ms: u64,
     ) -> Result<u64, Fault>
         ensures moves { Takes numbered result
-            (engine_move self.old.engine (Event.on_dialogue dialogue (model.Request.component (ComponentRequest.invoke id class
-            (code_parts code.entry) (option_copied parameter.entry) linked timeout_ms)))) self.old self.new }
+            (engine_move self.old.engine (Event.on_dialogue dialogue (model.Request.component (ComponentRequest.invoke id
+            class (code_parts code.entry) (option_copied parameter.entry) linked timeout_ms)))) self.old self.new }
         ensures stands { StandsTaken numbered result
             (Event.on_dialogue dialogue (model.Request.component (ComponentRequest.invoke id class
             (code_parts code.entry) (option_copied parameter.entry) linked timeout_ms))) self.old self.new }
@@ -95,8 +95,9 @@ impl<A: Allocator + Copy> Station<A> {
         parameter: Option<&[u8]>,
     ) -> Result<(), Fault>
         ensures moves { Takes queued_done result
-            (engine_move self.old.engine (Event.on_dialogue dialogue (model.Request.component (ComponentRequest.error_back id
-            (code_parts code.entry) (option_copied parameter.entry))))) self.old self.new }
+            (engine_move self.old.engine (Event.on_dialogue dialogue (model.Request.component
+            (ComponentRequest.error_back id (code_parts code.entry) (option_copied parameter.entry)))))
+            self.old self.new }
         ensures stands { StandsTaken queued_done result
             (Event.on_dialogue dialogue (model.Request.component (ComponentRequest.error_back id
             (code_parts code.entry) (option_copied parameter.entry)))) self.old self.new }

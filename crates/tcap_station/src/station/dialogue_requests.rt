@@ -163,8 +163,8 @@ impl<A: Allocator + Copy> Station<A> {
     }
 }
 
-/// Makes a place for a request of dialogue handling, whose message is to have no more octets than this. The faults of the
-/// engine come first, then `TooLong`, then `OutOfMemory`.
+/// Makes a place for a request of dialogue handling, whose message is to have no more octets than this. The faults of
+/// the engine come first, then `TooLong`, then `OutOfMemory`.
 #[inline(always)]
 fn prepare<A: Allocator + Copy>(
     engine: &Engine<A>,
