@@ -15,7 +15,8 @@ use Rattle.tcap_record.specs.Layout.{Fields, event_of}
 use Rattle.tcap_record.specs.Records.{kind_of, is_counted, is_counted_if_any, is_counted_code, is_counted_body, HasRecord}
 use Rattle.tcap_record.proofs.OctetLemmas.{both_true, true_both}
 use Rattle.tcap_record.proofs.FieldLaws.{CountedFits}
-use Rattle.tcap_record.proofs.PartLaws.{OptionFits, StringFits, BodyFits}
+use Rattle.tcap_record.proofs.PartLaws.{OptionFits}
+use Rattle.tcap_record.proofs.CodeLaws.{StringFits, BodyFits}
 use Rattle.tcap_record.proofs.KindLaws.{fit_of}
 
 -- ---- parts

@@ -9,8 +9,10 @@ use Rattle.tcap_record.specs.Fields.{Reading, pair, pair_at}
 use Rattle.tcap_record.specs.Parts
 use Rattle.tcap_record.specs.Layout.{Fields, event_of, kind_fields_at}
 use Rattle.tcap_record.specs.Records.{kind_of, fields_of}
-use Rattle.tcap_record.proofs.FieldLaws.{IsField, PairFits, CountedFits, pair_field, nothing_field}
-use Rattle.tcap_record.proofs.PartLaws.{OptionFits, StringFits, CodeFits, BodyFits, short_field, long_field, identifier_field, octet_string_field, address_field, optional_field, code_field, body_field, class_field, problem_field, ending_field, reason_field}
+use Rattle.tcap_record.proofs.FieldLaws.{IsField, CountedFits}
+use Rattle.tcap_record.proofs.ChoiceLaws.{PairFits, pair_field, nothing_field}
+use Rattle.tcap_record.proofs.PartLaws.{OptionFits, short_field, long_field, identifier_field, octet_string_field, address_field, optional_field}
+use Rattle.tcap_record.proofs.CodeLaws.{StringFits, CodeFits, BodyFits, code_field, body_field, class_field, problem_field, ending_field, reason_field}
 
 -- ---- what fits
 

@@ -1,3 +1,5 @@
+pub mod ChoiceLaws
+pub mod CodeLaws
 pub mod EventLaws
 pub mod FieldLaws
 pub mod KindLaws
@@ -5,3 +7,4 @@ pub mod KindSteps
 pub mod OctetLemmas
 pub mod PartLaws
 pub mod RecordLaws
+pub mod ReplayLemmas

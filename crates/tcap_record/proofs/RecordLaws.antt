@@ -12,7 +12,8 @@ use Rattle.tcap_record.specs.Fields.{listed, choice_at}
 use Rattle.tcap_record.specs.Layout.{Fields, event_of, kind_fields_at, event_at, event_table, version_table, versioned_at, record_at, alone, alone_at}
 use Rattle.tcap_record.specs.Records.{version, event_octet, kind_of, fields_of, record_of, log_of, AllHaveRecords, HasRecord, Begins, StopsAt, DamagedFirst, Damaged}
 use Rattle.tcap_record.proofs.OctetLemmas.{AreOctets}
-use Rattle.tcap_record.proofs.FieldLaws.{IsField, IsNaming, IsView, OfKind, Stopped, as_field, choice_field, refitted, not_both, bind_ok, bind_err, ok_is}
+use Rattle.tcap_record.proofs.FieldLaws.{IsField, IsNaming, Stopped, not_both, bind_ok, bind_err, ok_is}
+use Rattle.tcap_record.proofs.ChoiceLaws.{IsView, OfKind, as_field, choice_field, refitted}
 use Rattle.tcap_record.proofs.PartLaws.{listed_naming}
 use Rattle.tcap_record.proofs.KindLaws.{fit_of, octets_in, field_in, kind_is, octets_same}
 use Rattle.tcap_record.proofs.EventLaws.{fielded, has_record}

@@ -4,4 +4,5 @@ pub mod Layout
 pub mod Parts
 pub mod RecordViews
 pub mod Records
+pub mod Replaying
 pub mod Writing

@@ -24,6 +24,24 @@ pub enum WriteFault {
     OutOfMemory,
 }
 
+/// Why a replay stopped (our own).
+#[derive(Clone, Copy, Debug, PartialEq, Eq)]
+pub enum ReplayFault {
+    /// Memory was refused.
+    OutOfMemory {
+        /// How many events were done before.
+        done: usize,
+    },
+    /// Octets stand in the log that are no record.
+    Damaged {
+        /// How many events were done before.
+        done: usize,
+        /// How many octets of the log stand before the first that can't stand there; all of them where the log
+        /// ends within a record.
+        place: usize,
+    },
+}
+
 impl From<AllocError> for WriteFault {
     ghost from_gives = { λ _ fault. fault ≡ OutOfMemory };
 
@@ -39,6 +57,19 @@ impl fmt::Display for RecordFault {
 }
 
 impl Error for RecordFault {}
+
+impl fmt::Display for ReplayFault {
+    fn fmt<W: fmt::Write>(&self, f: &mut fmt::Formatter<W>) -> fmt::Result {
+        match self {
+            ReplayFault::OutOfMemory { done } => write!(f, "out of memory after {done} events"),
+            ReplayFault::Damaged { done, place } => {
+                write!(f, "no record after {done} events: octet {place}")
+            }
+        }
+    }
+}
+
+impl Error for ReplayFault {}
 
 impl fmt::Display for WriteFault {
     ghost use Rattle.std.specs.Prelude.{Some};

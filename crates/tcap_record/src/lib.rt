@@ -10,9 +10,11 @@ mod kind;
 pub mod laws;
 mod reading;
 mod recorded;
+mod replaying;
 mod writing;
 
-pub use fault::{RecordFault, WriteFault};
+pub use fault::{RecordFault, ReplayFault, WriteFault};
 pub use reading::{read, read_first};
 pub use recorded::Recorded;
+pub use replaying::replay;
 pub use writing::{record_len, write};
