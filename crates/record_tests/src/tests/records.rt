@@ -1,0 +1,208 @@
+//! The record of an event of each kind, as the table of docs/FORMATS.md has it; the octets were written by hand.
+
+use std::alloc::Global;
+use std::test::Fail;
+use tcap_component::{Body, Code, Kind, Problem};
+use tcap_engine::{
+    AbortRequest, AbortWhy, Address, BeginRequest, CancelRequest, ContinueRequest, EndRequest,
+    Ending, ErrorRequest, Event, InvokeRequest, RejectRequest, ResultRequest, UniRequest,
+};
+use tcap_invocation::Class;
+use tcap_record::{read, record_len, write};
+
+/// The octets that a text spells in hexadecimal, with spaces between the fields.
+pub(super) fn octets_of(alloc: Global, text: &str) -> Option<Vec<u8>> {
+    let mut octets = Vec::new(alloc);
+    for field in text.split(' ') {
+        let more = hex::decode(alloc, field).ok()?;
+        octets.extend_from_slice(more.as_slice()).ok()?;
+    }
+    Some(octets)
+}
+
+/// Whether the event has this record, which is as long as it says, and is read from it.
+fn has_record(alloc: Global, event: &Event<'_>, text: &str) -> Option<bool> {
+    let wanted = octets_of(alloc, text)?;
+    let mut octets = Vec::new(alloc);
+    write(event, &mut octets).ok()?;
+    let recorded = read(wanted.as_slice()).ok()?;
+    Some(
+        octets.as_slice() == wanted.as_slice()
+            && record_len(event) == Some(wanted.len())
+            && recorded.event() == *event,
+    )
+}
+
+/// Whether each event has the record beside it.
+fn have_records(alloc: Global, rows: &[(Event<'_>, &str)]) -> bool {
+    let mut good = true;
+    for (event, text) in rows {
+        good &= has_record(alloc, event, text) == Some(true);
+    }
+    good
+}
+
+#[test]
+fn component_requests(rt: HostRuntime) -> Result<(), Fail> {
+    let problem = Problem::new(Kind::Invoke, 127).ok_or("a problem")?;
+    let rows = [
+        (
+            Event::Invoke(
+                7,
+                InvokeRequest {
+                    id: -1,
+                    class: Class::One,
+                    code: Code::Local(56),
+                    parameter: Some(&[0x04, 0x01, 0xaa]),
+                    linked: None,
+                    timeout_ms: 5000,
+                },
+            ),
+            "01 02 00000007 ff 01 00 00000038 01 00000003 0401aa 00 0000000000001388",
+        ),
+        (
+            Event::Invoke(
+                4_294_967_295,
+                InvokeRequest {
+                    id: 127,
+                    class: Class::Four,
+                    code: Code::Global(&[0x2a, 0x03]),
+                    parameter: None,
+                    linked: Some(-128),
+                    timeout_ms: 18_446_744_073_709_551_615,
+                },
+            ),
+            "01 02 ffffffff 7f 04 01 00000002 2a03 00 01 80 ffffffffffffffff",
+        ),
+        (
+            Event::ResultLast(
+                1,
+                ResultRequest {
+                    id: 5,
+                    body: Some(Body {
+                        code: Code::Local(-2),
+                        parameter: None,
+                    }),
+                },
+            ),
+            "01 03 00000001 05 01 00 fffffffe 00",
+        ),
+        (
+            Event::ResultMore(256, ResultRequest { id: 0, body: None }),
+            "01 04 00000100 00 00",
+        ),
+        (
+            Event::ErrorBack(
+                2,
+                ErrorRequest {
+                    id: -128,
+                    code: Code::Local(2_147_483_647),
+                    parameter: Some(&[]),
+                },
+            ),
+            "01 05 00000002 80 00 7fffffff 01 00000000",
+        ),
+        (
+            Event::Reject(3, RejectRequest { id: None, problem }),
+            "01 06 00000003 00 01 7f",
+        ),
+        (
+            Event::Reject(
+                3,
+                RejectRequest {
+                    id: Some(9),
+                    problem,
+                },
+            ),
+            "01 06 00000003 01 09 01 7f",
+        ),
+        (
+            Event::Cancel(4, CancelRequest { id: 1 }),
+            "01 07 00000004 01",
+        ),
+    ];
+    assert!(rt; have_records(rt.alloc(), &rows));
+    Ok(())
+}
+
+#[test]
+fn other_events(rt: HostRuntime) -> Result<(), Fail> {
+    let none = Address::empty();
+    let to = Address::new(&[0x42]).ok_or("an address")?;
+    let from = Address::new(&[0x01, 0x02]).ok_or("an address")?;
+    let context: &[u8] = &[0x04, 0x00, 0x00, 0x01, 0x00, 0x19, 0x02];
+    let rows = [
+        (Event::NewDialogue, "01 01"),
+        (
+            Event::Uni(
+                5,
+                UniRequest {
+                    to: &none,
+                    context: Some(&[]),
+                    info: &[0x28, 0x00],
+                },
+            ),
+            "01 08 00000005 00 01 00000000 00000002 2800",
+        ),
+        (
+            Event::Begin(
+                1,
+                BeginRequest {
+                    to: &to,
+                    context: Some(context),
+                    info: &[],
+                },
+            ),
+            "01 09 00000001 01 42 01 00000007 04000001001902 00000000",
+        ),
+        (
+            Event::Continue(
+                6,
+                ContinueRequest {
+                    context: None,
+                    info: &[0x28],
+                },
+            ),
+            "01 0a 00000006 00 00000001 28",
+        ),
+        (
+            Event::End(
+                9,
+                EndRequest {
+                    ending: Ending::Basic,
+                    context: None,
+                    info: &[],
+                },
+            ),
+            "01 0b 00000009 00 00 00000000",
+        ),
+        (
+            Event::End(
+                0,
+                EndRequest {
+                    ending: Ending::Prearranged,
+                    context: None,
+                    info: &[],
+                },
+            ),
+            "01 0b 00000000 01 00 00000000",
+        ),
+        (
+            Event::Abort(
+                8,
+                AbortRequest {
+                    why: AbortWhy::NotSupported,
+                    info: &[],
+                },
+            ),
+            "01 0c 00000008 01 00000000",
+        ),
+        (Event::Bytes(&from, &[0x64]), "01 0d 02 0102 00000001 64"),
+        (
+            Event::Moment(4_611_686_018_427_387_904),
+            "01 0e 4000000000000000",
+        ),
+    ];
+    assert!(rt; have_records(rt.alloc(), &rows));
+    Ok(())
+}
