@@ -1,0 +1,9 @@
+-- What C's arguments were read as.
+use Rattle.std.proofs.Common.{◌≡◌, Option, Some, sym, ap, ◌∙◌, subst}
+use Rattle.std.specs.Prelude.{IfSome}
+use Rattle.std.specs.Option.{option_map}
+
+-- what holds of what was read holds, as its view says it
+pub if_read : {X Y : Type 0} (view : X → Y) (P : Y → Type 0) (said : Option Y) (found : Option X) (x : X)
+    → option_map view found ≡ said → found ≡ Some x → P (view x) → IfSome said P
+if_read view P said found x same is p = subst (λ f. IfSome f P) (sym (ap (option_map view) is) ∙ same) p

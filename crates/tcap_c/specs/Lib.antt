@@ -1,0 +1,15 @@
+pub mod Arguments
+pub mod Handle
+pub mod Kinds
+pub mod Numbers
+pub mod Opening
+pub mod PartViews
+pub mod Parts
+pub mod Reading
+pub mod ReadingBack
+pub mod Room
+pub mod Shows
+pub mod Status
+pub mod StateNumbers
+pub mod StepForm
+pub mod Writes

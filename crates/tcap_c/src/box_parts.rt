@@ -1,0 +1,38 @@
+//! A box as its pointer and its allocator, which still own what the box owned.
+
+ghost use Rattle.std.specs.Prelude.{◌≡◌};
+ghost use Rattle.std.specs.Box.Ownership.{box_owns};
+
+use std::alloc::Allocator;
+use std::marker::Model;
+
+/// The parts of a box, by which a struct of C can carry it.
+pub(crate) struct BoxParts<T, A: Allocator> {
+    pub(crate) at: *mut T,
+    pub(crate) alloc: A,
+    pub(crate) ghost value: { T },
+}
+
+impl<T, A: Allocator> Model for BoxParts<T, A> {
+    ghost also_owns = { λ p. box_owns (A.dealloc_token p.alloc) T.row p.at p.value };
+}
+
+impl<T, A: Allocator> BoxParts<T, A> {
+    /// The parts of a box.
+    pub(crate) fn of(whole: Box<T, A>) -> BoxParts<T, A>
+    where
+        T: Drop,
+        ensures { result.value ≡ whole.value }
+    {
+        let (at, alloc) = Box::into_raw_with_allocator(whole);
+        BoxParts { at, alloc }
+    }
+
+    /// The box of its parts.
+    pub(crate) fn into_box(self) -> Box<T, A>
+        ensures { result.value ≡ self.value }
+    {
+        let BoxParts { at, alloc } = self;
+        unsafe { Box::from_raw(alloc, at) }
+    }
+}

@@ -1,0 +1,120 @@
+//! An output as C sees it: its numbers, and how many octets it has.
+
+ghost use Rattle.std.specs.Prelude.{◌≡◌};
+ghost use Rattle.tcap_c.specs.Numbers.{bare, no_lengths};
+
+use crate::output_kind::OutputKind;
+
+/// In place of an invoke identifier, -128 to 127: none (our own).
+pub(crate) const NO_ID: i16 = 256;
+
+/// How many octets each part of an output has, in the order in which they stand in the room.
+#[repr(C)]
+#[derive(Clone, Copy)]
+pub struct PartLengths {
+    /// The address to which a message goes.
+    pub address: usize,
+    /// The message that is sent.
+    pub message: usize,
+    /// The contents octets of the application context name.
+    pub context: usize,
+    /// The user information.
+    pub info: usize,
+    /// The contents octets of a global operation or error code.
+    pub global: usize,
+    /// The octets of the parameter's element.
+    pub parameter: usize,
+}
+
+/// An output as numbers; what its kind doesn't have is 0, and an identifier `NO_ID`. Its octets stand at the front
+/// of the room (our own).
+#[repr(C)]
+#[derive(Clone, Copy)]
+pub struct OutputNumbers {
+    /// The number of the invocation, that the TC-INVOKE request answered.
+    pub number: u64,
+    /// The number of the event that it answers, from 1 on.
+    pub event: u64,
+    pub lengths: PartLengths,
+    /// The identifier of the dialogue.
+    pub dialogue: u32,
+    /// A local operation or error code.
+    pub local: i32,
+    /// Invoke identifier, -128 to 127.
+    pub invoke_id: i16,
+    /// Linked identifier, -128 to 127.
+    pub linked_id: i16,
+    /// A problem: 256 times its kind, 0 general, 1 invoke, 2 return result, 3 return error, and its code (Q.773,
+    /// Problem).
+    pub problem: u16,
+    /// The P-Abort cause, or 256 abnormal dialogue, 257 no common dialogue, 258 idle; or why a message is dropped.
+    pub cause: u16,
+    /// The result source diagnostic of an AARE, 256 more where the provider gives it.
+    pub diagnostic: u16,
+    /// What it is, 1 to 18.
+    pub kind: u8,
+    /// The dialogue PDU of a TC-U-ABORT: 0 none, 1 AARQ, 2 AUDT, 3 AARE, 4 ABRT, 5 an EXTERNAL of another syntax.
+    pub pdu: u8,
+    /// 0: no code; 1: a local one; 2: a global one.
+    pub code_kind: u8,
+    /// It closes the invocation.
+    pub closes: bool,
+    /// It is the last output of its event.
+    pub is_last: bool,
+    pub has_dialogue: bool,
+    pub has_context: bool,
+    pub has_parameter: bool,
+    /// Protocol version 1 is among the versions of the dialogue PDU.
+    pub is_version1: bool,
+    /// The AARE accepts.
+    pub is_accepted: bool,
+    /// The ABRT is by the dialogue service provider.
+    pub is_by_provider: bool,
+}
+
+impl OutputNumbers {
+    /// An output of this kind, of which nothing else is said.
+    pub(crate) fn bare(kind: OutputKind) -> OutputNumbers
+        ensures { result ≡ bare kind }
+    {
+        OutputNumbers {
+            number: 0,
+            event: 0,
+            lengths: PartLengths::none(),
+            dialogue: 0,
+            local: 0,
+            invoke_id: NO_ID,
+            linked_id: NO_ID,
+            problem: 0,
+            cause: 0,
+            diagnostic: 0,
+            kind: kind.number(),
+            pdu: 0,
+            code_kind: 0,
+            closes: false,
+            is_last: false,
+            has_dialogue: false,
+            has_context: false,
+            has_parameter: false,
+            is_version1: false,
+            is_accepted: false,
+            is_by_provider: false,
+        }
+    }
+}
+
+impl PartLengths {
+    /// No octets.
+    fn none() -> PartLengths
+        ensures { result ≡ no_lengths }
+    {
+        PartLengths {
+            address: 0,
+            message: 0,
+            context: 0,
+            info: 0,
+            global: 0,
+            parameter: 0,
+        }
+    }
+}
