@@ -11,7 +11,7 @@ ghost use Rattle.tcap_model.specs.Words.Request.{DialogueRequest};
 ghost use Rattle.tcap_primitives.specs.FaultViews.{fault_view};
 ghost use Rattle.tcap_primitives.specs.RequestViews.{ending_view, reason_view, request_view};
 ghost use Rattle.tcap_station.specs.HistoryForm.{StandsTold};
-ghost use Rattle.tcap_station.specs.Station.{sends_above};
+ghost use Rattle.tcap_station.specs.Station.{is_above, sends_above};
 ghost use Rattle.tcap_station.specs.StepForm.{IsRefusalWithin, TakesWithin};
 
 use super::Station;
@@ -163,6 +163,17 @@ impl<A: Allocator + Copy> Station<A> {
     }
 }
 
+/// Whether a message has more octets than this, if there is one.
+#[inline(always)]
+fn is_above(length: Option<usize>, max_message: usize) -> bool
+    ensures { result ≡ is_above max_message length }
+{
+    match length {
+        None => false,
+        Some(count) => count > max_message,
+    }
+}
+
 /// Makes a place for a request of dialogue handling, whose message is to have no more octets than this. The faults of
 /// the engine come first, then `TooLong`, then `OutOfMemory`.
 #[inline(always)]
@@ -184,7 +195,7 @@ fn prepare<A: Allocator + Copy>(
         IfErr result (λ f. IsRefusalWithin max_message (fault_view f) a) }
 {
     let length = engine.message_length(dialogue, request)?;
-    if length.is_some_and(|count| count > max_message) {
+    if is_above(length, max_message) {
         return Err(Fault::TooLong);
     }
     if !has_place(marks) && (length.is_some() || engine.ended_by(dialogue, request) > 0) {

@@ -1,13 +1,7 @@
-use Rattle.std.proofs.Common.{inl, rules}
+use Rattle.std.proofs.Common.{inl}
 use Rattle.std.proofs.lemmas.Result.{err_from_is_err_and}
 use Rattle.tcap_station.proofs.station.dialogue_requests.prepare.Goals as goal
 
 pub returns-in_err-length-clause-err : goal.returns-in_err-length-clause-err
 returns-in_err-length-clause-err g c =
     let p = err_from_is_err_and c.from_residual.result c.from_residual.ensures.1 in rw (p.1, p.2) (inl c.in_err-length.ensures.err)
-
-pub returns-in_ok-make_place-clause-within : goal.returns-in_ok-make_place-clause-within
-returns-in_ok-make_place-clause-within g c = search rules
-
-pub returns-else-not-has_place-clause-within : goal.returns-else-not-has_place-clause-within
-returns-else-not-has_place-clause-within g c = search rules
