@@ -1,8 +1,11 @@
 -- Events that follow one another, whose outputs are appended.
-use Rattle.std.proofs.Common.{◌≡◌, ◌∙◌, refl, sym, ap, subst, false, List, [], ◌∷◌, ◌++◌, Result, Ok, Err, IfOk}
+use Rattle.std.proofs.Common.{rules, ◌≡◌, ◌∙◌, refl, sym, ap, subst, false, List, [], ◌∷◌, ◌++◌, length, map, Option, Result, Ok, Err, IfOk, IfSome}
 use Rattle.std.specs.Result.{is_err}
 use Rattle.ber_core.specs.declared.fault.OutOfMemory.{OutOfMemory}
 use Rattle.std.proofs.lemmas.List.{append-nil, flat_map_more}
+use Rattle.std.proofs.lemmas.Option.{slice_get-map, slice_get_past}
+use Rattle.std.specs.List.{slice_get}
+use Rattle.std.specs.Option.{option_map}
 use Rattle.tcap_engine.proofs.RunLemmas.{after_events-append, engine_run-append, joined, replies-append}
 use Rattle.tcap_engine.proofs.StandingLemmas.{headline}
 use Rattle.tcap_engine.specs.EventViews.{answered_view}
@@ -75,3 +78,10 @@ pub through-into-next : (h : History) (es : List Event) (e : Event) (middle new 
     → ReceivedOn (answered_view (told_since between after)) r (after_events h es) e new → StandsThroughInto h (es ++ e ∷ []) new before after
 through-into-next h es e middle new before between after (Ok a) ok through kept told stands = through-into-more h es e middle new before between after (answered_view (told_since between after) a) through kept told stands
 through-into-next h es e middle new before between after (Err refused) ok through kept told stands = absurd cc
+
+-- ---- where a run ends
+
+-- Behind the last none is found.
+pub ends-behind : {X : Type 0} → (P : Event → Type 0) (view : X → Event) (xs : List X) → IfSome (slice_get (map view xs) (length xs)) P
+ends-behind P view xs =
+    subst (λ (o : Option Event). IfSome o P) (sym (slice_get-map view xs (length xs) ∙ ap (λ (o : Option _). option_map view o) (slice_get_past xs (length xs) (search rules)))) tt

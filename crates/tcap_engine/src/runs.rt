@@ -1,10 +1,11 @@
 //! Events, one after the other.
 
-ghost use Rattle.std.specs.Prelude.{◌≡◌, ◌≤◌, ◌<◌, ◌+◌, ◌∷◌, [], length, take, OnErr, OnOk};
+ghost use Rattle.std.specs.Prelude.{◌≡◌, ◌≤◌, ◌<◌, ◌+◌, ◌∷◌, [], length, slice_get, take, IfSome, OnErr, OnOk};
 ghost use Rattle.tcap_engine.specs.EventViews.{answers_view, event_view, events_view};
 ghost use Rattle.tcap_engine.specs.HistoryForm.{Headline};
-ghost use Rattle.tcap_engine.specs.Running.{Runs, RunsInto, StandsThrough, StandsThroughInto, after_events, done};
+ghost use Rattle.tcap_engine.specs.Running.{MayWant, Runs, RunsInto, StandsThrough, StandsThroughInto, after_events, done};
 ghost use Rattle.tcap_model.specs.Histories.History.{History};
+ghost use Rattle.tcap_model.specs.Table.EngineMove.{engine_move};
 ghost use Rattle.tcap_model.specs.Table.World.{StandsAt};
 
 use crate::engine::Engine;
@@ -90,6 +91,9 @@ pub fn run_into<A: Allocator + Copy>(
     outbox: &mut Outbox<A>,
 ) -> usize
     ensures within { result ≤ length events.now }
+    // Where events are left, memory may be refused to the next one: it is no refusal, and something is kept or told.
+    ensures memory { IfSome (slice_get (events_view events.now) result)
+        (λ event. MayWant event (engine_move engine.new event).answer) }
     ensures moves { RunsInto engine.old (take result (events_view events.now)) engine.new
         outbox.old.outputs outbox.new.outputs }
     // Whatever legal history the engine stood at: what the replies tell, and the history that it stands at then.
@@ -110,6 +114,9 @@ fn run_each_into<A: Allocator + Copy>(
     outbox: &mut Outbox<A>,
 ) -> usize
     ensures within { result ≤ length events.now }
+    // Where events are left, memory may be refused to the next one: it is no refusal, and something is kept or told.
+    ensures memory { IfSome (slice_get (events_view events.now) result)
+        (λ event. MayWant event (engine_move engine.new event).answer) }
     ensures moves { RunsInto engine.old (take result (events_view events.now)) engine.new
         outbox.old.outputs outbox.new.outputs }
     ensures stands { (h : History) → StandsAt h engine.old

@@ -1,9 +1,10 @@
 use Rattle.std.proofs.Common.{◌≡◌, ◌∙◌, ◌+◌, ◌++◌, ◌∷◌, [], false, take, List, subst, sym}
 use Rattle.std.specs.Result.{is_err}
 use Rattle.tcap_engine.specs.EventViews.{event_view, events_view}
-use Rattle.tcap_engine.specs.Running.{RunsInto, StandsThroughInto, after_events}
-use Rattle.tcap_engine.proofs.RunIntoLemmas.{into-next, none-into, none-through-into, through-into-next}
+use Rattle.tcap_engine.specs.Running.{MayWant, RunsInto, StandsThroughInto, after_events}
+use Rattle.tcap_engine.proofs.RunIntoLemmas.{ends-behind, into-next, none-into, none-through-into, through-into-next}
 use Rattle.tcap_engine.proofs.RunLemmas.{one-more}
+use Rattle.tcap_model.specs.Table.EngineMove.{engine_move}
 use Rattle.tcap_model.specs.Words.Event.{Event}
 use Rattle.tcap_engine.proofs.runs.run_each_into.Goals as goal
 
@@ -33,3 +34,6 @@ loop-done-preserved g c =
           subst (λ (xs : List Event). StandsThroughInto h xs new before after) (sym more)
           (through-into-next h es e loop.engine new before between after c.handle_into.result ok through one.kept one.told (one.stands (after_events h es) through.stands));
     }
+
+pub returns-clause-memory : goal.returns-clause-memory
+returns-clause-memory g c = ends-behind (λ (event : Event). MayWant event (engine_move c.loop-done.engine event).answer) event_view c.args.events.now
