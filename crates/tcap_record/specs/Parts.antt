@@ -157,7 +157,8 @@ kind_octet problem_kind.Error = 3
 
 -- The kinds of problem by their octets (own).
 abbrev pub kind_table : List (ℕ × Kind)
-kind_table = (0, problem_kind.General) ∷ (1, problem_kind.Invoke) ∷ (2, problem_kind.Result) ∷ (3, problem_kind.Error) ∷ []
+kind_table =
+    (0, problem_kind.General) ∷ (1, problem_kind.Invoke) ∷ (2, problem_kind.Result) ∷ (3, problem_kind.Error) ∷ []
 
 -- The kind of a problem, read (own).
 abbrev pub kind_at : List ℕ → Reading Kind

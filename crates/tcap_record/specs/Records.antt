@@ -55,7 +55,8 @@ kind_of (moment now) = kind.Moment
 abbrev pub fields_of : Event → List ℕ
 fields_of new_dialogue = []
 fields_of (on_dialogue d (component (invoke id c op parameter linked timeout))) =
-    short d ++ (identifier id ++ (class c ++ (code op ++ (optional octet_string parameter ++ (optional identifier linked ++ long timeout)))))
+    short d ++ (identifier id ++ (class c ++ (code op
+    ++ (optional octet_string parameter ++ (optional identifier linked ++ long timeout)))))
 fields_of (on_dialogue d (component (result_last id given))) = short d ++ (identifier id ++ optional body given)
 fields_of (on_dialogue d (component (result_more id given))) = short d ++ (identifier id ++ optional body given)
 fields_of (on_dialogue d (component (error_back id c parameter))) =
@@ -66,7 +67,8 @@ fields_of (on_dialogue d (dialogue (uni to context info))) =
     short d ++ (address to ++ (optional octet_string context ++ octet_string info))
 fields_of (on_dialogue d (dialogue (begin to context info))) =
     short d ++ (address to ++ (optional octet_string context ++ octet_string info))
-fields_of (on_dialogue d (dialogue (go_on context info))) = short d ++ (optional octet_string context ++ octet_string info)
+fields_of (on_dialogue d (dialogue (go_on context info))) =
+    short d ++ (optional octet_string context ++ octet_string info)
 fields_of (on_dialogue d (dialogue (finish how context info))) =
     short d ++ (ending how ++ (optional octet_string context ++ octet_string info))
 fields_of (on_dialogue d (dialogue (u_abort why info))) = short d ++ (reason why ++ octet_string info)

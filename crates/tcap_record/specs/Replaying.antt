@@ -14,8 +14,8 @@ use Rattle.tcap_record.specs.Records.{record_of, log_of, HasRecord, AllHaveRecor
 
 -- ---- one event
 
--- An event was handed to an engine: it is what the event makes of it, and whatever history it stood at, it stands at the
--- history with the event and its reply (own).
+-- An event was handed to an engine: it is what the event makes of it, and whatever history it stood at, it
+-- stands at the history with the event and its reply (own).
 pub record HandedOn (event : Event) (old new : World) : Type 0 where
   pub moved : new ≡ (engine_move old event).after
   pub stands : (h : History) → StandsAt h old → StandsAt (with_pair h event) new

@@ -19,5 +19,6 @@ pub fn one_log()
 
 /// Octets stop beginning a record at one place.
 pub fn one_place()
-    ensures { (octets : List ℕ) (place other : ℕ) → StopsAt octets place → StopsAt octets other → place ≡ other }
+    ensures { (octets : List ℕ) (place other : ℕ) → StopsAt octets place → StopsAt octets other
+        → place ≡ other }
 {}
