@@ -14,7 +14,7 @@ use Rattle.tcap_record.specs.Records.{record_of, log_of, HasRecord, AllHaveRecor
 use Rattle.tcap_record.specs.declared.fault.ReplayFault.{ReplayFault}
 use Rattle.tcap_record.specs.declared.replaying.Stop.{Stop}
 use Rattle.tcap_record.specs.declared.replaying.Stop.TheVariants as stops
-use Rattle.tcap_record.specs.Replaying.{ReplayedOne, Replayed, StopsStep, StopsReplay, PlaceFits, fault_from}
+use Rattle.tcap_record.specs.Replaying.{PlaceFits, Replayed, ReplayedOne, StopsReplay, StopsStep, WantsFirst, fault_from}
 use Rattle.tcap_record.proofs.RecordLaws.{one_log}
 
 run-one : (w : World) (es : List Event) (e : Event) → (engine_run w (es ++ (e ∷ []))).after ≡ (engine_move (engine_run w es).after e).after
@@ -107,7 +107,7 @@ pub stops-replay : (stop : Stop) (log rest : List ℕ) (done : ℕ) (old middle 
     → 0 < length rest → StopsStep stop rest middle new → StopsReplay (fault_from stop done (length log - length rest)) log old new
 stops-replay stops.OutOfMemory log rest done old middle new so_far more s =
     let r : Replayed log done rest old new = subst (λ (w : World). Replayed log done rest old w) (sym s.0) so_far in
-    (rest, r, s.1)
+    (rest, r, subst (λ (w : World). WantsFirst rest w) (sym s.0) s.1)
 stops-replay (stops.Damaged offset) log rest done old middle new so_far more s =
     let r : Replayed log done rest old new = subst (λ (w : World). Replayed log done rest old w) (sym s.0) so_far in
     (rest, r, more, (offset, refl, s.1))

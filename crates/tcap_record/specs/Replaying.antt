@@ -1,6 +1,6 @@
 -- A log of events, handed to an engine.
 use Rattle.std.specs.Prelude.{◌≡◌, ℕ, ◌+◌, ◌-◌, ◌^◌, ◌<◌, List, ◌++◌, length}
-use Rattle.tcap_engine.specs.Running.{engine_run, after_events}
+use Rattle.tcap_engine.specs.Running.{MayWant, engine_run, after_events}
 use Rattle.tcap_model.specs.Histories.History.{History}
 use Rattle.tcap_model.specs.Statements.EngineMoves.{with_pair}
 use Rattle.tcap_model.specs.Table.EngineMove.{engine_move}
@@ -27,11 +27,19 @@ pub record ReplayedOne (log rest : List ℕ) (old new : World) : Type 0 where
   pub is_log : log ≡ record_of event ++ rest
   pub handed_on : HandedOn event old new
 
+-- The record of an event stands first in a log, and memory may be refused to it: the engine doesn't refuse it, and
+-- keeps or tells something (own).
+pub record WantsFirst (log : List ℕ) (engine : World) : Type 0 where
+  pub event : Event
+  pub behind : List ℕ
+  pub has_record : HasRecord event
+  pub is_log : log ≡ record_of event ++ behind
+  pub may_want : MayWant event (engine_move engine event).answer
+
 -- The first record of a log was not replayed, and the engine is as it was: memory was refused to its event, or the
 -- octets stop beginning a record at this place (own).
 abbrev pub StopsStep : Stop → List ℕ → World → World → Type 0
-StopsStep stops.OutOfMemory log old new =
-    (new ≡ old) × ((event : Event) × (rest : List ℕ) × HasRecord event × (log ≡ record_of event ++ rest))
+StopsStep stops.OutOfMemory log old new = (new ≡ old) × WantsFirst log old
 StopsStep (stops.Damaged offset) log old new = (new ≡ old) × DamagedFirst log offset
 
 -- ---- a log
@@ -50,8 +58,7 @@ pub record Replayed (log : List ℕ) (count : ℕ) (rest : List ℕ) (old new : 
 -- there that are no record from this place of the log on (own).
 abbrev pub StopsReplay : ReplayFault → List ℕ → World → World → Type 0
 StopsReplay (faults.OutOfMemory done) log old new =
-    (rest : List ℕ) × Replayed log done rest old new
-    × ((event : Event) × (behind : List ℕ) × HasRecord event × (rest ≡ record_of event ++ behind))
+    (rest : List ℕ) × Replayed log done rest old new × WantsFirst rest new
 StopsReplay (faults.Damaged done place) log old new =
     (rest : List ℕ) × Replayed log done rest old new × (0 < length rest)
     × ((offset : ℕ) × (place ≡ (length log - length rest) + offset) × DamagedFirst rest offset)

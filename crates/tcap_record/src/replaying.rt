@@ -2,7 +2,8 @@
 
 ghost use Rattle.std.specs.Prelude.{◌≡◌, ◌++◌, [], List, IfErr, IfOk, OnOk, OnErr};
 ghost use Rattle.tcap_engine.specs.EventViews.{event_view};
-ghost use Rattle.tcap_engine.specs.Running.{Runs};
+ghost use Rattle.tcap_engine.specs.Running.{MayWant, Runs};
+ghost use Rattle.tcap_model.specs.Table.EngineMove.{engine_move};
 ghost use Rattle.tcap_model.specs.Table.World.{World};
 ghost use Rattle.tcap_model.specs.Words.Answer.{Answer};
 ghost use Rattle.tcap_model.specs.Words.Event as model;
@@ -50,6 +51,8 @@ fn hand_on<A: Allocator + Copy>(
 ) -> Result<(), OutOfMemory>
     ensures ok { OnOk result (HandedOn (event_view event.now) engine.old engine.new) }
     ensures err { OnErr result (engine.new ≡ engine.old) }
+    ensures memory { OnErr result (MayWant (event_view event.now)
+        (engine_move engine.old (event_view event.now)).answer) }
 {
     engine.handle(event)?;
     Ok(())

@@ -1,4 +1,4 @@
--- The events of which outputs wait.
+-- The events of which outputs wait: what private steps do to them.
 use Rattle.std.specs.Prelude.{◌≡◌, ℕ, ◌<◌, ◌≤◌, zero, suc, List, [], ◌∷◌, ◌++◌, length, take, drop}
 use Rattle.tcap_model.specs.Words.Output.{Output}
 use Rattle.tcap_station.specs.WaitingOutput.{WaitingOutput, numbered_outputs}

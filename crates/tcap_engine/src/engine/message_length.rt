@@ -15,9 +15,8 @@ use std::alloc::Allocator;
 use tcap_dialogue::{Fault, Request};
 
 impl<A: Allocator + Copy> Engine<A> {
-    /// How many octets the message has that this request would send now, `None` where it sends none, as those of
-    /// component handling do. Faults: `UnknownDialogue`, and those of a request of dialogue handling but
-    /// `OutOfMemory`. Nothing changes, and it takes no memory (our own).
+    /// How many octets the message has that this request would send now, `None` where it sends none. Faults:
+    /// `UnknownDialogue`, and those of the request but `OutOfMemory`. Nothing changes, and it takes no memory (our own).
     // Where the request is known, the match on it folds away.
     #[inline(always)]
     pub fn message_length(
