@@ -19,4 +19,5 @@ mod sinks;
 mod spares;
 mod subject;
 mod vectors;
+mod waiting;
 mod words;

@@ -5,7 +5,7 @@ use super::examples::{
     ADDRESSES, ALTERNATIVES, CALLS, CODEC, DIALOGUES, FEEDS, IDLE, INVOCATIONS, MESSAGES, OUTCOMES,
     REQUESTS,
 };
-use super::played::{Player, Refusal, growths, play};
+use super::played::{Calls, Player, Refusal, growths, play};
 use super::runs::{Gathering, run_growths};
 use super::subject::Heap;
 use refusing::Refusing;
@@ -40,6 +40,8 @@ enum Way {
     Told,
     /// Line by line too, of an engine that is called with an outbox.
     Appended,
+    /// Line by line too, of a station.
+    Waiting,
     /// Its events by `run`.
     Handed,
     /// Its events by `run_into`.
@@ -48,16 +50,18 @@ enum Way {
 
 /// How many growths an example has; nothing where it doesn't come out as it stands.
 fn growths_by(alloc: Global, heap: Heap<'_>, way: Way, example: &str) -> Option<u64> {
-    match way {
+    let calls = match way {
         Way::Handed => return run_growths(alloc, heap, Gathering::Answers, example),
         Way::HandedInto => return run_growths(alloc, heap, Gathering::Outputs, example),
-        Way::Told | Way::Appended => {}
-    }
+        Way::Told => Calls::Answered,
+        Way::Appended => Calls::Appended,
+        Way::Waiting => Calls::Waiting,
+    };
     let player = Player {
         alloc,
         heap,
         refusal: Refusal::FirstOfEachCall,
-        has_outbox: matches!(way, Way::Appended),
+        calls,
     };
     play(player, example)?;
     growths(player, example)
@@ -121,6 +125,18 @@ fn outboxes_with_each_growth_refused(rt: HostRuntime) -> Result<(), Fail> {
     let alloc = rt.alloc();
     let texts = [MESSAGES, OUTCOMES, REQUESTS, IDLE, ADDRESSES];
     let Total { examples, growths } = total_of(alloc, Way::Appended, texts.as_slice())?;
+    assert!(rt;
+        examples == 53 && growths > 400,
+        "{examples} examples, {growths} growths"
+    );
+    Ok(())
+}
+
+#[test]
+fn stations_with_each_growth_refused(rt: HostRuntime) -> Result<(), Fail> {
+    let alloc = rt.alloc();
+    let texts = [MESSAGES, OUTCOMES, REQUESTS, IDLE, ADDRESSES];
+    let Total { examples, growths } = total_of(alloc, Way::Waiting, texts.as_slice())?;
     assert!(rt;
         examples == 53 && growths > 400,
         "{examples} examples, {growths} growths"

@@ -48,7 +48,7 @@ fn call<A: Allocator + Copy>(
 }
 
 /// Adds an output that an outbox holds.
-fn add_kept(alloc: Global, told: &mut String, output: OutputRef<'_>) -> Option<()> {
+pub(super) fn add_kept(alloc: Global, told: &mut String, output: OutputRef<'_>) -> Option<()> {
     match output {
         OutputRef::Send { to, bytes } => add_sent(alloc, told, &Address::new(to)?, bytes),
         OutputRef::Indication(indication) => {

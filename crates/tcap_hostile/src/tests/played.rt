@@ -14,6 +14,17 @@ pub(super) enum Refusal {
     FirstOfEachCall,
 }
 
+/// How an engine is called.
+#[derive(Clone, Copy)]
+pub(super) enum Calls {
+    /// By the calls that answer their outputs.
+    Answered,
+    /// With an outbox.
+    Appended,
+    /// In a station, from whose front its outputs are taken.
+    Waiting,
+}
+
 /// What tells the lines of an example: the memory for what it keeps, that of the subject, and which growths of the
 /// latter are refused.
 #[derive(Clone, Copy)]
@@ -21,8 +32,8 @@ pub(super) struct Player<'h> {
     pub(super) alloc: Global,
     pub(super) heap: Heap<'h>,
     pub(super) refusal: Refusal,
-    /// Whether an engine is called with an outbox.
-    pub(super) has_outbox: bool,
+    /// How an engine is called.
+    pub(super) calls: Calls,
 }
 
 /// Tells a line: how it was taken, and whether memory was refused.
@@ -84,7 +95,7 @@ fn may_leave_memory(player: Player<'_>, subject: &Subject<'_>, words: &[Word<'_>
     let word = text(words, 0);
     let is_first_of_outputs = match subject {
         Subject::Engine(_) => matches!(player.refusal, Refusal::FirstOfEachCall),
-        Subject::Station(_) => false,
+        Subject::Station(_) | Subject::Waiting(_) => false,
         _ => return false,
     };
     if is_first_of_outputs {
@@ -178,10 +189,10 @@ fn add_played_to(
     told: &mut String,
 ) -> Option<u64> {
     let subject = Subject::new(player.heap, first);
-    let mut subject = if player.has_outbox {
-        subject.with_outbox(player.heap)
-    } else {
-        subject
+    let mut subject = match player.calls {
+        Calls::Answered => subject,
+        Calls::Appended => subject.with_outbox(player.heap),
+        Calls::Waiting => subject.with_station(player.heap, first),
     };
     tell_lines(player, &mut subject, example, told)
 }

@@ -2,7 +2,7 @@
 
 use super::outbox::Station;
 use super::words::{Word, number, text};
-use super::{alternatives, codec, dialogue, engine, invocations, outbox};
+use super::{alternatives, codec, dialogue, engine, invocations, outbox, waiting};
 use ber_core::Feed;
 use refusing::Refusing;
 use std::alloc::Global;
@@ -33,6 +33,8 @@ pub(super) enum Subject<'h> {
     Engine(Engine<Heap<'h>>),
     /// `engine` too, where it is called with an outbox.
     Station(Station<'h>),
+    /// `engine` too, where it stands in a station.
+    Waiting(tcap_station::Station<Heap<'h>>),
     /// `dialogue`, of the identifier 1.
     Dialogue(Dialogue<Heap<'h>>),
     /// `invocations`, which wait 1,000 milliseconds for a Reject.
@@ -97,6 +99,14 @@ impl<'h> Subject<'h> {
         }
     }
 
+    /// A station in place of an engine; any other subject stays as it is.
+    pub(super) fn with_station(self, heap: Heap<'h>, words: &[Word<'_>]) -> Subject<'h> {
+        match (&self, waiting::station_of(heap, words)) {
+            (Subject::Engine(_), Some(station)) => Subject::Waiting(station),
+            _ => self,
+        }
+    }
+
     /// Tells it a line, and adds the lines of its answer; nothing where it doesn't know the line, or
     /// where memory for the lines is refused.
     pub(super) fn tell(
@@ -109,6 +119,7 @@ impl<'h> Subject<'h> {
         match self {
             Subject::Engine(engine) => engine::tell(alloc, engine, words, told),
             Subject::Station(station) => outbox::tell(alloc, station, words, told),
+            Subject::Waiting(station) => waiting::tell(alloc, station, words, told),
             Subject::Dialogue(dialogue) => dialogue::tell(alloc, heap, dialogue, words, told),
             Subject::Invocations(list) => invocations::tell(list, words, told),
             Subject::Feed(feed) => codec::push(alloc, feed, words, told),
