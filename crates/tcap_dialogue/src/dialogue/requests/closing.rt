@@ -116,7 +116,10 @@ impl<A: Allocator + Copy> Dialogue<A> {
 
     /// The End, if one is sent, or the first due fault of its request.
     #[inline(always)]
-    pub(crate) fn end_message<'a>(&'a self, request: &EndRequest<'a>) -> Result<Option<Outgoing<'a>>, Fault>
+    pub(crate) fn end_message<'a>(
+        &'a self,
+        request: &EndRequest<'a>,
+    ) -> Result<Option<Outgoing<'a>>, Fault>
         ensures ok { let r = Request.dialogue (end_view request.now) in
             IfOk result (λ m. (outgoing_view m ≡ message_of self.now.standing r)
             × (due_on (situation (asked 0 0) self.now r) r ≡ None)) }

@@ -86,7 +86,10 @@ impl<A: Allocator + Copy> Dialogue<A> {
 
     /// The Unidirectional, or the first due fault of its request.
     #[inline(always)]
-    pub(crate) fn uni_message<'a>(&'a self, request: &UniRequest<'a>) -> Result<Option<Outgoing<'a>>, Fault>
+    pub(crate) fn uni_message<'a>(
+        &'a self,
+        request: &UniRequest<'a>,
+    ) -> Result<Option<Outgoing<'a>>, Fault>
         ensures ok { let r = Request.dialogue (uni_view request.now) in
             IfOk result (λ m. (outgoing_view m ≡ message_of self.now.standing r)
             × (due_on (situation (asked 0 0) self.now r) r ≡ None)) }
