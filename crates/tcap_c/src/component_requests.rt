@@ -248,7 +248,8 @@ pub extern "C" fn tcap_c_u_cancel(
     invoke_id: i32,
     number: &mut u64,
 ) -> u8
-    ensures bad { cancel_of invoke_id ≡ None → Refuses 16 result handle.old handle.new × (number.new ≡ number.old) }
+    ensures bad { cancel_of invoke_id ≡ None
+        → Refuses 16 result handle.old handle.new × (number.new ≡ number.old) }
     ensures closed { IsSome (cancel_of invoke_id) → handle.old.is_open ≡ false
         → Refuses 17 result handle.old handle.new × (number.new ≡ number.old) }
     ensures open { handle.new.is_open ≡ handle.old.is_open }

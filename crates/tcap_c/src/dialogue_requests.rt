@@ -26,7 +26,8 @@ pub extern "C" fn tcap_c_uni(
     info: &[u8],
 ) -> u8
     ensures bad { 255 < length to.now → Refuses 16 result handle.old handle.new }
-    ensures closed { length to.now ≤ 255 → handle.old.is_open ≡ false → Refuses 17 result handle.old handle.new }
+    ensures closed { length to.now ≤ 255 → handle.old.is_open ≡ false
+        → Refuses 17 result handle.old handle.new }
     ensures open { handle.new.is_open ≡ handle.old.is_open }
     ensures taken { length to.now ≤ 255 → handle.old.is_open ≡ true → AskedWithin (Event.on_dialogue dialogue
         (Request.dialogue (DialogueRequest.uni to.now (octets_of context.now) info.now)))
@@ -55,7 +56,8 @@ pub extern "C" fn tcap_c_begin(
     info: &[u8],
 ) -> u8
     ensures bad { 255 < length to.now → Refuses 16 result handle.old handle.new }
-    ensures closed { length to.now ≤ 255 → handle.old.is_open ≡ false → Refuses 17 result handle.old handle.new }
+    ensures closed { length to.now ≤ 255 → handle.old.is_open ≡ false
+        → Refuses 17 result handle.old handle.new }
     ensures open { handle.new.is_open ≡ handle.old.is_open }
     ensures taken { length to.now ≤ 255 → handle.old.is_open ≡ true → AskedWithin (Event.on_dialogue dialogue
         (Request.dialogue (DialogueRequest.begin to.now (octets_of context.now) info.now)))

@@ -18,10 +18,11 @@ pub extern "C" fn tcap_c_receive(
     message: &[u8],
 ) -> u8
     ensures bad { 255 < length from.now → Refuses 16 result handle.old handle.new }
-    ensures closed { length from.now ≤ 255 → handle.old.is_open ≡ false → Refuses 17 result handle.old handle.new }
+    ensures closed { length from.now ≤ 255 → handle.old.is_open ≡ false
+        → Refuses 17 result handle.old handle.new }
     ensures open { handle.new.is_open ≡ handle.old.is_open }
-    ensures taken { length from.now ≤ 255 → handle.old.is_open ≡ true → Received (Event.received from.now message.now)
-        result handle.old.value handle.new.value }
+    ensures taken { length from.now ≤ 255 → handle.old.is_open ≡ true
+        → Received (Event.received from.now message.now) result handle.old.value handle.new.value }
 {
     let Some(from) = Address::new(from) else {
         return Status::BadArgument.number();
@@ -39,7 +40,8 @@ pub extern "C" fn tcap_c_receive(
 pub extern "C" fn tcap_c_advance(alloc: Global, handle: &mut Handle, now: u64) -> u8
     ensures closed { handle.old.is_open ≡ false → Refuses 17 result handle.old handle.new }
     ensures open { handle.new.is_open ≡ handle.old.is_open }
-    ensures taken { handle.old.is_open ≡ true → Advanced (Event.moment now) result handle.old.value handle.new.value }
+    ensures taken { handle.old.is_open ≡ true
+        → Advanced (Event.moment now) result handle.old.value handle.new.value }
 {
     let Some(mut station) = handle.take(alloc) else {
         return Status::NotOpen.number();

@@ -98,7 +98,8 @@ pub extern "C" fn tcap_c_next_identifiers(
         × (dialogue.new ≡ dialogue.old) × (number.new ≡ number.old) }
     ensures open { handle.new.is_open ≡ handle.old.is_open }
     ensures same { handle.old.is_open ≡ true → handle.new.value ≡ handle.old.value }
-    ensures value { handle.old.is_open ≡ true → (result ≡ 0) × (dialogue.new ≡ handle.old.value.engine.next_dialogue)
+    ensures value { handle.old.is_open ≡ true
+        → (result ≡ 0) × (dialogue.new ≡ handle.old.value.engine.next_dialogue)
         × (number.new ≡ handle.old.value.engine.next_number) }
 {
     let Some(station) = handle.take(alloc) else {
@@ -115,7 +116,8 @@ pub extern "C" fn tcap_c_next_identifiers(
 /// nothing, and else at least as many as it tells. Answers 0 or 17.
 #[unsafe(no_mangle)]
 pub extern "C" fn tcap_c_due(alloc: Global, handle: &mut Handle, now: u64, count: &mut usize) -> u8
-    ensures closed { handle.old.is_open ≡ false → Refuses 17 result handle.old handle.new × (count.new ≡ count.old) }
+    ensures closed { handle.old.is_open ≡ false
+        → Refuses 17 result handle.old handle.new × (count.new ≡ count.old) }
     ensures open { handle.new.is_open ≡ handle.old.is_open }
     ensures same { handle.old.is_open ≡ true → handle.new.value ≡ handle.old.value }
     ensures done { handle.old.is_open ≡ true → result ≡ 0 }

@@ -20,7 +20,8 @@ fn copy_part(room: &mut [u8], at: usize, part: &[u8]) -> usize
 /// Copies the parts of an output to the front of a room, one after the other; what lies behind them stays.
 pub(crate) fn copy_parts(room: &mut [u8], parts: &OutputParts<'_>)
     requires { count_of (lengths_of (parts_view parts.now)) ≤ length room.old }
-    ensures { room.new ≡ joined (parts_view parts.now) ++ drop (count_of (lengths_of (parts_view parts.now))) room.old }
+    ensures { room.new ≡ joined (parts_view parts.now)
+        ++ drop (count_of (lengths_of (parts_view parts.now))) room.old }
 {
     let end = copy_part(room, 0, parts.address);
     let end = copy_part(room, end, parts.message);
