@@ -20,7 +20,7 @@ pub(super) fn is_counted(octets: &[u8]) -> bool
     octets.len() <= MOST_OCTETS
 }
 
-/// The same of octets that may be missing.
+/// Whether the number of octets that may be missing fits four octets.
 pub(super) fn is_counted_if_any(octets: Option<&[u8]>) -> bool
     ensures { result ≡ is_counted_if_any (option_copied octets.entry) }
 {
@@ -30,7 +30,7 @@ pub(super) fn is_counted_if_any(octets: Option<&[u8]>) -> bool
     }
 }
 
-/// The same of the octets of a code.
+/// Whether the number of the octets of a code fits four octets.
 pub(super) fn is_counted_code(code: &Code<'_>) -> bool
     ensures { result ≡ is_counted_code (code_parts code.now) }
 {
@@ -40,14 +40,14 @@ pub(super) fn is_counted_code(code: &Code<'_>) -> bool
     }
 }
 
-/// The same of a code and of a parameter.
+/// Whether the numbers of octets of a code and of a parameter fit.
 pub(super) fn is_counted_coded(code: &Code<'_>, parameter: Option<&[u8]>) -> bool
     ensures { result ≡ (is_counted_code (code_parts code.now) && is_counted_if_any (option_copied parameter.entry)) }
 {
     is_counted_code(code) && is_counted_if_any(parameter)
 }
 
-/// The same of a body that may be missing.
+/// Whether those of a body that may be missing fit.
 pub(super) fn is_counted_body(body: Option<Body<'_>>) -> bool
     ensures { result ≡ is_counted_body (option_map body_parts body.entry) }
 {
@@ -57,7 +57,7 @@ pub(super) fn is_counted_body(body: Option<Body<'_>>) -> bool
     }
 }
 
-/// The same of a context that may be missing and of user information.
+/// Whether those of a context that may be missing and of user information fit.
 pub(super) fn is_counted_portion(context: Option<&[u8]>, info: &[u8]) -> bool
     ensures { result ≡ (is_counted_if_any (option_copied context.entry) && is_counted info.now) }
 {
@@ -75,7 +75,7 @@ pub(super) fn string_len(octets: &[u8]) -> usize
     4 + octets.len()
 }
 
-/// The same where they may be missing.
+/// How many octets octets that may be missing take behind their number.
 pub(super) fn string_if_any_len(octets: Option<&[u8]>) -> usize
     requires { IsTrue (is_counted_if_any (option_copied octets)) }
     ensures value { result ≡ length (optional octet_string (option_copied octets.entry)) }
