@@ -20,16 +20,28 @@ pub(super) fn octets_of(alloc: Global, text: &str) -> Option<Vec<u8>> {
     Some(octets)
 }
 
-/// Whether the event has this record, which is as long as it says, and is read from it.
-fn has_record(alloc: Global, event: &Event<'_>, text: &str) -> Option<bool> {
-    let wanted = octets_of(alloc, text)?;
+/// The record of an event.
+fn record_of(alloc: Global, event: &Event<'_>) -> Option<Vec<u8>> {
     let mut octets = Vec::new(alloc);
     write(event, &mut octets).ok()?;
-    let recorded = read(wanted.as_slice()).ok()?;
+    Some(octets)
+}
+
+/// The record of the event that is read of a record.
+fn record_again(alloc: Global, octets: &[u8]) -> Option<Vec<u8>> {
+    let recorded = read(octets).ok()?;
+    record_of(alloc, &recorded.event())
+}
+
+/// Whether the event has this record, which is as long as it says, and is that of the event that is read of it.
+fn has_record(alloc: Global, event: &Event<'_>, text: &str) -> Option<bool> {
+    let wanted = octets_of(alloc, text)?;
+    let octets = record_of(alloc, event)?;
+    let again = record_again(alloc, wanted.as_slice())?;
     Some(
         octets.as_slice() == wanted.as_slice()
-            && record_len(event) == Some(wanted.len())
-            && recorded.event() == *event,
+            && again.as_slice() == wanted.as_slice()
+            && record_len(event) == Some(wanted.len()),
     )
 }
 
@@ -125,79 +137,80 @@ fn component_requests(rt: HostRuntime) -> Result<(), Fail> {
     Ok(())
 }
 
+/// TC-UNI request on a dialogue.
+fn uni<'a>(dialogue: u32, to: &'a Address, context: &'a [u8], info: &'a [u8]) -> Event<'a> {
+    let context = Some(context);
+    Event::Uni(dialogue, UniRequest { to, context, info })
+}
+
+/// TC-BEGIN request on a dialogue.
+fn begin<'a>(dialogue: u32, to: &'a Address, context: &'a [u8], info: &'a [u8]) -> Event<'a> {
+    let context = Some(context);
+    Event::Begin(dialogue, BeginRequest { to, context, info })
+}
+
+/// TC-CONTINUE request on a dialogue, without a context.
+fn go_on<'a>(dialogue: u32, info: &'a [u8]) -> Event<'a> {
+    let context = None;
+    Event::Continue(dialogue, ContinueRequest { context, info })
+}
+
+/// TC-END request on a dialogue, without context and user information.
+fn end<'a>(dialogue: u32, ending: Ending) -> Event<'a> {
+    let request = EndRequest {
+        ending,
+        context: None,
+        info: &[],
+    };
+    Event::End(dialogue, request)
+}
+
+/// TC-U-ABORT request on a dialogue, without user information.
+fn abort<'a>(dialogue: u32, why: AbortWhy) -> Event<'a> {
+    Event::Abort(dialogue, AbortRequest { why, info: &[] })
+}
+
+/// Bytes that were received.
+fn bytes<'a>(from: &'a Address, bytes: &'a [u8]) -> Event<'a> {
+    Event::Bytes(from, bytes)
+}
+
 #[test]
-fn other_events(rt: HostRuntime) -> Result<(), Fail> {
+fn addressed_events(rt: HostRuntime) -> Result<(), Fail> {
+    let alloc = rt.alloc();
     let none = Address::empty();
     let to = Address::new(&[0x42]).ok_or("an address")?;
     let from = Address::new(&[0x01, 0x02]).ok_or("an address")?;
-    let context: &[u8] = &[0x04, 0x00, 0x00, 0x01, 0x00, 0x19, 0x02];
+    let context = [0x04, 0x00, 0x00, 0x01, 0x00, 0x19, 0x02];
+    let uni = has_record(
+        alloc,
+        &uni(5, &none, &[], &[0x28, 0x00]),
+        "01 08 00000005 00 01 00000000 00000002 2800",
+    );
+    assert_eq!(rt; uni, Some(true));
+    let begin = has_record(
+        alloc,
+        &begin(1, &to, &context, &[]),
+        "01 09 00000001 01 42 01 00000007 04000001001902 00000000",
+    );
+    assert_eq!(rt; begin, Some(true));
+    let bytes = has_record(alloc, &bytes(&from, &[0x64]), "01 0d 02 0102 00000001 64");
+    assert_eq!(rt; bytes, Some(true));
+    Ok(())
+}
+
+#[test]
+fn other_events(rt: HostRuntime) -> Result<(), Fail> {
     let rows = [
         (Event::NewDialogue, "01 01"),
+        (go_on(6, &[0x28]), "01 0a 00000006 00 00000001 28"),
+        (end(9, Ending::Basic), "01 0b 00000009 00 00 00000000"),
+        (end(0, Ending::Prearranged), "01 0b 00000000 01 00 00000000"),
+        (abort(7, AbortWhy::User), "01 0c 00000007 00 00000000"),
         (
-            Event::Uni(
-                5,
-                UniRequest {
-                    to: &none,
-                    context: Some(&[]),
-                    info: &[0x28, 0x00],
-                },
-            ),
-            "01 08 00000005 00 01 00000000 00000002 2800",
-        ),
-        (
-            Event::Begin(
-                1,
-                BeginRequest {
-                    to: &to,
-                    context: Some(context),
-                    info: &[],
-                },
-            ),
-            "01 09 00000001 01 42 01 00000007 04000001001902 00000000",
-        ),
-        (
-            Event::Continue(
-                6,
-                ContinueRequest {
-                    context: None,
-                    info: &[0x28],
-                },
-            ),
-            "01 0a 00000006 00 00000001 28",
-        ),
-        (
-            Event::End(
-                9,
-                EndRequest {
-                    ending: Ending::Basic,
-                    context: None,
-                    info: &[],
-                },
-            ),
-            "01 0b 00000009 00 00 00000000",
-        ),
-        (
-            Event::End(
-                0,
-                EndRequest {
-                    ending: Ending::Prearranged,
-                    context: None,
-                    info: &[],
-                },
-            ),
-            "01 0b 00000000 01 00 00000000",
-        ),
-        (
-            Event::Abort(
-                8,
-                AbortRequest {
-                    why: AbortWhy::NotSupported,
-                    info: &[],
-                },
-            ),
+            abort(8, AbortWhy::NotSupported),
             "01 0c 00000008 01 00000000",
         ),
-        (Event::Bytes(&from, &[0x64]), "01 0d 02 0102 00000001 64"),
         (
             Event::Moment(4_611_686_018_427_387_904),
             "01 0e 4000000000000000",
