@@ -46,3 +46,11 @@ copied p r0 r1 r2 r3 r4 r5 r6 n1 n2 n3 n4 n5 n6 c1 c2 c3 c4 c5 c6 =
     let f6 = next _ p.parameter r0 r5 r6 n5 n6 f5 c6 in
     f6.row ∙ ap (λ xs. xs ++ drop (length xs) r0) (six p.address p.message p.context p.info p.global p.parameter)
     ∙ ap (λ n. joined p ++ drop n r0) (count p)
+
+-- two of them
+pub copied_two : (a b r0 r1 r2 : List ℕ) (n1 n2 : ℕ) → Copies r0 0 a r1 n1 → Copies r1 n1 b r2 n2
+    → r2 ≡ (a ++ b) ++ drop (length (a ++ b)) r0
+copied_two a b r0 r1 r2 n1 n2 c1 c2 =
+    let f0 : IsFront [] r0 r0 0 = record { row = refl; ends = refl } in
+    let f1 = next [] a r0 r0 r1 0 n1 f0 c1 in
+    (next a b r0 r1 r2 n1 n2 f1 c2).row

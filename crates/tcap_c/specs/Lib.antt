@@ -1,4 +1,5 @@
 pub mod Arguments
+pub mod Codec
 pub mod Handle
 pub mod Kinds
 pub mod Numbers

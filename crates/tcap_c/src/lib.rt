@@ -3,6 +3,7 @@
 
 mod arguments;
 mod box_parts;
+mod codec;
 mod component_requests;
 mod dialogue_requests;
 mod events;
@@ -22,6 +23,9 @@ mod status;
 mod telling;
 mod told_ranges;
 
+pub use codec::{
+    tcap_c_canon, tcap_c_check, tcap_c_front, tcap_c_oid_of_text, tcap_c_show, tcap_c_text_of_oid,
+};
 pub use component_requests::{
     tcap_c_invoke, tcap_c_new_dialogue, tcap_c_result_l, tcap_c_result_nl, tcap_c_u_cancel,
     tcap_c_u_error, tcap_c_u_reject,

@@ -8,7 +8,7 @@ ghost use Rattle.tcap_c.specs.Room.{Copies};
 use crate::output_parts::OutputParts;
 
 /// Copies a part to a place in a room: where it ends.
-fn copy_part(room: &mut [u8], at: usize, part: &[u8]) -> usize
+pub(crate) fn copy_part(room: &mut [u8], at: usize, part: &[u8]) -> usize
     requires { at + length part.now ≤ length room.old }
     ensures { Copies room.old at part.now room.new result }
 {
