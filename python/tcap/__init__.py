@@ -11,7 +11,8 @@
                 match output:
                     case Send(address=address, message=message): ...
 """
-from .engine import Dialogue, Engine, library_version, status_text
+from .dialogue import Dialogue
+from .engine import Engine, library_version, status_text
 from .errors import (
     BadArgument,
     BadOid,

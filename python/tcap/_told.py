@@ -10,7 +10,8 @@ from . import _c, outputs
 from .values import AbortCause, Code, Diagnostic, DropCause, Global, Local, Problem
 
 if TYPE_CHECKING:
-    from .engine import Dialogue, Engine
+    from .dialogue import Dialogue
+    from .engine import Engine
 
 def _octets(of: Any) -> bytes:
     return ctypes.string_at(of.at, of.len) if of.len else b""

@@ -1,19 +1,18 @@
-"""An engine, and a dialogue at it."""
+"""An engine."""
 from __future__ import annotations
 
 import ctypes
 from collections.abc import Iterator
 from ctypes import byref, c_uint32, c_uint64, c_void_p
-from dataclasses import dataclass, field
 from threading import Lock
 from types import TracebackType
-from typing import Any
+from typing import Any, NoReturn
 
 from . import _c, _given, _told
 from ._given import Octets
+from .dialogue import Dialogue
 from .errors import BadArgument, refusal
 from .outputs import Output
-from .values import AbortReason, Code, State, Termination
 
 
 def status_text(status: int) -> str:
@@ -39,7 +38,7 @@ class Engine:
 
     Moments are milliseconds by any clock that doesn't go back, at most 2^62. A call that is refused raises a TcapError
     and has changed nothing. Threads may share an engine: its calls come one after the other, by a lock of its own. Don't
-    call it from a signal handler.
+    call it from a signal handler. An engine isn't copied or pickled: TypeError.
     """
 
     def __init__(
@@ -55,6 +54,8 @@ class Engine:
         """How many dialogues may stand, and how many octets the layer below carries, 1 to 65,535 each; how long an
         invoke identifier waits for a Reject; how long a dialogue may stand still, 0: for ever; the identifier of the
         first dialogue and the number of the first invocation, neither of them 0."""
+        if hasattr(self, "_lock"):  # the engine that it has would be lost
+            raise TypeError("an engine is opened once")
         self._lock = Lock()
         self._engine: int | None = None
         limits = _c.Limits(
@@ -90,6 +91,10 @@ class Engine:
     def __del__(self) -> None:
         if getattr(self, "_engine", None) is not None:
             self.close()
+
+    def __reduce__(self) -> NoReturn:
+        """A copy would close the same engine of C once more: copy, deepcopy and pickle ask for this."""
+        raise TypeError("an engine can't be copied or pickled")
 
     def _open(self) -> int:
         """The pointer that C takes; under the lock."""
@@ -166,121 +171,3 @@ class Engine:
         dialogue, number = c_uint32(), c_uint64()
         self._call("tcap_next_identifiers", byref(dialogue), byref(number))
         return dialogue.value, number.value
-
-
-@dataclass(frozen=True, slots=True)
-class Dialogue:
-    """A dialogue at an engine, by its identifier. Two of the same identifier at one engine are equal.
-
-    As a context manager: where the block is left and the dialogue stands, it is aborted (TC-U-ABORT).
-
-    Octets of `context` are the contents of an object identifier, those of `info` EXTERNALs one after the other, a
-    parameter is one BER element. Each request may be refused by UnknownDialogue, and by BadArgument if an argument is
-    out of its range.
-    """
-
-    engine: Engine = field(repr=False)
-    id: int
-
-    def state(self) -> State:
-        """How far it is; UNKNOWN where it doesn't stand."""
-        return State(self.engine._get("tcap_state_of", _given.u32("id", self.id)))
-
-    def __enter__(self) -> Dialogue:
-        return self
-
-    def __exit__(
-        self, kind: type[BaseException] | None, error: BaseException | None, trace: TracebackType | None
-    ) -> None:
-        if self.engine._engine is not None and self.state() != State.UNKNOWN:
-            self.u_abort(0)  # the clock doesn't go back: at the moment at which it stands
-
-    def _call(self, name: str, *arguments: Any) -> None:
-        self.engine._call(name, _given.u32("id", self.id), *arguments)
-
-    def _at(self, name: str, now_ms: int, *arguments: Any) -> None:
-        self.engine._call(name, _given.moment(now_ms), _given.u32("id", self.id), *arguments)
-
-    # ---- component handling: a component is queued, and the next request of dialogue handling sends it
-
-    def invoke(
-        self,
-        invoke_id: int,
-        operation: Code,
-        parameter: Octets | None = None,
-        *,
-        timeout_ms: int,
-        op_class: int = 1,
-        linked_id: int | None = None,
-    ) -> int:
-        """TC-INVOKE request: its number, by which outputs name the invocation. `timeout_ms`: 1 to 2^62, from the moment
-        at which it is sent. BadTimeout, BadOid, BadParameter, InvokeIdInUse, NumbersSpent, TooLong, OutOfMemory."""
-        number = c_uint64()
-        ids = _given.number("invoke_id", invoke_id, -128, 127), _given.identifier("linked_id", linked_id)
-        which = _given.number("op_class", op_class, 1, 4), _given.code("operation", operation)
-        with_it = _given.optional("parameter", parameter), _given.u64("timeout_ms", timeout_ms)
-        self._call("tcap_invoke", *ids, *which, *with_it, byref(number))
-        return number.value
-
-    def _answer(self, name: str, invoke_id: int, code_name: str, code: Code | None, parameter: Octets | None) -> None:
-        identifier = _given.number("invoke_id", invoke_id, -128, 127)
-        self._call(name, identifier, _given.code(code_name, code), _given.optional("parameter", parameter))
-
-    def result_l(self, invoke_id: int, operation: Code | None = None, parameter: Octets | None = None) -> None:
-        """TC-RESULT-L request: the last or only result. `operation`: None where there is no parameter. WrongState,
-        BadOid, BadParameter, TooLong, OutOfMemory."""
-        self._answer("tcap_result_l", invoke_id, "operation", operation, parameter)
-
-    def result_nl(self, invoke_id: int, operation: Code | None = None, parameter: Octets | None = None) -> None:
-        """TC-RESULT-NL request: a result that others follow. As result_l."""
-        self._answer("tcap_result_nl", invoke_id, "operation", operation, parameter)
-
-    def u_error(self, invoke_id: int, error: Code, parameter: Octets | None = None) -> None:
-        """TC-U-ERROR request: an Invoke of the peer failed. WrongState, BadOid, BadParameter, TooLong, OutOfMemory."""
-        self._answer("tcap_u_error", invoke_id, "error", error, parameter)
-
-    def u_reject(self, invoke_id: int | None, problem: int) -> None:
-        """TC-U-REJECT request: a component of the peer is rejected, None where its identifier isn't known. WrongState,
-        TooLong, OutOfMemory."""
-        self._call("tcap_u_reject", _given.identifier("invoke_id", invoke_id), _given.number("problem", problem, 0, 895))
-
-    def u_cancel(self, invoke_id: int) -> int:
-        """TC-U-CANCEL request: an invocation of this side is given up: its number. NoSuchInvocation."""
-        number = c_uint64()
-        self._call("tcap_u_cancel", _given.number("invoke_id", invoke_id, -128, 127), byref(number))
-        return number.value
-
-    # ---- dialogue handling: sends what is queued. WrongState, BadOid, BadParameter, NoContext, TooLong, MomentTooLate,
-    # OutOfMemory
-
-    def uni(self, now_ms: int, to: Octets, *, context: Octets | None = None, info: Octets = b"") -> None:
-        """TC-UNI request: a Unidirectional to an address, 0 to 255 octets, and the dialogue is over. NotClassFour."""
-        self._at("tcap_uni", now_ms, _given.octets("to", to), byref(_given.portion(context, info)))
-
-    def begin(self, now_ms: int, to: Octets, *, context: Octets | None = None, info: Octets = b"") -> None:
-        """TC-BEGIN request: a Begin to an address, 0 to 255 octets, which the dialogue keeps."""
-        self._at("tcap_begin", now_ms, _given.octets("to", to), byref(_given.portion(context, info)))
-
-    def go_on(self, now_ms: int, *, context: Octets | None = None, info: Octets = b"") -> None:
-        """TC-CONTINUE request. A context and user information only in the first answer to a Begin that has a context;
-        where that answer names none, it has that of the Begin."""
-        self._at("tcap_continue", now_ms, byref(_given.portion(context, info)))
-
-    def end(
-        self,
-        now_ms: int,
-        *,
-        context: Octets | None = None,
-        info: Octets = b"",
-        termination: Termination = Termination.BASIC,
-    ) -> None:
-        """TC-END request: the dialogue is over, and each invocation that was open is told by ClosedInd. Of context and
-        user information as go_on; none by a prearranged end."""
-        how = _given.choice("termination", termination, Termination)
-        self._at("tcap_end", now_ms, how, byref(_given.portion(context, info)))
-
-    def u_abort(self, now_ms: int, reason: AbortReason = AbortReason.USER_SPECIFIC, info: Octets = b"") -> None:
-        """TC-U-ABORT request: the dialogue is over, and each invocation that was open is told by ClosedInd. An Abort is
-        sent if the peer knows the dialogue."""
-        why = _given.choice("reason", reason, AbortReason)
-        self._at("tcap_u_abort", now_ms, why, _given.octets("info", info))

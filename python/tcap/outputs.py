@@ -12,7 +12,7 @@ from typing import TYPE_CHECKING, TypeAlias
 from .values import Code
 
 if TYPE_CHECKING:
-    from .engine import Dialogue
+    from .dialogue import Dialogue
 
 
 @dataclass(frozen=True, slots=True)

@@ -1,4 +1,6 @@
 """What the package adds to the library: types of outputs, dialogues as context managers, threads, the end of an engine."""
+import copy
+import dataclasses
 import gc
 import pathlib
 import runpy
@@ -145,6 +147,14 @@ def test_dialogues_are_equal_by_engine_and_identifier(pair: tuple[Engine, Engine
     one = pair[0].dialogue()
     assert one == pair[0].dialogue_of(one.id) and one != pair[1].dialogue_of(one.id)
     assert len({one, pair[0].dialogue_of(one.id)}) == 1 and repr(one) == "Dialogue(id=1)"
+
+
+def test_a_copy_of_an_output_has_its_dialogue(pair: tuple[Engine, Engine]) -> None:
+    pair[0].dialogue().begin(0, b"B")
+    [begin] = exchange(*pair)
+    assert isinstance(begin, BeginInd) and copy.deepcopy(begin) == copy.copy(begin) == begin
+    assert dataclasses.asdict(begin)["dialogue"] is begin.dialogue
+    assert begin.dialogue in dataclasses.astuple(begin)
 
 
 def test_identifiers_go_on(pair: tuple[Engine, Engine]) -> None:

@@ -1,6 +1,8 @@
 """A hundred wrong calls: each raises what the table says, and leaves the engine as it was."""
 from __future__ import annotations
 
+import copy
+import pickle
 from collections.abc import Callable
 from typing import Any
 
@@ -31,6 +33,12 @@ CALLS: list[tuple[str, type[Exception], Wrong]] = [
     ("numbers from 2^64", tcap.BadArgument, lambda e, d: tcap.Engine(first_number=2**64)),
     ("limits by place", TypeError, lambda e, d: tcap.Engine(16)),  # type: ignore[misc]
     ("a limit of no name", TypeError, lambda e, d: tcap.Engine(most=16)),  # type: ignore[call-arg]
+    # a second owner of an engine, who would close it once more
+    ("an engine copied", TypeError, lambda e, d: copy.copy(e)),
+    ("an engine copied deep", TypeError, lambda e, d: copy.deepcopy(e)),
+    ("an engine pickled", TypeError, lambda e, d: pickle.dumps(e)),
+    ("a dialogue pickled", TypeError, lambda e, d: pickle.dumps(d)),
+    ("an engine opened again", TypeError, lambda e, d: e.__init__()),
     # what happens
     ("a moment of nothing", TypeError, lambda e, d: e.advance(None)),
     ("a moment of text", TypeError, lambda e, d: e.advance("0")),
