@@ -1,11 +1,10 @@
 /* The calls of tcap.h over those of tcap_c.h. This file isn't proved, so it holds no logic: memory, pointers that are
  * NULL, the moment of a call before the call, and one output with the room for its octets. */
 #include "../include/tcap.h"
+#include "tcap_c.h"
 
 #include <stdlib.h>
 #include <string.h>
-
-#include "tcap_c.h"
 
 struct tcap {
   tcap_c_handle handle;
@@ -19,7 +18,6 @@ static void *(*take_block)(size_t) = malloc;
 static void *(*grow_block)(void *, size_t) = realloc;
 static void (*give_block_back)(void *) = free;
 static uint8_t no_octets[1]; /* in place of NULL */
-
 tcap_status tcap_set_memory(void *(*take)(size_t), void *(*grow)(void *, size_t), void (*give_back)(void *)) {
   if (!take || !grow || !give_back) return TCAP_BAD_ARGUMENT;
   take_block = take, grow_block = grow, give_block_back = give_back;
@@ -37,18 +35,20 @@ rattle_block rattle_realloc(void *old, size_t old_size, size_t size, size_t alig
 }
 void rattle_dealloc(void *block) { give_block_back(block); }
 
-/* ---- an engine is opened and closed */
-tcap_status tcap_open(tcap **engine, const tcap_limits *l) {
-  if (!engine || !l || l->size < sizeof *l || l->size > 4096) return TCAP_BAD_ARGUMENT;
-  for (size_t at = sizeof *l; at < l->size; at++)
-    if (((const uint8_t *)l)[at]) return TCAP_BAD_ARGUMENT;
+/* ---- an engine is opened and closed. FIRST_SIZE: the size of tcap_limits in 0.1.0, the least that a program has */
+#define FIRST_SIZE (offsetof(tcap_limits, first_number) + sizeof(uint64_t))
+tcap_status tcap_open(tcap **engine, const tcap_limits *limits) {
+  tcap_limits l = {0};
+  if (!engine || !limits || limits->size < FIRST_SIZE || limits->size > 4096) return TCAP_BAD_ARGUMENT;
+  for (size_t at = sizeof l; at < limits->size; at++)
+    if (((const uint8_t *)limits)[at]) return TCAP_BAD_ARGUMENT;
+  memcpy(&l, limits, limits->size < sizeof l ? limits->size : sizeof l);
   tcap *t = take_block(sizeof *t);
   if (!t) return TCAP_OUT_OF_MEMORY;
   memset(t, 0, sizeof *t);
-  uint8_t status = tcap_c_open(&t->handle, l->max_dialogues, l->max_message, l->reject_ms, l->idle_ms,
-                               l->first_dialogue, l->first_number);
-  if (status) give_block_back(t);
-  else *engine = t;
+  uint8_t status = tcap_c_open(&t->handle, l.max_dialogues, l.max_message, l.reject_ms, l.idle_ms, l.first_dialogue,
+                               l.first_number);
+  if (status) give_block_back(t); else *engine = t;
   return (tcap_status)status;
 }
 void tcap_close(tcap *t) { if (t) tcap_c_close(&t->handle), give_block_back(t); }

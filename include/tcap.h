@@ -23,9 +23,9 @@
  * What you owe, and nothing checks: each `tcap *` is one that tcap_open gave and tcap_close didn't
  *   take back, or NULL; calls come one at a time; pointers point to as many octets as you say. All
  *   else that can be wrong about an argument is answered: TCAP_BAD_ARGUMENT.
- * What may change while the soname stays: structs grow at their end and enumerations by new values.
- *   So let `switch` have a `default`, take outputs by pointer as tcap_next answers them, and begin
- *   limits with TCAP_LIMITS. */
+ * What may change while the soname stays: tcap_limits and tcap_output grow at their end, and
+ *   enumerations by new values; no other struct changes. So let `switch` have a `default`, take
+ *   outputs by pointer as tcap_next answers them, and begin limits with TCAP_LIMITS. */
 #ifndef TCAP_H
 #define TCAP_H
 
@@ -166,9 +166,10 @@ typedef struct {
 #define TCAP_LIMITS {sizeof(tcap_limits), 65535, 65535, 1000, 600000, 1, 1}
 
 /* Opens an engine with clock 0 and no dialogues. It draws identifiers and numbers upward from those
- * of the limits, each once. TCAP_BAD_ARGUMENT: NULL, or a limit out of its range; a size below that
- * of this header or above 4,096, or octets above that of the library which aren't 0: of a newer
- * header, a limit that this library doesn't have. */
+ * of the limits, each once. Fields above the size that you give are taken as 0. TCAP_BAD_ARGUMENT:
+ * NULL, or a limit out of its range; a size above 4,096 or below that of 0.1.0, which ends with
+ * first_number (48 octets where a pointer has 64 bits); or octets above the size of the library
+ * which aren't 0: of a newer header, a limit that this library doesn't have. */
 TCAP_MUST_CHECK tcap_status tcap_open(tcap **engine, const tcap_limits *limits);
 
 /* Closes an engine and gives back all its memory. What waits is lost. NULL: does nothing. Set your
@@ -176,9 +177,10 @@ TCAP_MUST_CHECK tcap_status tcap_open(tcap **engine, const tcap_limits *limits);
 void tcap_close(tcap *engine);
 
 /* Takes memory from these functions, in place of malloc, realloc and free, whose contracts they
- * keep: blocks are aligned for any object, NULL is a refusal. Call it before the first tcap_open,
- * from one thread; never while an engine is open. No engine asks for 0 octets, or hands NULL to
- * either of the others. They call no engine. TCAP_BAD_ARGUMENT: one is NULL. */
+ * keep: blocks are aligned for any object, NULL is a refusal. `grow` makes blocks smaller too, as
+ * realloc does; where it refuses that, the block stays. Call tcap_set_memory before the first
+ * tcap_open, from one thread; never while an engine is open. No engine asks for 0 octets, or hands
+ * NULL to either of the others. They call no engine. TCAP_BAD_ARGUMENT: one is NULL. */
 TCAP_MUST_CHECK tcap_status tcap_set_memory(void *(*take)(size_t size),
                                             void *(*grow)(void *block, size_t size),
                                             void (*give_back)(void *block));
@@ -369,7 +371,8 @@ typedef struct {
   uint8_t is_by_provider; /* 1: the ABRT is by the dialogue service provider; 0: by the user */
 } tcap_output;
 
-/* The output that comes next, which waits no longer; NULL where nothing waits. Takes no memory. */
+/* The output that comes next, which waits no longer; NULL where nothing waits. Takes no memory, so
+ * it is never refused; it may make blocks smaller, by `grow`, and give some back. */
 const tcap_output *tcap_next(tcap *engine);
 
 /* ---- what is seen of an engine: takes no memory and changes nothing. Of NULL, 0 is seen */

@@ -21,7 +21,7 @@ AT(tcap_limits, reject_ms, 16);
 AT(tcap_limits, idle_ms, 24);
 AT(tcap_limits, first_dialogue, 32);
 AT(tcap_limits, first_number, 40);
-static_assert(sizeof(tcap_limits) == 48, "the first size of tcap_limits");
+static_assert(offsetof(tcap_limits, first_number) + sizeof(uint64_t) == 48, "the first size of tcap_limits");
 AT(tcap_output, event, 0);
 AT(tcap_output, number, 8);
 AT(tcap_output, address, 16);
