@@ -8,7 +8,8 @@
 #   make clean
 #
 # The proved part is an archive, ARCHIVE. A released tarball has it; a clone builds it by `rt lib`, from the Rattle
-# toolchain. docs/RELEASES.md says how versions are counted and what may change.
+# toolchain, and anew where the sources of tcap_c or of a crate below it are newer. One that you name is taken as it is.
+# docs/RELEASES.md says how versions are counted and what may change.
 VERSION := $(shell sed -n 's/^VERSION = //p' c/Makefile)
 MACHINE := $(shell $(CC) -dumpmachine)
 NAME := libtcap-$(VERSION)-$(MACHINE)
@@ -27,12 +28,19 @@ ARCHIVE ?= $(or $(RELEASED),$(PROVED))
 
 all: $(OUT)/libtcap.a $(OUT)/$(SHARED)
 
-# Where it isn't there: in a clone it is proved and built, which takes `rt` and some time.
-$(ARCHIVE):
+# tcap_c and the crates below it, each of which stands above what it uses in crates.txt; and what is compiled of them.
+CRATES := $(shell tac crates.txt 2> /dev/null | awk '{ sub(":", "") } \
+  $$1 == "tcap_c" || $$1 in below { print $$1; for (i = 2; i <= NF; i++) below[$$i] }')
+SOURCES := $(if $(CRATES),$(shell find $(CRATES:%=crates/%/src) -name '*.rt'))
+
+# It is proved and built, which takes `rt` and some time.
+$(PROVED): $(if $(filter file,$(origin ARCHIVE)),$(SOURCES))
 	@command -v rt > /dev/null || { \
-	  echo "make: $(ARCHIVE) isn't there: it is built by rt, from the Rattle toolchain, whose bin/ belongs into PATH." >&2; \
-	  echo "make: A released tarball (make dist) has it, and needs no rt." >&2; exit 1; }
+	  echo "make: $@ isn't there, or older than its sources: it is built by rt, from the Rattle toolchain," >&2; \
+	  echo "make: whose bin/ belongs into PATH. ARCHIVE=FILE takes one as it is. A released tarball (make dist) has it." >&2; \
+	  exit 1; }
 	cd crates/tcap_c && rt lib
+	@touch $@
 
 $(OUT)/libtcap.a $(OUT)/$(SONAME) &: $(ARCHIVE) c/tcap.c c/tcap_c.h c/tcap.map c/Makefile include/tcap.h
 	$(MAKE) -C c ARCHIVE=$(abspath $(ARCHIVE)) OUT=$(OUT) $(OUT)/libtcap.a $(OUT)/$(SONAME)
