@@ -136,15 +136,18 @@ def main(layout: str) -> int:
     compare_layouts(layout)
     compare_structs(rust)
     compare_calls(rust)
-    version = re.search(r"#define TCAP_VERSION 0x(\d\d)(\d\d)(\d\d)u", HEADER)
+    version = re.search(r"#define TCAP_VERSION 0x(([0-9a-f]{2})([0-9a-f]{2})([0-9a-f]{2}))u", HEADER)
     assert version
-    dotted = ".".join(str(int(part, 16)) for part in version.groups())
+    dotted = ".".join(str(int(part, 16)) for part in version.groups()[1:])
+    compare("TCAP_VERSION of the package", int(version.group(1), 16), _c.VERSION)
+    compare("TCAP_VERSION of tcap-sys", True, f"TCAP_VERSION: u32 = 0x{version.group(1)};" in rust)
     for file, pattern in (
         ("c/Makefile", r"^VERSION = (\S+)"),
         ("python/pyproject.toml", r'^version = "(.*)"'),
         ("python/tcap/__init__.py", r'^__version__ = "(.*)"'),
         ("rust/tcap/Cargo.toml", r'^version = "(.*)"'),
         ("rust/tcap-sys/Cargo.toml", r'^version = "(.*)"'),
+        ("rust/tcap-sys/build.rs", r'"tcap >= (\S+)"'),
         ("man/libtcap.3", r'"libtcap (\S+)"'),
     ):
         found = re.search(pattern, (TOP / file).read_text(), re.M)

@@ -1,4 +1,5 @@
-//! Finds libtcap: in the folder that `TCAP_LIB_DIR` names, else by pkg-config.
+//! Finds libtcap: in the folder that `TCAP_LIB_DIR` names, else by pkg-config, which is asked for this version or a newer
+//! one of the same MAJOR. `Handle::open` asks the library itself, however it was found.
 //!
 //! In a folder, libtcap.a is taken where it is there, so that a program needs no library when it runs. `TCAP_LINK` is
 //! `static` or `dylib` and says which one is taken, in either case.
@@ -28,7 +29,7 @@ fn link_in(folder: &str, link: Option<&str>) {
 /// Links what pkg-config says.
 fn link_by_pkg_config(link: Option<&str>) {
     let tool = env::var("PKG_CONFIG").unwrap_or_else(|_| "pkg-config".into());
-    let ran = Command::new(&tool).args(["--libs", "tcap >= 0.1.0"]).output();
+    let ran = Command::new(&tool).args(["--libs", "tcap >= 0.1.0", "tcap < 1"]).output();
     let words = match ran {
         Ok(ran) if ran.status.success() => String::from_utf8_lossy(&ran.stdout).into_owned(),
         Ok(ran) => fail(&format!("{}: {}", tool, String::from_utf8_lossy(&ran.stderr).trim())),

@@ -74,6 +74,7 @@ pub struct tcap_output {
     pub is_by_provider: u8,
 }
 
+pub const TCAP_VERSION: u32 = 0x000100;
 pub const TCAP_NEVER: u64 = u64::MAX;
 pub const TCAP_NO_ID: c_int = 256;
 pub const TCAP_NO_CODE: c_int = 0;

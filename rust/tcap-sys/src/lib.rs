@@ -11,40 +11,25 @@
 #![warn(missing_docs)]
 
 pub mod ffi;
+mod given;
 mod output;
 #[cfg(feature = "refusing")]
 pub mod refusing;
 
 pub use ffi::{tcap_limits, tcap_output};
+pub use given::{GivenCode, GivenPortion};
 pub use output::OutputRef;
 
-use ffi::{tcap_code, tcap_octets, tcap_portion};
+use given::{code, id, octets, portion};
 use std::ffi::CStr;
 use std::os::raw::c_int;
 use std::ptr::{null, null_mut, NonNull};
 
-/// A `tcap_status` that isn't `TCAP_OK`.
+/// A `tcap_status` that isn't `TCAP_OK`, or `OTHER_LIBRARY`.
 pub type Refused = i32;
 
-/// A code as C takes it: of a local value, of a global one, none.
-#[derive(Clone, Copy, Debug)]
-pub enum GivenCode<'a> {
-    /// None: only of a result.
-    None,
-    /// A local value.
-    Local(i32),
-    /// A global value: contents octets of an object identifier.
-    Global(&'a [u8]),
-}
-
-/// What a dialogue portion is given: contents octets of the context, and user information; empty: absent.
-#[derive(Clone, Copy, Debug, Default)]
-pub struct GivenPortion<'a> {
-    /// The application context name.
-    pub context: &'a [u8],
-    /// EXTERNALs.
-    pub info: &'a [u8],
-}
+/// In place of a status: the library is older than this crate, or of another MAJOR.
+pub const OTHER_LIBRARY: Refused = -1;
 
 /// An engine of C, and the output that it popped last.
 #[derive(Debug)]
@@ -55,26 +40,6 @@ pub struct Handle {
 
 // SAFETY: an engine may go from one thread to another; two engines share nothing (tcap.h, Threads).
 unsafe impl Send for Handle {}
-
-fn octets(of: &[u8]) -> tcap_octets {
-    tcap_octets { at: of.as_ptr(), len: of.len() }
-}
-
-fn code(of: GivenCode<'_>) -> tcap_code {
-    match of {
-        GivenCode::None => tcap_code { kind: ffi::TCAP_NO_CODE, local: 0, global: octets(&[]) },
-        GivenCode::Local(local) => tcap_code { kind: ffi::TCAP_LOCAL, local, global: octets(&[]) },
-        GivenCode::Global(global) => tcap_code { kind: ffi::TCAP_GLOBAL, local: 0, global: octets(global) },
-    }
-}
-
-fn portion(of: GivenPortion<'_>) -> tcap_portion {
-    tcap_portion { context: octets(of.context), info: octets(of.info) }
-}
-
-fn id(of: Option<i8>) -> c_int {
-    of.map_or(ffi::TCAP_NO_ID, c_int::from)
-}
 
 fn done(status: c_int) -> Result<(), Refused> {
     match status {
@@ -89,6 +54,11 @@ pub fn version() -> u32 {
     unsafe { ffi::tcap_version() }
 }
 
+/// Whether a library of this version has all that this crate calls and reads.
+fn is_enough(version: u32) -> bool {
+    version >> 16 == ffi::TCAP_VERSION >> 16 && version >= ffi::TCAP_VERSION
+}
+
 /// `tcap_status_text`.
 pub fn status_text(status: i32) -> &'static str {
     // SAFETY: it takes any number, and answers a text that ends and stays.
@@ -99,8 +69,11 @@ pub fn status_text(status: i32) -> &'static str {
 // In each call below: the pointer is an engine that `tcap_open` gave and only `drop` closes; no other call of it runs,
 // since `Handle` isn't `Sync`; slices outlive the call, and so do the variables that C writes.
 impl Handle {
-    /// `tcap_open`.
+    /// `tcap_open`. `OTHER_LIBRARY`, before any other call: its structs may be others.
     pub fn open(limits: &tcap_limits) -> Result<Handle, Refused> {
+        if !is_enough(version()) {
+            return Err(OTHER_LIBRARY);
+        }
         #[cfg(feature = "refusing")]
         refusing::install();
         let mut limits = *limits;
@@ -291,6 +264,15 @@ impl Handle {
         let status = unsafe { ffi::tcap_next_identifiers(self.at(), &mut dialogue, &mut number) };
         debug_assert_eq!(status, 0);
         (dialogue, number)
+    }
+}
+
+#[test]
+fn a_library_is_enough_from_the_own_version_to_the_next_major() {
+    for (version, enough) in
+        [(0x0000ff, false), (0x000100, true), (0x000101, true), (0x00ffff, true), (0x010100, false)]
+    {
+        assert_eq!(is_enough(version), enough, "{:06x}", version);
     }
 }
 

@@ -5,7 +5,7 @@ use crate::output::{output_of, Output};
 use crate::values::{AbortReason, Code, Invoke, Portion, State, Termination};
 use tcap_sys::{tcap_limits, GivenCode, GivenPortion, Handle};
 
-/// What an engine keeps to. Change what differs from [`Limits::default`].
+/// What an engine keeps to. End with `..Limits::default()`: a newer library may have more.
 #[derive(Clone, Copy, Debug, PartialEq, Eq)]
 pub struct Limits {
     /// How many dialogues may stand, 1 to 65,535.
@@ -37,6 +37,7 @@ impl Default for Limits {
 
 /// An output that waited, and the engine for requests while it is looked at.
 #[derive(Clone, Copy, Debug)]
+#[non_exhaustive]
 pub struct Waiting<'e> {
     /// Which event told it, from 1.
     pub event: u64,
@@ -103,6 +104,7 @@ fn portion(of: Portion<'_>) -> Result<GivenPortion<'_>, Error> {
 /// # What happens
 impl Engine {
     /// Opens an engine with clock 0 and no dialogues. [`Error::BadArgument`]: a limit is out of its range.
+    /// `OutOfMemory`, `OtherLibrary`.
     pub fn open(limits: &Limits) -> Result<Engine, Error> {
         let limits = tcap_limits {
             size: std::mem::size_of::<tcap_limits>(),

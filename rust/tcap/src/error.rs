@@ -41,6 +41,8 @@ pub enum Error {
     NoContext,
     /// An argument is out of its range: a fault of the program.
     BadArgument,
+    /// The library that was loaded is older than this crate, or of another MAJOR: no engine is opened.
+    OtherLibrary,
     /// A status of a newer library, by its number there.
     Other(i32),
 }
@@ -67,13 +69,17 @@ const ALL: [Error; 16] = [
 impl Error {
     /// The error of a status that isn't 0.
     pub(crate) fn of(status: i32) -> Error {
+        if status == tcap_sys::OTHER_LIBRARY {
+            return Error::OtherLibrary;
+        }
         let at = usize::try_from(status).ok().and_then(|status| status.checked_sub(1));
         at.and_then(|at| ALL.get(at).copied()).unwrap_or(Error::Other(status))
     }
 
-    /// Its number in tcap.h, 1 to 16.
+    /// Its number in tcap.h, 1 to 16; -1, which isn't there, of `OtherLibrary`.
     pub fn status(self) -> i32 {
         match self {
+            Error::OtherLibrary => tcap_sys::OTHER_LIBRARY,
             Error::Other(status) => status,
             named => ALL.iter().zip(1..).find(|(error, _)| **error == named).map_or(0, |(_, status)| status),
         }
@@ -82,7 +88,10 @@ impl Error {
 
 impl fmt::Display for Error {
     fn fmt(&self, f: &mut fmt::Formatter<'_>) -> fmt::Result {
-        f.write_str(tcap_sys::status_text(self.status()))
+        match self {
+            Error::OtherLibrary => write!(f, "libtcap is of version {:#08x}, which isn't enough", tcap_sys::version()),
+            _ => f.write_str(tcap_sys::status_text(self.status())),
+        }
     }
 }
 

@@ -6,6 +6,7 @@ use tcap_sys::OutputRef;
 /// The dialogue PDU of an Abort by the user (Q.773, Dialogue portion).
 #[derive(Clone, Copy, Debug, PartialEq, Eq, Hash)]
 #[allow(missing_docs)] // fields: as tcap.h names them
+#[non_exhaustive]
 pub enum Pdu<'a> {
     /// A dialogue request.
     Aarq { portion: Portion<'a>, is_version1: bool },
@@ -28,6 +29,7 @@ pub enum Pdu<'a> {
 /// [`crate::problem`], or another code of its kind.
 #[derive(Clone, Copy, Debug, PartialEq, Eq, Hash)]
 #[allow(missing_docs)] // fields: as tcap.h names them
+#[non_exhaustive]
 pub enum Output<'a> {
     /// A message to be sent: an N-UNITDATA request.
     Send { address: &'a [u8], message: &'a [u8] },

@@ -69,6 +69,7 @@ impl<'a> Portion<'a> {
 
 /// How far a dialogue is (Q.774, Transaction state machine).
 #[derive(Clone, Copy, Debug, PartialEq, Eq, Hash)]
+#[non_exhaustive]
 pub enum State {
     /// None stands.
     Unknown,
@@ -102,6 +103,7 @@ pub enum AbortReason {
 
 /// Why a message was dropped (own).
 #[derive(Clone, Copy, Debug, PartialEq, Eq, Hash)]
+#[non_exhaustive]
 pub enum DropCause {
     /// It is above 65,535 octets.
     TooLong,

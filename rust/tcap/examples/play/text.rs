@@ -54,7 +54,7 @@ fn pdu_text(pdu: Option<Pdu<'_>>) -> String {
         Some(Pdu::Abrt { info, is_by_provider: true }) => format!("abrt provider info {}", hexed(info)),
         Some(Pdu::Abrt { info, is_by_provider: false }) => format!("abrt user info {}", hexed(info)),
         Some(Pdu::Foreign { external }) => format!("foreign {}", hexed(external)),
-        Some(Pdu::Other { pdu }) => format!("pdu {}", pdu),
+        Some(other) => format!("{:?}", other),
     }
 }
 
@@ -83,7 +83,7 @@ fn drop_text(cause: DropCause) -> &'static str {
         DropCause::BadMessage => "badmessage",
         DropCause::NoDialogue => "nodialogue",
         DropCause::BadDialogue => "baddialogue",
-        DropCause::Other(_) => "otherwise",
+        _ => "otherwise",
     }
 }
 
@@ -126,6 +126,6 @@ pub fn text_of(output: Output<'_>) -> (usize, String) {
             (16, reject_text(dialogue, invoke_id, problem, number, "user"))
         }
         Output::Dropped { cause } => (17, format!("dropped {}", drop_text(cause))),
-        Output::Other { kind } => (0, format!("kind {}", kind)),
+        other => (0, format!("{:?}", other)),
     }
 }
