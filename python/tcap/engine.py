@@ -4,7 +4,7 @@ from __future__ import annotations
 import ctypes
 from collections.abc import Iterator
 from ctypes import byref, c_uint32, c_uint64, c_void_p
-from threading import Lock
+from threading import RLock
 from types import TracebackType
 from typing import Any, NoReturn
 
@@ -37,8 +37,9 @@ class Engine:
             match output: ...
 
     Moments are milliseconds by any clock that doesn't go back, at most 2^62. A call that is refused raises a TcapError
-    and has changed nothing. Threads may share an engine: its calls come one after the other, by a lock of its own. Don't
-    call it from a signal handler. An engine isn't copied or pickled: TypeError.
+    and has changed nothing. Threads may share an engine: its calls come one after the other, by a lock of its own. A
+    call within `next` by the same thread, as by a collection or a signal handler, is made at once; `next` and `close`
+    are a BadArgument there. An engine isn't copied or pickled: TypeError.
     """
 
     def __init__(
@@ -56,8 +57,9 @@ class Engine:
         first dialogue and the number of the first invocation, neither of them 0."""
         if hasattr(self, "_lock"):  # the engine that it has would be lost
             raise TypeError("an engine is opened once")
-        self._lock = Lock()
+        self._lock = RLock()  # a collection within `next` may leave a dialogue's block, which calls the engine
         self._engine: int | None = None
+        self._is_read = False
         limits = _c.Limits(
             ctypes.sizeof(_c.Limits),
             _given.u32("max_dialogues", max_dialogues),
@@ -76,6 +78,7 @@ class Engine:
     def close(self) -> None:
         """Gives back the engine's memory. What waits is lost, and each later call is a BadArgument."""
         with self._lock:
+            self._unread()
             engine, self._engine = self._engine, None
             if engine is not None:
                 _c.LIBRARY.tcap_close(engine)
@@ -101,6 +104,11 @@ class Engine:
         if self._engine is None:
             raise BadArgument("the engine is closed")
         return self._engine
+
+    def _unread(self) -> None:
+        """Under the lock: no output of C is being copied, as it is where a collection in `next` comes here."""
+        if self._is_read:
+            raise BadArgument("an output is being read")
 
     def _call(self, name: str, *arguments: Any) -> None:
         """A call that answers a status."""
@@ -141,8 +149,13 @@ class Engine:
     def next(self) -> Output | None:
         """The output that comes next, which waits no longer; None where nothing waits."""
         with self._lock:
-            found = _c.LIBRARY.tcap_next(self._open())
-            return _told.output(self, found.contents) if found else None
+            self._unread()
+            self._is_read = True
+            try:
+                found = _c.LIBRARY.tcap_next(self._open())
+                return _told.output(self, found.contents) if found else None
+            finally:
+                self._is_read = False
 
     def __iter__(self) -> Iterator[Output]:
         """All that waits, in order, also what comes to wait on the way."""

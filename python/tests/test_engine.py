@@ -9,6 +9,7 @@ import threading
 import pytest
 
 import tcap
+from tcap import _told
 from tcap import (
     Aare, BadArgument, BeginInd, ClosedInd, ContinueInd, Diagnostic, Dialogue, Dropped, DropCause, EndInd, Engine, Global,
     InvokeInd, LCancelInd, Local, LRejectInd, Output, PAbortInd, AbortCause, Problem, ResultLInd, ResultNLInd, Send, State,
@@ -175,6 +176,23 @@ def test_the_end_of_an_engine() -> None:
     for _ in range(100):
         Engine().dialogue().begin(0, b"never taken")
     gc.collect()
+
+
+def test_a_call_within_next(monkeypatch: pytest.MonkeyPatch) -> None:
+    """As where a collection, which may come while an output is read, leaves a dialogue's block."""
+    engine, read = Engine(), _told.output
+
+    def read_later(of: Engine, output: object) -> Output:
+        for refused in (of.next, of.close):
+            with pytest.raises(BadArgument, match="being read"):
+                refused()
+        with of.dialogue():
+            assert of.dialogues() == 2
+        return read(of, output)
+
+    engine.dialogue().begin(0, b"B")
+    monkeypatch.setattr(_told, "output", read_later)
+    assert isinstance(engine.next(), Send) and engine.next() is None and engine.dialogues() == 1
 
 
 def test_threads_share_an_engine() -> None:
