@@ -12,6 +12,7 @@
  * Refusals. A call that answers another status than TCAP_OK has changed nothing, and wrote nothing.
  *   But a call that takes `now_ms` is two events, the moment and then the call: where the call is
  *   refused, the clock may stand at that moment, and what was due then waits, as by tcap_advance.
+ *   Only NULL, and a length beside a pointer that is NULL, are seen before the moment.
  *   TCAP_OUT_OF_MEMORY is such a refusal: the same call may be made again, now or later.
  * Octets. What you pass is copied during the call. What tcap_next answers, and all it points to, is
  *   valid until the next tcap_next or tcap_close of that engine, whatever other calls you make.
@@ -21,8 +22,9 @@
  *   from one thread to another, under a lock or by start and join. Two engines share nothing.
  *   Don't call from a signal handler, nor in a forked child of a process with threads.
  * What you owe, and nothing checks: each `tcap *` is one that tcap_open gave and tcap_close didn't
- *   take back, or NULL; calls come one at a time; pointers point to as many octets as you say. All
- *   else that can be wrong about an argument is answered: TCAP_BAD_ARGUMENT.
+ *   take back, or NULL; calls come one at a time; pointers point to as many octets as you say, and
+ *   what a call writes doesn't overlap what it is passed. All else that can be wrong about an
+ *   argument is answered: TCAP_BAD_ARGUMENT.
  * What may change while the soname stays: tcap_limits and tcap_output grow at their end, and
  *   enumerations by new values; no other struct changes. So let `switch` have a `default`, take
  *   outputs by pointer as tcap_next answers them, and begin limits with TCAP_LIMITS. */
@@ -76,7 +78,8 @@ typedef struct {
 
 /* What the dialogue portion of a message has for the user (Q.771, Dialogue handling). */
 typedef struct {
-  tcap_octets context; /* application context name: contents octets of its object identifier */
+  tcap_octets context; /* application context name: contents octets of its object identifier,
+                        * 04 00 00 01 00 01 03 of 0.4.0.0.1.0.1.3 */
   tcap_octets info;    /* user information: EXTERNALs one after the other */
 } tcap_portion;
 
@@ -194,8 +197,8 @@ const char *tcap_status_text(tcap_status status);
 /* ---- what happens */
 
 /* A message was received from an address, 0 to 255 octets into which no engine looks: answers go
- * there. Octets of any kind are answered, and something is always told of them.
- * TCAP_MOMENT_TOO_LATE, TCAP_OUT_OF_MEMORY. */
+ * there. No octets are refused: at least one output waits then. TCAP_MOMENT_TOO_LATE,
+ * TCAP_OUT_OF_MEMORY. */
 TCAP_MUST_CHECK tcap_status tcap_receive(tcap *engine, uint64_t now_ms, tcap_octets from,
                                          tcap_octets message);
 
