@@ -74,6 +74,7 @@ check: all
 # What a tarball has, besides the archive: headers, the C side, man page, bindings, examples, and what checks them.
 DIST := Makefile docs/RELEASES.md include c man python rust bindings examples
 dist: $(ARCHIVE)
+	@git diff --quiet HEAD -- $(DIST) crates || { echo "make: files differ from the commit that is released" >&2; exit 1; }
 	rm -rf $(OUT)/dist && mkdir -p $(OUT)/dist/$(NAME)/lib
 	git ls-files -z $(DIST) | xargs -0 cp --parents -t $(OUT)/dist/$(NAME)
 	mv $(OUT)/dist/$(NAME)/bindings/INSTALL.md $(OUT)/dist/$(NAME)/README.md
