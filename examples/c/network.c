@@ -1,5 +1,5 @@
 /* An HLR and a VLR in one process, with a network and a clock that the program plays: each message takes
- * 20 ms, and one is lost. In a program of yours stands SCCP in place of this, and poll() with the
+ * 20 ms, and two are lost. In a program of yours stands SCCP in place of this, and poll() with the
  * moment of tcap_next_timer as its timeout. */
 #include <stdio.h>
 #include <stdlib.h>
