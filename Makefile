@@ -42,7 +42,7 @@ $(PROVED): $(if $(filter file,$(origin ARCHIVE)),$(SOURCES))
 	cd crates/tcap_c && rt lib
 	@touch $@
 
-$(OUT)/libtcap.a $(OUT)/$(SONAME) &: $(ARCHIVE) c/tcap.c c/tcap_c.h c/tcap.map c/Makefile include/tcap.h
+$(OUT)/libtcap.a $(OUT)/$(SONAME) &: $(ARCHIVE) c/tcap.c c/tcap_codec.c c/tcap_c.h c/tcap_codec_c.h c/tcap.map c/Makefile include/tcap.h include/tcap_codec.h
 	$(MAKE) -C c ARCHIVE=$(abspath $(ARCHIVE)) OUT=$(OUT) $(OUT)/libtcap.a $(OUT)/$(SONAME)
 	@touch $(OUT)/libtcap.a $(OUT)/$(SONAME)
 
