@@ -7,8 +7,8 @@
 #   make dist               a tarball that needs no `rt`: out/libtcap-VERSION-MACHINE.tar.gz, and its checksum
 #   make clean
 #
-# The proved part is an archive, ARCHIVE. A released tarball has it; a clone builds it by `rt lib`, from the Rattle
-# toolchain, and anew where the sources of tcap_c or of a crate below it are newer. One that you name is taken as it is.
+# No folder that is named here has a space in its name. The proved part is an archive, ARCHIVE. A released tarball has
+# it; a clone builds it by `rt lib`, from the Rattle toolchain, and anew where the sources of tcap_c or of a crate below it are newer. One that you name is taken as it is.
 # docs/RELEASES.md says how versions are counted and what may change.
 VERSION := $(shell sed -n 's/^VERSION = //p' c/Makefile)
 MACHINE := $(shell $(CC) -dumpmachine)
@@ -72,7 +72,7 @@ check: all
 	bindings/check $(OUT)
 
 # What a tarball has, besides the archive: headers, the C side, man page, bindings, examples, and what checks them.
-DIST := Makefile docs/RELEASES.md include c man python rust bindings examples
+DIST := Makefile docs/RELEASES.md docs/USING.md docs/PROFILE.md docs/FORMATS.md include c man python rust bindings examples
 dist: $(ARCHIVE)
 	@git diff --quiet HEAD -- $(DIST) crates || { echo "make: files differ from the commit that is released" >&2; exit 1; }
 	rm -rf $(OUT)/dist && mkdir -p $(OUT)/dist/$(NAME)/lib

@@ -7,6 +7,7 @@ from typing import TYPE_CHECKING, Any
 
 from . import _given
 from ._given import Octets
+from .errors import TcapError, UnknownDialogue
 from .values import AbortReason, Code, State, Termination
 
 if TYPE_CHECKING:
@@ -65,8 +66,15 @@ class Dialogue:
     def __exit__(
         self, kind: type[BaseException] | None, error: BaseException | None, trace: TracebackType | None
     ) -> None:
-        if self.engine._engine is not None and self.state() != State.UNKNOWN:
+        if self.engine._engine is None or self.state() == State.UNKNOWN:
+            return
+        try:
             self.u_abort(0)  # the clock doesn't go back: at the moment at which it stands
+        except UnknownDialogue:
+            pass  # another thread ended it meanwhile
+        except TcapError:
+            if error is None:
+                raise  # else what ended the block is told
 
     def _call(self, name: str, *arguments: Any) -> None:
         self.engine._call(name, _given.u32("id", self.id), *arguments)
