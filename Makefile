@@ -8,7 +8,8 @@
 #   make clean
 #
 # No folder that is named here has a space in its name. The proved part is an archive, ARCHIVE. A released tarball has
-# it; a clone builds it by `rt lib`, from the Rattle toolchain, and anew where the sources of tcap_c or of a crate below it are newer. One that you name is taken as it is.
+# it; a clone builds it by `rt lib`, from the Rattle toolchain, and anew where the sources of tcap_c or of a crate
+# below it are newer. One that you name is taken as it is.
 # docs/RELEASES.md says how versions are counted and what may change.
 VERSION := $(shell sed -n 's/^VERSION = //p' c/Makefile)
 MACHINE := $(shell $(CC) -dumpmachine)
