@@ -5,6 +5,7 @@ layout of its structs (as `layout`, compiled from layout.c, prints it) with that
     names.py LAYOUT     status 1 and a line for each difference
 """
 import ctypes
+import inspect
 import pathlib
 import re
 import subprocess
@@ -121,6 +122,21 @@ def compare_structs(rust: str) -> None:
             differences.append(f"{struct}: {fields} in tcap-sys, {of_package} in the package")
 
 
+def compare_limits() -> None:
+    """The limits where a program sets none."""
+    fields = [name for name, *_ in _c.Limits._fields_ if name != "size"]
+    found = re.search(r"#define TCAP_LIMITS \{sizeof\(tcap_limits\), ([^}]*)\}", HEADER)
+    assert found
+    limits = dict(zip(fields, map(int, found.group(1).split(", ")), strict=True))
+    opened = inspect.signature(tcap.Engine.__init__).parameters
+    compare("limits of the package", limits, {name: opened[name].default for name in fields})
+    source = (TOP / "rust" / "tcap" / "src" / "engine.rs").read_text()
+    default = re.search(r"impl Default for Limits \{(.*?)\n\}", source, re.S)
+    assert default
+    of_rust = {name: int(value) for name, value in re.findall(r"(\w+): ([\d_]+),", default.group(1))}
+    compare("limits of the crate", limits, of_rust)
+
+
 def main(layout: str) -> int:
     calls = set(re.findall(r"\b(tcap_[a-z_]+)\(", HEADER))
     rust = (TOP / "rust" / "tcap-sys" / "src" / "ffi.rs").read_text()
@@ -136,6 +152,7 @@ def main(layout: str) -> int:
     compare_layouts(layout)
     compare_structs(rust)
     compare_calls(rust)
+    compare_limits()
     version = re.search(r"#define TCAP_VERSION 0x(([0-9a-f]{2})([0-9a-f]{2})([0-9a-f]{2}))u", HEADER)
     assert version
     dotted = ".".join(str(int(part, 16)) for part in version.groups()[1:])

@@ -19,7 +19,7 @@ memory = Memory()
 from test_memory import story
 memory.refuse_from(None)
 asked = memory.count(story)
-for nth in range(asked):  # a refusal that the library can do without isn't told
+for nth in range(asked):
     told = story(memory, nth)
     print(nth, memory.asked(), told)
 """
@@ -57,7 +57,7 @@ def test_each_request_refused_once() -> None:
     ran = subprocess.run([sys.executable, "-c", STORY, str(here)], capture_output=True, text=True, cwd=here.parent)
     assert ran.returncode == 0, ran.stderr
     told = [line.split()[2] == "True" for line in ran.stdout.splitlines()]
-    assert len(told) > 10 and told.count(True) > len(told) // 2
+    assert len(told) > 10 and told.count(False) <= 2  # an engine does without two places for what dialogues leave
 
 
 def test_out_of_memory_is_a_memory_error() -> None:

@@ -47,7 +47,8 @@ fn each_request_refused_once() {
     let mut refused = 0;
     for nth in 0..requests {
         refusing::refuse(nth..nth + 1);
-        refused += u64::from(story()); // a refusal that the library can do without isn't told
+        refused += u64::from(story());
     }
-    assert!(refused <= requests && refused > requests / 2);
+    // An engine does without two places for what dialogues leave.
+    assert!(refused <= requests && requests - refused <= 2);
 }
