@@ -13,8 +13,9 @@
 #include <string.h>
 
 #include "play_text.h"
+#include "play_words.h"
 
-enum { WORDS = 9, LONGEST = 1 << 16, MESSAGES = 256, KINDS = 18, STATUSES = 17 };
+enum { WORDS = 9, LONGEST_LINE = 1 << 18, MESSAGES = 256, KINDS = 18, STATUSES = 17 };
 
 struct message { uint8_t *octets; size_t len; bool is_to_peer; enum { WAITS, RECEIVED, LOST } fate; };
 struct side { char letter; uint8_t address; tcap *engine; struct message sent[MESSAGES]; size_t count; };
@@ -56,68 +57,10 @@ static void answered(struct side *s, tcap_status status, const char *name, uint6
   }
 }
 
-/* ---- words */
-static bool is(const char *word, const char *name) { return strcmp(word, name) == 0; }
-/* A decimal number of at most this, without leading zeros. */
-static bool natural(const char *word, uint64_t most, uint64_t *value) {
-  uint64_t n = 0;
-  if (!*word || (*word == '0' && word[1])) return false;
-  for (; *word; word++) {
-    if (*word < '0' || *word > '9') return false;
-    uint64_t digit = (uint64_t)(*word - '0');
-    if (n > (most - digit) / 10) return false;
-    n = 10 * n + digit;
-  }
-  *value = n;
-  return true;
-}
-static bool integer(const char *word, int64_t low, int64_t high, int64_t *value) {
-  uint64_t n;
-  if (*word == '-') {
-    if (!natural(word + 1, (uint64_t)-low, &n) || !n) return false;
-    *value = -(int64_t)n;
-    return true;
-  }
-  if (!natural(word, (uint64_t)high, &n)) return false;
-  *value = (int64_t)n;
-  return true;
-}
-static bool identifier(const char *word, bool may_be_absent, int *id) {
-  int64_t n = TCAP_NO_ID;
-  bool is_good = (may_be_absent && is(word, "-")) || integer(word, -128, 127, &n);
-  *id = (int)n;
-  return is_good;
-}
-static bool dialogue_named(const char *word, uint32_t *dialogue) {
-  uint64_t n = 0;
-  bool is_good = natural(word, UINT32_MAX, &n);
-  *dialogue = (uint32_t)n;
-  return is_good;
-}
-/* Hexadecimal, or `-` for none, into one of four rooms. */
-static bool hex(const char *word, int room, tcap_octets *of) {
-  static uint8_t rooms[4][LONGEST];
-  size_t len = strlen(word);
-  *of = (tcap_octets){rooms[room], 0};
-  if (is(word, "-")) return true;
-  if (!len || len % 2 || len / 2 > LONGEST || strspn(word, "0123456789abcdefABCDEF") != len) return false;
-  for (; of->len < len / 2; of->len++) {
-    const char digits[3] = {word[2 * of->len], word[2 * of->len + 1], 0};
-    rooms[room][of->len] = (uint8_t)strtoul(digits, NULL, 16);
-  }
-  return true;
-}
-static bool code_named(const char *word, tcap_code *code) {
-  int64_t n = 0;
-  bool is_good = integer(word, INT32_MIN, INT32_MAX, &n);
-  *code = (tcap_code){TCAP_LOCAL, (int32_t)n, {NULL, 0}};
-  return is_good;
-}
+/* ---- lines, by the number of their words */
 static struct side *side_named(const char *word) {
   return is(word, "A") ? &sides[0] : is(word, "B") ? &sides[1] : NULL;
 }
-
-/* ---- lines, by the number of their words */
 static void open_engine(struct side *s, tcap_limits limits) {
   tcap_close(s->engine);
   s->engine = NULL;
@@ -294,7 +237,7 @@ static bool line_is_done(char *line) {
 }
 
 static bool is_played(FILE *script) {
-  static char line[4 * LONGEST];
+  static char line[LONGEST_LINE];
   for (int number = 1; fgets(line, sizeof line, script); number++) {
     line[strcspn(line, "\n")] = 0;
     if (!*line || *line == '#' || line_is_done(line)) continue;
