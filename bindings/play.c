@@ -1,7 +1,7 @@
 /* Plays a script (docs/FORMATS.md, play) by two engines of libtcap, and prints its text:
  *
  *   play SCRIPT [SEEN]    status 1 where a line is bad; SEEN: how often each status was answered and each kind of output
- *                         told is written to this file
+ *                         told is written to this file, `status NUMBER - COUNT` and `kind NUMBER - COUNT`
  *
  * Three lines more than there: `memory refused` and `memory given`, from where on the library gets none, or some again;
  * `S open DIALOGUES MESSAGE DIALOGUE NUMBER`, another engine in place of S's, with these limits and first identifiers; and a
@@ -15,10 +15,11 @@
 #include "play_text.h"
 #include "play_words.h"
 
-enum { WORDS = 9, LONGEST_LINE = 1 << 18, MESSAGES = 256, KINDS = 18, STATUSES = 17 };
+enum { WORDS = 9, KINDS = 18, STATUSES = 17 };
+enum { LONGEST_SCRIPT = 1 << 20 }; /* docs/FORMATS.md; so no line is longer, and no more messages are sent */
 
 struct message { uint8_t *octets; size_t len; bool is_to_peer; enum { WAITS, RECEIVED, LOST } fate; };
-struct side { char letter; uint8_t address; tcap *engine; struct message sent[MESSAGES]; size_t count; };
+struct side { char letter; uint8_t address; tcap *engine; struct message *sent; size_t count; };
 
 static struct side sides[2] = {{.letter = 'A', .address = 0x41}, {.letter = 'B', .address = 0x42}};
 static uint64_t now, idle;
@@ -32,9 +33,12 @@ static void *grow(void *block, size_t size) { return is_refused ? NULL : realloc
 static struct side *other(const struct side *of) { return &sides[of == &sides[0]]; }
 
 static void print_send(struct side *s, const tcap_output *o) {
-  struct message *m = &s->sent[s->count++];
+  struct message *sent = realloc(s->sent, (s->count + 1) * sizeof *sent);
+  if (!sent) abort();
+  s->sent = sent;
+  struct message *m = &sent[s->count++];
   m->octets = malloc(o->message.len + 1), m->len = o->message.len, m->fate = WAITS;
-  if (!m->octets || s->count == MESSAGES) abort();
+  if (!m->octets) abort();
   memcpy(m->octets, o->message.at, m->len);
   m->is_to_peer = o->address.len == 1 && *o->address.at == other(s)->address;
   printf("send %c%zu ", s->letter, s->count);
@@ -61,10 +65,13 @@ static void answered(struct side *s, tcap_status status, const char *name, uint6
 static struct side *side_named(const char *word) {
   return is(word, "A") ? &sides[0] : is(word, "B") ? &sides[1] : NULL;
 }
-static void open_engine(struct side *s, tcap_limits limits) {
+/* Puts another engine in place of the side's: whether its limits are in their ranges. */
+static bool open_engine(struct side *s, tcap_limits limits) {
+  tcap *engine;
+  if (tcap_open(&engine, &limits)) return false;
   tcap_close(s->engine);
-  s->engine = NULL;
-  if (tcap_open(&s->engine, &limits)) abort();
+  s->engine = engine;
+  return true;
 }
 static tcap_limits limits_of_a_play(void) {
   tcap_limits limits = TCAP_LIMITS;
@@ -81,7 +88,7 @@ static bool carry(const char *verb, const char *name) {
   uint64_t number;
   const char letter[2] = {name[0], 0};
   struct side *from = side_named(letter);
-  if (!from || !natural(name + 1, MESSAGES, &number) || number < 1 || number > from->count) return false;
+  if (!from || !natural(name + 1, from->count, &number) || number < 1) return false;
   struct message *m = &from->sent[number - 1];
   if (is(verb, "lose")) {
     if (m->fate != WAITS) return false;
@@ -158,8 +165,7 @@ static bool another(struct side *s, char **w) {
   tcap_limits limits = limits_of_a_play();
   limits.max_dialogues = (uint32_t)n[0], limits.max_message = (uint32_t)n[1];
   limits.first_dialogue = (uint32_t)n[2], limits.first_number = n[3];
-  open_engine(s, limits);
-  return true;
+  return open_engine(s, limits);
 }
 static bool reject(struct side *s, uint32_t d, char **w) {
   static const char *const names[] = {"general", "invoke", "result", "error"};
@@ -219,8 +225,8 @@ static bool line_is_done(char *line) {
   if (!is_open) {
     bool is_idle = count == 2 && is(w[0], "idle");
     if (is_idle && !natural(w[1], UINT64_C(1) << 62, &idle)) return false;
-    open_engine(&sides[0], limits_of_a_play()), open_engine(&sides[1], limits_of_a_play());
-    is_open = true;
+    is_open = open_engine(&sides[0], limits_of_a_play()) && open_engine(&sides[1], limits_of_a_play());
+    if (!is_open) return false;
     if (is_idle) return true;
   }
   struct side *s = side_named(w[0]);
@@ -237,7 +243,7 @@ static bool line_is_done(char *line) {
 }
 
 static bool is_played(FILE *script) {
-  static char line[LONGEST_LINE];
+  static char line[LONGEST_SCRIPT + 2];
   for (int number = 1; fgets(line, sizeof line, script); number++) {
     line[strcspn(line, "\n")] = 0;
     if (!*line || *line == '#' || line_is_done(line)) continue;
@@ -249,8 +255,8 @@ static bool is_played(FILE *script) {
 static void write_seen(const char *name) {
   FILE *file = fopen(name, "w");
   if (!file) perror(name), exit(2);
-  for (int i = 0; i < STATUSES; i++) (void)fprintf(file, "status %d %lu\n", i, statuses[i]);
-  for (int i = 1; i < KINDS; i++) (void)fprintf(file, "kind %d %lu\n", i, kinds[i]);
+  for (int i = 0; i < STATUSES; i++) (void)fprintf(file, "status %d - %lu\n", i, statuses[i]);
+  for (int i = 1; i < KINDS; i++) (void)fprintf(file, "kind %d - %lu\n", i, kinds[i]);
   if (fclose(file)) perror(name), exit(2);
 }
 int main(int argc, char **argv) {
@@ -261,6 +267,7 @@ int main(int argc, char **argv) {
   for (struct side *s = sides; s < sides + 2; s++) {
     tcap_close(s->engine);
     while (s->count) free(s->sent[--s->count].octets);
+    free(s->sent);
   }
   if (argc > 2) write_seen(argv[2]);
   return !is_good;

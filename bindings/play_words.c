@@ -4,7 +4,7 @@
 #include <stdlib.h>
 #include <string.h>
 
-enum { LONGEST = 1 << 16 };
+enum { LONGEST = 1 << 19 }; /* a script has at most twice as many octets (docs/FORMATS.md) */
 
 bool is(const char *word, const char *name) { return strcmp(word, name) == 0; }
 bool natural(const char *word, uint64_t most, uint64_t *value) {
