@@ -43,7 +43,13 @@ $(PROVED): $(if $(filter file,$(origin ARCHIVE)),$(SOURCES))
 	cd crates/tcap_c && rt lib
 	@touch $@
 
-$(OUT)/libtcap.a $(OUT)/$(SONAME) &: $(ARCHIVE) c/tcap.c c/tcap_codec.c c/tcap_c.h c/tcap_codec_c.h c/tcap.map c/Makefile include/tcap.h include/tcap_codec.h
+# The sum of the archive that out/ was made of: another one counts too where it is older.
+$(OUT)/archive: $(ARCHIVE) FORCE
+	@mkdir -p $(OUT)
+	@sum=$$(cksum < $(ARCHIVE)); [ "$$(cat $@ 2> /dev/null)" = "$$sum" ] || echo "$$sum" > $@
+
+$(OUT)/libtcap.a $(OUT)/$(SONAME) &: $(OUT)/archive c/tcap.c c/tcap_codec.c c/tcap_c.h c/tcap_codec_c.h c/tcap.map c/Makefile include/tcap.h include/tcap_codec.h
+	@rm -f $(OUT)/libtcap.a $(OUT)/$(SONAME)
 	$(MAKE) -C c ARCHIVE=$(abspath $(ARCHIVE)) OUT=$(OUT) $(OUT)/libtcap.a $(OUT)/$(SONAME)
 	@touch $(OUT)/libtcap.a $(OUT)/$(SONAME)
 
@@ -70,6 +76,7 @@ uninstall:
 	rm -f $(DESTDIR)$(MANDIR)/man3/libtcap.3
 
 check: all
+	c/symbols $(abspath $(ARCHIVE))
 	bindings/check $(OUT)
 
 # What a tarball has, besides the archive: headers, the C side, man page, bindings, examples, and what checks them.
@@ -89,4 +96,5 @@ dist: $(ARCHIVE)
 clean:
 	rm -rf $(OUT)
 
-.PHONY: all install uninstall check dist clean
+FORCE:
+.PHONY: all install uninstall check dist clean FORCE
