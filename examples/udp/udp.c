@@ -4,7 +4,6 @@
 #define _POSIX_C_SOURCE 200809L // NOLINT(bugprone-reserved-identifier,cert-dcl37-c,cert-dcl51-cpp): POSIX names it
 #include <arpa/inet.h>
 #include <errno.h>
-#include <limits.h>
 #include <poll.h>
 #include <stdio.h>
 #include <stdlib.h>
@@ -55,32 +54,35 @@ void network_send(struct node *from, tcap_octets to, tcap_octets message) {
     say(from, "the network doesn't take it: %s", strerror(errno)); /* as a lost one */
 }
 
-/* A datagram came. One from elsewhere than the other node is none of ours, and one that is too long is cut off. */
+/* A datagram came. One from elsewhere than the other node is none of ours. */
 static void receive(int at) {
-  uint8_t octets[LONGEST];
+  uint8_t octets[LONGEST + 1]; /* one more shows that it was longer */
   struct sockaddr_in from;
   socklen_t size = sizeof from;
   ssize_t len = recvfrom(sockets[at].fd, octets, sizeof octets, 0, (struct sockaddr *)&from, &size);
   if (len < 0 || from.sin_port != addresses[!at].sin_port) return;
+  if (len > LONGEST) {
+    say(nodes[at], "too long for the network");
+    return;
+  }
   tcap_octets message = {octets, (size_t)len};
   node_receive(nodes[at], nodes[!at]->name, message);
 }
 
-/* How long poll() may wait: until the first timer of any engine, for ever where none runs. */
-static int wait_ms(void) {
-  uint64_t first = TCAP_NEVER, now = clock_ms();
+/* How long poll() may wait: until the first timer of any engine, and no longer than until the end. A program that has no
+ * end waits for ever, -1, where the first is TCAP_NEVER. */
+static int wait_ms(uint64_t end) {
+  uint64_t first = end, now = clock_ms();
   for (int i = 0; i < NODES; i++)
     if (tcap_next_timer(nodes[i]->engine) < first) first = tcap_next_timer(nodes[i]->engine);
-  if (first == TCAP_NEVER) return -1;
-  if (first <= now) return 0;
-  return first - now < INT_MAX ? (int)(first - now) : INT_MAX;
+  return first <= now ? 0 : (int)(first - now);
 }
 
 /* Until no dialogue stands. */
 static void run(void) {
   uint64_t end = clock_ms() + LIMIT;
   while (tcap_dialogues(vlr.engine) + tcap_dialogues(hlr.engine) > 0 && clock_ms() < end) {
-    int ready = poll(sockets, NODES, wait_ms());
+    int ready = poll(sockets, NODES, wait_ms(end));
     if (ready < 0 && errno != EINTR) fail("poll");
     for (int i = 0; i < NODES; i++) {
       if (tcap_next_timer(nodes[i]->engine) <= clock_ms()) node_wake(nodes[i]);
