@@ -60,6 +60,7 @@ class Engine:
         self._lock = RLock()  # a collection within `next` may leave a dialogue's block, which calls the engine
         self._engine: int | None = None
         self._is_read = False
+        self._taken: Any = None
         limits = _c.Limits(
             ctypes.sizeof(_c.Limits),
             _given.u32("max_dialogues", max_dialogues),
@@ -79,7 +80,7 @@ class Engine:
         """Gives back the engine's memory. What waits is lost, and each later call is a BadArgument."""
         with self._lock:
             self._unread()
-            engine, self._engine = self._engine, None
+            engine, self._engine, self._taken = self._engine, None, None
             if engine is not None:
                 _c.LIBRARY.tcap_close(engine)
 
@@ -147,13 +148,17 @@ class Engine:
     # ---- what is to be sent and told
 
     def next(self) -> Output | None:
-        """The output that comes next, which waits no longer; None where nothing waits."""
+        """The output that comes next, which waits no longer; None where nothing waits. Where its octets can't be copied,
+        as by a MemoryError or a KeyboardInterrupt, the next call answers it."""
         with self._lock:
             self._unread()
             self._is_read = True
             try:
-                found = _c.LIBRARY.tcap_next(self._open())
-                return _told.output(self, found.contents) if found else None
+                # C keeps an output until it is asked for the next: `_taken` is one that was taken, and not yet told.
+                self._taken = self._taken or _c.LIBRARY.tcap_next(self._open())
+                output = _told.output(self, self._taken.contents) if self._taken else None
+                self._taken = None
+                return output
             finally:
                 self._is_read = False
 

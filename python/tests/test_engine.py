@@ -9,7 +9,7 @@ import threading
 import pytest
 
 import tcap
-from tcap import _told
+from tcap import _c, _told
 from tcap import (
     Aare, BadArgument, BeginInd, ClosedInd, ContinueInd, Diagnostic, Dialogue, Dropped, DropCause, EndInd, Engine, Global,
     InvokeInd, LCancelInd, Local, LRejectInd, Output, PAbortInd, AbortCause, Problem, ResultLInd, ResultNLInd, Send, State,
@@ -231,3 +231,40 @@ def test_the_loop(capsys: pytest.CaptureFixture[str]) -> None:
     assert capsys.readouterr().out.splitlines() == [
         "asked as 1", "begin 1 04000001000103", "end 1", "result of 1 0401bb", "continue: unknown dialogue",
     ]  # fmt: skip
+def test_a_block_closes_its_engine() -> None:
+    with Engine() as engine:
+        assert engine.dialogues() == 0
+    with pytest.raises(BadArgument, match="closed"):
+        engine.dialogues()
+
+
+@pytest.mark.parametrize("kind", [MemoryError, KeyboardInterrupt])
+def test_an_output_that_could_not_be_read_is_told_next(kind: type[BaseException], monkeypatch: pytest.MonkeyPatch) -> None:
+    engine = Engine()
+    for address in (b"A", b"B"):
+        engine.dialogue().begin(0, address)
+    with monkeypatch.context() as patch, pytest.raises(kind):
+        patch.setattr(_told, "output", lambda of, output: (_ for _ in ()).throw(kind))
+        engine.next()
+    assert [output.address for output in engine if isinstance(output, Send)] == [b"A", b"B"]
+
+
+def test_another_thread_waits_until_an_output_is_read(monkeypatch: pytest.MonkeyPatch) -> None:
+    engine, read, found = Engine(), _told.output, []
+    other = threading.Thread(target=lambda: found.append(engine.next()))
+
+    def read_later(of: Engine, output: object) -> Output:
+        monkeypatch.setattr(_told, "output", read)
+        other.start()
+        other.join(timeout=0.1)
+        assert other.is_alive()
+        return read(of, output)
+
+    for address in (b"A", b"B"):
+        engine.dialogue().begin(0, address)
+    monkeypatch.setattr(_told, "output", read_later)
+    found.append(engine.next())
+    other.join()
+    assert [output.address for output in found if isinstance(output, Send)] == [b"A", b"B"]
+
+
