@@ -3,15 +3,15 @@ from __future__ import annotations
 
 import ctypes
 from collections.abc import Callable
-from enum import IntEnum
 from typing import TYPE_CHECKING, Any, cast
 
 from . import _c, outputs
-from .values import AbortCause, Code, Diagnostic, DropCause, Global, Local, Problem
+from .values import AbortCause, Code, Diagnostic, DropCause, Global, Local, Problem, named
 
 if TYPE_CHECKING:
     from .dialogue import Dialogue
     from .engine import Engine
+
 
 def _octets(of: Any) -> bytes:
     return ctypes.string_at(of.at, of.len) if of.len else b""
@@ -23,14 +23,6 @@ def _if(there: int, of: Any) -> bytes | None:
 
 def _id(value: int) -> int | None:
     return None if value == _c.NO_ID else value
-
-
-def _named(kind: type[IntEnum], value: int) -> int:
-    """The number by its name, if it has one."""
-    try:
-        return kind(value)
-    except ValueError:
-        return value
 
 
 def _code(of: Any) -> Code | None:
@@ -53,7 +45,7 @@ def _pdu(o: Any) -> outputs.Pdu | None:
         case 2:
             return outputs.Audt(context, info, bool(o.is_version1))
         case 3:
-            diagnostic = _named(Diagnostic, o.diagnostic)
+            diagnostic = named(Diagnostic, o.diagnostic)
             return outputs.Aare(context, info, bool(o.is_version1), bool(o.is_accepted), diagnostic)
         case 4:
             return outputs.Abrt(info, bool(o.is_by_provider))
@@ -84,7 +76,7 @@ _INVOCATION = (_of, _NUMBER, _INVOKE_ID)
 _REJECT: tuple[Field, ...] = (
     _maybe,
     _INVOKE_ID,
-    lambda _, o: _named(Problem, o.problem),
+    lambda _, o: named(Problem, o.problem),
     lambda _, o: o.number if o.closes else None,
 )
 
@@ -96,7 +88,7 @@ KINDS: dict[int, tuple[type[outputs.Told], tuple[Field, ...]]] = {
     4: (outputs.ContinueInd, _PORTION),
     5: (outputs.EndInd, _PORTION),
     6: (outputs.UAbortInd, (_of, lambda _, o: _pdu(o))),
-    7: (outputs.PAbortInd, (_of, lambda _, o: _named(AbortCause, o.cause))),
+    7: (outputs.PAbortInd, (_of, lambda _, o: named(AbortCause, o.cause))),
     8: (outputs.InvokeInd, (_maybe, _INVOKE_ID, lambda _, o: _id(o.linked_id), _CODE, _PARAMETER)),
     9: (outputs.ResultLInd, (*_INVOCATION, _CODE, _PARAMETER)),
     10: (outputs.ResultNLInd, (*_INVOCATION, _CODE, _PARAMETER)),
@@ -106,7 +98,7 @@ KINDS: dict[int, tuple[type[outputs.Told], tuple[Field, ...]]] = {
     14: (outputs.LRejectInd, _REJECT),
     15: (outputs.RRejectInd, _REJECT),
     16: (outputs.URejectInd, _REJECT),
-    17: (outputs.Dropped, (lambda _, o: _named(DropCause, o.cause),)),
+    17: (outputs.Dropped, (lambda _, o: named(DropCause, o.cause),)),
 }
 _OTHER: tuple[type[outputs.Told], tuple[Field, ...]] = (outputs.OtherOutput, (lambda _, o: o.kind,))
 

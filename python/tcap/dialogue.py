@@ -7,8 +7,8 @@ from typing import TYPE_CHECKING, Any
 
 from . import _given
 from ._given import Octets
-from .errors import TcapError, UnknownDialogue
-from .values import AbortReason, Code, State, Termination
+from .errors import TcapError
+from .values import AbortReason, Code, State, Termination, named
 
 if TYPE_CHECKING:
     from .engine import Engine
@@ -56,9 +56,9 @@ class Dialogue:
     def __deepcopy__(self, memo: object) -> Dialogue:
         return self
 
-    def state(self) -> State:
-        """How far it is; UNKNOWN where it doesn't stand."""
-        return State(self.engine._get("tcap_state_of", _given.u32("id", self.id)))
+    def state(self) -> int:
+        """How far it is: a State, UNKNOWN where it doesn't stand, or the number that a newer library answers."""
+        return named(State, self.engine._get("tcap_state_of", _given.u32("id", self.id)))
 
     def __enter__(self) -> Dialogue:
         return self

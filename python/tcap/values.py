@@ -6,6 +6,14 @@ from enum import IntEnum
 from typing import TypeAlias
 
 
+def named(kind: type[IntEnum], value: int) -> int:
+    """The number by its name, if it has one."""
+    try:
+        return kind(value)
+    except ValueError:
+        return value
+
+
 class Status(IntEnum):
     """What a call answers."""
 
