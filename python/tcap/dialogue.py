@@ -61,20 +61,21 @@ class Dialogue:
         return named(State, self.engine._get("tcap_state_of", _given.u32("id", self.id)))
 
     def __enter__(self) -> Dialogue:
+        """BadArgument: the engine is closed."""
+        self.engine.__enter__()
         return self
 
     def __exit__(
         self, kind: type[BaseException] | None, error: BaseException | None, trace: TracebackType | None
     ) -> None:
-        if self.engine._engine is None or self.state() == State.UNKNOWN:
-            return
-        try:
-            self.u_abort(0)  # the clock doesn't go back: at the moment at which it stands
-        except UnknownDialogue:
-            pass  # another thread ended it meanwhile
-        except TcapError:
-            if error is None:
-                raise  # else what ended the block is told
+        with self.engine._lock:  # so that no other thread ends the dialogue or closes the engine meanwhile
+            if self.engine._engine is None or self.state() == State.UNKNOWN:
+                return
+            try:
+                self.u_abort(0)  # the clock doesn't go back: at the moment at which it stands
+            except TcapError:
+                if error is None:
+                    raise  # else what ended the block is told
 
     def _call(self, name: str, *arguments: Any) -> None:
         self.engine._call(name, _given.u32("id", self.id), *arguments)

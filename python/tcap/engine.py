@@ -85,6 +85,9 @@ class Engine:
                 _c.LIBRARY.tcap_close(engine)
 
     def __enter__(self) -> Engine:
+        """BadArgument: it is closed."""
+        with self._lock:
+            self._open()
         return self
 
     def __exit__(

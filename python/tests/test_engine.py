@@ -216,6 +216,37 @@ def test_threads_share_an_engine() -> None:
 def test_what_the_library_says() -> None:
     assert tcap.library_version() >= (0, 1, 0)
     assert all(tcap.status_text(status) for status in tcap.Status)
+def test_an_abort_that_is_refused_as_a_block_is_left() -> None:
+    """It is told, but where an exception ended the block: then that one is."""
+    engine = Engine(max_message=1)  # so that no Abort fits
+    engine.receive(0, b"B", bytes.fromhex("620648040000000a"))
+    [begin] = engine
+    assert isinstance(begin, BeginInd)
+    with pytest.raises(tcap.TooLong), begin.dialogue:
+        pass
+    with pytest.raises(KeyError), begin.dialogue:
+        raise KeyError
+    assert begin.dialogue.state() == State.INITIATION_RECEIVED
+
+
+def test_states(pair: tuple[Engine, Engine], monkeypatch: pytest.MonkeyPatch) -> None:
+    mine = pair[0].dialogue()
+    states = [mine.state()]
+    mine.begin(0, b"B")
+    states.append(mine.state())
+    [begin] = exchange(*pair)
+    assert isinstance(begin, BeginInd)
+    states.append(begin.dialogue.state())
+    begin.dialogue.go_on(0)
+    states.append(begin.dialogue.state())
+    begin.dialogue.end(0)
+    states.append(begin.dialogue.state())
+    named = [State.IDLE, State.INITIATION_SENT, State.INITIATION_RECEIVED, State.ACTIVE, State.UNKNOWN]
+    assert states == named and all(isinstance(state, State) for state in states)
+    monkeypatch.setattr(_c.LIBRARY, "tcap_state_of", lambda engine, dialogue: 5)
+    assert mine.state() == 5  # of a newer library
+
+
 
 
 def test_each_class_has_its_status() -> None:

@@ -182,6 +182,8 @@ CLOSED: list[Wrong] = [
     lambda e, d: d.u_cancel(1),
     lambda e, d: d.uni(0, b""),
     lambda e, d: d.begin(0, b""),
+    lambda e, d: e.__enter__(),
+    lambda e, d: d.__enter__(),
     lambda e, d: d.go_on(0),
     lambda e, d: d.end(0),
     lambda e, d: d.u_abort(0),
