@@ -3,7 +3,7 @@ import tcap
 from tcap import BeginInd, EndInd, InvokeInd, LCancelInd, Local, ResultLInd, Send
 
 UPDATE_LOCATION = Local(2)
-NETWORK_LOC_UP = bytes.fromhex("04000001000103")  # 0.4.0.0.1.0.1.3
+NETWORK_LOC_UP = tcap.oid("0.4.0.0.1.0.1.3")
 
 
 def serve(engine: tcap.Engine, now_ms: int) -> list[tuple[bytes, bytes]]:

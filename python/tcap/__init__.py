@@ -11,6 +11,7 @@
                 match output:
                     case Send(address=address, message=message): ...
 """
+from .codec import TransactionIds, canon, check, front, oid, oid_text, show
 from .dialogue import Dialogue
 from .engine import Engine, library_version, status_text
 from .errors import (
@@ -83,6 +84,7 @@ __all__ = [
     "DropCause", "Dropped", "EndInd", "Engine", "Foreign", "Global", "InvokeIdInUse", "InvokeInd", "LCancelInd",
     "LRejectInd", "Local", "MomentTooLate", "NoContext", "NoSuchInvocation", "NotClassFour", "NumbersSpent",
     "OtherOutput", "OtherPdu", "OutOfMemory", "Output", "PAbortInd", "Pdu", "Problem", "RRejectInd", "ResultLInd",
-    "ResultNLInd", "Send", "State", "Status", "TcapError", "Termination", "TooLong", "Told", "UAbortInd", "UErrorInd",
-    "URejectInd", "UniInd", "UnknownDialogue", "WrongState", "library_version", "status_text",
+    "ResultNLInd", "Send", "State", "Status", "TcapError", "Termination", "TooLong", "Told", "TransactionIds", "UAbortInd",
+    "UErrorInd", "URejectInd", "UniInd", "UnknownDialogue", "WrongState", "canon", "check", "front", "library_version",
+    "oid", "oid_text", "show", "status_text",
 ]  # fmt: skip

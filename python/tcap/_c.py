@@ -1,4 +1,4 @@
-"""tcap.h by ctypes: its structs, field by field, and its calls.
+"""tcap.h and tcap_codec.h by ctypes: their structs, field by field, and their calls.
 
 The library is the file that TCAP_LIBRARY names, else libtcap.so.0 as the system's loader finds it. Its calls are made
 under the interpreter's lock (PyDLL), since each takes microseconds.
@@ -14,6 +14,7 @@ VERSION = 0x000100
 NEVER = 2**64 - 1
 NO_ID = 256
 NO_CODE, LOCAL, GLOBAL = 0, 1, 2
+ROOM_TOO_SMALL = 19
 
 
 class Octets(Structure):
@@ -95,8 +96,20 @@ class Output(Structure):
     ]
 
 
+class Ids(Structure):
+    """tcap_ids."""
+
+    _fields_ = [
+        ("origin", c_uint8 * 4),
+        ("destination", c_uint8 * 4),
+        ("origin_len", c_uint8),
+        ("destination_len", c_uint8),
+    ]
+
+
 # Each call: what it answers, and what it takes.
 _E, _D, _MS, _PORTION = c_void_p, c_uint32, c_uint64, POINTER(GivenPortion)
+_ROOM: list[object] = [c_char_p, c_size_t, POINTER(c_size_t)]
 CALLS: dict[str, tuple[object, list[object]]] = {
     "tcap_open": (c_int, [POINTER(c_void_p), POINTER(Limits)]),
     "tcap_close": (None, [_E]),
@@ -123,6 +136,12 @@ CALLS: dict[str, tuple[object, list[object]]] = {
     "tcap_dialogues": (c_size_t, [_E]),
     "tcap_due": (c_size_t, [_E, _MS]),
     "tcap_next_identifiers": (c_int, [_E, POINTER(c_uint32), POINTER(c_uint64)]),
+    "tcap_front": (c_int, [Given, POINTER(Ids)]),
+    "tcap_oid_from_text": (c_int, [Given, *_ROOM]),
+    "tcap_oid_to_text": (c_int, [Given, *_ROOM]),
+    "tcap_show": (c_int, [Given, *_ROOM, POINTER(c_int)]),
+    "tcap_check": (c_int, [Given, *_ROOM, POINTER(c_int)]),
+    "tcap_canon": (c_int, [Given, *_ROOM, POINTER(c_int)]),
 }
 
 
