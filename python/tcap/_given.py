@@ -1,7 +1,7 @@
 """Arguments as C takes them. ctypes cuts a number that is too large, so each is looked at before."""
 from __future__ import annotations
 
-from collections.abc import Callable
+from enum import IntEnum
 from operator import index
 
 from . import _c
@@ -11,12 +11,17 @@ from .values import Code, Global, Local
 Octets = bytes | bytearray | memoryview
 
 
-def number(name: str, value: int, low: int, high: int) -> int:
-    """A whole number from low to high. TypeError: it is none; BadArgument: it is another."""
+def whole(name: str, value: int) -> int:
+    """A whole number. TypeError: it is none."""
     try:
-        value = index(value)
+        return index(value)  # exactly an int, where one of a subclass may compare as it likes
     except TypeError:
         raise TypeError(f"{name} is a whole number, not {type(value).__name__}") from None
+
+
+def number(name: str, value: int, low: int, high: int) -> int:
+    """A whole number from low to high. TypeError: it is none; BadArgument: it is another."""
+    value = whole(name, value)
     if not low <= value <= high:
         raise BadArgument(f"{name} is from {low} to {high}, not {value}")
     return value
@@ -46,7 +51,7 @@ def octets(name: str, value: Octets) -> _c.Given:
     """Octets, which may be none."""
     if not isinstance(value, (bytes, bytearray, memoryview)):
         raise TypeError(f"{name} is octets, not {type(value).__name__}")
-    held = bytes(value)
+    held = memoryview(value).tobytes()  # exactly bytes: those of a subclass may say another length
     return _c.Given(held, len(held))
 
 
@@ -77,9 +82,9 @@ def portion(context: Octets | None, info: Octets) -> _c.GivenPortion:
     return _c.GivenPortion(optional("context", context), octets("info", info))
 
 
-def choice(name: str, value: int, kind: Callable[[int], int]) -> int:
-    """A number of an enumeration."""
-    try:
-        return int(kind(value))
-    except ValueError:
-        raise BadArgument(f"{name} isn't {value!r}") from None
+def choice(name: str, value: int, kind: type[IntEnum]) -> int:
+    """A number of an enumeration. TypeError: it is no whole number; BadArgument: it is another."""
+    value = whole(name, value)
+    if value not in list(kind):
+        raise BadArgument(f"{name} isn't {value}")
+    return value

@@ -100,6 +100,78 @@ def test_an_abort_has_its_pdu(pair: tuple[Engine, Engine]) -> None:
     assert isinstance(closed, ClosedInd) and closed.number == number
 
 
+def test_an_abort_with_a_cause_that_has_no_name(pair: tuple[Engine, Engine]) -> None:
+    mine, _, _ = asked(pair)
+    pair[0].receive(0, b"B", bytes.fromhex("67094904") + mine.id.to_bytes(4, "big") + b"\x4a\1\x09")
+    [abort, closed] = exchange(*pair)
+    assert isinstance(abort, PAbortInd) and (abort.dialogue, abort.cause) == (mine, 9) and isinstance(closed, ClosedInd)
+
+
+def test_events_are_counted() -> None:
+    """tcap.h: moments, messages and requests that were accepted, each; one with now_ms is two."""
+    engine = Engine()
+    dialogue = engine.dialogue()  # 1
+    assert (engine.next_timer(), engine.due(2**62)) == (None, 0)
+    for invoke_id in (1, 2):
+        dialogue.invoke(invoke_id, Local(1), timeout_ms=9)  # 2, 3
+    dialogue.begin(0, b"B")  # 4, 5
+    engine.receive(0, b"B", b"\xff")  # 6, 7
+    assert engine.next_timer() == 9 and engine.due(9) == _c.LIBRARY.tcap_due(engine._engine, 9) >= 2
+    engine.advance(9)  # 8
+    assert [(type(output), output.event, output.is_last, output.closes) for output in engine] == [
+        (Send, 5, True, False), (Dropped, 7, True, False), (LCancelInd, 8, False, True), (LCancelInd, 8, True, True),
+    ]  # fmt: skip
+
+
+def test_each_limit_is_kept() -> None:
+    """docs/PROFILE.md, Time: an identifier waits for `reject_ms` behind its answer, a dialogue for `idle_ms` behind the
+    last Continue."""
+    engine = Engine(max_dialogues=2, max_message=40, reject_ms=50, idle_ms=900, first_dialogue=7, first_number=9)
+    mine, other = engine.dialogue(), engine.dialogue()
+    assert (mine.id, other.id, engine.dialogues()) == (7, 8, 2)
+    with pytest.raises(tcap.DialoguesFull):
+        engine.dialogue()
+    assert mine.invoke(1, Local(1), timeout_ms=100) == 9
+    assert other.invoke(1, Local(1), b"\4\x1e" + bytes(30), timeout_ms=100) == 10
+    mine.begin(0, b"B")
+    with pytest.raises(tcap.TooLong):
+        other.begin(0, b"B")
+    engine.receive(10, b"B", bytes.fromhex("6513 480400000005 490400000007 6c05 a203020101"))
+    assert [type(output) for output in engine] == [Send, ContinueInd, ResultLInd]
+    engine.advance(59)
+    with pytest.raises(tcap.InvokeIdInUse):
+        mine.invoke(1, Local(1), timeout_ms=100)
+    engine.advance(60)
+    assert mine.invoke(1, Local(1), timeout_ms=100) == 11
+    engine.advance(909)
+    assert engine.next() is None
+    engine.advance(910)
+    told = list(engine)
+    assert [type(output) for output in told] == [PAbortInd, ClosedInd] and told[0].event == told[1].event
+    assert isinstance(told[0], PAbortInd) and told[0].cause is AbortCause.IDLE
+
+
+class Bytes(bytes):
+    """Octets that say to have more than they have."""
+
+    def __len__(self) -> int:
+        return 2**20
+
+    def __bytes__(self) -> bytes:
+        return b"others"
+
+
+@pytest.mark.parametrize(
+    "octets",
+    [b"\1\2\3", bytearray(b"\1\2\3"), memoryview(b"\1\2\3"), memoryview(b"\1\0\2\0\3\0")[::2], Bytes(b"\1\2\3")],
+    ids=("bytes", "bytearray", "memoryview", "every second octet", "a subclass"),
+)
+def test_octets_of_each_type(octets: bytes | bytearray | memoryview) -> None:
+    engine = Engine()
+    engine.dialogue().begin(0, octets)
+    assert isinstance(sent := engine.next(), Send) and sent.address == b"\1\2\3"
+
+
 def test_timers(pair: tuple[Engine, Engine]) -> None:
     mine, _, number = asked(pair)
     assert pair[0].next_timer() == 1000 and pair[0].due(999) == 0 and pair[0].due(1000) >= 1

@@ -133,14 +133,31 @@ CALLS: list[tuple[str, type[Exception], Wrong]] = [
     ("a Continue before", tcap.WrongState, lambda e, d: d.go_on(0)),
     ("an End before", tcap.WrongState, lambda e, d: d.end(0)),
     ("an end of another kind", tcap.BadArgument, lambda e, d: d.end(0, termination=2)),
-    ("an end of text", tcap.BadArgument, lambda e, d: d.end(0, termination="basic")),
+    ("an end of text", TypeError, lambda e, d: d.end(0, termination="basic")),
+    ("an end of a fraction", TypeError, lambda e, d: d.end(0, termination=1.0)),
     ("an Abort for another reason", tcap.BadArgument, lambda e, d: d.u_abort(0, 9)),
+    ("an Abort for a reason of text", TypeError, lambda e, d: d.u_abort(0, "user")),
     ("an Abort with text", TypeError, lambda e, d: d.u_abort(0, tcap.AbortReason.USER_SPECIFIC, "why")),
     ("a Unidirectional of nothing", tcap.NotClassFour, lambda e, d: d.uni(0, b"")),
     ("a Unidirectional nowhere", tcap.UnknownDialogue, lambda e, d: e.dialogue_of(3).uni(0, b"")),
     ("a status of text", TypeError, lambda e, d: tcap.status_text("ok")),  # type: ignore[arg-type]
     ("a status below 0", tcap.BadArgument, lambda e, d: tcap.status_text(-1)),
+    # what is no object identifier (X.690, 8.19), or none that the library writes
+    ("an object identifier of a number", TypeError, lambda e, d: tcap.oid(2)),  # type: ignore[arg-type]
+    ("an object identifier in octets of text", TypeError, lambda e, d: tcap.oid_text("2.5")),  # type: ignore[arg-type]
+    ("a verdict on text", TypeError, lambda e, d: tcap.check("62")),  # type: ignore[arg-type]
+    # another number than it compares as, and other octets than it says to have
+    ("a number that lies", tcap.BadArgument, lambda e, d: tcap.Engine(max_message=Liar(2**32 + 1))),
 ]
+
+
+class Liar(int):
+    """A number that compares as if it were in any range."""
+
+    def __le__(self, other: object) -> bool:
+        return True
+
+    __ge__ = __le__
 
 
 def long_element(length: int) -> bytes:
@@ -156,14 +173,17 @@ def test_there_are_a_hundred() -> None:
 def test_it_raises(kind: type[Exception], wrong: Wrong) -> None:
     with tcap.Engine() as engine:
         dialogue = engine.dialogue()
-        with pytest.raises(kind):
+        with pytest.raises(kind, match=".") as raised:
             wrong(engine, dialogue)
+        assert isinstance(raised.value, ValueError) == (kind is tcap.BadArgument)
         assert engine.next() is None
         assert (engine.dialogues(), engine.next_identifiers()) == (1, (2, 1))
         assert dialogue.state() == tcap.State.IDLE
 
 
 CLOSED: list[Wrong] = [
+    lambda e, d: e.__enter__(),
+    lambda e, d: d.__enter__(),
     lambda e, d: e.receive(0, b"", b""),
     lambda e, d: e.advance(0),
     lambda e, d: e.dialogue(),
@@ -182,8 +202,6 @@ CLOSED: list[Wrong] = [
     lambda e, d: d.u_cancel(1),
     lambda e, d: d.uni(0, b""),
     lambda e, d: d.begin(0, b""),
-    lambda e, d: e.__enter__(),
-    lambda e, d: d.__enter__(),
     lambda e, d: d.go_on(0),
     lambda e, d: d.end(0),
     lambda e, d: d.u_abort(0),
