@@ -20,11 +20,21 @@ class Memory:
         malloc.restype, malloc.argtypes = ctypes.c_void_p, [ctypes.c_size_t]
         realloc.restype, realloc.argtypes = ctypes.c_void_p, [ctypes.c_void_p, ctypes.c_size_t]
         free.restype, free.argtypes = None, [ctypes.c_void_p]
-        self._asked, self._from, self._is_for_good = 0, -1, False
+        self._asked, self._from, self._is_for_good, self._live = 0, -1, False, 0
+
+        def take(size: int) -> object:
+            block = None if self._is_refused() else malloc(size)
+            self._live += block is not None
+            return block
+
+        def give_back(block: object) -> None:
+            self._live -= 1
+            free(block)
+
         self._kept = (
-            _TAKE(lambda size: None if self._is_refused() else malloc(size)),
+            _TAKE(take),
             _GROW(lambda block, size: None if self._is_refused() else realloc(block, size)),
-            _GIVE_BACK(lambda block: free(block)),
+            _GIVE_BACK(give_back),
         )
         if _c.LIBRARY.tcap_set_memory(*(ctypes.cast(function, ctypes.c_void_p) for function in self._kept)):
             raise RuntimeError("tcap_set_memory")
@@ -40,6 +50,10 @@ class Memory:
     def asked(self) -> int:
         """How many requests were made since refuse_from."""
         return self._asked
+
+    def live(self) -> int:
+        """How many blocks the library has."""
+        return self._live
 
     def count(self, run: Callable[[], object]) -> int:
         """How many requests for memory this makes."""

@@ -25,6 +25,54 @@ for nth in range(asked):
 """
 
 
+ENDS = """
+import gc, sys
+sys.path.insert(0, sys.argv[1])
+from refusing import Memory
+memory = Memory()
+import tcap
+def used():
+    engine = tcap.Engine()
+    engine.dialogue().begin(0, b"hlr", context=bytes.fromhex("04000001000103"))
+    assert memory.live()
+    return engine
+def closed():
+    used().close()
+def left():
+    with used() as engine:
+        pass
+    assert not memory.live(), "left"
+def left_by_an_error():
+    try:
+        with used() as engine:
+            raise KeyError
+    except KeyError:
+        assert not memory.live(), "left by an error"
+def dropped():
+    engine = used()
+def cyclic():
+    engine = used()
+    engine.itself = engine
+for end in (closed, left, left_by_an_error, dropped, cyclic):
+    end()
+    gc.collect()
+    print(end.__name__, memory.live())
+"""
+
+
+def run(program: str) -> list[str]:
+    """The lines that a program prints, whose memory comes from refusing.py."""
+    here = pathlib.Path(__file__).parent
+    command = [sys.executable, "-c", program, str(here)]
+    ran = subprocess.run(command, capture_output=True, text=True, cwd=here.parent, timeout=50)
+    assert ran.returncode == 0, ran.stderr
+    return ran.stdout.splitlines()
+
+
+def test_an_engine_gives_all_its_memory_back() -> None:
+    assert run(ENDS) == ["closed 0", "left 0", "left_by_an_error 0", "dropped 0", "cyclic 0"]
+
+
 def story(memory: object = None, nth: int = -1) -> bool:
     """A dialogue; the nth request for memory is refused, and the call that was refused made again. Whether one was."""
     refused = False
@@ -53,10 +101,7 @@ def story(memory: object = None, nth: int = -1) -> bool:
 
 
 def test_each_request_refused_once() -> None:
-    here = pathlib.Path(__file__).parent
-    ran = subprocess.run([sys.executable, "-c", STORY, str(here)], capture_output=True, text=True, cwd=here.parent)
-    assert ran.returncode == 0, ran.stderr
-    told = [line.split()[2] == "True" for line in ran.stdout.splitlines()]
+    told = [line.split()[2] == "True" for line in run(STORY)]
     assert len(told) > 10 and told.count(False) <= 2  # an engine does without two places for what dialogues leave
 
 
