@@ -216,6 +216,37 @@ def test_a_dialogue_that_is_left_is_aborted(pair: tuple[Engine, Engine]) -> None
     assert [type(output) for output in told] == [UAbortInd] and theirs.state() == State.UNKNOWN
 
 
+def test_an_abort_that_is_refused_as_a_block_is_left() -> None:
+    """It is told, but where an exception ended the block: then that one is."""
+    engine = Engine(max_message=1)  # so that no Abort fits
+    engine.receive(0, b"B", bytes.fromhex("620648040000000a"))
+    [begin] = engine
+    assert isinstance(begin, BeginInd)
+    with pytest.raises(tcap.TooLong), begin.dialogue:
+        pass
+    with pytest.raises(KeyError), begin.dialogue:
+        raise KeyError
+    assert begin.dialogue.state() == State.INITIATION_RECEIVED
+
+
+def test_states(pair: tuple[Engine, Engine], monkeypatch: pytest.MonkeyPatch) -> None:
+    mine = pair[0].dialogue()
+    states = [mine.state()]
+    mine.begin(0, b"B")
+    states.append(mine.state())
+    [begin] = exchange(*pair)
+    assert isinstance(begin, BeginInd)
+    states.append(begin.dialogue.state())
+    begin.dialogue.go_on(0)
+    states.append(begin.dialogue.state())
+    begin.dialogue.end(0)
+    states.append(begin.dialogue.state())
+    named = [State.IDLE, State.INITIATION_SENT, State.INITIATION_RECEIVED, State.ACTIVE, State.UNKNOWN]
+    assert states == named and all(isinstance(state, State) for state in states)
+    monkeypatch.setattr(_c.LIBRARY, "tcap_state_of", lambda engine, dialogue: 5)
+    assert mine.state() == 5  # of a newer library
+
+
 def test_dialogues_are_equal_by_engine_and_identifier(pair: tuple[Engine, Engine]) -> None:
     one = pair[0].dialogue()
     assert one == pair[0].dialogue_of(one.id) and one != pair[1].dialogue_of(one.id)
@@ -248,6 +279,43 @@ def test_the_end_of_an_engine() -> None:
     for _ in range(100):
         Engine().dialogue().begin(0, b"never taken")
     gc.collect()
+
+
+def test_a_block_closes_its_engine() -> None:
+    with Engine() as engine:
+        assert engine.dialogues() == 0
+    with pytest.raises(BadArgument, match="closed"):
+        engine.dialogues()
+
+
+@pytest.mark.parametrize("kind", [MemoryError, KeyboardInterrupt])
+def test_an_output_that_could_not_be_read_is_told_next(kind: type[BaseException], monkeypatch: pytest.MonkeyPatch) -> None:
+    engine = Engine()
+    for address in (b"A", b"B"):
+        engine.dialogue().begin(0, address)
+    with monkeypatch.context() as patch, pytest.raises(kind):
+        patch.setattr(_told, "output", lambda of, output: (_ for _ in ()).throw(kind))
+        engine.next()
+    assert [output.address for output in engine if isinstance(output, Send)] == [b"A", b"B"]
+
+
+def test_another_thread_waits_until_an_output_is_read(monkeypatch: pytest.MonkeyPatch) -> None:
+    engine, read, found = Engine(), _told.output, []
+    other = threading.Thread(target=lambda: found.append(engine.next()))
+
+    def read_later(of: Engine, output: object) -> Output:
+        monkeypatch.setattr(_told, "output", read)
+        other.start()
+        other.join(timeout=0.1)
+        assert other.is_alive()
+        return read(of, output)
+
+    for address in (b"A", b"B"):
+        engine.dialogue().begin(0, address)
+    monkeypatch.setattr(_told, "output", read_later)
+    found.append(engine.next())
+    other.join()
+    assert [output.address for output in found if isinstance(output, Send)] == [b"A", b"B"]
 
 
 def test_a_call_within_next(monkeypatch: pytest.MonkeyPatch) -> None:
@@ -288,45 +356,17 @@ def test_threads_share_an_engine() -> None:
 def test_what_the_library_says() -> None:
     assert tcap.library_version() >= (0, 1, 0)
     assert all(tcap.status_text(status) for status in tcap.Status)
-def test_an_abort_that_is_refused_as_a_block_is_left() -> None:
-    """It is told, but where an exception ended the block: then that one is."""
-    engine = Engine(max_message=1)  # so that no Abort fits
-    engine.receive(0, b"B", bytes.fromhex("620648040000000a"))
-    [begin] = engine
-    assert isinstance(begin, BeginInd)
-    with pytest.raises(tcap.TooLong), begin.dialogue:
-        pass
-    with pytest.raises(KeyError), begin.dialogue:
-        raise KeyError
-    assert begin.dialogue.state() == State.INITIATION_RECEIVED
-
-
-def test_states(pair: tuple[Engine, Engine], monkeypatch: pytest.MonkeyPatch) -> None:
-    mine = pair[0].dialogue()
-    states = [mine.state()]
-    mine.begin(0, b"B")
-    states.append(mine.state())
-    [begin] = exchange(*pair)
-    assert isinstance(begin, BeginInd)
-    states.append(begin.dialogue.state())
-    begin.dialogue.go_on(0)
-    states.append(begin.dialogue.state())
-    begin.dialogue.end(0)
-    states.append(begin.dialogue.state())
-    named = [State.IDLE, State.INITIATION_SENT, State.INITIATION_RECEIVED, State.ACTIVE, State.UNKNOWN]
-    assert states == named and all(isinstance(state, State) for state in states)
-    monkeypatch.setattr(_c.LIBRARY, "tcap_state_of", lambda engine, dialogue: 5)
-    assert mine.state() == 5  # of a newer library
-
-
 
 
 def test_each_class_has_its_status() -> None:
     from tcap.errors import CLASSES, refusal
 
     assert set(CLASSES) == set(tcap.Status) - {tcap.Status.OK}
-    assert all(isinstance(refusal(status, ""), kind) for status, kind in CLASSES.items())
-    assert refusal(99, "of a newer library").status == 99
+    for status in CLASSES:  # by the same words, which names.py compares with tcap.h
+        error = refusal(status, "")
+        assert (error.status, type(error).__name__.lower()) == (status, tcap.Status(status).name.replace("_", "").lower())
+    newer = refusal(99, "of a newer library")
+    assert (type(newer), newer.status) == (tcap.TcapError, 99)
 
 
 def test_the_loop(capsys: pytest.CaptureFixture[str]) -> None:
@@ -334,40 +374,3 @@ def test_the_loop(capsys: pytest.CaptureFixture[str]) -> None:
     assert capsys.readouterr().out.splitlines() == [
         "asked as 1", "begin 1 04000001000103", "end 1", "result of 1 0401bb", "continue: unknown dialogue",
     ]  # fmt: skip
-def test_a_block_closes_its_engine() -> None:
-    with Engine() as engine:
-        assert engine.dialogues() == 0
-    with pytest.raises(BadArgument, match="closed"):
-        engine.dialogues()
-
-
-@pytest.mark.parametrize("kind", [MemoryError, KeyboardInterrupt])
-def test_an_output_that_could_not_be_read_is_told_next(kind: type[BaseException], monkeypatch: pytest.MonkeyPatch) -> None:
-    engine = Engine()
-    for address in (b"A", b"B"):
-        engine.dialogue().begin(0, address)
-    with monkeypatch.context() as patch, pytest.raises(kind):
-        patch.setattr(_told, "output", lambda of, output: (_ for _ in ()).throw(kind))
-        engine.next()
-    assert [output.address for output in engine if isinstance(output, Send)] == [b"A", b"B"]
-
-
-def test_another_thread_waits_until_an_output_is_read(monkeypatch: pytest.MonkeyPatch) -> None:
-    engine, read, found = Engine(), _told.output, []
-    other = threading.Thread(target=lambda: found.append(engine.next()))
-
-    def read_later(of: Engine, output: object) -> Output:
-        monkeypatch.setattr(_told, "output", read)
-        other.start()
-        other.join(timeout=0.1)
-        assert other.is_alive()
-        return read(of, output)
-
-    for address in (b"A", b"B"):
-        engine.dialogue().begin(0, address)
-    monkeypatch.setattr(_told, "output", read_later)
-    found.append(engine.next())
-    other.join()
-    assert [output.address for output in found if isinstance(output, Send)] == [b"A", b"B"]
-
-
