@@ -1,8 +1,9 @@
 #!/usr/bin/env python3
 """Plays a script (docs/FORMATS.md, play) by two engines of the package tcap, and prints its text.
 
-    play.py SCRIPT [SEEN]     status 1 where a line is bad; SEEN: how often each status was answered and each kind of
-                              output told is written to this file
+    play.py SCRIPT [SEEN]     status 1 where a line is bad; SEEN: a file into which it is written how often each status
+                              was answered and each kind of output told, by a line `status NUMBER NAME COUNT` or
+                              `kind NUMBER NAME COUNT`; NUMBER is that of tcap.h, NAME the class that told it, or Ok
 
 The three lines more that play.c names are played here too.
 """
@@ -22,7 +23,7 @@ from play_text import PROBLEMS, hexed, text_of
 from refusing import Memory
 from tcap import Dialogue, Engine, Local
 
-KINDS: tuple[type, ...] = (
+KINDS: tuple[type, ...] = (  # in the order of tcap_kind, from 1
     tcap.Send, tcap.UniInd, tcap.BeginInd, tcap.ContinueInd, tcap.EndInd, tcap.UAbortInd, tcap.PAbortInd, tcap.InvokeInd,
     tcap.ResultLInd, tcap.ResultNLInd, tcap.UErrorInd, tcap.LCancelInd, tcap.ClosedInd, tcap.LRejectInd,
     tcap.RRejectInd, tcap.URejectInd, tcap.Dropped,
@@ -50,6 +51,13 @@ def octets(word: str) -> bytes:
     return bytes.fromhex(word)
 
 
+def address(word: str) -> bytes:
+    at = octets(word)
+    if len(at) > 255:
+        raise Bad
+    return at
+
+
 def identifier(word: str) -> int | None:
     return None if word == "-" else integer(word, -128, 127)
 
@@ -67,8 +75,7 @@ class Play:
 
     def __init__(self, idle: int) -> None:
         self.memory, self.idle, self.now = Memory(), idle, 0
-        self.statuses: collections.Counter[int] = collections.Counter()
-        self.kinds: collections.Counter[int] = collections.Counter()
+        self.seen: collections.Counter[tuple[str, int, str]] = collections.Counter()
         self.sides = {
             "A": Side("A", b"\x41", Engine(max_dialogues=16, idle_ms=idle)),
             "B": Side("B", b"\x42", Engine(max_dialogues=16, idle_ms=idle)),
@@ -87,14 +94,14 @@ class Play:
         try:
             value = make()
         except tcap.TcapError as error:
-            self.statuses[error.status] += 1
+            self.seen["status", error.status, type(error).__name__] += 1
             print(side.letter, "refused", int(error.status))
         else:
-            self.statuses[0] += 1
+            self.seen["status", 0, "Ok"] += 1
             if name:
                 print(side.letter, name, *([value.id if isinstance(value, Dialogue) else value] if value else []))
         for output in side.engine:
-            self.kinds[1 + KINDS.index(type(output))] += 1
+            self.seen["kind", 1 + KINDS.index(type(output)), type(output).__name__] += 1
             print(side.letter, self.send(side, output) if isinstance(output, tcap.Send) else text_of(output))
 
     def send(self, side: Side, output: tcap.Send) -> str:
@@ -123,11 +130,11 @@ class Play:
     def open(self, side: Side, dialogues: str, message: str, dialogue: str, number: str) -> None:
         side.engine.close()
         side.engine = Engine(
-            max_dialogues=int(dialogues),
-            max_message=int(message),
+            max_dialogues=integer(dialogues, 1, 65535),
+            max_message=integer(message, 1, 65535),
             idle_ms=self.idle,
-            first_dialogue=int(dialogue),
-            first_number=int(number),
+            first_dialogue=integer(dialogue, 1, 2**32 - 1),
+            first_number=integer(number, 1, 2**64 - 1),
         )
 
     def line(self, words: list[str]) -> None:
@@ -144,8 +151,8 @@ class Play:
                 self.call(side, side.engine.dialogue, "new")
             case [letter, "raw", message]:
                 self.receive(self.side(letter), self.other(self.side(letter)).address, octets(message))
-            case [letter, "rawfrom", address, message]:
-                self.receive(self.side(letter), octets(address), octets(message))
+            case [letter, "rawfrom", sender, message]:
+                self.receive(self.side(letter), address(sender), octets(message))
             case [letter, "open", *limits] if len(limits) == 4:
                 self.open(self.side(letter), *limits)
             case [letter, verb, dialogue, *rest]:
@@ -154,8 +161,8 @@ class Play:
             case _:
                 raise Bad
 
-    def receive(self, side: Side, address: bytes, message: bytes) -> None:
-        self.call(side, lambda: side.engine.receive(self.now, address, message))
+    def receive(self, side: Side, sender: bytes, message: bytes) -> None:
+        self.call(side, lambda: side.engine.receive(self.now, sender, message))
 
     def request(self, side: Side, verb: str, d: Dialogue, words: list[str]) -> None:
         """A request on a dialogue."""
@@ -169,8 +176,8 @@ class Play:
                     "continue": lambda: d.go_on(now, context=c, info=i),
                     "end": lambda: d.end(now, context=c, info=i),
                 }[verb])  # fmt: skip
-            case ["beginto", address, context, info]:
-                a, c, i = octets(address), octets(context) or None, octets(info)
+            case ["beginto", name, context, info]:
+                a, c, i = address(name), octets(context) or None, octets(info)
                 self.call(side, lambda: d.begin(now, a, context=c, info=i))
             case ["prearranged"]:
                 self.call(side, lambda: d.end(now, termination=tcap.Termination.PREARRANGED))
@@ -209,23 +216,30 @@ class Play:
         self.call(side, lambda: d.invoke(i, which, p, timeout_ms=ms, op_class=of, linked_id=link), "number")
 
 
+def idle_of(numbered: list[tuple[int, str]]) -> int:
+    """The idle limit that a first line gives, which is taken off then; 0 where none does."""
+    match numbered[0][1].split(" ") if numbered else []:
+        case ["idle", moment]:
+            limit = integer(moment, 0, 2**62)
+            del numbered[0]
+            return limit
+    return 0
+
+
 def main(words: list[str]) -> int:
     lines = pathlib.Path(words[0]).read_text().split("\n")
     numbered = [(number, line) for number, line in enumerate(lines, 1) if line and not line.startswith("#")]
-    idle = 0
-    if numbered and re.fullmatch("idle [0-9]+", numbered[0][1]):
-        idle = int(numbered.pop(0)[1].split(" ")[1])
-    play = Play(idle)
+    number = numbered[0][0] if numbered else 0
     try:
+        play = Play(idle_of(numbered))
         for number, line in numbered:
             play.line(line.split(" "))
     except Bad:
         print("line", number, "bad")
         return 1
     if len(words) > 1:
-        seen = [f"status {at} {play.statuses[at]}" for at in range(17)]
-        seen += [f"kind {at} {play.kinds[at]}" for at in range(1, 18)]
-        pathlib.Path(words[1]).write_text("\n".join(seen) + "\n")
+        seen = [f"{what} {at} {name} {count}\n" for (what, at, name), count in sorted(play.seen.items())]
+        pathlib.Path(words[1]).write_text("".join(seen))
     return 0
 
 
