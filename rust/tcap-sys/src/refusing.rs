@@ -14,6 +14,7 @@ extern "C" {
 }
 
 static ASKED: AtomicU64 = AtomicU64::new(0);
+static LIVE: AtomicU64 = AtomicU64::new(0);
 static REFUSED_FROM: AtomicU64 = AtomicU64::new(u64::MAX);
 static REFUSED_TO: AtomicU64 = AtomicU64::new(u64::MAX);
 
@@ -27,7 +28,9 @@ extern "C" fn take(size: usize) -> *mut c_void {
         return null_mut();
     }
     // SAFETY: malloc takes any size.
-    unsafe { malloc(size) }
+    let block = unsafe { malloc(size) };
+    LIVE.fetch_add(u64::from(!block.is_null()), SeqCst);
+    block
 }
 
 unsafe extern "C" fn grow(block: *mut c_void, size: usize) -> *mut c_void {
@@ -39,6 +42,7 @@ unsafe extern "C" fn grow(block: *mut c_void, size: usize) -> *mut c_void {
 }
 
 unsafe extern "C" fn give_back(block: *mut c_void) {
+    LIVE.fetch_sub(1, SeqCst);
     // SAFETY: the library hands in a block that `take` or `grow` gave.
     unsafe { free(block) }
 }
@@ -65,4 +69,9 @@ pub fn refuse(requests: std::ops::Range<u64>) {
 /// How many requests were made since [`refuse`], or the beginning.
 pub fn asked() -> u64 {
     ASKED.load(SeqCst)
+}
+
+/// How many blocks the library has.
+pub fn live() -> u64 {
+    LIVE.load(SeqCst)
 }

@@ -41,13 +41,14 @@ fn story() -> u32 {
 #[test]
 fn each_request_refused_once() {
     refusing::refuse(0..0);
-    assert_eq!(story(), 0);
+    assert_eq!((story(), refusing::live()), (0, 0)); // an engine that is dropped gives all its memory back
     let requests = refusing::asked();
     assert!(requests > 10);
     let mut refused = 0;
     for nth in 0..requests {
         refusing::refuse(nth..nth + 1);
         refused += u64::from(story());
+        assert_eq!(refusing::live(), 0);
     }
     // An engine does without two places for what dialogues leave.
     assert!(refused <= requests && requests - refused <= 2);
