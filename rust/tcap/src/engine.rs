@@ -257,13 +257,7 @@ impl Engine {
 
     /// The state of the dialogue with this identifier.
     pub fn state_of(&self, dialogue: u32) -> State {
-        match self.handle.state_of(dialogue) {
-            1 => State::Idle,
-            2 => State::InitiationSent,
-            3 => State::InitiationReceived,
-            4 => State::Active,
-            _ => State::Unknown,
-        }
+        State::of(self.handle.state_of(dialogue))
     }
 
     /// How many dialogues stand.

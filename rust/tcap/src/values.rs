@@ -81,6 +81,22 @@ pub enum State {
     InitiationReceived,
     /// A Continue was sent or received.
     Active,
+    /// A state of a newer library, by its number there.
+    Other(i32),
+}
+
+impl State {
+    /// The state of a number of tcap.h.
+    pub(crate) fn of(number: i32) -> State {
+        match number {
+            0 => State::Unknown,
+            1 => State::Idle,
+            2 => State::InitiationSent,
+            3 => State::InitiationReceived,
+            4 => State::Active,
+            other => State::Other(other),
+        }
+    }
 }
 
 /// How a dialogue ends (Q.771, Dialogue end).
@@ -163,4 +179,9 @@ pub mod diagnostic {
     pub const PROVIDER_NULL: u16 = 256;
     pub const PROVIDER_NO_REASON: u16 = 257;
     pub const PROVIDER_NO_COMMON_DIALOGUE: u16 = 258;
+}
+
+#[test]
+fn a_state_of_a_newer_library_is_told() {
+    assert_eq!([0, 4, 5, -1].map(State::of), [State::Unknown, State::Active, State::Other(5), State::Other(-1)]);
 }
