@@ -14,6 +14,13 @@ impl<'a> OutputRef<'a> {
         OutputRef(output)
     }
 
+    /// An output that has numbers alone, as a test of what reads outputs makes it; `None` where one of its lengths isn't 0.
+    pub fn of_numbers(output: &'a tcap_output) -> Option<OutputRef<'a>> {
+        let (portion, code) = (&output.portion, &output.code);
+        let octets = [output.address, output.message, portion.context, portion.info, code.global, output.parameter];
+        octets.iter().all(|of| of.len == 0).then_some(OutputRef(output))
+    }
+
     /// Octets of this output.
     fn octets(self, of: tcap_octets) -> &'a [u8] {
         if of.len == 0 {

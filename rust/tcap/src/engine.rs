@@ -277,3 +277,16 @@ impl Engine {
         self.handle.next_identifiers()
     }
 }
+
+/// tcap.h says of what is due no more than a bound, so that what C answers is what is handed on.
+#[test]
+fn what_is_due_is_handed_on() {
+    let engine = Engine::open(&Limits::default()).unwrap();
+    let dialogue = engine.new_dialogue().unwrap();
+    for invoke_id in 1..=2 {
+        engine.invoke(dialogue, &Invoke::new(invoke_id, Code::Local(1), 9)).unwrap();
+    }
+    engine.begin(0, dialogue, b"B", Portion::default()).unwrap();
+    assert!(engine.due(9) >= 2);
+    assert_eq!((engine.due(8), engine.due(9)), (0, engine.handle.due(9)));
+}

@@ -96,3 +96,31 @@ impl fmt::Display for Error {
 }
 
 impl std::error::Error for Error {}
+
+#[test]
+fn each_error_has_its_status() {
+    let rows = [
+        (1, Error::OutOfMemory),
+        (2, Error::UnknownDialogue),
+        (3, Error::WrongState),
+        (4, Error::InvokeIdInUse),
+        (5, Error::NoSuchInvocation),
+        (6, Error::BadTimeout),
+        (7, Error::TooLong),
+        (8, Error::DialoguesFull),
+        (9, Error::DialogueIdsSpent),
+        (10, Error::NumbersSpent),
+        (11, Error::BadOid),
+        (12, Error::BadParameter),
+        (13, Error::NotClassFour),
+        (14, Error::MomentTooLate),
+        (15, Error::NoContext),
+        (16, Error::BadArgument),
+        (17, Error::Other(17)),
+        (-1, Error::OtherLibrary),
+        (-2, Error::Other(-2)),
+    ];
+    for (status, error) in rows {
+        assert_eq!((Error::of(status), error.status()), (error, status));
+    }
+}

@@ -168,3 +168,111 @@ pub(crate) fn output_of(of: OutputRef<'_>) -> Output<'_> {
     let named = id_of(of.invoke_id).and_then(|invoke_id| of_invocation(of, invoke_id));
     named.or_else(|| of_reject(of)).unwrap_or_else(|| of_dialogue(of))
 }
+
+/// Numbers of tcap.h, each other than the rest. That octets are told from the fields that have them is seen by the stories.
+#[cfg(test)]
+mod tests {
+    use super::*;
+    use std::ptr::null;
+    use tcap_sys::ffi::{tcap_code, tcap_octets, tcap_portion};
+    use tcap_sys::tcap_output;
+
+    fn made() -> tcap_output {
+        let octets = tcap_octets { at: null(), len: 0 };
+        tcap_output {
+            event: 11,
+            number: 12,
+            address: octets,
+            message: octets,
+            portion: tcap_portion { context: octets, info: octets },
+            code: tcap_code { kind: 1, local: 13, global: octets },
+            parameter: octets,
+            dialogue: 14,
+            invoke_id: -15,
+            linked_id: 16,
+            problem: 0x102,
+            cause: 1,
+            diagnostic: 257,
+            kind: 6,
+            pdu: 0,
+            closes: 1,
+            is_last: 0,
+            has_context: 1,
+            has_parameter: 0,
+            is_version1: 1,
+            is_accepted: 0,
+            is_by_provider: 0,
+        }
+    }
+
+    fn told(output: tcap_output) -> String {
+        format!("{:?}", output_of(OutputRef::of_numbers(&output).unwrap()))
+    }
+
+    #[test]
+    fn each_kind_is_told() {
+        let (code, portion) = ("Local(13)", "portion: Portion { context: Some([]), info: [] }");
+        let invoked = "dialogue: Some(14), invoke_id: -15, linked_id: Some(16)";
+        let invocation = "dialogue: 14, number: 12, invoke_id: -15";
+        let result = format!("{}, code: Some({}), parameter: None", invocation, code);
+        let reject = "dialogue: Some(14), invoke_id: Some(-15), problem: 258, number: Some(12)";
+        let rows = [
+            (1, "Send { address: [], message: [] }".to_string()),
+            (2, format!("UniInd {{ {} }}", portion)),
+            (3, format!("BeginInd {{ dialogue: 14, {} }}", portion)),
+            (4, format!("ContinueInd {{ dialogue: 14, {} }}", portion)),
+            (5, format!("EndInd {{ dialogue: 14, {} }}", portion)),
+            (6, "UAbortInd { dialogue: 14, pdu: None }".to_string()),
+            (7, "PAbortInd { dialogue: 14, cause: 1 }".to_string()),
+            (8, format!("InvokeInd {{ {}, code: {}, parameter: None }}", invoked, code)),
+            (9, format!("ResultLInd {{ {} }}", result)),
+            (10, format!("ResultNLInd {{ {} }}", result)),
+            (11, format!("UErrorInd {{ {}, code: {}, parameter: None }}", invocation, code)),
+            (12, format!("LCancelInd {{ {} }}", invocation)),
+            (13, format!("ClosedInd {{ {} }}", invocation)),
+            (14, format!("LRejectInd {{ {} }}", reject)),
+            (15, format!("RRejectInd {{ {} }}", reject)),
+            (16, format!("URejectInd {{ {} }}", reject)),
+            (17, "Dropped { cause: BadMessage }".to_string()),
+            (18, "Other { kind: 18 }".to_string()),
+        ];
+        for (kind, text) in rows {
+            assert_eq!(told(tcap_output { kind, ..made() }), text);
+        }
+        for (cause, name) in ["TooLong", "BadMessage", "NoDialogue", "BadDialogue", "Other(4)"].iter().enumerate() {
+            let output = tcap_output { kind: 17, cause: cause as u16, ..made() };
+            assert_eq!(told(output), format!("Dropped {{ cause: {} }}", name));
+        }
+    }
+
+    #[test]
+    fn each_pdu_of_an_abort_is_told() {
+        let portion = Portion { context: Some(&[]), info: &[] };
+        let (absent, is_version1, diagnostic) = (Portion::default(), true, 257);
+        let external: &[u8] = &[];
+        let rows = [
+            (made(), None),
+            (tcap_output { pdu: 1, ..made() }, Some(Pdu::Aarq { portion, is_version1 })),
+            (tcap_output { pdu: 2, ..made() }, Some(Pdu::Audt { portion, is_version1 })),
+            (
+                tcap_output { pdu: 2, has_context: 0, is_version1: 0, ..made() },
+                Some(Pdu::Audt { portion: absent, is_version1: false }),
+            ),
+            (
+                tcap_output { pdu: 3, ..made() },
+                Some(Pdu::Aare { portion, is_version1, is_accepted: false, diagnostic }),
+            ),
+            (
+                tcap_output { pdu: 3, is_accepted: 1, is_version1: 0, ..made() },
+                Some(Pdu::Aare { portion, is_version1: false, is_accepted: true, diagnostic }),
+            ),
+            (tcap_output { pdu: 4, ..made() }, Some(Pdu::Abrt { info: &[], is_by_provider: false })),
+            (tcap_output { pdu: 4, is_by_provider: 1, ..made() }, Some(Pdu::Abrt { info: &[], is_by_provider: true })),
+            (tcap_output { pdu: 5, ..made() }, Some(Pdu::Foreign { external })),
+            (tcap_output { pdu: 6, ..made() }, Some(Pdu::Other { pdu: 6 })),
+        ];
+        for (output, pdu) in rows {
+            assert_eq!(told(output), format!("{:?}", Output::UAbortInd { dialogue: 14, pdu }));
+        }
+    }
+}

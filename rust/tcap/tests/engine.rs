@@ -100,6 +100,89 @@ fn aborts_drops_and_timers_are_told() {
 }
 
 #[test]
+fn events_are_counted() {
+    // tcap.h: moments, messages and requests that were accepted, each; one with now_ms is two.
+    let mut a = engine(1);
+    let d = a.new_dialogue().unwrap(); // 1
+    assert_eq!((a.next_timer(), a.due(1 << 62)), (None, 0));
+    a.invoke(d, &Invoke::new(1, Code::Local(1), 9)).unwrap(); // 2
+    a.begin(0, d, b"B", Portion::default()).unwrap(); // 3, 4
+    a.receive(0, b"B", &[0xff]).unwrap(); // 5, 6
+    a.receive(0, b"B", &[0x67, 9, 0x49, 4, 0, 0, 0, 1, 0x4a, 1, 9]).unwrap(); // 7, 8
+    let mut told = Vec::new();
+    while let Some(Waiting { event, is_last, closes, output, .. }) = a.next_output() {
+        let is_cause_9 = output == Output::PAbortInd { dialogue: 1, cause: 9 };
+        told.push((event, is_last, closes, is_cause_9));
+    }
+    let rows = [(4, true, false, false), (6, true, false, false), (8, false, false, true), (8, true, true, false)];
+    assert_eq!(told, rows);
+}
+
+#[test]
+fn each_limit_is_kept() {
+    // docs/PROFILE.md, Time: an identifier waits for `reject_ms` behind its answer, a dialogue for `idle_ms` behind the
+    // last Continue.
+    let limits =
+        Limits { max_dialogues: 2, max_message: 40, reject_ms: 50, idle_ms: 900, first_dialogue: 7, first_number: 9 };
+    let mut a = Engine::open(&limits).unwrap();
+    assert_eq!((a.new_dialogue(), a.new_dialogue(), a.new_dialogue()), (Ok(7), Ok(8), Err(Error::DialoguesFull)));
+    assert_eq!(a.dialogues(), 2);
+    let invoke = Invoke::new(1, Code::Local(1), 100);
+    assert_eq!((a.invoke(7, &invoke), a.invoke(8, &invoke.with(&[&[4, 30][..], &[0; 30]].concat()))), (Ok(9), Ok(10)));
+    assert_eq!(a.begin(0, 7, b"B", Portion::default()), Ok(()));
+    assert_eq!(a.begin(0, 8, b"B", Portion::default()), Err(Error::TooLong));
+    a.receive(10, b"B", b"\x65\x13\x48\x04\0\0\0\x05\x49\x04\0\0\0\x07\x6c\x05\xa2\x03\x02\x01\x01").unwrap();
+    while a.next_output().is_some() {}
+    a.advance(59).unwrap();
+    assert_eq!(a.invoke(7, &invoke), Err(Error::InvokeIdInUse));
+    a.advance(60).unwrap();
+    assert_eq!(a.invoke(7, &invoke), Ok(11));
+    a.advance(909).unwrap();
+    assert!(a.next_output().is_none());
+    a.advance(910).unwrap();
+    assert_eq!(a.next_output().unwrap().output, Output::PAbortInd { dialogue: 7, cause: abort_cause::IDLE });
+}
+
+#[test]
+fn states_and_what_is_absent() {
+    let (mut a, mut b) = (engine(1), engine(7));
+    let d = a.new_dialogue().unwrap();
+    let mut states = vec![a.state_of(d)];
+    a.begin(0, d, b"b", Portion::default()).unwrap();
+    states.push(a.state_of(d));
+    carry(&mut a, &b);
+    assert_eq!(b.next_output().unwrap().output, Output::BeginInd { dialogue: 7, portion: Portion::default() });
+    states.push(b.state_of(7));
+    b.go_on(0, 7, Portion::default()).unwrap();
+    states.push(b.state_of(7));
+    b.end(0, 7, Portion::default()).unwrap();
+    states.push(b.state_of(7));
+    let named = [State::Idle, State::InitiationSent, State::InitiationReceived, State::Active, State::Unknown];
+    assert_eq!((states, b.dialogues()), (named.to_vec(), 0));
+}
+
+#[test]
+fn each_drop_has_its_cause() {
+    // docs/PROFILE.md, Reception; the dialogue portion of a Unidirectional is an AUDT, not the AARQ that this one has.
+    let aarq = [
+        0x6b, 0x1e, 0x28, 0x1c, 6, 7, 0, 0x11, 0x86, 5, 1, 1, 1, 0xa0, 0x11, 0x60, 0x0f, 0x80, 2, 7, 0x80, 0xa1, 9, 6,
+        7, 4, 0, 0, 1, 0, 1, 3,
+    ];
+    let invoke = [0x6c, 0x0d, 0xa1, 0x0b, 2, 1, 1, 2, 1, 2, 0x30, 3, 4, 1, 0xaa];
+    let rows: [(Vec<u8>, DropCause); 4] = [
+        (vec![0; 65_536], DropCause::TooLong),
+        (vec![0xff, 0xff], DropCause::BadMessage),
+        (vec![0x64, 6, 0x49, 4, 0, 0, 0, 9], DropCause::NoDialogue),
+        ([&[0x61, 0x2f][..], &aarq, &invoke].concat(), DropCause::BadDialogue),
+    ];
+    let mut a = engine(1);
+    for (message, cause) in rows {
+        a.receive(0, b"B", &message).unwrap();
+        assert_eq!(a.next_output().unwrap().output, Output::Dropped { cause });
+    }
+}
+
+#[test]
 fn refusals_are_errors_with_their_status() {
     let a = engine(1);
     let d = a.new_dialogue().unwrap();
