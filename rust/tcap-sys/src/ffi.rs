@@ -1,4 +1,4 @@
-//! tcap.h, line by line.
+//! tcap.h and tcap_codec.h, line by line.
 
 #![allow(non_camel_case_types)]
 #![allow(missing_docs)] // tcap.h has them
@@ -74,12 +74,22 @@ pub struct tcap_output {
     pub is_by_provider: u8,
 }
 
+#[repr(C)]
+#[derive(Clone, Copy, Debug, Default)]
+pub struct tcap_ids {
+    pub origin: [u8; 4],
+    pub destination: [u8; 4],
+    pub origin_len: u8,
+    pub destination_len: u8,
+}
+
 pub const TCAP_VERSION: u32 = 0x000100;
 pub const TCAP_NEVER: u64 = u64::MAX;
 pub const TCAP_NO_ID: c_int = 256;
 pub const TCAP_NO_CODE: c_int = 0;
 pub const TCAP_LOCAL: c_int = 1;
 pub const TCAP_GLOBAL: c_int = 2;
+pub const TCAP_ROOM_TOO_SMALL: c_int = 19;
 
 pub type take = unsafe extern "C" fn(size: usize) -> *mut c_void;
 pub type grow = unsafe extern "C" fn(block: *mut c_void, size: usize) -> *mut c_void;
@@ -157,4 +167,28 @@ extern "C" {
     pub fn tcap_dialogues(engine: *const tcap) -> usize;
     pub fn tcap_due(engine: *const tcap, now_ms: u64) -> usize;
     pub fn tcap_next_identifiers(engine: *const tcap, dialogue: *mut u32, number: *mut u64) -> c_int;
+    pub fn tcap_front(message: tcap_octets, ids: *mut tcap_ids) -> c_int;
+    pub fn tcap_oid_from_text(text: tcap_octets, room: *mut u8, room_len: usize, len: *mut usize) -> c_int;
+    pub fn tcap_oid_to_text(oid: tcap_octets, room: *mut c_char, room_len: usize, len: *mut usize) -> c_int;
+    pub fn tcap_show(
+        message: tcap_octets,
+        room: *mut c_char,
+        room_len: usize,
+        len: *mut usize,
+        is_good: *mut c_int,
+    ) -> c_int;
+    pub fn tcap_check(
+        message: tcap_octets,
+        room: *mut c_char,
+        room_len: usize,
+        len: *mut usize,
+        is_good: *mut c_int,
+    ) -> c_int;
+    pub fn tcap_canon(
+        message: tcap_octets,
+        room: *mut c_char,
+        room_len: usize,
+        len: *mut usize,
+        is_good: *mut c_int,
+    ) -> c_int;
 }

@@ -1,4 +1,4 @@
-//! libtcap's tcap.h ([`ffi`]), and thin calls over it that are safe: [`Handle`], which owns an engine, and
+//! libtcap's tcap.h and tcap_codec.h ([`ffi`]), and thin calls over it that are safe: [`Handle`], which owns an engine, and
 //! [`OutputRef`], an output for as long as C keeps it. All `unsafe` of the two crates stands here, so that `tcap`
 //! forbids it; use that one.
 //!
@@ -10,17 +10,18 @@
 #![deny(unsafe_op_in_unsafe_fn)]
 #![warn(missing_docs)]
 
+pub mod codec;
 pub mod ffi;
 mod given;
-mod output;
 mod handle;
+mod output;
 #[cfg(feature = "refusing")]
 pub mod refusing;
 
-pub use ffi::{tcap_limits, tcap_output};
+pub use ffi::{tcap_ids, tcap_limits, tcap_output};
 pub use given::{GivenCode, GivenPortion};
-pub use output::OutputRef;
 pub use handle::Handle;
+pub use output::OutputRef;
 
 use std::ffi::CStr;
 use std::os::raw::c_int;

@@ -44,11 +44,13 @@
 #![forbid(unsafe_code)]
 #![warn(missing_docs)]
 
+mod codec;
 mod engine;
 mod error;
 mod output;
 mod values;
 
+pub use codec::{canon, check, front, oid, oid_text, show, TransactionIds};
 pub use engine::{Engine, Limits, Waiting};
 pub use error::Error;
 pub use output::{Output, Pdu};
