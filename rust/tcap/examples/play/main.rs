@@ -1,7 +1,8 @@
 //! Plays a script (docs/FORMATS.md, play) by two engines of the crate `tcap`, and prints its text.
 //!
-//!     play SCRIPT [SEEN]     status 1 where a line is bad; SEEN: how often each status was answered and each kind of
-//!                            output told is written to this file
+//!     play SCRIPT [SEEN]     status 1 where a line is bad; SEEN: a file into which it is written how often each status
+//!                            was answered and each kind of output told, by a line `status NUMBER NAME COUNT` or
+//!                            `kind NUMBER NAME COUNT`; NUMBER is that of tcap.h, NAME the variant that told it, or Ok
 //!
 //! The three lines more that bindings/play.c names are played here too.
 
@@ -10,11 +11,12 @@
 mod text;
 mod words;
 
-use std::fmt::Write as _;
+use std::collections::BTreeMap;
+use std::fmt::Debug;
 use std::process::ExitCode;
 use tcap::{refusing, AbortReason, Class, Code, Engine, Error, Invoke, Limits, Output, Portion, Termination, Waiting};
-use text::{hexed, text_of, PROBLEMS};
-use words::{absent, held, number, octets, some};
+use text::{hexed, kind_of, text_of, PROBLEMS};
+use words::{absent, address, held, idle_limit, number, octets, some};
 
 #[derive(Clone, Copy, PartialEq)]
 enum Fate {
@@ -40,8 +42,12 @@ struct Play {
     sides: [Side; 2],
     now: u64,
     idle_ms: u64,
-    statuses: [u64; 17],
-    kinds: [u64; 18],
+    seen: BTreeMap<(&'static str, i32, String), u64>,
+}
+
+/// The name of a variant.
+fn name_of(value: &impl Debug) -> String {
+    format!("{:?}", value).chars().take_while(|letter| letter.is_alphanumeric()).collect()
 }
 
 /// Which side a word names.
@@ -54,28 +60,41 @@ impl Play {
         let limits = Limits { max_dialogues: 16, idle_ms, ..Limits::default() };
         let of =
             |letter, address| Ok(Side { letter, address: [address], engine: Engine::open(&limits)?, sent: Vec::new() });
-        Ok(Play { sides: [of('A', 0x41)?, of('B', 0x42)?], now: 0, idle_ms, statuses: [0; 17], kinds: [0; 18] })
+        Ok(Play { sides: [of('A', 0x41)?, of('B', 0x42)?], now: 0, idle_ms, seen: BTreeMap::new() })
+    }
+
+    fn count(&mut self, what: &'static str, number: i32, name: String) {
+        *self.seen.entry((what, number, name)).or_insert(0) += 1;
     }
 
     /// Prints what a call of a side answered, by this name, and what was told.
     fn answered<T: ToString>(&mut self, at: usize, answer: Result<T, Error>, name: &str) {
-        let beyond = self.sides[1 - at].address;
-        let side = &mut self.sides[at];
+        let letter = self.sides[at].letter;
         match answer {
             Err(error) => {
-                self.statuses[error.status() as usize] += 1;
-                println!("{} refused {}", side.letter, error.status());
+                self.count("status", error.status(), name_of(&error));
+                println!("{} refused {}", letter, error.status());
             }
             Ok(value) => {
-                self.statuses[0] += 1;
+                self.count("status", 0, "Ok".to_string());
                 if !name.is_empty() {
-                    println!("{}", format!("{} {} {}", side.letter, name, value.to_string()).trim_end());
+                    println!("{}", format!("{} {} {}", letter, name, value.to_string()).trim_end());
                 }
             }
         }
+        for (kind, name) in self.told(at) {
+            self.count("kind", kind, name);
+        }
+    }
+
+    /// Prints what was told, and answers what it was.
+    fn told(&mut self, at: usize) -> Vec<(i32, String)> {
+        let beyond = self.sides[1 - at].address;
+        let side = &mut self.sides[at];
+        let mut told = Vec::new();
         while let Some(Waiting { output, .. }) = side.engine.next_output() {
-            let (kind, mut text) = text_of(output);
-            self.kinds[kind] += 1;
+            told.push((kind_of(&output), name_of(&output)));
+            let mut text = text_of(output);
             if let Output::Send { address, message } = output {
                 side.sent.push(Message { octets: message.to_vec(), address: address.to_vec(), fate: Fate::Waits });
                 text = format!("send {}{} {}", side.letter, side.sent.len(), hexed(message));
@@ -85,6 +104,7 @@ impl Play {
             }
             println!("{} {}", side.letter, text);
         }
+        told
     }
 
     /// The same of a call that answers nothing, which prints `name`.
@@ -128,6 +148,20 @@ impl Play {
         Some(())
     }
 
+    /// `S open DIALOGUES MESSAGE DIALOGUE NUMBER`.
+    fn open(&mut self, at: usize, [dialogues, message, dialogue, number]: [&str; 4]) -> Option<()> {
+        let limits = Limits {
+            max_dialogues: held(dialogues)?,
+            max_message: held(message)?,
+            idle_ms: self.idle_ms,
+            first_dialogue: held(dialogue)?,
+            first_number: held(number)?,
+            ..Limits::default()
+        };
+        self.sides[at].engine = Engine::open(&limits).ok()?;
+        Some(())
+    }
+
     /// Does what a line asks for.
     fn line(&mut self, words: &[&str]) -> Option<()> {
         match *words {
@@ -152,18 +186,9 @@ impl Play {
                 let from = self.sides[1 - at].address;
                 self.receive(at, &from, &octets(message)?)
             }
-            [letter, "rawfrom", from, message] => self.receive(side(letter)?, &octets(from)?, &octets(message)?),
+            [letter, "rawfrom", from, message] => self.receive(side(letter)?, &address(from)?, &octets(message)?),
             [letter, "open", dialogues, message, dialogue, first] => {
-                let limits = Limits {
-                    max_dialogues: held(dialogues)?,
-                    max_message: held(message)?,
-                    idle_ms: self.idle_ms,
-                    first_dialogue: held(dialogue)?,
-                    first_number: held(first)?,
-                    ..Limits::default()
-                };
-                self.sides[side(letter)?].engine = Engine::open(&limits).ok()?;
-                Some(())
+                self.open(side(letter)?, [dialogues, message, dialogue, first])
             }
             [letter, verb, dialogue, ref rest @ ..] => self.request(side(letter)?, verb, held(dialogue)?, rest),
             _ => None,
@@ -192,7 +217,7 @@ impl Play {
                 }
             }
             ("beginto", &[to, context, info]) => {
-                let (to, context, info) = (octets(to)?, octets(context)?, octets(info)?);
+                let (to, context, info) = (address(to)?, octets(context)?, octets(info)?);
                 engine.begin(now, d, &to, Portion { context: some(&context), info: &info })
             }
             ("prearranged", []) => engine.finish(now, d, Termination::Prearranged, Portion::default()),
@@ -240,14 +265,10 @@ impl Play {
     }
 
     fn seen(&self) -> String {
-        let mut text = String::new();
-        for (status, count) in self.statuses.iter().enumerate() {
-            writeln!(text, "status {} {}", status, count).unwrap();
-        }
-        for (kind, count) in self.kinds.iter().enumerate().skip(1) {
-            writeln!(text, "kind {} {}", kind, count).unwrap();
-        }
-        text
+        let line = |((what, number, name), count): (&(_, _, String), &u64)| {
+            format!("{} {} {} {}\n", what, number, name, count)
+        };
+        self.seen.iter().map(line).collect()
     }
 }
 
@@ -256,7 +277,7 @@ fn main() -> ExitCode {
     let script = std::fs::read_to_string(&names[0]).expect("the script");
     let lines = script.lines().zip(1..).filter(|(line, _)| !line.is_empty() && !line.starts_with('#'));
     let mut lines: Vec<(&str, u32)> = lines.collect();
-    let idle = lines.first().and_then(|(line, _)| line.strip_prefix("idle ")).and_then(held);
+    let idle = lines.first().and_then(|(line, _)| line.strip_prefix("idle ")).and_then(idle_limit);
     if idle.is_some() {
         lines.remove(0);
     }

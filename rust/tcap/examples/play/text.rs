@@ -87,45 +87,76 @@ fn drop_text(cause: DropCause) -> &'static str {
     }
 }
 
-/// The words of an output, but of `Send`; and the number of its kind in tcap.h.
-pub fn text_of(output: Output<'_>) -> (usize, String) {
+/// The number of its kind in tcap.h; 0 of one that has none there.
+pub fn kind_of(output: &Output<'_>) -> i32 {
     match output {
-        Output::Send { .. } => (1, String::new()),
-        Output::UniInd { portion } => (2, format!("uni {}", portioned(portion))),
-        Output::BeginInd { dialogue, portion } => (3, format!("begin {} {}", dialogue, portioned(portion))),
-        Output::ContinueInd { dialogue, portion } => (4, format!("continue {} {}", dialogue, portioned(portion))),
-        Output::EndInd { dialogue, portion } => (5, format!("end {} {}", dialogue, portioned(portion))),
-        Output::UAbortInd { dialogue, pdu } => (6, format!("uabort {} {}", dialogue, pdu_text(pdu))),
-        Output::PAbortInd { dialogue, cause } => (7, format!("pabort {} {}", dialogue, cause_text(cause))),
-        Output::InvokeInd { dialogue, invoke_id, linked_id, code, parameter } => {
-            let (place, linked) = (dash(dialogue), dash(linked_id));
-            (8, format!("invoked {} id {} linked {} op {}", place, invoke_id, linked, coded(Some(code), parameter)))
-        }
-        Output::ResultLInd { dialogue: d, number: n, invoke_id: i, code, parameter } => {
-            (9, format!("last {} id {} number {} op {}", d, i, n, coded(code, parameter)))
-        }
-        Output::ResultNLInd { dialogue: d, number: n, invoke_id: i, code, parameter } => {
-            (10, format!("more {} id {} number {} op {}", d, i, n, coded(code, parameter)))
-        }
-        Output::UErrorInd { dialogue: d, number: n, invoke_id: i, code, parameter } => {
-            (11, format!("error {} id {} number {} code {}", d, i, n, coded(Some(code), parameter)))
-        }
-        Output::LCancelInd { dialogue, number, invoke_id } => {
-            (12, format!("lapsed {} id {} number {}", dialogue, invoke_id, number))
-        }
-        Output::ClosedInd { dialogue, number, invoke_id } => {
-            (13, format!("ended {} id {} number {}", dialogue, invoke_id, number))
-        }
+        Output::Send { .. } => 1,
+        Output::UniInd { .. } => 2,
+        Output::BeginInd { .. } => 3,
+        Output::ContinueInd { .. } => 4,
+        Output::EndInd { .. } => 5,
+        Output::UAbortInd { .. } => 6,
+        Output::PAbortInd { .. } => 7,
+        Output::InvokeInd { .. } => 8,
+        Output::ResultLInd { .. } => 9,
+        Output::ResultNLInd { .. } => 10,
+        Output::UErrorInd { .. } => 11,
+        Output::LCancelInd { .. } => 12,
+        Output::ClosedInd { .. } => 13,
+        Output::LRejectInd { .. } => 14,
+        Output::RRejectInd { .. } => 15,
+        Output::URejectInd { .. } => 16,
+        Output::Dropped { .. } => 17,
+        _ => 0,
+    }
+}
+
+/// The words of an output, but of `Send`.
+pub fn text_of(output: Output<'_>) -> String {
+    match output {
+        Output::Send { .. } => String::new(),
+        Output::UniInd { portion } => format!("uni {}", portioned(portion)),
+        Output::BeginInd { dialogue, portion } => format!("begin {} {}", dialogue, portioned(portion)),
+        Output::ContinueInd { dialogue, portion } => format!("continue {} {}", dialogue, portioned(portion)),
+        Output::EndInd { dialogue, portion } => format!("end {} {}", dialogue, portioned(portion)),
+        Output::UAbortInd { dialogue, pdu } => format!("uabort {} {}", dialogue, pdu_text(pdu)),
+        Output::PAbortInd { dialogue, cause } => format!("pabort {} {}", dialogue, cause_text(cause)),
         Output::LRejectInd { dialogue, invoke_id, problem, number } => {
-            (14, reject_text(dialogue, invoke_id, problem, number, "local"))
+            reject_text(dialogue, invoke_id, problem, number, "local")
         }
         Output::RRejectInd { dialogue, invoke_id, problem, number } => {
-            (15, reject_text(dialogue, invoke_id, problem, number, "provider"))
+            reject_text(dialogue, invoke_id, problem, number, "provider")
         }
         Output::URejectInd { dialogue, invoke_id, problem, number } => {
-            (16, reject_text(dialogue, invoke_id, problem, number, "user"))
+            reject_text(dialogue, invoke_id, problem, number, "user")
         }
-        Output::Dropped { cause } => (17, format!("dropped {}", drop_text(cause))),
-        other => (0, format!("{:?}", other)),
+        Output::Dropped { cause } => format!("dropped {}", drop_text(cause)),
+        of_an_invocation => invocation_text(of_an_invocation),
+    }
+}
+
+/// The words of an output that names an invocation, but of a Reject.
+fn invocation_text(output: Output<'_>) -> String {
+    match output {
+        Output::InvokeInd { dialogue, invoke_id, linked_id, code, parameter } => {
+            let (place, linked) = (dash(dialogue), dash(linked_id));
+            format!("invoked {} id {} linked {} op {}", place, invoke_id, linked, coded(Some(code), parameter))
+        }
+        Output::ResultLInd { dialogue: d, number: n, invoke_id: i, code, parameter } => {
+            format!("last {} id {} number {} op {}", d, i, n, coded(code, parameter))
+        }
+        Output::ResultNLInd { dialogue: d, number: n, invoke_id: i, code, parameter } => {
+            format!("more {} id {} number {} op {}", d, i, n, coded(code, parameter))
+        }
+        Output::UErrorInd { dialogue: d, number: n, invoke_id: i, code, parameter } => {
+            format!("error {} id {} number {} code {}", d, i, n, coded(Some(code), parameter))
+        }
+        Output::LCancelInd { dialogue: d, number, invoke_id } => {
+            format!("lapsed {} id {} number {}", d, invoke_id, number)
+        }
+        Output::ClosedInd { dialogue: d, number, invoke_id } => {
+            format!("ended {} id {} number {}", d, invoke_id, number)
+        }
+        other => format!("{:?}", other),
     }
 }
