@@ -11,11 +11,11 @@ mod read;
 mod write;
 
 use crate::trans_id::TransId;
-pub use append::append_message;
+pub use append::{append_frame, append_message};
 pub use carry::write_frame_with;
 pub use front::front_ids;
 pub use length::{MAX_MESSAGE, frame_fits};
-pub use measured::{MessageLength, message_length};
+pub use measured::{MessageLength, message_length, own_length};
 pub use read::read_frame;
 pub use write::write_frame;
 

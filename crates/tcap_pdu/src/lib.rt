@@ -16,7 +16,7 @@ pub use dialogue_pdu::{
 };
 pub use fault::{DialogueFault, FrameFault, PduFault};
 pub use frame::{
-    AbortPart, Frame, MAX_MESSAGE, MessageLength, append_message, frame_fits, front_ids,
-    message_length, read_frame, write_frame, write_frame_with,
+    AbortPart, Frame, MAX_MESSAGE, MessageLength, append_frame, append_message, frame_fits,
+    front_ids, message_length, own_length, read_frame, write_frame, write_frame_with,
 };
 pub use trans_id::TransId;

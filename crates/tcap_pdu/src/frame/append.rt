@@ -88,3 +88,21 @@ pub fn append_message<A: Allocator + Copy>(
     }
     put_closing(out, frame);
 }
+
+/// `append_message` without a PDU: the message as it stands, with its own dialogue portion if it has one.
+// Apart from `append_message`, which has all kinds of PDU in it: a caller that knows its message can have this inlined.
+#[inline(always)]
+pub fn append_frame<A: Allocator + Copy>(
+    out: &mut Vec<u8, A>,
+    frame: &Frame<'_>,
+    len: MessageLength,
+)
+    requires measured { IsMeasured len (message frame.now) None }
+    requires room { vec_len out.old + length (written_frame (message frame.now)) ≤ vec_capacity out.old }
+    ensures items { out.new.items ≡ out.old.items ++ written_frame (message frame.now) }
+    ensures capacity { vec_capacity out.old ≤ vec_capacity out.new }
+{
+    put_front(out, frame, len.contents);
+    put_dialogue(out, frame.dialogue());
+    put_closing(out, frame);
+}

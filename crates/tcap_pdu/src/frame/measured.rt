@@ -46,9 +46,9 @@ impl MessageLength {
     }
 }
 
-/// How long the message is as it stands.
+/// `message_length` without a PDU: how long the message is as it stands; `None` above 65,535 bytes. It takes no memory.
 #[inline(always)]
-pub(super) fn own_length(frame: &Frame<'_>) -> Option<MessageLength>
+pub fn own_length(frame: &Frame<'_>) -> Option<MessageLength>
     ensures some { IfSome result (λ len. IsMeasured len (message frame.now) None) }
     ensures none { IfNone result (message_limit < length (written_frame (message frame.now))) }
     ensures ids { HasIds (message frame.now) }
