@@ -40,7 +40,7 @@ fn remote_rejector(problem: Problem) -> By
 }
 
 /// An answer that closes an invocation and is rejected here.
-#[inline(always)]
+#[inline(never)]
 fn unexpected<'m, A: Allocator + Copy, K: SinkKind>(
     dialogue: u32,
     number: u64,
@@ -66,7 +66,7 @@ fn unexpected<'m, A: Allocator + Copy, K: SinkKind>(
 }
 
 /// A component that is rejected here and closes nothing.
-#[inline(always)]
+#[inline(never)]
 fn rejecting<'m, A: Allocator + Copy, K: SinkKind>(
     dialogue: u32,
     id: i8,

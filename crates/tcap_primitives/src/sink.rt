@@ -1,5 +1,7 @@
 //! Where the outputs of a call go.
 
+pub mod known;
+
 ghost use Rattle.std.specs.Prelude.{◌≡◌, ◌+◌, ◌-◌, ◌^◌, ◌≤◌, ◌<◌, ◌++◌, ◌∷◌, [], true, false, Bool, Option, length, map, take, vec_len, vec_capacity, OnOk, OnErr};
 ghost use Rattle.ber_core.specs.Place.{Slice};
 ghost use Rattle.tcap_model.specs.Words.Output as model;

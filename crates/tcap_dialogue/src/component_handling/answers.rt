@@ -3,12 +3,14 @@
 // Hints to inline have the reason that in_dialogue.rt gives.
 
 ghost use Rattle.std.specs.Option.{option_map};
-ghost use Rattle.std.specs.Prelude.{◌+◌, ◌≤◌, Some, None, Bool, true, false, option_copied};
+ghost use Rattle.std.specs.Prelude.{◌≡◌, ◌+◌, ◌≤◌, ◌++◌, ◌∷◌, [], Option, Some, None, Bool, true, false, option_copied};
+ghost use Rattle.ber_core.specs.Place.{Slice};
 ghost use Rattle.tcap_component.specs.Views.{problem_parts, body_parts, code_parts};
 ghost use Rattle.tcap_component.specs.declared.component.Component.TheVariants as component;
 ghost use Rattle.tcap_dialogue.specs.HandledViews.{IsHandled, AreNone};
-ghost use Rattle.tcap_primitives.specs.IndicationViews.{body_octets, code_octets, optional_octets};
-ghost use Rattle.tcap_primitives.specs.Slices.{AreOf, result_of};
+ghost use Rattle.tcap_primitives.specs.IndicationViews.{body_octets, code_octets, indicated, indicated_slices, optional_octets};
+ghost use Rattle.tcap_primitives.specs.Slices.{AreOf, LieIn, LieInPlace, result_of};
+ghost use Rattle.tcap_primitives.specs.declared.indication.Indication.TheVariants as indication;
 ghost use Rattle.tcap_dialogue.specs.Verdicts.{result_judged, error_judged, reject_judged};
 
 use super::{Reject, rejecting, remote_rejector, unexpected};
@@ -16,6 +18,34 @@ use std::alloc::Allocator;
 use tcap_component::{Body, Code, Problem};
 use tcap_invocation::Verdict;
 use tcap_primitives::{Indication, Sink, SinkKind};
+
+/// TC-RESULT-NL indication.
+// It is rarer than TC-RESULT-L, and stands apart.
+#[inline(never)]
+fn tell_result_more<'m, A: Allocator + Copy, K: SinkKind>(
+    dialogue: u32,
+    number: u64,
+    id: i8,
+    body: Option<Body<'m>>,
+    sink: &mut Sink<'m, A, K>,
+)
+    requires place { 1 ≤ sink.old.places }
+    requires octets { body_octets body ≤ sink.old.octets }
+    ensures told { sink.new.outputs ≡ sink.old.outputs
+        ++ indicated (indication.ResultMore dialogue number id body.entry) ∷ [] }
+    ensures places { sink.old.places ≤ sink.new.places + 1 }
+    ensures octets { sink.old.octets ≤ sink.new.octets + body_octets body.entry }
+    ensures place { (portion : Option Slice) (components : Slice) → LieIn portion components
+        (indicated_slices (indication.ResultMore dialogue number id body.entry))
+        → LieInPlace portion components sink.old.slices → LieInPlace portion components sink.new.slices }
+{
+    sink.tell(Indication::ResultMore {
+        dialogue,
+        number,
+        id,
+        body,
+    });
+}
 
 /// A Return Result, Last or not, by the verdict on it (Q.774, Component handling).
 #[inline(always)]
@@ -35,19 +65,9 @@ pub(crate) fn result_judged<'m, A: Allocator + Copy, K: SinkKind>(
     match verdict {
         Verdict::Good(number) => {
             if last {
-                sink.tell(Indication::ResultLast {
-                    dialogue,
-                    number,
-                    id,
-                    body,
-                });
+                sink.tell_result_last(dialogue, number, id, body);
             } else {
-                sink.tell(Indication::ResultMore {
-                    dialogue,
-                    number,
-                    id,
-                    body,
-                });
+                tell_result_more(dialogue, number, id, body, sink);
             }
             None
         }

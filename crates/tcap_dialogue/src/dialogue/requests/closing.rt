@@ -2,7 +2,7 @@
 
 // Hints to inline have the reasons that requests.rt gives.
 
-ghost use Rattle.std.specs.Prelude.{◌≡◌, ◌≤◌, ◌++◌, ◌||◌, None, Some, IfErr, IfOk, OnErr, OnOk, is_some, length, nat_lt, option_copied};
+ghost use Rattle.std.specs.Prelude.{◌≡◌, ◌≤◌, ◌++◌, ◌||◌, None, Some, IfErr, IfOk, IfSome, OnErr, OnOk, is_some, length, nat_lt, option_copied};
 ghost use Rattle.std.specs.Option.{option_map};
 ghost use Rattle.tcap_dialogue.specs.RequestForm.{Steps, StepsInto};
 ghost use Rattle.tcap_dialogue.specs.RequestMessages.{IsUnwritten, early_faults, outgoing_view};
@@ -10,19 +10,23 @@ ghost use Rattle.tcap_dialogue.specs.StepViews.{asked, requested};
 ghost use Rattle.tcap_invocation.specs.Closing.{ended_at};
 ghost use Rattle.tcap_model.specs.Procedures.AbortRules.{sent_if_any};
 ghost use Rattle.tcap_model.specs.Procedures.Refusals.{due_on, first_that, has_no_context, holds};
+ghost use Rattle.tcap_model.specs.Procedures.QueueRules.{joined};
 ghost use Rattle.tcap_model.specs.Procedures.RequestMessage.{message_of};
 ghost use Rattle.tcap_model.specs.Procedures.States.{has_request};
 ghost use Rattle.tcap_model.specs.Table.TableMove.{situation};
 ghost use Rattle.tcap_model.specs.Words.Request.{DialogueRequest, Request};
+ghost use Rattle.tcap_pdu.specs.FrameSpelling.{Message};
 ghost use Rattle.tcap_primitives.specs.FaultViews.{fault_view};
 ghost use Rattle.tcap_primitives.specs.RequestViews.{end_view, ending_view};
 ghost use Rattle.tcap_primitives.specs.SendingViews.{CanSend, sending_view};
 
-use super::sending::{gives_any, is_name_good, send, within_limit_if_any};
+use super::sending::{
+    frame_length, gives_any, is_name_good, send, send_frame, within_limit_if_any,
+};
 use crate::dialogue::ending::tell_ended;
 use crate::dialogue::{Dialogue, Step};
 use std::alloc::Allocator;
-use tcap_pdu::is_user_information;
+use tcap_pdu::{Frame, TransId, is_user_information};
 use tcap_primitives::{EndRequest, Ending, Fault, MessageParts, Outgoing, Sending, Sink, SinkKind};
 use tcap_reception::Phase;
 
@@ -132,9 +136,9 @@ impl<A: Allocator + Copy> Dialogue<A> {
         within_limit_if_any(self.end_sending(request))
     }
 
-    /// Judges an end and writes its message, if it sends one, with places for the invocations that are left.
-    #[inline(always)]
-    fn write_end<'m, K: SinkKind>(
+    /// `write_end`, of a prearranged end too, and with the AARE of an AARQ that isn't answered yet, if there is one.
+    #[inline(never)]
+    fn write_any_end<'m, K: SinkKind>(
         &self,
         request: &EndRequest<'_>,
         sink: &mut Sink<'m, A, K>,
@@ -157,6 +161,53 @@ impl<A: Allocator + Copy> Dialogue<A> {
             self.invocations.open_count(),
             sink,
         )?;
+        Ok(())
+    }
+
+    /// The peer of a basic end that has no dialogue portion.
+    #[inline(always)]
+    fn plain_end(&self, request: &EndRequest<'_>) -> Option<&TransId>
+        ensures { IfSome result (λ peer. message_of self.now.standing (Request.dialogue (end_view request.now))
+            ≡ Some (Message.end peer.now None (joined self.now.standing.queue))) }
+    {
+        if matches!(request.ending, Ending::Prearranged) {
+            return None;
+        }
+        self.plain_peer()
+    }
+
+    /// Judges an end and writes its message, if it sends one, with places for the invocations that are left.
+    #[inline(always)]
+    fn write_end<'m, K: SinkKind>(
+        &self,
+        request: &EndRequest<'_>,
+        sink: &mut Sink<'m, A, K>,
+    ) -> Result<(), Fault>
+        ensures ok { let r = Request.dialogue (end_view request.now) in OnOk result
+            (sink.new.outputs ≡ sink.old.outputs
+            ++ sent_if_any self.now.kept (message_of self.now.standing r)) }
+        ensures due { let r = Request.dialogue (end_view request.now) in
+            OnOk result (due_on (situation (asked 0 0) self.now r) r ≡ None) }
+        ensures places { OnOk result (length (ended_at self.now.invocations.rows) ≤ sink.new.places) }
+        ensures err { let r = Request.dialogue (end_view request.now) in IfErr result (λ f. IsUnwritten f
+            (due_on (situation (asked 0 0) self.now r) r)
+            (is_some (message_of self.now.standing r) || nat_lt 0 (length (ended_at self.now.invocations.rows)))) }
+        ensures still { OnErr result (sink.new.outputs ≡ sink.old.outputs) }
+    {
+        let Some(peer) = self.plain_end(request) else {
+            return self.write_any_end(request, sink);
+        };
+        if let Some(fault) = self.end_fault(request) {
+            return Err(fault);
+        }
+        let frame = Frame::End {
+            dtid: peer.copied(),
+            dialogue: None,
+            components: self.queue.all_octets(),
+        };
+        let len = frame_length(&frame)?;
+        let more = self.invocations.open_count();
+        send_frame(self.kept.octets(), &frame, len, more, sink)?;
         Ok(())
     }
 

@@ -18,10 +18,12 @@ ghost use Rattle.tcap_primitives.specs.RequestViews.{continue_view};
 ghost use Rattle.tcap_primitives.specs.SendingViews.{CanSend, sending_view};
 ghost use Rattle.tcap_reception.specs.StateViews.{phase_view};
 
-use super::sending::{gives_any, is_name_good, send, within_limit_if_any};
+use super::sending::{
+    frame_length, gives_any, is_name_good, send, send_frame, within_limit_if_any,
+};
 use crate::dialogue::{Dialogue, Step};
 use std::alloc::Allocator;
-use tcap_pdu::is_user_information;
+use tcap_pdu::{Frame, TransId, is_user_information};
 use tcap_primitives::{ContinueRequest, Fault, MessageParts, Outgoing, Sending, Sink, SinkKind};
 use tcap_reception::Phase;
 
@@ -104,6 +106,28 @@ impl<A: Allocator + Copy> Dialogue<A> {
         within_limit_if_any(self.continue_sending(request))
     }
 
+    /// `write_continue`, with the AARE of an AARQ that isn't answered yet, if there is one.
+    #[inline(never)]
+    fn write_answer<'m, K: SinkKind>(
+        &self,
+        request: &ContinueRequest<'_>,
+        sink: &mut Sink<'m, A, K>,
+    ) -> Result<(), Fault>
+        ensures ok { let r = Request.dialogue (continue_view request.now) in OnOk result
+            (sink.new.outputs ≡ sink.old.outputs
+            ++ sent_if_any self.now.kept (message_of self.now.standing r)) }
+        ensures due { let r = Request.dialogue (continue_view request.now) in
+            OnOk result (due_on (situation (asked 0 0) self.now r) r ≡ None) }
+        ensures err { let r = Request.dialogue (continue_view request.now) in IfErr result (λ f. IsUnwritten f
+            (due_on (situation (asked 0 0) self.now r) r)
+            (is_some (message_of self.now.standing r))) }
+        ensures still { OnErr result (sink.new.outputs ≡ sink.old.outputs) }
+    {
+        let message = self.continue_message(request)?;
+        send(self.kept.octets(), message, 0, sink)?;
+        Ok(())
+    }
+
     /// Judges a Continue and writes it.
     #[inline(always)]
     fn write_continue<'m, K: SinkKind>(
@@ -121,8 +145,20 @@ impl<A: Allocator + Copy> Dialogue<A> {
             (is_some (message_of self.now.standing r))) }
         ensures still { OnErr result (sink.new.outputs ≡ sink.old.outputs) }
     {
-        let message = self.continue_message(request)?;
-        send(self.kept.octets(), message, 0, sink)?;
+        let Some(peer) = self.plain_peer() else {
+            return self.write_answer(request, sink);
+        };
+        if let Some(fault) = self.continue_fault(request) {
+            return Err(fault);
+        }
+        let frame = Frame::Continue {
+            otid: TransId::of(self.identifier),
+            dtid: peer.copied(),
+            dialogue: None,
+            components: self.queue.all_octets(),
+        };
+        let len = frame_length(&frame)?;
+        send_frame(self.kept.octets(), &frame, len, 0, sink)?;
         Ok(())
     }
 

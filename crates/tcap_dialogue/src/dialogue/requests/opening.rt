@@ -18,12 +18,14 @@ ghost use Rattle.tcap_primitives.specs.FaultViews.{fault_view};
 ghost use Rattle.tcap_primitives.specs.RequestViews.{begin_view};
 ghost use Rattle.tcap_primitives.specs.SendingViews.{CanSend, sending_view};
 
-use super::sending::{is_name_good, lacks_context, send, within_limit_if_any};
+use super::sending::{
+    frame_length, is_name_good, lacks_context, send, send_frame, within_limit_if_any,
+};
 use crate::dialogue::beginning::Names;
 use crate::dialogue::{Dialogue, Step};
 use std::alloc::Allocator;
 use tcap_address::Address;
-use tcap_pdu::is_user_information;
+use tcap_pdu::{Frame, TransId, is_user_information};
 use tcap_primitives::{
     BeginRequest, Fault, MessageParts, Outgoing, Sending, Sink, SinkKind, begin_pdu,
 };
@@ -106,9 +108,9 @@ impl<A: Allocator + Copy> Dialogue<A> {
         within_limit_if_any(Some(self.begin_sending(request)))
     }
 
-    /// Judges a Begin and writes it: the names that the dialogue is to keep.
-    #[inline(always)]
-    fn write_begin<'m, K: SinkKind>(
+    /// `write_begin`, with the AARQ of a context, if there is one.
+    #[inline(never)]
+    fn write_any_begin<'m, K: SinkKind>(
         &self,
         request: &BeginRequest<'_>,
         sink: &mut Sink<'m, A, K>,
@@ -129,6 +131,42 @@ impl<A: Allocator + Copy> Dialogue<A> {
         let alloc = *self.queue.octets.allocator();
         let names = Names::of(alloc, request.to, request.context)?;
         send(request.to.octets(), message, 0, sink)?;
+        Ok(names)
+    }
+
+    /// Judges a Begin and writes it: the names that the dialogue is to keep.
+    #[inline(always)]
+    fn write_begin<'m, K: SinkKind>(
+        &self,
+        request: &BeginRequest<'_>,
+        sink: &mut Sink<'m, A, K>,
+    ) -> Result<Names<A>, Fault>
+        ensures ok { let r = Request.dialogue (begin_view request.now) in OnOk result
+            (sink.new.outputs ≡ sink.old.outputs
+            ++ sent_if_any request.now.to.now (message_of self.now.standing r)) }
+        ensures due { let r = Request.dialogue (begin_view request.now) in
+            OnOk result (due_on (situation (asked 0 0) self.now r) r ≡ None) }
+        ensures names { IfOk result (λ names. (names.kept ≡ request.now.to.now)
+            × (context_view names.context ≡ option_copied request.now.context)) }
+        ensures err { let r = Request.dialogue (begin_view request.now) in IfErr result (λ f. IsUnwritten f
+            (due_on (situation (asked 0 0) self.now r) r)
+            (is_some (message_of self.now.standing r))) }
+        ensures still { OnErr result (sink.new.outputs ≡ sink.old.outputs) }
+    {
+        if request.context.is_some() {
+            return self.write_any_begin(request, sink);
+        }
+        if let Some(fault) = self.begin_fault(request) {
+            return Err(fault);
+        }
+        let frame = Frame::Begin {
+            otid: TransId::of(self.identifier),
+            dialogue: None,
+            components: self.queue.all_octets(),
+        };
+        let len = frame_length(&frame)?;
+        let names = Names::of(*self.queue.octets.allocator(), request.to, None)?;
+        send_frame(request.to.octets(), &frame, len, 0, sink)?;
         Ok(names)
     }
 

@@ -3,16 +3,22 @@
 
 // Hints to inline have the reasons that requests.rt gives.
 
-ghost use Rattle.std.specs.Prelude.{◌≡◌, ◌≤◌, ◌++◌, ◌||◌, None, Some, IfErr, IfOk, IfSome, IsTrue, OnErr, OnOk, false, true, is_some, length, nat_lt, option_copied};
+ghost use Rattle.std.specs.Prelude.{◌≡◌, ◌≤◌, ◌++◌, ◌||◌, ℕ, List, Option, None, Some, IfErr, IfOk, IfSome, IsTrue, OnErr, OnOk, false, true, is_some, length, nat_lt, option_copied};
 ghost use Rattle.std.specs.Option.{option_map};
 ghost use Rattle.tcap_dialogue.specs.RequestMessages.{outgoing_view};
 ghost use Rattle.tcap_dialogue.specs.StepViews.{asked};
 ghost use Rattle.tcap_invocation.specs.Stage.{moment_limit};
 ghost use Rattle.tcap_model.specs.Procedures.AbortRules.{sent_if_any};
 ghost use Rattle.tcap_model.specs.Procedures.Refusals.{can_name, gives_any, is_filled, lacks_context, passes_message};
-ghost use Rattle.tcap_model.specs.Procedures.RequestMessage.{answer_portion};
+ghost use Rattle.tcap_model.specs.Procedures.QueueRules.{joined};
+ghost use Rattle.tcap_model.specs.Procedures.RequestMessage.{answer_portion, message_of};
 ghost use Rattle.tcap_model.specs.Procedures.States.{is_asked};
 ghost use Rattle.tcap_model.specs.Table.TableMove.{gone_out};
+ghost use Rattle.tcap_model.specs.Words.LocalId.{local_id};
+ghost use Rattle.tcap_model.specs.Words.Request.{DialogueRequest, Ending, Request};
+ghost use Rattle.tcap_pdu.specs.FrameMeasured.{IsMeasured};
+ghost use Rattle.tcap_pdu.specs.FrameSpelling.{Message};
+ghost use Rattle.tcap_pdu.specs.FrameViews.{message};
 ghost use Rattle.tcap_primitives.specs.SendingViews.{CanCarry, IsGood, portion_view, sending_view};
 ghost use Rattle.tcap_primitives.specs.declared.fault.Fault.TheVariants as fault;
 ghost use Rattle.tcap_reception.specs.StateViews.{phase_view};
@@ -20,7 +26,7 @@ ghost use Rattle.tcap_reception.specs.StateViews.{phase_view};
 use crate::dialogue::Dialogue;
 use ber_core::{OutOfMemory, is_oid};
 use std::alloc::Allocator;
-use tcap_pdu::DialoguePdu;
+use tcap_pdu::{DialoguePdu, Frame, MessageLength, TransId, own_length};
 use tcap_primitives::{Fault, Outgoing, Sending, Sink, SinkKind, answering_pdu};
 use tcap_reception::Phase;
 
@@ -82,6 +88,28 @@ impl<A: Allocator + Copy> Dialogue<A> {
         match &self.phase {
             Phase::Fresh | Phase::Sent | Phase::Active(_) => None,
             Phase::Received(_) => answering_pdu(&self.context, context, info),
+        }
+    }
+
+    /// The peer, if it is known and no AARQ is to be answered: a Continue or an End to it has no dialogue portion.
+    #[inline(always)]
+    pub(super) fn plain_peer(&self) -> Option<&TransId>
+        ensures go_on { IfSome result (λ peer. (context : Option (List ℕ)) (info : List ℕ)
+            → message_of self.now.standing (Request.dialogue (DialogueRequest.go_on context info))
+            ≡ Some (Message.go_on (local_id self.now.standing.identifier) peer.now None (joined self.now.standing.queue))) }
+        ensures finish { IfSome result (λ peer. (context : Option (List ℕ)) (info : List ℕ)
+            → message_of self.now.standing (Request.dialogue (DialogueRequest.finish Ending.basic context info))
+            ≡ Some (Message.end peer.now None (joined self.now.standing.queue))) }
+    {
+        match &self.phase {
+            Phase::Fresh | Phase::Sent => None,
+            Phase::Active(peer) => Some(peer),
+            Phase::Received(peer) => {
+                if self.context.is_some() {
+                    return None;
+                }
+                Some(peer)
+            }
         }
     }
 
@@ -148,4 +176,35 @@ pub(super) fn send<'m, A: Allocator + Copy, K: SinkKind>(
             Ok(sink.send(to, &message)?)
         }
     }
+}
+
+/// How long a message is as it stands. Faults: TooLong.
+#[inline(always)]
+pub(super) fn frame_length(frame: &Frame<'_>) -> Result<MessageLength, Fault>
+    ensures ok { IfOk result (λ len. IsMeasured len (message frame.now) None
+        × (passes_message (Some (message frame.now)) ≡ false)) }
+    ensures err { IfErr result (λ f. (f ≡ fault.TooLong) × (passes_message (Some (message frame.now)) ≡ true)) }
+{
+    own_length(frame).ok_or(Fault::TooLong)
+}
+
+/// Sends a message as it stands, which is so long, to an address, of at most 255 octets, with places for so many
+/// outputs more.
+#[inline(always)]
+pub(super) fn send_frame<'m, A: Allocator + Copy, K: SinkKind>(
+    to: &[u8],
+    frame: &Frame<'_>,
+    len: MessageLength,
+    more: usize,
+    sink: &mut Sink<'m, A, K>,
+) -> Result<(), OutOfMemory>
+    requires to { length to.now ≤ 255 }
+    requires measured { IsMeasured len (message frame.now) None }
+    ensures ok { OnOk result (sink.new.outputs ≡ sink.old.outputs
+        ++ sent_if_any to.now (Some (message frame.now))) }
+    ensures places { OnOk result (more ≤ sink.new.places) }
+    ensures still { OnErr result (sink.new.outputs ≡ sink.old.outputs) }
+{
+    sink.reserve(more.saturating_add(1), 0)?;
+    Ok(sink.send_frame(to, frame, len)?)
 }

@@ -7,12 +7,12 @@ pub returns-then-last : goal.returns-then-last
 returns-then-last g c = record {
   handled = record {
     slices = Slices.of_component (component.ResultLast c.args.id c.args.body);
-    is_told = search (rules, c.tell.ensures.told);
+    is_told = search (rules, c.tell_result_last.ensures.told);
     are_parts = search rules;
-    is_in_place = λ portion components lies. c.tell.ensures.place portion components (search (rules, lies));
+    is_in_place = λ portion components lies. c.tell_result_last.ensures.place portion components (search (rules, lies));
     is_answered = search rules;
-    keeps_places = c.tell.ensures.places;
-    keeps_octets = search (rules, c.tell.ensures.octets);
+    keeps_places = c.tell_result_last.ensures.places;
+    keeps_octets = search (rules, c.tell_result_last.ensures.octets);
   };
 }
 
@@ -20,11 +20,11 @@ pub returns-else-last : goal.returns-else-last
 returns-else-last g c = record {
   handled = record {
     slices = Slices.of_component (component.ResultMore c.args.id c.args.body);
-    is_told = search (rules, c.tell-else-last.ensures.told);
+    is_told = search (rules, c.tell_result_more.ensures.told);
     are_parts = search rules;
-    is_in_place = λ portion components lies. c.tell-else-last.ensures.place portion components (search (rules, lies));
+    is_in_place = λ portion components lies. c.tell_result_more.ensures.place portion components (search (rules, lies));
     is_answered = search rules;
-    keeps_places = c.tell-else-last.ensures.places;
-    keeps_octets = search (rules, c.tell-else-last.ensures.octets);
+    keeps_places = c.tell_result_more.ensures.places;
+    keeps_octets = search (rules, c.tell_result_more.ensures.octets);
   };
 }

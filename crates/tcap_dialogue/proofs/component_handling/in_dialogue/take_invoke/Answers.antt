@@ -7,11 +7,11 @@ pub returns : goal.returns
 returns g c = record {
   handled = record {
     slices = Slices.of_component (component.Invoke c.args.id c.args.linked c.args.code c.args.parameter);
-    is_told = search (rules, c.tell.ensures.told);
+    is_told = search (rules, c.tell_invoked.ensures.told);
     are_parts = search rules;
-    is_in_place = λ portion components lies. c.tell.ensures.place portion components (search (rules, lies));
+    is_in_place = λ portion components lies. c.tell_invoked.ensures.place portion components (search (rules, lies));
     is_answered = search rules;
-    keeps_places = c.tell.ensures.places;
-    keeps_octets = search (rules, c.tell.ensures.octets);
+    keeps_places = c.tell_invoked.ensures.places;
+    keeps_octets = search (rules, c.tell_invoked.ensures.octets);
   };
 }
