@@ -63,9 +63,10 @@ timed-without d (r ∷ rows) h = go (nat_eq d r.identifier) (timed-without d row
     go false ih = (h.0, ih)
 
 -- After a step the dialogue is gone, or stands with its timer of then.
-pub timed-settled : (is_over : Bool) (d : ℕ) (new : Dialogue) (rows : List (Row Dialogue)) → AreTimed rows → AreTimed (cond is_over (without d (with_value d new rows)) (with_time d (timer_of new) (with_value d new rows)))
-timed-settled true d new rows h = timed-gone d new rows h
-timed-settled false d new rows h = timed-set d new rows h
+pub timed-settled : (is_over : Bool) (d : ℕ) (new : Dialogue) (time : Option ℕ) (rows : List (Row Dialogue)) → (is_over ≡ false → time ≡ timer_of new)
+    → AreTimed rows → AreTimed (cond is_over (without d (with_value d new rows)) (with_time d time (with_value d new rows)))
+timed-settled true d new time rows is h = timed-gone d new rows h
+timed-settled false d new time rows is h = rw (is refl) (timed-set d new rows h)
 
 -- One that is created.
 pub timed-push : (d : ℕ) (new : Dialogue) (time : Option ℕ) (rows : List (Row Dialogue)) → time ≡ timer_of new → AreTimed rows → AreTimed (rows ++ record { identifier = d; value = new; time = time } ∷ [])

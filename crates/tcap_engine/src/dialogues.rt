@@ -1,7 +1,7 @@
 //! The dialogues that stand, and of each the moment at which time next changes it.
 
 ghost use Rattle.std.specs.Prelude.{◌≡◌, ◌≢◌, ◌≤◌, ◌⊎◌, ◌+◌, ◌-◌, ◌++◌, ◌∷◌, ◌^◌, [], nat_eq, length, min};
-ghost use Rattle.std.specs.Prelude.{None, option_copied, OnErr, OnOk, MatchOption, if◌then◌else◌};
+ghost use Rattle.std.specs.Prelude.{None, false, option_copied, OnErr, OnOk, MatchOption, if◌then◌else◌};
 ghost use Rattle.std.specs.Map.{lookup, remove_entry};
 ghost use Rattle.std.specs.Option.{option_map};
 ghost use Rattle.tcap_engine.specs.IdleDialogues.{idle_ids};
@@ -171,6 +171,14 @@ fn leave_memory<A: Allocator + Copy>(
         return;
     };
     dialogue.leave_memory(spares);
+}
+
+/// The next timer of a dialogue after a step; one that is over needs none.
+#[inline(always)]
+pub(crate) fn timer_after<A: Allocator + Copy>(dialogue: &Dialogue<A>, is_over: bool) -> Option<u64>
+    ensures { is_over ≡ false → result ≡ timer_of dialogue.now }
+{
+    if is_over { None } else { dialogue.next_timer() }
 }
 
 /// After the dialogue of an identifier took a step: where it is over it is taken out, and the memory that it leaves

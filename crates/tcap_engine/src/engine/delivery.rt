@@ -14,7 +14,7 @@ ghost use Rattle.tcap_pdu.specs.FrameViews.{message};
 ghost use Rattle.tcap_primitives.specs.SinkViews.{KeepsOutputs};
 
 use super::Engine;
-use crate::dialogues::{Dialogues, settle};
+use crate::dialogues::{Dialogues, settle, timer_after};
 use ber_core::OutOfMemory;
 use std::alloc::Allocator;
 use tcap_dialogue::{Address, Sink, SinkKind};
@@ -40,7 +40,7 @@ pub(super) fn deliver_in<'m, A: Allocator + Copy, K: SinkKind>(
     // It stands, as the caller has seen.
     let dialogue = table.rows.get_mut(identifier).unwrap();
     let is_over = dialogue.take_frame_with(&mut table.spares, from, frame, clock, sink)?;
-    let timer = dialogue.next_timer();
+    let timer = timer_after(dialogue, is_over);
     settle(
         &mut table.rows,
         &mut table.spares,
@@ -72,8 +72,7 @@ pub(super) fn abort_in<'m, A: Allocator + Copy, K: SinkKind>(
     // It stands, as the caller has seen.
     let dialogue = table.rows.get_mut(identifier).unwrap();
     dialogue.take_faulty(from, origin, fault, sink)?;
-    let timer = dialogue.next_timer();
-    settle(&mut table.rows, &mut table.spares, identifier, true, timer);
+    settle(&mut table.rows, &mut table.spares, identifier, true, None);
     Ok(())
 }
 

@@ -12,7 +12,7 @@ ghost use Rattle.tcap_invocation.specs.Invocations.{AllBelow};
 ghost use Rattle.tcap_invocation.specs.Stage.{moment_limit};
 ghost use Rattle.tcap_model.specs.Table.TableMove.{DialogueEvent, table_move};
 
-use crate::dialogues::{Dialogues, settle};
+use crate::dialogues::{Dialogues, settle, timer_after};
 use std::alloc::Allocator;
 use tcap_dialogue::{Accepted, Dialogue, Fault, Request, Sink, SinkKind, Spares};
 
@@ -111,7 +111,8 @@ pub(super) fn ask_in<'m, A: Allocator + Copy, K: SinkKind>(
     if keeps_timer(request) {
         return Ok(accepted);
     }
-    let (is_over, timer) = (ends_dialogue(accepted), dialogue.next_timer());
+    let is_over = ends_dialogue(accepted);
+    let timer = timer_after(dialogue, is_over);
     settle(
         &mut table.rows,
         &mut table.spares,

@@ -9,7 +9,7 @@ use Rattle.tcap_model.specs.Procedures.Reception.{fault_abort}
 use Rattle.tcap_primitives.specs.SinkViews.{told_since}
 use Rattle.tcap_engine.specs.DialogueEntries.{TableEntry}
 use Rattle.tcap_engine.proofs.AskLemmas.{settled-placed}
-use Rattle.tcap_engine.proofs.TimedLemmas.{timed-still, timed-settled}
+use Rattle.tcap_engine.proofs.TimedLemmas.{timed-gone, timed-still}
 use Rattle.timed_table.specs.Row.{entries_of}
 use Rattle.tcap_engine.proofs.engine.delivery.abort_in.Goals as goal
 
@@ -34,7 +34,7 @@ returns-in_err-take_faulty-clause-reached g c =
 pub invariant_of-table-2 : goal.invariant_of-table-2
 invariant_of-table-2 g c =
     let new = c.take_faulty.new.self in
-    rw (c.settle.ensures.rows, (c.get_mut.follows.holds new).rows) (timed-settled true c.args.identifier new c.table.inside.rows c.table.invariant)
+    rw (c.settle.ensures.rows, (c.get_mut.follows.holds new).rows) (timed-gone c.args.identifier new c.table.inside.rows c.table.invariant)
 
 pub returns-clause-reached : goal.returns-clause-reached
 returns-clause-reached g c =

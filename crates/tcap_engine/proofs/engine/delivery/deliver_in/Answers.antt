@@ -33,7 +33,7 @@ returns-in_err-is_over-clause-reached g c =
 pub invariant_of-table-2 : goal.invariant_of-table-2
 invariant_of-table-2 g c =
     let new = c.take_frame_with.new.self in
-    rw (c.settle.ensures.rows, (c.get_mut.follows.holds new).rows, c.next_timer-timer.ensures) (timed-settled c.in_ok-is_over.is_over c.args.identifier new c.table.inside.rows c.table.invariant)
+    rw (c.settle.ensures.rows, (c.get_mut.follows.holds new).rows) (timed-settled c.in_ok-is_over.is_over c.args.identifier new _ c.table.inside.rows c.timer_after-timer.ensures c.table.invariant)
 
 pub returns-clause-reached : goal.returns-clause-reached
 returns-clause-reached g c =

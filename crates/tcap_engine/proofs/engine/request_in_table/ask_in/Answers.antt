@@ -55,7 +55,7 @@ returns-then-keeps_timer-clause-answer g c =
 pub invariant_of-table-2 : goal.invariant_of-table-2
 invariant_of-table-2 g c =
     let new = c.ask_one.new.dialogue in
-    rw (c.settle.ensures.rows, (c.get_mut.follows.holds new).rows, c.next_timer-timer.ensures) (timed-settled c.ends_dialogue-is_over.result c.args.identifier new c.table.inside.rows c.table.invariant)
+    rw (c.settle.ensures.rows, (c.get_mut.follows.holds new).rows) (timed-settled c.ends_dialogue-is_over.result c.args.identifier new _ c.table.inside.rows c.timer_after-timer.ensures c.table.invariant)
 
 pub returns-clause-answer : goal.returns-clause-answer
 returns-clause-answer g c =
